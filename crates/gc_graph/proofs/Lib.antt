@@ -1,0 +1,5 @@
+pub mod Matching
+pub mod Lookups
+pub mod Matched
+pub mod Replies
+pub mod Compose

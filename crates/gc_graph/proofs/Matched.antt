@@ -1,0 +1,387 @@
+-- Commands keep two graphs matched, and their replies are the same.
+use Rattle.std.proofs.Common.{◌≡◌, ℕ, suc, zero, Bool, true, false, cond, ◌&&◌, ◌||◌, ◌==◌, List, [], ◌∷◌, ◌++◌, map, length, replicate, Option, Some, None, is_some, refl, sym, ◌∙◌, ap, subst, inl, inr}
+use Rattle.std.specs.Prelude.{slice_get}
+use Rattle.std.specs.List.{AllZip, AllByRecursion, flat_map, list_any}
+use Rattle.std.proofs.lemmas.Bool.{eqb-true, eqb-false, eq-eqb, ne_eqb, cases_Bool, both_ways, and_from}
+use Rattle.gc_graph.specs.Slots.{place}
+use Rattle.gc_graph.specs.Graph.{Value, Nil, Num, Ref, Object, Graph, lookup, object_of, field_of, value_or_nil, root, set_root, add_object, set_field, names_of, IsUnused}
+use Rattle.gc_graph.specs.Machine.{view_of, view_of_object, same, get_field, put_field, step}
+use Rattle.gc_graph.specs.Correspond.{paired, correspond, ObjectsCorrespond, Corresponding}
+use Rattle.gc_graph.proofs.Matching.{Alike, nils, numbers, partners, without_objects, ObjectsAlike, Matched}
+use Rattle.gc_graph.specs.declared.command.Op.{Op}
+use Rattle.gc_graph.specs.declared.command.Op.TheVariants as ops
+use Rattle.gc_graph.specs.declared.reply.Reply.{Reply}
+use Rattle.gc_graph.specs.declared.reply.Reply.TheVariants.{Saw, Yes, No}
+use Rattle.gc_graph.specs.declared.reply.View.TheVariants as views
+use Rattle.gc_graph.proofs.Lookups.{paired_cases, paired_more, paired_here, lookup_push_other, lookup_push_same, with_field_option, lookup_set_same, lookup_set_other, lookup_set_none, zip_weaker, zip_map, zip_set, Together, zip_get, zip_length, any_append, Avoids, avoids_each, not_a_key, FieldsAvoid, fields_avoid}
+
+-- the same reply, and graphs that are matched again
+abbrev pub AlikeAfter : Reply × Graph → Reply × Graph → Type 0
+AlikeAfter x y = (x.0 ≡ y.0) × (after : List (ℕ × ℕ)) × Matched after x.1 y.1
+
+module _ (pairs : List (ℕ × ℕ)) (g h : Graph) (matched : Matched pairs g h) where
+  roots_alike : (v w : Option Value) → Together (Alike pairs g.objects h.objects) v w → Alike pairs g.objects h.objects (value_or_nil v) (value_or_nil w)
+  roots_alike None None t = nils
+  roots_alike None (Some w) t = absurd t
+  roots_alike (Some v) None t = absurd t
+  roots_alike (Some v) (Some w) t = t
+
+  pub root_alike : (p : ℕ) → Alike pairs g.objects h.objects (root g p) (root h p)
+  root_alike p = roots_alike (slice_get g.roots p) (slice_get h.roots p) (zip_get _ g.roots h.roots p matched.roots)
+
+  -- ---- objects
+
+  abbrev pub BothOrNone : Option Object → Option Object → Type 0
+  BothOrNone o q = Together (λ o q. (o.kind ≡ q.kind) × AllZip (Alike pairs g.objects h.objects) o.fields q.fields) o q
+
+  together : (o q : Option Object) → ObjectsAlike pairs g.objects h.objects o q → BothOrNone o q
+  together (Some o) (Some q) a = a
+  together (Some o) None a = absurd a
+  together None q a = absurd a
+
+  neither : (o q : Option Object) → o ≡ None → q ≡ None → BothOrNone o q
+  neither None None e f = tt
+  neither None (Some q) e f = absurd (let no : Some q ≡ None = f in cc)
+  neither (Some o) q e f = absurd (let no : Some o ≡ None = e in cc)
+
+  pub target_alike : {v w : Value} → Alike pairs g.objects h.objects v w → BothOrNone (object_of g.objects v) (object_of h.objects w)
+  target_alike nils = tt
+  target_alike (numbers n) = tt
+  target_alike (partners a b p) = together (lookup g.objects a) (lookup h.objects b) (matched.objects a b p)
+  target_alike (without_objects a b e f) = neither (lookup g.objects a) (lookup h.objects b) e f
+
+  pub field_alike : (o q : Option Object) (i : ℕ) → BothOrNone o q → Together (Alike pairs g.objects h.objects) (field_of o i) (field_of q i)
+  field_alike None None i t = tt
+  field_alike None (Some q) i t = absurd t
+  field_alike (Some o) None i t = absurd t
+  field_alike (Some o) (Some q) i t = zip_get _ o.fields q.fields i t.1
+
+  -- ---- what is seen
+
+  object_view : (o q : Option Object) → BothOrNone o q → view_of_object o ≡ view_of_object q
+  object_view None None t = refl
+  object_view None (Some q) t = absurd t
+  object_view (Some o) None t = absurd t
+  object_view (Some o) (Some q) t = let n : length o.fields ≡ length q.fields = zip_length _ o.fields q.fields t.1 in λ i. views.Obj (t.0 i) (n i)
+
+  pub view_alike : {v w : Value} → Alike pairs g.objects h.objects v w → view_of g.objects v ≡ view_of h.objects w
+  view_alike nils = refl
+  view_alike (numbers n) = refl
+  view_alike (partners a b p) = object_view (lookup g.objects a) (lookup h.objects b) (target_alike (partners a b p))
+  view_alike (without_objects a b e f) = object_view (lookup g.objects a) (lookup h.objects b) (target_alike (without_objects a b e f))
+
+  is_there : (o q : Option Object) → ObjectsAlike pairs g.objects h.objects o q → (is_some o ≡ true) × (is_some q ≡ true)
+  is_there (Some o) (Some q) a = (refl, refl)
+  is_there (Some o) None a = absurd a
+  is_there None q a = absurd a
+
+  absent : (o : Option Object) → o ≡ None → is_some o ≡ false
+  absent None e = refl
+  absent (Some o) e = cc
+
+  -- one name on the left exactly where there is one on the right
+  same_partners : (a b x y : ℕ) → paired pairs a b ≡ true → paired pairs x y ≡ true
+      → ((a == x) && is_some (lookup g.objects a)) ≡ ((b == y) && is_some (lookup h.objects b))
+  same_partners a b x y p q =
+      let there : (is_some (lookup g.objects a) ≡ true) × (is_some (lookup h.objects b) ≡ true) = is_there _ _ (matched.objects a b p) in
+      elim (cases_Bool (a == x)) [
+        | inl e ↦ (let ax : a ≡ x = eqb-true a x e in
+            let by : b ≡ y = matched.one_right a b y p (subst (λ n. paired pairs n y ≡ true) (sym ax) q) in
+            let f : (b == y) ≡ true = eq-eqb b y by in
+            let both : ((a == x) && is_some (lookup g.objects a)) ≡ true = and_from _ _ e there.0 in
+            let both' : ((b == y) && is_some (lookup h.objects b)) ≡ true = and_from _ _ f there.1 in
+            both ∙ sym both')
+        | inr e ↦ (let f : (b == y) ≡ false = ne_eqb b y (λ by. eqb-false a x e (matched.one_left a x b p (subst (λ n. paired pairs x n ≡ true) (sym by) q))) in
+            ap (λ t. t && is_some (lookup g.objects a)) e ∙ sym (ap (λ t. t && is_some (lookup h.objects b)) f))
+      ]
+
+  -- a name with an object is not one without
+  not_gone : (a b x y : ℕ) → paired pairs a b ≡ true → lookup g.objects x ≡ None → lookup h.objects y ≡ None
+      → ((a == x) && is_some (lookup g.objects a)) ≡ ((b == y) && is_some (lookup h.objects b))
+  not_gone a b x y p e f =
+      let there : (is_some (lookup g.objects a) ≡ true) × (is_some (lookup h.objects b) ≡ true) = is_there _ _ (matched.objects a b p) in
+      let left : is_some (lookup g.objects x) ≡ false = absent (lookup g.objects x) e in
+      let right : is_some (lookup h.objects y) ≡ false = absent (lookup h.objects y) f in
+      let a_not_x : (a == x) ≡ false = ne_eqb a x (λ e. both_ways _ left (ap (λ n. is_some (lookup g.objects n)) (sym e) ∙ there.0)) in
+      let b_not_y : (b == y) ≡ false = ne_eqb b y (λ e. both_ways _ right (ap (λ n. is_some (lookup h.objects n)) (sym e) ∙ there.1)) in
+      ap (λ t. t && is_some (lookup g.objects a)) a_not_x ∙ sym (ap (λ t. t && is_some (lookup h.objects b)) b_not_y)
+
+  and_false : (x y : Bool) → y ≡ false → (x && y) ≡ false
+  and_false true y e = e
+  and_false false y e = refl
+
+  gone : (a b x y : ℕ) → lookup g.objects a ≡ None → lookup h.objects b ≡ None
+      → ((a == x) && is_some (lookup g.objects a)) ≡ ((b == y) && is_some (lookup h.objects b))
+  gone a b x y e f = and_false (a == x) (is_some (lookup g.objects a)) (absent _ e) ∙ sym (and_false (b == y) (is_some (lookup h.objects b)) (absent _ f))
+
+  pub same_alike : {v w v' w' : Value} → Alike pairs g.objects h.objects v w → Alike pairs g.objects h.objects v' w' → same g.objects v v' ≡ same h.objects w w'
+  same_alike nils nils = refl
+  same_alike nils (numbers n) = refl
+  same_alike nils (partners a b p) = refl
+  same_alike nils (without_objects a b e f) = refl
+  same_alike (numbers n) nils = refl
+  same_alike (numbers n) (numbers n') = refl
+  same_alike (numbers n) (partners a b p) = refl
+  same_alike (numbers n) (without_objects a b e f) = refl
+  same_alike (partners a b p) nils = refl
+  same_alike (partners a b p) (numbers n) = refl
+  same_alike (partners a b p) (partners x y q) = same_partners a b x y p q
+  same_alike (partners a b p) (without_objects x y e f) = not_gone a b x y p e f
+  same_alike (without_objects a b e f) nils = refl
+  same_alike (without_objects a b e f) (numbers n) = refl
+  same_alike (without_objects a b e f) (partners x y q) = gone a b x y e f
+  same_alike (without_objects a b e f) (without_objects x y e' f') = gone a b x y e f
+
+  -- ---- changes
+
+  -- a value at one place of the roots
+  pub matched_root : (p : ℕ) {v w : Value} → Alike pairs g.objects h.objects v w → Matched pairs (set_root g p v) (set_root h p w)
+  matched_root p {v} {w} a = record {
+    roots = zip_set _ g.roots h.roots p v w a matched.roots;
+    objects = matched.objects;
+    one_right = matched.one_right;
+    one_left = matched.one_left;
+  }
+
+  -- a value in a field of two partners
+  module _ (n n' i : ℕ) (v w : Value) (p : paired pairs n n' ≡ true) (a : Alike pairs g.objects h.objects v w) where
+    abbrev left : List (ℕ × Object)
+    left = set_field g.objects n i v
+
+    abbrev right : List (ℕ × Object)
+    right = set_field h.objects n' i w
+
+    still : {x y : Value} → Alike pairs g.objects h.objects x y → Alike pairs left right x y
+    still nils = nils
+    still (numbers m) = numbers m
+    still (partners x y q) = partners x y q
+    still (without_objects x y e f) = without_objects x y (lookup_set_none g.objects n i v x e) (lookup_set_none h.objects n' i w y f)
+
+    still_objects : (o q : Option Object) → ObjectsAlike pairs g.objects h.objects o q → ObjectsAlike pairs left right o q
+    still_objects (Some o) (Some q) b = (b.0, zip_map _ _ o.fields q.fields (λ x y. still) b.1)
+    still_objects (Some o) None b = absurd b
+    still_objects None q b = absurd b
+
+    written_objects : (o q : Option Object) → ObjectsAlike pairs g.objects h.objects o q → ObjectsAlike pairs left right (with_field_option o i v) (with_field_option q i w)
+    written_objects (Some o) (Some q) b = (b.0, zip_set _ o.fields q.fields i v w (still a) (zip_map _ _ o.fields q.fields (λ x y. still) b.1))
+    written_objects (Some o) None b = absurd b
+    written_objects None q b = absurd b
+
+    each_object : (x y : ℕ) → paired pairs x y ≡ true → ObjectsAlike pairs left right (lookup left x) (lookup right y)
+    each_object x y q = elim (cases_Bool (x == n)) [
+      | inl same ↦ (let xn : x ≡ n = eqb-true x n same in
+          let yn : y ≡ n' = matched.one_right n y n' (subst (λ m. paired pairs m y ≡ true) xn q) p in
+          let at : ObjectsAlike pairs left right (lookup left n) (lookup right n')
+          = subst (λ r. ObjectsAlike pairs left right r (lookup right n')) (sym (lookup_set_same g.objects n i v))
+          (subst (λ r. ObjectsAlike pairs left right (with_field_option (lookup g.objects n) i v) r) (sym (lookup_set_same h.objects n' i w))
+          (written_objects (lookup g.objects n) (lookup h.objects n') (matched.objects n n' p))) in
+          subst (λ m. ObjectsAlike pairs left right (lookup left m) (lookup right y)) (sym xn) (subst (λ m. ObjectsAlike pairs left right (lookup left n) (lookup right m)) (sym yn) at))
+      | inr other ↦ (let xn : x ≡ n → ⊥ = eqb-false x n other in
+          let yn : y ≡ n' → ⊥ = λ e. xn (matched.one_left x n n' (subst (λ m. paired pairs x m ≡ true) e q) p) in
+          subst (λ r. ObjectsAlike pairs left right r (lookup right y)) (sym (lookup_set_other g.objects n i v x xn))
+          (subst (λ r. ObjectsAlike pairs left right (lookup g.objects x) r) (sym (lookup_set_other h.objects n' i w y yn))
+          (still_objects (lookup g.objects x) (lookup h.objects y) (matched.objects x y q))))
+    ]
+
+    pub matched_field : Matched pairs (record { objects = left; roots = g.roots }) (record { objects = right; roots = h.roots })
+    matched_field = record {
+      roots = zip_map _ _ g.roots h.roots (λ x y. still) matched.roots;
+      objects = each_object;
+      one_right = matched.one_right;
+      one_left = matched.one_left;
+    }
+
+  -- a new object on each side, under names that occur nowhere
+  module _ (a b : ℕ) (unused : IsUnused g a) (unused' : IsUnused h b) (o : Object) (nil_fields : AllByRecursion (λ v. v ≡ Nil) o.fields) where
+    abbrev more : List (ℕ × ℕ)
+    more = (a, b) ∷ pairs
+
+    abbrev left_more : List (ℕ × Object)
+    left_more = g.objects ++ (a, o) ∷ []
+
+    abbrev right_more : List (ℕ × Object)
+    right_more = h.objects ++ (b, o) ∷ []
+
+    ref_differs : (n x : ℕ) → Avoids n (Ref x) → (n == x) ≡ false
+    ref_differs n x e = ne_eqb n x (λ same. both_ways (list_any (λ other. other == n) (x ∷ [])) e (first_true (x == n) (eq-eqb x n (sym same))))
+      where
+        first_true : (t : Bool) → t ≡ true → (t || false) ≡ true
+        first_true true e = refl
+        first_true false e = cc
+
+    newer : {x y : Value} → Avoids a x → Avoids b y → Alike pairs g.objects h.objects x y → Alike more left_more right_more x y
+    newer s t nils = nils
+    newer s t (numbers m) = numbers m
+    newer s t (partners x y q) = partners x y (paired_more (a, b) pairs x y q)
+    newer s t (without_objects x y e f) = without_objects x y (lookup_push_other g.objects a o x (ref_differs a x s) ∙ e) (lookup_push_other h.objects b o y (ref_differs b y t) ∙ f)
+
+    newer_objects : (p q : Option Object) → FieldsAvoid a p → FieldsAvoid b q → ObjectsAlike pairs g.objects h.objects p q → ObjectsAlike more left_more right_more p q
+    newer_objects (Some p) (Some q) s t c = (c.0, zip_weaker _ _ (Avoids a) (Avoids b) p.fields q.fields (λ x y. newer) s t c.1)
+    newer_objects (Some p) None s t c = absurd c
+    newer_objects None q s t c = absurd c
+
+    abbrev key_parts : (list_any (λ other. other == a) (map (λ entry. entry.0) g.objects ++ flat_map (λ entry. flat_map names_of entry.1.fields) g.objects) ≡ false) × (list_any (λ other. other == a) (flat_map names_of g.roots) ≡ false)
+    key_parts = any_append (λ other. other == a) (map (λ entry. entry.0) g.objects ++ flat_map (λ entry. flat_map names_of entry.1.fields) g.objects) (flat_map names_of g.roots) unused
+
+    abbrev key_parts' : (list_any (λ other. other == b) (map (λ entry. entry.0) h.objects ++ flat_map (λ entry. flat_map names_of entry.1.fields) h.objects) ≡ false) × (list_any (λ other. other == b) (flat_map names_of h.roots) ≡ false)
+    key_parts' = any_append (λ other. other == b) (map (λ entry. entry.0) h.objects ++ flat_map (λ entry. flat_map names_of entry.1.fields) h.objects) (flat_map names_of h.roots) unused'
+
+    abbrev object_parts : (list_any (λ other. other == a) (map (λ entry. entry.0) g.objects) ≡ false) × (list_any (λ other. other == a) (flat_map (λ entry. flat_map names_of entry.1.fields) g.objects) ≡ false)
+    object_parts = any_append (λ other. other == a) (map (λ entry. entry.0) g.objects) (flat_map (λ entry. flat_map names_of entry.1.fields) g.objects) key_parts.0
+
+    abbrev object_parts' : (list_any (λ other. other == b) (map (λ entry. entry.0) h.objects) ≡ false) × (list_any (λ other. other == b) (flat_map (λ entry. flat_map names_of entry.1.fields) h.objects) ≡ false)
+    object_parts' = any_append (λ other. other == b) (map (λ entry. entry.0) h.objects) (flat_map (λ entry. flat_map names_of entry.1.fields) h.objects) key_parts'.0
+
+    left_absent : lookup g.objects a ≡ None
+    left_absent = not_a_key a g.objects object_parts.0
+
+    right_absent : lookup h.objects b ≡ None
+    right_absent = not_a_key b h.objects object_parts'.0
+
+    nothing_there : (p q : Option Object) → ObjectsAlike pairs g.objects h.objects p q → p ≡ None → ⊥
+    nothing_there (Some p) (Some q) c e = cc
+    nothing_there (Some p) None c e = c
+    nothing_there None q c e = c
+
+    nothing_there' : (p q : Option Object) → ObjectsAlike pairs g.objects h.objects p q → q ≡ None → ⊥
+    nothing_there' (Some p) (Some q) c e = cc
+    nothing_there' (Some p) None c e = c
+    nothing_there' None q c e = c
+
+    -- the new names had no partner
+    left_unpaired : (y : ℕ) → paired pairs a y ≡ true → ⊥
+    left_unpaired y q = nothing_there _ _ (matched.objects a y q) left_absent
+
+    right_unpaired : (x : ℕ) → paired pairs x b ≡ true → ⊥
+    right_unpaired x q = nothing_there' _ _ (matched.objects x b q) right_absent
+
+    zip_nil : (vs : List Value) → AllByRecursion (λ v. v ≡ Nil) vs → AllZip (Alike more left_more right_more) vs vs
+    zip_nil [] e = tt
+    zip_nil (v ∷ vs) e = (subst (λ x. Alike more left_more right_more x x) (sym e.0) nils, zip_nil vs e.1)
+
+    each_newer : (x y : ℕ) → paired more x y ≡ true → ObjectsAlike more left_more right_more (lookup left_more x) (lookup right_more y)
+    each_newer x y q = elim (paired_cases (a, b) pairs x y q) [
+      | inl here ↦ (let at : ObjectsAlike more left_more right_more (lookup left_more a) (lookup right_more b)
+          = subst (λ r. ObjectsAlike more left_more right_more r (lookup right_more b)) (sym (lookup_push_same g.objects a o left_absent))
+          (subst (λ r. ObjectsAlike more left_more right_more (Some o) r) (sym (lookup_push_same h.objects b o right_absent)) (refl, zip_nil o.fields nil_fields)) in
+          subst (λ m. ObjectsAlike more left_more right_more (lookup left_more m) (lookup right_more y)) here.0 (subst (λ m. ObjectsAlike more left_more right_more (lookup left_more a) (lookup right_more m)) here.1 at))
+      | inr later ↦ (let xa : (a == x) ≡ false = ne_eqb a x (λ e. left_unpaired y (subst (λ m. paired pairs m y ≡ true) (sym e) later)) in
+          let yb : (b == y) ≡ false = ne_eqb b y (λ e. right_unpaired x (subst (λ m. paired pairs x m ≡ true) (sym e) later)) in
+          subst (λ r. ObjectsAlike more left_more right_more r (lookup right_more y)) (sym (lookup_push_other g.objects a o x xa))
+          (subst (λ r. ObjectsAlike more left_more right_more (lookup g.objects x) r) (sym (lookup_push_other h.objects b o y yb))
+          (newer_objects (lookup g.objects x) (lookup h.objects y) (fields_avoid a g.objects x object_parts.1) (fields_avoid b h.objects y object_parts'.1) (matched.objects x y later))))
+    ]
+
+    pub matched_new : Matched more (add_object g a o) (add_object h b o)
+    matched_new = record {
+      roots = zip_weaker _ _ (Avoids a) (Avoids b) g.roots h.roots (λ x y. newer) (avoids_each a g.roots key_parts.1) (avoids_each b h.roots key_parts'.1) matched.roots;
+      objects = each_newer;
+      one_right = λ x y z p q. elim (paired_cases (a, b) pairs x y p) [
+        | inl here ↦ elim (paired_cases (a, b) pairs x z q) [
+          | inl here' ↦ sym here.1 ∙ here'.1
+          | inr later' ↦ absurd (left_unpaired z (subst (λ m. paired pairs m z ≡ true) (sym here.0) later'))
+        ]
+        | inr later ↦ elim (paired_cases (a, b) pairs x z q) [
+          | inl here' ↦ absurd (left_unpaired y (subst (λ m. paired pairs m y ≡ true) (sym here'.0) later))
+          | inr later' ↦ matched.one_right x y z later later'
+        ]
+      ];
+      one_left = λ x y z p q. elim (paired_cases (a, b) pairs x z p) [
+        | inl here ↦ elim (paired_cases (a, b) pairs y z q) [
+          | inl here' ↦ sym here.0 ∙ here'.0
+          | inr later' ↦ absurd (right_unpaired y (subst (λ m. paired pairs y m ≡ true) (sym here.1) later'))
+        ]
+        | inr later ↦ elim (paired_cases (a, b) pairs y z q) [
+          | inl here' ↦ absurd (right_unpaired x (subst (λ m. paired pairs x m ≡ true) (sym here'.1) later))
+          | inr later' ↦ matched.one_left x y z later later'
+        ]
+      ];
+    }
+
+all_nil : (n : ℕ) → AllByRecursion (λ v. v ≡ Nil) (replicate n Nil)
+all_nil zero = tt
+all_nil (suc n) = (refl, all_nil n)
+
+module _ (pairs : List (ℕ × ℕ)) (g h : Graph) (matched : Matched pairs g h) where
+  get_alike : (d : ℕ) (o q : Option Object) (v w : Option Value) → BothOrNone pairs g h matched o q → Together (Alike pairs g.objects h.objects) v w
+      → AlikeAfter (get_field g d o v) (get_field h d q w)
+  get_alike d None None v w t u = (refl, pairs, matched)
+  get_alike d None (Some q) v w t u = absurd t
+  get_alike d (Some o) None v w t u = absurd t
+  get_alike d (Some o) (Some q) None None t u = (refl, pairs, matched)
+  get_alike d (Some o) (Some q) None (Some w) t u = absurd u
+  get_alike d (Some o) (Some q) (Some v) None t u = absurd u
+  get_alike d (Some o) (Some q) (Some v) (Some w) t u = (ap Saw (view_alike pairs g h matched u), pairs, matched_root pairs g h matched d u)
+
+  put_partners : (n n' i : ℕ) (o q : Option Object) (v w : Option Value) (x y : Value) → paired pairs n n' ≡ true → BothOrNone pairs g h matched o q
+      → Together (Alike pairs g.objects h.objects) v w → Alike pairs g.objects h.objects x y
+      → AlikeAfter (put_field g (Ref n) o v i x) (put_field h (Ref n') q w i y)
+  put_partners n n' i None None v w x y p t u a = (refl, pairs, matched)
+  put_partners n n' i None (Some q) v w x y p t u a = absurd t
+  put_partners n n' i (Some o) None v w x y p t u a = absurd t
+  put_partners n n' i (Some o) (Some q) None None x y p t u a = (refl, pairs, matched)
+  put_partners n n' i (Some o) (Some q) None (Some w) x y p t u a = absurd u
+  put_partners n n' i (Some o) (Some q) (Some v) None x y p t u a = absurd u
+  put_partners n n' i (Some o) (Some q) (Some v) (Some w) x y p t u a = (refl, pairs, matched_field pairs g h matched n n' i x y p a)
+
+  put_nothing : (n n' i : ℕ) (o q : Option Object) (x y : Value) → o ≡ None → q ≡ None
+      → AlikeAfter (put_field g (Ref n) o (field_of o i) i x) (put_field h (Ref n') q (field_of q i) i y)
+  put_nothing n n' i None None x y e f = (refl, pairs, matched)
+  put_nothing n n' i None (Some q) x y e f = absurd (let no : Some q ≡ None = f in cc)
+  put_nothing n n' i (Some o) q x y e f = absurd (let no : Some o ≡ None = e in cc)
+
+  put_alike : (i : ℕ) {s t : Value} {x y : Value} → Alike pairs g.objects h.objects s t → Alike pairs g.objects h.objects x y
+      → AlikeAfter (put_field g s (object_of g.objects s) (field_of (object_of g.objects s) i) i x) (put_field h t (object_of h.objects t) (field_of (object_of h.objects t) i) i y)
+  put_alike i nils a = (refl, pairs, matched)
+  put_alike i (numbers n) a = (refl, pairs, matched)
+  put_alike i (partners n n' p) a =
+      let both : BothOrNone pairs g h matched (lookup g.objects n) (lookup h.objects n') = target_alike pairs g h matched (partners n n' p) in
+      put_partners n n' i (lookup g.objects n) (lookup h.objects n') _ _ _ _ p both (field_alike pairs g h matched _ _ i both) a
+  put_alike i (without_objects n n' e f) a = put_nothing n n' i (lookup g.objects n) (lookup h.objects n') _ _ e f
+
+  pub step_alike : (m : ℕ) (op : Op) (a b : ℕ) → IsUnused g a → IsUnused h b → AlikeAfter (step g m op a) (step h m op b)
+  step_alike m (ops.New d kind len) a b u u' =
+      let o : Object = record { kind = kind; fields = replicate len Nil } in
+      let new : Matched ((a, b) ∷ pairs) (add_object g a o) (add_object h b o) = matched_new pairs g h matched a b u u' o (all_nil len) in
+      (refl, (a, b) ∷ pairs, matched_root ((a, b) ∷ pairs) (add_object g a o) (add_object h b o) new (place d m) (partners a b (paired_here a b pairs)))
+  step_alike m (ops.Num d n) a b u u' = (refl, pairs, matched_root pairs g h matched (place d m) (numbers n))
+  step_alike m (ops.Nil d) a b u u' = (refl, pairs, matched_root pairs g h matched (place d m) nils)
+  step_alike m (ops.Move d s) a b u u' = (refl, pairs, matched_root pairs g h matched (place d m) (root_alike pairs g h matched (place s m)))
+  step_alike m (ops.Get d s i) a b u u' =
+      let both : BothOrNone pairs g h matched (object_of g.objects (root g (place s m))) (object_of h.objects (root h (place s m))) = target_alike pairs g h matched (root_alike pairs g h matched (place s m)) in
+      get_alike (place d m) _ _ _ _ both (field_alike pairs g h matched _ _ i both)
+  step_alike m (ops.Put s i t) a b u u' = put_alike i (root_alike pairs g h matched (place s m)) (root_alike pairs g h matched (place t m))
+  step_alike m (ops.Same s t) a b u u' = (ap (λ b. cond b Yes No) (same_alike pairs g h matched (root_alike pairs g h matched (place s m)) (root_alike pairs g h matched (place t m))), pairs, matched)
+  step_alike m (ops.Look s) a b u u' = (ap Saw (view_alike pairs g h matched (root_alike pairs g h matched (place s m))), pairs, matched)
+
+-- ---- graphs that correspond match
+
+alike_of : (pairs : List (ℕ × ℕ)) (os qs : List (ℕ × Object)) (v w : Value) → correspond pairs v w ≡ true → Alike pairs os qs v w
+alike_of pairs os qs Nil Nil e = nils
+alike_of pairs os qs (Num a) (Num b) e = subst (λ n. Alike pairs os qs (Num a) (Num n)) (eqb-true a b e) (numbers a)
+alike_of pairs os qs (Ref a) (Ref b) e = partners a b e
+alike_of pairs os qs Nil (Num b) e = absurd (let no : false ≡ true = e in cc)
+alike_of pairs os qs Nil (Ref b) e = absurd (let no : false ≡ true = e in cc)
+alike_of pairs os qs (Num a) Nil e = absurd (let no : false ≡ true = e in cc)
+alike_of pairs os qs (Num a) (Ref b) e = absurd (let no : false ≡ true = e in cc)
+alike_of pairs os qs (Ref a) Nil e = absurd (let no : false ≡ true = e in cc)
+alike_of pairs os qs (Ref a) (Num b) e = absurd (let no : false ≡ true = e in cc)
+
+zip_alike : (pairs : List (ℕ × ℕ)) (os qs : List (ℕ × Object)) (vs ws : List Value) → AllZip (λ v w. correspond pairs v w ≡ true) vs ws → AllZip (Alike pairs os qs) vs ws
+zip_alike pairs os qs [] [] z = tt
+zip_alike pairs os qs [] (w ∷ ws) z = absurd z
+zip_alike pairs os qs (v ∷ vs) [] z = absurd z
+zip_alike pairs os qs (v ∷ vs) (w ∷ ws) z = (alike_of pairs os qs v w z.0, zip_alike pairs os qs vs ws z.1)
+
+objects_alike : (pairs : List (ℕ × ℕ)) (os qs : List (ℕ × Object)) (o q : Option Object) → ObjectsCorrespond pairs o q → ObjectsAlike pairs os qs o q
+objects_alike pairs os qs (Some o) (Some q) c = (c.0, zip_alike pairs os qs o.fields q.fields c.1)
+objects_alike pairs os qs (Some o) None c = absurd c
+objects_alike pairs os qs None q c = absurd c
+
+pub matched_of : (pairs : List (ℕ × ℕ)) (g h : Graph) → Corresponding pairs g h → Matched pairs g h
+matched_of pairs g h c = record {
+  roots = zip_alike pairs g.objects h.objects g.roots h.roots c.roots;
+  objects = λ a b p. objects_alike pairs g.objects h.objects (lookup g.objects a) (lookup h.objects b) (c.objects a b p);
+  one_right = c.one_right;
+  one_left = c.one_left;
+}

@@ -1,0 +1,40 @@
+-- Values of two graphs that stand for each other under a set of pairs of names.
+use Rattle.std.specs.Prelude.{◌≡◌, ℕ, ◌==◌, Bool, true, false, ◌&&◌, List, Option, Some, None, IsTrue, ⊤}
+use Rattle.std.specs.List.{list_any, AllZip}
+use Rattle.gc_graph.specs.Graph.{Value, Nil, Num, Ref, Object, Graph, lookup}
+
+abbrev pub paired : List (ℕ × ℕ) → ℕ → ℕ → Bool
+paired pairs a b = list_any (λ p. (p.0 == a) && (p.1 == b)) pairs
+
+-- both nil, the same number, or names that are a pair
+abbrev pub correspond : List (ℕ × ℕ) → Value → Value → Bool
+correspond pairs Nil Nil = true
+correspond pairs Nil (Num b) = false
+correspond pairs Nil (Ref b) = false
+correspond pairs (Num a) Nil = false
+correspond pairs (Num a) (Num b) = a == b
+correspond pairs (Num a) (Ref b) = false
+correspond pairs (Ref a) Nil = false
+correspond pairs (Ref a) (Num b) = false
+correspond pairs (Ref a) (Ref b) = paired pairs a b
+
+-- what two paths find: nothing, or values that correspond
+abbrev pub Agree : List (ℕ × ℕ) → Option Value → Option Value → Type 0
+Agree pairs None None = ⊤
+Agree pairs None (Some w) = ⊥
+Agree pairs (Some v) None = ⊥
+Agree pairs (Some v) (Some w) = IsTrue (correspond pairs v w)
+
+-- two objects, each of which has to be there, of one kind and with fields that correspond number by number
+abbrev pub ObjectsCorrespond : List (ℕ × ℕ) → Option Object → Option Object → Type 0
+ObjectsCorrespond pairs (Some o) (Some q) = (o.kind ≡ q.kind) × AllZip (λ v w. IsTrue (correspond pairs v w)) o.fields q.fields
+ObjectsCorrespond pairs (Some o) None = ⊥
+ObjectsCorrespond pairs None q = ⊥
+
+-- Roots correspond, and objects that are paired; no name has two partners. Only objects that are paired
+-- are spoken of: what no root leads to need not have a partner.
+pub record Corresponding (pairs : List (ℕ × ℕ)) (g h : Graph) : Type 0 where
+  pub roots : AllZip (λ v w. IsTrue (correspond pairs v w)) g.roots h.roots
+  pub objects : (a b : ℕ) → IsTrue (paired pairs a b) → ObjectsCorrespond pairs (lookup g.objects a) (lookup h.objects b)
+  pub one_right : (a b c : ℕ) → IsTrue (paired pairs a b) → IsTrue (paired pairs a c) → b ≡ c
+  pub one_left : (a b c : ℕ) → IsTrue (paired pairs a c) → IsTrue (paired pairs b c) → a ≡ b

@@ -1,0 +1,105 @@
+-- The object graph that a mutator sees: named objects, and roots.
+use Rattle.std.specs.Prelude.{◌≡◌, ℕ, suc, ◌==◌, if◌then◌else◌, max, List, [], ◌∷◌, ◌++◌, map, replicate, slice_get, slice_set, Option, Some, None, IsFalse}
+use Rattle.std.specs.List.{flat_map, list_any, fold}
+use Rattle.gc_graph.specs.Slots.{roots_of}
+
+-- a name is a number without bound
+pub data Value : Type 0 where
+  Nil : Value
+  Num : (n : ℕ) → Value
+  Ref : (name : ℕ) → Value
+
+pub record Object : Type 0 where
+  pub kind : ℕ
+  pub fields : List Value
+
+-- The objects are a finite map: of two entries with one name the first counts.
+pub record Graph : Type 0 where
+  pub objects : List (ℕ × Object)
+  pub roots : List Value
+
+-- no objects, and all roots nil
+abbrev pub opening : ℕ → Graph
+opening mutators = record { objects = []; roots = replicate (roots_of mutators) Nil }
+
+-- the object of a name
+abbrev pub lookup : List (ℕ × Object) → ℕ → Option Object
+lookup [] name = None
+lookup (entry ∷ rest) name = if entry.0 == name then Some entry.1 else lookup rest name
+
+-- the object that a value refers to
+abbrev pub object_of : List (ℕ × Object) → Value → Option Object
+object_of objects Nil = None
+object_of objects (Num n) = None
+object_of objects (Ref name) = lookup objects name
+
+-- field i of an object, if there is an object and it has that field
+abbrev pub field_of : Option Object → ℕ → Option Value
+field_of None i = None
+field_of (Some object) i = slice_get object.fields i
+
+-- what stands at a place of the roots, and nil past their end
+abbrev pub value_or_nil : Option Value → Value
+value_or_nil None = Nil
+value_or_nil (Some v) = v
+
+abbrev pub root : Graph → ℕ → Value
+root g place = value_or_nil (slice_get g.roots place)
+
+-- ---- paths
+
+-- the value found by going from a value through fields of these numbers
+abbrev pub follow : List (ℕ × Object) → Option Value → List ℕ → Option Value
+follow objects None fields = None
+follow objects (Some v) [] = Some v
+follow objects (Some v) (i ∷ fields) = follow objects (field_of (object_of objects v) i) fields
+
+-- a path is a place of the roots and a list of field numbers
+abbrev pub at_path : Graph → ℕ → List ℕ → Option Value
+at_path g place fields = follow g.objects (slice_get g.roots place) fields
+
+-- some path leads to the name
+abbrev pub Reachable : Graph → ℕ → Type 0
+Reachable g name = (place : ℕ) × (fields : List ℕ) × (at_path g place fields ≡ Some (Ref name))
+
+-- ---- names
+
+abbrev pub names_of : Value → List ℕ
+names_of Nil = []
+names_of (Num n) = []
+names_of (Ref name) = name ∷ []
+
+-- the names that occur: those of objects, in fields and in roots
+abbrev pub names_in : Graph → List ℕ
+names_in g = map (λ entry. entry.0) g.objects
+    ++ flat_map (λ entry. flat_map names_of entry.1.fields) g.objects
+    ++ flat_map names_of g.roots
+
+-- a name that occurs nowhere in the graph
+abbrev pub IsUnused : Graph → ℕ → Type 0
+IsUnused g name = IsFalse (list_any (λ other. other == name) (names_in g))
+
+-- the least number above all names that occur
+abbrev pub fresh_name : Graph → ℕ
+fresh_name g = fold (λ least name. max least (suc name)) 0 (names_in g)
+
+-- ---- changes
+
+-- an object of this kind, all of whose fields are nil
+abbrev pub new_object : ℕ → ℕ → Object
+new_object kind len = record { kind = kind; fields = replicate len Nil }
+
+-- the graph with this value at this place of the roots
+abbrev pub set_root : Graph → ℕ → Value → Graph
+set_root g place v = record g { roots = slice_set g.roots place v }
+
+abbrev pub add_object : Graph → ℕ → Object → Graph
+add_object g name object = record g { objects = g.objects ++ (name, object) ∷ [] }
+
+abbrev pub with_field : Object → ℕ → Value → Object
+with_field object i v = record object { fields = slice_set object.fields i v }
+
+-- the objects with this value in field i of the named one
+abbrev pub set_field : List (ℕ × Object) → ℕ → ℕ → Value → List (ℕ × Object)
+set_field [] name i v = []
+set_field (entry ∷ rest) name i v = if entry.0 == name then (entry.0, with_field entry.1 i v) ∷ rest else entry ∷ set_field rest name i v

@@ -1,0 +1,11 @@
+pub mod Slots
+pub mod Graph
+pub mod Machine
+pub mod Runs
+pub mod Legal
+pub mod Correspond
+pub mod Range
+pub mod Codes
+pub mod Lines
+pub mod Streams
+pub mod Rows

@@ -1,0 +1,109 @@
+-- What a command does to a graph, and the same with a bound on the words in use.
+use Rattle.std.specs.Prelude.{ℕ, suc, ◌+◌, ◌-◌, ◌==◌, nat_lt, Bool, true, false, ◌&&◌, if◌then◌else◌, List, length, ◌≡◌, ◌≤◌, ⊤, Option, Some, None, is_some}
+use Rattle.gc_graph.specs.Slots.{place, roots_of}
+use Rattle.gc_graph.specs.Graph.{Value, Nil, Num, Ref, Object, Graph, opening, object_of, field_of, root, set_root, new_object, add_object, set_field, lookup, IsUnused}
+use Rattle.gc_graph.specs.declared.command.Op.{Op}
+use Rattle.gc_graph.specs.declared.command.Op.TheVariants as ops
+use Rattle.gc_graph.specs.declared.reply.Reply.{Reply}
+use Rattle.gc_graph.specs.declared.reply.Reply.TheVariants.{Full, Made, Done, NoObject, NoField, Saw, Yes, No}
+use Rattle.gc_graph.specs.declared.reply.View.{View}
+use Rattle.gc_graph.specs.declared.reply.View.TheVariants as views
+
+-- an object is shown by its kind and length
+abbrev pub view_of_object : Option Object → View
+view_of_object None = views.Nil
+view_of_object (Some object) = views.Obj object.kind (length object.fields)
+
+-- a name that has no object is shown as nil
+abbrev pub view_of : List (ℕ × Object) → Value → View
+view_of objects Nil = views.Nil
+view_of objects (Num n) = views.Num n
+view_of objects (Ref name) = view_of_object (lookup objects name)
+
+-- nil and nil, equal numbers, or one object
+abbrev pub same : List (ℕ × Object) → Value → Value → Bool
+same objects Nil Nil = true
+same objects Nil (Num b) = false
+same objects Nil (Ref b) = false
+same objects (Num a) Nil = false
+same objects (Num a) (Num b) = a == b
+same objects (Num a) (Ref b) = false
+same objects (Ref a) Nil = false
+same objects (Ref a) (Num b) = false
+same objects (Ref a) (Ref b) = (a == b) && is_some (lookup objects a)
+
+-- `get`: d is a place, then what `s` refers to, and its field
+abbrev pub get_field : Graph → ℕ → Option Object → Option Value → Reply × Graph
+get_field g d None found = (NoObject, g)
+get_field g d (Some object) None = (NoField, g)
+get_field g d (Some object) (Some v) = (Saw (view_of g.objects v), set_root g d v)
+
+-- `put`: what `s` holds, what it refers to, and its field as it was
+abbrev pub put_field : Graph → Value → Option Object → Option Value → ℕ → Value → Reply × Graph
+put_field g (Ref name) (Some object) (Some before) i v = (Done, record g { objects = set_field g.objects name i v })
+put_field g (Ref name) (Some object) None i v = (NoField, g)
+put_field g target target_object found i v = (NoObject, g)
+
+-- The reply to mutator m's command and the graph that it leaves. `name` is one that occurs nowhere in the
+-- graph; only `New` uses it.
+abbrev pub step : Graph → ℕ → Op → ℕ → Reply × Graph
+step g m (ops.New d kind len) name = (Made, set_root (add_object g name (new_object kind len)) (place d m) (Ref name))
+step g m (ops.Num d n) name = (Done, set_root g (place d m) (Num n))
+step g m (ops.Nil d) name = (Done, set_root g (place d m) Nil)
+step g m (ops.Move d s) name = (Done, set_root g (place d m) (root g (place s m)))
+step g m (ops.Get d s i) name = let target = object_of g.objects (root g (place s m)) in get_field g (place d m) target (field_of target i)
+step g m (ops.Put s i t) name = let target = object_of g.objects (root g (place s m)) in put_field g (root g (place s m)) target (field_of target i) i (root g (place t m))
+step g m (ops.Same s t) name = (if same g.objects (root g (place s m)) (root g (place t m)) then Yes else No, g)
+step g m (ops.Look s) name = (Saw (view_of g.objects (root g (place s m))), g)
+
+-- the command makes an object
+abbrev pub MakesObject : Op → Type 0
+MakesObject (ops.New d kind len) = ⊤
+MakesObject (ops.Num d n) = ⊥
+MakesObject (ops.Nil d) = ⊥
+MakesObject (ops.Move d s) = ⊥
+MakesObject (ops.Get d s i) = ⊥
+MakesObject (ops.Put s i t) = ⊥
+MakesObject (ops.Same s t) = ⊥
+MakesObject (ops.Look s) = ⊥
+
+-- ---- with a bound on the words in use
+
+pub record Roomy : Type 0 where
+  pub graph : Graph
+  pub free : ℕ
+
+-- the words that a command takes: a new object's header, link and fields
+abbrev pub words_taken : Op → ℕ
+words_taken (ops.New d kind len) = len + 2
+words_taken (ops.Num d n) = 0
+words_taken (ops.Nil d) = 0
+words_taken (ops.Move d s) = 0
+words_taken (ops.Get d s i) = 0
+words_taken (ops.Put s i t) = 0
+words_taken (ops.Same s t) = 0
+words_taken (ops.Look s) = 0
+
+-- `Full`, with nothing changed, exactly where the free words do not suffice
+abbrev pub roomy_step : Roomy → ℕ → Op → ℕ → Reply × Roomy
+roomy_step s m op name =
+    if nat_lt s.free (words_taken op) then (Full, s)
+    else (let next = step s.graph m op name in (next.0, record { graph = next.1; free = s.free - words_taken op }))
+
+-- with the graph that a command leaves, and as many free words as before
+abbrev pub in_place : Roomy → Reply × Graph → Reply × Roomy
+in_place s next = (next.0, record s { graph = next.1 })
+
+-- an empty space of so many words, the first of which is reserved
+abbrev pub opening_roomy : ℕ → ℕ → Roomy
+opening_roomy size mutators = record { graph = opening mutators; free = size - 1 }
+
+-- mutator m's own slots are among the roots
+abbrev pub HasMutator : Graph → ℕ → Type 0
+HasMutator g m = roots_of (suc m) ≤ length g.roots
+
+-- The command is answered so, and leaves this; a new object takes a name that occurred nowhere.
+pub record Answers (old : Roomy) (m : ℕ) (op : Op) (reply : Reply) (new : Roomy) : Type 0 where
+  pub name : ℕ
+  pub unused : IsUnused old.graph name
+  pub step : roomy_step old m op name ≡ (reply, new)

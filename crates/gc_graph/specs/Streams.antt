@@ -1,0 +1,25 @@
+-- What contracts see of a source and a sink.
+use Rattle.std.specs.Prelude.{◌≡◌, ℕ, Bool, List, ◌++◌, Option}
+use Rattle.std.specs.Io.KnownBytes.{Appends}
+use Rattle.gc_graph.specs.declared.text.source.Source.{Source}
+use Rattle.gc_graph.specs.declared.text.sink.Sink.{Sink}
+
+-- the bytes that reads will give from here on, where the reader tells them
+abbrev pub bytes_left : {R : Type 0} → (R → Option (List ℕ)) → Source R → Option (List ℕ)
+bytes_left remaining s = remaining s.reader
+
+-- whether a read has failed
+abbrev pub source_failed : {R : Type 0} → Source R → Bool
+source_failed s = s.failed
+
+-- the bytes that the writer holds, where it tells them
+abbrev pub bytes_written : {W : Type 0} → (W → Option (List ℕ)) → Sink W → Option (List ℕ)
+bytes_written contents s = contents s.writer
+
+-- whether a write has failed
+abbrev pub sink_failed : {W : Type 0} → Sink W → Bool
+sink_failed s = s.failed
+
+-- known bytes grew by a front of the text, and by no more
+abbrev pub SendsFront : Option (List ℕ) → Option (List ℕ) → List ℕ → Type 0
+SendsFront old new text = (front : List ℕ) × (rest : List ℕ) × (text ≡ front ++ rest) × Appends old new front

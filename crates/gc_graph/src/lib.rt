@@ -1,0 +1,19 @@
+//! What a mutator may ask and be answered, the machine without a collector that says what the answers
+//! mean, and the bytes that come in and go out.
+#![tactic(auto)]
+
+mod command;
+mod laws;
+mod no_memory;
+mod number;
+mod reply;
+mod slot;
+pub mod text;
+
+pub use command::Op;
+pub use laws::{corresponding_graphs_reply_alike, names_do_not_matter, worked_rows};
+pub use no_memory::NoMemory;
+pub use number::Number;
+pub use reply::{Reply, View};
+pub use slot::Slot;
+pub use text::{Failed, Sink, Source};

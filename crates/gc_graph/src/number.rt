@@ -1,0 +1,42 @@
+use std::marker::Model;
+
+/// A number that a value may be: 0 to 2^63 - 1.
+#[derive(Clone, Copy, Debug, PartialEq, Eq)]
+pub struct Number {
+    value: u64,
+}
+
+impl Model for Number {
+    ghost use Rattle.std.specs.Prelude.{ℕ, ◌<◌, ◌^◌};
+
+    ghost Value = { ℕ };
+
+    ghost view = { λ n. n.value };
+
+    ghost invariant = { λ n. n.value < 2 ^ 63 };
+
+    ghost inverse = { λ n. record { value = n } };
+}
+
+impl Number {
+    ghost use Rattle.std.specs.Prelude.{◌≡◌, ◌<◌, ◌^◌, SomeIff};
+
+    /// The number, if it is below 2^63.
+    pub fn new(value: u64) -> Option<Number>
+        ensures { SomeIff result (value < 2 ^ 63) value }
+    {
+        if value < 1 << 63 {
+            Some(Number { value })
+        } else {
+            None
+        }
+    }
+
+    /// The number as a `u64`.
+    pub fn get(self) -> u64
+        ensures value { result ≡ self }
+        ensures bound { result < 2 ^ 63 }
+    {
+        self.value
+    }
+}

@@ -1,0 +1,63 @@
+ghost use Rattle.std.specs.Prelude.{◌≡◌, ◌<◌, true, false, is_err, IsErr, length, IfOk};
+ghost use Rattle.std.specs.Io.{WritesAtMost};
+ghost use Rattle.std.specs.Io.KnownBytes.{WriteAppends};
+
+use crate::text::source::Failed;
+use std::io::Write;
+
+/// A writer that stays failed once it has failed.
+#[derive(Drop)]
+pub struct Sink<W> {
+    writer: W,
+    failed: bool,
+}
+
+impl<W: Write> Sink<W> {
+    ghost use Rattle.gc_graph.specs.Streams.{bytes_written, sink_failed};
+
+    pub fn new(writer: W) -> Self
+        ensures bytes { bytes_written W.contents result ≡ W.contents writer }
+        ensures sound { sink_failed result ≡ false }
+    {
+        Sink {
+            writer,
+            failed: false,
+        }
+    }
+
+    /// The writer, with what it holds.
+    pub fn into_inner(self) -> W
+        ensures { W.contents result ≡ bytes_written W.contents self }
+    {
+        self.writer
+    }
+
+    /// Whether a write has failed.
+    pub fn failed(&self) -> bool
+        ensures { result ≡ sink_failed self.now }
+    {
+        self.failed
+    }
+
+    /// One write of the writer, none once it has failed. It failed where it takes no byte.
+    pub fn write(&mut self, bytes: &[u8]) -> Result<usize, Failed>
+        requires { 0 < length bytes.now }
+        ensures bound { WritesAtMost result bytes.now }
+        ensures some { IfOk result (λ count. 0 < count) }
+        ensures bytes { WriteAppends (bytes_written W.contents self.old) (bytes_written W.contents self.new) result bytes.now }
+        ensures fails { sink_failed self.new ≡ is_err result }
+        ensures stays_failed { sink_failed self.old ≡ true → IsErr result }
+        ensures untouched { sink_failed self.old ≡ true → self.new ≡ self.old }
+    {
+        if self.failed {
+            return Err(Failed);
+        }
+        match self.writer.write(bytes) {
+            Ok(count) if count > 0 => Ok(count),
+            _ => {
+                self.failed = true;
+                Err(Failed)
+            }
+        }
+    }
+}
