@@ -1,0 +1,82 @@
+-- What a space's calls leave, as their code makes it.
+use Rattle.std.proofs.Common.{◌≡◌, ℕ, suc, ◌+◌, ◌-◌, ◌<◌, ◌≤◌, true, cond, List, [], ◌∷◌, ◌++◌, length, take, drop, replicate, Result, Ok, is_ok, sym, ◌∙◌, ap, subst, arith, length-append, append_assoc}
+use Rattle.std.specs.Prelude.{IsSome}
+use Rattle.std.proofs.lemmas.List.{take_all, take_at}
+use Rattle.gc_words.specs.Word.{header_word}
+use Rattle.gc_words.specs.Image.{fresh_block, blocks, is_start, field_at, set_block}
+use Rattle.gc_words.specs.Spelling.{block_words, spelled, no_links}
+use Rattle.gc_words.specs.Space.{SpaceWords, IsSpace, end_of, free_in, with_object, with_word, without_links, field_place, link_place}
+use Rattle.gc_words.specs.declared.header.Header.{Header}
+use Rattle.gc_words.proofs.Writes.{placed, field_written, link_written}
+use Rattle.gc_words.proofs.Spelled.{cleared, length_cleared}
+
+-- ---- a word written, at a place that the code has computed
+
+pub field_at_place : (s t : SpaceWords) (a i w p : ℕ) → s ≡ t → p ≡ field_place a i → IsSpace s → IsSome (field_at t.words a i)
+    → IsSpace (with_word s p w) × (blocks (with_word s p w).words ≡ set_block (blocks t.words) a i w)
+field_at_place s t a i w p same place space some =
+    let written : IsSpace (with_word s (field_place a i) w) × (blocks (with_word s (field_place a i) w).words ≡ set_block (blocks s.words) a i w)
+    = field_written s a i w space (subst (λ (s : SpaceWords). IsSome (field_at s.words a i)) (sym same) some) in
+    subst (λ p. IsSpace (with_word s p w) × (blocks (with_word s p w).words ≡ set_block (blocks t.words) a i w)) (sym place)
+    (written.0, written.1 ∙ ap (λ (s : SpaceWords). set_block (blocks s.words) a i w) same)
+
+pub link_at_place : (s t : SpaceWords) (a w p : ℕ) → s ≡ t → p ≡ link_place a → IsSpace s → is_start t.words a ≡ true
+    → IsSpace (with_word s p w) × (blocks (with_word s p w).words ≡ blocks t.words)
+link_at_place s t a w p same place space start =
+    let written : IsSpace (with_word s (link_place a) w) × (blocks (with_word s (link_place a) w).words ≡ blocks s.words)
+    = link_written s a w space (subst (λ (s : SpaceWords). is_start s.words a ≡ true) (sym same) start) in
+    subst (λ p. IsSpace (with_word s p w) × (blocks (with_word s p w).words ≡ blocks t.words)) (sym place)
+    (written.0, written.1 ∙ ap (λ (s : SpaceWords). blocks s.words) same)
+
+-- ---- an object placed: its header word pushed, and then room made for as many words as it has besides
+
+pub record Places (s t : SpaceWords) (h : Header) : Type 0 where
+  pub space : IsSpace s
+  pub objects : blocks s.words ≡ blocks t.words ++ (end_of t, fresh_block h) ∷ []
+  pub words : s ≡ with_object t h
+
+room_filled : {E : Type 0} (r : Result (Unit {0}) E) (u : Unit {0}) (old pushed new : List ℕ) (h : Header) (n l : ℕ) → r ≡ Ok u → pushed ≡ old ++ header_word h ∷ [] → n ≡ length old + 2 + h.len → l ≡ length old + 1
+    → new ≡ cond (is_ok r) (take n pushed ++ replicate (n - l) 0) pushed → new ≡ old ++ block_words 0 (fresh_block h)
+room_filled r u old pushed new h n l ok push total one made =
+    let count : length pushed ≡ length old + 1 = ap length push ∙ length-append old (header_word h ∷ []) in
+    let more : n - l ≡ suc h.len = omega arith in
+    let all : take n pushed ≡ pushed = take_all n pushed (omega arith) in
+    made ∙ ap (λ r. cond (is_ok r) (take n pushed ++ replicate (n - l) 0) pushed) ok
+    ∙ (λ i. all i ++ replicate (more i) 0)
+    ∙ ap (λ xs. xs ++ 0 ∷ replicate h.len 0) push
+    ∙ append_assoc old (header_word h ∷ []) (0 ∷ replicate h.len 0)
+
+pub object_placed : {E : Type 0} (r : Result (Unit {0}) E) (u : Unit {0}) (s t : SpaceWords) (pushed new : List ℕ) (h : Header) (n l : ℕ) → s ≡ t → IsSpace s → h.kind < 256 → h.len < 65536 → h.len + 2 ≤ free_in t
+    → r ≡ Ok u → pushed ≡ s.words ++ header_word h ∷ [] → n ≡ end_of s + 2 + h.len → l ≡ end_of s + 1 → new ≡ cond (is_ok r) (take n pushed ++ replicate (n - l) 0) pushed
+    → Places (record { size = s.size; words = new }) t h
+object_placed r u s t pushed new h n l same space kind len room ok push total one made =
+    let filled : new ≡ s.words ++ block_words 0 (fresh_block h) = room_filled r u s.words pushed new h n l ok push total one made in
+    let done : IsSpace (with_object s h) × (blocks (with_object s h).words ≡ blocks s.words ++ (end_of s, fresh_block h) ∷ [])
+    = placed s h space kind len (subst (λ (s : SpaceWords). h.len + 2 ≤ free_in s) (sym same) room) in
+    subst (λ words. Places (record { size = s.size; words = words }) t h) (sym filled)
+    (record {
+      space = done.0;
+      objects = done.1 ∙ ap (λ (s : SpaceWords). blocks s.words ++ (end_of s, fresh_block h) ∷ []) same;
+      words = ap (λ (s : SpaceWords). with_object s h) same;
+    })
+
+-- ---- links cleared, in the words as they lie in their row
+
+pub record Clears (s t : SpaceWords) : Type 0 where
+  pub space : IsSpace s
+  pub objects : blocks s.words ≡ blocks t.words
+  pub words : s ≡ without_links t
+
+pub links_cleared : (s t : SpaceWords) (lent new : List ℕ) (n : ℕ) → s ≡ t → IsSpace s → lent ≡ s.words → n ≡ length s.words → new ≡ spelled no_links (blocks lent)
+    → Clears (record { size = s.size; words = take n (new ++ drop (length new) s.words) }) t
+links_cleared s t lent new n same space is count made =
+    let all : new ≡ spelled no_links (blocks s.words) = made ∙ ap (λ ws. spelled no_links (blocks ws)) is in
+    let long : length new ≡ n = ap length all ∙ length_cleared s.words space.walked space.end_low space.reserved ∙ sym count in
+    let whole : take n (new ++ drop (length new) s.words) ≡ spelled no_links (blocks s.words) = take_at new (drop (length new) s.words) n long ∙ all in
+    let done : IsSpace (without_links s) × (blocks (without_links s).words ≡ blocks s.words) = cleared s space in
+    subst (λ words. Clears (record { size = s.size; words = words }) t) (sym whole)
+    (record {
+      space = done.0;
+      objects = done.1 ∙ ap (λ (s : SpaceWords). blocks s.words) same;
+      words = ap without_links same;
+    })

@@ -1,0 +1,250 @@
+-- There is no first fault exactly where the certificate holds.
+use Rattle.std.proofs.Common.{◌≡◌, ℕ, suc, ◌<◌, Bool, true, false, cond, not, ◌&&◌, ◌==◌, List, [], ◌∷◌, ◌++◌, length, get_or, Option, Some, None, Result, Ok, Err, is_some, refl, sym, ◌∙◌, ap, subst, arith, append_assoc, append-nil}
+use Rattle.std.specs.Prelude.{◌≢◌, slice_index, nat_le, IsOk}
+use Rattle.std.specs.List.{All, AllPairs, AllZip, AllByRecursion, list_any}
+use Rattle.std.proofs.lemmas.Bool.{eqb-true, eq-eqb, ne_eqb, leb-true, leb-false, le-leb, lt-leb, and_parts, and_from, both_ways, not-false}
+use Rattle.std.proofs.lemmas.List.{get_or_append_left, get_or_at}
+use Rattle.std.proofs.lemmas.List.Elements.{All-nil, All-cons, All-head, All-tail, All-push, All-weaker, recursion_from_All}
+use Rattle.std.proofs.lemmas.List.Quantifiers.{all_pairs_push}
+use Rattle.std.proofs.lemmas.List.Folds.{list_any_none, list_any_at}
+use Rattle.gc_words.specs.Word.{words_correspond, field_words_correspond}
+use Rattle.gc_words.specs.Image.{Image, Block, IsShaped, block_at, is_start, walk_words}
+use Rattle.gc_words.specs.declared.header.Header.{Header}
+use Rattle.gc_words.specs.Certificate.{BlocksCorrespond, Certified}
+use Rattle.gc_words.specs.Fault.{◌or_else◌, when, at_place, fault_of_walk, words_fault, has_size, shape_fault, not_above_last, place_fault, place_faults, table_fault, first_difference, same_header, block_fault, pair_fault, object_faults, root_fault, first_fault}
+use Rattle.gc_words.specs.declared.refusal.Refusal.{Refusal}
+use Rattle.gc_words.specs.declared.refusal.Refusal.TheVariants.{OldShape, NewShape, RootCount, OldNotStart, NewNotStart, NotRising, Twice, HeaderDiffers, FieldDiffers, RootDiffers}
+
+-- ---- options
+
+or_none : {X : Type 0} (x y : Option X) → (x or_else y) ≡ None → (x ≡ None) × (y ≡ None)
+or_none None y e = (refl, e)
+or_none (Some x) y e = cc
+
+none_or : {X : Type 0} (x y : Option X) → x ≡ None → y ≡ None → (x or_else y) ≡ None
+none_or None y e f = f
+none_or (Some x) y e f = cc
+
+when_none : (b : Bool) (r : Refusal) → when b r ≡ None → b ≡ false
+when_none true r e = cc
+when_none false r e = refl
+
+none_when : (b : Bool) (r : Refusal) → b ≡ false → when b r ≡ None
+none_when true r e = cc
+none_when false r e = refl
+
+at_place_none : (o : Option ℕ) (r : ℕ → Refusal) → at_place o r ≡ None → o ≡ None
+at_place_none None r e = refl
+at_place_none (Some k) r e = cc
+
+none_at_place : (o : Option ℕ) (r : ℕ → Refusal) → o ≡ None → at_place o r ≡ None
+none_at_place None r e = refl
+none_at_place (Some k) r e = cc
+
+-- ---- shape
+
+if_none : {X : Type 0} (b : Bool) (x : Option X) (y : X) → cond b x (Some y) ≡ None → (b ≡ true) × (x ≡ None)
+if_none true x y e = (refl, e)
+if_none false x y e = cc
+
+none_if : {X : Type 0} (b : Bool) (x : Option X) (y : X) → b ≡ true → x ≡ None → cond b x (Some y) ≡ None
+none_if true x y e f = f
+none_if false x y e f = cc
+
+walk_none : {X : Type 0} (r : Result X ℕ) → fault_of_walk r ≡ None → IsOk r
+walk_none (Ok x) e = refl
+walk_none (Err at) e = cc
+
+none_walk : {X : Type 0} (r : Result X ℕ) → IsOk r → fault_of_walk r ≡ None
+none_walk (Ok x) e = refl
+none_walk (Err at) e = cc
+
+shaped : (image : Image) → shape_fault image ≡ None → IsShaped image
+shaped image e =
+    let parts : (has_size image ≡ true) × (words_fault image.end image.words ≡ None) = if_none (has_size image) _ 0 e in
+    let words : (((length image.words == image.end) && (slice_index image.words 0 == 0)) ≡ true) × (fault_of_walk (walk_words image.words) ≡ None) = if_none _ _ 0 parts.1 in
+    let frame : ((length image.words == image.end) ≡ true) × ((slice_index image.words 0 == 0) ≡ true) = and_parts _ _ words.0 in
+    let p3 : ((nat_le 1 image.size && nat_le image.size 1048576 && nat_le 1 image.end) ≡ true) × (nat_le image.end image.size ≡ true) = and_parts _ _ parts.0 in
+    let p2 : ((nat_le 1 image.size && nat_le image.size 1048576) ≡ true) × (nat_le 1 image.end ≡ true) = and_parts _ _ p3.0 in
+    let p1 : (nat_le 1 image.size ≡ true) × (nat_le image.size 1048576 ≡ true) = and_parts _ _ p2.0 in
+    record {
+      size_low = leb-true _ _ p1.0;
+      size_high = leb-true _ _ p1.1;
+      end_low = leb-true _ _ p2.1;
+      end_high = leb-true _ _ p3.1;
+      count = eqb-true _ _ frame.0;
+      reserved = eqb-true _ _ frame.1;
+      walked = walk_none _ words.1;
+    }
+
+no_shape_fault : (image : Image) → IsShaped image → shape_fault image ≡ None
+no_shape_fault image s =
+    none_if (has_size image) (words_fault image.end image.words) 0
+    (and_from _ _ (and_from _ _ (and_from _ _ (le-leb _ _ s.size_low) (le-leb _ _ s.size_high)) (le-leb _ _ s.end_low)) (le-leb _ _ s.end_high))
+    (none_if ((length image.words == image.end) && (slice_index image.words 0 == 0)) _ 0 (and_from _ _ (eq-eqb _ _ s.count) (eq-eqb _ _ s.reserved)) (none_walk _ s.walked))
+
+-- ---- pairs: their places
+
+abbrev pub Later : ℕ × ℕ → ℕ × ℕ → Type 0
+Later p q = (p.0 ≢ q.0) × (p.1 < q.1)
+
+not_above_push : (before : List (ℕ × ℕ)) (p : ℕ × ℕ) (n : ℕ) → not_above_last (before ++ p ∷ []) n ≡ nat_le n p.1
+not_above_push [] p n = refl
+not_above_push (x ∷ []) p n = refl
+not_above_push (x ∷ y ∷ rest) p n = not_above_push (y ∷ rest) p n
+
+-- what is above the last is above all
+abbrev pub LastIsHighest : List (ℕ × ℕ) → Type 0
+LastIsHighest before = (n : ℕ) → not_above_last before n ≡ false → All (λ q. q.1 < n) before
+
+pushed_highest : (before : List (ℕ × ℕ)) (p : ℕ × ℕ) → All (λ q. q.1 < p.1) before → LastIsHighest (before ++ p ∷ [])
+pushed_highest before p below n e =
+    let less : p.1 < n = leb-false n p.1 (sym (not_above_push before p n) ∙ e) in
+    All-push (λ q. q.1 < n) before p (All-weaker (λ q. q.1 < p.1) (λ q. q.1 < n) (λ q h. omega arith) before below) less
+
+none_same : (before : List (ℕ × ℕ)) (a : ℕ) → list_any (λ q. q.0 == a) before ≡ false → All (λ q. q.0 ≢ a) before
+none_same before a e = λ k d h same. both_ways (list_any (λ q. q.0 == a) before) e (list_any_at (λ q. q.0 == a) before k d h (eq-eqb _ _ same))
+
+no_place_fault : (old new : Image) (before : List (ℕ × ℕ)) (k : ℕ) (p : ℕ × ℕ) → place_fault old new before k p ≡ None
+    → (is_start old.words p.0 ≡ true) × (is_start new.words p.1 ≡ true) × (not_above_last before p.1 ≡ false) × (list_any (λ q. q.0 == p.0) before ≡ false)
+no_place_fault old new before k p e =
+    let s3 : ((when (not (is_start old.words p.0)) (OldNotStart k) or_else when (not (is_start new.words p.1)) (NewNotStart k) or_else when (not_above_last before p.1) (NotRising k)) ≡ None) × (when (list_any (λ q. q.0 == p.0) before) (Twice k) ≡ None) = or_none _ _ e in
+    let s2 : ((when (not (is_start old.words p.0)) (OldNotStart k) or_else when (not (is_start new.words p.1)) (NewNotStart k)) ≡ None) × (when (not_above_last before p.1) (NotRising k) ≡ None) = or_none _ _ s3.0 in
+    let s1 : (when (not (is_start old.words p.0)) (OldNotStart k) ≡ None) × (when (not (is_start new.words p.1)) (NewNotStart k) ≡ None) = or_none _ _ s2.0 in
+    (not-false _ (when_none _ _ s1.0), not-false _ (when_none _ _ s1.1), when_none _ _ s2.1, when_none _ _ s3.1)
+
+no_place_faults : (old new : Image) (rest before : List (ℕ × ℕ)) (k : ℕ) → AllPairs Later before → LastIsHighest before → place_faults old new before k rest ≡ None
+    → AllPairs Later (before ++ rest) × All (λ p. (is_start old.words p.0 ≡ true) × (is_start new.words p.1 ≡ true)) rest
+no_place_faults old new [] before k pairs highest e = (subst (AllPairs Later) (sym (append-nil before)) pairs, All-nil _)
+no_place_faults old new (p ∷ rest) before k pairs highest e =
+    let both : (place_fault old new before k p ≡ None) × (place_faults old new (before ++ p ∷ []) (suc k) rest ≡ None) = or_none _ _ e in
+    let at : (is_start old.words p.0 ≡ true) × (is_start new.words p.1 ≡ true) × (not_above_last before p.1 ≡ false) × (list_any (λ q. q.0 == p.0) before ≡ false) = no_place_fault old new before k p both.0 in
+    let below : All (λ q. q.1 < p.1) before = highest p.1 at.2 in
+    let other : All (λ q. q.0 ≢ p.0) before = none_same before p.0 at.3 in
+    let pushed : AllPairs Later (before ++ p ∷ []) = all_pairs_push Later before p pairs (λ i d h. (other i d h, below i d h)) in
+    let ih : AllPairs Later ((before ++ p ∷ []) ++ rest) × All (λ p. (is_start old.words p.0 ≡ true) × (is_start new.words p.1 ≡ true)) rest = no_place_faults old new rest (before ++ p ∷ []) (suc k) pushed (pushed_highest before p below) both.1 in
+    (subst (AllPairs Later) (append_assoc before (p ∷ []) rest) ih.0, All-cons (λ p. (is_start old.words p.0 ≡ true) × (is_start new.words p.1 ≡ true)) p rest (at.0, at.1) ih.1)
+
+-- each before p is related to it
+before_each : (before rest : List (ℕ × ℕ)) (p : ℕ × ℕ) → AllPairs Later (before ++ p ∷ rest) → All (λ q. Later q p) before
+before_each before rest p pairs k d h =
+    subst (λ (q : ℕ × ℕ). Later q p) (get_or_append_left before (p ∷ rest) d k h)
+    (subst (λ (q : ℕ × ℕ). Later (get_or (before ++ p ∷ rest) k d) q) (get_or_at before p rest d (length before) refl)
+    (pairs k (length before) d h (length_above before rest)))
+  where
+    length_above : (xs ys : List (ℕ × ℕ)) → length xs < length (xs ++ p ∷ ys)
+    length_above [] ys = omega arith
+    length_above (x ∷ xs) ys = let ih : length xs < length (xs ++ p ∷ ys) = length_above xs ys in omega arith
+
+above_all : (before : List (ℕ × ℕ)) (n : ℕ) → AllByRecursion (λ q. q.1 < n) before → not_above_last before n ≡ false
+above_all [] n h = refl
+above_all (p ∷ []) n h = lt-leb n p.1 h.0
+above_all (p ∷ q ∷ rest) n h = above_all (q ∷ rest) n h.1
+
+places_hold : (old new : Image) (rest before : List (ℕ × ℕ)) (k : ℕ) → AllPairs Later (before ++ rest) → All (λ p. (is_start old.words p.0 ≡ true) × (is_start new.words p.1 ≡ true)) rest
+    → place_faults old new before k rest ≡ None
+places_hold old new [] before k pairs starts = refl
+places_hold old new (p ∷ rest) before k pairs starts =
+    let each : All (λ q. Later q p) before = before_each before rest p pairs in
+    let start : (is_start old.words p.0 ≡ true) × (is_start new.words p.1 ≡ true) = All-head (λ p. (is_start old.words p.0 ≡ true) × (is_start new.words p.1 ≡ true)) p rest starts in
+    let below : AllByRecursion (λ q. q.1 < p.1) before = recursion_from_All (λ q. q.1 < p.1) before (All-weaker (λ q. Later q p) (λ q. q.1 < p.1) (λ q h. h.1) before each) in
+    let once : list_any (λ q. q.0 == p.0) before ≡ false = list_any_none (λ q. q.0 == p.0) before (All-weaker (λ q. Later q p) (λ q. (q.0 == p.0) ≡ false) (λ q h. ne_eqb _ _ h.0) before each) in
+    none_or (place_fault old new before k p) (place_faults old new (before ++ p ∷ []) (suc k) rest)
+    (none_or _ _ (none_or _ _ (none_or _ _ (none_when _ _ (ap not start.0)) (none_when _ _ (ap not start.1))) (none_when _ _ (above_all before p.1 below))) (none_when _ _ once))
+    (places_hold old new rest (before ++ p ∷ []) (suc k) (subst (AllPairs Later) (sym (append_assoc before (p ∷ []) rest)) pairs) (All-tail (λ p. (is_start old.words p.0 ≡ true) × (is_start new.words p.1 ≡ true)) p rest starts))
+
+-- ---- pairs: their objects, and roots
+
+no_difference : (alike : ℕ → ℕ → Bool) (i : ℕ) (vs ws : List ℕ) → first_difference alike i vs ws ≡ None → AllZip (λ v w. alike v w ≡ true) vs ws
+no_difference alike i [] [] e = tt
+no_difference alike i [] (w ∷ ws) e = absurd (let no : Some i ≡ None = e in cc)
+no_difference alike i (v ∷ vs) [] e = absurd (let no : Some i ≡ None = e in cc)
+no_difference alike i (v ∷ vs) (w ∷ ws) e =
+    let parts : (alike v w ≡ true) × (first_difference alike (suc i) vs ws ≡ None) = if_none (alike v w) _ i e in
+    (parts.0, no_difference alike (suc i) vs ws parts.1)
+
+difference_none : (alike : ℕ → ℕ → Bool) (i : ℕ) (vs ws : List ℕ) → AllZip (λ v w. alike v w ≡ true) vs ws → first_difference alike i vs ws ≡ None
+difference_none alike i [] [] z = refl
+difference_none alike i [] (w ∷ ws) z = absurd z
+difference_none alike i (v ∷ vs) [] z = absurd z
+difference_none alike i (v ∷ vs) (w ∷ ws) z = none_if (alike v w) _ i z.0 (difference_none alike (suc i) vs ws z.1)
+
+header_same : (g h : Header) → same_header g h ≡ true → g ≡ h
+header_same g h e =
+    let parts : ((g.kind == h.kind) ≡ true) × ((g.len == h.len) ≡ true) = and_parts _ _ e in
+    let k : g.kind ≡ h.kind = eqb-true _ _ parts.0 in
+    let l : g.len ≡ h.len = eqb-true _ _ parts.1 in
+    λ i. record { kind = k i; len = l i }
+
+same_header_of : (g h : Header) → g ≡ h → same_header g h ≡ true
+same_header_of g h e = and_from _ _ (eq-eqb _ _ (ap (λ h. h.kind) e)) (eq-eqb _ _ (ap (λ h. h.len) e))
+
+no_block_fault : (pairs : List (ℕ × ℕ)) (k : ℕ) (o q : Option Block) → is_some o ≡ true → is_some q ≡ true → block_fault pairs k o q ≡ None → BlocksCorrespond pairs o q
+no_block_fault pairs k (Some a) (Some b) s t e =
+    let parts : (same_header a.header b.header ≡ true) × (at_place (first_difference (field_words_correspond a.header pairs) 0 a.fields b.fields) (λ i. FieldDiffers k i) ≡ None) = if_none (same_header a.header b.header) _ (HeaderDiffers k) e in
+    (header_same a.header b.header parts.0, no_difference _ 0 a.fields b.fields (at_place_none _ (λ i. FieldDiffers k i) parts.1))
+no_block_fault pairs k (Some a) None s t e = absurd (let no : false ≡ true = t in cc)
+no_block_fault pairs k None q s t e = absurd (let no : false ≡ true = s in cc)
+
+block_fault_none : (pairs : List (ℕ × ℕ)) (k : ℕ) (o q : Option Block) → BlocksCorrespond pairs o q → block_fault pairs k o q ≡ None
+block_fault_none pairs k (Some a) (Some b) c = none_if (same_header a.header b.header) _ (HeaderDiffers k) (same_header_of _ _ c.0) (none_at_place _ (λ i. FieldDiffers k i) (difference_none _ 0 a.fields b.fields c.1))
+block_fault_none pairs k (Some a) None c = absurd c
+block_fault_none pairs k None q c = absurd c
+
+both_there : (pairs : List (ℕ × ℕ)) (o q : Option Block) → BlocksCorrespond pairs o q → (is_some o ≡ true) × (is_some q ≡ true)
+both_there pairs (Some a) (Some b) c = (refl, refl)
+both_there pairs (Some a) None c = absurd c
+both_there pairs None q c = absurd c
+
+module _ (old new : Image) (pairs : List (ℕ × ℕ)) where
+  abbrev pub Start : ℕ × ℕ → Type 0
+  Start p = (is_start old.words p.0 ≡ true) × (is_start new.words p.1 ≡ true)
+
+  abbrev pub Object : ℕ × ℕ → Type 0
+  Object p = BlocksCorrespond pairs (block_at old.words p.0) (block_at new.words p.1)
+
+  no_object_faults : (k : ℕ) (rest : List (ℕ × ℕ)) → All Start rest → object_faults old new pairs k rest ≡ None → All Object rest
+  no_object_faults k [] starts e = All-nil Object
+  no_object_faults k (p ∷ rest) starts e =
+      let both : (pair_fault old new pairs k p ≡ None) × (object_faults old new pairs (suc k) rest ≡ None) = or_none _ _ e in
+      let start : Start p = All-head Start p rest starts in
+      All-cons Object p rest (no_block_fault pairs k _ _ start.0 start.1 both.0) (no_object_faults (suc k) rest (All-tail Start p rest starts) both.1)
+
+  object_faults_none : (k : ℕ) (rest : List (ℕ × ℕ)) → All Object rest → object_faults old new pairs k rest ≡ None
+  object_faults_none k [] objects = refl
+  object_faults_none k (p ∷ rest) objects = none_or _ _ (block_fault_none pairs k _ _ (All-head Object p rest objects)) (object_faults_none (suc k) rest (All-tail Object p rest objects))
+
+  length_zip : (R : ℕ → ℕ → Type 0) (vs ws : List ℕ) → AllZip R vs ws → length vs ≡ length ws
+  length_zip R [] [] z = refl
+  length_zip R [] (w ∷ ws) z = absurd z
+  length_zip R (v ∷ vs) [] z = absurd z
+  length_zip R (v ∷ vs) (w ∷ ws) z = ap suc (length_zip R vs ws z.1)
+
+  pub certified_of_no_fault : first_fault old new pairs ≡ None → Certified old new pairs
+  certified_of_no_fault e =
+      let s5 : ((table_fault old new pairs or_else object_faults old new pairs 0 pairs) ≡ None) × (root_fault old new pairs ≡ None) = or_none _ _ e in
+      let s4 : (table_fault old new pairs ≡ None) × (object_faults old new pairs 0 pairs ≡ None) = or_none _ _ s5.0 in
+      let s3 : ((at_place (shape_fault old) (λ at. OldShape at) or_else at_place (shape_fault new) (λ at. NewShape at) or_else when (not (length old.roots == length new.roots)) RootCount) ≡ None)
+      × (place_faults old new [] 0 pairs ≡ None) = or_none _ _ s4.0 in
+      let s2 : ((at_place (shape_fault old) (λ at. OldShape at) or_else at_place (shape_fault new) (λ at. NewShape at)) ≡ None) × (when (not (length old.roots == length new.roots)) RootCount ≡ None) = or_none _ _ s3.0 in
+      let s1 : (at_place (shape_fault old) (λ at. OldShape at) ≡ None) × (at_place (shape_fault new) (λ at. NewShape at) ≡ None) = or_none _ _ s2.0 in
+      let places : AllPairs Later pairs × All Start pairs = no_place_faults old new pairs [] 0 (λ i j d h l. absurd (omega arith)) (λ n e. All-nil (λ q. q.1 < n)) s3.1 in
+      record {
+        old_shaped = shaped old (at_place_none (shape_fault old) (λ at. OldShape at) s1.0);
+        new_shaped = shaped new (at_place_none (shape_fault new) (λ at. NewShape at) s1.1);
+        objects = no_object_faults 0 pairs places.1 s4.1;
+        rising = λ i j d h l. (places.0 i j d h l).1;
+        once = λ i j d h l. (places.0 i j d h l).0;
+        roots = no_difference (words_correspond pairs) 0 old.roots new.roots (at_place_none _ (λ slot. RootDiffers slot) s5.1);
+      }
+
+  pub no_fault_of_certified : Certified old new pairs → first_fault old new pairs ≡ None
+  no_fault_of_certified c =
+      none_or _ _ (none_or _ _
+      (none_or _ _ (none_or _ _ (none_or _ _
+      (none_at_place _ (λ at. OldShape at) (no_shape_fault old c.old_shaped))
+      (none_at_place _ (λ at. NewShape at) (no_shape_fault new c.new_shaped)))
+      (none_when _ _ (ap not (eq-eqb _ _ (length_zip _ old.roots new.roots c.roots)))))
+      (places_hold old new pairs [] 0 (λ i j d h l. (c.once i j d h l, c.rising i j d h l)) (All-weaker Object Start (λ p b. both_there pairs _ _ b) pairs c.objects)))
+      (object_faults_none 0 pairs c.objects))
+      (none_at_place _ (λ slot. RootDiffers slot) (difference_none (words_correspond pairs) 0 old.roots new.roots c.roots))

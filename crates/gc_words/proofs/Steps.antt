@@ -1,0 +1,219 @@
+-- A walk over a space's words, one object at a time.
+use Rattle.std.proofs.Common.{◌≡◌, ℕ, suc, zero, ◌+◌, ◌-◌, ◌<◌, ◌≤◌, Bool, true, false, cond, ◌==◌, List, [], ◌∷◌, ◌++◌, length, take, drop, Option, Some, None, Result, Ok, Err, is_some, is_ok, refl, sym, ◌∙◌, ap, subst, inl, inr, arith, length-drop, append_assoc, append-nil}
+use Rattle.std.specs.Prelude.{nat_le, slice_index, slice_set, IsOk, IsSome}
+use Rattle.std.specs.List.{AllByRecursion}
+use Rattle.std.proofs.lemmas.Bool.{eq-eqb, ne_eqb, leb-true, leb-false, cases_eq, and_from}
+use Rattle.std.proofs.lemmas.List.{drop_more, drop-drop, drop-set-lt, drop-set-add, drop-take, drop_all, take-append-drop, take-set-le, take-take, take_all}
+use Rattle.gc_words.specs.Word.{read_header, header_word}
+use Rattle.gc_words.specs.Image.{Block, walk, with_front, walk_words, ok_or_nil, blocks, block_in}
+use Rattle.gc_words.specs.Spelling.{block_words, spelled, spelled_from, no_links}
+use Rattle.gc_words.specs.Fault.{fault_of_walk, words_fault}
+use Rattle.gc_words.specs.Walking.{next_after, next_of, walk_from}
+use Rattle.gc_words.specs.declared.header.Header.{Header}
+use Rattle.gc_words.proofs.Writes.{some_of}
+use Rattle.gc_words.proofs.Walks.{fields_in, starts_above, object_result, no_object, no_room, written_back}
+
+-- ---- words of an object are passed over
+
+pub passed : (k at : ℕ) (ws : List ℕ) → k ≤ length ws → walk k at ws ≡ walk 0 (at + k) (drop k ws)
+passed zero at ws h = ap (λ n. walk 0 n ws) (omega arith)
+passed (suc k) at [] h = absurd (omega arith)
+passed (suc k) at (w ∷ ws) h = passed k (suc at) ws (omega arith) ∙ ap (λ n. walk 0 n (drop k ws)) (omega arith)
+
+-- ---- one object
+
+abbrev pub block_from : List ℕ → ℕ → Header → Block
+block_from words at h = record { header = h; fields = take h.len (drop (at + 2) words) }
+
+pub record Step (words : List ℕ) (at next : ℕ) : Type 0 where
+  pub header : Header
+  pub word : read_header (slice_index words at) ≡ Some header
+  pub place : next ≡ at + (header.len + 2)
+  pub within : next ≤ length words
+  pub walk : walk_from words at ≡ with_front (at, block_from words at header) (walk_from words next)
+
+-- the words from a place on, the first of them apart
+opened : (words : List ℕ) (at : ℕ) → at < length words → drop at words ≡ slice_index words at ∷ drop (at + 1) words
+opened words at h = drop_more words at 0 h
+
+rest_length : (words : List ℕ) (at : ℕ) → at < length words → length (drop (at + 1) words) ≡ length words - (at + 1)
+rest_length words at h = length-drop (at + 1) words
+
+pub step : (words : List ℕ) (at next : ℕ) → at < length words → next_of words at ≡ Some next → Step words at next
+step words at next inside e = from (read_header (slice_index words at)) refl e
+  where
+    fits : (h : Header) (b : Bool) → nat_le (h.len + 2) (length words - at) ≡ b → cond b (Some (at + (h.len + 2))) None ≡ Some next → (h.len + 2 ≤ length words - at) × (at + (h.len + 2) ≡ next)
+    fits h true t e = (leb-true _ _ t, (let same : at + (h.len + 2) ≡ next = cc in same))
+    fits h false t e = absurd (let no : None ≡ Some next = e in cc)
+
+    from : (o : Option Header) → read_header (slice_index words at) ≡ o → next_after at o (length words - at) ≡ Some next → Step words at next
+    from None is e = absurd (let no : None ≡ Some next = e in cc)
+    from (Some h) is e =
+        let f : (h.len + 2 ≤ length words - at) × (at + (h.len + 2) ≡ next) = fits h (nat_le (h.len + 2) (length words - at)) refl e in
+        let rest : List ℕ = drop (at + 1) words in
+        let count : length rest ≡ length words - (at + 1) = rest_length words at inside in
+        let room : h.len + 1 ≤ length rest = (let r : h.len + 2 ≤ length words - at = f.0 in omega arith) in
+        let n : next ≡ at + (h.len + 2) = sym f.1 in
+        let at_next : suc at + (h.len + 1) ≡ next = omega arith in
+        let past : at + 1 + (h.len + 1) ≡ next = omega arith in
+        let two : at + 1 + 1 ≡ at + 2 = omega arith in
+        let fields : fields_in h rest ≡ take h.len (drop (at + 2) words) = ap (take h.len) (drop-drop 1 (at + 1) words) ∙ ap (λ n. take h.len (drop n words)) two in
+        record {
+          header = h;
+          word = is;
+          place = n;
+          within = (let r : h.len + 2 ≤ length words - at = f.0 in omega arith);
+          walk = ap (walk 0 at) (opened words at inside)
+              ∙ object_result at (slice_index words at) rest h is room
+              ∙ ap (with_front (at, record { header = h; fields = fields_in h rest })) (passed (h.len + 1) (suc at) rest room
+              ∙ ap (λ xs. walk 0 (suc at + (h.len + 1)) xs) (drop-drop (h.len + 1) (at + 1) words ∙ ap (λ n. drop n words) past)
+              ∙ ap (λ n. walk 0 n (drop next words)) at_next)
+              ∙ ap (λ fs. with_front (at, record { header = h; fields = fs }) (walk_from words next)) fields;
+        }
+
+pub no_step : (words : List ℕ) (at : ℕ) → at < length words → next_of words at ≡ None → walk_from words at ≡ Err at
+no_step words at inside e = from (read_header (slice_index words at)) refl e
+  where
+    unfit : (h : Header) (b : Bool) → nat_le (h.len + 2) (length words - at) ≡ b → cond b (Some (at + (h.len + 2))) None ≡ None → length words - at < h.len + 2
+    unfit h true t e = absurd (let no : Some (at + (h.len + 2)) ≡ None = e in cc)
+    unfit h false t e = leb-false _ _ t
+
+    from : (o : Option Header) → read_header (slice_index words at) ≡ o → next_after at o (length words - at) ≡ None → walk_from words at ≡ Err at
+    from None is e = ap (walk 0 at) (opened words at inside) ∙ no_object at (slice_index words at) (drop (at + 1) words) is
+    from (Some h) is e =
+        let less : length words - at < h.len + 2 = unfit h (nat_le (h.len + 2) (length words - at)) refl e in
+        let count : length (drop (at + 1) words) ≡ length words - (at + 1) = rest_length words at inside in
+        ap (walk 0 at) (opened words at inside) ∙ no_room at (slice_index words at) (drop (at + 1) words) h is (omega arith)
+
+-- a walk that comes to its end goes on from each object
+pub has_next : (words : List ℕ) (at : ℕ) → at < length words → IsOk (walk_from words at) → IsSome (next_of words at)
+has_next words at inside ok = from (next_of words at) refl
+  where
+    from : (o : Option ℕ) → next_of words at ≡ o → is_some o ≡ true
+    from None e = absurd (let no : false ≡ true = sym (ap is_ok (no_step words at inside e)) ∙ ok in cc)
+    from (Some next) e = refl
+
+-- ---- what is behind the last object
+
+pub at_end : (words : List ℕ) (at : ℕ) → length words ≤ at → walk_from words at ≡ Ok []
+at_end words at h = ap (walk 0 at) (drop_all at words h)
+
+-- ---- a walk's fault
+
+pub fault_behind : (x : ℕ × Block) (r : Result (List (ℕ × Block)) ℕ) → fault_of_walk (with_front x r) ≡ fault_of_walk r
+fault_behind x (Ok xs) = refl
+fault_behind x (Err at) = refl
+
+pub same_fault : (words : List ℕ) (at next : ℕ) → at < length words → next_of words at ≡ Some next → fault_of_walk (walk_from words at) ≡ fault_of_walk (walk_from words next)
+same_fault words at next inside e =
+    let s : Step words at next = step words at next inside e in
+    ap fault_of_walk s.walk ∙ fault_behind _ (walk_from words next)
+
+-- words as many as they should be, the first of them 0
+pub framed : (end : ℕ) (words : List ℕ) → length words ≡ end → slice_index words 0 ≡ 0 → words_fault end words ≡ fault_of_walk (walk_from words 1)
+framed end words count reserved = ap (λ b. cond b (fault_of_walk (walk_words words)) (Some 0)) (and_from _ _ (eq-eqb _ _ count) (eq-eqb _ _ reserved))
+
+-- ---- the objects behind one
+
+pub ok_behind : (x : ℕ × Block) (r : Result (List (ℕ × Block)) ℕ) → IsOk (with_front x r) → IsOk r × (ok_or_nil (with_front x r) ≡ x ∷ ok_or_nil r)
+ok_behind x (Ok xs) e = (refl, refl)
+ok_behind x (Err at) e = absurd (let no : false ≡ true = e in cc)
+
+pub record Behind (words : List ℕ) (at next : ℕ) : Type 0 where
+  pub step : Step words at next
+  pub walked : IsOk (walk_from words next)
+  pub objects : ok_or_nil (walk_from words at) ≡ (at, block_from words at step.header) ∷ ok_or_nil (walk_from words next)
+
+pub behind : (words : List ℕ) (at next : ℕ) → at < length words → IsOk (walk_from words at) → next_of words at ≡ Some next → Behind words at next
+behind words at next inside ok e =
+    let s : Step words at next = step words at next inside e in
+    let b : IsOk (walk_from words next) × (ok_or_nil (with_front (at, block_from words at s.header) (walk_from words next)) ≡ (at, block_from words at s.header) ∷ ok_or_nil (walk_from words next))
+    = ok_behind _ (walk_from words next) (subst IsOk s.walk ok) in
+    record { step = s; walked = b.0; objects = ap ok_or_nil s.walk ∙ b.1 }
+
+-- ---- whether an object starts at a place
+
+abbrev pub has_start_from : List ℕ → ℕ → ℕ → Bool
+has_start_from words at place = is_some (block_in (ok_or_nil (walk_from words at)) place)
+
+pub start_behind : (words : List ℕ) (at next place : ℕ) → at < length words → at < place → IsOk (walk_from words at) → next_of words at ≡ Some next
+    → has_start_from words at place ≡ has_start_from words next place
+start_behind words at next place inside before ok e =
+    let b : Behind words at next = behind words at next inside ok e in
+    let here : Block = block_from words at b.step.header in
+    ap (λ bs. is_some (block_in bs place)) b.objects
+    ∙ ap (λ t. is_some (cond t (Some here) (block_in (ok_or_nil (walk_from words next)) place))) (ne_eqb at place (λ same. omega arith))
+
+pub start_here : (words : List ℕ) (at : ℕ) → at < length words → IsOk (walk_from words at) → has_start_from words at at ≡ true
+start_here words at inside ok =
+    let n : (next : ℕ) × (next_of words at ≡ Some next) = some_of (next_of words at) (has_next words at inside ok) in
+    let b : Behind words at n.0 = behind words at n.0 inside ok n.1 in
+    ap (λ bs. is_some (block_in bs at)) b.objects
+    ∙ ap (λ t. is_some (cond t (Some (block_from words at b.step.header)) (block_in (ok_or_nil (walk_from words n.0)) at))) (eq-eqb at at refl)
+
+none_above : (bs : List (ℕ × Block)) (low place : ℕ) → place < low → AllByRecursion (λ b. low ≤ b.0) bs → block_in bs place ≡ None
+none_above [] low place h all = refl
+none_above (b ∷ bs) low place h all =
+    ap (λ t. cond t (Some b.1) (block_in bs place)) (ne_eqb b.0 place (λ same. let l : low ≤ b.0 = all.0 in omega arith)) ∙ none_above bs low place h all.1
+
+ok_is : (r : Result (List (ℕ × Block)) ℕ) → IsOk r → r ≡ Ok (ok_or_nil r)
+ok_is (Ok xs) e = refl
+ok_is (Err at) e = absurd (let no : false ≡ true = e in cc)
+
+pub no_start_below : (words : List ℕ) (at place : ℕ) → place < at → IsOk (walk_from words at) → has_start_from words at place ≡ false
+no_start_below words at place below ok =
+    ap is_some (none_above (ok_or_nil (walk_from words at)) (at + 0) place (omega arith) (starts_above (drop at words) 0 at _ (ok_is (walk_from words at) ok)))
+
+-- what the last test of a search says, where the search has come so far
+pub found_start : (words : List ℕ) (at place : ℕ) → at < length words → place ≤ at → IsOk (walk_from words at) → (at == place) ≡ has_start_from words at place
+found_start words at place inside reached ok =
+    elim (cases_eq at place) [
+      | inl same ↦ eq-eqb at place same ∙ sym (subst (λ p. has_start_from words at p ≡ true) same (start_here words at inside ok))
+      | inr other ↦ ne_eqb at place other ∙ sym (no_start_below words at place (omega arith) ok)
+    ]
+
+-- ---- links cleared, one object at a time
+
+-- the words up to a place, and the objects from there on without links
+abbrev pub cleared_from : List ℕ → ℕ → List ℕ
+cleared_from words at = take at words ++ spelled_from no_links (ok_or_nil (walk_from words at))
+
+take_add : (n k : ℕ) (xs : List ℕ) → take (n + k) xs ≡ take n xs ++ take k (drop n xs)
+take_add n k xs = sym (take-append-drop n (take (n + k) xs)) ∙ (λ i. take-take n (n + k) xs (omega arith) i ++ drop-take n k xs i)
+
+pub cleared_step : (words : List ℕ) (at next : ℕ) → at < length words → IsOk (walk_from words at) → next_of words at ≡ Some next
+    → let after = slice_set words (at + 1) 0 in IsOk (walk_from after next) × (cleared_from words at ≡ cleared_from after next)
+cleared_step words at next inside ok e =
+    let b : Behind words at next = behind words at next inside ok e in
+    let h : Header = b.step.header in
+    let after : List ℕ = slice_set words (at + 1) 0 in
+    let place : next ≡ at + (h.len + 2) = b.step.place in
+    let within : next ≤ length words = b.step.within in
+    let kept : drop next after ≡ drop next words = drop-set-lt next words (at + 1) 0 (omega arith) in
+    let same : walk_from after next ≡ walk_from words next = ap (walk 0 next) kept in
+    let word : header_word h ≡ slice_index words at = (written_back (slice_index words at) h b.step.word).2 in
+    let two : at + 1 + 1 ≡ at + 2 = omega arith in
+    let rest : List ℕ = drop (at + 2) words in
+    let open_words : drop at words ≡ slice_index words at ∷ slice_index words (at + 1) ∷ rest
+    = opened words at inside ∙ ap (λ xs. slice_index words at ∷ xs) (opened words (at + 1) (omega arith) ∙ ap (λ n. slice_index words (at + 1) ∷ drop n words) two) in
+    let open_after : drop at after ≡ slice_index words at ∷ 0 ∷ rest = drop-set-add at words 1 0 ∙ ap (λ xs. slice_set xs 1 0) open_words in
+    let size : h.len + 2 ≡ suc (suc h.len) = omega arith in
+    let front : take next after ≡ take at words ++ (slice_index words at ∷ 0 ∷ take h.len rest)
+    = ap (λ n. take n after) place ∙ take_add at (h.len + 2) after
+    ∙ (λ i. take-set-le at words (at + 1) 0 (omega arith) i ++ take (size i) (open_after i)) in
+    let block : List ℕ = block_words 0 (block_from words at h) in (
+      subst IsOk (sym same) b.walked,
+      ap (λ bs. take at words ++ spelled_from no_links bs) b.objects
+          ∙ sym (append_assoc (take at words) block (spelled_from no_links (ok_or_nil (walk_from words next))))
+          ∙ ap (λ w. (take at words ++ (w ∷ 0 ∷ take h.len rest)) ++ spelled_from no_links (ok_or_nil (walk_from words next))) word
+          ∙ ap (λ xs. xs ++ spelled_from no_links (ok_or_nil (walk_from words next))) (sym front)
+          ∙ ap (λ r. take next after ++ spelled_from no_links (ok_or_nil r)) (sym same),
+    )
+
+pub cleared_at_end : (words : List ℕ) (at : ℕ) → length words ≤ at → cleared_from words at ≡ words
+cleared_at_end words at past =
+    ap (λ r. take at words ++ spelled_from no_links (ok_or_nil r)) (at_end words at past) ∙ append-nil (take at words) ∙ take_all at words past
+
+pub cleared_start : (words : List ℕ) → 1 ≤ length words → slice_index words 0 ≡ 0 → spelled no_links (blocks words) ≡ cleared_from words 1
+cleared_start [] low reserved = absurd (omega arith)
+cleared_start (w ∷ ws) low reserved = ap (λ w. w ∷ spelled_from no_links (blocks (w ∷ ws))) (sym reserved)

@@ -1,0 +1,301 @@
+-- What writes do to the walk over a space.
+use Rattle.std.proofs.Common.{◌≡◌, ℕ, suc, zero, ◌+◌, ◌-◌, ◌*◌, ◌/◌, ◌%◌, ◌<◌, ◌≤◌, Bool, true, false, cond, ◌&&◌, ◌==◌, List, [], ◌∷◌, ◌++◌, map, length, take, drop, Option, Some, None, Result, Ok, Err, refl, sym, ◌∙◌, ap, subst, inl, inr, arith, length-append, length-set}
+use Rattle.std.specs.Prelude.{nat_lt, nat_le, slice_set, ⊤}
+use Rattle.std.specs.List.{AllByRecursion}
+use Rattle.std.proofs.lemmas.Bool.{eqb-true, leb-true, le-leb, lt-leb, lt-ltb, and_from, and_parts, ltb-true, cases_Bool}
+use Rattle.std.proofs.lemmas.List.{take-append-le, drop-append-le, take_all, map-set}
+use Rattle.gc_graph.specs.Graph.{set_field, with_field}
+use Rattle.gc_words.specs.Word.{header_word, read_header, field_value}
+use Rattle.gc_words.specs.Image.{Block, walk, object_at, with_front, block_in, set_block, object_of_block, object_entry}
+use Rattle.gc_words.specs.declared.header.Header.{Header}
+
+-- ---- headers are read back
+
+quotient : (kind len : ℕ) → kind < 256 → len < 65536 → (16777216 + 65536 * kind + len - 16777216) / 65536 ≡ kind
+quotient kind len k l = omega arith
+
+remainder : (kind len : ℕ) → kind < 256 → len < 65536 → (16777216 + 65536 * kind + len) % 65536 ≡ len
+remainder kind len k l = omega arith
+
+pub read_back : (h : Header) → h.kind < 256 → h.len < 65536 → read_header (header_word h) ≡ Some h
+read_back h k l =
+    let low : nat_le 16777216 (header_word h) ≡ true = le-leb _ _ (omega arith) in
+    let high : nat_lt (header_word h) 33554432 ≡ true = lt-ltb _ _ (omega arith) in
+    let q : (header_word h - 16777216) / 65536 ≡ h.kind = quotient h.kind h.len k l in
+    let r : header_word h % 65536 ≡ h.len = remainder h.kind h.len k l in
+    ap (λ b. cond b (Some (record { kind = (header_word h - 16777216) / 65536; len = header_word h % 65536 })) None) (and_from _ _ low high)
+    ∙ (λ i. Some (record { kind = q i; len = r i }))
+
+-- a word that is read as a header is that header's word
+pub written_back : (w : ℕ) (h : Header) → read_header w ≡ Some h → (h.kind < 256) × (h.len < 65536) × (header_word h ≡ w)
+written_back w h e = from (nat_le 16777216 w && nat_lt w 33554432) refl e
+  where
+    read : Header
+    read = record { kind = (w - 16777216) / 65536; len = w % 65536 }
+
+    known : 16777216 ≤ w → w < 33554432 → (read.kind < 256) × (read.len < 65536) × (header_word read ≡ w)
+    known low high = (omega arith, omega arith, omega arith)
+
+    from : (b : Bool) → (nat_le 16777216 w && nat_lt w 33554432) ≡ b → cond b (Some read) None ≡ Some h → (h.kind < 256) × (h.len < 65536) × (header_word h ≡ w)
+    from true t e =
+        let both : (nat_le 16777216 w ≡ true) × (nat_lt w 33554432 ≡ true) = and_parts _ _ t in
+        let same : read ≡ h = cc in
+        subst (λ (h : Header). (h.kind < 256) × (h.len < 65536) × (header_word h ≡ w)) same (known (leb-true _ _ both.0) (ltb-true _ _ both.1))
+    from false t e = absurd (let no : None ≡ Some h = e in cc)
+
+-- ---- the walk, one object at a time
+
+abbrev pub Walked : ℕ → ℕ → List ℕ → List (ℕ × Block) → Type 0
+Walked inside at ws bs = walk inside at ws ≡ Ok bs
+
+abbrev pub fields_in : Header → List ℕ → List ℕ
+fields_in h words = take h.len (drop 1 words)
+
+front_ok : (x : ℕ × Block) (r : Result (List (ℕ × Block)) ℕ) (bs : List (ℕ × Block)) → with_front x r ≡ Ok bs → (rest : List (ℕ × Block)) × (r ≡ Ok rest) × (bs ≡ x ∷ rest)
+front_ok x (Ok rest) bs e = (rest, refl, (let same : x ∷ rest ≡ bs = cc in sym same))
+front_ok x (Err at) bs e = cc
+
+guard_ok : (b : Bool) (x : Result (List (ℕ × Block)) ℕ) (at : ℕ) (bs : List (ℕ × Block)) → cond b x (Err at) ≡ Ok bs → (b ≡ true) × (x ≡ Ok bs)
+guard_ok true x at bs e = (refl, e)
+guard_ok false x at bs e = cc
+
+-- where the walk meets a header it is one, there is room, and the rest is walked
+abbrev pub First : ℕ → List ℕ → List (ℕ × Block) → Option Header → Type 0
+First at words bs h? = (h : Header) × (h? ≡ Some h) × (h.len + 1 ≤ length words) × (rest : List (ℕ × Block)) × (walk (h.len + 1) (suc at) words ≡ Ok rest) × (bs ≡ (at, record { header = h; fields = fields_in h words }) ∷ rest)
+
+first_of_object : (at : ℕ) (words : List ℕ) (bs : List (ℕ × Block)) (h : Option Header) → object_at at h words (λ inside. walk inside (suc at) words) ≡ Ok bs → First at words bs h
+first_of_object at words bs None e = absurd (let no : Err at ≡ Ok bs = e in cc)
+first_of_object at words bs (Some h) e =
+    let room : (nat_le (h.len + 1) (length words) ≡ true) × (with_front (at, record { header = h; fields = fields_in h words }) (walk (h.len + 1) (suc at) words) ≡ Ok bs) = guard_ok _ _ at bs e in
+    let front : (rest : List (ℕ × Block)) × (walk (h.len + 1) (suc at) words ≡ Ok rest) × (bs ≡ (at, record { header = h; fields = fields_in h words }) ∷ rest) = front_ok _ _ bs room.1 in
+    (h, refl, leb-true _ _ room.0, front.0, front.1, front.2)
+
+pub first : (at w : ℕ) (words : List ℕ) (bs : List (ℕ × Block)) → Walked 0 at (w ∷ words) bs → First at words bs (read_header w)
+first at w words bs e = first_of_object at words bs (read_header w) e
+
+-- the walk of one object and of what is behind it
+pub object_result : (at w : ℕ) (words : List ℕ) (h : Header) → read_header w ≡ Some h → h.len + 1 ≤ length words
+    → walk 0 at (w ∷ words) ≡ with_front (at, record { header = h; fields = fields_in h words }) (walk (h.len + 1) (suc at) words)
+object_result at w words h is room =
+    ap (λ h. object_at at h words (λ inside. walk inside (suc at) words)) is
+    ∙ ap (λ b. cond b (with_front (at, record { header = h; fields = fields_in h words }) (walk (h.len + 1) (suc at) words)) (Err at)) (le-leb _ _ room)
+
+pub object_walked : (at w : ℕ) (words : List ℕ) (h : Header) (rest : List (ℕ × Block)) → read_header w ≡ Some h → h.len + 1 ≤ length words → walk (h.len + 1) (suc at) words ≡ Ok rest
+    → Walked 0 at (w ∷ words) ((at, record { header = h; fields = fields_in h words }) ∷ rest)
+object_walked at w words h rest is room e = object_result at w words h is room ∙ ap (with_front (at, record { header = h; fields = fields_in h words })) e
+
+-- where no object is, or it does not fit
+pub no_object : (at w : ℕ) (words : List ℕ) → read_header w ≡ None → walk 0 at (w ∷ words) ≡ Err at
+no_object at w words is = ap (λ h. object_at at h words (λ inside. walk inside (suc at) words)) is
+
+pub no_room : (at w : ℕ) (words : List ℕ) (h : Header) → read_header w ≡ Some h → length words < h.len + 1 → walk 0 at (w ∷ words) ≡ Err at
+no_room at w words h is less =
+    ap (λ h. object_at at h words (λ inside. walk inside (suc at) words)) is
+    ∙ ap (λ b. cond b (with_front (at, record { header = h; fields = fields_in h words }) (walk (h.len + 1) (suc at) words)) (Err at)) (lt-leb _ _ less)
+
+-- ---- starts are where they can be
+
+pub starts_above : (ws : List ℕ) (inside at : ℕ) (bs : List (ℕ × Block)) → Walked inside at ws bs → AllByRecursion (λ b. at + inside ≤ b.0) bs
+starts_above [] inside at [] e = tt
+starts_above [] inside at (b ∷ bs) e = cc
+starts_above (w ∷ ws) (suc inside) at bs e = weaker bs (starts_above ws inside (suc at) bs e)
+  where
+    weaker : (bs : List (ℕ × Block)) → AllByRecursion (λ b. suc at + inside ≤ b.0) bs → AllByRecursion (λ b. at + suc inside ≤ b.0) bs
+    weaker [] a = tt
+    weaker (b ∷ bs) a = (let h : suc at + inside ≤ b.0 = a.0 in omega arith, weaker bs a.1)
+starts_above (w ∷ ws) zero at bs e =
+    let f : First at ws bs (read_header w) = first at w ws bs e in
+    subst (AllByRecursion (λ b. at + 0 ≤ b.0)) (sym f.5) (omega arith, weaker (f.0.len + 1) f.3 (starts_above ws (f.0.len + 1) (suc at) f.3 f.4))
+  where
+    weaker : (k : ℕ) (bs : List (ℕ × Block)) → AllByRecursion (λ b. suc at + k ≤ b.0) bs → AllByRecursion (λ b. at + 0 ≤ b.0) bs
+    weaker k [] a = tt
+    weaker k (b ∷ bs) a = (let h : suc at + k ≤ b.0 = a.0 in omega arith, weaker k bs a.1)
+
+-- ---- an object placed at the end
+
+alone : (at : ℕ) (h : Header) (link : ℕ) (fields : List ℕ) → h.kind < 256 → h.len < 65536 → length fields ≡ h.len → Walked 0 at (header_word h ∷ link ∷ fields) ((at, record { header = h; fields = fields }) ∷ [])
+alone at h link fields k l n =
+    object_walked at (header_word h) (link ∷ fields) h [] (read_back h k l) (omega arith) (past (h.len + 1) (suc at) (link ∷ fields) (omega arith))
+    ∙ ap (λ fs. Ok ((at, record { header = h; fields = fs }) ∷ [])) (take_all h.len fields (omega arith))
+  where
+    past : (k at : ℕ) (xs : List ℕ) → length xs ≡ k → walk k at xs ≡ Ok []
+    past zero at [] e = refl
+    past (suc k) at [] e = refl
+    past zero at (x ∷ xs) e = absurd (omega arith)
+    past (suc k) at (x ∷ xs) e = past k (suc at) xs (omega arith)
+
+pub walk_placed : (ws : List ℕ) (inside at : ℕ) (bs : List (ℕ × Block)) (h : Header) (link : ℕ) (fields : List ℕ) → h.kind < 256 → h.len < 65536 → length fields ≡ h.len
+    → inside ≤ length ws → Walked inside at ws bs → Walked inside at (ws ++ header_word h ∷ link ∷ fields) (bs ++ (at + length ws, record { header = h; fields = fields }) ∷ [])
+walk_placed [] zero at bs h link fields k l n room e =
+    alone at h link fields k l n ∙ (let none : [] ≡ bs = cc in (λ i. Ok (none i ++ (here i, record { header = h; fields = fields }) ∷ [])))
+  where
+    here : at ≡ at + 0
+    here = omega arith
+walk_placed [] (suc inside) at bs h link fields k l n room e = absurd (omega arith)
+walk_placed (w ∷ ws) (suc inside) at bs h link fields k l n room e =
+    walk_placed ws inside (suc at) bs h link fields k l n (omega arith) e ∙ ap (λ m. Ok (bs ++ (m, record { header = h; fields = fields }) ∷ [])) (omega arith)
+walk_placed (w ∷ ws) zero at bs h link fields k l n room e =
+    let f : First at ws bs (read_header w) = first at w ws bs e in
+    let more : List ℕ = header_word h ∷ link ∷ fields in
+    let ih : Walked (f.0.len + 1) (suc at) (ws ++ more) (f.3 ++ (suc at + length ws, record { header = h; fields = fields }) ∷ []) = walk_placed ws (f.0.len + 1) (suc at) f.3 h link fields k l n f.2 f.4 in
+    let longer : length (ws ++ more) ≡ length ws + length more = length-append ws more in
+    let dropped : drop 1 (ws ++ more) ≡ drop 1 ws ++ more = drop-append-le 1 ws more (let r : f.0.len + 1 ≤ length ws = f.2 in omega arith) in
+    let kept : fields_in f.0 (ws ++ more) ≡ fields_in f.0 ws = ap (take f.0.len) dropped ∙ take-append-le f.0.len (drop 1 ws) more (let r : f.0.len + 1 ≤ length ws = f.2 in let d : length (drop 1 ws) ≡ length ws - 1 = length_drop_one ws in omega arith) in
+    object_walked at w (ws ++ more) f.0 _ f.1 (let r : f.0.len + 1 ≤ length ws = f.2 in omega arith) ih
+    ∙ (λ i. Ok ((at, record { header = f.0; fields = kept i }) ∷ (f.3 ++ (place i, record { header = h; fields = fields }) ∷ [])))
+    ∙ ap (λ bs. Ok (bs ++ (at + suc (length ws), record { header = h; fields = fields }) ∷ [])) (sym f.5)
+  where
+    place : suc at + length ws ≡ at + suc (length ws)
+    place = omega arith
+
+    length_drop_one : (xs : List ℕ) → length (drop 1 xs) ≡ length xs - 1
+    length_drop_one [] = refl
+    length_drop_one (x ∷ xs) = omega arith
+
+-- ---- words inside an object
+
+-- a word that belongs to an earlier object is passed over
+inside_set : (ws : List ℕ) (inside at p v : ℕ) → p < inside → walk inside at (slice_set ws p v) ≡ walk inside at ws
+inside_set [] inside at p v h = refl
+inside_set (w ∷ ws) zero at p v h = absurd (omega arith)
+inside_set (w ∷ ws) (suc inside) at zero v h = refl
+inside_set (w ∷ ws) (suc inside) at (suc p) v h = inside_set ws inside (suc at) p v (omega arith)
+
+take_set_in : (n : ℕ) (ws : List ℕ) (i v : ℕ) → take n (slice_set ws i v) ≡ slice_set (take n ws) i v
+take_set_in zero ws i v = refl
+take_set_in (suc n) [] i v = refl
+take_set_in (suc n) (w ∷ ws) zero v = refl
+take_set_in (suc n) (w ∷ ws) (suc i) v = ap (λ xs. w ∷ xs) (take_set_in n ws i v)
+
+drop_one_set : (ws : List ℕ) (i v : ℕ) → drop 1 (slice_set ws (suc i) v) ≡ slice_set (drop 1 ws) i v
+drop_one_set [] i v = refl
+drop_one_set (w ∷ ws) i v = refl
+
+drop_one_first : (ws : List ℕ) (v : ℕ) → drop 1 (slice_set ws 0 v) ≡ drop 1 ws
+drop_one_first [] v = refl
+drop_one_first (w ∷ ws) v = refl
+
+set_past_take : (n : ℕ) (ws : List ℕ) (i v : ℕ) → n ≤ i → take n (slice_set ws i v) ≡ take n ws
+set_past_take zero ws i v h = refl
+set_past_take (suc n) [] i v h = refl
+set_past_take (suc n) (w ∷ ws) zero v h = absurd (omega arith)
+set_past_take (suc n) (w ∷ ws) (suc i) v h = ap (λ xs. w ∷ xs) (set_past_take n ws i v (omega arith))
+
+abbrev pub HasField : Option Block → ℕ → Type 0
+HasField None i = ⊥
+HasField (Some b) i = i < b.header.len
+
+first_key : (bs : List (ℕ × Block)) (a low : ℕ) (i : ℕ) → AllByRecursion (λ b. low ≤ b.0) bs → HasField (block_in bs a) i → low ≤ a
+first_key [] a low i all h = absurd h
+first_key (b ∷ bs) a low i all h =
+    elim (cases_Bool (b.0 == a)) [
+      | inl here ↦ (let same : b.0 ≡ a = eqb-true _ _ here in let l : low ≤ b.0 = all.0 in omega arith)
+      | inr other ↦ first_key bs a low i all.1 (subst (λ t. HasField (cond t (Some b.1) (block_in bs a)) i) other h)
+    ]
+
+abbrev pred_of : ℕ → ℕ
+pred_of zero = zero
+pred_of (suc n) = n
+
+suc_pred : (n : ℕ) → 0 < n → n ≡ suc (pred_of n)
+suc_pred zero h = absurd (omega arith)
+suc_pred (suc n) h = refl
+
+fields_past : (h : Header) (ws : List ℕ) (p v : ℕ) → h.len < p → fields_in h (slice_set ws p v) ≡ fields_in h ws
+fields_past h ws zero v l = absurd (omega arith)
+fields_past h ws (suc p) v l = ap (take h.len) (drop_one_set ws p v) ∙ set_past_take h.len (drop 1 ws) p v (omega arith)
+
+-- a field word: p counts from the first word here, and field i of the object at a stands two words behind a
+pub walk_field : (ws : List ℕ) (inside at : ℕ) (bs : List (ℕ × Block)) (a i p v : ℕ) → at + p ≡ a + 2 + i → HasField (block_in bs a) i → Walked inside at ws bs → Walked inside at (slice_set ws p v) (set_block bs a i v)
+walk_field [] inside at [] a i p v e h w = absurd h
+walk_field [] inside at (b ∷ bs) a i p v e h w = cc
+walk_field (x ∷ ws) (suc inside) at bs a i zero v e h w =
+    absurd (let low : suc at + inside ≤ a = first_key bs a (suc at + inside) i (starts_above ws inside (suc at) bs w) h in omega arith)
+walk_field (x ∷ ws) (suc inside) at bs a i (suc p) v e h w = walk_field ws inside (suc at) bs a i p v (omega arith) h w
+walk_field (x ∷ ws) zero at bs a i p v e h w =
+    let f : First at ws bs (read_header x) = first at x ws bs w in
+    let b : Block = record { header = f.0; fields = fields_in f.0 ws } in
+    elim (cases_Bool (at == a)) [
+      | inl here ↦ (let same : at ≡ a = eqb-true _ _ here in
+          let two : p ≡ suc (suc i) = omega arith in
+          let small : i < f.0.len = subst (λ t. HasField (cond t (Some b) (block_in f.3 a)) i) here (subst (λ bs. HasField (block_in bs a) i) f.5 h) in
+          let fields : fields_in f.0 (slice_set ws (suc i) v) ≡ slice_set (fields_in f.0 ws) i v = ap (take f.0.len) (drop_one_set ws i v) ∙ take_set_in f.0.len (drop 1 ws) i v in
+          let sized : length (slice_set ws (suc i) v) ≡ length ws = length-set ws (suc i) v in
+          subst (λ p. Walked 0 at (slice_set (x ∷ ws) p v) (set_block bs a i v)) (sym two)
+          (object_walked at x (slice_set ws (suc i) v) f.0 f.3 f.1 (let r : f.0.len + 1 ≤ length ws = f.2 in omega arith) (inside_set ws (f.0.len + 1) (suc at) (suc i) v (omega arith) ∙ f.4)
+          ∙ (λ j. Ok ((at, record { header = f.0; fields = fields j }) ∷ f.3))
+          ∙ sym (ap (λ t. Ok (cond t ((at, record { header = f.0; fields = slice_set (fields_in f.0 ws) i v }) ∷ f.3) ((at, b) ∷ set_block f.3 a i v))) here)
+          ∙ ap (λ bs. Ok (set_block bs a i v)) (sym f.5)))
+      | inr other ↦ (let later : HasField (block_in f.3 a) i = subst (λ t. HasField (cond t (Some b) (block_in f.3 a)) i) other (subst (λ bs. HasField (block_in bs a) i) f.5 h) in
+          let low : suc at + (f.0.len + 1) ≤ a = first_key f.3 a (suc at + (f.0.len + 1)) i (starts_above ws (f.0.len + 1) (suc at) f.3 f.4) later in
+          let back : p ≡ suc (pred_of p) = suc_pred p (omega arith) in
+          let ih : Walked (f.0.len + 1) (suc at) (slice_set ws (pred_of p) v) (set_block f.3 a i v) = walk_field ws (f.0.len + 1) (suc at) f.3 a i (pred_of p) v (omega arith) later f.4 in
+          let fields : fields_in f.0 (slice_set ws (pred_of p) v) ≡ fields_in f.0 ws = fields_past f.0 ws (pred_of p) v (omega arith) in
+          let sized : length (slice_set ws (pred_of p) v) ≡ length ws = length-set ws (pred_of p) v in
+          subst (λ p. Walked 0 at (slice_set (x ∷ ws) p v) (set_block bs a i v)) (sym back)
+          (object_walked at x (slice_set ws (pred_of p) v) f.0 (set_block f.3 a i v) f.1 (let r : f.0.len + 1 ≤ length ws = f.2 in omega arith) ih
+          ∙ (λ j. Ok ((at, record { header = f.0; fields = fields j }) ∷ set_block f.3 a i v))
+          ∙ sym (ap (λ t. Ok (cond t ((at, record { header = f.0; fields = slice_set (fields_in f.0 ws) i v }) ∷ f.3) ((at, b) ∷ set_block f.3 a i v))) other)
+          ∙ ap (λ bs. Ok (set_block bs a i v)) (sym f.5)))
+    ]
+
+-- ---- a link word
+
+abbrev pub IsThere : Option Block → Type 0
+IsThere None = ⊥
+IsThere (Some b) = ⊤
+
+start_key : (bs : List (ℕ × Block)) (a low : ℕ) → AllByRecursion (λ b. low ≤ b.0) bs → IsThere (block_in bs a) → low ≤ a
+start_key [] a low all h = absurd h
+start_key (b ∷ bs) a low all h =
+    elim (cases_Bool (b.0 == a)) [
+      | inl here ↦ (let same : b.0 ≡ a = eqb-true _ _ here in let l : low ≤ b.0 = all.0 in omega arith)
+      | inr other ↦ start_key bs a low all.1 (subst (λ t. IsThere (cond t (Some b.1) (block_in bs a))) other h)
+    ]
+
+fields_first : (h : Header) (ws : List ℕ) (v : ℕ) → fields_in h (slice_set ws 0 v) ≡ fields_in h ws
+fields_first h ws v = ap (take h.len) (drop_one_first ws v)
+
+pub walk_link : (ws : List ℕ) (inside at : ℕ) (bs : List (ℕ × Block)) (a p v : ℕ) → at + p ≡ a + 1 → IsThere (block_in bs a) → Walked inside at ws bs → Walked inside at (slice_set ws p v) bs
+walk_link [] inside at [] a p v e h w = absurd h
+walk_link [] inside at (b ∷ bs) a p v e h w = cc
+walk_link (x ∷ ws) (suc inside) at bs a zero v e h w =
+    absurd (let low : suc at + inside ≤ a = start_key bs a (suc at + inside) (starts_above ws inside (suc at) bs w) h in omega arith)
+walk_link (x ∷ ws) (suc inside) at bs a (suc p) v e h w = walk_link ws inside (suc at) bs a p v (omega arith) h w
+walk_link (x ∷ ws) zero at bs a p v e h w =
+    let f : First at ws bs (read_header x) = first at x ws bs w in
+    let b : Block = record { header = f.0; fields = fields_in f.0 ws } in
+    elim (cases_Bool (at == a)) [
+      | inl here ↦ (let same : at ≡ a = eqb-true _ _ here in
+          let one : p ≡ suc zero = omega arith in
+          let sized : length (slice_set ws 0 v) ≡ length ws = length-set ws 0 v in
+          subst (λ p. Walked 0 at (slice_set (x ∷ ws) p v) bs) (sym one)
+          (object_walked at x (slice_set ws 0 v) f.0 f.3 f.1 (let r : f.0.len + 1 ≤ length ws = f.2 in omega arith) (inside_set ws (f.0.len + 1) (suc at) 0 v (omega arith) ∙ f.4)
+          ∙ (λ j. Ok ((at, record { header = f.0; fields = fields_first f.0 ws v j }) ∷ f.3))
+          ∙ ap (λ bs. Ok bs) (sym f.5)))
+      | inr other ↦ (let later : IsThere (block_in f.3 a) = subst (λ t. IsThere (cond t (Some b) (block_in f.3 a))) other (subst (λ bs. IsThere (block_in bs a)) f.5 h) in
+          let low : suc at + (f.0.len + 1) ≤ a = start_key f.3 a (suc at + (f.0.len + 1)) (starts_above ws (f.0.len + 1) (suc at) f.3 f.4) later in
+          let back : p ≡ suc (pred_of p) = suc_pred p (omega arith) in
+          let ih : Walked (f.0.len + 1) (suc at) (slice_set ws (pred_of p) v) f.3 = walk_link ws (f.0.len + 1) (suc at) f.3 a (pred_of p) v (omega arith) later f.4 in
+          let fields : fields_in f.0 (slice_set ws (pred_of p) v) ≡ fields_in f.0 ws = fields_past f.0 ws (pred_of p) v (omega arith) in
+          let sized : length (slice_set ws (pred_of p) v) ≡ length ws = length-set ws (pred_of p) v in
+          subst (λ p. Walked 0 at (slice_set (x ∷ ws) p v) bs) (sym back)
+          (object_walked at x (slice_set ws (pred_of p) v) f.0 f.3 f.1 (let r : f.0.len + 1 ≤ length ws = f.2 in omega arith) ih
+          ∙ (λ j. Ok ((at, record { header = f.0; fields = fields j }) ∷ f.3))
+          ∙ ap (λ bs. Ok bs) (sym f.5)))
+    ]
+
+-- ---- in the graph
+
+pub objects_set : (bs : List (ℕ × Block)) (a i v : ℕ) (b : Block) → block_in bs a ≡ Some b → map object_entry (set_block bs a i v) ≡ set_field (map object_entry bs) a i (field_value b.header v)
+objects_set [] a i v b e = absurd (let no : None ≡ Some b = e in cc)
+objects_set (x ∷ bs) a i v b e =
+    elim (x.0 == a) as (λ t. cond t (Some x.1) (block_in bs a) ≡ Some b
+    → map object_entry (cond t ((x.0, record { header = x.1.header; fields = slice_set x.1.fields i v }) ∷ bs) (x ∷ set_block bs a i v))
+    ≡ cond t ((x.0, with_field (object_of_block x.1) i (field_value b.header v)) ∷ map object_entry bs) (object_entry x ∷ set_field (map object_entry bs) a i (field_value b.header v))) [
+      | true ↦ λ e. (let same : x.1 ≡ b = cc in
+          let fields : map (field_value x.1.header) (slice_set x.1.fields i v) ≡ slice_set (map (field_value x.1.header) x.1.fields) i (field_value x.1.header v) = map-set (field_value x.1.header) x.1.fields i v in
+          (λ j. (x.0, record { kind = x.1.header.kind; fields = fields j }) ∷ map object_entry bs)
+          ∙ ap (λ (b : Block). (x.0, with_field (object_of_block x.1) i (field_value b.header v)) ∷ map object_entry bs) same)
+      | false ↦ λ e. ap (λ os. object_entry x ∷ os) (objects_set bs a i v b e)
+    ] e

@@ -1,0 +1,5 @@
+use Rattle.gc_words.proofs.Starts.{stands_in}
+use Rattle.gc_words.proofs.laws.objects_stand_at_their_starts.Goals as goal
+
+pub returns : goal.returns
+returns c = stands_in

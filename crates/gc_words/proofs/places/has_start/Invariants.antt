@@ -1,0 +1,15 @@
+use Rattle.std.proofs.Common.{◌≡◌, ◌-◌, length}
+use Rattle.std.specs.Prelude.{IsOk}
+use Rattle.gc_words.specs.Walking.{walk_from}
+use Rattle.gc_words.proofs.Steps.{has_start_from}
+use Rattle.gc_words.proofs.places.has_start.Given as goal
+
+-- the place is a start exactly where it is one of the rest of the walk
+abbrev pub invariant-loop-at : goal.invariant-loop-at
+invariant-loop-at l = record {
+  walked : IsOk (walk_from l.words l.at);
+  same : has_start_from l.words 1 l.place ≡ has_start_from l.words l.at l.place;
+}
+
+abbrev pub decreases-loop-at : goal.decreases-loop-at
+decreases-loop-at l = length l.words - l.at

@@ -1,0 +1,23 @@
+use Rattle.std.proofs.Common.{◌+◌, ◌∷◌, ◌++◌, [], vec_len, ◌∙◌, ap, arith}
+use Rattle.gc_words.proofs.Walks.{written_back}
+use Rattle.gc_words.proofs.Bodies.{Places, object_placed}
+use Rattle.gc_words.proofs.space.Space.place.Goals as goal
+
+-- the space that is left holds one object more
+made : (c : goal.After-unwrap) → Places (record { size = c.self.inside.size; words = c.resize.new.self.items }) c.args.self.now c.args.header
+made c =
+    let ranges = written_back c.word.result c.args.header c.word.ensures.read_back in
+    object_placed c.resize.result c.unwrap.result (record { size = c.self.inside.size; words = c.self.inside.words.items }) c.args.self.now c.push_reserved.new.self.items c.resize.new.self.items c.args.header (c.len-start.result + 2 + c.from.result) (vec_len c.push_reserved.new.self) c.self.view_is c.self.invariant.0 ranges.0 ranges.1 c.requires
+    c.unwrap.ensures (c.push_reserved.ensures.items ∙ ap (λ w. c.self.inside.words.items ++ w ∷ []) c.word.ensures.word) (omega (arith, c.self.inside.words.ok.0)) (omega (arith, c.self.inside.words.ok.0)) c.resize.ensures.items
+
+pub invariant_of-self : goal.invariant_of-self
+invariant_of-self c = ((made c).space, omega (arith, c.self.invariant.1))
+
+pub returns-clause-words : goal.returns-clause-words
+returns-clause-words c = (made c).words
+
+pub returns-clause-objects : goal.returns-clause-objects
+returns-clause-objects c = (made c).objects
+
+pub returns-clause-shaped : goal.returns-clause-shaped
+returns-clause-shaped c = (made c).space

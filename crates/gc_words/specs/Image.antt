@@ -1,0 +1,124 @@
+-- The words of a space: a reserved word, and then objects back to back. An image has root words beside them.
+use Rattle.std.specs.Prelude.{◌≡◌, ℕ, zero, suc, ◌+◌, ◌-◌, ◌≤◌, ◌==◌, nat_le, Bool, if◌then◌else◌, List, [], ◌∷◌, length, take, drop, map, replicate, slice_get, slice_index, slice_set, Option, Some, None, Result, Ok, Err, IsOk, is_some}
+use Rattle.gc_graph.specs.Graph.{Object, Graph}
+use Rattle.gc_graph.specs.Machine.{Roomy}
+use Rattle.gc_words.specs.Word.{read_header, value_of, field_value}
+use Rattle.gc_words.specs.declared.header.Header.{Header}
+
+-- an object as it stands in a space, without its link
+pub record Block : Type 0 where
+  pub header : Header
+  pub fields : List ℕ
+
+-- as it is placed: all field words 0
+abbrev pub fresh_block : Header → Block
+fresh_block h = record { header = h; fields = replicate h.len 0 }
+
+-- ---- the walk
+
+abbrev pub with_front : {X : Type 0} → X → Result (List X) ℕ → Result (List X) ℕ
+with_front x (Ok xs) = Ok (x ∷ xs)
+with_front x (Err at) = Err at
+
+-- one object, where its header has been read, and the words behind the header: a link, then the fields
+abbrev pub object_at : ℕ → Option Header → List ℕ → (ℕ → Result (List (ℕ × Block)) ℕ) → Result (List (ℕ × Block)) ℕ
+object_at at None words others = Err at
+object_at at (Some h) words others =
+    if nat_le (h.len + 1) (length words) then with_front (at, record { header = h; fields = take h.len (drop 1 words) }) (others (h.len + 1)) else Err at
+
+-- The objects among the words from place `at` on, with their places, where the first `inside` words still
+-- belong to an earlier object; or the first place whose word is no header or whose object runs past the end.
+abbrev pub walk : ℕ → ℕ → List ℕ → Result (List (ℕ × Block)) ℕ
+walk inside at [] = Ok []
+walk zero at (w ∷ words) = object_at at (read_header w) words (λ inside. walk inside (suc at) words)
+walk (suc inside) at (w ∷ words) = walk inside (suc at) words
+
+-- the walk over all words of a space
+abbrev pub walk_words : List ℕ → Result (List (ℕ × Block)) ℕ
+walk_words words = walk 0 1 (drop 1 words)
+
+-- A space of so many words is shaped: `end` is the first place that no object takes, and there are as many
+-- words; the first of them is reserved, and the walk over the others comes to the end.
+pub record HasShape (size end : ℕ) (words : List ℕ) : Type 0 where
+  pub size_low : 1 ≤ size
+  pub size_high : size ≤ 1048576
+  pub end_low : 1 ≤ end
+  pub end_high : end ≤ size
+  pub count : length words ≡ end
+  pub reserved : slice_index words 0 ≡ 0
+  pub walked : IsOk (walk_words words)
+
+-- ---- objects by their starts
+
+abbrev pub ok_or_nil : {X : Type 0} → Result (List X) ℕ → List X
+ok_or_nil (Ok xs) = xs
+ok_or_nil (Err at) = []
+
+-- the objects among the words of a space, by their starts
+abbrev pub blocks : List ℕ → List (ℕ × Block)
+blocks words = ok_or_nil (walk_words words)
+
+abbrev pub block_in : List (ℕ × Block) → ℕ → Option Block
+block_in [] place = None
+block_in (entry ∷ rest) place = if entry.0 == place then Some entry.1 else block_in rest place
+
+-- the object that starts at a place
+abbrev pub block_at : List ℕ → ℕ → Option Block
+block_at words place = block_in (blocks words) place
+
+abbrev pub is_start : List ℕ → ℕ → Bool
+is_start words place = is_some (block_at words place)
+
+abbrev pub header_of : Option Block → Option Header
+header_of None = None
+header_of (Some b) = Some b.header
+
+-- the header of the object that starts at a place
+abbrev pub header_at : List ℕ → ℕ → Option Header
+header_at words place = header_of (block_at words place)
+
+abbrev pub field_in : Option Block → ℕ → Option ℕ
+field_in None i = None
+field_in (Some b) i = slice_get b.fields i
+
+-- field word i of the object that starts at a place
+abbrev pub field_at : List ℕ → ℕ → ℕ → Option ℕ
+field_at words place i = field_in (block_at words place) i
+
+-- the block with this word in field i
+abbrev pub with_field_word : Block → ℕ → ℕ → Block
+with_field_word b i w = record b { fields = slice_set b.fields i w }
+
+-- the blocks with this word in field i of the one at a place
+abbrev pub set_block : List (ℕ × Block) → ℕ → ℕ → ℕ → List (ℕ × Block)
+set_block [] place i w = []
+set_block (entry ∷ rest) place i w = if entry.0 == place then (entry.0, with_field_word entry.1 i w) ∷ rest else entry ∷ set_block rest place i w
+
+-- ---- images and their graphs
+
+-- Words beyond `end` do not exist. Links are among the words.
+pub record Image : Type 0 where
+  pub size : ℕ
+  pub end : ℕ
+  pub words : List ℕ
+  pub roots : List ℕ
+
+abbrev pub IsShaped : Image → Type 0
+IsShaped image = HasShape image.size image.end image.words
+
+abbrev pub object_of_block : Block → Object
+object_of_block b = record { kind = b.header.kind; fields = map (field_value b.header) b.fields }
+
+abbrev pub object_entry : ℕ × Block → ℕ × Object
+object_entry entry = (entry.0, object_of_block entry.1)
+
+-- the objects of a space, named by their starts, without their links
+abbrev pub objects_of : List ℕ → List (ℕ × Object)
+objects_of words = map object_entry (blocks words)
+
+abbrev pub graph_of : Image → Graph
+graph_of image = record { objects = objects_of image.words; roots = map value_of image.roots }
+
+-- the graph, and the words that are free
+abbrev pub roomy_of : Image → Roomy
+roomy_of image = record { graph = graph_of image; free = image.size - image.end }

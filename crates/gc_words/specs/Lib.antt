@@ -1,0 +1,10 @@
+pub mod Word
+pub mod Image
+pub mod Spelling
+pub mod Space
+pub mod Walking
+pub mod Closed
+pub mod Certificate
+pub mod Fault
+pub mod Views
+pub mod Rows

@@ -1,0 +1,47 @@
+-- A space as contracts see it, and what its calls do to it.
+use Rattle.std.specs.Prelude.{ℕ, ◌+◌, ◌-◌, List, [], ◌∷◌, ◌++◌, length, slice_set}
+use Rattle.gc_words.specs.Image.{Image, HasShape, blocks, fresh_block}
+use Rattle.gc_words.specs.Spelling.{block_words, spelled, no_links}
+use Rattle.gc_words.specs.declared.header.Header.{Header}
+
+-- how many words there may be, and those up to the end, links among them
+pub record SpaceWords : Type 0 where
+  pub size : ℕ
+  pub words : List ℕ
+
+abbrev pub IsSpace : SpaceWords → Type 0
+IsSpace space = HasShape space.size (length space.words) space.words
+
+-- without objects
+abbrev pub empty_space : ℕ → SpaceWords
+empty_space size = record { size = size; words = 0 ∷ [] }
+
+-- the first place that no object takes
+abbrev pub end_of : SpaceWords → ℕ
+end_of space = length space.words
+
+-- words that no object takes
+abbrev pub free_in : SpaceWords → ℕ
+free_in space = space.size - end_of space
+
+-- with one object more, at the old end: link 0, all field words 0
+abbrev pub with_object : SpaceWords → Header → SpaceWords
+with_object space h = record space { words = space.words ++ block_words 0 (fresh_block h) }
+
+-- with one word changed
+abbrev pub with_word : SpaceWords → ℕ → ℕ → SpaceWords
+with_word space place w = record space { words = slice_set space.words place w }
+
+-- the same objects, all of whose links are 0
+abbrev pub without_links : SpaceWords → SpaceWords
+without_links space = record space { words = spelled no_links (blocks space.words) }
+
+abbrev pub link_place : ℕ → ℕ
+link_place start = start + 1
+
+abbrev pub field_place : ℕ → ℕ → ℕ
+field_place start i = start + 2 + i
+
+-- a space with roots beside it
+abbrev pub image_with : SpaceWords → List ℕ → Image
+image_with space roots = record { size = space.size; end = end_of space; words = space.words; roots = roots }

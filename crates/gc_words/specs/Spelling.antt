@@ -1,0 +1,35 @@
+-- The words of a space, made from its objects and their links.
+use Rattle.std.specs.Prelude.{◌≡◌, ℕ, ◌+◌, ◌<◌, List, [], ◌∷◌, length, slice_index, ⊤}
+use Rattle.std.specs.List.{flat_map}
+use Rattle.gc_words.specs.Word.{header_word}
+use Rattle.gc_words.specs.Image.{Block}
+
+-- header, link, fields
+abbrev pub block_words : ℕ → Block → List ℕ
+block_words link b = header_word b.header ∷ link ∷ b.fields
+
+-- objects back to back, where the one at a place has the link `links place`
+abbrev pub spelled_from : (ℕ → ℕ) → List (ℕ × Block) → List ℕ
+spelled_from links entries = flat_map (λ entry. block_words (links entry.0) entry.1) entries
+
+-- the words of a space with these objects and links
+abbrev pub spelled : (ℕ → ℕ) → List (ℕ × Block) → List ℕ
+spelled links entries = 0 ∷ spelled_from links entries
+
+abbrev pub no_links : ℕ → ℕ
+no_links place = 0
+
+-- the link word of the object that starts at a place
+abbrev pub link_at : List ℕ → ℕ → ℕ
+link_at words place = slice_index words (place + 1)
+
+-- a header that a word can be, and as many fields as it says
+pub record IsBlock (b : Block) : Type 0 where
+  pub kind : b.header.kind < 256
+  pub len : b.header.len < 65536
+  pub fields : length b.fields ≡ b.header.len
+
+-- objects back to back from a place on
+abbrev pub LaidOut : ℕ → List (ℕ × Block) → Type 0
+LaidOut at [] = ⊤
+LaidOut at (entry ∷ rest) = (entry.0 ≡ at) × IsBlock entry.1 × LaidOut (at + (entry.1.header.len + 2)) rest

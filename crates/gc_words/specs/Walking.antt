@@ -1,0 +1,24 @@
+-- The walk over a space's words, one object at a time, as loops make it.
+use Rattle.std.specs.Prelude.{◌≡◌, ℕ, ◌+◌, ◌-◌, ◌≤◌, nat_le, if◌then◌else◌, List, length, take, drop, slice_index, Option, Some, None, Result}
+use Rattle.gc_words.specs.Word.{read_header}
+use Rattle.gc_words.specs.Image.{Block, walk}
+use Rattle.gc_words.specs.declared.header.Header.{Header}
+
+abbrev pub next_after : ℕ → Option Header → ℕ → Option ℕ
+next_after at None room = None
+next_after at (Some h) room = if nat_le (h.len + 2) room then Some (at + (h.len + 2)) else None
+
+-- the place behind the object that starts at a place
+abbrev pub next_of : List ℕ → ℕ → Option ℕ
+next_of words at = next_after at (read_header (slice_index words at)) (length words - at)
+
+-- the walk from a place on at which an object starts
+abbrev pub walk_from : List ℕ → ℕ → Result (List (ℕ × Block)) ℕ
+walk_from words at = walk 0 at (drop at words)
+
+-- the object stands at a place of the words
+pub record StandsIn (words : List ℕ) (place : ℕ) (b : Block) : Type 0 where
+  pub low : 1 ≤ place
+  pub fits : place + (b.header.len + 2) ≤ length words
+  pub header : read_header (slice_index words place) ≡ Some b.header
+  pub fields : b.fields ≡ take b.header.len (drop (place + 2) words)

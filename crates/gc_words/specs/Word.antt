@@ -1,0 +1,54 @@
+-- What words mean: headers of objects, and values.
+use Rattle.std.specs.Prelude.{ℕ, ◌+◌, ◌-◌, ◌*◌, ◌/◌, ◌%◌, ◌<◌, ◌≤◌, ◌==◌, nat_lt, nat_le, Bool, false, ◌&&◌, ◌||◌, if◌then◌else◌, List, Option, Some, None, ⊤}
+use Rattle.gc_graph.specs.Graph.{Value, Nil, Num, Ref}
+use Rattle.gc_graph.specs.Correspond.{correspond}
+use Rattle.gc_words.specs.declared.header.Header.{Header}
+
+abbrev pub header_word : Header → ℕ
+header_word h = 16777216 + 65536 * h.kind + h.len
+
+-- the header that a word is
+abbrev pub read_header : ℕ → Option Header
+read_header w = if nat_le 16777216 w && nat_lt w 33554432 then Some (record { kind = (w - 16777216) / 65536; len = w % 65536 }) else None
+
+-- Zero is nil, an odd word a number, any other even word a name.
+abbrev pub value_of : ℕ → Value
+value_of w = if w == 0 then Nil else if w % 2 == 1 then Num (w / 2) else Ref (w / 2)
+
+-- An address has twenty bits: other even words are no values.
+abbrev pub is_value : ℕ → Bool
+is_value w = (w % 2 == 1) || nat_lt w 2097152
+
+-- the value that a word is
+abbrev pub read_value : ℕ → Option Value
+read_value w = if is_value w then Some (value_of w) else None
+
+abbrev pub word_of : Value → ℕ
+word_of Nil = 0
+word_of (Num n) = 2 * n + 1
+word_of (Ref a) = 2 * a
+
+-- a reference that a word can hold
+abbrev pub HasAddress : Value → Type 0
+HasAddress Nil = ⊤
+HasAddress (Num n) = ⊤
+HasAddress (Ref a) = (1 ≤ a) × (a < 1048576)
+
+-- what a field word of an object with this header means in a graph
+abbrev pub field_value : Header → ℕ → Value
+field_value h w = value_of w
+
+-- ---- words that stand for each other
+
+abbrev pub read_correspond : List (ℕ × ℕ) → Option Value → Option Value → Bool
+read_correspond pairs None w = false
+read_correspond pairs (Some v) None = false
+read_correspond pairs (Some v) (Some w) = correspond pairs v w
+
+-- both nil, the same number, or references to addresses that are a pair; a word that is no value corresponds to none
+abbrev pub words_correspond : List (ℕ × ℕ) → ℕ → ℕ → Bool
+words_correspond pairs v w = read_correspond pairs (read_value v) (read_value w)
+
+-- the same for field words of objects with this header
+abbrev pub field_words_correspond : Header → List (ℕ × ℕ) → ℕ → ℕ → Bool
+field_words_correspond h pairs v w = words_correspond pairs v w

@@ -1,0 +1,23 @@
+//! A heap of words: values and headers as words, spaces of objects back to back, images of spaces with
+//! their roots, and what a certificate says of two images.
+#![tactic(auto)]
+
+mod header;
+mod image;
+mod laws;
+mod places;
+mod refusal;
+mod shape;
+mod space;
+mod value;
+
+pub use header::Header;
+pub use image::{ImageRef, Pair};
+pub use laws::{
+    certified_graphs_correspond, no_fault_where_certified, objects_stand_at_their_starts,
+    spaces_are_spelled, worked_rows, writes_keep_spaces,
+};
+pub use refusal::Refusal;
+pub use shape::{ShapeFault, walk};
+pub use space::Space;
+pub use value::{Addr, NewAddr, OldAddr, Value, decode, encode};

@@ -1,0 +1,50 @@
+//! Where the words of objects stand, and walks over them.
+
+ghost use Rattle.std.specs.Prelude.{◌≡◌, ◌<◌, ◌≤◌, ◌+◌, length, IsOk, slice_index};
+ghost use Rattle.gc_words.specs.Image.{walk_words, blocks, is_start};
+ghost use Rattle.gc_words.specs.Spelling.{spelled, no_links};
+ghost use Rattle.gc_words.specs.Space.{link_place, field_place};
+
+use crate::shape::next_start;
+use crate::value::Addr;
+
+/// Where the link word stands of the object that starts here.
+pub(crate) fn link_index(at: Addr) -> usize
+    ensures { result ≡ link_place at.0 }
+{
+    at.0 as usize + 1
+}
+
+/// Where field word `i` stands of the object that starts here.
+pub(crate) fn field_index(at: Addr, i: u16) -> usize
+    ensures { result ≡ field_place at.0 i }
+{
+    at.0 as usize + 2 + usize::from(i)
+}
+
+/// Whether an object starts at this place of a space's words.
+pub(crate) fn has_start(words: &[u64], place: usize) -> bool
+    requires { IsOk (walk_words words.now) }
+    ensures { result ≡ is_start words.now place }
+{
+    let mut at = 1;
+    while at < words.len() && at < place {
+        at = next_start(words, at).unwrap();
+    }
+    at < words.len() && at == place
+}
+
+/// Makes all links 0 in a space's words.
+pub(crate) fn clear_links(words: &mut [u64])
+    requires some { 1 ≤ length words.old }
+    requires reserved { slice_index words.old 0 ≡ 0 }
+    requires walked { IsOk (walk_words words.old) }
+    ensures { words.new ≡ spelled no_links (blocks words.old) }
+{
+    let mut at = 1;
+    while at < words.len() {
+        let next = next_start(words, at).unwrap();
+        words[at + 1] = 0;
+        at = next;
+    }
+}

@@ -1,0 +1,46 @@
+ghost use Rattle.std.specs.Prelude.{◌≡◌, ◌<◌, ◌≤◌, None, Some, MatchResult, length};
+ghost use Rattle.gc_words.specs.Fault.{words_fault};
+ghost use Rattle.gc_words.specs.Walking.{next_of};
+
+use crate::header::Header;
+
+/// The words of a space are not shaped.
+#[derive(Clone, Copy, Debug, PartialEq, Eq)]
+pub struct ShapeFault {
+    /// The first address whose word is no header or whose object runs past the end. 0 where the words are
+    /// not as many as the end says, or the first is not 0.
+    pub at: u64,
+}
+
+/// Whether these are the words of a space up to its end: a reserved 0, and from 1 on objects back to back.
+pub fn walk(words: &[u64], end: u32) -> Result<(), ShapeFault>
+    requires { 1 ≤ end }
+    ensures { MatchResult result (λ _. words_fault end words.now ≡ None) (λ fault. words_fault end words.now ≡ Some fault.at) }
+{
+    let len = words.len();
+    if len != end as usize || words[0] != 0 {
+        return Err(ShapeFault { at: 0 });
+    }
+    let mut at = 1;
+    while at < len {
+        match next_start(words, at) {
+            Some(next) => at = next,
+            None => return Err(ShapeFault { at: at as u64 }),
+        }
+    }
+    Ok(())
+}
+
+/// The place behind the object that starts here; None where none does, or where it runs past the words.
+pub(crate) fn next_start(words: &[u64], at: usize) -> Option<usize>
+    requires { at < length words.now }
+    ensures { result ≡ next_of words.now at }
+{
+    let header = Header::read(words[at])?;
+    let next = usize::from(header.len()) + 2;
+    if next <= words.len() - at {
+        Some(at + next)
+    } else {
+        None
+    }
+}

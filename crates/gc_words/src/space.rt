@@ -1,0 +1,171 @@
+use crate::header::Header;
+use crate::places::{clear_links, field_index, has_start, link_index};
+use crate::value::Addr;
+use gc_graph::NoMemory;
+use std::alloc::Global;
+use std::marker::Model;
+
+/// Objects back to back from 1 on, in the words of a space that has room for `size` of them. All that is
+/// ever placed finds its memory there since `new`.
+#[derive(Debug, Drop)]
+pub struct Space {
+    size: u32,
+    // The words up to the end, links among them.
+    words: Vec<u64>,
+}
+
+impl Model for Space {
+    ghost use Rattle.std.specs.Prelude.{◌≤◌, vec_capacity};
+    ghost use Rattle.gc_words.specs.Space.{SpaceWords, IsSpace};
+
+    ghost Value = { SpaceWords };
+
+    ghost view = { λ s. record { size = s.size; words = s.words.items } };
+
+    ghost invariant = { λ s. IsSpace (record { size = s.size; words = s.words.items }) × (s.size ≤ vec_capacity s.words) };
+}
+
+impl Space {
+    ghost use Rattle.std.specs.Prelude.{◌≡◌, ◌<◌, ◌≤◌, ◌+◌, ◌∷◌, ◌++◌, [], ◌↔◌, Some, IsTrue, IsSome, IfOk};
+    ghost use Rattle.gc_words.specs.Image.{blocks, is_start, header_at, field_at, set_block, fresh_block};
+    ghost use Rattle.gc_words.specs.Spelling.{link_at};
+    ghost use Rattle.gc_words.specs.Space.{IsSpace, empty_space, end_of, free_in, with_object, with_word, without_links, link_place, field_place};
+
+    /// A space of so many words, without objects.
+    pub fn new(alloc: Global, size: u32) -> Result<Space, NoMemory>
+        requires low { 1 ≤ size }
+        requires high { size ≤ 1048576 }
+        ensures empty { IfOk result (λ space. space ≡ empty_space size) }
+        ensures shaped { IfOk result IsSpace }
+    {
+        let Ok(mut words) = Vec::with_capacity(alloc, size as usize) else {
+            return Err(NoMemory);
+        };
+        words.push_reserved(0);
+        Ok(Space { size, words })
+    }
+
+    /// How many words there may be.
+    pub fn size(&self) -> u32
+        ensures value { result ≡ self.now.size }
+        ensures shaped { IsSpace self.now }
+    {
+        self.size
+    }
+
+    /// The first place that no object takes.
+    pub fn end(&self) -> u32
+        ensures value { result ≡ end_of self.now }
+        ensures shaped { IsSpace self.now }
+    {
+        self.words.len() as u32
+    }
+
+    /// How many words no object takes.
+    pub fn free(&self) -> u32
+        ensures value { result ≡ free_in self.now }
+        ensures shaped { IsSpace self.now }
+    {
+        self.size - self.end()
+    }
+
+    /// The words up to the end, links among them.
+    pub fn words(&self) -> &[u64]
+        ensures value { result.now ≡ self.now.words }
+        ensures shaped { IsSpace self.now }
+    {
+        self.words.as_slice()
+    }
+
+    /// Whether an object starts here. It walks over the objects before; no other call does.
+    pub fn is_start(&self, at: Addr) -> bool
+        ensures { result ≡ is_start self.now.words at.0 }
+    {
+        has_start(&self.words, at.0 as usize)
+    }
+
+    /// Whether an object with so many fields can be placed.
+    pub fn has_room(&self, len: u16) -> bool
+        ensures { IsTrue result ↔ (len + 2 ≤ free_in self.now) }
+    {
+        u32::from(len) + 2 <= self.free()
+    }
+
+    /// Places an object at the end, with link 0 and all field words 0, and gives its address.
+    pub fn place(&mut self, header: Header) -> Addr
+        requires { header.len + 2 ≤ free_in self.old }
+        ensures at { result.0 ≡ end_of self.old }
+        ensures words { self.new ≡ with_object self.old header }
+        ensures objects { blocks self.new.words ≡ blocks self.old.words ++ (end_of self.old, fresh_block header) ∷ [] }
+        ensures shaped { IsSpace self.new }
+    {
+        let start = self.words.len();
+        self.words.push_reserved(header.word());
+        self.words
+            .resize(start + 2 + usize::from(header.len()), 0)
+            .unwrap();
+        Addr(start as u32)
+    }
+
+    /// The header of the object that starts here.
+    pub fn header(&self, at: Addr) -> Header
+        requires { IsTrue (is_start self.now.words at.0) }
+        ensures { header_at self.now.words at.0 ≡ Some result }
+    {
+        Header::read(self.words[at.0 as usize]).unwrap()
+    }
+
+    /// Field word `i` of the object that starts here.
+    pub fn field(&self, at: Addr, i: u16) -> u64
+        requires { IsSome (field_at self.now.words at.0 i) }
+        ensures { field_at self.now.words at.0 i ≡ Some result }
+    {
+        self.words[field_index(at, i)]
+    }
+
+    /// Writes field word `i` of the object that starts here.
+    pub fn set_field(&mut self, at: Addr, i: u16, word: u64)
+        requires { IsSome (field_at self.old.words at.0 i) }
+        ensures words { self.new ≡ with_word self.old (field_place at.0 i) word }
+        ensures objects { blocks self.new.words ≡ set_block (blocks self.old.words) at.0 i word }
+        ensures shaped { IsSpace self.new }
+    {
+        self.words[field_index(at, i)] = word;
+    }
+
+    /// The link word of the object that starts here.
+    pub fn link(&self, at: Addr) -> u64
+        requires { IsTrue (is_start self.now.words at.0) }
+        ensures { result ≡ link_at self.now.words at.0 }
+    {
+        self.words[link_index(at)]
+    }
+
+    /// Writes the link word of the object that starts here.
+    pub fn set_link(&mut self, at: Addr, word: u64)
+        requires { IsTrue (is_start self.old.words at.0) }
+        ensures words { self.new ≡ with_word self.old (link_place at.0) word }
+        ensures objects { blocks self.new.words ≡ blocks self.old.words }
+        ensures shaped { IsSpace self.new }
+    {
+        self.words[link_index(at)] = word;
+    }
+
+    /// Makes all links 0.
+    pub fn clear_links(&mut self)
+        ensures words { self.new ≡ without_links self.old }
+        ensures objects { blocks self.new.words ≡ blocks self.old.words }
+        ensures shaped { IsSpace self.new }
+    {
+        clear_links(&mut self.words);
+    }
+
+    /// The words up to the end, without the room behind it.
+    pub fn into_words(self) -> Vec<u64>
+        ensures value { result.items ≡ self.words }
+        ensures shaped { IsSpace self }
+    {
+        let Space { size: _, words } = self;
+        words
+    }
+}

@@ -1,0 +1,60 @@
+ghost use Rattle.std.specs.Prelude.{◌≡◌, Some, IfSome};
+ghost use Rattle.std.specs.Option.{option_map};
+ghost use Rattle.gc_words.specs.Word.{read_value, word_of, HasAddress};
+ghost use Rattle.gc_words.specs.Views.{graph_value};
+
+use gc_graph::Number;
+
+/// The place of a word in a space; any number, which the calls that take one restrict.
+#[derive(Clone, Copy, Debug, PartialEq, Eq)]
+pub struct Addr(pub u32);
+
+/// An address in the old space of a pair of spaces.
+#[derive(Clone, Copy, Debug, PartialEq, Eq)]
+pub struct OldAddr(pub u32);
+
+/// An address in the new space of a pair of spaces.
+#[derive(Clone, Copy, Debug, PartialEq, Eq)]
+pub struct NewAddr(pub u32);
+
+/// What a field or a root holds.
+#[derive(Clone, Copy, Debug, PartialEq, Eq)]
+pub enum Value {
+    Nil,
+    Num(Number),
+    /// A reference to the object that starts at this address.
+    Ref(Addr),
+}
+
+/// From here on an even word is no value: its address would have more than twenty bits.
+const NO_REFERENCE: u64 = 2_097_152;
+
+/// The value that a word is: 0 is nil, `2n + 1` the number n, `2a` a reference to the address a, which is
+/// below 2^20. None for any other word.
+pub fn decode(word: u64) -> Option<Value>
+    ensures value { option_map graph_value result ≡ read_value word }
+    ensures address { IfSome result (λ value. HasAddress (graph_value value)) }
+{
+    if word == 0 {
+        Some(Value::Nil)
+    } else if word % 2 == 1 {
+        Number::new(word / 2).map(Value::Num)
+    } else if word < NO_REFERENCE {
+        Some(Value::Ref(Addr((word / 2) as u32)))
+    } else {
+        None
+    }
+}
+
+/// The word that `decode` reads as this value.
+pub fn encode(value: Value) -> u64
+    requires { HasAddress (graph_value value) }
+    ensures word { result ≡ word_of (graph_value value) }
+    ensures read_back { read_value result ≡ Some (graph_value value) }
+{
+    match value {
+        Value::Nil => 0,
+        Value::Num(number) => 2 * number.get() + 1,
+        Value::Ref(address) => 2 * u64::from(address.0),
+    }
+}
