@@ -1,11 +1,12 @@
 -- How the plain machine's commands answer as the roomy machine does.
 use Rattle.std.proofs.Common.{◌≡◌, ℕ, ◌+◌, ◌-◌, ◌<◌, ◌≤◌, cond, refl, sym, ◌∙◌, ap, subst, arith}
-use Rattle.std.specs.Prelude.{nat_lt, Result, Ok, Err, IfOk}
+use Rattle.std.specs.Prelude.{true, false, nat_lt, Result, Ok, Err, IfOk, OnErr, Option, None, Some, length, Bool}
 use Rattle.gc_graph.specs.declared.no_memory.NoMemory.{NoMemory}
 use Rattle.std.proofs.lemmas.Bool.{le-ltb, lt-ltb}
+use Rattle.std.proofs.lemmas.List.{length-set}
 use Rattle.gc_graph.specs.Slots.{SlotName, place}
-use Rattle.gc_graph.specs.Graph.{Value, Graph, object_of, field_of, root, set_root, add_object, new_object, fresh_name, Ref}
-use Rattle.gc_graph.specs.Machine.{Roomy, get_field, put_field, step, roomy_step, MakesObject, Answers, Makes}
+use Rattle.gc_graph.specs.Graph.{Value, Nil, Num, Object, Graph, object_of, field_of, root, set_root, add_object, new_object, fresh_name, Ref}
+use Rattle.gc_graph.specs.Machine.{Roomy, words_taken, get_field, put_field, step, roomy_step, MakesObject, Answers, Makes}
 use Rattle.gc_graph.specs.Records.{graph_of}
 use Rattle.gc_graph.specs.PlainMachine.{roomy_of, IsPlain}
 use Rattle.gc_graph.specs.Bounded.{AreBelow, AreShort}
@@ -108,3 +109,41 @@ pub new_answered_if_ok : (r : Result Reply NoMemory) (s t : Roomy) (m : ℕ) (d 
     → IfOk r (λ reply. Makes s p kind len reply t) → IfOk r (λ reply. Answers s m op reply t)
 new_answered_if_ok (Ok reply) s t m d p kind len op is at makes = new_answered s t m d p kind len reply op is at makes
 new_answered_if_ok (Err e) s t m d p kind len op is at makes = makes
+
+-- ---- the roots stay as many
+
+got_roots : (g : Graph) (d : ℕ) (o : Option Object) (v : Option Value) → length (get_field g d o v).1.roots ≡ length g.roots
+got_roots g d None v = refl
+got_roots g d (Some o) None = refl
+got_roots g d (Some o) (Some v) = length-set g.roots d v
+
+put_roots : (g : Graph) (target : Value) (o : Option Object) (f : Option Value) (i : ℕ) (v : Value) → length (put_field g target o f i v).1.roots ≡ length g.roots
+put_roots g Nil o f i v = refl
+put_roots g (Num n) o f i v = refl
+put_roots g (Ref name) None f i v = refl
+put_roots g (Ref name) (Some o) None i v = refl
+put_roots g (Ref name) (Some o) (Some before) i v = refl
+
+step_roots : (g : Graph) (m : ℕ) (op : Op) (name : ℕ) → length (step g m op name).1.roots ≡ length g.roots
+step_roots g m (ops.New d kind len) name = length-set g.roots (place d m) (Ref name)
+step_roots g m (ops.Num d n) name = length-set g.roots (place d m) (Num n)
+step_roots g m (ops.Nil d) name = length-set g.roots (place d m) Nil
+step_roots g m (ops.Move d s) name = length-set g.roots (place d m) (root g (place s m))
+step_roots g m (ops.Get d s i) name = (let o : Option Object = object_of g.objects (root g (place s m)) in got_roots g (place d m) o (field_of o i))
+step_roots g m (ops.Put s i t) name = (let o : Option Object = object_of g.objects (root g (place s m)) in put_roots g (root g (place s m)) o (field_of o i) i (root g (place t m)))
+step_roots g m (ops.Same s t) name = refl
+step_roots g m (ops.Look s) name = refl
+
+either_roots : (b : Bool) (s : Roomy) (x : Reply × Roomy) → length x.1.graph.roots ≡ length s.graph.roots → length (cond b (Full, s) x).1.graph.roots ≡ length s.graph.roots
+either_roots true s x e = refl
+either_roots false s x e = e
+
+pub answered_roots : (s t : Roomy) (m : ℕ) (op : Op) (reply : Reply) → Answers s m op reply t → length t.graph.roots ≡ length s.graph.roots
+answered_roots s t m op reply a =
+    let steps : roomy_step s m op a.name ≡ (reply, t) = a.step in
+    sym (ap (λ (x : Reply × Roomy). length x.1.graph.roots) steps)
+    ∙ either_roots (nat_lt s.free (words_taken op)) s (with_free (s.free - words_taken op) (step s.graph m op a.name)) (step_roots s.graph m op a.name)
+
+pub answered_roots_if_ok : (r : Result Reply NoMemory) (s t : Roomy) (m : ℕ) (op : Op) → IfOk r (λ reply. Answers s m op reply t) → OnErr r (t ≡ s) → length t.graph.roots ≡ length s.graph.roots
+answered_roots_if_ok (Ok reply) s t m op a same = answered_roots s t m op reply a
+answered_roots_if_ok (Err e) s t m op a same = ap (λ s. length s.graph.roots) same

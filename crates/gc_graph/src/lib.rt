@@ -20,3 +20,6 @@ pub use plain::Plain;
 pub use reply::{Reply, View};
 pub use slot::Slot;
 pub use text::{Failed, Sink, Source};
+
+#[cfg(test)]
+mod tests;

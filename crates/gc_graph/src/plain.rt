@@ -70,6 +70,7 @@ impl Plain {
         requires { HasMutator self.old.graph m }
         ensures ok { IfOk result (λ reply. Answers self.old m op.now reply self.new) }
         ensures err { OnErr result (self.new ≡ self.old) }
+        ensures mutators { length self.new.graph.roots ≡ length self.old.graph.roots }
         ensures only_new { IsErr result → MakesObject op.now }
     {
         match *op {

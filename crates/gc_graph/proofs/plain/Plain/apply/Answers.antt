@@ -7,7 +7,7 @@ use Rattle.gc_graph.specs.Records.{graph_of, held_value}
 use Rattle.gc_graph.specs.PlainMachine.{roomy_of}
 use Rattle.gc_graph.specs.declared.command.Op.TheVariants.{Num, Nil, Move, Get, Put, Same, Look}
 use Rattle.gc_graph.specs.declared.reply.Reply.TheVariants.{Saw, Yes, No}
-use Rattle.gc_graph.proofs.Stepping.{answered, seen, kept, new_answered_if_ok, got_step, put_step}
+use Rattle.gc_graph.proofs.Stepping.{answered_roots, answered_roots_if_ok, answered, seen, kept, new_answered_if_ok, got_step, put_step}
 use Rattle.gc_graph.proofs.plain.Plain.apply.Goals as goal
 
 pub returns-in-Num-clause-ok : goal.returns-in-Num-clause-ok
@@ -75,3 +75,21 @@ returns-in-Look-clause-ok c =
 
 pub returns-in-New-clause-ok : goal.returns-in-New-clause-ok
 returns-in-New-clause-ok c = new_answered_if_ok c.make.result _ _ c.args.m c.in-New.d c.place.result c.in-New.kind c.in-New.len _ c.in-New.is c.place.ensures.value c.make.ensures.ok
+
+pub returns-in-Num-clause-mutators : goal.returns-in-Num-clause-mutators
+returns-in-Num-clause-mutators c = answered_roots _ _ _ _ _ (returns-in-Num-clause-ok c)
+
+pub returns-in-Nil-clause-mutators : goal.returns-in-Nil-clause-mutators
+returns-in-Nil-clause-mutators c = answered_roots _ _ _ _ _ (returns-in-Nil-clause-ok c)
+
+pub returns-in-Move-clause-mutators : goal.returns-in-Move-clause-mutators
+returns-in-Move-clause-mutators c = answered_roots _ _ _ _ _ (returns-in-Move-clause-ok c)
+
+pub returns-in-Get-clause-mutators : goal.returns-in-Get-clause-mutators
+returns-in-Get-clause-mutators c = answered_roots _ _ _ _ _ (returns-in-Get-clause-ok c)
+
+pub returns-in-Put-clause-mutators : goal.returns-in-Put-clause-mutators
+returns-in-Put-clause-mutators c = answered_roots _ _ _ _ _ (returns-in-Put-clause-ok c)
+
+pub returns-in-New-clause-mutators : goal.returns-in-New-clause-mutators
+returns-in-New-clause-mutators c = answered_roots_if_ok c.make.result _ _ _ _ (returns-in-New-clause-ok c) c.make.ensures.err
