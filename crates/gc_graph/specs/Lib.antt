@@ -5,6 +5,9 @@ pub mod Runs
 pub mod Legal
 pub mod Correspond
 pub mod Range
+pub mod Bounded
+pub mod Records
+pub mod PlainMachine
 pub mod Codes
 pub mod Lines
 pub mod Streams

@@ -90,10 +90,6 @@ roomy_step s m op name =
     if nat_lt s.free (words_taken op) then (Full, s)
     else (let next = step s.graph m op name in (next.0, record { graph = next.1; free = s.free - words_taken op }))
 
--- with the graph that a command leaves, and as many free words as before
-abbrev pub in_place : Roomy → Reply × Graph → Reply × Roomy
-in_place s next = (next.0, record s { graph = next.1 })
-
 -- an empty space of so many words, the first of which is reserved
 abbrev pub opening_roomy : ℕ → ℕ → Roomy
 opening_roomy size mutators = record { graph = opening mutators; free = size - 1 }
@@ -107,3 +103,10 @@ pub record Answers (old : Roomy) (m : ℕ) (op : Op) (reply : Reply) (new : Room
   pub name : ℕ
   pub unused : IsUnused old.graph name
   pub step : roomy_step old m op name ≡ (reply, new)
+
+-- The same for a new object that a place of the roots takes.
+pub record Makes (old : Roomy) (p kind len : ℕ) (reply : Reply) (new : Roomy) : Type 0 where
+  pub name : ℕ
+  pub unused : IsUnused old.graph name
+  pub made : ◌≡◌ {A = Reply × Roomy} (reply, new) (if nat_lt old.free (len + 2) then (Full, old)
+      else (Made, record { graph = set_root (add_object old.graph name (new_object kind len)) p (Ref name); free = old.free - (len + 2) }))

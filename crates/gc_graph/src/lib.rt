@@ -6,6 +6,8 @@ mod command;
 mod laws;
 mod no_memory;
 mod number;
+mod objects;
+mod plain;
 mod reply;
 mod slot;
 pub mod text;
@@ -14,6 +16,10 @@ pub use command::Op;
 pub use laws::{corresponding_graphs_reply_alike, names_do_not_matter, worked_rows};
 pub use no_memory::NoMemory;
 pub use number::Number;
+pub use plain::Plain;
 pub use reply::{Reply, View};
 pub use slot::Slot;
 pub use text::{Failed, Sink, Source};
+
+#[cfg(test)]
+mod tests;

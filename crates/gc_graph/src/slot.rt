@@ -1,5 +1,8 @@
 use std::marker::Model;
 
+/// How many slots all mutators share, and how many each has of its own.
+const SLOTS: u8 = 16;
+
 /// One of the sixteen slots that all mutators share, or one of a mutator's own sixteen.
 #[derive(Clone, Copy, Debug, PartialEq, Eq)]
 pub struct Slot {
@@ -30,7 +33,7 @@ impl Slot {
     pub fn own(index: u8) -> Option<Slot>
         ensures { SomeIff result (index < 16) (own_slot index) }
     {
-        if index < 16 {
+        if index < SLOTS {
             Some(Slot {
                 shared: false,
                 index,
@@ -44,7 +47,7 @@ impl Slot {
     pub fn shared(index: u8) -> Option<Slot>
         ensures { SomeIff result (index < 16) (shared_slot index) }
     {
-        if index < 16 {
+        if index < SLOTS {
             Some(Slot {
                 shared: true,
                 index,

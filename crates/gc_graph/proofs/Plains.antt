@@ -1,0 +1,128 @@
+-- The plain machine's map of records as the graph's objects.
+use Rattle.std.proofs.Common.{◌≡◌, ℕ, suc, zero, ◌<◌, ◌≤◌, true, false, cond, ◌==◌, List, [], ◌∷◌, ◌++◌, map, length, Some, None, refl, sym, ◌∙◌, ap, subst, inl, inr, arith}
+use Rattle.std.specs.Ordering.{nat_cmp, is_eq, match_ordering}
+use Rattle.std.specs.declared.cmp.Ordering.TheVariants.{Less, Equal, Greater}
+use Rattle.std.specs.BTreeMap.{insert_entry}
+use Rattle.std.specs.BTreeMap as tree
+use Rattle.std.specs.Map as entries
+use Rattle.std.specs.List.{AllByRecursion}
+use Rattle.std.proofs.lemmas.List.{length-map, map-set}
+use Rattle.std.proofs.lemmas.Map.Steps.{set_value_same}
+use Rattle.std.specs.Vec.{with_item}
+use Rattle.std.proofs.Common.{is_some}
+use Rattle.std.proofs.lemmas.Bool.{lt-ltb, le-ltb, eq-eqb, ne_eqb, cases_order}
+use Rattle.std.specs.Prelude.{slice_get, slice_set, get_or, replicate}
+use Rattle.gc_graph.specs.Graph.{Value, Nil, Object, Graph, lookup, object_of, field_of, set_root, set_field, with_field, value_or_nil}
+use Rattle.gc_graph.specs.Machine.{view_of, get_field}
+use Rattle.gc_graph.specs.declared.reply.View.{View}
+use Rattle.gc_graph.specs.declared.reply.Reply.{Reply}
+use Rattle.gc_graph.specs.declared.reply.Reply.TheVariants.{Saw}
+use Rattle.gc_graph.specs.Records.{held_value, object_of_record, named_object, objects_of, record_option}
+use Rattle.gc_graph.specs.declared.objects.Record.{Record}
+use Rattle.gc_graph.specs.declared.objects.Held.{Held}
+use Rattle.gc_graph.specs.declared.objects.Held.TheVariants as held
+
+at_key : (q k : ℕ) → is_eq (nat_cmp q k) ≡ (k == q)
+at_key q k = elim (cases_order q k) [
+  | inl same ↦ subst (λ n. is_eq (nat_cmp q n) ≡ (n == q)) same (ap (λ b. is_eq (cond b Less (cond (q == q) Equal Greater))) (le-ltb q q (omega arith)) ∙ ap (λ b. is_eq (cond b Equal Greater)) (eq-eqb q q refl) ∙ sym (eq-eqb q q refl))
+  | inr (inl less) ↦ ap (λ b. is_eq (cond b Less (cond (q == k) Equal Greater))) (lt-ltb q k less) ∙ sym (ne_eqb k q (λ e. omega arith))
+  | inr (inr more) ↦ ap (λ b. is_eq (cond b Less (cond (q == k) Equal Greater))) (le-ltb q k (omega arith)) ∙ ap (λ b. is_eq (cond b Equal Greater)) (ne_eqb q k (λ e. omega arith)) ∙ sym (ne_eqb k q (λ e. omega arith))
+]
+
+pub found_record : (es : List (ℕ × Record)) (q : ℕ) → record_option (entries.lookup (tree.is_at (nat_cmp q)) es) ≡ lookup (objects_of es) q
+found_record [] q = refl
+found_record (e ∷ es) q =
+    ap (λ b. record_option (cond b (Some e.1) (entries.lookup (tree.is_at (nat_cmp q)) es))) (at_key q e.0)
+    ∙ (elim (e.0 == q) as (λ b. record_option (cond b (Some e.1) (entries.lookup (tree.is_at (nat_cmp q)) es)) ≡ cond b (Some (object_of_record e.1)) (lookup (objects_of es) q)) [
+      | true ↦ refl
+      | false ↦ found_record es q
+    ])
+
+pub record_keys : (n : ℕ) (es : List (ℕ × Record)) → AllByRecursion (λ e. e.0 < n) (objects_of es) → AllByRecursion (λ e. e.0 < n) es
+record_keys n [] k = tt
+record_keys n (e ∷ es) k = (k.0, record_keys n es k.1)
+
+-- a key above all goes to the end
+pub pushed : (es : List (ℕ × Record)) (k : ℕ) (r : Record) → AllByRecursion (λ e. e.0 < k) es → insert_entry nat_cmp es k r ≡ es ++ (k, r) ∷ []
+pushed [] k r all = refl
+pushed (e ∷ es) k r all =
+    ap (λ b. match_ordering (cond b Less (cond (k == e.0) Equal Greater)) ((k, r) ∷ e ∷ es) ((e.0, r) ∷ es) (e ∷ insert_entry nat_cmp es k r)) (le-ltb k e.0 (omega arith))
+    ∙ ap (λ b. match_ordering (cond b Equal Greater) ((k, r) ∷ e ∷ es) ((e.0, r) ∷ es) (e ∷ insert_entry nat_cmp es k r)) (ne_eqb k e.0 (λ q. omega arith))
+    ∙ ap (λ xs. e ∷ xs) (pushed es k r all.1)
+
+pub root_held : (items : List Held) (p : ℕ) (h : Held) → p < length items → h ≡ get_or items p h → value_or_nil (slice_get (map held_value items) p) ≡ held_value h
+root_held [] p h l e = absurd (omega arith)
+root_held (x ∷ items) zero h l e = ap held_value (sym e)
+root_held (x ∷ items) (suc p) h l e = root_held items p h (omega arith) e
+
+pub held_nils : (n : ℕ) → map held_value (replicate n held.Nil) ≡ replicate n Nil
+held_nils zero = refl
+held_nils (suc n) = ap (λ vs. Nil ∷ vs) (held_nils n)
+
+pub entries_push : (es : List (ℕ × Record)) (e : ℕ × Record) → objects_of (es ++ e ∷ []) ≡ objects_of es ++ named_object e ∷ []
+entries_push [] e = refl
+entries_push (x ∷ es) e = ap (λ os. named_object x ∷ os) (entries_push es e)
+
+pub object_short : (os : List (ℕ × Object)) (q : ℕ) (o : Object) → AllByRecursion (λ e. length e.1.fields < 65536) os → Some o ≡ lookup os q → length o.fields < 65536
+object_short [] q o all e = absurd (let no : Some o ≡ None = e in cc)
+object_short (x ∷ os) q o all e =
+    elim (x.0 == q) as (λ b. Some o ≡ cond b (Some x.1) (lookup os q) → length o.fields < 65536) [
+      | true ↦ λ e. (let same : x.1 ≡ o = cc in subst (λ o. length o.fields < 65536) same all.0)
+      | false ↦ λ e. object_short os q o all.1 e
+    ] e
+
+-- ---- a field written
+
+written_object : (r : Record) (i : ℕ) (v : Held) → object_of_record (record { kind = r.kind; fields = with_item r.fields i v }) ≡ with_field (object_of_record r) i (held_value v)
+written_object r i v = (let fields : map held_value (slice_set r.fields.items i v) ≡ slice_set (map held_value r.fields.items) i (held_value v) = map-set held_value r.fields.items i v in λ j. record { kind = r.kind; fields = fields j })
+
+pub written_entries : (es : List (ℕ × Record)) (q i : ℕ) (r : Record) (v : Held) → entries.lookup (tree.is_at (nat_cmp q)) es ≡ Some r
+    → objects_of (entries.set_value (tree.is_at (nat_cmp q)) es (record { kind = r.kind; fields = with_item r.fields i v })) ≡ set_field (objects_of es) q i (held_value v)
+written_entries [] q i r v e = absurd (let no : None ≡ Some r = e in cc)
+written_entries (x ∷ es) q i r v e =
+    elim (x.0 == q) as (λ b. is_eq (nat_cmp q x.0) ≡ b
+    → objects_of (cond (is_eq (nat_cmp q x.0)) ((x.0, record { kind = r.kind; fields = with_item r.fields i v }) ∷ es) (x ∷ entries.set_value (tree.is_at (nat_cmp q)) es (record { kind = r.kind; fields = with_item r.fields i v })))
+    ≡ cond b ((x.0, with_field (object_of_record x.1) i (held_value v)) ∷ objects_of es) (named_object x ∷ set_field (objects_of es) q i (held_value v))) [
+      | true ↦ λ at. (let found : Some x.1 ≡ Some r = sym (ap (λ b. cond b (Some x.1) (entries.lookup (tree.is_at (nat_cmp q)) es)) at) ∙ e in
+          let same : x.1 ≡ r = cc in
+          ap (λ b. objects_of (cond b ((x.0, record { kind = r.kind; fields = with_item r.fields i v }) ∷ es) (x ∷ entries.set_value (tree.is_at (nat_cmp q)) es (record { kind = r.kind; fields = with_item r.fields i v })))) at
+          ∙ ap (λ o. (x.0, o) ∷ objects_of es) (written_object r i v ∙ ap (λ r. with_field (object_of_record r) i (held_value v)) (sym same)))
+      | false ↦ λ at. (let later : entries.lookup (tree.is_at (nat_cmp q)) es ≡ Some r = sym (ap (λ b. cond b (Some x.1) (entries.lookup (tree.is_at (nat_cmp q)) es)) at) ∙ e in
+          ap (λ b. objects_of (cond b ((x.0, record { kind = r.kind; fields = with_item r.fields i v }) ∷ es) (x ∷ entries.set_value (tree.is_at (nat_cmp q)) es (record { kind = r.kind; fields = with_item r.fields i v })))) at
+          ∙ ap (λ os. named_object x ∷ os) (written_entries es q i r v later))
+    ] (at_key q x.0)
+
+get_there : (xs : List Value) (i : ℕ) → i < length xs → is_some (slice_get xs i) ≡ true
+get_there [] i h = absurd (omega arith)
+get_there (x ∷ xs) zero h = refl
+get_there (x ∷ xs) (suc i) h = get_there xs i (omega arith)
+
+get_past : (xs : List Value) (i : ℕ) → length xs ≤ i → is_some (slice_get xs i) ≡ false
+get_past [] i h = refl
+get_past (x ∷ xs) zero h = absurd (omega arith)
+get_past (x ∷ xs) (suc i) h = get_past xs i (omega arith)
+
+pub field_there : (es : List (ℕ × Record)) (q i n : ℕ) (r : Record) → Some r ≡ entries.lookup (tree.is_at (nat_cmp q)) es → n ≡ length r.fields.items → i < n → true ≡ is_some (field_of (lookup (objects_of es) q) i)
+field_there es q i n r e l h =
+    sym (ap (λ o. is_some (field_of o i)) (sym (found_record es q) ∙ ap record_option (sym e)) ∙ get_there (map held_value r.fields.items) i (let m : length (map held_value r.fields.items) ≡ length r.fields.items = length-map r.fields.items held_value in omega arith))
+
+pub field_past : (es : List (ℕ × Record)) (q i n : ℕ) (r : Record) → Some r ≡ entries.lookup (tree.is_at (nat_cmp q)) es → n ≡ length r.fields.items → n ≤ i → false ≡ is_some (field_of (lookup (objects_of es) q) i)
+field_past es q i n r e l h =
+    sym (ap (λ o. is_some (field_of o i)) (sym (found_record es q) ∙ ap record_option (sym e)) ∙ get_past (map held_value r.fields.items) i (let m : length (map held_value r.fields.items) ≡ length r.fields.items = length-map r.fields.items held_value in omega arith))
+
+pub record_gone : (es : List (ℕ × Record)) (q i : ℕ) → None ≡ entries.lookup (tree.is_at (nat_cmp q)) es → false ≡ is_some (field_of (lookup (objects_of es) q) i)
+record_gone es q i e = sym (ap (λ o. is_some (field_of o i)) (sym (found_record es q) ∙ ap record_option (sym e)))
+
+-- what is written back as it was
+pub same_entries : (es : List (ℕ × Record)) (q : ℕ) (r : Record) → entries.lookup (tree.is_at (nat_cmp q)) es ≡ Some r → entries.set_value (tree.is_at (nat_cmp q)) es r ≡ es
+same_entries es q r e = set_value_same (tree.is_at (nat_cmp q)) es r e
+
+-- ---- a field that is there
+
+pub got : (g h : Graph) (d i : ℕ) (target : Value) (o : Object) (v : Value) (view : View) → object_of g.objects target ≡ Some o → field_of (Some o) i ≡ Some v
+    → view ≡ view_of g.objects v → h ≡ set_root g d v → ◌≡◌ {A = Reply × Graph} (Saw view, h) (get_field g d (object_of g.objects target) (field_of (object_of g.objects target) i))
+got g h d i target o v view object field seen taken =
+    let there : get_field g d (object_of g.objects target) (field_of (object_of g.objects target) i) ≡ get_field g d (Some o) (Some v)
+    = ap (λ x. get_field g d x (field_of x i)) object ∙ ap (get_field g d (Some o)) field in
+    let same : ◌≡◌ {A = Reply × Graph} (Saw view, h) (Saw (view_of g.objects v), set_root g d v) = λ k. (Saw (seen k), taken k) in
+    same ∙ sym there

@@ -1,0 +1,7 @@
+use Rattle.std.proofs.Common.{◌∙◌, ap}
+use Rattle.gc_graph.specs.Records.{record_option}
+use Rattle.gc_graph.proofs.Plains.{found_record}
+use Rattle.gc_graph.proofs.objects.record_of.Goals as goal
+
+pub returns : goal.returns
+returns c = ap record_option c.get.ensures.value ∙ found_record c.args.records.now.entries c.args.name

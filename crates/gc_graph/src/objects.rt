@@ -1,0 +1,190 @@
+ghost use Rattle.std.specs.Prelude.{◌≡◌, ◌+◌, ◌<◌, ◌≤◌, Some, IfOk, OnErr, is_some, length, if◌then◌else◌};
+ghost use Rattle.std.specs.Option.{option_map};
+ghost use Rattle.gc_graph.specs.Graph.{object_of, lookup, field_of, root as root_in, set_root, set_field, new_object, add_object};
+ghost use Rattle.gc_graph.specs.Machine.{view_of, view_of_object, same as same_in, get_field, put_field};
+ghost use Rattle.gc_graph.specs.Bounded.{AreBelow, AreShort};
+ghost use Rattle.gc_graph.specs.Records.{held_value, object_of_record, objects_of, record_option, graph_of};
+
+use crate::number::Number;
+use crate::reply::{Reply, View};
+use std::alloc::{AllocError, Global};
+use std::collections::BTreeMap;
+
+/// What a root or a field holds: nil, a number, or an object's name.
+#[derive(Clone, Copy, Debug, PartialEq, Eq)]
+pub enum Held {
+    Nil,
+    Num(Number),
+    Ref(u64),
+}
+
+/// An object.
+#[derive(Debug, Drop)]
+pub struct Record {
+    kind: u8,
+    fields: Vec<Held>,
+}
+
+impl Record {
+    fn field(&self, i: u16) -> Option<Held>
+        ensures { option_map held_value result ≡ field_of (Some (object_of_record self.now)) i }
+    {
+        self.fields.get(usize::from(i)).copied()
+    }
+
+    fn view(&self) -> View
+        requires { length self.now.fields.items < 65536 }
+        ensures { result ≡ view_of_object (Some (object_of_record self.now)) }
+    {
+        View::Obj {
+            kind: self.kind,
+            len: self.fields.len() as u16,
+        }
+    }
+}
+
+type Records = BTreeMap<u64, Record>;
+
+/// The record of a name.
+fn record_of(records: &Records, name: u64) -> Option<&Record>
+    ensures { record_option (option_map (λ r. r.now) result) ≡ lookup (objects_of records.now.entries) name }
+{
+    records.get(&name)
+}
+
+/// Writes a field of the named record, if there is one and it has this field.
+fn write_field(records: &mut Records, name: u64, i: u16, value: Held) -> bool
+    ensures there { result ≡ is_some (field_of (lookup (objects_of records.old.entries) name) i) }
+    ensures objects { objects_of records.new.entries
+        ≡ (if result then set_field (objects_of records.old.entries) name i (held_value value) else objects_of records.old.entries) }
+{
+    let place = i as usize;
+    match records.get_mut(&name) {
+        Some(record) => {
+            if place < record.fields.len() {
+                record.fields[place] = value;
+                true
+            } else {
+                false
+            }
+        }
+        None => false,
+    }
+}
+
+/// An object graph: objects by name in an ordered map, and roots.
+#[derive(Drop)]
+pub struct Objects {
+    pub records: Records,
+    pub roots: Vec<Held>,
+}
+
+impl Objects {
+    /// What a root holds.
+    pub fn root(&self, place: usize) -> Held
+        requires { place < length self.now.roots.items }
+        ensures { held_value result ≡ root_in (graph_of self.now) place }
+    {
+        self.roots[place]
+    }
+
+    /// A root takes the value.
+    pub fn take(&mut self, place: usize, value: Held) -> Reply
+        requires { place < length self.old.roots.items }
+        ensures done { result ≡ Reply.Done }
+        ensures graph { graph_of self.new ≡ set_root (graph_of self.old) place (held_value value) }
+    {
+        self.roots[place] = value;
+        Reply::Done
+    }
+
+    /// A new object with nil fields, under a name above all that name an object.
+    pub fn add(&mut self, alloc: Global, name: u64, kind: u8, len: u16) -> Result<(), AllocError>
+        requires { AreBelow name (graph_of self.old) }
+        ensures ok { IfOk result (λ _. graph_of self.new ≡ add_object (graph_of self.old) name (new_object kind len)) }
+        ensures roots { length self.new.roots.items ≡ length self.old.roots.items }
+        ensures err { OnErr result (graph_of self.new ≡ graph_of self.old) }
+    {
+        let fields = vec![in alloc; Held::Nil; usize::from(len)]?;
+        let _ = self.records.insert(name, Record { kind, fields })?;
+        Ok(())
+    }
+
+    /// What is seen of a value.
+    pub fn view(&self, value: &Held) -> View
+        requires { AreShort (graph_of self.now) }
+        ensures { result ≡ view_of (graph_of self.now).objects (held_value value.now) }
+    {
+        match value {
+            Held::Nil => View::Nil,
+            Held::Num(n) => View::Num(*n),
+            Held::Ref(name) => match record_of(&self.records, *name) {
+                Some(record) => record.view(),
+                None => View::Nil,
+            },
+        }
+    }
+
+    /// Whether two values are the same: nil and nil, equal numbers, or one object.
+    fn same(&self, one: Held, other: Held) -> bool
+        ensures { result ≡ same_in (graph_of self.now).objects (held_value one) (held_value other) }
+    {
+        match one {
+            Held::Nil => matches!(other, Held::Nil),
+            Held::Num(a) => matches!(other, Held::Num(b) if a.get() == b.get()),
+            Held::Ref(a) => {
+                matches!(other, Held::Ref(b) if a == b) && record_of(&self.records, a).is_some()
+            }
+        }
+    }
+
+    /// The answer to whether two values are the same.
+    pub fn compare(&self, one: Held, other: Held) -> Reply
+        ensures { result ≡ (if same_in (graph_of self.now).objects (held_value one) (held_value other) then Reply.Yes else Reply.No) }
+    {
+        if self.same(one, other) {
+            Reply::Yes
+        } else {
+            Reply::No
+        }
+    }
+
+    /// Root `d` takes field `i` of the object that `target` refers to.
+    pub fn get(&mut self, d: usize, target: Held, i: u16) -> Reply
+        requires root { d < length self.old.roots.items }
+        requires short { AreShort (graph_of self.old) }
+        ensures { let object = object_of (graph_of self.old).objects (held_value target) in
+            (result, graph_of self.new) ≡ get_field (graph_of self.old) d object (field_of object i) }
+    {
+        let Held::Ref(name) = target else {
+            return Reply::NoObject;
+        };
+        let Some(record) = record_of(&self.records, name) else {
+            return Reply::NoObject;
+        };
+        let Some(value) = record.field(i) else {
+            return Reply::NoField;
+        };
+        let view = self.view(&value);
+        self.roots[d] = value;
+        Reply::Saw(view)
+    }
+
+    /// Field `i` of the object that `target` refers to takes the value.
+    pub fn put(&mut self, target: Held, i: u16, value: Held) -> Reply
+        ensures { let object = object_of (graph_of self.old).objects (held_value target) in
+            (result, graph_of self.new) ≡ put_field (graph_of self.old) (held_value target) object (field_of object i) i (held_value value) }
+    {
+        let Held::Ref(name) = target else {
+            return Reply::NoObject;
+        };
+        if record_of(&self.records, name).is_none() {
+            return Reply::NoObject;
+        }
+        if write_field(&mut self.records, name, i, value) {
+            Reply::Done
+        } else {
+            Reply::NoField
+        }
+    }
+}

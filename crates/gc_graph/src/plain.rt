@@ -1,0 +1,124 @@
+ghost use Rattle.std.specs.Prelude.{◌≡◌, ◌+◌, ◌<◌, ◌≤◌, IfOk, OnErr, IsErr, length};
+ghost use Rattle.gc_graph.specs.Machine.{opening_roomy, HasMutator, MakesObject, Answers, Makes};
+
+use crate::command::Op;
+use crate::no_memory::NoMemory;
+use crate::objects::{Held, Objects};
+use crate::reply::Reply;
+use std::alloc::Global;
+use std::collections::BTreeMap;
+use std::marker::Model;
+
+/// The machine without a collector: an object graph, and a count of free words.
+#[derive(Drop)]
+pub struct Plain {
+    objects: Objects,
+    free: u32,
+    next_name: u64,
+    alloc: Global,
+}
+
+impl Model for Plain {
+    ghost use Rattle.gc_graph.specs.Machine.{Roomy};
+    ghost use Rattle.gc_graph.specs.Codes.{coded_roomy};
+
+    ghost Value = { Roomy };
+
+    ghost coded = { coded_roomy };
+
+    ghost use Rattle.gc_graph.specs.PlainMachine.{roomy_of, IsPlain};
+
+    ghost view = { roomy_of };
+
+    ghost invariant = { IsPlain };
+}
+
+impl Plain {
+    /// A space of `size` words, 1 to 1048576, the first of which is reserved; no objects, and all roots of
+    /// 1 to 16 mutators nil.
+    pub fn new(alloc: Global, size: u32, mutators: u8) -> Result<Plain, NoMemory>
+        requires low { 1 ≤ size }
+        requires high { size ≤ 1048576 }
+        requires some { 1 ≤ mutators }
+        requires few { mutators ≤ 16 }
+        ensures { IfOk result (λ plain. plain ≡ opening_roomy size mutators) }
+    {
+        let count = 16 + 16 * usize::from(mutators);
+        let Ok(roots) = vec![in alloc; Held::Nil; count] else {
+            return Err(NoMemory);
+        };
+        Ok(Plain {
+            objects: Objects {
+                records: BTreeMap::new(alloc),
+                roots,
+            },
+            free: size - 1,
+            next_name: 0,
+            alloc,
+        })
+    }
+
+    /// The count of free words.
+    pub fn free(&self) -> u32
+        ensures { result ≡ self.now.free }
+    {
+        self.free
+    }
+
+    /// Makes mutator m's command. Only a new object takes memory.
+    pub fn apply(&mut self, m: u8, op: &Op) -> Result<Reply, NoMemory>
+        requires { HasMutator self.old.graph m }
+        ensures ok { IfOk result (λ reply. Answers self.old m op.now reply self.new) }
+        ensures err { OnErr result (self.new ≡ self.old) }
+        ensures mutators { length self.new.graph.roots ≡ length self.old.graph.roots }
+        ensures only_new { IsErr result → MakesObject op.now }
+    {
+        match *op {
+            Op::New { d, kind, len } => self.make(d.place(m), kind, len),
+            Op::Num { d, n } => Ok(self.objects.take(d.place(m), Held::Num(n))),
+            Op::Nil { d } => Ok(self.objects.take(d.place(m), Held::Nil)),
+            Op::Move { d, s } => {
+                let value = self.objects.root(s.place(m));
+                Ok(self.objects.take(d.place(m), value))
+            }
+            Op::Get { d, s, i } => {
+                let target = self.objects.root(s.place(m));
+                Ok(self.objects.get(d.place(m), target, i))
+            }
+            Op::Put { s, i, t } => {
+                let target = self.objects.root(s.place(m));
+                let value = self.objects.root(t.place(m));
+                Ok(self.objects.put(target, i, value))
+            }
+            Op::Same { s, t } => {
+                let one = self.objects.root(s.place(m));
+                let other = self.objects.root(t.place(m));
+                Ok(self.objects.compare(one, other))
+            }
+            Op::Look { s } => {
+                let value = self.objects.root(s.place(m));
+                Ok(Reply::Saw(self.objects.view(&value)))
+            }
+        }
+    }
+
+    /// Makes an object in a root, if there is room.
+    fn make(&mut self, place: usize, kind: u8, len: u16) -> Result<Reply, NoMemory>
+        requires { place < length self.old.graph.roots }
+        ensures ok { IfOk result (λ reply. Makes self.old place kind len reply self.new) }
+        ensures err { OnErr result (self.new ≡ self.old) }
+    {
+        let taken = u32::from(len) + 2;
+        if taken > self.free {
+            return Ok(Reply::Full);
+        }
+        let name = self.next_name;
+        let Ok(()) = self.objects.add(self.alloc, name, kind, len) else {
+            return Err(NoMemory);
+        };
+        let _ = self.objects.take(place, Held::Ref(name));
+        self.free -= taken;
+        self.next_name += 1;
+        Ok(Reply::Made)
+    }
+}
