@@ -1,0 +1,182 @@
+-- Commands on a heap of words, as commands on its graph.
+use Rattle.std.proofs.Common.{◌≡◌, ℕ, suc, zero, ◌+◌, ◌-◌, ◌<◌, ◌≤◌, Bool, true, false, cond, ◌==◌, List, [], ◌∷◌, length, Option, Some, None, is_some, refl, sym, ◌∙◌, ap, subst, inl, inr, ◌⊎◌, arith}
+use Rattle.std.specs.Prelude.{slice_get, slice_index, slice_set, get_or, nat_lt, IsTrue, IsSome}
+use Rattle.std.specs.Option.{option_map}
+use Rattle.std.proofs.lemmas.Bool.{eqb-true, eqb-false, eq-eqb, ne_eqb, cases_Bool, and_from, and_parts}
+use Rattle.gc_graph.specs.Graph.{Value, Nil, Num, Ref, Object, Graph, lookup, object_of, field_of, root, set_root, set_field}
+use Rattle.gc_graph.specs.Machine.{view_of, same, get_field, put_field}
+use Rattle.gc_graph.specs.declared.reply.Reply.{Reply}
+use Rattle.gc_graph.specs.declared.reply.Reply.TheVariants.{Done, NoField, Saw}
+use Rattle.gc_graph.specs.declared.reply.View.{View}
+use Rattle.gc_words.specs.Word.{value_of, word_of, is_value, field_value}
+use Rattle.gc_words.specs.Image.{Block, block_at, field_at, is_start, objects_of, object_of_block}
+use Rattle.gc_words.specs.Space.{with_object, with_word, field_place, end_of, free_in}
+use Rattle.gc_words.specs.declared.header.Header.{Header}
+use Rattle.gc_words.specs.Closed.{IsRootWord, IsFieldWord, RefersToStart}
+use Rattle.gc_words.proofs.Graphs.{object_found, field_found, root_value, graph_field, graph_root, word_read_back}
+use Rattle.gc_words.proofs.References.{closed_root_read, closed_field_read, closed_field, closed_root, closed_placed, placed_reference}
+use Rattle.gc_words.proofs.Writes.{some_of, field_written, placed}
+use Rattle.std.proofs.lemmas.List.{length-set}
+use Rattle.gc_heap.specs.Heap.{HeapWords, IsHeap, graph_in, image_of, name_of}
+
+-- ---- roots
+
+get_index : (xs : List ℕ) (i : ℕ) → i < length xs → slice_get xs i ≡ Some (slice_index xs i)
+get_index [] i h = absurd (omega arith)
+get_index (x ∷ xs) zero h = refl
+get_index (x ∷ xs) (suc i) h = get_index xs i (omega arith)
+
+-- what an index reads, whatever stands for a missing word
+pub read_root : (h : HeapWords) (items : List ℕ) (p w : ℕ) → items ≡ h.roots → p < length h.roots → w ≡ get_or items p w → w ≡ slice_index h.roots p
+read_root h items p w same less read = subst (λ xs. w ≡ get_or xs p w → w ≡ slice_index h.roots p) (sym same) (λ e. e ∙ known h.roots p w less) read
+  where
+    known : (xs : List ℕ) (i w : ℕ) → i < length xs → get_or xs i w ≡ slice_index xs i
+    known [] i w h = absurd (omega arith)
+    known (x ∷ xs) zero w h = refl
+    known (x ∷ xs) (suc i) w h = known xs i w (omega arith)
+
+pub root_word : (h : HeapWords) (p : ℕ) → IsHeap h → p < length h.roots → IsRootWord h.space.words (slice_index h.roots p)
+root_word h p heap less = closed_root_read h.space.words h.roots p (slice_index h.roots p) heap.closed (get_index h.roots p less)
+
+pub named : (v : Value) (a : ℕ) → Some a ≡ name_of v → v ≡ Ref a
+named Nil a e = absurd (let no : Some a ≡ None = e in cc)
+named (Num n) a e = absurd (let no : Some a ≡ None = e in cc)
+named (Ref b) a e = cc
+
+-- ---- the object that a root refers to
+
+pub record Points (h : HeapWords) (s a : ℕ) : Type 0 where
+  pub block : Block
+  pub found : block_at h.space.words a ≡ Some block
+  pub target : root (graph_in h) s ≡ Ref a
+  pub object : object_of (graph_in h).objects (root (graph_in h) s) ≡ Some (object_of_block block)
+
+pub points : (h : HeapWords) (s a w : ℕ) → IsHeap h → s < length h.roots → w ≡ slice_index h.roots s → Some a ≡ name_of (value_of w) → Points h s a
+points h s a w heap less read name =
+    let value : value_of w ≡ Ref a = named (value_of w) a name in
+    let at : root (graph_in h) s ≡ Ref a = root_value h.roots s ∙ ap value_of (sym read) ∙ value in
+    let word : IsRootWord h.space.words w = subst (IsRootWord h.space.words) (sym read) (root_word h s heap less) in
+    let start : is_start h.space.words a ≡ true = subst (RefersToStart h.space.words) value word.start in
+    let b : (b : Block) × (block_at h.space.words a ≡ Some b) = some_of (block_at h.space.words a) start in
+    record {
+      block = b.0;
+      found = b.1;
+      target = at;
+      object = ap (object_of (graph_in h).objects) at ∙ object_found h.space.words a ∙ ap (option_map object_of_block) b.1;
+    }
+
+pub start_of : (h : HeapWords) (s a w : ℕ) → IsHeap h → s < length h.roots → w ≡ slice_index h.roots s → Some a ≡ name_of (value_of w) → is_start h.space.words a ≡ true
+start_of h s a w heap less read name = ap is_some (points h s a w heap less read name).found
+
+-- a field, as the graph has it
+field_value_at : (h : HeapWords) (s a i : ℕ) (p : Points h s a) → field_of (object_of (graph_in h).objects (root (graph_in h) s)) i ≡ option_map (field_value p.block.header) (field_at h.space.words a i)
+field_value_at h s a i p = ap (λ v. field_of (object_of (graph_in h).objects v) i) p.target ∙ field_found h.space.words a i p.block p.found
+
+none_of : (o : Option ℕ) → is_some o ≡ false → o ≡ None
+none_of None e = refl
+none_of (Some x) e = absurd (let no : true ≡ false = e in cc)
+
+-- ---- get
+
+pub got_no_field : (h : HeapWords) (d s a i : ℕ) → Points h s a → is_some (field_at h.space.words a i) ≡ false
+    → let object = object_of (graph_in h).objects (root (graph_in h) s) in ◌≡◌ {A = Reply × Graph} (NoField, graph_in h) (get_field (graph_in h) d object (field_of object i))
+got_no_field h d s a i p none =
+    sym (ap (λ f. get_field (graph_in h) d (object_of (graph_in h).objects (root (graph_in h) s)) f) (field_value_at h s a i p ∙ ap (option_map (field_value p.block.header)) (none_of (field_at h.space.words a i) none))
+    ∙ ap (λ o. get_field (graph_in h) d o None) p.object)
+
+pub got : (h : HeapWords) (d s a i w : ℕ) (view : View) → Points h s a → field_at h.space.words a i ≡ Some w → view ≡ view_of (graph_in h).objects (value_of w)
+    → let object = object_of (graph_in h).objects (root (graph_in h) s) in
+    ◌≡◌ {A = Reply × Graph} (Saw view, graph_in (record h { roots = slice_set h.roots d w })) (get_field (graph_in h) d object (field_of object i))
+got h d s a i w view p read seen =
+    let taken : graph_in (record h { roots = slice_set h.roots d w }) ≡ set_root (graph_in h) d (value_of w) = graph_root h.space d w h.roots in
+    let there : get_field (graph_in h) d (object_of (graph_in h).objects (root (graph_in h) s)) (field_of (object_of (graph_in h).objects (root (graph_in h) s)) i) ≡ (Saw (view_of (graph_in h).objects (value_of w)), set_root (graph_in h) d (value_of w))
+    = ap (λ f. get_field (graph_in h) d (object_of (graph_in h).objects (root (graph_in h) s)) f) (field_value_at h s a i p ∙ ap (option_map (field_value p.block.header)) read)
+      ∙ ap (λ o. get_field (graph_in h) d o (Some (value_of w))) p.object in
+    (λ k. (Saw (seen k), taken k)) ∙ sym there
+
+-- ---- put
+
+pub put_no_field : (h : HeapWords) (s a i : ℕ) (v : Value) → Points h s a → is_some (field_at h.space.words a i) ≡ false
+    → let object = object_of (graph_in h).objects (root (graph_in h) s) in ◌≡◌ {A = Reply × Graph} (NoField, graph_in h) (put_field (graph_in h) (root (graph_in h) s) object (field_of object i) i v)
+put_no_field h s a i v p none =
+    sym (ap (λ f. put_field (graph_in h) (root (graph_in h) s) (object_of (graph_in h).objects (root (graph_in h) s)) f i v) (field_value_at h s a i p ∙ ap (option_map (field_value p.block.header)) (none_of (field_at h.space.words a i) none))
+    ∙ ap (λ o. put_field (graph_in h) (root (graph_in h) s) o None i v) p.object
+    ∙ ap (λ r. put_field (graph_in h) r (Some (object_of_block p.block)) None i v) p.target)
+
+pub put_done : (h : HeapWords) (s a i w : ℕ) (v : Value) → IsHeap h → Points h s a → is_some (field_at h.space.words a i) ≡ true → v ≡ value_of w
+    → let object = object_of (graph_in h).objects (root (graph_in h) s) in
+    ◌≡◌ {A = Reply × Graph} (Done, graph_in (record h { space = with_word h.space (field_place a i) w })) (put_field (graph_in h) (root (graph_in h) s) object (field_of object i) i v)
+put_done h s a i w v heap p some value =
+    let before : (x : ℕ) × (field_at h.space.words a i ≡ Some x) = some_of (field_at h.space.words a i) some in
+    let written : graph_in (record h { space = with_word h.space (field_place a i) w }) ≡ record (graph_in h) { objects = set_field (objects_of h.space.words) a i (value_of w) }
+    = graph_field h.space a i w p.block h.roots heap.space some p.found in
+    let there : put_field (graph_in h) (root (graph_in h) s) (object_of (graph_in h).objects (root (graph_in h) s)) (field_of (object_of (graph_in h).objects (root (graph_in h) s)) i) i v
+      ≡ (Done, record (graph_in h) { objects = set_field (objects_of h.space.words) a i v })
+    = ap (λ f. put_field (graph_in h) (root (graph_in h) s) (object_of (graph_in h).objects (root (graph_in h) s)) f i v) (field_value_at h s a i p ∙ ap (option_map (field_value p.block.header)) before.1)
+      ∙ ap (λ o. put_field (graph_in h) (root (graph_in h) s) o (Some (field_value p.block.header before.0)) i v) p.object
+      ∙ ap (λ r. put_field (graph_in h) r (Some (object_of_block p.block)) (Some (field_value p.block.header before.0)) i v) p.target in
+    (λ k. (Done, (written ∙ ap (λ x. record (graph_in h) { objects = set_field (objects_of h.space.words) a i x }) (sym value)) k)) ∙ sym there
+
+-- ---- what stays a heap
+
+pub taken_heap : (h : HeapWords) (p w : ℕ) → IsHeap h → IsRootWord h.space.words w → IsHeap (record h { roots = slice_set h.roots p w })
+taken_heap h p w heap is = record { space = heap.space; closed = closed_root h.space.words h.roots p w is heap.closed; roots = length-set h.roots p w ∙ heap.roots }
+
+pub written_heap : (h : HeapWords) (a i w : ℕ) (b : Block) → IsHeap h → block_at h.space.words a ≡ Some b → is_some (field_at h.space.words a i) ≡ true → IsFieldWord h.space.words b.header w → IsHeap (record h { space = with_word h.space (field_place a i) w })
+written_heap h a i w b heap found some is = record {
+  space = (field_written h.space a i w heap.space some).0;
+  closed = closed_field h.space a i w b h.roots heap.space some found is heap.closed;
+  roots = heap.roots;
+}
+
+-- ---- tests
+
+pub not_there : (t b : Bool) → (t ≡ true → b ≡ true) × (b ≡ true → t ≡ true) → t ≡ false → b ≡ false
+not_there t b both e = elim (cases_Bool b) [ inl yes' ↦ absurd (let no : true ≡ false = sym (both.1 yes') ∙ e in cc) | inr other ↦ other ]
+
+-- ---- same
+
+there_is : (h : HeapWords) (v : Value) → RefersToStart h.space.words v → same (graph_in h).objects v v ≡ true
+there_is h Nil r = refl
+there_is h (Num n) r = eq-eqb n n refl
+there_is h (Ref a) r =
+    let b : (b : Block) × (block_at h.space.words a ≡ Some b) = some_of (block_at h.space.words a) r in
+    and_from (a == a) (is_some (lookup (graph_in h).objects a)) (eq-eqb a a refl) (ap is_some (object_found h.space.words a ∙ ap (option_map object_of_block) b.1))
+
+same_true : (os : List (ℕ × Object)) (v w : Value) → same os v w ≡ true → v ≡ w
+same_true os Nil Nil e = refl
+same_true os Nil (Num b) e = absurd (let no : false ≡ true = e in cc)
+same_true os Nil (Ref b) e = absurd (let no : false ≡ true = e in cc)
+same_true os (Num a) Nil e = absurd (let no : false ≡ true = e in cc)
+same_true os (Num a) (Num b) e = ap Num (eqb-true a b e)
+same_true os (Num a) (Ref b) e = absurd (let no : false ≡ true = e in cc)
+same_true os (Ref a) Nil e = absurd (let no : false ≡ true = e in cc)
+same_true os (Ref a) (Num b) e = absurd (let no : false ≡ true = e in cc)
+same_true os (Ref a) (Ref b) e = ap Ref (eqb-true a b (and_parts (a == b) (is_some (lookup os a)) e).0)
+
+spelled_back : (words : List ℕ) (w : ℕ) → IsRootWord words w → word_of (value_of w) ≡ w
+spelled_back words w is = (word_read_back w (value_of w) (ap (λ b. cond b (Some (value_of w)) None) is.value)).0
+
+-- two values are the same where their words are
+pub same_words : (h : HeapWords) (v w : ℕ) → IsRootWord h.space.words v → IsRootWord h.space.words w → v ≡ w → same (graph_in h).objects (value_of v) (value_of w) ≡ true
+same_words h v w one other e = ap (λ x. same (graph_in h).objects (value_of v) (value_of x)) (sym e) ∙ there_is h (value_of v) one.start
+
+pub other_words : (h : HeapWords) (v w : ℕ) → IsRootWord h.space.words v → IsRootWord h.space.words w → (v ≡ w → ⊥) → same (graph_in h).objects (value_of v) (value_of w) ≡ false
+other_words h v w one other differ =
+    elim (cases_Bool (same (graph_in h).objects (value_of v) (value_of w))) [
+      | inl alike ↦ absurd (differ (sym (spelled_back h.space.words v one) ∙ ap word_of (same_true (graph_in h).objects (value_of v) (value_of w) alike) ∙ spelled_back h.space.words w other))
+      | inr not ↦ not
+    ]
+
+pub at_root : (h : HeapWords) (p w : ℕ) → w ≡ slice_index h.roots p → root (graph_in h) p ≡ value_of w
+at_root h p w read = root_value h.roots p ∙ ap value_of (sym read)
+
+-- ---- a new object
+
+pub made_heap : (h : HeapWords) (p : ℕ) (header : Header) → IsHeap h → header.kind < 256 → header.len < 65536 → header.len + 2 ≤ free_in h.space
+    → IsHeap (record h { space = with_object h.space header; roots = slice_set h.roots p (word_of (Ref (end_of h.space))) })
+made_heap h p header heap kind len room = record {
+  space = (placed h.space header heap.space kind len room).0;
+  closed = closed_root (with_object h.space header).words h.roots p (word_of (Ref (end_of h.space))) (placed_reference h.space header heap.space kind len room) (closed_placed h.space header heap.space kind len room h.roots heap.closed);
+  roots = length-set h.roots p (word_of (Ref (end_of h.space))) ∙ heap.roots;
+}

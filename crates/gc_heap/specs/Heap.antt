@@ -1,0 +1,56 @@
+-- A heap as contracts see it: a space with links among its words, roots, and mutators.
+use Rattle.std.specs.Prelude.{◌≡◌, ℕ, ◌+◌, List, length, replicate, IsTrue, IsFalse, Option, Some, None, MatchBool, nat_lt, slice_set}
+use Rattle.gc_graph.specs.Slots.{roots_of}
+use Rattle.gc_graph.specs.Graph.{Graph, Value, Nil, Num, Ref}
+use Rattle.gc_graph.specs.Machine.{Roomy}
+use Rattle.gc_words.specs.Image.{Image, is_start, graph_of, roomy_of}
+use Rattle.gc_words.specs.Spelling.{link_at}
+use Rattle.gc_words.specs.Space.{SpaceWords, IsSpace, empty_space, image_with, with_object, free_in, end_of}
+use Rattle.gc_words.specs.Word.{word_of}
+use Rattle.gc_words.specs.declared.header.Header.{Header}
+use Rattle.gc_graph.specs.declared.reply.Reply.{Reply}
+use Rattle.gc_graph.specs.declared.reply.Reply.TheVariants.{Full, Made}
+use Rattle.gc_words.specs.Closed.{IsClosed}
+
+pub record HeapWords : Type 0 where
+  pub space : SpaceWords
+  pub roots : List ℕ
+  pub mutators : ℕ
+
+abbrev pub image_of : HeapWords → Image
+image_of heap = image_with heap.space heap.roots
+
+-- what the mutators see
+abbrev pub graph_in : HeapWords → Graph
+graph_in heap = graph_of (image_of heap)
+
+-- the same with the words that are free
+abbrev pub roomy_in : HeapWords → Roomy
+roomy_in heap = roomy_of (image_of heap)
+
+-- without objects, and with all roots nil
+abbrev pub empty_heap : ℕ → ℕ → HeapWords
+empty_heap size mutators = record { space = empty_space size; roots = replicate (roots_of mutators) 0; mutators = mutators }
+
+-- each field word and each root word is a value, all references are to starts, and the mutators have their roots
+pub record IsHeap (heap : HeapWords) : Type 0 where
+  pub space : IsSpace heap.space
+  pub closed : IsClosed heap.space.words heap.roots
+  pub roots : length heap.roots ≡ roots_of heap.mutators
+
+-- objects keep their links, and those of new objects are 0
+pub record KeepsLinks (old new : List ℕ) : Type 0 where
+  pub kept : (start : ℕ) → IsTrue (is_start old start) → link_at new start ≡ link_at old start
+  pub fresh : (start : ℕ) → IsFalse (is_start old start) → IsTrue (is_start new start) → link_at new start ≡ 0
+
+-- the name that a value is
+abbrev pub name_of : Value → Option ℕ
+name_of Nil = None
+name_of (Num n) = None
+name_of (Ref a) = Some a
+
+-- A new object in a place of the roots, where it has room.
+abbrev pub Makes : HeapWords → ℕ → Header → Reply → HeapWords → Type 0
+Makes old place h reply new = MatchBool (nat_lt (free_in old.space) (h.len + 2))
+    ((reply ≡ Full) × (new ≡ old))
+    ((reply ≡ Made) × (new ≡ record old { space = with_object old.space h; roots = slice_set old.roots place (word_of (Ref (end_of old.space))) }))

@@ -1,0 +1,251 @@
+use crate::reading::{has_field, target_of, view};
+use gc_graph::{NoMemory, Op, Reply, Slot};
+use gc_words::{Addr, Header, ImageRef, NewAddr, OldAddr, Space, Value, encode};
+use std::alloc::Global;
+use std::marker::Model;
+use std::mem;
+
+/// The heap that mutators work on: objects in a space, and the roots of 1 to 16 mutators. Its space and its
+/// roots are made at once; no command takes memory.
+#[derive(Debug, Drop)]
+pub struct Heap {
+    space: Space,
+    roots: Vec<u64>,
+    mutators: u8,
+}
+
+impl Model for Heap {
+    ghost use Rattle.gc_heap.specs.Heap.{HeapWords, IsHeap};
+
+    ghost Value = { HeapWords };
+
+    ghost view = { λ h. record { space = h.space; roots = h.roots.items; mutators = h.mutators } };
+
+    ghost invariant = { λ h. IsHeap (record { space = h.space; roots = h.roots.items; mutators = h.mutators }) };
+}
+
+impl Heap {
+    ghost use Rattle.std.specs.Prelude.{◌≡◌, ◌<◌, ◌≤◌, IfOk, IsTrue, length, slice_set, if◌then◌else◌};
+    ghost use Rattle.std.specs.Option.{option_map};
+    ghost use Rattle.gc_graph.specs.Slots.{place as place_of};
+    ghost use Rattle.gc_graph.specs.Graph.{object_of, field_of, root};
+    ghost use Rattle.gc_graph.specs.Machine.{roomy_step, get_field, put_field, same as same_in};
+    ghost use Rattle.gc_words.specs.Image.{is_start};
+    ghost use Rattle.gc_words.specs.Space.{end_of, link_place, with_word, without_links};
+    ghost use Rattle.gc_words.specs.Closed.{IsRootWord};
+    ghost use Rattle.gc_words.specs.Views as views;
+    ghost use Rattle.gc_heap.specs.Heap.{IsHeap, KeepsLinks, empty_heap, image_of, graph_in, roomy_in, name_of, Makes};
+
+    /// A heap of `size` words, 1 to 1048576, for 1 to 16 mutators: no objects, and all roots nil.
+    pub fn new(alloc: Global, size: u32, mutators: u8) -> Result<Heap, NoMemory>
+        requires low { 1 ≤ size }
+        requires high { size ≤ 1048576 }
+        requires some { 1 ≤ mutators }
+        requires few { mutators ≤ 16 }
+        ensures empty { IfOk result (λ heap. heap ≡ empty_heap size mutators) }
+        ensures sound { IfOk result IsHeap }
+    {
+        let space = Space::new(alloc, size)?;
+        let count = 16 + 16 * usize::from(mutators);
+        let Ok(roots) = vec![in alloc; 0u64; count] else {
+            return Err(NoMemory);
+        };
+        Ok(Heap {
+            space,
+            roots,
+            mutators,
+        })
+    }
+
+    /// The space and the roots as they are, links included.
+    pub fn image(&self) -> ImageRef<'_>
+        ensures value { views.image_of result ≡ image_of self.now }
+        ensures sound { IsHeap self.now }
+    {
+        ImageRef {
+            size: self.space.size(),
+            end: self.space.end(),
+            words: self.space.words(),
+            roots: &self.roots,
+        }
+    }
+
+    /// How many mutators there are.
+    pub fn mutators(&self) -> u8
+        ensures value { result ≡ self.now.mutators }
+        ensures sound { IsHeap self.now }
+    {
+        self.mutators
+    }
+
+    /// The objects.
+    pub fn space(&self) -> &Space
+        ensures value { result.now ≡ self.now.space }
+        ensures sound { IsHeap self.now }
+    {
+        &self.space
+    }
+
+    /// The root words: those of the shared slots first, then those of each mutator.
+    pub fn roots(&self) -> &[u64]
+        ensures value { result.now ≡ self.now.roots }
+        ensures sound { IsHeap self.now }
+    {
+        &self.roots
+    }
+
+    /// The object that mutator m's slot refers to.
+    pub fn target(&self, m: u8, slot: Slot) -> Option<OldAddr>
+        requires { m < self.now.mutators }
+        ensures name { option_map (λ a. a.0) result ≡ name_of (root (graph_in self.now) (place_of slot m)) }
+        ensures sound { IsHeap self.now }
+    {
+        let at = target_of(self.roots[slot.place(m)])?;
+        Some(OldAddr(at.0))
+    }
+
+    /// Makes mutator m's command.
+    pub fn apply(&mut self, m: u8, op: &Op) -> Reply
+        requires { m < self.old.mutators }
+        // The name of a new object is the end of the space.
+        ensures step { roomy_step (roomy_in self.old) m op.now (end_of self.old.space) ≡ (result, roomy_in self.new) }
+        ensures links { KeepsLinks self.old.space.words self.new.space.words }
+        ensures size { self.new.space.size ≡ self.old.space.size }
+        ensures mutators { self.new.mutators ≡ self.old.mutators }
+        ensures sound { IsHeap self.new }
+    {
+        match *op {
+            Op::New { d, kind, len } => self.make(d.place(m), Header::new(kind, len)),
+            Op::Num { d, n } => self.take(d.place(m), encode(Value::Num(n))),
+            Op::Nil { d } => self.take(d.place(m), encode(Value::Nil)),
+            Op::Move { d, s } => {
+                let word = self.roots[s.place(m)];
+                self.take(d.place(m), word)
+            }
+            Op::Get { d, s, i } => self.get(d.place(m), s.place(m), i),
+            Op::Put { s, i, t } => self.put(s.place(m), i, t.place(m)),
+            Op::Same { s, t } => self.same(s.place(m), t.place(m)),
+            Op::Look { s } => {
+                let word = self.roots[s.place(m)];
+                Reply::Saw(view(&self.space, word))
+            }
+        }
+    }
+
+    /// Writes the link word of the object that starts at `old`.
+    pub fn set_link(&mut self, old: OldAddr, new: NewAddr)
+        requires { IsTrue (is_start self.old.space.words old.0) }
+        ensures words { self.new ≡ record self.old { space = with_word self.old.space (link_place old.0) new.0 } }
+        ensures graph { graph_in self.new ≡ graph_in self.old }
+        ensures sound { IsHeap self.new }
+    {
+        self.space.set_link(Addr(old.0), u64::from(new.0));
+    }
+
+    /// Makes all link words 0.
+    pub fn clear_links(&mut self)
+        ensures words { self.new ≡ record self.old { space = without_links self.old.space } }
+        ensures graph { graph_in self.new ≡ graph_in self.old }
+        ensures sound { IsHeap self.new }
+    {
+        self.space.clear_links();
+    }
+
+    /// Puts another space and other roots in place, and hands the former ones back.
+    pub fn replace(&mut self, space: Space, roots: Vec<u64>) -> (Space, Vec<u64>)
+        requires { IsHeap (record self.old { space = space; roots = roots.items }) }
+        ensures heap { self.new ≡ record self.old { space = space; roots = roots.items } }
+        ensures space { result.0 ≡ self.old.space }
+        ensures roots { result.1.items ≡ self.old.roots }
+    {
+        let former_space = mem::replace(&mut self.space, space);
+        let former_roots = mem::replace(&mut self.roots, roots);
+        (former_space, former_roots)
+    }
+
+    /// A new object in a root, where it has room.
+    fn make(&mut self, place: usize, header: Header) -> Reply
+        requires { place < length self.old.roots }
+        ensures step { Makes self.old place header result self.new }
+        ensures links { KeepsLinks self.old.space.words self.new.space.words }
+        ensures sound { IsHeap self.new }
+    {
+        if !self.space.has_room(header.len()) {
+            return Reply::Full;
+        }
+        let at = self.space.place(header);
+        self.roots[place] = encode(Value::Ref(at));
+        Reply::Made
+    }
+
+    /// A root takes a word.
+    fn take(&mut self, place: usize, word: u64) -> Reply
+        requires root { place < length self.old.roots }
+        requires word { IsRootWord self.old.space.words word }
+        ensures done { result ≡ Reply.Done }
+        ensures heap { self.new ≡ record self.old { roots = slice_set self.old.roots place word } }
+        ensures sound { IsHeap self.new }
+    {
+        self.roots[place] = word;
+        Reply::Done
+    }
+
+    /// Root `d` takes field `i` of the object that root `s` refers to.
+    fn get(&mut self, d: usize, s: usize, i: u16) -> Reply
+        requires taker { d < length self.old.roots }
+        requires giver { s < length self.old.roots }
+        ensures graph { let object = object_of (graph_in self.old).objects (root (graph_in self.old) s) in
+            (result, graph_in self.new) ≡ get_field (graph_in self.old) d object (field_of object i) }
+        ensures space { self.new.space ≡ self.old.space }
+        ensures mutators { self.new.mutators ≡ self.old.mutators }
+        ensures sound { IsHeap self.new }
+    {
+        let target = self.roots[s];
+        let Some(at) = target_of(target) else {
+            return Reply::NoObject;
+        };
+        if !has_field(&self.space, at, i) {
+            return Reply::NoField;
+        }
+        let word = self.space.field(at, i);
+        self.roots[d] = word;
+        Reply::Saw(view(&self.space, word))
+    }
+
+    /// Field `i` of the object that root `s` refers to takes what root `t` holds.
+    fn put(&mut self, s: usize, i: u16, t: usize) -> Reply
+        requires target { s < length self.old.roots }
+        requires giver { t < length self.old.roots }
+        ensures graph { let object = object_of (graph_in self.old).objects (root (graph_in self.old) s) in
+            (result, graph_in self.new) ≡ put_field (graph_in self.old) (root (graph_in self.old) s) object (field_of object i) i (root (graph_in self.old) t) }
+        ensures links { KeepsLinks self.old.space.words self.new.space.words }
+        ensures end { length self.new.space.words ≡ length self.old.space.words }
+        ensures size { self.new.space.size ≡ self.old.space.size }
+        ensures mutators { self.new.mutators ≡ self.old.mutators }
+        ensures sound { IsHeap self.new }
+    {
+        let target = self.roots[s];
+        let Some(at) = target_of(target) else {
+            return Reply::NoObject;
+        };
+        if !has_field(&self.space, at, i) {
+            return Reply::NoField;
+        }
+        let word = self.roots[t];
+        self.space.set_field(at, i, word);
+        Reply::Done
+    }
+
+    /// Whether two roots hold the same: values are the same where their words are.
+    fn same(&self, s: usize, t: usize) -> Reply
+        requires one { s < length self.now.roots }
+        requires other { t < length self.now.roots }
+        ensures { result ≡ (if same_in (graph_in self.now).objects (root (graph_in self.now) s) (root (graph_in self.now) t) then Reply.Yes else Reply.No) }
+    {
+        if self.roots[s] == self.roots[t] {
+            Reply::Yes
+        } else {
+            Reply::No
+        }
+    }
+}
