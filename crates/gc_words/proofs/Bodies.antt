@@ -1,24 +1,25 @@
 -- What a space's calls leave, as their code makes it.
-use Rattle.std.proofs.Common.{◌≡◌, ℕ, suc, ◌+◌, ◌-◌, ◌<◌, ◌≤◌, true, cond, List, [], ◌∷◌, ◌++◌, length, take, drop, replicate, Result, Ok, is_ok, sym, ◌∙◌, ap, subst, arith, length-append, append_assoc}
+use Rattle.std.proofs.Common.{◌≡◌, ℕ, suc, ◌+◌, ◌-◌, ◌<◌, ◌≤◌, true, cond, List, [], ◌∷◌, ◌++◌, length, take, drop, replicate, Some, Result, Ok, is_ok, sym, ◌∙◌, ap, subst, arith, length-append, append_assoc}
 use Rattle.std.specs.Prelude.{IsSome}
 use Rattle.std.proofs.lemmas.List.{take_all, take_at}
 use Rattle.gc_words.specs.Word.{header_word}
-use Rattle.gc_words.specs.Image.{fresh_block, blocks, is_start, field_at, set_block}
+use Rattle.gc_words.specs.Image.{fresh_block, blocks, block_at, is_start, field_at, set_block}
 use Rattle.gc_words.specs.Spelling.{block_words, spelled, no_links}
 use Rattle.gc_words.specs.Space.{SpaceWords, IsSpace, end_of, free_in, with_object, with_word, without_links, field_place, link_place}
 use Rattle.gc_words.specs.declared.header.Header.{Header}
 use Rattle.gc_words.proofs.Writes.{placed, field_written, link_written}
+use Rattle.gc_words.proofs.Blocks.{placed_block, written_word}
 use Rattle.gc_words.proofs.Spelled.{cleared, length_cleared}
 
 -- ---- a word written, at a place that the code has computed
 
 pub field_at_place : (s t : SpaceWords) (a i w p : ℕ) → s ≡ t → p ≡ field_place a i → IsSpace s → IsSome (field_at t.words a i)
-    → IsSpace (with_word s p w) × (blocks (with_word s p w).words ≡ set_block (blocks t.words) a i w)
+    → IsSpace (with_word s p w) × (blocks (with_word s p w).words ≡ set_block (blocks t.words) a i w) × (field_at (with_word s p w).words a i ≡ Some w)
 field_at_place s t a i w p same place space some =
-    let written : IsSpace (with_word s (field_place a i) w) × (blocks (with_word s (field_place a i) w).words ≡ set_block (blocks s.words) a i w)
-    = field_written s a i w space (subst (λ (s : SpaceWords). IsSome (field_at s.words a i)) (sym same) some) in
-    subst (λ p. IsSpace (with_word s p w) × (blocks (with_word s p w).words ≡ set_block (blocks t.words) a i w)) (sym place)
-    (written.0, written.1 ∙ ap (λ (s : SpaceWords). set_block (blocks s.words) a i w) same)
+    let has : IsSome (field_at s.words a i) = subst (λ (s : SpaceWords). IsSome (field_at s.words a i)) (sym same) some in
+    let written : IsSpace (with_word s (field_place a i) w) × (blocks (with_word s (field_place a i) w).words ≡ set_block (blocks s.words) a i w) = field_written s a i w space has in
+    subst (λ p. IsSpace (with_word s p w) × (blocks (with_word s p w).words ≡ set_block (blocks t.words) a i w) × (field_at (with_word s p w).words a i ≡ Some w)) (sym place)
+    (written.0, written.1 ∙ ap (λ (s : SpaceWords). set_block (blocks s.words) a i w) same, written_word s a i w space has)
 
 pub link_at_place : (s t : SpaceWords) (a w p : ℕ) → s ≡ t → p ≡ link_place a → IsSpace s → is_start t.words a ≡ true
     → IsSpace (with_word s p w) × (blocks (with_word s p w).words ≡ blocks t.words)
@@ -33,6 +34,7 @@ link_at_place s t a w p same place space start =
 pub record Places (s t : SpaceWords) (h : Header) : Type 0 where
   pub space : IsSpace s
   pub objects : blocks s.words ≡ blocks t.words ++ (end_of t, fresh_block h) ∷ []
+  pub object : block_at s.words (end_of t) ≡ Some (fresh_block h)
   pub words : s ≡ with_object t h
 
 room_filled : {E : Type 0} (r : Result (Unit {0}) E) (u : Unit {0}) (old pushed new : List ℕ) (h : Header) (n l : ℕ) → r ≡ Ok u → pushed ≡ old ++ header_word h ∷ [] → n ≡ length old + 2 + h.len → l ≡ length old + 1
@@ -51,12 +53,13 @@ pub object_placed : {E : Type 0} (r : Result (Unit {0}) E) (u : Unit {0}) (s t :
     → Places (record { size = s.size; words = new }) t h
 object_placed r u s t pushed new h n l same space kind len room ok push total one made =
     let filled : new ≡ s.words ++ block_words 0 (fresh_block h) = room_filled r u s.words pushed new h n l ok push total one made in
-    let done : IsSpace (with_object s h) × (blocks (with_object s h).words ≡ blocks s.words ++ (end_of s, fresh_block h) ∷ [])
-    = placed s h space kind len (subst (λ (s : SpaceWords). h.len + 2 ≤ free_in s) (sym same) room) in
+    let fits : h.len + 2 ≤ free_in s = subst (λ (s : SpaceWords). h.len + 2 ≤ free_in s) (sym same) room in
+    let done : IsSpace (with_object s h) × (blocks (with_object s h).words ≡ blocks s.words ++ (end_of s, fresh_block h) ∷ []) = placed s h space kind len fits in
     subst (λ words. Places (record { size = s.size; words = words }) t h) (sym filled)
     (record {
       space = done.0;
       objects = done.1 ∙ ap (λ (s : SpaceWords). blocks s.words ++ (end_of s, fresh_block h) ∷ []) same;
+      object = ap (λ (t : SpaceWords). block_at (with_object s h).words (end_of t)) (sym same) ∙ placed_block s h space kind len fits;
       words = ap (λ (s : SpaceWords). with_object s h) same;
     })
 

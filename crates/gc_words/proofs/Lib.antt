@@ -4,5 +4,8 @@ pub mod Writes
 pub mod Steps
 pub mod Spelled
 pub mod Bodies
+pub mod Blocks
+pub mod Graphs
+pub mod References
 pub mod Faults
 pub mod Certified

@@ -1,5 +1,5 @@
 -- The words of a space are spelled by its objects and their links.
-use Rattle.std.proofs.Common.{◌≡◌, ℕ, suc, zero, ◌+◌, ◌<◌, ◌≤◌, cond, ◌==◌, List, [], ◌∷◌, ◌++◌, length, get_or, drop, Some, None, Ok, refl, sym, ◌∙◌, ap, subst, inl, inr, arith, length-append, length-take, length-drop}
+use Rattle.std.proofs.Common.{◌≡◌, ℕ, suc, zero, ◌+◌, ◌≤◌, cond, ◌==◌, List, [], ◌∷◌, ◌++◌, length, get_or, drop, Some, None, Ok, refl, sym, ◌∙◌, ap, subst, inl, inr, arith, length-append}
 use Rattle.std.specs.Prelude.{IsOk, slice_index}
 use Rattle.std.proofs.lemmas.Bool.{eqb-true, cases_Bool}
 use Rattle.std.proofs.lemmas.List.{take_at, drop_at, drop-drop, drop_more, take-append-drop, get_or-append-add}
@@ -9,20 +9,11 @@ use Rattle.gc_words.specs.Spelling.{block_words, spelled_from, spelled, no_links
 use Rattle.gc_words.specs.Space.{SpaceWords, IsSpace, without_links}
 use Rattle.gc_words.specs.declared.header.Header.{Header}
 use Rattle.gc_words.proofs.Walks.{Walked, First, first, fields_in, object_result, read_back, written_back}
-use Rattle.gc_words.proofs.Starts.{walked_blocks}
+use Rattle.gc_words.proofs.Starts.{whole_first, walked_blocks}
 use Rattle.gc_words.proofs.Steps.{passed}
 use Rattle.gc_words.proofs.Writes.{space_of}
 
 -- ---- what is walked is laid out
-
-block_of_first : (h : Header) (w : ℕ) (ws : List ℕ) → read_header w ≡ Some h → h.len + 1 ≤ length ws → IsBlock (record { header = h; fields = fields_in h ws })
-block_of_first h w ws is room =
-    let known : (h.kind < 256) × (h.len < 65536) × (header_word h ≡ w) = written_back w h is in
-    record {
-      kind = known.0;
-      len = known.1;
-      fields = omega (arith, length-take h.len (drop 1 ws), length-drop 1 ws);
-    }
 
 pub laid_out : (ws : List ℕ) (inside at : ℕ) (bs : List (ℕ × Block)) → inside ≤ length ws → Walked inside at ws bs → LaidOut (at + inside) bs
 laid_out [] zero at [] room w = tt
@@ -36,7 +27,7 @@ laid_out (v ∷ ws) zero at bs room w =
     let here : at ≡ at + 0 = omega arith in
     let behind : suc at + (f.0.len + 1) ≡ at + 0 + (f.0.len + 2) = omega arith in
     subst (LaidOut (at + 0)) (sym f.5)
-    (here, block_of_first f.0 v ws f.1 f.2, subst (λ n. LaidOut n f.3) behind (laid_out ws (f.0.len + 1) (suc at) f.3 f.2 f.4))
+    (here, whole_first f.0 v ws f.1 f.2, subst (λ n. LaidOut n f.3) behind (laid_out ws (f.0.len + 1) (suc at) f.3 f.2 f.4))
 
 -- ---- what is laid out is walked
 

@@ -1,11 +1,13 @@
 -- Where the objects of a walk stand among the words.
-use Rattle.std.proofs.Common.{◌≡◌, ℕ, suc, zero, ◌+◌, ◌≤◌, true, false, cond, ◌==◌, List, [], ◌∷◌, length, get_or, take, drop, Some, None, Result, Ok, Err, refl, sym, ◌∙◌, ap, subst, inl, inr, arith}
+use Rattle.std.proofs.Common.{◌≡◌, ℕ, suc, zero, ◌+◌, ◌<◌, ◌≤◌, true, false, cond, ◌==◌, List, [], ◌∷◌, length, get_or, take, drop, Some, None, Result, Ok, Err, refl, sym, ◌∙◌, ap, subst, inl, inr, arith, length-take, length-drop}
 use Rattle.std.specs.Prelude.{slice_index, IsOk}
 use Rattle.std.proofs.lemmas.Bool.{eqb-true, cases_Bool}
-use Rattle.gc_words.specs.Word.{read_header}
+use Rattle.gc_words.specs.Word.{header_word, read_header}
 use Rattle.gc_words.specs.Image.{Block, walk_words, ok_or_nil, blocks, block_in, block_at}
+use Rattle.gc_words.specs.Spelling.{IsBlock}
 use Rattle.gc_words.specs.Walking.{StandsIn}
-use Rattle.gc_words.proofs.Walks.{Walked, First, first, fields_in}
+use Rattle.gc_words.specs.declared.header.Header.{Header}
+use Rattle.gc_words.proofs.Walks.{Walked, First, first, fields_in, written_back}
 
 -- the block stands at place a, where the words begin at place `at`
 pub record StandsAt (ws : List ℕ) (at a : ℕ) (b : Block) : Type 0 where
@@ -14,6 +16,16 @@ pub record StandsAt (ws : List ℕ) (at a : ℕ) (b : Block) : Type 0 where
   pub fits : offset + (b.header.len + 2) ≤ length ws
   pub header : read_header (get_or ws offset 0) ≡ Some b.header
   pub fields : b.fields ≡ take b.header.len (drop (offset + 2) ws)
+  pub whole : IsBlock b
+
+pub whole_first : (h : Header) (w : ℕ) (ws : List ℕ) → read_header w ≡ Some h → h.len + 1 ≤ length ws → IsBlock (record { header = h; fields = fields_in h ws })
+whole_first h w ws is room =
+    let known : (h.kind < 256) × (h.len < 65536) × (header_word h ≡ w) = written_back w h is in
+    record {
+      kind = known.0;
+      len = known.1;
+      fields = omega (arith, length-take h.len (drop 1 ws), length-drop 1 ws);
+    }
 
 later : (w : ℕ) (ws : List ℕ) (at a : ℕ) (b : Block) → StandsAt ws (suc at) a b → StandsAt (w ∷ ws) at a b
 later w ws at a b s = record {
@@ -22,6 +34,7 @@ later w ws at a b s = record {
   fits = let f : s.offset + (b.header.len + 2) ≤ length ws = s.fits in omega arith;
   header = s.header;
   fields = (let e : suc (s.offset + 2) ≡ suc s.offset + 2 = omega arith in s.fields ∙ ap (λ n. take b.header.len (drop n (w ∷ ws))) e);
+  whole = s.whole;
 }
 
 pub stands : (ws : List ℕ) (inside at : ℕ) (bs : List (ℕ × Block)) (a : ℕ) (b : Block) → Walked inside at ws bs → block_in bs a ≡ Some b → StandsAt ws at a b
@@ -41,6 +54,7 @@ stands (v ∷ ws) zero at bs a b w e =
             fits = (let r : f.0.len + 1 ≤ length ws = f.2 in omega arith);
             header = f.1;
             fields = refl;
+            whole = whole_first f.0 v ws f.1 f.2;
           }))
       | inr other ↦ later v ws at a b (stands ws (f.0.len + 1) (suc at) f.3 a b f.4 (sym (ap (λ t. cond t (Some here) (block_in f.3 a)) other) ∙ found))
     ]
@@ -64,4 +78,5 @@ stands_in (v ∷ ws) a b ok e =
       fits = let f : s.offset + (b.header.len + 2) ≤ length ws = s.fits in omega arith;
       header = ap (λ n. read_header (slice_index (v ∷ ws) n)) at ∙ s.header;
       fields = (let e : suc (s.offset + 2) ≡ a + 2 = omega arith in s.fields ∙ ap (λ n. take b.header.len (drop n (v ∷ ws))) e);
+      whole = s.whole;
     }

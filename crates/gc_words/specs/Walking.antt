@@ -2,6 +2,7 @@
 use Rattle.std.specs.Prelude.{◌≡◌, ℕ, ◌+◌, ◌-◌, ◌≤◌, nat_le, if◌then◌else◌, List, length, take, drop, slice_index, Option, Some, None, Result}
 use Rattle.gc_words.specs.Word.{read_header}
 use Rattle.gc_words.specs.Image.{Block, walk}
+use Rattle.gc_words.specs.Spelling.{IsBlock}
 use Rattle.gc_words.specs.declared.header.Header.{Header}
 
 abbrev pub next_after : ℕ → Option Header → ℕ → Option ℕ
@@ -22,3 +23,4 @@ pub record StandsIn (words : List ℕ) (place : ℕ) (b : Block) : Type 0 where
   pub fits : place + (b.header.len + 2) ≤ length words
   pub header : read_header (slice_index words place) ≡ Some b.header
   pub fields : b.fields ≡ take b.header.len (drop (place + 2) words)
+  pub whole : IsBlock b

@@ -27,7 +27,7 @@ impl Model for Space {
 
 impl Space {
     ghost use Rattle.std.specs.Prelude.{◌≡◌, ◌<◌, ◌≤◌, ◌+◌, ◌∷◌, ◌++◌, [], ◌↔◌, Some, IsTrue, IsSome, IfOk};
-    ghost use Rattle.gc_words.specs.Image.{blocks, is_start, header_at, field_at, set_block, fresh_block};
+    ghost use Rattle.gc_words.specs.Image.{blocks, block_at, is_start, header_at, field_at, set_block, fresh_block};
     ghost use Rattle.gc_words.specs.Spelling.{link_at};
     ghost use Rattle.gc_words.specs.Space.{IsSpace, empty_space, end_of, free_in, with_object, with_word, without_links, link_place, field_place};
 
@@ -97,6 +97,7 @@ impl Space {
         ensures at { result.0 ≡ end_of self.old }
         ensures words { self.new ≡ with_object self.old header }
         ensures objects { blocks self.new.words ≡ blocks self.old.words ++ (end_of self.old, fresh_block header) ∷ [] }
+        ensures object { block_at self.new.words (end_of self.old) ≡ Some (fresh_block header) }
         ensures shaped { IsSpace self.new }
     {
         let start = self.words.len();
@@ -128,6 +129,7 @@ impl Space {
         requires { IsSome (field_at self.old.words at.0 i) }
         ensures words { self.new ≡ with_word self.old (field_place at.0 i) word }
         ensures objects { blocks self.new.words ≡ set_block (blocks self.old.words) at.0 i word }
+        ensures field { field_at self.new.words at.0 i ≡ Some word }
         ensures shaped { IsSpace self.new }
     {
         self.words[field_index(at, i)] = word;

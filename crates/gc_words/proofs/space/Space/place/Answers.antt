@@ -21,3 +21,6 @@ returns-clause-objects c = (made c).objects
 
 pub returns-clause-shaped : goal.returns-clause-shaped
 returns-clause-shaped c = (made c).space
+
+pub returns-clause-object : goal.returns-clause-object
+returns-clause-object c = (made c).object

@@ -1,0 +1,123 @@
+-- The graph of a space's words, and what writes do to it.
+use Rattle.std.proofs.Common.{◌≡◌, ℕ, suc, zero, ◌+◌, ◌*◌, ◌/◌, ◌%◌, ◌<◌, ◌≤◌, Bool, true, false, cond, ◌||◌, ◌==◌, List, [], ◌∷◌, ◌++◌, map, replicate, Some, None, refl, sym, ◌∙◌, ap, subst, inl, inr, arith}
+use Rattle.std.specs.Prelude.{nat_lt, slice_get, slice_index, slice_set, IsSome, ◌⊎◌}
+use Rattle.std.specs.Option.{option_map}
+use Rattle.std.proofs.lemmas.Bool.{eqb-true, eqb-false, eq-eqb, ne_eqb, ltb-true, lt-ltb, cases_Bool, or_cases}
+use Rattle.std.proofs.lemmas.List.{map-append, map-set}
+use Rattle.gc_graph.specs.Graph.{Value, Nil, Num, Ref, Object, Graph, lookup, new_object, add_object, set_field, set_root, field_of, value_or_nil}
+use Rattle.gc_words.specs.Word.{value_of, is_value, read_value, word_of, HasAddress, field_value}
+use Rattle.gc_words.specs.Image.{Block, fresh_block, blocks, block_in, block_at, field_at, field_in, is_start, object_of_block, object_entry, objects_of, graph_of}
+use Rattle.gc_words.specs.Space.{SpaceWords, IsSpace, end_of, free_in, with_object, with_word, without_links, image_with, field_place, link_place}
+use Rattle.gc_words.specs.declared.header.Header.{Header}
+use Rattle.gc_words.proofs.Walks.{objects_set}
+use Rattle.gc_words.proofs.Writes.{placed, field_written, link_written}
+use Rattle.gc_words.proofs.Spelled.{cleared}
+
+-- ---- words are read back
+
+pub value_read_back : (v : Value) → HasAddress v → read_value (word_of v) ≡ Some v
+value_read_back Nil h = refl
+value_read_back (Num n) h =
+    let odd : ((2 * n + 1) % 2 == 1) ≡ true = eq-eqb _ _ (omega arith) in
+    let some : (2 * n + 1 == 0) ≡ false = ne_eqb _ _ (λ e. omega arith) in
+    let half : (2 * n + 1) / 2 ≡ n = omega arith in
+    ap (λ b. cond (b || nat_lt (2 * n + 1) 2097152) (Some (cond (2 * n + 1 == 0) Nil (cond b (Num ((2 * n + 1) / 2)) (Ref ((2 * n + 1) / 2))))) None) odd
+    ∙ ap (λ b. Some (cond b Nil (Num ((2 * n + 1) / 2)))) some ∙ ap (λ m. Some (Num m)) half
+value_read_back (Ref a) h =
+    let even : ((2 * a) % 2 == 1) ≡ false = ne_eqb _ _ (λ e. omega arith) in
+    let some : (2 * a == 0) ≡ false = ne_eqb _ _ (λ e. omega arith) in
+    let low : nat_lt (2 * a) 2097152 ≡ true = lt-ltb _ _ (omega arith) in
+    let half : (2 * a) / 2 ≡ a = omega arith in
+    ap (λ b. cond (b || nat_lt (2 * a) 2097152) (Some (cond (2 * a == 0) Nil (cond b (Num ((2 * a) / 2)) (Ref ((2 * a) / 2))))) None) even
+    ∙ ap (λ b. cond b (Some (cond (2 * a == 0) Nil (Ref ((2 * a) / 2)))) None) low
+    ∙ ap (λ b. Some (cond b Nil (Ref ((2 * a) / 2)))) some ∙ ap (λ m. Some (Ref m)) half
+
+-- a word that is a value is the word of what it means
+abbrev pub IsWordOf : ℕ → Value → Type 0
+IsWordOf w v = (word_of v ≡ w) × HasAddress v
+
+meant : (w : ℕ) → is_value w ≡ true → IsWordOf w (value_of w)
+meant w is =
+    elim (cases_Bool (w == 0)) [
+      | inl nil ↦ subst (IsWordOf w) (sym (ap (λ b. cond b Nil (cond (w % 2 == 1) (Num (w / 2)) (Ref (w / 2)))) nil)) (sym (eqb-true w 0 nil), tt)
+      | inr some ↦ subst (IsWordOf w) (sym (ap (λ b. cond b Nil (cond (w % 2 == 1) (Num (w / 2)) (Ref (w / 2)))) some)) (by_parity (cases_Bool (w % 2 == 1)) (eqb-false w 0 some))
+    ]
+  where
+    by_parity : ((w % 2 == 1) ≡ true) ⊎ ((w % 2 == 1) ≡ false) → (w ≡ 0 → ⊥) → IsWordOf w (cond (w % 2 == 1) (Num (w / 2)) (Ref (w / 2)))
+    by_parity (inl odd) some =
+        let one : w % 2 ≡ 1 = eqb-true _ _ odd in
+        subst (IsWordOf w) (sym (ap (λ b. cond b (Num (w / 2)) (Ref (w / 2))) odd)) (omega arith, tt)
+    by_parity (inr even) some =
+        let not_one : w % 2 ≡ 1 → ⊥ = eqb-false _ _ even in
+        let low : nat_lt w 2097152 ≡ true = elim (or_cases (w % 2 == 1) (nat_lt w 2097152) is) [ inl odd ↦ absurd (not_one (eqb-true _ _ odd)) | inr low ↦ low ] in
+        let less : w < 2097152 = ltb-true _ _ low in
+        subst (IsWordOf w) (sym (ap (λ b. cond b (Num (w / 2)) (Ref (w / 2))) even)) (omega arith, (omega arith, omega arith))
+
+pub word_read_back : (w : ℕ) (v : Value) → read_value w ≡ Some v → IsWordOf w v
+word_read_back w v e = from (is_value w) refl e
+  where
+    from : (b : Bool) → is_value w ≡ b → cond b (Some (value_of w)) None ≡ Some v → IsWordOf w v
+    from true is e = (let same : value_of w ≡ v = cc in subst (IsWordOf w) same (meant w is))
+    from false is e = absurd (let no : None ≡ Some v = e in cc)
+
+-- ---- what a graph finds
+
+pub object_in : (bs : List (ℕ × Block)) (a : ℕ) → lookup (map object_entry bs) a ≡ option_map object_of_block (block_in bs a)
+object_in [] a = refl
+object_in (entry ∷ bs) a =
+    elim (entry.0 == a) as (λ b. cond b (Some (object_of_block entry.1)) (lookup (map object_entry bs) a) ≡ option_map object_of_block (cond b (Some entry.1) (block_in bs a))) [
+      | true ↦ refl
+      | false ↦ object_in bs a
+    ]
+
+pub object_found : (words : List ℕ) (a : ℕ) → lookup (objects_of words) a ≡ option_map object_of_block (block_at words a)
+object_found words a = object_in (blocks words) a
+
+field_of_block : (h : Header) (words : List ℕ) (i : ℕ) → slice_get (map (field_value h) words) i ≡ option_map (field_value h) (slice_get words i)
+field_of_block h [] i = refl
+field_of_block h (w ∷ words) zero = refl
+field_of_block h (w ∷ words) (suc i) = field_of_block h words i
+
+pub field_found : (words : List ℕ) (a i : ℕ) (b : Block) → block_at words a ≡ Some b → field_of (lookup (objects_of words) a) i ≡ option_map (field_value b.header) (field_at words a i)
+field_found words a i b e =
+    ap (λ o. field_of o i) (object_found words a ∙ ap (option_map object_of_block) e)
+    ∙ field_of_block b.header b.fields i
+    ∙ sym (ap (λ o. option_map (field_value b.header) (field_in o i)) e)
+
+pub root_value : (roots : List ℕ) (place : ℕ) → value_or_nil (slice_get (map value_of roots) place) ≡ value_of (slice_index roots place)
+root_value [] place = refl
+root_value (w ∷ roots) zero = refl
+root_value (w ∷ roots) (suc place) = root_value roots place
+
+-- ---- writes
+
+-- a new object's fields are all nil
+fresh_object : (h : Header) → object_of_block (fresh_block h) ≡ new_object h.kind h.len
+fresh_object h = ap (λ fs. record { kind = h.kind; fields = fs }) (nils h.len)
+  where
+    nils : (n : ℕ) → map (field_value h) (replicate n 0) ≡ replicate n Nil
+    nils zero = refl
+    nils (suc n) = ap (λ vs. Nil ∷ vs) (nils n)
+
+graph_with : (roots : List ℕ) (os qs : List (ℕ × Object)) → os ≡ qs → ◌≡◌ {A = Graph} (record { objects = os; roots = map value_of roots }) (record { objects = qs; roots = map value_of roots })
+graph_with roots os qs e = ap (λ os. record { objects = os; roots = map value_of roots }) e
+
+pub graph_placed : (s : SpaceWords) (h : Header) (roots : List ℕ) → IsSpace s → h.kind < 256 → h.len < 65536 → h.len + 2 ≤ free_in s
+    → graph_of (image_with (with_object s h) roots) ≡ add_object (graph_of (image_with s roots)) (end_of s) (new_object h.kind h.len)
+graph_placed s h roots space kind len room =
+    graph_with roots _ _ (ap (map object_entry) (placed s h space kind len room).1 ∙ map-append object_entry (blocks s.words) ((end_of s, fresh_block h) ∷ [])
+    ∙ ap (λ o. objects_of s.words ++ (end_of s, o) ∷ []) (fresh_object h))
+
+pub graph_field : (s : SpaceWords) (a i w : ℕ) (b : Block) (roots : List ℕ) → IsSpace s → IsSome (field_at s.words a i) → block_at s.words a ≡ Some b
+    → graph_of (image_with (with_word s (field_place a i) w) roots) ≡ record (graph_of (image_with s roots)) { objects = set_field (objects_of s.words) a i (field_value b.header w) }
+graph_field s a i w b roots space some found =
+    graph_with roots _ _ (ap (map object_entry) (field_written s a i w space some).1 ∙ objects_set (blocks s.words) a i w b found)
+
+pub graph_link : (s : SpaceWords) (a w : ℕ) (roots : List ℕ) → IsSpace s → is_start s.words a ≡ true → graph_of (image_with (with_word s (link_place a) w) roots) ≡ graph_of (image_with s roots)
+graph_link s a w roots space start = graph_with roots _ _ (ap (map object_entry) (link_written s a w space start).1)
+
+pub graph_cleared : (s : SpaceWords) (roots : List ℕ) → IsSpace s → graph_of (image_with (without_links s) roots) ≡ graph_of (image_with s roots)
+graph_cleared s roots space = graph_with roots _ _ (ap (map object_entry) (cleared s space).1)
+
+pub graph_root : (s : SpaceWords) (place w : ℕ) (roots : List ℕ) → graph_of (image_with s (slice_set roots place w)) ≡ set_root (graph_of (image_with s roots)) place (value_of w)
+graph_root s place w roots = ap (λ vs. record { objects = objects_of s.words; roots = vs }) (map-set value_of roots place w)

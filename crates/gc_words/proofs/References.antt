@@ -1,0 +1,246 @@
+-- Images in which every reference is to a start.
+use Rattle.std.proofs.Common.{◌≡◌, ℕ, suc, zero, ◌+◌, ◌*◌, ◌<◌, ◌≤◌, Bool, true, false, cond, ◌==◌, List, [], ◌∷◌, ◌++◌, map, length, replicate, Some, None, is_some, refl, sym, ◌∙◌, ap, subst, arith}
+use Rattle.std.specs.Prelude.{slice_get, slice_set, IsOk, IsSome}
+use Rattle.std.specs.List.{All, AllByRecursion, flat_map}
+use Rattle.std.proofs.lemmas.Bool.{eq-eqb, ne_eqb}
+use Rattle.std.proofs.lemmas.List.Elements.{All-nil, All-cons, All-head, All-tail, All-replicate, All-append, All-set, All-push, All-weaker, All-map, All-from_recursion}
+use Rattle.std.proofs.lemmas.List.Folds.{list_any_none}
+use Rattle.gc_graph.specs.Graph.{Value, Nil, Num, Ref, Object, Graph, names_of, names_in, IsUnused}
+use Rattle.gc_words.specs.Word.{value_of, is_value, read_value, word_of, field_value, read_header}
+use Rattle.gc_words.specs.Image.{Block, fresh_block, walk_words, blocks, block_in, block_at, field_in, field_at, is_start, with_field_word, set_block, object_of_block, object_entry, objects_of, graph_of}
+use Rattle.gc_words.specs.Space.{SpaceWords, IsSpace, empty_space, end_of, free_in, with_object, with_word, image_with, field_place}
+use Rattle.gc_words.specs.Closed.{RefersToStart, IsRootWord, IsFieldWord, HasFieldWords, IsClosed}
+use Rattle.gc_words.specs.Walking.{StandsIn}
+use Rattle.gc_words.specs.declared.header.Header.{Header}
+use Rattle.gc_words.proofs.Walks.{Walked, First, first}
+use Rattle.gc_words.proofs.Starts.{walked_blocks, stands_in}
+use Rattle.gc_words.proofs.Writes.{some_of, placed, field_written}
+use Rattle.gc_words.proofs.Graphs.{value_read_back}
+
+-- ---- starts are below the end
+
+starts_below : (ws : List ℕ) (inside at : ℕ) (bs : List (ℕ × Block)) → Walked inside at ws bs → AllByRecursion (λ entry. entry.0 < at + length ws) bs
+starts_below [] inside at [] e = tt
+starts_below [] inside at (b ∷ bs) e = cc
+starts_below (w ∷ ws) (suc inside) at bs e =
+    let same : suc at + length ws ≡ at + suc (length ws) = omega arith in
+    subst (λ n. AllByRecursion (λ entry. entry.0 < n) bs) same (starts_below ws inside (suc at) bs e)
+starts_below (w ∷ ws) zero at bs e =
+    let f : First at ws bs (read_header w) = first at w ws bs e in
+    let same : suc at + length ws ≡ at + suc (length ws) = omega arith in
+    subst (AllByRecursion (λ entry. entry.0 < at + suc (length ws))) (sym f.5)
+    (omega arith, subst (λ n. AllByRecursion (λ entry. entry.0 < n) f.3) same (starts_below ws (f.0.len + 1) (suc at) f.3 f.4))
+
+starts_in_space : (s : SpaceWords) → IsSpace s → All (λ entry. entry.0 < end_of s) (blocks s.words)
+starts_in_space s space = in_words s.words space.walked space.end_low
+  where
+    in_words : (words : List ℕ) → IsOk (walk_words words) → 1 ≤ length words → All (λ entry. entry.0 < length words) (blocks words)
+    in_words [] ok low = absurd (omega arith)
+    in_words (w ∷ ws) ok low =
+        let same : 1 + length ws ≡ suc (length ws) = omega arith in
+        All-from_recursion (λ entry. entry.0 < suc (length ws)) (blocks (w ∷ ws)) (subst (λ n. AllByRecursion (λ entry. entry.0 < n) (blocks (w ∷ ws))) same (starts_below ws 0 1 (blocks (w ∷ ws)) (walked_blocks (w ∷ ws) ok)))
+
+-- ---- the end is no name that occurs
+
+All-flat_map : {X Y : Type 0} (P : Y → Type 0) (f : X → List Y) (xs : List X) → All (λ x. All P (f x)) xs → All P (flat_map f xs)
+All-flat_map P f [] all = All-nil P
+All-flat_map P f (x ∷ xs) all = All-append P (f x) (flat_map f xs) (All-head (λ x. All P (f x)) x xs all) (All-flat_map P f xs (All-tail (λ x. All P (f x)) x xs all))
+
+start_below : (s : SpaceWords) → IsSpace s → (a : ℕ) → is_start s.words a ≡ true → a < end_of s
+start_below s space a start =
+    let b : (b : Block) × (block_at s.words a ≡ Some b) = some_of (block_at s.words a) start in
+    let stands : StandsIn s.words a b.0 = stands_in s.words a b.0 space.walked b.1 in
+    let fits : a + (b.0.header.len + 2) ≤ length s.words = stands.fits in omega arith
+
+module _ (s : SpaceWords) (space : IsSpace s) where
+  abbrev Below : ℕ → Type 0
+  Below n = n < end_of s
+
+  names_below : (v : Value) → RefersToStart s.words v → All Below (names_of v)
+  names_below Nil r = All-nil Below
+  names_below (Num n) r = All-nil Below
+  names_below (Ref a) r = All-cons Below a [] (start_below s space a r) (All-nil Below)
+
+  root_names : (w : ℕ) → IsRootWord s.words w → All Below (names_of (value_of w))
+  root_names w is = names_below (value_of w) is.start
+
+  field_names : (h : Header) (w : ℕ) → IsFieldWord s.words h w → All Below (names_of (field_value h w))
+  field_names h w is = root_names w is
+
+  block_names : (b : Block) → HasFieldWords s.words b → All Below (flat_map names_of (object_of_block b).fields)
+  block_names b has = All-flat_map Below names_of (map (field_value b.header) b.fields)
+      (All-map (λ v. All Below (names_of v)) (field_value b.header) b.fields (All-weaker (IsFieldWord s.words b.header) (λ w. All Below (names_of (field_value b.header w))) (field_names b.header) b.fields has))
+
+  abbrev graph_with : List ℕ → Graph
+  graph_with roots = graph_of (image_with s roots)
+
+  all_names : (roots : List ℕ) → IsClosed s.words roots → All Below (names_in (graph_with roots))
+  all_names roots closed =
+      let objects : List (ℕ × Object) = objects_of s.words in
+      All-append Below (map (λ entry. entry.0) objects ++ flat_map (λ entry. flat_map names_of entry.1.fields) objects) (flat_map names_of (map value_of roots))
+      (All-append Below (map (λ entry. entry.0) objects) (flat_map (λ entry. flat_map names_of entry.1.fields) objects)
+      (All-map Below (λ entry. entry.0) objects (All-map (λ entry. Below entry.0) object_entry (blocks s.words) (starts_in_space s space)))
+      (All-flat_map Below (λ entry. flat_map names_of entry.1.fields) objects
+      (All-map (λ entry. All Below (flat_map names_of entry.1.fields)) object_entry (blocks s.words)
+      (All-weaker (λ entry. HasFieldWords s.words entry.1) (λ entry. All Below (flat_map names_of (object_of_block entry.1).fields)) (λ entry has. block_names entry.1 has) (blocks s.words) closed.fields))))
+      (All-flat_map Below names_of (map value_of roots) (All-map (λ v. All Below (names_of v)) value_of roots (All-weaker (IsRootWord s.words) (λ w. All Below (names_of (value_of w))) root_names roots closed.roots)))
+
+  pub end_unused : (roots : List ℕ) → IsClosed s.words roots → IsUnused (graph_with roots) (end_of s)
+  end_unused roots closed =
+      list_any_none (λ other. other == end_of s) (names_in (graph_with roots))
+      (All-weaker Below (λ other. (other == end_of s) ≡ false) (λ other less. ne_eqb other (end_of s) (λ same. omega arith)) (names_in (graph_with roots)) (all_names roots closed))
+
+-- ---- words that stay what they are while starts stay
+
+abbrev pub KeepsStarts : List ℕ → List ℕ → Type 0
+KeepsStarts words others = (a : ℕ) → is_start words a ≡ true → is_start others a ≡ true
+
+kept_reference : (words others : List ℕ) → KeepsStarts words others → (v : Value) → RefersToStart words v → RefersToStart others v
+kept_reference words others keeps Nil r = tt
+kept_reference words others keeps (Num n) r = tt
+kept_reference words others keeps (Ref a) r = keeps a r
+
+kept_root : (words others : List ℕ) → KeepsStarts words others → (w : ℕ) → IsRootWord words w → IsRootWord others w
+kept_root words others keeps w is = record { value = is.value; start = kept_reference words others keeps (value_of w) is.start }
+
+kept_field : (words others : List ℕ) → KeepsStarts words others → (h : Header) (w : ℕ) → IsFieldWord words h w → IsFieldWord others h w
+kept_field words others keeps h w is = kept_root words others keeps w is
+
+kept_block : (words others : List ℕ) → KeepsStarts words others → (b : Block) → HasFieldWords words b → HasFieldWords others b
+kept_block words others keeps b has = All-weaker (IsFieldWord words b.header) (IsFieldWord others b.header) (kept_field words others keeps b.header) b.fields has
+
+abbrev pub Has : List ℕ → ℕ × Block → Type 0
+Has words entry = HasFieldWords words entry.1
+
+kept_blocks : (words others : List ℕ) → KeepsStarts words others → (bs : List (ℕ × Block)) → All (Has words) bs → All (Has others) bs
+kept_blocks words others keeps bs all = All-weaker (Has words) (Has others) (λ entry has. kept_block words others keeps entry.1 has) bs all
+
+kept_roots : (words others roots : List ℕ) → KeepsStarts words others → All (IsRootWord words) roots → All (IsRootWord others) roots
+kept_roots words others roots keeps all = All-weaker (IsRootWord words) (IsRootWord others) (kept_root words others keeps) roots all
+
+-- ---- an object placed
+
+start_push : (bs : List (ℕ × Block)) (x : ℕ × Block) (a : ℕ) → is_some (block_in bs a) ≡ true → is_some (block_in (bs ++ x ∷ []) a) ≡ true
+start_push [] x a e = absurd (let no : false ≡ true = e in cc)
+start_push (entry ∷ bs) x a e =
+    elim (entry.0 == a) as (λ t. is_some (cond t (Some entry.1) (block_in bs a)) ≡ true → is_some (cond t (Some entry.1) (block_in (bs ++ x ∷ []) a)) ≡ true) [
+      | true ↦ λ e. refl
+      | false ↦ λ e. start_push bs x a e
+    ] e
+
+start_last : (bs : List (ℕ × Block)) (a : ℕ) (b : Block) → is_some (block_in (bs ++ (a, b) ∷ []) a) ≡ true
+start_last [] a b = ap (λ t. is_some (cond t (Some b) None)) (eq-eqb a a refl)
+start_last (entry ∷ bs) a b =
+    elim (entry.0 == a) as (λ t. is_some (cond t (Some entry.1) (block_in (bs ++ (a, b) ∷ []) a)) ≡ true) [
+      | true ↦ refl
+      | false ↦ start_last bs a b
+    ]
+
+-- an object all of whose field words are 0
+fresh_has : (words : List ℕ) (h : Header) → HasFieldWords words (fresh_block h)
+fresh_has words h = All-replicate (IsFieldWord words h) h.len 0 (record { value = refl; start = tt })
+
+module _ (s : SpaceWords) (h : Header) (space : IsSpace s) (kind : h.kind < 256) (len : h.len < 65536) (room : h.len + 2 ≤ free_in s) where
+  abbrev after : List ℕ
+  after = (with_object s h).words
+
+  objects_after : blocks after ≡ blocks s.words ++ (end_of s, fresh_block h) ∷ []
+  objects_after = (placed s h space kind len room).1
+
+  keeps_placed : KeepsStarts s.words after
+  keeps_placed a start = ap (λ bs. is_some (block_in bs a)) objects_after ∙ start_push (blocks s.words) (end_of s, fresh_block h) a start
+
+  pub closed_placed : (roots : List ℕ) → IsClosed s.words roots → IsClosed after roots
+  closed_placed roots closed = record {
+    fields = subst (All (Has after)) (sym objects_after) (All-push (Has after) (blocks s.words) (end_of s, fresh_block h) (kept_blocks s.words after keeps_placed (blocks s.words) closed.fields) (fresh_has after h));
+    roots = kept_roots s.words after roots keeps_placed closed.roots;
+  }
+
+  read_some : (w : ℕ) (v : Value) → read_value w ≡ Some v → (is_value w ≡ true) × (v ≡ value_of w)
+  read_some w v e = from (is_value w) refl e
+    where
+      from : (b : Bool) → is_value w ≡ b → cond b (Some (value_of w)) None ≡ Some v → (is_value w ≡ true) × (v ≡ value_of w)
+      from true is e = (is, (let same : value_of w ≡ v = cc in sym same))
+      from false is e = absurd (let no : None ≡ Some v = e in cc)
+
+  pub placed_reference : IsRootWord after (word_of (Ref (end_of s)))
+  placed_reference =
+      let low : 1 ≤ length s.words = space.end_low in
+      let high : s.size ≤ 1048576 = space.size_high in
+      let read : (is_value (2 * end_of s) ≡ true) × (Ref (end_of s) ≡ value_of (2 * end_of s)) = read_some (2 * end_of s) (Ref (end_of s)) (value_read_back (Ref (end_of s)) (low, omega arith)) in
+      record {
+        value = read.0;
+        start = subst (RefersToStart after) read.1 (ap (λ bs. is_some (block_in bs (end_of s))) objects_after ∙ start_last (blocks s.words) (end_of s) (fresh_block h));
+      }
+
+-- ---- a field written
+
+start_set : (bs : List (ℕ × Block)) (a i w x : ℕ) → is_some (block_in (set_block bs a i w) x) ≡ is_some (block_in bs x)
+start_set [] a i w x = refl
+start_set (entry ∷ bs) a i w x =
+    elim (entry.0 == a) as (λ t. is_some (block_in (cond t ((entry.0, with_field_word entry.1 i w) ∷ bs) (entry ∷ set_block bs a i w)) x) ≡ is_some (cond (entry.0 == x) (Some entry.1) (block_in bs x))) [
+      | true ↦ elim (entry.0 == x) as (λ t. is_some (cond t (Some (with_field_word entry.1 i w)) (block_in bs x)) ≡ is_some (cond t (Some entry.1) (block_in bs x))) [ true ↦ refl | false ↦ refl ]
+      | false ↦ elim (entry.0 == x) as (λ t. is_some (cond t (Some entry.1) (block_in (set_block bs a i w) x)) ≡ is_some (cond t (Some entry.1) (block_in bs x))) [ true ↦ refl | false ↦ start_set bs a i w x ]
+    ]
+
+set_has : (words : List ℕ) (b : Block) (i w : ℕ) → IsFieldWord words b.header w → HasFieldWords words b → HasFieldWords words (with_field_word b i w)
+set_has words b i w is has = All-set (IsFieldWord words b.header) b.fields i w is has
+
+blocks_have : (words : List ℕ) (bs : List (ℕ × Block)) (a i w : ℕ) (b : Block) → block_in bs a ≡ Some b → IsFieldWord words b.header w → All (Has words) bs → All (Has words) (set_block bs a i w)
+blocks_have words [] a i w b e is all = All-nil (Has words)
+blocks_have words (entry ∷ bs) a i w b e is all =
+    elim (entry.0 == a) as (λ t. cond t (Some entry.1) (block_in bs a) ≡ Some b → All (Has words) (cond t ((entry.0, with_field_word entry.1 i w) ∷ bs) (entry ∷ set_block bs a i w))) [
+      | true ↦ λ e. (let same : b ≡ entry.1 = cc in
+          All-cons (Has words) (entry.0, with_field_word entry.1 i w) bs
+          (set_has words entry.1 i w (subst (λ (b : Block). IsFieldWord words b.header w) same is) (All-head (Has words) entry bs all)) (All-tail (Has words) entry bs all))
+      | false ↦ λ e. All-cons (Has words) entry (set_block bs a i w) (All-head (Has words) entry bs all) (blocks_have words bs a i w b e is (All-tail (Has words) entry bs all))
+    ] e
+
+pub closed_field : (s : SpaceWords) (a i w : ℕ) (b : Block) (roots : List ℕ) → IsSpace s → IsSome (field_at s.words a i) → block_at s.words a ≡ Some b → IsFieldWord s.words b.header w
+    → IsClosed s.words roots → IsClosed (with_word s (field_place a i) w).words roots
+closed_field s a i w b roots space some found is closed =
+    let after : List ℕ = slice_set s.words (field_place a i) w in
+    let objects : blocks after ≡ set_block (blocks s.words) a i w = (field_written s a i w space some).1 in
+    let keeps : KeepsStarts s.words after = λ x start. ap (λ bs. is_some (block_in bs x)) objects ∙ start_set (blocks s.words) a i w x ∙ start in
+    record {
+      fields = subst (All (Has after)) (sym objects) (kept_blocks s.words after keeps (set_block (blocks s.words) a i w) (blocks_have s.words (blocks s.words) a i w b found is closed.fields));
+      roots = kept_roots s.words after roots keeps closed.roots;
+    }
+
+-- ---- the same objects, and roots
+
+pub closed_objects : (words others roots : List ℕ) → blocks others ≡ blocks words → IsClosed words roots → IsClosed others roots
+closed_objects words others roots same closed =
+    let keeps : KeepsStarts words others = λ a start. ap (λ bs. is_some (block_in bs a)) same ∙ start in
+    record {
+      fields = subst (All (Has others)) (sym same) (kept_blocks words others keeps (blocks words) closed.fields);
+      roots = kept_roots words others roots keeps closed.roots;
+    }
+
+pub closed_root : (words roots : List ℕ) (place w : ℕ) → IsRootWord words w → IsClosed words roots → IsClosed words (slice_set roots place w)
+closed_root words roots place w is closed = record { fields = closed.fields; roots = All-set (IsRootWord words) roots place w is closed.roots }
+
+pub closed_empty : (size count : ℕ) → IsClosed (empty_space size).words (replicate count 0)
+closed_empty size count = record { fields = All-nil (Has (0 ∷ [])); roots = All-replicate (IsRootWord (0 ∷ [])) count 0 (record { value = refl; start = tt }) }
+
+-- ---- what is read is such a word
+
+found_has : (words : List ℕ) (bs : List (ℕ × Block)) (a : ℕ) (b : Block) → block_in bs a ≡ Some b → All (Has words) bs → HasFieldWords words b
+found_has words [] a b e all = absurd (let no : None ≡ Some b = e in cc)
+found_has words (entry ∷ bs) a b e all =
+    elim (entry.0 == a) as (λ t. cond t (Some entry.1) (block_in bs a) ≡ Some b → HasFieldWords words b) [
+      | true ↦ λ e. (let same : entry.1 ≡ b = cc in subst (HasFieldWords words) same (All-head (Has words) entry bs all))
+      | false ↦ λ e. found_has words bs a b e (All-tail (Has words) entry bs all)
+    ] e
+
+listed : (P : ℕ → Type 0) (ws : List ℕ) (i w : ℕ) → slice_get ws i ≡ Some w → All P ws → P w
+listed P [] i w e all = absurd (let no : None ≡ Some w = e in cc)
+listed P (v ∷ ws) zero w e all = (let same : v ≡ w = cc in subst P same (All-head P v ws all))
+listed P (v ∷ ws) (suc i) w e all = listed P ws i w e (All-tail P v ws all)
+
+pub closed_field_read : (words roots : List ℕ) (a i w : ℕ) (b : Block) → IsClosed words roots → block_at words a ≡ Some b → field_at words a i ≡ Some w → IsFieldWord words b.header w
+closed_field_read words roots a i w b closed found read =
+    listed (IsFieldWord words b.header) b.fields i w (sym (ap (λ o. field_in o i) found) ∙ read) (found_has words (blocks words) a b found closed.fields)
+
+pub closed_root_read : (words roots : List ℕ) (place w : ℕ) → IsClosed words roots → slice_get roots place ≡ Some w → IsRootWord words w
+closed_root_read words roots place w closed read = listed (IsRootWord words) roots place w read closed.roots

@@ -1,0 +1,5 @@
+use Rattle.gc_words.proofs.References.{end_unused}
+use Rattle.gc_words.proofs.laws.end_is_unused.Goals as goal
+
+pub returns : goal.returns
+returns c = λ space roots is closed. end_unused space is roots closed

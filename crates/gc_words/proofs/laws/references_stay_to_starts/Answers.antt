@@ -1,0 +1,14 @@
+use Rattle.gc_words.proofs.References.{closed_empty, closed_placed, placed_reference, closed_field, closed_objects, closed_root, closed_field_read, closed_root_read}
+use Rattle.gc_words.proofs.laws.references_stay_to_starts.Goals as goal
+
+pub returns : goal.returns
+returns c = record {
+  empty = closed_empty;
+  placed = closed_placed;
+  reference = placed_reference;
+  field = closed_field;
+  objects = closed_objects;
+  root = closed_root;
+  field_read = closed_field_read;
+  root_read = closed_root_read;
+}
