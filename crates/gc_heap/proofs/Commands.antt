@@ -1,23 +1,23 @@
 -- Commands on a heap of words, as commands on its graph.
-use Rattle.std.proofs.Common.{◌≡◌, ℕ, suc, zero, ◌+◌, ◌-◌, ◌<◌, ◌≤◌, Bool, true, false, cond, ◌==◌, List, [], ◌∷◌, length, Option, Some, None, is_some, refl, sym, ◌∙◌, ap, subst, inl, inr, ◌⊎◌, arith}
-use Rattle.std.specs.Prelude.{slice_get, slice_index, slice_set, get_or, nat_lt, IsTrue, IsSome}
+use Rattle.std.proofs.Common.{◌≡◌, ℕ, suc, zero, ◌+◌, ◌<◌, ◌≤◌, Bool, true, false, cond, ◌==◌, List, [], ◌∷◌, length, Option, Some, None, is_some, refl, sym, ◌∙◌, ap, subst, inl, inr, arith}
+use Rattle.std.specs.Prelude.{slice_get, slice_index, slice_set, get_or}
 use Rattle.std.specs.Option.{option_map}
-use Rattle.std.proofs.lemmas.Bool.{eqb-true, eqb-false, eq-eqb, ne_eqb, cases_Bool, and_from, and_parts}
+use Rattle.std.proofs.lemmas.Bool.{eqb-true, eq-eqb, cases_Bool, and_from, and_parts}
 use Rattle.gc_graph.specs.Graph.{Value, Nil, Num, Ref, Object, Graph, lookup, object_of, field_of, root, set_root, set_field}
 use Rattle.gc_graph.specs.Machine.{view_of, same, get_field, put_field}
 use Rattle.gc_graph.specs.declared.reply.Reply.{Reply}
 use Rattle.gc_graph.specs.declared.reply.Reply.TheVariants.{Done, NoField, Saw}
 use Rattle.gc_graph.specs.declared.reply.View.{View}
-use Rattle.gc_words.specs.Word.{value_of, word_of, is_value, field_value}
+use Rattle.gc_words.specs.Word.{value_of, word_of, field_value}
 use Rattle.gc_words.specs.Image.{Block, block_at, field_at, is_start, objects_of, object_of_block}
 use Rattle.gc_words.specs.Space.{with_object, with_word, field_place, end_of, free_in}
 use Rattle.gc_words.specs.declared.header.Header.{Header}
 use Rattle.gc_words.specs.Closed.{IsRootWord, IsFieldWord, RefersToStart}
 use Rattle.gc_words.proofs.Graphs.{object_found, field_found, root_value, graph_field, graph_root, word_read_back}
-use Rattle.gc_words.proofs.References.{closed_root_read, closed_field_read, closed_field, closed_root, closed_placed, placed_reference}
+use Rattle.gc_words.proofs.References.{closed_root_read, closed_field, closed_root, closed_placed, placed_reference}
 use Rattle.gc_words.proofs.Writes.{some_of, field_written, placed}
 use Rattle.std.proofs.lemmas.List.{length-set}
-use Rattle.gc_heap.specs.Heap.{HeapWords, IsHeap, graph_in, image_of, name_of}
+use Rattle.gc_heap.specs.Heap.{HeapWords, IsHeap, graph_in, name_of}
 
 -- ---- roots
 
@@ -91,7 +91,7 @@ got h d s a i w view p read seen =
     let taken : graph_in (record h { roots = slice_set h.roots d w }) ≡ set_root (graph_in h) d (value_of w) = graph_root h.space d w h.roots in
     let there : get_field (graph_in h) d (object_of (graph_in h).objects (root (graph_in h) s)) (field_of (object_of (graph_in h).objects (root (graph_in h) s)) i) ≡ (Saw (view_of (graph_in h).objects (value_of w)), set_root (graph_in h) d (value_of w))
     = ap (λ f. get_field (graph_in h) d (object_of (graph_in h).objects (root (graph_in h) s)) f) (field_value_at h s a i p ∙ ap (option_map (field_value p.block.header)) read)
-      ∙ ap (λ o. get_field (graph_in h) d o (Some (value_of w))) p.object in
+    ∙ ap (λ o. get_field (graph_in h) d o (Some (value_of w))) p.object in
     (λ k. (Saw (seen k), taken k)) ∙ sym there
 
 -- ---- put
@@ -111,10 +111,10 @@ put_done h s a i w v heap p some value =
     let written : graph_in (record h { space = with_word h.space (field_place a i) w }) ≡ record (graph_in h) { objects = set_field (objects_of h.space.words) a i (value_of w) }
     = graph_field h.space a i w p.block h.roots heap.space some p.found in
     let there : put_field (graph_in h) (root (graph_in h) s) (object_of (graph_in h).objects (root (graph_in h) s)) (field_of (object_of (graph_in h).objects (root (graph_in h) s)) i) i v
-      ≡ (Done, record (graph_in h) { objects = set_field (objects_of h.space.words) a i v })
+    ≡ (Done, record (graph_in h) { objects = set_field (objects_of h.space.words) a i v })
     = ap (λ f. put_field (graph_in h) (root (graph_in h) s) (object_of (graph_in h).objects (root (graph_in h) s)) f i v) (field_value_at h s a i p ∙ ap (option_map (field_value p.block.header)) before.1)
-      ∙ ap (λ o. put_field (graph_in h) (root (graph_in h) s) o (Some (field_value p.block.header before.0)) i v) p.object
-      ∙ ap (λ r. put_field (graph_in h) r (Some (object_of_block p.block)) (Some (field_value p.block.header before.0)) i v) p.target in
+    ∙ ap (λ o. put_field (graph_in h) (root (graph_in h) s) o (Some (field_value p.block.header before.0)) i v) p.object
+    ∙ ap (λ r. put_field (graph_in h) r (Some (object_of_block p.block)) (Some (field_value p.block.header before.0)) i v) p.target in
     (λ k. (Done, (written ∙ ap (λ x. record (graph_in h) { objects = set_field (objects_of h.space.words) a i x }) (sym value)) k)) ∙ sym there
 
 -- ---- what stays a heap

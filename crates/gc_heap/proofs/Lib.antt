@@ -1,3 +1,4 @@
 pub mod Fields
 pub mod Commands
 pub mod Links
+pub mod Steps

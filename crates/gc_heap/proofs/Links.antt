@@ -1,8 +1,8 @@
 -- What commands leave of links.
-use Rattle.std.proofs.Common.{◌≡◌, ℕ, suc, zero, ◌+◌, ◌-◌, ◌<◌, ◌≤◌, Bool, true, false, cond, ◌==◌, List, [], ◌∷◌, ◌++◌, length, replicate, Option, Some, None, is_some, refl, sym, ◌∙◌, ap, subst, inl, inr, ◌⊎◌, arith}
-use Rattle.std.specs.Prelude.{slice_get, slice_index, slice_set, get_or, ◌≢◌, IsTrue, IsFalse}
+use Rattle.std.proofs.Common.{◌≡◌, ℕ, suc, zero, ◌+◌, ◌<◌, ◌≤◌, true, false, cond, ◌==◌, List, [], ◌∷◌, ◌++◌, length, replicate, Option, Some, None, is_some, refl, sym, ◌∙◌, ap, inl, inr, arith}
+use Rattle.std.specs.Prelude.{slice_get, slice_index, slice_set, ◌≢◌}
 use Rattle.std.proofs.lemmas.Bool.{eqb-true, ne_eqb, cases_Bool, cases_order}
-use Rattle.std.proofs.Math.ListN.{get_or-set_other}
+use Rattle.std.proofs.Common.{get_or-set_other}
 use Rattle.gc_words.specs.Word.{header_word}
 use Rattle.gc_words.specs.Image.{Block, block_in, block_at, blocks, is_start, field_at, field_in, fresh_block}
 use Rattle.gc_words.specs.Spelling.{LaidOut, link_at}
@@ -47,34 +47,35 @@ some_below [] i e = absurd (let no : false ≡ true = e in cc)
 some_below (x ∷ xs) zero e = omega arith
 some_below (x ∷ xs) (suc i) e = (let ih : i < length xs = some_below xs i e in omega arith)
 
-pub links_written : (s : SpaceWords) (a i w : ℕ) → IsSpace s → is_some (field_at s.words a i) ≡ true → KeepsLinks s.words (with_word s (field_place a i) w).words
-links_written s a i w space some = record { kept = kept; fresh = fresh }
-  where
-    abbrev after : List ℕ
-    after = slice_set s.words (field_place a i) w
+module _ (s : SpaceWords) (a i w : ℕ) (space : IsSpace s) (some : is_some (field_at s.words a i) ≡ true) where
+  abbrev after : List ℕ
+  after = slice_set s.words (field_place a i) w
 
-    abbrev laid : LaidOut 1 (blocks s.words)
-    laid = laid_out_words s.words space.walked
+  abbrev laid : LaidOut 1 (blocks s.words)
+  laid = laid_out_words s.words space.walked
 
-    there : (o : Option Block) → is_some (field_in o i) ≡ true → (b : Block) × (o ≡ Some b) × (i < length b.fields)
-    there None e = absurd (let no : false ≡ true = e in cc)
-    there (Some b) e = (b, refl, some_below b.fields i e)
+  there : (o : Option Block) → is_some (field_in o i) ≡ true → (b : Block) × (o ≡ Some b) × (i < length b.fields)
+  there None e = absurd (let no : false ≡ true = e in cc)
+  there (Some b) e = (b, refl, some_below b.fields i e)
 
-    kept : (start : ℕ) → is_start s.words start ≡ true → link_at after start ≡ link_at s.words start
-    kept start e =
-        let b : (b : Block) × (block_at s.words a ≡ Some b) × (i < length b.fields) = there (block_at s.words a) some in
-        let count : length b.0.fields ≡ b.0.header.len = block_length 1 (blocks s.words) a b.0 laid b.1 in
-        let d : (d : Block) × (block_at s.words start ≡ Some d) = some_of (block_at s.words start) e in
-        let ne : start + 1 ≢ a + 2 + i = λ same. elim (cases_order a start) [
-          | inl equal ↦ omega arith
-          | inr (inl less) ↦ (let gap : a + (b.0.header.len + 2) ≤ start = apart 1 (blocks s.words) a start b.0 d.0 laid b.1 d.1 less in omega arith)
-          | inr (inr more) ↦ omega arith
-        ] in
-        get_or-set_other s.words (a + 2 + i) w (start + 1) ne
+  kept : (start : ℕ) → is_start s.words start ≡ true → link_at after start ≡ link_at s.words start
+  kept start e =
+      let b : (b : Block) × (block_at s.words a ≡ Some b) × (i < length b.fields) = there (block_at s.words a) some in
+      let count : length b.0.fields ≡ b.0.header.len = block_length 1 (blocks s.words) a b.0 laid b.1 in
+      let d : (d : Block) × (block_at s.words start ≡ Some d) = some_of (block_at s.words start) e in
+      let ne : start + 1 ≢ a + 2 + i = λ same. elim (cases_order a start) [
+        | inl equal ↦ omega arith
+        | inr (inl less) ↦ (let gap : a + (b.0.header.len + 2) ≤ start = apart 1 (blocks s.words) a start b.0 d.0 laid b.1 d.1 less in omega arith)
+        | inr (inr more) ↦ omega arith
+      ] in
+      get_or-set_other s.words (a + 2 + i) (start + 1) w 0 ne
 
-    fresh : (start : ℕ) → is_start s.words start ≡ false → is_start after start ≡ true → link_at after start ≡ 0
-    fresh start no_start start_after =
-        absurd (let no : true ≡ false = sym start_after ∙ ap (λ bs. is_some (block_in bs start)) (field_written s a i w space some).1 ∙ start_set (blocks s.words) a i w start ∙ no_start in cc)
+  fresh : (start : ℕ) → is_start s.words start ≡ false → is_start after start ≡ true → link_at after start ≡ 0
+  fresh start no_start start_after =
+      absurd (let no : true ≡ false = sym start_after ∙ ap (λ bs. is_some (block_in bs start)) (field_written s a i w space some).1 ∙ start_set (blocks s.words) a i w start ∙ no_start in cc)
+
+  pub links_written : KeepsLinks s.words (with_word s (field_place a i) w).words
+  links_written = record { kept = kept; fresh = fresh }
 
 -- ---- an object placed
 

@@ -1,13 +1,11 @@
 -- A heap as contracts see it: a space with links among its words, roots, and mutators.
-use Rattle.std.specs.Prelude.{◌≡◌, ℕ, ◌+◌, List, length, replicate, IsTrue, IsFalse, Option, Some, None, MatchBool, nat_lt, slice_set}
+use Rattle.std.specs.Prelude.{◌≡◌, ℕ, ◌+◌, List, length, replicate, IsTrue, IsFalse, Option, Some, None, nat_lt, ◌-◌, if◌then◌else◌}
 use Rattle.gc_graph.specs.Slots.{roots_of}
-use Rattle.gc_graph.specs.Graph.{Graph, Value, Nil, Num, Ref}
+use Rattle.gc_graph.specs.Graph.{Graph, Value, Nil, Num, Ref, set_root, add_object, new_object}
 use Rattle.gc_graph.specs.Machine.{Roomy}
 use Rattle.gc_words.specs.Image.{Image, is_start, graph_of, roomy_of}
 use Rattle.gc_words.specs.Spelling.{link_at}
-use Rattle.gc_words.specs.Space.{SpaceWords, IsSpace, empty_space, image_with, with_object, free_in, end_of}
-use Rattle.gc_words.specs.Word.{word_of}
-use Rattle.gc_words.specs.declared.header.Header.{Header}
+use Rattle.gc_words.specs.Space.{SpaceWords, IsSpace, empty_space, image_with, free_in, end_of}
 use Rattle.gc_graph.specs.declared.reply.Reply.{Reply}
 use Rattle.gc_graph.specs.declared.reply.Reply.TheVariants.{Full, Made}
 use Rattle.gc_words.specs.Closed.{IsClosed}
@@ -50,7 +48,6 @@ name_of (Num n) = None
 name_of (Ref a) = Some a
 
 -- A new object in a place of the roots, where it has room.
-abbrev pub Makes : HeapWords → ℕ → Header → Reply → HeapWords → Type 0
-Makes old place h reply new = MatchBool (nat_lt (free_in old.space) (h.len + 2))
-    ((reply ≡ Full) × (new ≡ old))
-    ((reply ≡ Made) × (new ≡ record old { space = with_object old.space h; roots = slice_set old.roots place (word_of (Ref (end_of old.space))) }))
+abbrev pub Makes : HeapWords → ℕ → ℕ → ℕ → Reply → HeapWords → Type 0
+Makes old place kind len reply new = ◌≡◌ {A = Reply × Roomy} (reply, roomy_in new) (if nat_lt (free_in old.space) (len + 2) then (Full, roomy_in old)
+    else (Made, record { graph = set_root (add_object (graph_in old) (end_of old.space) (new_object kind len)) place (Ref (end_of old.space)); free = free_in old.space - (len + 2) }))

@@ -25,7 +25,7 @@ impl Model for Heap {
 }
 
 impl Heap {
-    ghost use Rattle.std.specs.Prelude.{◌≡◌, ◌<◌, ◌≤◌, IfOk, IsTrue, length, slice_set, if◌then◌else◌};
+    ghost use Rattle.std.specs.Prelude.{◌≡◌, ◌<◌, ◌≤◌, IfOk, IfSome, IsTrue, length, slice_set, if◌then◌else◌};
     ghost use Rattle.std.specs.Option.{option_map};
     ghost use Rattle.gc_graph.specs.Slots.{place as place_of};
     ghost use Rattle.gc_graph.specs.Graph.{object_of, field_of, root};
@@ -98,6 +98,7 @@ impl Heap {
     pub fn target(&self, m: u8, slot: Slot) -> Option<OldAddr>
         requires { m < self.now.mutators }
         ensures name { option_map (λ a. a.0) result ≡ name_of (root (graph_in self.now) (place_of slot m)) }
+        ensures start { IfSome result (λ a. IsTrue (is_start self.now.space.words a.0)) }
         ensures sound { IsHeap self.now }
     {
         let at = target_of(self.roots[slot.place(m)])?;
@@ -114,8 +115,10 @@ impl Heap {
         ensures mutators { self.new.mutators ≡ self.old.mutators }
         ensures sound { IsHeap self.new }
     {
+        // Here the prover learns how many roots there are.
+        let _ = &self.roots;
         match *op {
-            Op::New { d, kind, len } => self.make(d.place(m), Header::new(kind, len)),
+            Op::New { d, kind, len } => self.make(d.place(m), kind, len),
             Op::Num { d, n } => self.take(d.place(m), encode(Value::Num(n))),
             Op::Nil { d } => self.take(d.place(m), encode(Value::Nil)),
             Op::Move { d, s } => {
@@ -164,16 +167,18 @@ impl Heap {
     }
 
     /// A new object in a root, where it has room.
-    fn make(&mut self, place: usize, header: Header) -> Reply
+    fn make(&mut self, place: usize, kind: u8, len: u16) -> Reply
         requires { place < length self.old.roots }
-        ensures step { Makes self.old place header result self.new }
+        ensures step { Makes self.old place kind len result self.new }
         ensures links { KeepsLinks self.old.space.words self.new.space.words }
+        ensures size { self.new.space.size ≡ self.old.space.size }
+        ensures mutators { self.new.mutators ≡ self.old.mutators }
         ensures sound { IsHeap self.new }
     {
-        if !self.space.has_room(header.len()) {
+        if !self.space.has_room(len) {
             return Reply::Full;
         }
-        let at = self.space.place(header);
+        let at = self.space.place(Header::new(kind, len));
         self.roots[place] = encode(Value::Ref(at));
         Reply::Made
     }

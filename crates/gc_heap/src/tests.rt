@@ -1,0 +1,209 @@
+ghost use Rattle.std.specs.Prelude.{◌≡◌, ◌≤◌, ◌<◌};
+ghost use Rattle.gc_graph.specs.Machine.{HasMutator};
+
+use crate::Heap;
+use gc_graph::{NoMemory, Number, Op, Plain, Reply, Slot, View};
+use gc_words::{NewAddr, OldAddr, Space};
+use std::alloc::Global;
+use std::test::Fail;
+
+/// Makes a command of the first mutator and keeps its reply.
+fn keep_reply(heap: &mut Heap, op: &Op, replies: &mut Vec<Reply>) -> Result<(), NoMemory>
+    requires { 0 < heap.old.mutators }
+    ensures { heap.new.mutators ≡ heap.old.mutators }
+{
+    // The prover knows what a list of replies holds only where a view is named.
+    let _named = View::Nil;
+    match replies.push(heap.apply(0, op)) {
+        Ok(()) => Ok(()),
+        Err(_) => Err(NoMemory),
+    }
+}
+
+/// The replies to one mutator's commands in a heap of `size` words.
+fn replies(alloc: Global, size: u32, commands: &[Op]) -> Result<Vec<Reply>, NoMemory>
+    requires low { 1 ≤ size }
+    requires high { size ≤ 1048576 }
+{
+    let mut heap = Heap::new(alloc, size, 1)?;
+    let mut replies = Vec::new(alloc);
+    for op in commands {
+        keep_reply(&mut heap, op, &mut replies)?;
+    }
+    Ok(replies)
+}
+
+/// The replies of the plain machine to the same commands.
+fn plain_replies(alloc: Global, size: u32, commands: &[Op]) -> Result<Vec<Reply>, NoMemory>
+    requires low { 1 ≤ size }
+    requires high { size ≤ 1048576 }
+{
+    let mut plain = Plain::new(alloc, size, 1)?;
+    let mut replies = Vec::new(alloc);
+    for op in commands {
+        keep_plain_reply(&mut plain, op, &mut replies)?;
+    }
+    Ok(replies)
+}
+
+fn keep_plain_reply(plain: &mut Plain, op: &Op, replies: &mut Vec<Reply>) -> Result<(), NoMemory>
+    requires { HasMutator plain.old.graph 0 }
+    ensures { HasMutator plain.new.graph 0 }
+{
+    let _named = View::Nil;
+    let reply = plain.apply(0, op)?;
+    match replies.push(reply) {
+        Ok(()) => Ok(()),
+        Err(_) => Err(NoMemory),
+    }
+}
+
+fn new(d: Slot, kind: u8, len: u16) -> Op {
+    Op::New { d, kind, len }
+}
+
+fn object(kind: u8, len: u16) -> Reply {
+    Reply::Saw(View::Obj { kind, len })
+}
+
+#[test]
+fn no_room_at_all(rt: HostRuntime) -> Result<(), Fail> {
+    let r0 = Slot::own(0).ok_or("slot")?;
+    let replies = replies(rt.alloc(), 1, &[new(r0, 0, 0)])?;
+    assert_eq!(rt; replies.as_slice(), [Reply::Full].as_slice());
+    Ok(())
+}
+
+#[test]
+fn full_after_one_object(rt: HostRuntime) -> Result<(), Fail> {
+    let r0 = Slot::own(0).ok_or("slot")?;
+    let r1 = Slot::own(1).ok_or("slot")?;
+    let commands = [new(r0, 3, 4), new(r1, 0, 0), Op::Look { s: r1 }];
+    let replies = replies(rt.alloc(), 7, &commands)?;
+    let expected = [Reply::Made, Reply::Full, Reply::Saw(View::Nil)];
+    assert_eq!(rt; replies.as_slice(), expected.as_slice());
+    let plain = plain_replies(rt.alloc(), 7, &commands)?;
+    assert_eq!(rt; plain.as_slice(), expected.as_slice());
+    Ok(())
+}
+
+#[test]
+fn greatest_number(rt: HostRuntime) -> Result<(), Fail> {
+    let r0 = Slot::own(0).ok_or("slot")?;
+    let n = Number::new(9223372036854775807).ok_or("number")?;
+    let commands = [Op::Num { d: r0, n }, Op::Look { s: r0 }];
+    let replies = replies(rt.alloc(), 7, &commands)?;
+    let expected = [Reply::Done, Reply::Saw(View::Num(n))];
+    assert_eq!(rt; replies.as_slice(), expected.as_slice());
+    Ok(())
+}
+
+#[test]
+fn refusals_change_nothing(rt: HostRuntime) -> Result<(), Fail> {
+    let r0 = Slot::own(0).ok_or("slot")?;
+    let r1 = Slot::own(1).ok_or("slot")?;
+    let r2 = Slot::own(2).ok_or("slot")?;
+    let g0 = Slot::shared(0).ok_or("slot")?;
+    let zero = Number::new(0).ok_or("number")?;
+    let commands = [
+        Op::Get { d: r1, s: r0, i: 0 },
+        Op::Num { d: r0, n: zero },
+        Op::Put { s: r0, i: 0, t: r1 },
+        Op::Same { s: r0, t: r1 },
+        Op::Same { s: r1, t: r2 },
+        new(r0, 9, 1),
+        Op::Get { d: r1, s: r0, i: 1 },
+        Op::Put { s: r0, i: 1, t: r0 },
+        Op::Put { s: r0, i: 0, t: r0 },
+        Op::Get { d: r1, s: r0, i: 0 },
+        Op::Same { s: r0, t: r1 },
+        Op::Move { d: g0, s: r1 },
+        Op::Look { s: g0 },
+    ];
+    let expected = [
+        Reply::NoObject,
+        Reply::Done,
+        Reply::NoObject,
+        Reply::No,
+        Reply::Yes,
+        Reply::Made,
+        Reply::NoField,
+        Reply::NoField,
+        Reply::Done,
+        object(9, 1),
+        Reply::Yes,
+        Reply::Done,
+        object(9, 1),
+    ];
+    let replies = replies(rt.alloc(), 8, &commands)?;
+    assert_eq!(rt; replies.as_slice(), expected.as_slice());
+    let plain = plain_replies(rt.alloc(), 8, &commands)?;
+    assert_eq!(rt; plain.as_slice(), expected.as_slice());
+    Ok(())
+}
+
+#[test]
+fn exactly_full(rt: HostRuntime) -> Result<(), Fail> {
+    let r0 = Slot::own(0).ok_or("slot")?;
+    let mut commands = vec![in rt.alloc(); new(r0, 255, 65535); 16]?;
+    commands.push(new(r0, 0, 65518))?;
+    commands.push(new(r0, 0, 0))?;
+    let mut expected = vec![in rt.alloc(); Reply::Made; 15]?;
+    expected.push(Reply::Full)?;
+    expected.push(Reply::Made)?;
+    expected.push(Reply::Full)?;
+    let replies = replies(rt.alloc(), 1048576, &commands)?;
+    assert_eq!(rt; replies.as_slice(), expected.as_slice());
+    Ok(())
+}
+
+#[test]
+fn words_of_an_object(rt: HostRuntime) -> Result<(), Fail> {
+    let r0 = Slot::own(0).ok_or("slot")?;
+    let mut heap = Heap::new(rt.alloc(), 9, 1)?;
+    assert_eq!(rt; heap.apply(0, &new(r0, 1, 2)), Reply::Made);
+    assert_eq!(rt; heap.apply(0, &Op::Put { s: r0, i: 1, t: r0 }), Reply::Done);
+    let image = heap.image();
+    assert_eq!(rt; (image.size, image.end), (9, 5));
+    assert_eq!(rt; image.words, [0, 16842754, 0, 0, 2].as_slice());
+    assert_eq!(rt;
+        (image.roots.len(), heap.roots().len(), heap.mutators()),
+        (32, 32, 1)
+    );
+    assert_eq!(rt; heap.roots().get(16), Some(&2));
+    assert_eq!(rt; heap.space().end(), 5);
+    assert_eq!(rt; heap.target(0, r0), Some(OldAddr(1)));
+    Ok(())
+}
+
+#[test]
+fn links_are_no_matter_of_mutators(rt: HostRuntime) -> Result<(), Fail> {
+    let r0 = Slot::own(0).ok_or("slot")?;
+    let mut heap = Heap::new(rt.alloc(), 9, 1)?;
+    assert_eq!(rt; heap.apply(0, &new(r0, 1, 2)), Reply::Made);
+    let Some(at) = heap.target(0, r0) else {
+        return Err("no object".into());
+    };
+    heap.set_link(at, NewAddr(7));
+    assert_eq!(rt; heap.image().words, [0, 16842754, 7, 0, 0].as_slice());
+    assert_eq!(rt; heap.apply(0, &Op::Look { s: r0 }), object(1, 2));
+    heap.clear_links();
+    assert_eq!(rt; heap.image().words, [0, 16842754, 0, 0, 0].as_slice());
+    Ok(())
+}
+
+#[test]
+fn another_space_is_put_in_place(rt: HostRuntime) -> Result<(), Fail> {
+    let r0 = Slot::own(0).ok_or("slot")?;
+    let mut heap = Heap::new(rt.alloc(), 9, 1)?;
+    assert_eq!(rt; heap.apply(0, &new(r0, 1, 2)), Reply::Made);
+    let space = Space::new(rt.alloc(), 3)?;
+    let roots = vec![in rt.alloc(); 0u64; 32]?;
+    let (former_space, former_roots) = heap.replace(space, roots);
+    assert_eq!(rt; former_space.words(), [0, 16842754, 0, 0, 0].as_slice());
+    assert_eq!(rt; former_roots.get(16), Some(&2));
+    assert_eq!(rt; heap.image().words, [0].as_slice());
+    assert_eq!(rt; heap.apply(0, &new(r0, 1, 0)), Reply::Made);
+    assert_eq!(rt; heap.apply(0, &new(r0, 1, 0)), Reply::Full);
+    Ok(())
+}

@@ -175,7 +175,7 @@ module _ (s : SpaceWords) (h : Header) (space : IsSpace s) (kind : h.kind < 256)
 
 -- ---- a field written
 
-start_set : (bs : List (ℕ × Block)) (a i w x : ℕ) → is_some (block_in (set_block bs a i w) x) ≡ is_some (block_in bs x)
+pub start_set : (bs : List (ℕ × Block)) (a i w x : ℕ) → is_some (block_in (set_block bs a i w) x) ≡ is_some (block_in bs x)
 start_set [] a i w x = refl
 start_set (entry ∷ bs) a i w x =
     elim (entry.0 == a) as (λ t. is_some (block_in (cond t ((entry.0, with_field_word entry.1 i w) ∷ bs) (entry ∷ set_block bs a i w)) x) ≡ is_some (cond (entry.0 == x) (Some entry.1) (block_in bs x))) [

@@ -1,4 +1,4 @@
-use Rattle.std.proofs.Common.{◌≡◌, ℕ, ◌<◌, ◌≤◌, true, false, is_some, inl, inr, arith, sym, ◌∙◌}
+use Rattle.std.proofs.Common.{◌≡◌, true, false, inl, inr, arith, sym, ◌∙◌}
 use Rattle.std.specs.Prelude.{nat_lt}
 use Rattle.std.proofs.lemmas.Bool.{cases_Bool, ltb-true, ltb-false}
 use Rattle.gc_heap.proofs.Fields.{field_there, field_past}
@@ -6,8 +6,7 @@ use Rattle.gc_heap.proofs.reading.has_field.Goals as goal
 
 pub returns : goal.returns
 returns c =
-    let len : c.len.result ≡ c.header.result.len = c.len.ensures in
-    (
+    let len : c.len.result ≡ c.header.result.len = c.len.ensures in (
       λ less. field_there c.args.space.now c.args.at.0 c.args.i c.header.result c.requires.shaped c.header.ensures (omega (arith, ltb-true _ _ less)),
       λ some. elim (cases_Bool (nat_lt c.args.i c.len.result)) [
         | inl less ↦ less

@@ -1,12 +1,12 @@
-use Rattle.std.proofs.Common.{◌≡◌, ℕ, ◌<◌, length, Some, ap, ◌∙◌, sym, subst}
-use Rattle.std.specs.Prelude.{slice_index, slice_set, IsTrue}
+use Rattle.std.proofs.Common.{◌≡◌, ◌<◌, length, sym, subst}
+use Rattle.std.specs.Prelude.{slice_set}
 use Rattle.gc_graph.specs.Graph.{Graph, object_of, field_of, root}
 use Rattle.gc_graph.specs.Machine.{get_field}
 use Rattle.gc_graph.specs.declared.reply.Reply.{Reply}
 use Rattle.gc_graph.specs.declared.reply.Reply.TheVariants.{NoField, Saw}
 use Rattle.gc_words.specs.Closed.{IsFieldWord}
 use Rattle.gc_words.proofs.References.{closed_field_read}
-use Rattle.gc_heap.specs.Heap.{HeapWords, IsHeap, graph_in}
+use Rattle.gc_heap.specs.Heap.{HeapWords, graph_in}
 use Rattle.gc_heap.proofs.Commands.{Points, points, read_root, not_there, got_no_field, got, taken_heap}
 use Rattle.gc_heap.proofs.heap.Heap.get.Goals as goal
 
