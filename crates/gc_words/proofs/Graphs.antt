@@ -1,5 +1,5 @@
 -- The graph of a space's words, and what writes do to it.
-use Rattle.std.proofs.Common.{◌≡◌, ℕ, suc, zero, ◌+◌, ◌*◌, ◌/◌, ◌%◌, ◌<◌, ◌≤◌, Bool, true, false, cond, ◌||◌, ◌==◌, List, [], ◌∷◌, ◌++◌, map, replicate, Some, None, refl, sym, ◌∙◌, ap, subst, inl, inr, arith}
+use Rattle.std.proofs.Common.{◌≡◌, ℕ, suc, zero, ◌+◌, ◌*◌, ◌/◌, ◌%◌, ◌<◌, Bool, true, false, cond, ◌||◌, ◌==◌, List, [], ◌∷◌, ◌++◌, map, replicate, Some, None, refl, sym, ◌∙◌, ap, subst, inl, inr, arith}
 use Rattle.std.specs.Prelude.{nat_lt, slice_get, slice_index, slice_set, IsSome, ◌⊎◌}
 use Rattle.std.specs.Option.{option_map}
 use Rattle.std.proofs.lemmas.Bool.{eqb-true, eqb-false, eq-eqb, ne_eqb, ltb-true, lt-ltb, cases_Bool, or_cases}
@@ -7,7 +7,7 @@ use Rattle.std.proofs.lemmas.List.{map-append, map-set}
 use Rattle.gc_graph.specs.Graph.{Value, Nil, Num, Ref, Object, Graph, lookup, new_object, add_object, set_field, set_root, field_of, value_or_nil}
 use Rattle.gc_words.specs.Word.{value_of, is_value, read_value, word_of, HasAddress, field_value}
 use Rattle.gc_words.specs.Image.{Block, fresh_block, blocks, block_in, block_at, field_at, field_in, is_start, object_of_block, object_entry, objects_of, graph_of}
-use Rattle.gc_words.specs.Space.{SpaceWords, IsSpace, end_of, free_in, with_object, with_word, without_links, image_with, field_place, link_place}
+use Rattle.gc_words.specs.Space.{SpaceWords, IsSpace, end_of, CanPlace, with_object, with_word, without_links, image_with, field_place, link_place}
 use Rattle.gc_words.specs.declared.header.Header.{Header}
 use Rattle.gc_words.proofs.Walks.{objects_set}
 use Rattle.gc_words.proofs.Writes.{placed, field_written, link_written}
@@ -102,10 +102,10 @@ fresh_object h = ap (λ fs. record { kind = h.kind; fields = fs }) (nils h.len)
 graph_with : (roots : List ℕ) (os qs : List (ℕ × Object)) → os ≡ qs → ◌≡◌ {A = Graph} (record { objects = os; roots = map value_of roots }) (record { objects = qs; roots = map value_of roots })
 graph_with roots os qs e = ap (λ os. record { objects = os; roots = map value_of roots }) e
 
-pub graph_placed : (s : SpaceWords) (h : Header) (roots : List ℕ) → IsSpace s → h.kind < 256 → h.len < 65536 → h.len + 2 ≤ free_in s
+pub graph_placed : (s : SpaceWords) (h : Header) (roots : List ℕ) → CanPlace s h
     → graph_of (image_with (with_object s h) roots) ≡ add_object (graph_of (image_with s roots)) (end_of s) (new_object h.kind h.len)
-graph_placed s h roots space kind len room =
-    graph_with roots _ _ (ap (map object_entry) (placed s h space kind len room).1 ∙ map-append object_entry (blocks s.words) ((end_of s, fresh_block h) ∷ [])
+graph_placed s h roots can =
+    graph_with roots _ _ (ap (map object_entry) (placed s h can).1 ∙ map-append object_entry (blocks s.words) ((end_of s, fresh_block h) ∷ [])
     ∙ ap (λ o. objects_of s.words ++ (end_of s, o) ∷ []) (fresh_object h))
 
 pub graph_field : (s : SpaceWords) (a i w : ℕ) (b : Block) (roots : List ℕ) → IsSpace s → IsSome (field_at s.words a i) → block_at s.words a ≡ Some b

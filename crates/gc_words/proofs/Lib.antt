@@ -5,6 +5,7 @@ pub mod Steps
 pub mod Spelled
 pub mod Bodies
 pub mod Blocks
+pub mod Links
 pub mod Graphs
 pub mod References
 pub mod Faults

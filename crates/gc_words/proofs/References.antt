@@ -8,7 +8,7 @@ use Rattle.std.proofs.lemmas.List.Folds.{list_any_none}
 use Rattle.gc_graph.specs.Graph.{Value, Nil, Num, Ref, Object, Graph, names_of, names_in, IsUnused}
 use Rattle.gc_words.specs.Word.{value_of, is_value, read_value, word_of, field_value, read_header}
 use Rattle.gc_words.specs.Image.{Block, fresh_block, walk_words, blocks, block_in, block_at, field_in, field_at, is_start, with_field_word, set_block, object_of_block, object_entry, objects_of, graph_of}
-use Rattle.gc_words.specs.Space.{SpaceWords, IsSpace, empty_space, end_of, free_in, with_object, with_word, image_with, field_place}
+use Rattle.gc_words.specs.Space.{SpaceWords, IsSpace, empty_space, end_of, free_in, CanPlace, with_object, with_word, image_with, field_place}
 use Rattle.gc_words.specs.Closed.{RefersToStart, IsRootWord, IsFieldWord, HasFieldWords, IsClosed}
 use Rattle.gc_words.specs.Walking.{StandsIn}
 use Rattle.gc_words.specs.declared.header.Header.{Header}
@@ -140,12 +140,12 @@ start_last (entry ∷ bs) a b =
 fresh_has : (words : List ℕ) (h : Header) → HasFieldWords words (fresh_block h)
 fresh_has words h = All-replicate (IsFieldWord words h) h.len 0 (record { value = refl; start = tt })
 
-module _ (s : SpaceWords) (h : Header) (space : IsSpace s) (kind : h.kind < 256) (len : h.len < 65536) (room : h.len + 2 ≤ free_in s) where
+module _ (s : SpaceWords) (h : Header) (can : CanPlace s h) where
   abbrev after : List ℕ
   after = (with_object s h).words
 
   objects_after : blocks after ≡ blocks s.words ++ (end_of s, fresh_block h) ∷ []
-  objects_after = (placed s h space kind len room).1
+  objects_after = (placed s h can).1
 
   keeps_placed : KeepsStarts s.words after
   keeps_placed a start = ap (λ bs. is_some (block_in bs a)) objects_after ∙ start_push (blocks s.words) (end_of s, fresh_block h) a start
@@ -165,8 +165,9 @@ module _ (s : SpaceWords) (h : Header) (space : IsSpace s) (kind : h.kind < 256)
 
   pub placed_reference : IsRootWord after (word_of (Ref (end_of s)))
   placed_reference =
-      let low : 1 ≤ length s.words = space.end_low in
-      let high : s.size ≤ 1048576 = space.size_high in
+      let low : 1 ≤ length s.words = can.shaped.end_low in
+      let high : s.size ≤ 1048576 = can.shaped.size_high in
+      let room : h.len + 2 ≤ free_in s = can.room in
       let read : (is_value (2 * end_of s) ≡ true) × (Ref (end_of s) ≡ value_of (2 * end_of s)) = read_some (2 * end_of s) (Ref (end_of s)) (value_read_back (Ref (end_of s)) (low, omega arith)) in
       record {
         value = read.0;

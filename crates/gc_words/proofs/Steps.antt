@@ -191,7 +191,7 @@ cleared_step words at next inside ok e =
     let within : next ≤ length words = b.step.within in
     let kept : drop next after ≡ drop next words = drop-set-lt next words (at + 1) 0 (omega arith) in
     let same : walk_from after next ≡ walk_from words next = ap (walk 0 next) kept in
-    let word : header_word h ≡ slice_index words at = (written_back (slice_index words at) h b.step.word).2 in
+    let word : header_word h ≡ slice_index words at = (written_back (slice_index words at) h b.step.word).1 in
     let two : at + 1 + 1 ≡ at + 2 = omega arith in
     let rest : List ℕ = drop (at + 2) words in
     let open_words : drop at words ≡ slice_index words at ∷ slice_index words (at + 1) ∷ rest
