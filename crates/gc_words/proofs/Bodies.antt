@@ -1,15 +1,27 @@
--- What a space's calls leave, as their code makes it.
-use Rattle.std.proofs.Common.{◌≡◌, ℕ, suc, ◌+◌, ◌-◌, true, cond, List, [], ◌∷◌, ◌++◌, length, take, drop, replicate, Some, Result, Ok, is_ok, sym, ◌∙◌, ap, subst, arith, length-append, append_assoc}
-use Rattle.std.specs.Prelude.{IsSome}
-use Rattle.std.proofs.lemmas.List.{take_all, take_at}
+-- What a space's calls read and leave, as their code does it.
+use Rattle.std.proofs.Common.{◌≡◌, ℕ, suc, ◌+◌, ◌-◌, ◌<◌, true, cond, List, [], ◌∷◌, ◌++◌, length, get_or, take, drop, replicate, Some, Result, Ok, is_ok, sym, ◌∙◌, ap, subst, arith, length-append, append_assoc}
+use Rattle.std.specs.Prelude.{slice_index, IsSome}
+use Rattle.std.proofs.lemmas.List.{get_or_read, take_all, take_at}
 use Rattle.gc_words.specs.Word.{IsHeader, header_word}
 use Rattle.gc_words.specs.Image.{fresh_block, blocks, block_at, is_start, field_at, set_block}
 use Rattle.gc_words.specs.Spelling.{block_words, spelled, no_links}
 use Rattle.gc_words.specs.Space.{SpaceWords, IsSpace, end_of, HasRoom, CanPlace, with_object, with_word, without_links, field_place, link_place}
 use Rattle.gc_words.specs.declared.header.Header.{Header}
-use Rattle.gc_words.proofs.Writes.{placed, field_written, link_written}
+use Rattle.gc_words.proofs.Writes.{HeaderRead, header_read, FieldRead, field_read, placed, field_written, link_written}
 use Rattle.gc_words.proofs.Blocks.{placed_block, written_word}
 use Rattle.gc_words.proofs.Spelled.{cleared, length_cleared}
+
+-- ---- a word read: t is what a caller sees of the fields s
+
+pub header_seen : (s t : SpaceWords) (a : ℕ) → s ≡ t → IsSpace s → is_start t.words a ≡ true → HeaderRead t.words a
+header_seen s t a same space start = header_read t.words a (subst IsSpace same space).walked start
+
+pub field_seen : (s t : SpaceWords) (a i : ℕ) → s ≡ t → IsSpace s → IsSome (field_at t.words a i) → FieldRead t.words a i
+field_seen s t a i same space some = field_read t.words a i (subst IsSpace same space).walked some
+
+pub word_seen : (s t : SpaceWords) (p x : ℕ) → s ≡ t → p < length t.words → x ≡ get_or s.words p x → x ≡ slice_index t.words p
+word_seen s t p x same inside read =
+    get_or_read s.words p x (subst (λ (s : SpaceWords). p < length s.words) (sym same) inside) read 0 ∙ ap (λ (s : SpaceWords). slice_index s.words p) same
 
 -- ---- a word written, at a place that the code has computed
 

@@ -7,7 +7,7 @@ use Rattle.std.proofs.lemmas.List.{map-append, map-set}
 use Rattle.gc_graph.specs.Graph.{Value, Nil, Num, Ref, Object, Graph, lookup, new_object, add_object, set_field, set_root, field_of, value_or_nil}
 use Rattle.gc_words.specs.Word.{value_of, is_value, read_value, word_of, HasAddress, field_value}
 use Rattle.gc_words.specs.Image.{Block, fresh_block, blocks, block_in, block_at, field_at, field_in, is_start, object_of_block, object_entry, objects_of, graph_of}
-use Rattle.gc_words.specs.Space.{SpaceWords, IsSpace, end_of, CanPlace, with_object, with_word, without_links, image_with, field_place, link_place}
+use Rattle.gc_words.specs.Space.{SpaceWords, IsSpace, empty_space, end_of, CanPlace, with_object, with_word, without_links, image_with, field_place, link_place}
 use Rattle.gc_words.specs.declared.header.Header.{Header}
 use Rattle.gc_words.proofs.Walks.{objects_set}
 use Rattle.gc_words.proofs.Writes.{placed, field_written, link_written}
@@ -32,11 +32,21 @@ value_read_back (Ref a) h =
     ∙ ap (λ b. cond b (Some (cond (2 * a == 0) Nil (Ref ((2 * a) / 2)))) None) low
     ∙ ap (λ b. Some (cond b Nil (Ref ((2 * a) / 2)))) some ∙ ap (λ m. Some (Ref m)) half
 
+read_some : (w : ℕ) (v : Value) → read_value w ≡ Some v → (is_value w ≡ true) × (value_of w ≡ v)
+read_some w v e = from (is_value w) refl e
+  where
+    from : (b : Bool) → is_value w ≡ b → cond b (Some (value_of w)) None ≡ Some v → (is_value w ≡ true) × (value_of w ≡ v)
+    from true is e = (is, (let same : value_of w ≡ v = cc in same))
+    from false is e = absurd (let no : None ≡ Some v = e in cc)
+
+pub meaning_back : (v : Value) → HasAddress v → (is_value (word_of v) ≡ true) × (value_of (word_of v) ≡ v)
+meaning_back v has = read_some (word_of v) v (value_read_back v has)
+
 -- a word that is a value is the word of what it means
 abbrev pub IsWordOf : ℕ → Value → Type 0
 IsWordOf w v = (word_of v ≡ w) × HasAddress v
 
-meant : (w : ℕ) → is_value w ≡ true → IsWordOf w (value_of w)
+pub meant : (w : ℕ) → is_value w ≡ true → IsWordOf w (value_of w)
 meant w is =
     elim (cases_Bool (w == 0)) [
       | inl nil ↦ subst (IsWordOf w) (sym (ap (λ b. cond b Nil (cond (w % 2 == 1) (Num (w / 2)) (Ref (w / 2)))) nil)) (sym (eqb-true w 0 nil), tt)
@@ -54,11 +64,9 @@ meant w is =
         subst (IsWordOf w) (sym (ap (λ b. cond b (Num (w / 2)) (Ref (w / 2))) even)) (omega arith, (omega arith, omega arith))
 
 pub word_read_back : (w : ℕ) (v : Value) → read_value w ≡ Some v → IsWordOf w v
-word_read_back w v e = from (is_value w) refl e
-  where
-    from : (b : Bool) → is_value w ≡ b → cond b (Some (value_of w)) None ≡ Some v → IsWordOf w v
-    from true is e = (let same : value_of w ≡ v = cc in subst (IsWordOf w) same (meant w is))
-    from false is e = absurd (let no : None ≡ Some v = e in cc)
+word_read_back w v e =
+    let read : (is_value w ≡ true) × (value_of w ≡ v) = read_some w v e in
+    subst (IsWordOf w) read.1 (meant w read.0)
 
 -- ---- what a graph finds
 
@@ -88,6 +96,13 @@ pub root_value : (roots : List ℕ) (place : ℕ) → value_or_nil (slice_get (m
 root_value [] place = refl
 root_value (w ∷ roots) zero = refl
 root_value (w ∷ roots) (suc place) = root_value roots place
+
+pub roots_empty : (count : ℕ) → map value_of (replicate count 0) ≡ replicate count Nil
+roots_empty zero = refl
+roots_empty (suc count) = ap (λ vs. Nil ∷ vs) (roots_empty count)
+
+pub graph_empty : (size count : ℕ) → graph_of (image_with (empty_space size) (replicate count 0)) ≡ record { objects = []; roots = replicate count Nil }
+graph_empty size count = ap (λ vs. record { objects = []; roots = vs }) (roots_empty count)
 
 -- ---- writes
 

@@ -1,15 +1,15 @@
 //! What follows from the definitions: the crates above cite these calls.
 
-ghost use Rattle.std.specs.Prelude.{◌≡◌, ◌≢◌, ◌↔◌, ◌++◌, ◌∷◌, [], ℕ, List, Some, None, Ok, IsOk, IsSome, IsTrue, replicate, slice_get, slice_index, slice_set};
+ghost use Rattle.std.specs.Prelude.{◌≡◌, ◌≢◌, ◌<◌, ◌≤◌, ◌↔◌, ◌+◌, ◌-◌, ◌++◌, ◌∷◌, [], ℕ, List, length, Some, None, Ok, Err, IsOk, IsSome, IsTrue, replicate, slice_get, slice_index, slice_set};
 ghost use Rattle.std.specs.Option.{option_map};
-ghost use Rattle.gc_graph.specs.Graph.{Value, Ref, IsUnused, lookup, field_of, root, new_object, add_object, set_field, set_root};
+ghost use Rattle.gc_graph.specs.Graph.{Value, Nil, Ref, IsUnused, lookup, field_of, root, new_object, add_object, set_field, set_root};
 ghost use Rattle.gc_graph.specs.Correspond.{Corresponding};
-ghost use Rattle.gc_words.specs.Word.{IsHeader, HasAddress, header_word, read_header, word_of, value_of, read_value, field_value};
-ghost use Rattle.gc_words.specs.Image.{Block, Image, walk_words, blocks, block_in, block_at, is_start, field_at, fresh_block, with_field_word, set_block, objects_of, object_of_block, graph_of};
+ghost use Rattle.gc_words.specs.Word.{IsHeader, HasAddress, header_word, read_header, word_of, is_value, value_of, read_value, field_value};
+ghost use Rattle.gc_words.specs.Image.{Block, Image, walk_words, blocks, block_in, block_at, is_start, header_at, field_at, fresh_block, with_field_word, set_block, objects_of, object_of_block, graph_of};
 ghost use Rattle.gc_words.specs.Spelling.{LaidOut, spelled, link_at};
-ghost use Rattle.gc_words.specs.Space.{SpaceWords, IsSpace, CanPlace, empty_space, end_of, with_object, with_word, without_links, field_place, link_place, image_with};
-ghost use Rattle.gc_words.specs.Walking.{StandsIn};
-ghost use Rattle.gc_words.specs.Closed.{IsClosed, IsRootWord, IsFieldWord};
+ghost use Rattle.gc_words.specs.Space.{SpaceWords, IsSpace, CanPlace, empty_space, end_of, free_in, with_object, with_word, without_links, field_place, link_place, image_with};
+ghost use Rattle.gc_words.specs.Walking.{next_of, walk_from, StepsTo, StandsIn};
+ghost use Rattle.gc_words.specs.Closed.{IsClosed, RefersToStart, IsRootWord, IsFieldWord};
 ghost use Rattle.gc_words.specs.Certificate.{Certified};
 ghost use Rattle.gc_words.specs.Fault.{first_fault};
 ghost use Rattle.gc_words.specs.Rows.{WordRows, PairRows};
@@ -35,8 +35,17 @@ pub fn certified_graphs_correspond()
 pub fn words_are_read_back()
     ensures value { (v : Value) → HasAddress v → read_value (word_of v) ≡ Some v }
     ensures value_word { (word : ℕ) (v : Value) → read_value word ≡ Some v → (word_of v ≡ word) × HasAddress v }
+    ensures meaning { (v : Value) → HasAddress v → IsTrue (is_value (word_of v)) × (value_of (word_of v) ≡ v) }
+    ensures meaning_word { (word : ℕ) → IsTrue (is_value word) → (word_of (value_of word) ≡ word) × HasAddress (value_of word) }
     ensures header { (h : Header) → IsHeader h → read_header (header_word h) ≡ Some h }
     ensures header_word { (word : ℕ) (h : Header) → read_header word ≡ Some h → IsHeader h × (header_word h ≡ word) }
+{}
+
+/// A walk goes on behind each object that it meets, and ends at the end or where it meets none.
+pub fn walks_go_by_steps()
+    ensures step { (words : List ℕ) (at next : ℕ) → at < length words → next_of words at ≡ Some next → StepsTo words at next }
+    ensures stuck { (words : List ℕ) (at : ℕ) → at < length words → next_of words at ≡ None → walk_from words at ≡ Err at }
+    ensures done { (words : List ℕ) (at : ℕ) → length words ≤ at → walk_from words at ≡ Ok [] }
 {}
 
 /// A space's words are those of its objects, back to back, with their links; and such words are walked,
@@ -55,6 +64,13 @@ pub fn objects_stand_at_their_starts()
     ensures { (words : List ℕ) (start : ℕ) (b : Block) → IsOk (walk_words words) → block_at words start ≡ Some b → StandsIn words start b }
 {}
 
+/// An object has as many fields as its header says.
+pub fn objects_have_their_fields()
+    ensures block { (words : List ℕ) (start : ℕ) (h : Header) → header_at words start ≡ Some h → (b : Block) × (block_at words start ≡ Some b) × (b.header ≡ h) }
+    ensures within { (words : List ℕ) (start i : ℕ) (h : Header) → IsOk (walk_words words) → header_at words start ≡ Some h → i < h.len → IsSome (field_at words start i) }
+    ensures past { (words : List ℕ) (start i : ℕ) (h : Header) → IsOk (walk_words words) → header_at words start ≡ Some h → h.len ≤ i → field_at words start i ≡ None }
+{}
+
 /// A space stays one when an object is placed at its end, when a field or a link is written and when the
 /// links are cleared; and what its objects are then.
 pub fn writes_keep_spaces()
@@ -66,6 +82,14 @@ pub fn writes_keep_spaces()
     ensures link { (space : SpaceWords) (start word : ℕ) → IsSpace space → IsTrue (is_start space.words start)
         → IsSpace (with_word space (link_place start) word) × (blocks (with_word space (link_place start) word).words ≡ blocks space.words) }
     ensures cleared { (space : SpaceWords) → IsSpace space → IsSpace (without_links space) × (blocks (without_links space).words ≡ blocks space.words) }
+{}
+
+/// Where the objects of a space end after a write, and how many words no object takes then.
+pub fn ends_after_writes()
+    ensures placed { (space : SpaceWords) (h : Header) → end_of (with_object space h) ≡ end_of space + (h.len + 2) }
+    ensures free { (space : SpaceWords) (h : Header) → free_in (with_object space h) ≡ free_in space - (h.len + 2) }
+    ensures written { (space : SpaceWords) (place word : ℕ) → end_of (with_word space place word) ≡ end_of space }
+    ensures cleared { (space : SpaceWords) → IsSpace space → end_of (without_links space) ≡ end_of space }
 {}
 
 /// What is found at a start after a write, and at every other place.
@@ -100,6 +124,8 @@ pub fn graphs_of_spaces()
         → lookup (graph_of (image_with space roots)).objects start ≡ option_map object_of_block (block_at space.words start) }
     ensures field { (space : SpaceWords) (roots : List ℕ) (start i : ℕ) (b : Block) → block_at space.words start ≡ Some b
         → field_of (lookup (graph_of (image_with space roots)).objects start) i ≡ option_map (field_value b.header) (field_at space.words start i) }
+    ensures fields { (words : List ℕ) (start : ℕ) (b : Block) → IsOk (walk_words words) → block_at words start ≡ Some b → length (object_of_block b).fields ≡ b.header.len }
+    ensures empty { (size count : ℕ) → graph_of (image_with (empty_space size) (replicate count 0)) ≡ record { objects = []; roots = replicate count Nil } }
     ensures root { (space : SpaceWords) (roots : List ℕ) (place : ℕ) → root (graph_of (image_with space roots)) place ≡ value_of (slice_index roots place) }
 {}
 
@@ -126,6 +152,7 @@ pub fn end_is_unused()
 /// what is read is such a word.
 pub fn references_stay_to_starts()
     ensures empty { (size count : ℕ) → IsClosed (empty_space size).words (replicate count 0) }
+    ensures value { (words : List ℕ) (v : Value) → HasAddress v → RefersToStart words v → IsRootWord words (word_of v) }
     ensures placed { (space : SpaceWords) (h : Header) → CanPlace space h → (roots : List ℕ) → IsClosed space.words roots → IsClosed (with_object space h).words roots }
     ensures reference { (space : SpaceWords) (h : Header) → CanPlace space h → IsRootWord (with_object space h).words (word_of (Ref (end_of space))) }
     ensures field { (space : SpaceWords) (start i word : ℕ) (b : Block) (roots : List ℕ) → IsSpace space → IsSome (field_at space.words start i) → block_at space.words start ≡ Some b
