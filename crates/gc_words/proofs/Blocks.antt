@@ -3,7 +3,7 @@ use Rattle.std.proofs.Common.{◌≡◌, ℕ, suc, zero, ◌+◌, ◌<◌, ◌�
 use Rattle.std.specs.Prelude.{slice_get, slice_set, IsSome}
 use Rattle.std.proofs.lemmas.Bool.{eqb-true, eq-eqb, ne_eqb}
 use Rattle.gc_words.specs.Image.{Block, fresh_block, blocks, block_in, block_at, field_in, field_at, with_field_word, set_block}
-use Rattle.gc_words.specs.Space.{SpaceWords, IsSpace, end_of, free_in, with_object, with_word, field_place}
+use Rattle.gc_words.specs.Space.{SpaceWords, IsSpace, end_of, CanPlace, with_object, with_word, field_place}
 use Rattle.gc_words.specs.Walking.{StandsIn}
 use Rattle.gc_words.specs.declared.header.Header.{Header}
 use Rattle.gc_words.proofs.Starts.{stands_in}
@@ -34,11 +34,11 @@ beside_push : (bs : List (ℕ × Block)) (a x : ℕ) (b : Block) → (a ≡ x �
 beside_push [] a x b other = ap (λ t. cond t (Some b) None) (ne_eqb a x other)
 beside_push (entry ∷ bs) a x b other = ap (cond (entry.0 == x) (Some entry.1)) (beside_push bs a x b other)
 
-pub placed_block : (s : SpaceWords) (h : Header) → IsSpace s → h.kind < 256 → h.len < 65536 → h.len + 2 ≤ free_in s → block_at (with_object s h).words (end_of s) ≡ Some (fresh_block h)
-placed_block s h space kind len room = ap (λ bs. block_in bs (end_of s)) (placed s h space kind len room).1 ∙ at_push (blocks s.words) (end_of s) (fresh_block h) (none_at_end s space)
+pub placed_block : (s : SpaceWords) (h : Header) → CanPlace s h → block_at (with_object s h).words (end_of s) ≡ Some (fresh_block h)
+placed_block s h can = ap (λ bs. block_in bs (end_of s)) (placed s h can).1 ∙ at_push (blocks s.words) (end_of s) (fresh_block h) (none_at_end s can.shaped)
 
-pub placed_beside : (s : SpaceWords) (h : Header) (x : ℕ) → IsSpace s → h.kind < 256 → h.len < 65536 → h.len + 2 ≤ free_in s → (end_of s ≡ x → ⊥) → block_at (with_object s h).words x ≡ block_at s.words x
-placed_beside s h x space kind len room other = ap (λ bs. block_in bs x) (placed s h space kind len room).1 ∙ beside_push (blocks s.words) (end_of s) x (fresh_block h) other
+pub placed_beside : (s : SpaceWords) (h : Header) (x : ℕ) → CanPlace s h → (end_of s ≡ x → ⊥) → block_at (with_object s h).words x ≡ block_at s.words x
+placed_beside s h x can other = ap (λ bs. block_in bs x) (placed s h can).1 ∙ beside_push (blocks s.words) (end_of s) x (fresh_block h) other
 
 -- ---- a field written
 

@@ -1,15 +1,27 @@
--- What a space's calls leave, as their code makes it.
-use Rattle.std.proofs.Common.{◌≡◌, ℕ, suc, ◌+◌, ◌-◌, ◌<◌, ◌≤◌, true, cond, List, [], ◌∷◌, ◌++◌, length, take, drop, replicate, Some, Result, Ok, is_ok, sym, ◌∙◌, ap, subst, arith, length-append, append_assoc}
-use Rattle.std.specs.Prelude.{IsSome}
-use Rattle.std.proofs.lemmas.List.{take_all, take_at}
-use Rattle.gc_words.specs.Word.{header_word}
+-- What a space's calls read and leave, as their code does it.
+use Rattle.std.proofs.Common.{◌≡◌, ℕ, suc, ◌+◌, ◌-◌, ◌<◌, true, cond, List, [], ◌∷◌, ◌++◌, length, get_or, take, drop, replicate, Some, Result, Ok, is_ok, sym, ◌∙◌, ap, subst, arith, length-append, append_assoc}
+use Rattle.std.specs.Prelude.{slice_index, IsSome}
+use Rattle.std.proofs.lemmas.List.{get_or_read, take_all, take_at}
+use Rattle.gc_words.specs.Word.{IsHeader, header_word}
 use Rattle.gc_words.specs.Image.{fresh_block, blocks, block_at, is_start, field_at, set_block}
 use Rattle.gc_words.specs.Spelling.{block_words, spelled, no_links}
-use Rattle.gc_words.specs.Space.{SpaceWords, IsSpace, end_of, free_in, with_object, with_word, without_links, field_place, link_place}
+use Rattle.gc_words.specs.Space.{SpaceWords, IsSpace, end_of, HasRoom, CanPlace, with_object, with_word, without_links, field_place, link_place}
 use Rattle.gc_words.specs.declared.header.Header.{Header}
-use Rattle.gc_words.proofs.Writes.{placed, field_written, link_written}
+use Rattle.gc_words.proofs.Writes.{HeaderRead, header_read, FieldRead, field_read, placed, field_written, link_written}
 use Rattle.gc_words.proofs.Blocks.{placed_block, written_word}
 use Rattle.gc_words.proofs.Spelled.{cleared, length_cleared}
+
+-- ---- a word read: t is what a caller sees of the fields s
+
+pub header_seen : (s t : SpaceWords) (a : ℕ) → s ≡ t → IsSpace s → is_start t.words a ≡ true → HeaderRead t.words a
+header_seen s t a same space start = header_read t.words a (subst IsSpace same space).walked start
+
+pub field_seen : (s t : SpaceWords) (a i : ℕ) → s ≡ t → IsSpace s → IsSome (field_at t.words a i) → FieldRead t.words a i
+field_seen s t a i same space some = field_read t.words a i (subst IsSpace same space).walked some
+
+pub word_seen : (s t : SpaceWords) (p x : ℕ) → s ≡ t → p < length t.words → x ≡ get_or s.words p x → x ≡ slice_index t.words p
+word_seen s t p x same inside read =
+    get_or_read s.words p x (subst (λ (s : SpaceWords). p < length s.words) (sym same) inside) read 0 ∙ ap (λ (s : SpaceWords). slice_index s.words p) same
 
 -- ---- a word written, at a place that the code has computed
 
@@ -48,18 +60,18 @@ room_filled r u old pushed new h n l ok push total one made =
     ∙ ap (λ xs. xs ++ 0 ∷ replicate h.len 0) push
     ∙ append_assoc old (header_word h ∷ []) (0 ∷ replicate h.len 0)
 
-pub object_placed : {E : Type 0} (r : Result (Unit {0}) E) (u : Unit {0}) (s t : SpaceWords) (pushed new : List ℕ) (h : Header) (n l : ℕ) → s ≡ t → IsSpace s → h.kind < 256 → h.len < 65536 → h.len + 2 ≤ free_in t
+pub object_placed : {E : Type 0} (r : Result (Unit {0}) E) (u : Unit {0}) (s t : SpaceWords) (pushed new : List ℕ) (h : Header) (n l : ℕ) → s ≡ t → IsSpace s → IsHeader h → HasRoom t h.len
     → r ≡ Ok u → pushed ≡ s.words ++ header_word h ∷ [] → n ≡ end_of s + 2 + h.len → l ≡ end_of s + 1 → new ≡ cond (is_ok r) (take n pushed ++ replicate (n - l) 0) pushed
     → Places (record { size = s.size; words = new }) t h
-object_placed r u s t pushed new h n l same space kind len room ok push total one made =
+object_placed r u s t pushed new h n l same space is room ok push total one made =
     let filled : new ≡ s.words ++ block_words 0 (fresh_block h) = room_filled r u s.words pushed new h n l ok push total one made in
-    let fits : h.len + 2 ≤ free_in s = subst (λ (s : SpaceWords). h.len + 2 ≤ free_in s) (sym same) room in
-    let done : IsSpace (with_object s h) × (blocks (with_object s h).words ≡ blocks s.words ++ (end_of s, fresh_block h) ∷ []) = placed s h space kind len fits in
+    let can : CanPlace s h = record { shaped = space; header = is; room = subst (λ (s : SpaceWords). HasRoom s h.len) (sym same) room } in
+    let done : IsSpace (with_object s h) × (blocks (with_object s h).words ≡ blocks s.words ++ (end_of s, fresh_block h) ∷ []) = placed s h can in
     subst (λ words. Places (record { size = s.size; words = words }) t h) (sym filled)
     (record {
       space = done.0;
       objects = done.1 ∙ ap (λ (s : SpaceWords). blocks s.words ++ (end_of s, fresh_block h) ∷ []) same;
-      object = ap (λ (t : SpaceWords). block_at (with_object s h).words (end_of t)) (sym same) ∙ placed_block s h space kind len fits;
+      object = ap (λ (t : SpaceWords). block_at (with_object s h).words (end_of t)) (sym same) ∙ placed_block s h can;
       words = ap (λ (s : SpaceWords). with_object s h) same;
     })
 

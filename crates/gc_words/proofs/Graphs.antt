@@ -1,5 +1,5 @@
 -- The graph of a space's words, and what writes do to it.
-use Rattle.std.proofs.Common.{◌≡◌, ℕ, suc, zero, ◌+◌, ◌*◌, ◌/◌, ◌%◌, ◌<◌, ◌≤◌, Bool, true, false, cond, ◌||◌, ◌==◌, List, [], ◌∷◌, ◌++◌, map, replicate, Some, None, refl, sym, ◌∙◌, ap, subst, inl, inr, arith}
+use Rattle.std.proofs.Common.{◌≡◌, ℕ, suc, zero, ◌+◌, ◌*◌, ◌/◌, ◌%◌, ◌<◌, Bool, true, false, cond, ◌||◌, ◌==◌, List, [], ◌∷◌, ◌++◌, map, replicate, Some, None, refl, sym, ◌∙◌, ap, subst, inl, inr, arith}
 use Rattle.std.specs.Prelude.{nat_lt, slice_get, slice_index, slice_set, IsSome, ◌⊎◌}
 use Rattle.std.specs.Option.{option_map}
 use Rattle.std.proofs.lemmas.Bool.{eqb-true, eqb-false, eq-eqb, ne_eqb, ltb-true, lt-ltb, cases_Bool, or_cases}
@@ -7,7 +7,7 @@ use Rattle.std.proofs.lemmas.List.{map-append, map-set}
 use Rattle.gc_graph.specs.Graph.{Value, Nil, Num, Ref, Object, Graph, lookup, new_object, add_object, set_field, set_root, field_of, value_or_nil}
 use Rattle.gc_words.specs.Word.{value_of, is_value, read_value, word_of, HasAddress, field_value}
 use Rattle.gc_words.specs.Image.{Block, fresh_block, blocks, block_in, block_at, field_at, field_in, is_start, object_of_block, object_entry, objects_of, graph_of}
-use Rattle.gc_words.specs.Space.{SpaceWords, IsSpace, end_of, free_in, with_object, with_word, without_links, image_with, field_place, link_place}
+use Rattle.gc_words.specs.Space.{SpaceWords, IsSpace, empty_space, end_of, CanPlace, with_object, with_word, without_links, image_with, field_place, link_place}
 use Rattle.gc_words.specs.declared.header.Header.{Header}
 use Rattle.gc_words.proofs.Walks.{objects_set}
 use Rattle.gc_words.proofs.Writes.{placed, field_written, link_written}
@@ -32,11 +32,21 @@ value_read_back (Ref a) h =
     ∙ ap (λ b. cond b (Some (cond (2 * a == 0) Nil (Ref ((2 * a) / 2)))) None) low
     ∙ ap (λ b. Some (cond b Nil (Ref ((2 * a) / 2)))) some ∙ ap (λ m. Some (Ref m)) half
 
+read_some : (w : ℕ) (v : Value) → read_value w ≡ Some v → (is_value w ≡ true) × (value_of w ≡ v)
+read_some w v e = from (is_value w) refl e
+  where
+    from : (b : Bool) → is_value w ≡ b → cond b (Some (value_of w)) None ≡ Some v → (is_value w ≡ true) × (value_of w ≡ v)
+    from true is e = (is, (let same : value_of w ≡ v = cc in same))
+    from false is e = absurd (let no : None ≡ Some v = e in cc)
+
+pub meaning_back : (v : Value) → HasAddress v → (is_value (word_of v) ≡ true) × (value_of (word_of v) ≡ v)
+meaning_back v has = read_some (word_of v) v (value_read_back v has)
+
 -- a word that is a value is the word of what it means
 abbrev pub IsWordOf : ℕ → Value → Type 0
 IsWordOf w v = (word_of v ≡ w) × HasAddress v
 
-meant : (w : ℕ) → is_value w ≡ true → IsWordOf w (value_of w)
+pub meant : (w : ℕ) → is_value w ≡ true → IsWordOf w (value_of w)
 meant w is =
     elim (cases_Bool (w == 0)) [
       | inl nil ↦ subst (IsWordOf w) (sym (ap (λ b. cond b Nil (cond (w % 2 == 1) (Num (w / 2)) (Ref (w / 2)))) nil)) (sym (eqb-true w 0 nil), tt)
@@ -54,11 +64,9 @@ meant w is =
         subst (IsWordOf w) (sym (ap (λ b. cond b (Num (w / 2)) (Ref (w / 2))) even)) (omega arith, (omega arith, omega arith))
 
 pub word_read_back : (w : ℕ) (v : Value) → read_value w ≡ Some v → IsWordOf w v
-word_read_back w v e = from (is_value w) refl e
-  where
-    from : (b : Bool) → is_value w ≡ b → cond b (Some (value_of w)) None ≡ Some v → IsWordOf w v
-    from true is e = (let same : value_of w ≡ v = cc in subst (IsWordOf w) same (meant w is))
-    from false is e = absurd (let no : None ≡ Some v = e in cc)
+word_read_back w v e =
+    let read : (is_value w ≡ true) × (value_of w ≡ v) = read_some w v e in
+    subst (IsWordOf w) read.1 (meant w read.0)
 
 -- ---- what a graph finds
 
@@ -89,6 +97,13 @@ root_value [] place = refl
 root_value (w ∷ roots) zero = refl
 root_value (w ∷ roots) (suc place) = root_value roots place
 
+pub roots_empty : (count : ℕ) → map value_of (replicate count 0) ≡ replicate count Nil
+roots_empty zero = refl
+roots_empty (suc count) = ap (λ vs. Nil ∷ vs) (roots_empty count)
+
+pub graph_empty : (size count : ℕ) → graph_of (image_with (empty_space size) (replicate count 0)) ≡ record { objects = []; roots = replicate count Nil }
+graph_empty size count = ap (λ vs. record { objects = []; roots = vs }) (roots_empty count)
+
 -- ---- writes
 
 -- a new object's fields are all nil
@@ -102,10 +117,10 @@ fresh_object h = ap (λ fs. record { kind = h.kind; fields = fs }) (nils h.len)
 graph_with : (roots : List ℕ) (os qs : List (ℕ × Object)) → os ≡ qs → ◌≡◌ {A = Graph} (record { objects = os; roots = map value_of roots }) (record { objects = qs; roots = map value_of roots })
 graph_with roots os qs e = ap (λ os. record { objects = os; roots = map value_of roots }) e
 
-pub graph_placed : (s : SpaceWords) (h : Header) (roots : List ℕ) → IsSpace s → h.kind < 256 → h.len < 65536 → h.len + 2 ≤ free_in s
+pub graph_placed : (s : SpaceWords) (h : Header) (roots : List ℕ) → CanPlace s h
     → graph_of (image_with (with_object s h) roots) ≡ add_object (graph_of (image_with s roots)) (end_of s) (new_object h.kind h.len)
-graph_placed s h roots space kind len room =
-    graph_with roots _ _ (ap (map object_entry) (placed s h space kind len room).1 ∙ map-append object_entry (blocks s.words) ((end_of s, fresh_block h) ∷ [])
+graph_placed s h roots can =
+    graph_with roots _ _ (ap (map object_entry) (placed s h can).1 ∙ map-append object_entry (blocks s.words) ((end_of s, fresh_block h) ∷ [])
     ∙ ap (λ o. objects_of s.words ++ (end_of s, o) ∷ []) (fresh_object h))
 
 pub graph_field : (s : SpaceWords) (a i w : ℕ) (b : Block) (roots : List ℕ) → IsSpace s → IsSome (field_at s.words a i) → block_at s.words a ≡ Some b

@@ -5,6 +5,9 @@ pub mod Steps
 pub mod Spelled
 pub mod Bodies
 pub mod Blocks
+pub mod Fields
+pub mod Ends
+pub mod Links
 pub mod Graphs
 pub mod References
 pub mod Faults

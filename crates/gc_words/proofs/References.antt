@@ -1,21 +1,21 @@
 -- Images in which every reference is to a start.
-use Rattle.std.proofs.Common.{◌≡◌, ℕ, suc, zero, ◌+◌, ◌*◌, ◌<◌, ◌≤◌, Bool, true, false, cond, ◌==◌, List, [], ◌∷◌, ◌++◌, map, length, replicate, Some, None, is_some, refl, sym, ◌∙◌, ap, subst, arith}
+use Rattle.std.proofs.Common.{◌≡◌, ℕ, suc, zero, ◌+◌, ◌<◌, ◌≤◌, true, false, cond, ◌==◌, List, [], ◌∷◌, ◌++◌, map, length, replicate, Some, None, is_some, refl, sym, ◌∙◌, ap, subst, arith}
 use Rattle.std.specs.Prelude.{slice_get, slice_set, IsOk, IsSome}
 use Rattle.std.specs.List.{All, AllByRecursion, flat_map}
 use Rattle.std.proofs.lemmas.Bool.{eq-eqb, ne_eqb}
 use Rattle.std.proofs.lemmas.List.Elements.{All-nil, All-cons, All-head, All-tail, All-replicate, All-append, All-set, All-push, All-weaker, All-map, All-from_recursion}
 use Rattle.std.proofs.lemmas.List.Folds.{list_any_none}
 use Rattle.gc_graph.specs.Graph.{Value, Nil, Num, Ref, Object, Graph, names_of, names_in, IsUnused}
-use Rattle.gc_words.specs.Word.{value_of, is_value, read_value, word_of, field_value, read_header}
+use Rattle.gc_words.specs.Word.{value_of, HasAddress, is_value, word_of, field_value, read_header}
 use Rattle.gc_words.specs.Image.{Block, fresh_block, walk_words, blocks, block_in, block_at, field_in, field_at, is_start, with_field_word, set_block, object_of_block, object_entry, objects_of, graph_of}
-use Rattle.gc_words.specs.Space.{SpaceWords, IsSpace, empty_space, end_of, free_in, with_object, with_word, image_with, field_place}
+use Rattle.gc_words.specs.Space.{SpaceWords, IsSpace, empty_space, end_of, free_in, CanPlace, with_object, with_word, image_with, field_place}
 use Rattle.gc_words.specs.Closed.{RefersToStart, IsRootWord, IsFieldWord, HasFieldWords, IsClosed}
 use Rattle.gc_words.specs.Walking.{StandsIn}
 use Rattle.gc_words.specs.declared.header.Header.{Header}
 use Rattle.gc_words.proofs.Walks.{Walked, First, first}
 use Rattle.gc_words.proofs.Starts.{walked_blocks, stands_in}
 use Rattle.gc_words.proofs.Writes.{some_of, placed, field_written}
-use Rattle.gc_words.proofs.Graphs.{value_read_back}
+use Rattle.gc_words.proofs.Graphs.{meaning_back}
 
 -- ---- starts are below the end
 
@@ -90,6 +90,13 @@ module _ (s : SpaceWords) (space : IsSpace s) where
       list_any_none (λ other. other == end_of s) (names_in (graph_with roots))
       (All-weaker Below (λ other. (other == end_of s) ≡ false) (λ other less. ne_eqb other (end_of s) (λ same. omega arith)) (names_in (graph_with roots)) (all_names roots closed))
 
+-- ---- the words of values
+
+pub value_refers : (words : List ℕ) (v : Value) → HasAddress v → RefersToStart words v → IsRootWord words (word_of v)
+value_refers words v has refers =
+    let back : (is_value (word_of v) ≡ true) × (value_of (word_of v) ≡ v) = meaning_back v has in
+    record { value = back.0; start = subst (RefersToStart words) (sym back.1) refers }
+
 -- ---- words that stay what they are while starts stay
 
 abbrev pub KeepsStarts : List ℕ → List ℕ → Type 0
@@ -140,12 +147,12 @@ start_last (entry ∷ bs) a b =
 fresh_has : (words : List ℕ) (h : Header) → HasFieldWords words (fresh_block h)
 fresh_has words h = All-replicate (IsFieldWord words h) h.len 0 (record { value = refl; start = tt })
 
-module _ (s : SpaceWords) (h : Header) (space : IsSpace s) (kind : h.kind < 256) (len : h.len < 65536) (room : h.len + 2 ≤ free_in s) where
+module _ (s : SpaceWords) (h : Header) (can : CanPlace s h) where
   abbrev after : List ℕ
   after = (with_object s h).words
 
   objects_after : blocks after ≡ blocks s.words ++ (end_of s, fresh_block h) ∷ []
-  objects_after = (placed s h space kind len room).1
+  objects_after = (placed s h can).1
 
   keeps_placed : KeepsStarts s.words after
   keeps_placed a start = ap (λ bs. is_some (block_in bs a)) objects_after ∙ start_push (blocks s.words) (end_of s, fresh_block h) a start
@@ -156,22 +163,12 @@ module _ (s : SpaceWords) (h : Header) (space : IsSpace s) (kind : h.kind < 256)
     roots = kept_roots s.words after roots keeps_placed closed.roots;
   }
 
-  read_some : (w : ℕ) (v : Value) → read_value w ≡ Some v → (is_value w ≡ true) × (v ≡ value_of w)
-  read_some w v e = from (is_value w) refl e
-    where
-      from : (b : Bool) → is_value w ≡ b → cond b (Some (value_of w)) None ≡ Some v → (is_value w ≡ true) × (v ≡ value_of w)
-      from true is e = (is, (let same : value_of w ≡ v = cc in sym same))
-      from false is e = absurd (let no : None ≡ Some v = e in cc)
-
   pub placed_reference : IsRootWord after (word_of (Ref (end_of s)))
   placed_reference =
-      let low : 1 ≤ length s.words = space.end_low in
-      let high : s.size ≤ 1048576 = space.size_high in
-      let read : (is_value (2 * end_of s) ≡ true) × (Ref (end_of s) ≡ value_of (2 * end_of s)) = read_some (2 * end_of s) (Ref (end_of s)) (value_read_back (Ref (end_of s)) (low, omega arith)) in
-      record {
-        value = read.0;
-        start = subst (RefersToStart after) read.1 (ap (λ bs. is_some (block_in bs (end_of s))) objects_after ∙ start_last (blocks s.words) (end_of s) (fresh_block h));
-      }
+      let low : 1 ≤ length s.words = can.shaped.end_low in
+      let high : s.size ≤ 1048576 = can.shaped.size_high in
+      let room : h.len + 2 ≤ free_in s = can.room in
+      value_refers after (Ref (end_of s)) (low, omega arith) (ap (λ bs. is_some (block_in bs (end_of s))) objects_after ∙ start_last (blocks s.words) (end_of s) (fresh_block h))
 
 -- ---- a field written
 

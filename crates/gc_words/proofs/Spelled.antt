@@ -41,7 +41,7 @@ walk_block at link b rest is =
     let one : h.len + 1 ≡ suc h.len = omega arith in
     let behind : drop (h.len + 1) words ≡ rest = ap (λ n. drop n words) one ∙ drop_at b.fields rest h.len count in
     let place : suc at + (h.len + 1) ≡ at + (h.len + 2) = omega arith in
-    object_result at (header_word h) words h (read_back h is.kind is.len) room
+    object_result at (header_word h) words h (read_back h is.header) room
     ∙ (λ i. with_front (at, record { header = h; fields = fields i }) (passed (h.len + 1) (suc at) words room i))
     ∙ (λ i. with_front (at, b) (walk 0 (place i) (behind i)))
 
@@ -74,7 +74,7 @@ spelled_rest (v ∷ ws) zero at bs links room are w =
     let h : Header = f.0 in
     let fits : h.len + 1 ≤ length ws = f.2 in
     let behind : drop (h.len + 1) ws ≡ spelled_from links f.3 = spelled_rest ws (h.len + 1) (suc at) f.3 links fits (next_links links at v ws are) f.4 in
-    let word : header_word h ≡ v = (written_back v h f.1).2 in
+    let word : header_word h ≡ v = (written_back v h f.1).1 in
     let zero_more : at ≡ at + 0 = omega arith in
     let link : links at ≡ get_or ws 0 0 = ap links zero_more ∙ are 0 in
     let one : 1 + h.len ≡ h.len + 1 = omega arith in

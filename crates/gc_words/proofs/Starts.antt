@@ -1,8 +1,8 @@
 -- Where the objects of a walk stand among the words.
-use Rattle.std.proofs.Common.{◌≡◌, ℕ, suc, zero, ◌+◌, ◌<◌, ◌≤◌, true, false, cond, ◌==◌, List, [], ◌∷◌, length, get_or, take, drop, Some, None, Result, Ok, Err, refl, sym, ◌∙◌, ap, subst, inl, inr, arith, length-take, length-drop}
+use Rattle.std.proofs.Common.{◌≡◌, ℕ, suc, zero, ◌+◌, ◌≤◌, true, false, cond, ◌==◌, List, [], ◌∷◌, length, get_or, take, drop, Some, None, Result, Ok, Err, refl, sym, ◌∙◌, ap, subst, inl, inr, arith, length-take, length-drop}
 use Rattle.std.specs.Prelude.{slice_index, IsOk}
 use Rattle.std.proofs.lemmas.Bool.{eqb-true, cases_Bool}
-use Rattle.gc_words.specs.Word.{header_word, read_header}
+use Rattle.gc_words.specs.Word.{read_header}
 use Rattle.gc_words.specs.Image.{Block, walk_words, ok_or_nil, blocks, block_in, block_at}
 use Rattle.gc_words.specs.Spelling.{IsBlock}
 use Rattle.gc_words.specs.Walking.{StandsIn}
@@ -20,10 +20,8 @@ pub record StandsAt (ws : List ℕ) (at a : ℕ) (b : Block) : Type 0 where
 
 pub whole_first : (h : Header) (w : ℕ) (ws : List ℕ) → read_header w ≡ Some h → h.len + 1 ≤ length ws → IsBlock (record { header = h; fields = fields_in h ws })
 whole_first h w ws is room =
-    let known : (h.kind < 256) × (h.len < 65536) × (header_word h ≡ w) = written_back w h is in
     record {
-      kind = known.0;
-      len = known.1;
+      header = (written_back w h is).0;
       fields = omega (arith, length-take h.len (drop 1 ws), length-drop 1 ws);
     }
 

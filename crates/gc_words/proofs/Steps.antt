@@ -8,7 +8,7 @@ use Rattle.gc_words.specs.Word.{read_header, header_word}
 use Rattle.gc_words.specs.Image.{Block, walk, with_front, walk_words, ok_or_nil, blocks, block_in}
 use Rattle.gc_words.specs.Spelling.{block_words, spelled, spelled_from, no_links}
 use Rattle.gc_words.specs.Fault.{fault_of_walk, words_fault}
-use Rattle.gc_words.specs.Walking.{next_after, next_of, walk_from}
+use Rattle.gc_words.specs.Walking.{next_after, next_of, walk_from, block_from, StepsTo}
 use Rattle.gc_words.specs.declared.header.Header.{Header}
 use Rattle.gc_words.proofs.Writes.{some_of}
 use Rattle.gc_words.proofs.Walks.{fields_in, starts_above, object_result, no_object, no_room, written_back}
@@ -22,16 +22,6 @@ passed (suc k) at (w ∷ ws) h = passed k (suc at) ws (omega arith) ∙ ap (λ n
 
 -- ---- one object
 
-abbrev pub block_from : List ℕ → ℕ → Header → Block
-block_from words at h = record { header = h; fields = take h.len (drop (at + 2) words) }
-
-pub record Step (words : List ℕ) (at next : ℕ) : Type 0 where
-  pub header : Header
-  pub word : read_header (slice_index words at) ≡ Some header
-  pub place : next ≡ at + (header.len + 2)
-  pub within : next ≤ length words
-  pub walk : walk_from words at ≡ with_front (at, block_from words at header) (walk_from words next)
-
 -- the words from a place on, the first of them apart
 opened : (words : List ℕ) (at : ℕ) → at < length words → drop at words ≡ slice_index words at ∷ drop (at + 1) words
 opened words at h = drop_more words at 0 h
@@ -39,14 +29,14 @@ opened words at h = drop_more words at 0 h
 rest_length : (words : List ℕ) (at : ℕ) → at < length words → length (drop (at + 1) words) ≡ length words - (at + 1)
 rest_length words at h = length-drop (at + 1) words
 
-pub step : (words : List ℕ) (at next : ℕ) → at < length words → next_of words at ≡ Some next → Step words at next
+pub step : (words : List ℕ) (at next : ℕ) → at < length words → next_of words at ≡ Some next → StepsTo words at next
 step words at next inside e = from (read_header (slice_index words at)) refl e
   where
     fits : (h : Header) (b : Bool) → nat_le (h.len + 2) (length words - at) ≡ b → cond b (Some (at + (h.len + 2))) None ≡ Some next → (h.len + 2 ≤ length words - at) × (at + (h.len + 2) ≡ next)
     fits h true t e = (leb-true _ _ t, (let same : at + (h.len + 2) ≡ next = cc in same))
     fits h false t e = absurd (let no : None ≡ Some next = e in cc)
 
-    from : (o : Option Header) → read_header (slice_index words at) ≡ o → next_after at o (length words - at) ≡ Some next → Step words at next
+    from : (o : Option Header) → read_header (slice_index words at) ≡ o → next_after at o (length words - at) ≡ Some next → StepsTo words at next
     from None is e = absurd (let no : None ≡ Some next = e in cc)
     from (Some h) is e =
         let f : (h.len + 2 ≤ length words - at) × (at + (h.len + 2) ≡ next) = fits h (nat_le (h.len + 2) (length words - at)) refl e in
@@ -63,7 +53,7 @@ step words at next inside e = from (read_header (slice_index words at)) refl e
           word = is;
           place = n;
           within = (let r : h.len + 2 ≤ length words - at = f.0 in omega arith);
-          walk = ap (walk 0 at) (opened words at inside)
+          walk_is = ap (walk 0 at) (opened words at inside)
               ∙ object_result at (slice_index words at) rest h is room
               ∙ ap (with_front (at, record { header = h; fields = fields_in h rest })) (passed (h.len + 1) (suc at) rest room
               ∙ ap (λ xs. walk 0 (suc at + (h.len + 1)) xs) (drop-drop (h.len + 1) (at + 1) words ∙ ap (λ n. drop n words) past)
@@ -106,8 +96,8 @@ fault_behind x (Err at) = refl
 
 pub same_fault : (words : List ℕ) (at next : ℕ) → at < length words → next_of words at ≡ Some next → fault_of_walk (walk_from words at) ≡ fault_of_walk (walk_from words next)
 same_fault words at next inside e =
-    let s : Step words at next = step words at next inside e in
-    ap fault_of_walk s.walk ∙ fault_behind _ (walk_from words next)
+    let s : StepsTo words at next = step words at next inside e in
+    ap fault_of_walk s.walk_is ∙ fault_behind _ (walk_from words next)
 
 -- words as many as they should be, the first of them 0
 pub framed : (end : ℕ) (words : List ℕ) → length words ≡ end → slice_index words 0 ≡ 0 → words_fault end words ≡ fault_of_walk (walk_from words 1)
@@ -120,16 +110,16 @@ ok_behind x (Ok xs) e = (refl, refl)
 ok_behind x (Err at) e = absurd (let no : false ≡ true = e in cc)
 
 pub record Behind (words : List ℕ) (at next : ℕ) : Type 0 where
-  pub step : Step words at next
+  pub step : StepsTo words at next
   pub walked : IsOk (walk_from words next)
   pub objects : ok_or_nil (walk_from words at) ≡ (at, block_from words at step.header) ∷ ok_or_nil (walk_from words next)
 
 pub behind : (words : List ℕ) (at next : ℕ) → at < length words → IsOk (walk_from words at) → next_of words at ≡ Some next → Behind words at next
 behind words at next inside ok e =
-    let s : Step words at next = step words at next inside e in
+    let s : StepsTo words at next = step words at next inside e in
     let b : IsOk (walk_from words next) × (ok_or_nil (with_front (at, block_from words at s.header) (walk_from words next)) ≡ (at, block_from words at s.header) ∷ ok_or_nil (walk_from words next))
-    = ok_behind _ (walk_from words next) (subst IsOk s.walk ok) in
-    record { step = s; walked = b.0; objects = ap ok_or_nil s.walk ∙ b.1 }
+    = ok_behind _ (walk_from words next) (subst IsOk s.walk_is ok) in
+    record { step = s; walked = b.0; objects = ap ok_or_nil s.walk_is ∙ b.1 }
 
 -- ---- whether an object starts at a place
 
@@ -191,7 +181,7 @@ cleared_step words at next inside ok e =
     let within : next ≤ length words = b.step.within in
     let kept : drop next after ≡ drop next words = drop-set-lt next words (at + 1) 0 (omega arith) in
     let same : walk_from after next ≡ walk_from words next = ap (walk 0 next) kept in
-    let word : header_word h ≡ slice_index words at = (written_back (slice_index words at) h b.step.word).2 in
+    let word : header_word h ≡ slice_index words at = (written_back (slice_index words at) h b.step.word).1 in
     let two : at + 1 + 1 ≡ at + 2 = omega arith in
     let rest : List ℕ = drop (at + 2) words in
     let open_words : drop at words ≡ slice_index words at ∷ slice_index words (at + 1) ∷ rest

@@ -5,7 +5,7 @@ use Rattle.std.specs.List.{AllByRecursion}
 use Rattle.std.proofs.lemmas.Bool.{eqb-true, leb-true, le-leb, lt-leb, lt-ltb, and_from, and_parts, ltb-true, cases_Bool}
 use Rattle.std.proofs.lemmas.List.{take-append-le, drop-append-le, take_all, map-set}
 use Rattle.gc_graph.specs.Graph.{set_field, with_field}
-use Rattle.gc_words.specs.Word.{header_word, read_header, field_value}
+use Rattle.gc_words.specs.Word.{IsHeader, header_word, read_header, field_value}
 use Rattle.gc_words.specs.Image.{Block, walk, object_at, with_front, block_in, set_block, object_of_block, object_entry}
 use Rattle.gc_words.specs.declared.header.Header.{Header}
 
@@ -17,8 +17,10 @@ quotient kind len k l = omega arith
 remainder : (kind len : ℕ) → kind < 256 → len < 65536 → (16777216 + 65536 * kind + len) % 65536 ≡ len
 remainder kind len k l = omega arith
 
-pub read_back : (h : Header) → h.kind < 256 → h.len < 65536 → read_header (header_word h) ≡ Some h
-read_back h k l =
+pub read_back : (h : Header) → IsHeader h → read_header (header_word h) ≡ Some h
+read_back h is =
+    let k : h.kind < 256 = is.kind in
+    let l : h.len < 65536 = is.len in
     let low : nat_le 16777216 (header_word h) ≡ true = le-leb _ _ (omega arith) in
     let high : nat_lt (header_word h) 33554432 ≡ true = lt-ltb _ _ (omega arith) in
     let q : (header_word h - 16777216) / 65536 ≡ h.kind = quotient h.kind h.len k l in
@@ -27,20 +29,20 @@ read_back h k l =
     ∙ (λ i. Some (record { kind = q i; len = r i }))
 
 -- a word that is read as a header is that header's word
-pub written_back : (w : ℕ) (h : Header) → read_header w ≡ Some h → (h.kind < 256) × (h.len < 65536) × (header_word h ≡ w)
+pub written_back : (w : ℕ) (h : Header) → read_header w ≡ Some h → IsHeader h × (header_word h ≡ w)
 written_back w h e = from (nat_le 16777216 w && nat_lt w 33554432) refl e
   where
     read : Header
     read = record { kind = (w - 16777216) / 65536; len = w % 65536 }
 
-    known : 16777216 ≤ w → w < 33554432 → (read.kind < 256) × (read.len < 65536) × (header_word read ≡ w)
-    known low high = (omega arith, omega arith, omega arith)
+    known : 16777216 ≤ w → w < 33554432 → IsHeader read × (header_word read ≡ w)
+    known low high = (record { kind = omega arith; len = omega arith }, omega arith)
 
-    from : (b : Bool) → (nat_le 16777216 w && nat_lt w 33554432) ≡ b → cond b (Some read) None ≡ Some h → (h.kind < 256) × (h.len < 65536) × (header_word h ≡ w)
+    from : (b : Bool) → (nat_le 16777216 w && nat_lt w 33554432) ≡ b → cond b (Some read) None ≡ Some h → IsHeader h × (header_word h ≡ w)
     from true t e =
         let both : (nat_le 16777216 w ≡ true) × (nat_lt w 33554432 ≡ true) = and_parts _ _ t in
         let same : read ≡ h = cc in
-        subst (λ (h : Header). (h.kind < 256) × (h.len < 65536) × (header_word h ≡ w)) same (known (leb-true _ _ both.0) (ltb-true _ _ both.1))
+        subst (λ (h : Header). IsHeader h × (header_word h ≡ w)) same (known (leb-true _ _ both.0) (ltb-true _ _ both.1))
     from false t e = absurd (let no : None ≡ Some h = e in cc)
 
 -- ---- the walk, one object at a time
@@ -113,9 +115,9 @@ starts_above (w ∷ ws) zero at bs e =
 
 -- ---- an object placed at the end
 
-alone : (at : ℕ) (h : Header) (link : ℕ) (fields : List ℕ) → h.kind < 256 → h.len < 65536 → length fields ≡ h.len → Walked 0 at (header_word h ∷ link ∷ fields) ((at, record { header = h; fields = fields }) ∷ [])
-alone at h link fields k l n =
-    object_walked at (header_word h) (link ∷ fields) h [] (read_back h k l) (omega arith) (past (h.len + 1) (suc at) (link ∷ fields) (omega arith))
+alone : (at : ℕ) (h : Header) (link : ℕ) (fields : List ℕ) → IsHeader h → length fields ≡ h.len → Walked 0 at (header_word h ∷ link ∷ fields) ((at, record { header = h; fields = fields }) ∷ [])
+alone at h link fields is n =
+    object_walked at (header_word h) (link ∷ fields) h [] (read_back h is) (omega arith) (past (h.len + 1) (suc at) (link ∷ fields) (omega arith))
     ∙ ap (λ fs. Ok ((at, record { header = h; fields = fs }) ∷ [])) (take_all h.len fields (omega arith))
   where
     past : (k at : ℕ) (xs : List ℕ) → length xs ≡ k → walk k at xs ≡ Ok []
@@ -124,20 +126,20 @@ alone at h link fields k l n =
     past zero at (x ∷ xs) e = absurd (omega arith)
     past (suc k) at (x ∷ xs) e = past k (suc at) xs (omega arith)
 
-pub walk_placed : (ws : List ℕ) (inside at : ℕ) (bs : List (ℕ × Block)) (h : Header) (link : ℕ) (fields : List ℕ) → h.kind < 256 → h.len < 65536 → length fields ≡ h.len
+pub walk_placed : (ws : List ℕ) (inside at : ℕ) (bs : List (ℕ × Block)) (h : Header) (link : ℕ) (fields : List ℕ) → IsHeader h → length fields ≡ h.len
     → inside ≤ length ws → Walked inside at ws bs → Walked inside at (ws ++ header_word h ∷ link ∷ fields) (bs ++ (at + length ws, record { header = h; fields = fields }) ∷ [])
-walk_placed [] zero at bs h link fields k l n room e =
-    alone at h link fields k l n ∙ (let none : [] ≡ bs = cc in (λ i. Ok (none i ++ (here i, record { header = h; fields = fields }) ∷ [])))
+walk_placed [] zero at bs h link fields is n room e =
+    alone at h link fields is n ∙ (let none : [] ≡ bs = cc in (λ i. Ok (none i ++ (here i, record { header = h; fields = fields }) ∷ [])))
   where
     here : at ≡ at + 0
     here = omega arith
-walk_placed [] (suc inside) at bs h link fields k l n room e = absurd (omega arith)
-walk_placed (w ∷ ws) (suc inside) at bs h link fields k l n room e =
-    walk_placed ws inside (suc at) bs h link fields k l n (omega arith) e ∙ ap (λ m. Ok (bs ++ (m, record { header = h; fields = fields }) ∷ [])) (omega arith)
-walk_placed (w ∷ ws) zero at bs h link fields k l n room e =
+walk_placed [] (suc inside) at bs h link fields is n room e = absurd (omega arith)
+walk_placed (w ∷ ws) (suc inside) at bs h link fields is n room e =
+    walk_placed ws inside (suc at) bs h link fields is n (omega arith) e ∙ ap (λ m. Ok (bs ++ (m, record { header = h; fields = fields }) ∷ [])) (omega arith)
+walk_placed (w ∷ ws) zero at bs h link fields is n room e =
     let f : First at ws bs (read_header w) = first at w ws bs e in
     let more : List ℕ = header_word h ∷ link ∷ fields in
-    let ih : Walked (f.0.len + 1) (suc at) (ws ++ more) (f.3 ++ (suc at + length ws, record { header = h; fields = fields }) ∷ []) = walk_placed ws (f.0.len + 1) (suc at) f.3 h link fields k l n f.2 f.4 in
+    let ih : Walked (f.0.len + 1) (suc at) (ws ++ more) (f.3 ++ (suc at + length ws, record { header = h; fields = fields }) ∷ []) = walk_placed ws (f.0.len + 1) (suc at) f.3 h link fields is n f.2 f.4 in
     let longer : length (ws ++ more) ≡ length ws + length more = length-append ws more in
     let dropped : drop 1 (ws ++ more) ≡ drop 1 ws ++ more = drop-append-le 1 ws more (let r : f.0.len + 1 ≤ length ws = f.2 in omega arith) in
     let kept : fields_in f.0 (ws ++ more) ≡ fields_in f.0 ws = ap (take f.0.len) dropped ∙ take-append-le f.0.len (drop 1 ws) more (let r : f.0.len + 1 ≤ length ws = f.2 in let d : length (drop 1 ws) ≡ length ws - 1 = length_drop_one ws in omega arith) in

@@ -5,7 +5,7 @@ use Rattle.std.proofs.lemmas.List.{get_or-take, get_or-drop, length-replicate}
 use Rattle.std.proofs.lemmas.Option.{slice_get-get_or, slice_get_within}
 use Rattle.gc_words.specs.Word.{read_header, header_word}
 use Rattle.gc_words.specs.Image.{Block, fresh_block, walk_words, HasShape, ok_or_nil, blocks, block_at, is_start, header_of, header_at, field_in, field_at, set_block}
-use Rattle.gc_words.specs.Space.{SpaceWords, IsSpace, end_of, free_in, with_object, with_word, field_place, link_place}
+use Rattle.gc_words.specs.Space.{SpaceWords, IsSpace, end_of, CanPlace, with_object, with_word, field_place, link_place}
 use Rattle.gc_words.specs.Walking.{StandsIn}
 use Rattle.gc_words.specs.declared.header.Header.{Header}
 use Rattle.gc_words.proofs.Walks.{walk_placed, walk_field, walk_link, HasField, IsThere}
@@ -82,16 +82,16 @@ space_of size words bs low high bound reserved walked = (
   ap ok_or_nil walked,
 )
 
-pub placed : (s : SpaceWords) (h : Header) → IsSpace s → h.kind < 256 → h.len < 65536 → h.len + 2 ≤ free_in s
+pub placed : (s : SpaceWords) (h : Header) → CanPlace s h
     → IsSpace (with_object s h) × (blocks (with_object s h).words ≡ blocks s.words ++ (end_of s, fresh_block h) ∷ [])
-placed s h space kind len room = in_words s.words space room
+placed s h can = in_words s.words can.shaped can.room
   where
     in_words : (words : List ℕ) → HasShape s.size (length words) words → h.len + 2 ≤ s.size - length words
         → IsSpace (record { size = s.size; words = words ++ header_word h ∷ 0 ∷ replicate h.len 0 }) × (blocks (words ++ header_word h ∷ 0 ∷ replicate h.len 0) ≡ blocks words ++ (length words, fresh_block h) ∷ [])
     in_words [] shape room = absurd (let low : 1 ≤ 0 = shape.end_low in omega arith)
     in_words (w ∷ ws) shape room =
         let walked : walk_words (w ∷ (ws ++ header_word h ∷ 0 ∷ replicate h.len 0)) ≡ Ok (blocks (w ∷ ws) ++ (1 + length ws, fresh_block h) ∷ [])
-        = walk_placed ws 0 1 (blocks (w ∷ ws)) h 0 (replicate h.len 0) kind len (length-replicate h.len 0) (omega arith) (walked_blocks (w ∷ ws) shape.walked) in
+        = walk_placed ws 0 1 (blocks (w ∷ ws)) h 0 (replicate h.len 0) can.header (length-replicate h.len 0) (omega arith) (walked_blocks (w ∷ ws) shape.walked) in
         let two : suc (suc h.len) ≡ h.len + 2 = omega arith in
         let longer : length (ws ++ header_word h ∷ 0 ∷ replicate h.len 0) ≡ length ws + (h.len + 2)
         = length-append ws (header_word h ∷ 0 ∷ replicate h.len 0) ∙ ap (λ n. length ws + suc (suc n)) (length-replicate h.len 0) ∙ ap (λ n. length ws + n) two in

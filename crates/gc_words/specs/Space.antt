@@ -1,5 +1,6 @@
 -- A space as contracts see it, and what its calls do to it.
-use Rattle.std.specs.Prelude.{ℕ, ◌+◌, ◌-◌, List, [], ◌∷◌, ◌++◌, length, slice_set}
+use Rattle.std.specs.Prelude.{ℕ, ◌+◌, ◌-◌, ◌≤◌, List, [], ◌∷◌, ◌++◌, length, slice_set}
+use Rattle.gc_words.specs.Word.{IsHeader}
 use Rattle.gc_words.specs.Image.{Image, HasShape, blocks, fresh_block}
 use Rattle.gc_words.specs.Spelling.{block_words, spelled, no_links}
 use Rattle.gc_words.specs.declared.header.Header.{Header}
@@ -23,6 +24,16 @@ end_of space = length space.words
 -- words that no object takes
 abbrev pub free_in : SpaceWords → ℕ
 free_in space = space.size - end_of space
+
+-- an object with so many fields can be placed
+abbrev pub HasRoom : SpaceWords → ℕ → Type 0
+HasRoom space len = len + 2 ≤ free_in space
+
+-- an object with this header can be placed
+pub record CanPlace (space : SpaceWords) (h : Header) : Type 0 where
+  pub shaped : IsSpace space
+  pub header : IsHeader h
+  pub room : HasRoom space h.len
 
 -- with one object more, at the old end: link 0, all field words 0
 abbrev pub with_object : SpaceWords → Header → SpaceWords

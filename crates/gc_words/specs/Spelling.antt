@@ -1,7 +1,7 @@
 -- The words of a space, made from its objects and their links.
-use Rattle.std.specs.Prelude.{◌≡◌, ℕ, ◌+◌, ◌<◌, List, [], ◌∷◌, length, slice_index, ⊤}
+use Rattle.std.specs.Prelude.{◌≡◌, ℕ, ◌+◌, List, [], ◌∷◌, length, slice_index, ⊤}
 use Rattle.std.specs.List.{flat_map}
-use Rattle.gc_words.specs.Word.{header_word}
+use Rattle.gc_words.specs.Word.{IsHeader, header_word}
 use Rattle.gc_words.specs.Image.{Block}
 
 -- header, link, fields
@@ -23,10 +23,9 @@ no_links place = 0
 abbrev pub link_at : List ℕ → ℕ → ℕ
 link_at words place = slice_index words (place + 1)
 
--- a header that a word can be, and as many fields as it says
+-- it has as many fields as its header says
 pub record IsBlock (b : Block) : Type 0 where
-  pub kind : b.header.kind < 256
-  pub len : b.header.len < 65536
+  pub header : IsHeader b.header
   pub fields : length b.fields ≡ b.header.len
 
 -- objects back to back from a place on

@@ -1,7 +1,7 @@
 -- The walk over a space's words, one object at a time, as loops make it.
 use Rattle.std.specs.Prelude.{◌≡◌, ℕ, ◌+◌, ◌-◌, ◌≤◌, nat_le, if◌then◌else◌, List, length, take, drop, slice_index, Option, Some, None, Result}
 use Rattle.gc_words.specs.Word.{read_header}
-use Rattle.gc_words.specs.Image.{Block, walk}
+use Rattle.gc_words.specs.Image.{Block, walk, with_front}
 use Rattle.gc_words.specs.Spelling.{IsBlock}
 use Rattle.gc_words.specs.declared.header.Header.{Header}
 
@@ -16,6 +16,18 @@ next_of words at = next_after at (read_header (slice_index words at)) (length wo
 -- the walk from a place on at which an object starts
 abbrev pub walk_from : List ℕ → ℕ → Result (List (ℕ × Block)) ℕ
 walk_from words at = walk 0 at (drop at words)
+
+-- an object with this header, as it stands at a place of the words
+abbrev pub block_from : List ℕ → ℕ → Header → Block
+block_from words at h = record { header = h; fields = take h.len (drop (at + 2) words) }
+
+-- one object is met here, and the walk goes on behind it
+pub record StepsTo (words : List ℕ) (at next : ℕ) : Type 0 where
+  pub header : Header
+  pub word : read_header (slice_index words at) ≡ Some header
+  pub place : next ≡ at + (header.len + 2)
+  pub within : next ≤ length words
+  pub walk_is : walk_from words at ≡ with_front (at, block_from words at header) (walk_from words next)
 
 -- the object stands at a place of the words
 pub record StandsIn (words : List ℕ) (place : ℕ) (b : Block) : Type 0 where

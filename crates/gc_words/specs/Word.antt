@@ -4,6 +4,11 @@ use Rattle.gc_graph.specs.Graph.{Value, Nil, Num, Ref}
 use Rattle.gc_graph.specs.Correspond.{correspond}
 use Rattle.gc_words.specs.declared.header.Header.{Header}
 
+-- a header that a word can be
+pub record IsHeader (h : Header) : Type 0 where
+  pub kind : h.kind < 256
+  pub len : h.len < 65536
+
 abbrev pub header_word : Header → ℕ
 header_word h = 16777216 + 65536 * h.kind + h.len
 

@@ -29,7 +29,7 @@ impl Space {
     ghost use Rattle.std.specs.Prelude.{◌≡◌, ◌<◌, ◌≤◌, ◌+◌, ◌∷◌, ◌++◌, [], ◌↔◌, Some, IsTrue, IsSome, IfOk};
     ghost use Rattle.gc_words.specs.Image.{blocks, block_at, is_start, header_at, field_at, set_block, fresh_block};
     ghost use Rattle.gc_words.specs.Spelling.{link_at};
-    ghost use Rattle.gc_words.specs.Space.{IsSpace, empty_space, end_of, free_in, with_object, with_word, without_links, link_place, field_place};
+    ghost use Rattle.gc_words.specs.Space.{IsSpace, empty_space, end_of, free_in, HasRoom, with_object, with_word, without_links, link_place, field_place};
 
     /// A space of so many words, without objects.
     pub fn new(alloc: Global, size: u32) -> Result<Space, NoMemory>
@@ -86,14 +86,14 @@ impl Space {
 
     /// Whether an object with so many fields can be placed.
     pub fn has_room(&self, len: u16) -> bool
-        ensures { IsTrue result ↔ (len + 2 ≤ free_in self.now) }
+        ensures { IsTrue result ↔ HasRoom self.now len }
     {
         u32::from(len) + 2 <= self.free()
     }
 
     /// Places an object at the end, with link 0 and all field words 0, and gives its address.
     pub fn place(&mut self, header: Header) -> Addr
-        requires { header.len + 2 ≤ free_in self.old }
+        requires { HasRoom self.old header.len }
         ensures at { result.0 ≡ end_of self.old }
         ensures words { self.new ≡ with_object self.old header }
         ensures objects { blocks self.new.words ≡ blocks self.old.words ++ (end_of self.old, fresh_block header) ∷ [] }
@@ -101,10 +101,10 @@ impl Space {
         ensures shaped { IsSpace self.new }
     {
         let start = self.words.len();
+        let end = start + 2 + usize::from(header.len());
         self.words.push_reserved(header.word());
-        self.words
-            .resize(start + 2 + usize::from(header.len()), 0)
-            .unwrap();
+        // `new` has made the room, so this cannot fail.
+        self.words.resize(end, 0).unwrap();
         Addr(start as u32)
     }
 

@@ -1,9 +1,10 @@
-use Rattle.gc_words.proofs.References.{closed_empty, closed_placed, placed_reference, closed_field, closed_objects, closed_root, closed_field_read, closed_root_read}
+use Rattle.gc_words.proofs.References.{closed_empty, value_refers, closed_placed, placed_reference, closed_field, closed_objects, closed_root, closed_field_read, closed_root_read}
 use Rattle.gc_words.proofs.laws.references_stay_to_starts.Goals as goal
 
 pub returns : goal.returns
 returns c = record {
   empty = closed_empty;
+  value = value_refers;
   placed = closed_placed;
   reference = placed_reference;
   field = closed_field;

@@ -1,6 +1,6 @@
 use Rattle.gc_words.proofs.Walks.{read_back, written_back}
-use Rattle.gc_words.proofs.Graphs.{value_read_back, word_read_back}
+use Rattle.gc_words.proofs.Graphs.{value_read_back, word_read_back, meaning_back, meant}
 use Rattle.gc_words.proofs.laws.words_are_read_back.Goals as goal
 
 pub returns : goal.returns
-returns c = record { value = value_read_back; value_word = word_read_back; header = read_back; header_word = written_back }
+returns c = record { value = value_read_back; value_word = word_read_back; meaning = meaning_back; meaning_word = meant; header = read_back; header_word = written_back }

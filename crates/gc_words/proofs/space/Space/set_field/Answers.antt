@@ -1,13 +1,12 @@
-use Rattle.std.proofs.Common.{length, ap, subst, arith}
-use Rattle.gc_words.specs.Space.{SpaceWords, IsSpace}
-use Rattle.gc_words.proofs.Writes.{FieldRead, field_read}
-use Rattle.gc_words.proofs.Bodies.{field_at_place}
+use Rattle.std.proofs.Common.{length, ap, arith}
+use Rattle.gc_words.specs.Space.{SpaceWords}
+use Rattle.gc_words.proofs.Writes.{FieldRead}
+use Rattle.gc_words.proofs.Bodies.{field_seen, field_at_place}
 use Rattle.gc_words.proofs.space.Space.set_field.Goals as goal
 
 pub index_mut-requires : goal.index_mut-requires
 index_mut-requires c =
-    let space : IsSpace c.args.self.now = subst IsSpace c.self.view_is c.self.invariant.0 in
-    let f : FieldRead c.args.self.now.words c.args.at.0 c.args.i = field_read c.args.self.now.words c.args.at.0 c.args.i space.walked c.requires in
+    let f : FieldRead c.args.self.now.words c.args.at.0 c.args.i = field_seen _ _ c.args.at.0 c.args.i c.self.view_is c.self.invariant.0 c.requires in
     omega (arith, c.self.inside.words.ok.0, ap (λ (s : SpaceWords). length s.words) c.self.view_is, f.within, c.field_index.ensures)
 
 pub invariant_of-self : goal.invariant_of-self

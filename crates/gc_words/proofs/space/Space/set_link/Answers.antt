@@ -1,13 +1,12 @@
-use Rattle.std.proofs.Common.{length, ap, subst, arith}
-use Rattle.gc_words.specs.Space.{SpaceWords, IsSpace}
-use Rattle.gc_words.proofs.Writes.{HeaderRead, header_read}
-use Rattle.gc_words.proofs.Bodies.{link_at_place}
+use Rattle.std.proofs.Common.{length, ap, arith}
+use Rattle.gc_words.specs.Space.{SpaceWords}
+use Rattle.gc_words.proofs.Writes.{HeaderRead}
+use Rattle.gc_words.proofs.Bodies.{header_seen, link_at_place}
 use Rattle.gc_words.proofs.space.Space.set_link.Goals as goal
 
 pub index_mut-requires : goal.index_mut-requires
 index_mut-requires c =
-    let space : IsSpace c.args.self.now = subst IsSpace c.self.view_is c.self.invariant.0 in
-    let r : HeaderRead c.args.self.now.words c.args.at.0 = header_read c.args.self.now.words c.args.at.0 space.walked c.requires in
+    let r : HeaderRead c.args.self.now.words c.args.at.0 = header_seen _ _ c.args.at.0 c.self.view_is c.self.invariant.0 c.requires in
     omega (arith, c.self.inside.words.ok.0, ap (λ (s : SpaceWords). length s.words) c.self.view_is, r.within, c.link_index.ensures)
 
 pub invariant_of-self : goal.invariant_of-self

@@ -1,0 +1,87 @@
+-- Links after a write: each write leaves the others alone.
+use Rattle.std.proofs.Common.{◌≡◌, ℕ, ◌+◌, ◌<◌, ◌≤◌, true, false, cond, ◌==◌, List, [], ◌∷◌, length, replicate, Some, None, is_some, sym, ◌∙◌, ap, inl, inr, arith}
+use Rattle.std.specs.Prelude.{IsSome}
+use Rattle.std.proofs.lemmas.Bool.{eqb-true, cases_Bool, cases_lt}
+use Rattle.std.proofs.lemmas.List.{get_or_append_left, get_or-append-add, get_or-set_same, get_or-set_other}
+use Rattle.gc_words.specs.Word.{header_word}
+use Rattle.gc_words.specs.Image.{Block, blocks, block_in, block_at, is_start, field_at}
+use Rattle.gc_words.specs.Spelling.{link_at, no_links, LaidOut}
+use Rattle.gc_words.specs.Space.{SpaceWords, IsSpace, end_of, with_object, with_word, without_links, field_place, link_place}
+use Rattle.gc_words.specs.declared.header.Header.{Header}
+use Rattle.gc_words.proofs.Starts.{stands_in}
+use Rattle.gc_words.proofs.Writes.{FieldRead, field_read, some_of}
+use Rattle.gc_words.proofs.Spelled.{laid_out_words, link_spelled}
+
+-- ---- objects do not overlap
+
+-- a start is not before the place from which on objects are laid out
+not_before : (entries : List (ℕ × Block)) (at x : ℕ) → LaidOut at entries → is_some (block_in entries x) ≡ true → at ≤ x
+not_before [] at x laid e = absurd (let no : false ≡ true = e in cc)
+not_before (entry ∷ rest) at x laid e =
+    let place : entry.0 ≡ at = laid.0 in
+    elim (cases_Bool (entry.0 == x)) [
+      | inl here ↦ (let same : entry.0 ≡ x = eqb-true entry.0 x here in omega arith)
+      | inr other ↦ (let more : at + (entry.1.header.len + 2) ≤ x = not_before rest (at + (entry.1.header.len + 2)) x laid.2 (sym (ap (λ t. is_some (cond t (Some entry.1) (block_in rest x))) other) ∙ e) in omega arith)
+    ]
+
+-- of two starts the greater is behind the other's object
+apart : (entries : List (ℕ × Block)) (at a x : ℕ) (b : Block) → LaidOut at entries → block_in entries a ≡ Some b → is_some (block_in entries x) ≡ true → a < x → a + (b.header.len + 2) ≤ x
+apart [] at a x b laid found start less = absurd (let no : None ≡ Some b = found in cc)
+apart (entry ∷ rest) at a x b laid found start less =
+    let place : entry.0 ≡ at = laid.0 in
+    let behind : is_some (block_in rest x) ≡ true → at + (entry.1.header.len + 2) ≤ x = not_before rest (at + (entry.1.header.len + 2)) x laid.2 in
+    elim (cases_Bool (entry.0 == a)) [
+      | inl here ↦ (let same : entry.0 ≡ a = eqb-true entry.0 a here in
+          let is : entry.1 ≡ b = (let s : Some entry.1 ≡ Some b = sym (ap (λ t. cond t (Some entry.1) (block_in rest a)) here) ∙ found in cc) in
+          let len : entry.1.header.len ≡ b.header.len = ap (λ (b : Block). b.header.len) is in
+          elim (cases_Bool (entry.0 == x)) [
+            | inl there ↦ (let equal : entry.0 ≡ x = eqb-true entry.0 x there in absurd (omega arith))
+            | inr other ↦ (let more : at + (entry.1.header.len + 2) ≤ x = behind (sym (ap (λ t. is_some (cond t (Some entry.1) (block_in rest x))) other) ∙ start) in omega arith)
+          ])
+      | inr elsewhere ↦ (let later : block_in rest a ≡ Some b = sym (ap (λ t. cond t (Some entry.1) (block_in rest a)) elsewhere) ∙ found in
+          elim (cases_Bool (entry.0 == x)) [
+            | inl there ↦ (let equal : entry.0 ≡ x = eqb-true entry.0 x there in
+                let low : at + (entry.1.header.len + 2) ≤ a = not_before rest (at + (entry.1.header.len + 2)) a laid.2 (ap is_some later) in absurd (omega arith))
+            | inr other ↦ apart rest (at + (entry.1.header.len + 2)) a x b laid.2 later (sym (ap (λ t. is_some (cond t (Some entry.1) (block_in rest x))) other) ∙ start) less
+          ])
+    ]
+
+link_within : (s : SpaceWords) (x : ℕ) → IsSpace s → is_start s.words x ≡ true → x + 1 < length s.words
+link_within s x space start =
+    let b : (b : Block) × (block_at s.words x ≡ Some b) = some_of (block_at s.words x) start in
+    let fits : x + (b.0.header.len + 2) ≤ length s.words = (stands_in s.words x b.0 space.walked b.1).fits in omega arith
+
+-- ---- an object placed
+
+pub link_placed : (s : SpaceWords) (h : Header) → link_at (with_object s h).words (end_of s) ≡ 0
+link_placed s h = get_or-append-add s.words (header_word h ∷ 0 ∷ replicate h.len 0) 1 0
+
+pub link_placed_beside : (s : SpaceWords) (h : Header) (x : ℕ) → IsSpace s → is_start s.words x ≡ true → link_at (with_object s h).words x ≡ link_at s.words x
+link_placed_beside s h x space start = get_or_append_left s.words (header_word h ∷ 0 ∷ replicate h.len 0) 0 (x + 1) (link_within s x space start)
+
+-- ---- a field written
+
+pub link_beside_field : (s : SpaceWords) (a i w x : ℕ) → IsSpace s → IsSome (field_at s.words a i) → is_start s.words x ≡ true → link_at (with_word s (field_place a i) w).words x ≡ link_at s.words x
+link_beside_field s a i w x space some start =
+    let f : FieldRead s.words a i = field_read s.words a i space.walked some in
+    let small : i < f.block.header.len = f.has_field in
+    let differs : x + 1 ≡ field_place a i → ⊥ = λ same. elim (cases_lt a x) [
+      | inl less ↦ (let past : a + (f.block.header.len + 2) ≤ x = apart (blocks s.words) 1 a x f.block (laid_out_words s.words space.walked) f.found start less in omega arith)
+      | inr more ↦ omega arith
+    ] in
+    get_or-set_other s.words (field_place a i) (x + 1) w 0 differs
+
+-- ---- a link written
+
+pub link_written_there : (s : SpaceWords) (a w : ℕ) → IsSpace s → is_start s.words a ≡ true → link_at (with_word s (link_place a) w).words a ≡ w
+link_written_there s a w space start = get_or-set_same s.words (a + 1) w 0 (link_within s a space start)
+
+pub link_written_beside : (s : SpaceWords) (a w x : ℕ) → (a ≡ x → ⊥) → link_at (with_word s (link_place a) w).words x ≡ link_at s.words x
+link_written_beside s a w x other = get_or-set_other s.words (a + 1) (x + 1) w 0 (λ same. other (omega arith))
+
+-- ---- links cleared
+
+pub link_cleared : (s : SpaceWords) (x : ℕ) → IsSpace s → is_start s.words x ≡ true → link_at (without_links s).words x ≡ 0
+link_cleared s x space start =
+    let b : (b : Block) × (block_at s.words x ≡ Some b) = some_of (block_at s.words x) start in
+    link_spelled (blocks s.words) no_links x b.0 (laid_out_words s.words space.walked) b.1
