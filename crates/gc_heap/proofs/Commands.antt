@@ -1,5 +1,5 @@
 -- Commands on a heap of words, as commands on its graph.
-use Rattle.std.proofs.Common.{◌≡◌, ℕ, suc, zero, ◌+◌, ◌<◌, ◌≤◌, Bool, true, false, cond, ◌==◌, List, [], ◌∷◌, length, Option, Some, None, is_some, refl, sym, ◌∙◌, ap, subst, inl, inr, arith}
+use Rattle.std.proofs.Common.{◌≡◌, ℕ, suc, zero, ◌<◌, Bool, true, false, cond, ◌==◌, List, [], ◌∷◌, length, Option, Some, None, is_some, refl, sym, ◌∙◌, ap, subst, inl, inr, arith}
 use Rattle.std.specs.Prelude.{slice_get, slice_index, slice_set, get_or}
 use Rattle.std.specs.Option.{option_map}
 use Rattle.std.proofs.lemmas.Bool.{eqb-true, eq-eqb, cases_Bool, and_from, and_parts}
@@ -10,7 +10,7 @@ use Rattle.gc_graph.specs.declared.reply.Reply.TheVariants.{Done, NoField, Saw}
 use Rattle.gc_graph.specs.declared.reply.View.{View}
 use Rattle.gc_words.specs.Word.{value_of, word_of, field_value}
 use Rattle.gc_words.specs.Image.{Block, block_at, field_at, is_start, objects_of, object_of_block}
-use Rattle.gc_words.specs.Space.{with_object, with_word, field_place, end_of, free_in}
+use Rattle.gc_words.specs.Space.{with_object, with_word, field_place, end_of, CanPlace}
 use Rattle.gc_words.specs.declared.header.Header.{Header}
 use Rattle.gc_words.specs.Closed.{IsRootWord, IsFieldWord, RefersToStart}
 use Rattle.gc_words.proofs.Graphs.{object_found, field_found, root_value, graph_field, graph_root, word_read_back}
@@ -173,10 +173,10 @@ at_root h p w read = root_value h.roots p ∙ ap value_of (sym read)
 
 -- ---- a new object
 
-pub made_heap : (h : HeapWords) (p : ℕ) (header : Header) → IsHeap h → header.kind < 256 → header.len < 65536 → header.len + 2 ≤ free_in h.space
+pub made_heap : (h : HeapWords) (p : ℕ) (header : Header) → IsHeap h → CanPlace h.space header
     → IsHeap (record h { space = with_object h.space header; roots = slice_set h.roots p (word_of (Ref (end_of h.space))) })
-made_heap h p header heap kind len room = record {
-  space = (placed h.space header heap.space kind len room).0;
-  closed = closed_root (with_object h.space header).words h.roots p (word_of (Ref (end_of h.space))) (placed_reference h.space header heap.space kind len room) (closed_placed h.space header heap.space kind len room h.roots heap.closed);
+made_heap h p header heap can = record {
+  space = (placed h.space header can).0;
+  closed = closed_root (with_object h.space header).words h.roots p (word_of (Ref (end_of h.space))) (placed_reference h.space header can) (closed_placed h.space header can h.roots heap.closed);
   roots = length-set h.roots p (word_of (Ref (end_of h.space))) ∙ heap.roots;
 }

@@ -1,4 +1,4 @@
-pub mod Fields
+pub mod Seen
 pub mod Commands
 pub mod Links
 pub mod Steps

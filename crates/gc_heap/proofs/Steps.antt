@@ -1,8 +1,7 @@
 -- Commands on a heap of words, as steps of the roomy machine.
-use Rattle.std.proofs.Common.{◌≡◌, ℕ, suc, ◌+◌, ◌-◌, ◌<◌, ◌≤◌, Bool, true, false, cond, ◌∷◌, ◌++◌, length, replicate, Some, None, refl, sym, ◌∙◌, ap, arith}
+use Rattle.std.proofs.Common.{◌≡◌, ℕ, ◌+◌, ◌-◌, ◌<◌, ◌≤◌, cond, length, sym, ◌∙◌, ap, arith}
 use Rattle.std.specs.Prelude.{slice_index, slice_set, nat_lt}
 use Rattle.std.proofs.lemmas.Bool.{lt-ltb, le-ltb}
-use Rattle.std.proofs.lemmas.List.{length-append, length-replicate}
 use Rattle.gc_graph.specs.Slots.{SlotName, place}
 use Rattle.gc_graph.specs.Graph.{Value, Ref, root, set_root, add_object, new_object}
 use Rattle.gc_graph.specs.Machine.{step, roomy_step, view_of, MakesObject}
@@ -12,19 +11,14 @@ use Rattle.gc_graph.specs.declared.reply.Reply.{Reply}
 use Rattle.gc_graph.specs.declared.reply.Reply.TheVariants.{Full, Made, Done, Saw}
 use Rattle.gc_graph.specs.declared.reply.View.{View}
 use Rattle.gc_graph.proofs.Stepping.{in_place, with_free}
-use Rattle.gc_words.specs.Word.{is_value, value_of, read_value, word_of, header_word}
-use Rattle.gc_words.specs.Space.{SpaceWords, end_of, free_in, with_object}
+use Rattle.gc_words.specs.Word.{value_of, word_of}
+use Rattle.gc_words.specs.Space.{CanPlace, end_of, free_in, with_object}
 use Rattle.gc_words.specs.declared.header.Header.{Header}
 use Rattle.gc_words.proofs.Graphs.{graph_root, graph_placed, value_read_back}
+use Rattle.gc_words.proofs.Ends.{free_placed}
+use Rattle.gc_heap.proofs.Seen.{meaning}
 use Rattle.gc_heap.specs.Heap.{HeapWords, IsHeap, graph_in, roomy_in, Makes}
 use Rattle.gc_heap.proofs.Commands.{at_root}
-
-pub meaning : (w : ℕ) (v : Value) → read_value w ≡ Some v → value_of w ≡ v
-meaning w v e = from (is_value w) refl e
-  where
-    from : (b : Bool) → is_value w ≡ b → cond b (Some (value_of w)) None ≡ Some v → value_of w ≡ v
-    from true is e = cc
-    from false is e = absurd (let no : None ≡ Some v = e in cc)
 
 -- a root takes a word
 pub took : (h new : HeapWords) (m : ℕ) (op op' : Op) (p w : ℕ) (v : Value) (reply : Reply) → op' ≡ op → (MakesObject op → ⊥)
@@ -48,31 +42,24 @@ looked h m op s p w view is at read seen =
 abbrev pub with_new : HeapWords → ℕ → Header → HeapWords
 with_new h p header = record h { space = with_object h.space header; roots = slice_set h.roots p (word_of (Ref (end_of h.space))) }
 
-new_graph : (h : HeapWords) (p : ℕ) (header : Header) → IsHeap h → header.kind < 256 → header.len < 65536 → header.len + 2 ≤ free_in h.space
+new_graph : (h : HeapWords) (p : ℕ) (header : Header) → IsHeap h → CanPlace h.space header
     → graph_in (with_new h p header) ≡ set_root (add_object (graph_in h) (end_of h.space) (new_object header.kind header.len)) p (Ref (end_of h.space))
-new_graph h p header heap kind len room =
+new_graph h p header heap can =
     let low : 1 ≤ length h.space.words = heap.space.end_low in
     let high : h.space.size ≤ 1048576 = heap.space.size_high in
     let value : value_of (word_of (Ref (end_of h.space))) ≡ Ref (end_of h.space) = meaning (word_of (Ref (end_of h.space))) (Ref (end_of h.space)) (value_read_back (Ref (end_of h.space)) (low, omega arith)) in
     graph_root (with_object h.space header) p (word_of (Ref (end_of h.space))) h.roots
-    ∙ ap (λ g. set_root g p (value_of (word_of (Ref (end_of h.space))))) (graph_placed h.space header h.roots heap.space kind len room)
+    ∙ ap (λ g. set_root g p (value_of (word_of (Ref (end_of h.space))))) (graph_placed h.space header h.roots can)
     ∙ ap (set_root (add_object (graph_in h) (end_of h.space) (new_object header.kind header.len)) p) value
-
-new_free : (s : SpaceWords) (header : Header) → free_in (with_object s header) ≡ free_in s - (header.len + 2)
-new_free s header =
-    let fields : length (replicate {A = ℕ} header.len 0) ≡ header.len = length-replicate header.len 0 in
-    let words : length (s.words ++ (header_word header ∷ 0 ∷ replicate {A = ℕ} header.len 0)) ≡ length s.words + suc (suc (length (replicate {A = ℕ} header.len 0))) = length-append s.words (header_word header ∷ 0 ∷ replicate header.len 0) in
-    let count : s.size - (length s.words + suc (suc (length (replicate {A = ℕ} header.len 0)))) ≡ (s.size - length s.words) - (header.len + 2) = omega arith in
-    ap (λ n. s.size - n) words ∙ count
 
 -- the heap with it is what the roomy machine leaves
 pub full : (h : HeapWords) (p kind len : ℕ) → free_in h.space < len + 2 → Makes h p kind len Full h
 full h p kind len short = sym (ap (λ b. cond b (Full, roomy_in h) (Made, record { graph = set_root (add_object (graph_in h) (end_of h.space) (new_object kind len)) p (Ref (end_of h.space)); free = free_in h.space - (len + 2) })) (lt-ltb _ _ short))
 
-pub made : (h : HeapWords) (p kind len : ℕ) → IsHeap h → kind < 256 → len < 65536 → len + 2 ≤ free_in h.space → Makes h p kind len Made (with_new h p (record { kind = kind; len = len }))
-made h p kind len heap small short room =
-    (λ i. (Made, record { graph = new_graph h p (record { kind = kind; len = len }) heap small short room i; free = new_free h.space (record { kind = kind; len = len }) i }))
-    ∙ sym (ap (λ b. cond b (Full, roomy_in h) (Made, record { graph = set_root (add_object (graph_in h) (end_of h.space) (new_object kind len)) p (Ref (end_of h.space)); free = free_in h.space - (len + 2) })) (le-ltb _ _ room))
+pub made : (h : HeapWords) (p kind len : ℕ) → IsHeap h → CanPlace h.space (record { kind = kind; len = len }) → Makes h p kind len Made (with_new h p (record { kind = kind; len = len }))
+made h p kind len heap can =
+    (λ i. (Made, record { graph = new_graph h p (record { kind = kind; len = len }) heap can i; free = free_placed h.space (record { kind = kind; len = len }) i }))
+    ∙ sym (ap (λ b. cond b (Full, roomy_in h) (Made, record { graph = set_root (add_object (graph_in h) (end_of h.space) (new_object kind len)) p (Ref (end_of h.space)); free = free_in h.space - (len + 2) })) (le-ltb _ _ can.room))
 
 pub makes_at : (h new : HeapWords) (m : ℕ) (op : Op) (d : SlotName) (p kind len : ℕ) (reply : Reply) → op ≡ ops.New d kind len → p ≡ place d m
     → Makes h p kind len reply new → roomy_step (roomy_in h) m op (end_of h.space) ≡ (reply, roomy_in new)

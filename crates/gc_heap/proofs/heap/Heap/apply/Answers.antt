@@ -9,7 +9,8 @@ use Rattle.gc_graph.specs.declared.reply.Reply.TheVariants.{Done}
 use Rattle.gc_words.specs.Word.{value_of}
 use Rattle.gc_heap.specs.Heap.{HeapWords, IsHeap, graph_in}
 use Rattle.gc_heap.proofs.Commands.{read_root, at_root}
-use Rattle.gc_heap.proofs.Steps.{meaning, took, looked, makes_at}
+use Rattle.gc_heap.proofs.Seen.{meaning}
+use Rattle.gc_heap.proofs.Steps.{took, looked, makes_at}
 use Rattle.gc_heap.proofs.heap.Heap.apply.Goals as goal
 
 pub returns-in-New-clause-step : goal.returns-in-New-clause-step
