@@ -43,15 +43,22 @@ with_object space h = record space { words = space.words ++ block_words 0 (fresh
 abbrev pub with_word : SpaceWords → ℕ → ℕ → SpaceWords
 with_word space place w = record space { words = slice_set space.words place w }
 
--- the same objects, all of whose links are 0
-abbrev pub without_links : SpaceWords → SpaceWords
-without_links space = record space { words = spelled no_links (blocks space.words) }
-
 abbrev pub link_place : ℕ → ℕ
 link_place start = start + 1
 
 abbrev pub field_place : ℕ → ℕ → ℕ
 field_place start i = start + 2 + i
+
+-- with this word as field i, or as the link, of the object that starts at a place
+abbrev pub with_field_at : SpaceWords → ℕ → ℕ → ℕ → SpaceWords
+with_field_at space start i w = with_word space (field_place start i) w
+
+abbrev pub with_link : SpaceWords → ℕ → ℕ → SpaceWords
+with_link space start w = with_word space (link_place start) w
+
+-- the same objects, all of whose links are 0
+abbrev pub without_links : SpaceWords → SpaceWords
+without_links space = record space { words = spelled no_links (blocks space.words) }
 
 -- a space with roots beside it
 abbrev pub image_with : SpaceWords → List ℕ → Image

@@ -7,7 +7,7 @@ ghost use Rattle.gc_graph.specs.Correspond.{Corresponding};
 ghost use Rattle.gc_words.specs.Word.{IsHeader, HasAddress, header_word, read_header, word_of, is_value, value_of, read_value, field_value};
 ghost use Rattle.gc_words.specs.Image.{Block, Image, walk_words, blocks, block_in, block_at, is_start, header_at, field_at, fresh_block, with_field_word, set_block, objects_of, object_of_block, graph_of};
 ghost use Rattle.gc_words.specs.Spelling.{LaidOut, spelled, link_at};
-ghost use Rattle.gc_words.specs.Space.{SpaceWords, IsSpace, CanPlace, empty_space, end_of, free_in, with_object, with_word, without_links, field_place, link_place, image_with};
+ghost use Rattle.gc_words.specs.Space.{SpaceWords, IsSpace, CanPlace, empty_space, end_of, free_in, with_object, with_field_at, with_link, without_links, image_with};
 ghost use Rattle.gc_words.specs.Walking.{next_of, walk_from, StepsTo, StandsIn};
 ghost use Rattle.gc_words.specs.Closed.{IsClosed, RefersToStart, IsRootWord, IsFieldWord};
 ghost use Rattle.gc_words.specs.Certificate.{Certified};
@@ -23,143 +23,213 @@ pub fn worked_rows()
 
 /// There is no first fault exactly where the certificate holds.
 pub fn no_fault_where_certified()
-    ensures { (old new : Image) (pairs : List (ℕ × ℕ)) → (first_fault old new pairs ≡ None) ↔ Certified old new pairs }
+    ensures { (old new : Image) (pairs : List (ℕ × ℕ))
+        → (first_fault old new pairs ≡ None) ↔ Certified old new pairs }
 {}
 
 /// Under a certificate that holds the graphs of the two images correspond.
 pub fn certified_graphs_correspond()
-    ensures { (old new : Image) (pairs : List (ℕ × ℕ)) → Certified old new pairs → Corresponding pairs (graph_of old) (graph_of new) }
+    ensures { (old new : Image) (pairs : List (ℕ × ℕ))
+        → Certified old new pairs → Corresponding pairs (graph_of old) (graph_of new) }
 {}
 
 /// What is written as a word is read back, and only a word that is written so is read.
 pub fn words_are_read_back()
     ensures value { (v : Value) → HasAddress v → read_value (word_of v) ≡ Some v }
-    ensures value_word { (word : ℕ) (v : Value) → read_value word ≡ Some v → (word_of v ≡ word) × HasAddress v }
-    ensures meaning { (v : Value) → HasAddress v → IsTrue (is_value (word_of v)) × (value_of (word_of v) ≡ v) }
-    ensures meaning_word { (word : ℕ) → IsTrue (is_value word) → (word_of (value_of word) ≡ word) × HasAddress (value_of word) }
+    ensures value_word { (word : ℕ) (v : Value)
+        → read_value word ≡ Some v → (word_of v ≡ word) × HasAddress v }
+    ensures meaning { (v : Value)
+        → HasAddress v → IsTrue (is_value (word_of v)) × (value_of (word_of v) ≡ v) }
+    ensures meaning_word { (word : ℕ)
+        → IsTrue (is_value word) → (word_of (value_of word) ≡ word) × HasAddress (value_of word) }
     ensures header { (h : Header) → IsHeader h → read_header (header_word h) ≡ Some h }
-    ensures header_word { (word : ℕ) (h : Header) → read_header word ≡ Some h → IsHeader h × (header_word h ≡ word) }
+    ensures header_word { (word : ℕ) (h : Header)
+        → read_header word ≡ Some h → IsHeader h × (header_word h ≡ word) }
 {}
 
 /// A walk goes on behind each object that it meets, and ends at the end or where it meets none.
 pub fn walks_go_by_steps()
-    ensures step { (words : List ℕ) (at next : ℕ) → at < length words → next_of words at ≡ Some next → StepsTo words at next }
-    ensures stuck { (words : List ℕ) (at : ℕ) → at < length words → next_of words at ≡ None → walk_from words at ≡ Err at }
+    ensures step { (words : List ℕ) (at next : ℕ)
+        → at < length words → next_of words at ≡ Some next → StepsTo words at next }
+    ensures stuck { (words : List ℕ) (at : ℕ)
+        → at < length words → next_of words at ≡ None → walk_from words at ≡ Err at }
     ensures done { (words : List ℕ) (at : ℕ) → length words ≤ at → walk_from words at ≡ Ok [] }
 {}
 
 /// A space's words are those of its objects, back to back, with their links; and such words are walked,
 /// whatever the links.
 pub fn spaces_are_spelled()
-    ensures spelled { (space : SpaceWords) → IsSpace space → space.words ≡ spelled (link_at space.words) (blocks space.words) }
+    ensures spelled { (space : SpaceWords)
+        → IsSpace space → space.words ≡ spelled (link_at space.words) (blocks space.words) }
     ensures laid_out { (space : SpaceWords) → IsSpace space → LaidOut 1 (blocks space.words) }
-    ensures walked { (entries : List (ℕ × Block)) (links : ℕ → ℕ) → LaidOut 1 entries → walk_words (spelled links entries) ≡ Ok entries }
-    ensures links { (entries : List (ℕ × Block)) (links : ℕ → ℕ) (start : ℕ) (b : Block) → LaidOut 1 entries
-        → block_in entries start ≡ Some b → link_at (spelled links entries) start ≡ links start }
+    ensures walked { (entries : List (ℕ × Block)) (links : ℕ → ℕ)
+        → LaidOut 1 entries → walk_words (spelled links entries) ≡ Ok entries }
+    ensures links { (entries : List (ℕ × Block)) (links : ℕ → ℕ) (start : ℕ) (b : Block)
+        → LaidOut 1 entries → block_in entries start ≡ Some b
+        → link_at (spelled links entries) start ≡ links start }
 {}
 
 /// An object's header word is at its start, its field words are behind its link word, and it ends within
 /// the words.
 pub fn objects_stand_at_their_starts()
-    ensures { (words : List ℕ) (start : ℕ) (b : Block) → IsOk (walk_words words) → block_at words start ≡ Some b → StandsIn words start b }
+    ensures { (words : List ℕ) (start : ℕ) (b : Block)
+        → IsOk (walk_words words) → block_at words start ≡ Some b → StandsIn words start b }
 {}
 
 /// An object has as many fields as its header says.
 pub fn objects_have_their_fields()
-    ensures block { (words : List ℕ) (start : ℕ) (h : Header) → header_at words start ≡ Some h → (b : Block) × (block_at words start ≡ Some b) × (b.header ≡ h) }
-    ensures within { (words : List ℕ) (start i : ℕ) (h : Header) → IsOk (walk_words words) → header_at words start ≡ Some h → i < h.len → IsSome (field_at words start i) }
-    ensures past { (words : List ℕ) (start i : ℕ) (h : Header) → IsOk (walk_words words) → header_at words start ≡ Some h → h.len ≤ i → field_at words start i ≡ None }
+    ensures block { (words : List ℕ) (start : ℕ) (h : Header)
+        → header_at words start ≡ Some h
+        → (b : Block) × (block_at words start ≡ Some b) × (b.header ≡ h) }
+    ensures within { (words : List ℕ) (start i : ℕ) (h : Header)
+        → IsOk (walk_words words) → header_at words start ≡ Some h
+        → i < h.len → IsSome (field_at words start i) }
+    ensures past { (words : List ℕ) (start i : ℕ) (h : Header)
+        → IsOk (walk_words words) → header_at words start ≡ Some h
+        → h.len ≤ i → field_at words start i ≡ None }
 {}
 
 /// A space stays one when an object is placed at its end, when a field or a link is written and when the
 /// links are cleared; and what its objects are then.
 pub fn writes_keep_spaces()
     ensures placed { (space : SpaceWords) (h : Header) → CanPlace space h
-        → IsSpace (with_object space h) × (blocks (with_object space h).words ≡ blocks space.words ++ (end_of space, fresh_block h) ∷ []) }
-    ensures field { (space : SpaceWords) (start i word : ℕ) → IsSpace space → IsSome (field_at space.words start i)
-        → IsSpace (with_word space (field_place start i) word)
-        × (blocks (with_word space (field_place start i) word).words ≡ set_block (blocks space.words) start i word) }
-    ensures link { (space : SpaceWords) (start word : ℕ) → IsSpace space → IsTrue (is_start space.words start)
-        → IsSpace (with_word space (link_place start) word) × (blocks (with_word space (link_place start) word).words ≡ blocks space.words) }
-    ensures cleared { (space : SpaceWords) → IsSpace space → IsSpace (without_links space) × (blocks (without_links space).words ≡ blocks space.words) }
+        → (let after = with_object space h in IsSpace after
+        × (blocks after.words ≡ blocks space.words ++ (end_of space, fresh_block h) ∷ [])) }
+    ensures field { (space : SpaceWords) (start i word : ℕ)
+        → IsSpace space → IsSome (field_at space.words start i)
+        → (let after = with_field_at space start i word in IsSpace after
+        × (blocks after.words ≡ set_block (blocks space.words) start i word)) }
+    ensures link { (space : SpaceWords) (start word : ℕ)
+        → IsSpace space → IsTrue (is_start space.words start)
+        → (let after = with_link space start word in IsSpace after
+        × (blocks after.words ≡ blocks space.words)) }
+    ensures cleared { (space : SpaceWords) → IsSpace space
+        → (let after = without_links space in IsSpace after
+        × (blocks after.words ≡ blocks space.words)) }
 {}
 
 /// Where the objects of a space end after a write, and how many words no object takes then.
 pub fn ends_after_writes()
-    ensures placed { (space : SpaceWords) (h : Header) → end_of (with_object space h) ≡ end_of space + (h.len + 2) }
-    ensures free { (space : SpaceWords) (h : Header) → free_in (with_object space h) ≡ free_in space - (h.len + 2) }
-    ensures written { (space : SpaceWords) (place word : ℕ) → end_of (with_word space place word) ≡ end_of space }
-    ensures cleared { (space : SpaceWords) → IsSpace space → end_of (without_links space) ≡ end_of space }
+    ensures placed { (space : SpaceWords) (h : Header)
+        → end_of (with_object space h) ≡ end_of space + (h.len + 2) }
+    ensures free { (space : SpaceWords) (h : Header)
+        → free_in (with_object space h) ≡ free_in space - (h.len + 2) }
+    ensures field { (space : SpaceWords) (start i word : ℕ)
+        → end_of (with_field_at space start i word) ≡ end_of space }
+    ensures link { (space : SpaceWords) (start word : ℕ)
+        → end_of (with_link space start word) ≡ end_of space }
+    ensures cleared { (space : SpaceWords)
+        → IsSpace space → end_of (without_links space) ≡ end_of space }
 {}
 
 /// What is found at a start after a write, and at every other place.
 pub fn objects_after_writes()
-    ensures end { (space : SpaceWords) → IsSpace space → block_at space.words (end_of space) ≡ None }
-    ensures placed { (space : SpaceWords) (h : Header) → CanPlace space h → block_at (with_object space h).words (end_of space) ≡ Some (fresh_block h) }
+    ensures end { (space : SpaceWords)
+        → IsSpace space → block_at space.words (end_of space) ≡ None }
+    ensures placed { (space : SpaceWords) (h : Header) → CanPlace space h
+        → block_at (with_object space h).words (end_of space) ≡ Some (fresh_block h) }
     ensures placed_beside { (space : SpaceWords) (h : Header) (other : ℕ) → CanPlace space h
-        → end_of space ≢ other → block_at (with_object space h).words other ≡ block_at space.words other }
-    ensures field { (space : SpaceWords) (start i word : ℕ) (b : Block) → IsSpace space → IsSome (field_at space.words start i) → block_at space.words start ≡ Some b
-        → block_at (with_word space (field_place start i) word).words start ≡ Some (with_field_word b i word) }
-    ensures field_beside { (space : SpaceWords) (start i word other : ℕ) → IsSpace space → IsSome (field_at space.words start i)
-        → start ≢ other → block_at (with_word space (field_place start i) word).words other ≡ block_at space.words other }
+        → end_of space ≢ other
+        → block_at (with_object space h).words other ≡ block_at space.words other }
+    ensures field { (space : SpaceWords) (start i word : ℕ) (b : Block)
+        → IsSpace space → IsSome (field_at space.words start i) → block_at space.words start ≡ Some b
+        → block_at (with_field_at space start i word).words start ≡ Some (with_field_word b i word) }
+    ensures field_beside { (space : SpaceWords) (start i word other : ℕ)
+        → IsSpace space → IsSome (field_at space.words start i) → start ≢ other
+        → block_at (with_field_at space start i word).words other ≡ block_at space.words other }
 {}
 
-/// The links of objects after a write: a new object's is 0, a field leaves all as they are, a link the others.
+/// The links of objects after a write: a new object's is 0, a field leaves all as they are, a link the
+/// others.
 pub fn links_after_writes()
-    ensures placed { (space : SpaceWords) (h : Header) → link_at (with_object space h).words (end_of space) ≡ 0 }
-    ensures placed_beside { (space : SpaceWords) (h : Header) (other : ℕ) → IsSpace space → IsTrue (is_start space.words other)
+    ensures placed { (space : SpaceWords) (h : Header)
+        → link_at (with_object space h).words (end_of space) ≡ 0 }
+    ensures placed_beside { (space : SpaceWords) (h : Header) (other : ℕ)
+        → IsSpace space → IsTrue (is_start space.words other)
         → link_at (with_object space h).words other ≡ link_at space.words other }
-    ensures field { (space : SpaceWords) (start i word other : ℕ) → IsSpace space → IsSome (field_at space.words start i) → IsTrue (is_start space.words other)
-        → link_at (with_word space (field_place start i) word).words other ≡ link_at space.words other }
-    ensures link { (space : SpaceWords) (start word : ℕ) → IsSpace space → IsTrue (is_start space.words start)
-        → link_at (with_word space (link_place start) word).words start ≡ word }
+    ensures field { (space : SpaceWords) (start i word other : ℕ)
+        → IsSpace space → IsSome (field_at space.words start i) → IsTrue (is_start space.words other)
+        → link_at (with_field_at space start i word).words other ≡ link_at space.words other }
+    ensures link { (space : SpaceWords) (start word : ℕ)
+        → IsSpace space → IsTrue (is_start space.words start)
+        → link_at (with_link space start word).words start ≡ word }
     ensures link_beside { (space : SpaceWords) (start word other : ℕ) → start ≢ other
-        → link_at (with_word space (link_place start) word).words other ≡ link_at space.words other }
-    ensures cleared { (space : SpaceWords) (start : ℕ) → IsSpace space → IsTrue (is_start space.words start) → link_at (without_links space).words start ≡ 0 }
+        → link_at (with_link space start word).words other ≡ link_at space.words other }
+    ensures cleared { (space : SpaceWords) (start : ℕ)
+        → IsSpace space → IsTrue (is_start space.words start)
+        → link_at (without_links space).words start ≡ 0 }
 {}
 
 /// What is found in the graph of a space with roots: objects by their starts, their fields, and roots.
 pub fn graphs_of_spaces()
+    ensures empty { (size count : ℕ)
+        → graph_of (image_with (empty_space size) (replicate count 0))
+        ≡ record { objects = []; roots = replicate count Nil } }
     ensures object { (space : SpaceWords) (roots : List ℕ) (start : ℕ)
-        → lookup (graph_of (image_with space roots)).objects start ≡ option_map object_of_block (block_at space.words start) }
-    ensures field { (space : SpaceWords) (roots : List ℕ) (start i : ℕ) (b : Block) → block_at space.words start ≡ Some b
-        → field_of (lookup (graph_of (image_with space roots)).objects start) i ≡ option_map (field_value b.header) (field_at space.words start i) }
-    ensures fields { (words : List ℕ) (start : ℕ) (b : Block) → IsOk (walk_words words) → block_at words start ≡ Some b → length (object_of_block b).fields ≡ b.header.len }
-    ensures empty { (size count : ℕ) → graph_of (image_with (empty_space size) (replicate count 0)) ≡ record { objects = []; roots = replicate count Nil } }
-    ensures root { (space : SpaceWords) (roots : List ℕ) (place : ℕ) → root (graph_of (image_with space roots)) place ≡ value_of (slice_index roots place) }
+        → lookup (graph_of (image_with space roots)).objects start
+        ≡ option_map object_of_block (block_at space.words start) }
+    ensures field { (space : SpaceWords) (roots : List ℕ) (start i : ℕ) (b : Block)
+        → block_at space.words start ≡ Some b
+        → field_of (lookup (graph_of (image_with space roots)).objects start) i
+        ≡ option_map (field_value b.header) (field_at space.words start i) }
+    ensures fields { (words : List ℕ) (start : ℕ) (b : Block)
+        → IsOk (walk_words words) → block_at words start ≡ Some b
+        → length (object_of_block b).fields ≡ b.header.len }
+    ensures root { (space : SpaceWords) (roots : List ℕ) (place : ℕ)
+        → root (graph_of (image_with space roots)) place ≡ value_of (slice_index roots place) }
 {}
 
 /// What writes do to the graph of a space with roots. Links are no part of it.
 pub fn graphs_after_writes()
     ensures placed { (space : SpaceWords) (h : Header) (roots : List ℕ) → CanPlace space h
-        → graph_of (image_with (with_object space h) roots) ≡ add_object (graph_of (image_with space roots)) (end_of space) (new_object h.kind h.len) }
-    ensures field { (space : SpaceWords) (start i word : ℕ) (b : Block) (roots : List ℕ) → IsSpace space → IsSome (field_at space.words start i) → block_at space.words start ≡ Some b
-        → graph_of (image_with (with_word space (field_place start i) word) roots)
-        ≡ record (graph_of (image_with space roots)) { objects = set_field (objects_of space.words) start i (field_value b.header word) } }
-    ensures link { (space : SpaceWords) (start word : ℕ) (roots : List ℕ) → IsSpace space → IsTrue (is_start space.words start)
-        → graph_of (image_with (with_word space (link_place start) word) roots) ≡ graph_of (image_with space roots) }
-    ensures cleared { (space : SpaceWords) (roots : List ℕ) → IsSpace space → graph_of (image_with (without_links space) roots) ≡ graph_of (image_with space roots) }
+        → graph_of (image_with (with_object space h) roots)
+        ≡ add_object (graph_of (image_with space roots)) (end_of space) (new_object h.kind h.len) }
+    ensures field { (space : SpaceWords) (start i word : ℕ) (b : Block) (roots : List ℕ)
+        → IsSpace space → IsSome (field_at space.words start i) → block_at space.words start ≡ Some b
+        → graph_of (image_with (with_field_at space start i word) roots)
+        ≡ record (graph_of (image_with space roots)) {
+          objects = set_field (objects_of space.words) start i (field_value b.header word);
+        } }
+    ensures link { (space : SpaceWords) (start word : ℕ) (roots : List ℕ)
+        → IsSpace space → IsTrue (is_start space.words start)
+        → graph_of (image_with (with_link space start word) roots)
+        ≡ graph_of (image_with space roots) }
+    ensures cleared { (space : SpaceWords) (roots : List ℕ) → IsSpace space
+        → graph_of (image_with (without_links space) roots) ≡ graph_of (image_with space roots) }
     ensures root { (space : SpaceWords) (place word : ℕ) (roots : List ℕ)
-        → graph_of (image_with space (slice_set roots place word)) ≡ set_root (graph_of (image_with space roots)) place (value_of word) }
+        → graph_of (image_with space (slice_set roots place word))
+        ≡ set_root (graph_of (image_with space roots)) place (value_of word) }
 {}
 
 /// Where all references are to starts, no name that occurs is the place of the next object.
 pub fn end_is_unused()
-    ensures { (space : SpaceWords) (roots : List ℕ) → IsSpace space → IsClosed space.words roots → IsUnused (graph_of (image_with space roots)) (end_of space) }
+    ensures { (space : SpaceWords) (roots : List ℕ)
+        → IsSpace space → IsClosed space.words roots
+        → IsUnused (graph_of (image_with space roots)) (end_of space) }
 {}
 
 /// All references stay to starts, whatever is written that is a value and refers to none but a start; and
 /// what is read is such a word.
 pub fn references_stay_to_starts()
     ensures empty { (size count : ℕ) → IsClosed (empty_space size).words (replicate count 0) }
-    ensures value { (words : List ℕ) (v : Value) → HasAddress v → RefersToStart words v → IsRootWord words (word_of v) }
-    ensures placed { (space : SpaceWords) (h : Header) → CanPlace space h → (roots : List ℕ) → IsClosed space.words roots → IsClosed (with_object space h).words roots }
-    ensures reference { (space : SpaceWords) (h : Header) → CanPlace space h → IsRootWord (with_object space h).words (word_of (Ref (end_of space))) }
-    ensures field { (space : SpaceWords) (start i word : ℕ) (b : Block) (roots : List ℕ) → IsSpace space → IsSome (field_at space.words start i) → block_at space.words start ≡ Some b
-        → IsFieldWord space.words b.header word → IsClosed space.words roots → IsClosed (with_word space (field_place start i) word).words roots }
-    ensures objects { (words others roots : List ℕ) → blocks others ≡ blocks words → IsClosed words roots → IsClosed others roots }
-    ensures root { (words roots : List ℕ) (place word : ℕ) → IsRootWord words word → IsClosed words roots → IsClosed words (slice_set roots place word) }
-    ensures field_read { (words roots : List ℕ) (start i word : ℕ) (b : Block) → IsClosed words roots → block_at words start ≡ Some b
-        → field_at words start i ≡ Some word → IsFieldWord words b.header word }
-    ensures root_read { (words roots : List ℕ) (place word : ℕ) → IsClosed words roots → slice_get roots place ≡ Some word → IsRootWord words word }
+    ensures value { (words : List ℕ) (v : Value)
+        → HasAddress v → RefersToStart words v → IsRootWord words (word_of v) }
+    ensures placed { (space : SpaceWords) (h : Header) → CanPlace space h → (roots : List ℕ)
+        → IsClosed space.words roots → IsClosed (with_object space h).words roots }
+    ensures reference { (space : SpaceWords) (h : Header) → CanPlace space h
+        → IsRootWord (with_object space h).words (word_of (Ref (end_of space))) }
+    ensures field { (space : SpaceWords) (start i word : ℕ) (b : Block) (roots : List ℕ)
+        → IsSpace space → IsSome (field_at space.words start i) → block_at space.words start ≡ Some b
+        → IsFieldWord space.words b.header word → IsClosed space.words roots
+        → IsClosed (with_field_at space start i word).words roots }
+    ensures objects { (words others roots : List ℕ)
+        → blocks others ≡ blocks words → IsClosed words roots → IsClosed others roots }
+    ensures root { (words roots : List ℕ) (place word : ℕ)
+        → IsRootWord words word → IsClosed words roots
+        → IsClosed words (slice_set roots place word) }
+    ensures field_read { (words roots : List ℕ) (start i word : ℕ) (b : Block)
+        → IsClosed words roots → block_at words start ≡ Some b → field_at words start i ≡ Some word
+        → IsFieldWord words b.header word }
+    ensures root_read { (words roots : List ℕ) (place word : ℕ)
+        → IsClosed words roots → slice_get roots place ≡ Some word → IsRootWord words word }
 {}

@@ -15,7 +15,9 @@ pub struct ShapeFault {
 /// Whether these are the words of a space up to its end: a reserved 0, and from 1 on objects back to back.
 pub fn walk(words: &[u64], end: u32) -> Result<(), ShapeFault>
     requires { 1 ≤ end }
-    ensures { MatchResult result (λ _. words_fault end words.now ≡ None) (λ fault. words_fault end words.now ≡ Some fault.at) }
+    ensures { MatchResult result
+        (λ _. words_fault end words.now ≡ None)
+        (λ fault. words_fault end words.now ≡ Some fault.at) }
 {
     let len = words.len();
     if len != end as usize || words[0] != 0 {

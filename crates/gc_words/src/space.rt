@@ -22,14 +22,15 @@ impl Model for Space {
 
     ghost view = { λ s. record { size = s.size; words = s.words.items } };
 
-    ghost invariant = { λ s. IsSpace (record { size = s.size; words = s.words.items }) × (s.size ≤ vec_capacity s.words) };
+    ghost invariant = { λ s. IsSpace (record { size = s.size; words = s.words.items })
+        × (s.size ≤ vec_capacity s.words) };
 }
 
 impl Space {
     ghost use Rattle.std.specs.Prelude.{◌≡◌, ◌<◌, ◌≤◌, ◌+◌, ◌∷◌, ◌++◌, [], ◌↔◌, Some, IsTrue, IsSome, IfOk};
     ghost use Rattle.gc_words.specs.Image.{blocks, block_at, is_start, header_at, field_at, set_block, fresh_block};
     ghost use Rattle.gc_words.specs.Spelling.{link_at};
-    ghost use Rattle.gc_words.specs.Space.{IsSpace, empty_space, end_of, free_in, HasRoom, with_object, with_word, without_links, link_place, field_place};
+    ghost use Rattle.gc_words.specs.Space.{IsSpace, empty_space, end_of, free_in, HasRoom, with_object, with_field_at, with_link, without_links};
 
     /// A space of so many words, without objects.
     pub fn new(alloc: Global, size: u32) -> Result<Space, NoMemory>
@@ -96,7 +97,8 @@ impl Space {
         requires { HasRoom self.old header.len }
         ensures at { result.0 ≡ end_of self.old }
         ensures words { self.new ≡ with_object self.old header }
-        ensures objects { blocks self.new.words ≡ blocks self.old.words ++ (end_of self.old, fresh_block header) ∷ [] }
+        ensures objects { blocks self.new.words
+            ≡ blocks self.old.words ++ (end_of self.old, fresh_block header) ∷ [] }
         ensures object { block_at self.new.words (end_of self.old) ≡ Some (fresh_block header) }
         ensures shaped { IsSpace self.new }
     {
@@ -127,7 +129,7 @@ impl Space {
     /// Writes field word `i` of the object that starts here.
     pub fn set_field(&mut self, at: Addr, i: u16, word: u64)
         requires { IsSome (field_at self.old.words at.0 i) }
-        ensures words { self.new ≡ with_word self.old (field_place at.0 i) word }
+        ensures words { self.new ≡ with_field_at self.old at.0 i word }
         ensures objects { blocks self.new.words ≡ set_block (blocks self.old.words) at.0 i word }
         ensures field { field_at self.new.words at.0 i ≡ Some word }
         ensures shaped { IsSpace self.new }
@@ -146,7 +148,7 @@ impl Space {
     /// Writes the link word of the object that starts here.
     pub fn set_link(&mut self, at: Addr, word: u64)
         requires { IsTrue (is_start self.old.words at.0) }
-        ensures words { self.new ≡ with_word self.old (link_place at.0) word }
+        ensures words { self.new ≡ with_link self.old at.0 word }
         ensures objects { blocks self.new.words ≡ blocks self.old.words }
         ensures shaped { IsSpace self.new }
     {

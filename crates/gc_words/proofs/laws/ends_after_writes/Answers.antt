@@ -1,5 +1,6 @@
+use Rattle.gc_words.specs.Space.{field_place, link_place}
 use Rattle.gc_words.proofs.Ends.{end_placed, free_placed, end_written, end_cleared}
 use Rattle.gc_words.proofs.laws.ends_after_writes.Goals as goal
 
 pub returns : goal.returns
-returns c = record { placed = end_placed; free = free_placed; written = end_written; cleared = end_cleared }
+returns c = record { placed = end_placed; free = free_placed; field = λ s start i word. end_written s (field_place start i) word; link = λ s start word. end_written s (link_place start) word; cleared = end_cleared }
