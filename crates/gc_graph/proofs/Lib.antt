@@ -10,3 +10,5 @@ pub mod Decimals
 pub mod WordLemmas
 pub mod Sending
 pub mod Taking
+pub mod LineLemmas
+pub mod WordReading

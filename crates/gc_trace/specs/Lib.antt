@@ -1,0 +1,6 @@
+pub mod Grammar
+pub mod Views
+pub mod Faults
+pub mod Replies
+pub mod Reading
+pub mod Rows
