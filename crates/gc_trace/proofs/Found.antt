@@ -1,5 +1,5 @@
 -- What is read of words is what the grammar says.
-use Rattle.std.proofs.Common.{◌≡◌, ℕ, ◌<◌, ◌≤◌, Bool, true, false, cond, eqb, List, [], ◌∷◌, refl, ap, ◌∙◌, arith, Option, Some, None, subst, inl, inr, ◌⊎◌}
+use Rattle.std.proofs.Common.{◌≡◌, ℕ, ◌≤◌, Bool, true, false, cond, eqb, List, [], ◌∷◌, refl, ap, ◌∙◌, arith, Some, None, subst, inl, inr, ◌⊎◌}
 use Rattle.std.specs.Prelude.{codes}
 use Rattle.std.specs.Fmt.{decimal}
 use Rattle.std.proofs.lemmas.Bool.{eqb-true}
@@ -181,6 +181,7 @@ sizes_found words x e =
     let nz = positive f.0.0 (eqb f.0.0 0) (cond (eqb f.0.1 0) None (some f.0)) x refl f.2 in
     let nz2 = positive f.0.1 (eqb f.0.1 0) (some f.0) x refl nz.1 in
     let whole : (b.0.0, d.0.0) ≡ x = end.1 ∙ some_is f.0 x nz2.1 in
-    subst (λ (p : ℕ × ℕ). (words ≡ codes "space" ∷ decimal p.0 ∷ codes "mutators" ∷ decimal p.1 ∷ []) × AreSizes p.0 p.1) whole
-    (w1 ∙ onto (codes "space") (size.0 ∙ onto (decimal b.0.0) (w2 ∙ onto (codes "mutators") (mutators.0 ∙ onto (decimal d.0.0) end.0))),
-      (omega (arith, nz.0, ap (λ (p : ℕ × ℕ). p.0) end.1), size.1, omega (arith, nz2.0, ap (λ (p : ℕ × ℕ). p.1) end.1), mutators.1))
+    subst (λ (p : ℕ × ℕ). (words ≡ codes "space" ∷ decimal p.0 ∷ codes "mutators" ∷ decimal p.1 ∷ []) × AreSizes p.0 p.1) whole (
+      w1 ∙ onto (codes "space") (size.0 ∙ onto (decimal b.0.0) (w2 ∙ onto (codes "mutators") (mutators.0 ∙ onto (decimal d.0.0) end.0))),
+      (omega (arith, nz.0, ap (λ (p : ℕ × ℕ). p.0) end.1), size.1, omega (arith, nz2.0, ap (λ (p : ℕ × ℕ). p.1) end.1), mutators.1),
+    )

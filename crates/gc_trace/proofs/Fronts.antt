@@ -1,12 +1,9 @@
 -- What a front of a text shows of its faults.
-use Rattle.std.proofs.Common.{◌≡◌, ◌≢◌, ℕ, ◌≤◌, ◌+◌, Bool, true, false, eqb, leb, not, ◌&&◌, List, [], ◌∷◌, ◌++◌, length, refl, sym, ap, ◌∙◌, arith, Option, Some, None, subst}
-use Rattle.std.specs.Prelude.{codes}
-use Rattle.std.proofs.lemmas.Bool.{eqb-false, and_parts, leb-true}
+use Rattle.std.proofs.Common.{◌≡◌, ℕ, List, ◌∷◌, ◌++◌, sym, ap, ◌∙◌, Some, None}
 use Rattle.gc_graph.specs.Lines.{newline, joined, words_of, HasNo}
-use Rattle.gc_trace.specs.declared.event.Event.{Event}
 use Rattle.gc_trace.specs.Reading.{event_of, version_at, sizes_of}
-use Rattle.gc_trace.specs.Grammar.{Recording, event_words, event_line, version_words, size_words, heading, IsEvent, IsHeading, IsTextOf}
-use Rattle.gc_trace.specs.Faults.{limit, HasNoHeading, GoodBefore, BeginsWithNoEvent}
+use Rattle.gc_trace.specs.Grammar.{event_words, version_words, size_words, heading, IsHeading}
+use Rattle.gc_trace.specs.Faults.{HasNoHeading, BeginsWithNoEvent}
 use Rattle.gc_trace.proofs.Written.{event_again, version_again, sizes_again}
 use Rattle.gc_trace.proofs.EventLines.{words_of-event, HasNo-event, heading_lines}
 use Rattle.gc_graph.proofs.LineLemmas.{one_cut, not_cut}

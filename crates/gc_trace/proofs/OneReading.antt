@@ -1,15 +1,14 @@
 -- A text has one reading: one trace, or one first fault.
-use Rattle.std.proofs.Common.{◌≡◌, ◌≢◌, ℕ, ◌≤◌, ◌<◌, ◌+◌, List, [], ◌∷◌, ◌++◌, length, refl, sym, ap, ◌∙◌, arith, append_assoc, subst, inl, inr, ◌⊎◌, Some}
-use Rattle.std.specs.Prelude.{codes}
+use Rattle.std.proofs.Common.{◌≡◌, ◌≢◌, ℕ, ◌+◌, List, [], ◌∷◌, ◌++◌, length, refl, sym, ap, ◌∙◌, arith, append_assoc, subst}
 use Rattle.std.specs.List.{AllByRecursion, flat_map}
 use Rattle.std.proofs.lemmas.List.{append-nil}
 use Rattle.std.proofs.lemmas.List.Concat.{flat_map-cons}
 use Rattle.std.proofs.lemmas.Option.{same_Some}
-use Rattle.gc_graph.specs.Lines.{newline, joined, line, words_of, HasNo}
+use Rattle.gc_graph.specs.Lines.{newline, joined, line, words_of}
 use Rattle.gc_trace.specs.declared.event.Event.{Event}
 use Rattle.gc_trace.specs.Reading.{event_of, version_at, sizes_of}
 use Rattle.gc_trace.specs.Grammar.{Recording, event_words, event_line, version_words, size_words, heading, spelling, IsEvent, IsOf, IsHeading, IsRecording, IsTextOf}
-use Rattle.gc_trace.specs.Faults.{limit, HasNoHeading, GoodBefore, BeginsWithNoEvent, HasBadLine, HasStranger, IsFaultOf, IsReadAs}
+use Rattle.gc_trace.specs.Faults.{HasNoHeading, GoodBefore, BeginsWithNoEvent, HasBadLine, HasStranger, IsFaultOf, IsReadAs}
 use Rattle.gc_trace.specs.declared.fault.TraceFault.{TraceFault}
 use Rattle.gc_trace.specs.declared.fault.TraceFault.TheVariants.{Read, TooLarge, BadHeader, BadLine, NoSuchMutator, NoMemory}
 use Rattle.gc_trace.proofs.Written.{event_again, version_again, sizes_again}
@@ -48,12 +47,14 @@ heading_injective v s m w t n x y p q same =
     let second = one_cut newline (joined (size_words s m)) x (joined (size_words t n)) y a.second_line b.second_line first.1 in
     let versions : version_words v ≡ version_words w = sym a.first_words ∙ ap words_of first.0 ∙ b.first_words in
     let sizes : size_words s m ≡ size_words t n = sym a.second_words ∙ ap words_of second.0 ∙ b.second_words in
-    let both : ◌≡◌ {A = ℕ × ℕ} (s, m) (t, n) = same_Some (s, m) (t, n) (sym (sizes_again v s m p) ∙ ap sizes_of sizes ∙ sizes_again w t n q) in
-    (record {
-      version = same_Some v w (sym (version_again v s m p) ∙ ap version_at versions ∙ version_again w t n q);
-      size = ap (λ (p : ℕ × ℕ). p.0) both;
-      mutators = ap (λ (p : ℕ × ℕ). p.1) both;
-    }, second.1)
+    let both : ◌≡◌ {A = ℕ × ℕ} (s, m) (t, n) = same_Some (s, m) (t, n) (sym (sizes_again v s m p) ∙ ap sizes_of sizes ∙ sizes_again w t n q) in (
+      record {
+        version = same_Some v w (sym (version_again v s m p) ∙ ap version_at versions ∙ version_again w t n q);
+        size = ap (λ (p : ℕ × ℕ). p.0) both;
+        mutators = ap (λ (p : ℕ × ℕ). p.1) both;
+      },
+      second.1,
+    )
 
 -- ---- where the good lines stop
 
@@ -94,9 +95,11 @@ one_stop t u x y text p q =
     let head = heading_injective t.version t.size t.mutators u.version u.size u.mutators (lines t.events ++ x) (lines u.events ++ y) p.0.heading q.0.heading (sym l ∙ r) in
     let fit : Fit u.mutators t.events = subst (λ (m : ℕ). Fit m t.events) head.0.mutators p.0.events in
     let stop : Stops u.mutators x = subst (λ (m : ℕ). Stops m x) head.0.mutators p.2 in
-    let rest = same_stop u.mutators t.events u.events x y fit q.0.events stop q.2 head.1 in
-    (ap (λ (v : ℕ). together v t.size t.mutators t.events) head.0.version ∙ ap (λ (s : ℕ). together u.version s t.mutators t.events) head.0.size
-      ∙ ap (λ (m : ℕ). together u.version u.size m t.events) head.0.mutators ∙ ap (together u.version u.size u.mutators) rest.0, rest.1)
+    let rest = same_stop u.mutators t.events u.events x y fit q.0.events stop q.2 head.1 in (
+      ap (λ (v : ℕ). together v t.size t.mutators t.events) head.0.version ∙ ap (λ (s : ℕ). together u.version s t.mutators t.events) head.0.size
+          ∙ ap (λ (m : ℕ). together u.version u.size m t.events) head.0.mutators ∙ ap (together u.version u.size u.mutators) rest.0,
+      rest.1,
+    )
 
 some_cut : (a b : List ℕ) → a ++ newline ∷ b ≢ []
 some_cut [] b e = cc
@@ -122,10 +125,20 @@ abbrev StrangeStop : List ℕ → ℕ → Type 0
 StrangeStop text n = (t : Recording) × (e : Event) × (more : List ℕ) × StopsAt t (event_line e ++ more) text × (n ≡ 3 + length t.events) × IsEvent e
 
 strange_stop : (text : List ℕ) (n : ℕ) → HasStranger text n → StrangeStop text n
-strange_stop text n (t, e, more, before, fits, strange) =
-    (t, e, more, (before.good.recording, before_parts text n t (event_line e ++ more) before, λ d rest p of is.
-    let same = event_line_injective e d more rest fits p is in
-    strange (subst (λ (c : Event). IsOf t.mutators c) (sym same.0) of)), before.number, fits)
+strange_stop text n (t, e, more, before, fits, strange) = (
+  t,
+  e,
+  more,
+  (
+    before.good.recording,
+    before_parts text n t (event_line e ++ more) before,
+    λ d rest p of is.
+        let same = event_line_injective e d more rest fits p is in
+        strange (subst (λ (c : Event). IsOf t.mutators c) (sym same.0) of),
+  ),
+  before.number,
+  fits,
+)
 
 -- ---- one reading
 

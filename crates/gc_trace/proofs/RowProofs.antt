@@ -10,7 +10,7 @@ use Rattle.gc_graph.specs.declared.command.Op.TheVariants as ops
 use Rattle.gc_graph.proofs.LineLemmas.{lacks, HasNo-lacks}
 use Rattle.gc_trace.specs.declared.event.Event.TheVariants.{Mutate}
 use Rattle.gc_trace.specs.Grammar.{Recording, slot, op_words, event_words, event_line, version_words, size_words, heading, spelling, IsTextOf}
-use Rattle.gc_trace.specs.Faults.{limit, GoodBefore, HasBadLine, HasNoHeading, BeginsWithNoEvent, IsFaultOf}
+use Rattle.gc_trace.specs.Faults.{limit, BeginsWithNoEvent, IsFaultOf}
 use Rattle.gc_trace.specs.Reading.{slot_of, slot_at, new_of, num_of, look_of, op_of, command_of, event_of, sizes_of}
 use Rattle.gc_trace.specs.Replies.{view_words, reply_words}
 use Rattle.gc_trace.specs.Rows.{small, TextRows, LineRows}

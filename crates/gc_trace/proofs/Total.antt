@@ -4,7 +4,7 @@ use Rattle.std.specs.List.{AllByRecursion, flat_map}
 use Rattle.std.proofs.lemmas.Bool.{eqb-false, leb-true}
 use Rattle.std.proofs.lemmas.List.{append-nil, length-append}
 use Rattle.std.proofs.lemmas.List.Concat.{flat_map-append, flat_map-cons}
-use Rattle.gc_graph.specs.Lines.{newline, joined, words_of, HasNo}
+use Rattle.gc_graph.specs.Lines.{newline, joined, words_of}
 use Rattle.gc_graph.specs.declared.command.Op.{Op}
 use Rattle.gc_graph.proofs.LineLemmas.{Cut, cut, joined-words_of}
 use Rattle.gc_trace.specs.declared.event.Event.{Event}
@@ -42,9 +42,10 @@ one_heading text first rest second body v s m parts e parts' k =
     let version = version_found (words_of first) v e in
     let sizes = sizes_found (words_of second) (s, m) k in
     let one : joined (version_words v) ≡ first = ap joined (sym version.0) ∙ joined-words_of first in
-    let two : joined (size_words s m) ≡ second = ap joined (sym sizes.0) ∙ joined-words_of second in
-    ((version.1, version.2, sizes.1.0, sizes.1.1, sizes.1.2, sizes.1.3),
-      parts ∙ ap (λ (l : List ℕ). l ++ newline ∷ rest) (sym one) ∙ ap (λ (l : List ℕ). joined (version_words v) ++ newline ∷ l) (parts' ∙ ap (λ (l : List ℕ). l ++ newline ∷ body) (sym two)) ∙ sym (heading-more v s m body))
+    let two : joined (size_words s m) ≡ second = ap joined (sym sizes.0) ∙ joined-words_of second in (
+      (version.1, version.2, sizes.1.0, sizes.1.1, sizes.1.2, sizes.1.3),
+      parts ∙ ap (λ (l : List ℕ). l ++ newline ∷ rest) (sym one) ∙ ap (λ (l : List ℕ). joined (version_words v) ++ newline ∷ l) (parts' ∙ ap (λ (l : List ℕ). l ++ newline ∷ body) (sym two)) ∙ sym (heading-more v s m body),
+    )
 
 All-push : {A : Type 0} (P : A → Type 0) (xs : List A) (y : A) → AllByRecursion P xs → P y → AllByRecursion P (xs ++ y ∷ [])
 All-push P [] y h p = (p, tt)

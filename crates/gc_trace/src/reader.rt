@@ -28,7 +28,7 @@ struct Heading {
 fn split_heading(text: &[u8]) -> Option<(Heading, &[u8])>
     ensures { MatchOption result (HasNoHeading text.now)
         (λ found. IsHeading found.0.version found.0.size found.0.mutators
-            × (text.now ≡ heading found.0.version found.0.size found.0.mutators ++ found.1.now)) }
+        × (text.now ≡ heading found.0.version found.0.size found.0.mutators ++ found.1.now)) }
 {
     let Some((first, rest)) = cut(b'\n', text) else {
         return None;

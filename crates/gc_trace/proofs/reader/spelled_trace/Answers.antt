@@ -31,8 +31,7 @@ returns-in_default-event-clause-exact c = (
 pub returns-then-m-heading-clause-exact : goal.returns-then-m-heading-clause-exact
 returns-then-m-heading-clause-exact c =
     let parts = event_parts c.in-Some-Mutate.field-0 in
-    let high = rw parts.2 at c.if-m-heading.true in
-    (
+    let high = rw parts.2 at c.if-m-heading.true in (
       c.requires,
       stranger c.args.text.now c.loop-rest.number c.in-Some.heading.version c.in-Some.heading.size c.in-Some.heading.mutators c.loop-rest.events.items c.loop-rest.rest.now c.in-Some-Mutate.field-0 c.in-Some-cut.after.now c.loop-rest.invariant.good
           (one_event c.loop-rest.rest.now c.in-Some-cut.line.now c.in-Some-cut.after.now c.in-Some-Mutate.field-0 c.in-Some-cut.ensures.0 (sym c.in-Some-Mutate.ensures)) (rw parts.2 (λ low. omega (arith, low, high))),
