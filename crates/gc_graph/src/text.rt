@@ -15,3 +15,6 @@ pub use sink::Sink;
 pub use source::{Failed, Source};
 pub use whole::{ReadFault, read_all};
 pub use words::Words;
+
+#[cfg(test)]
+mod tests;

@@ -16,3 +16,6 @@ pub use laws::{texts_have_one_reading, worked_rows};
 pub use player::play;
 pub use reader::read_trace;
 pub use trace::Trace;
+
+#[cfg(test)]
+mod tests;
