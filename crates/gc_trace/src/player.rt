@@ -1,7 +1,7 @@
 ghost use Rattle.std.specs.Prelude.{◌≡◌, ◌≢◌, ◌↔◌, true, IfSome, IfOk, OnOk, OnErr, Err};
 ghost use Rattle.gc_graph.specs.Streams.{bytes_left, bytes_written, source_failed, sink_failed};
 ghost use Rattle.gc_trace.specs.Grammar.{IsRecording};
-ghost use Rattle.gc_trace.specs.Faults.{IsFaultOf};
+ghost use Rattle.gc_trace.specs.Faults.{MayFail};
 ghost use Rattle.gc_trace.specs.Views.{recording};
 ghost use Rattle.gc_trace.specs.Playing.{Plays, PlaysFront, answers};
 ghost use Rattle.gc_trace.specs.declared.fault.TraceFault.{TraceFault};
@@ -20,6 +20,7 @@ fn run(alloc: Global, trace: &Trace) -> Result<Vec<Reply>, NoMemory>
     requires { IsRecording (recording trace.now) }
     ensures { IfOk result (λ replies. replies.items ≡ answers (recording trace.now)) }
 {
+    // The law makes the names that `Plain` gives those of the definition.
     names_do_not_matter();
     let mut plain = Plain::new(alloc, trace.size, trace.mutators)?;
     let Ok(mut replies) = Vec::with_capacity(alloc, trace.events.len()) else {
@@ -28,7 +29,7 @@ fn run(alloc: Global, trace: &Trace) -> Result<Vec<Reply>, NoMemory>
     for event in &trace.events {
         let Event::Mutate { m, op } = event;
         let reply = plain.apply(*m, op)?;
-        // A slice of one, since the borrow checker has no plan for a `push` of this type.
+        // Not a `push`: the borrow checker makes no plan for one of this type.
         if replies.extend_from_slice(&[reply]).is_err() {
             return Err(NoMemory);
         }
@@ -46,10 +47,11 @@ pub fn play<R: Read, W: Write>(
     ensures played { OnOk result (IfSome (bytes_left R.remaining reader.old) (λ text.
         Plays text (bytes_written W.contents writer.old) (bytes_written W.contents writer.new))) }
     // The first fault of a bad text.
-    ensures fault { (fault : TraceFault) → result ≡ Err (PlayFault.Trace fault) → fault ≢ TraceFault.Read →
-        IfSome (bytes_left R.remaining reader.old) (λ text. IsFaultOf fault text) }
+    ensures fault { (fault : TraceFault) → result ≡ Err (PlayFault.Trace fault) →
+        IfSome (bytes_left R.remaining reader.old) (λ text. MayFail fault text) }
     ensures memory { result ≢ Err (PlayFault.Trace TraceFault.NoMemory) }
-    ensures unread { (result ≡ Err (PlayFault.Trace TraceFault.Read)) ↔ (source_failed reader.new ≡ true) }
+    ensures unread { (result ≡ Err (PlayFault.Trace TraceFault.Read))
+        ↔ (source_failed reader.new ≡ true) }
     ensures unwritten { result ≡ Err PlayFault.Write → sink_failed writer.new ≡ true }
     // Nothing goes out before the last event has run.
     ensures silent { OnErr result (result ≢ Err PlayFault.Write → writer.new ≡ writer.old) }

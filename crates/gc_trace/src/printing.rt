@@ -54,8 +54,10 @@ fn print_reply(printer: &mut Printer, reply: &Reply)
 
 /// Writes the line of each reply, or a front of these lines before the writer fails.
 pub fn write_replies<W: Write>(writer: &mut Sink<W>, replies: &[Reply]) -> Result<(), Failed>
-    ensures ok { OnOk result (Appends (bytes_written W.contents writer.old) (bytes_written W.contents writer.new) (reply_text replies.now)) }
-    ensures err { OnErr result (SendsFront (bytes_written W.contents writer.old) (bytes_written W.contents writer.new) (reply_text replies.now)) }
+    ensures ok { OnOk result (Appends
+        (bytes_written W.contents writer.old) (bytes_written W.contents writer.new) (reply_text replies.now)) }
+    ensures err { OnErr result (SendsFront
+        (bytes_written W.contents writer.old) (bytes_written W.contents writer.new) (reply_text replies.now)) }
     ensures failed { OnErr result (sink_failed writer.new ≡ true) }
 {
     let mut printer = Printer::new();

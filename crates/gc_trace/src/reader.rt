@@ -55,7 +55,8 @@ fn split_heading(text: &[u8]) -> Option<(Heading, &[u8])>
 /// The trace that the text spells.
 fn spelled_trace(alloc: Global, text: &[u8]) -> Result<Trace, TraceFault>
     requires { length text.now ≤ limit }
-    ensures exact { MatchResult result (λ t. IsTextOf (recording t) text.now) (λ fault. MayFail fault text.now) }
+    ensures exact { MatchResult result
+        (λ t. IsTextOf (recording t) text.now) (λ fault. MayFail fault text.now) }
     ensures unread { result ≢ Err TraceFault.Read }
 {
     let Some((heading, body)) = split_heading(text) else {

@@ -37,8 +37,10 @@ impl Printer {
     pub fn make_room<W: Write>(&mut self, writer: &mut Sink<W>, count: usize) -> Result<(), Failed>
         requires { count ≤ 16384 }
         ensures room { OnOk result (length self.new + count ≤ 16384) }
-        ensures ok { OnOk result (HasSent (bytes_written W.contents writer.old) (bytes_written W.contents writer.new) self.old self.new) }
-        ensures err { OnErr result (SendsFront (bytes_written W.contents writer.old) (bytes_written W.contents writer.new) self.old) }
+        ensures ok { OnOk result (HasSent
+            (bytes_written W.contents writer.old) (bytes_written W.contents writer.new) self.old self.new) }
+        ensures err { OnErr result (SendsFront
+            (bytes_written W.contents writer.old) (bytes_written W.contents writer.new) self.old) }
         ensures failed { OnErr result (sink_failed writer.new ≡ true) }
     {
         if count <= self.waiting.remaining_capacity() {
@@ -68,8 +70,10 @@ impl Printer {
     /// What waits goes out.
     pub fn flush<W: Write>(&mut self, writer: &mut Sink<W>) -> Result<(), Failed>
         ensures empty { OnOk result (self.new ≡ []) }
-        ensures ok { OnOk result (Appends (bytes_written W.contents writer.old) (bytes_written W.contents writer.new) self.old) }
-        ensures err { OnErr result (SendsFront (bytes_written W.contents writer.old) (bytes_written W.contents writer.new) self.old) }
+        ensures ok { OnOk result (Appends
+            (bytes_written W.contents writer.old) (bytes_written W.contents writer.new) self.old) }
+        ensures err { OnErr result (SendsFront
+            (bytes_written W.contents writer.old) (bytes_written W.contents writer.new) self.old) }
         ensures failed { OnErr result (sink_failed writer.new ≡ true) }
     {
         match writer.write_all(self.waiting.as_slice()) {

@@ -63,8 +63,10 @@ impl<W: Write> Sink<W> {
 
     /// Writes all of the text, or a front of it before the writer fails.
     pub fn write_all(&mut self, text: &[u8]) -> Result<(), Failed>
-        ensures ok { OnOk result (Appends (bytes_written W.contents self.old) (bytes_written W.contents self.new) text.now) }
-        ensures err { OnErr result (SendsFront (bytes_written W.contents self.old) (bytes_written W.contents self.new) text.now) }
+        ensures ok { OnOk result (Appends
+            (bytes_written W.contents self.old) (bytes_written W.contents self.new) text.now) }
+        ensures err { OnErr result (SendsFront
+            (bytes_written W.contents self.old) (bytes_written W.contents self.new) text.now) }
         ensures failed { OnErr result (sink_failed self.new ≡ true) }
     {
         let mut rest = text;

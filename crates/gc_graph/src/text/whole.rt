@@ -30,9 +30,11 @@ pub fn read_all<R: Read>(
     limit: usize,
 ) -> Result<Vec<u8>, ReadFault>
     ensures all { IfSome (bytes_left R.remaining reader.old) (λ text.
-        MatchResult result (λ bytes. (bytes.items ≡ text) × (length text ≤ limit)) (λ fault. MayFailReading fault limit text)) }
+        MatchResult result
+        (λ bytes. (bytes.items ≡ text) × (length text ≤ limit)) (λ fault. MayFailReading fault limit text)) }
     ensures small { IfOk result (λ bytes. vec_len bytes ≤ limit) }
-    ensures stops { result ≡ Err ReadFault.TooLarge → IfSome (bytes_left R.remaining reader.old) (λ text. bytes_left R.remaining reader.new ≡ Some (drop (limit + 1) text)) }
+    ensures stops { result ≡ Err ReadFault.TooLarge → IfSome (bytes_left R.remaining reader.old)
+        (λ text. bytes_left R.remaining reader.new ≡ Some (drop (limit + 1) text)) }
     ensures read { (result ≡ Err ReadFault.Read) ↔ (source_failed reader.new ≡ true) }
 {
     let mut bytes = Vec::new(alloc);
