@@ -1,5 +1,5 @@
 -- The number that a word writes.
-use Rattle.std.proofs.Common.{◌≡◌, ℕ, zero, suc, ◌^◌, ◌<◌, ◌≤◌, ◌+◌, ◌-◌, ◌*◌, Bool, true, false, cond, leb, ◌&&◌, List, length, get_or, take, refl, sym, ap, ◌∙◌, arith, Option, Some, None, inl, inr}
+use Rattle.std.proofs.Common.{◌≡◌, ℕ, zero, suc, ◌^◌, ◌<◌, ◌≤◌, ◌+◌, ◌-◌, ◌*◌, Bool, true, false, cond, leb, ◌&&◌, List, length, get_or, take, refl, sym, ap, ◌∙◌, arith, Option, Some, None, inl, inr, IsTrue, ◌↔◌}
 use Rattle.std.specs.Prelude.{decimal}
 use Rattle.std.proofs.lemmas.Fmt.{decimal_is_IsNumeral, decimal-digits_value, length-decimal-le, first_decimal, decimal_nonempty, decimal_digit}
 use Rattle.std.proofs.lemmas.Str.Parse.{IsNumeralModel, numerals_by_value, tells_by_index, digit_at, digits_value_short}
@@ -7,7 +7,7 @@ use Rattle.std.proofs.lemmas.Str.{digit_value_digit}
 use Rattle.std.proofs.lemmas.Int.Digits.{digits_value_more}
 use Rattle.std.proofs.lemmas.Slice.Eq.{bytes_eq-Decides}
 use Rattle.std.proofs.lemmas.Option.{cond_some}
-use Rattle.std.proofs.lemmas.Bool.{le-leb, leb-true, and_parts, and_from, cases_eq}
+use Rattle.std.proofs.lemmas.Bool.{le-leb, leb-true, and_parts, and_from, cases_eq, cases_lt}
 use Rattle.std.proofs.lemmas.List.{get_or-take, length-take-le, take_all}
 use Rattle.std.specs.Int.{IsInRange}
 use Rattle.std.specs.Option.{SomeIff, MatchOption}
@@ -77,6 +77,11 @@ pub number_some : (most : ℕ) (word : List ℕ) (value : ℕ) → most < 2 ^ 64
 number_some most word value small le some first (digits, is) =
     let whole : decimal (digits_value 10 word) ≡ word = decimal-digits_value model word digits some (λ zero. omega (arith, first zero)) (omega (arith, is)) in
     rw (sym whole ∙ ap decimal (sym is)) (sym (number_again most value le (omega arith)))
+
+-- a test for a zero before other digits said no
+pub no_leading_zero : (word : List ℕ) (b : Bool) → b ≡ false → IsTrue b ↔ ((get_or word 0 0 ≡ 48) × (1 < length word)) → get_or word 0 0 ≡ 48 → length word ≤ 1
+no_leading_zero word true is test leads = absurd cc
+no_leading_zero word false is test leads = elim (cases_lt 1 (length word)) [ inl lt ↦ (let yes : false ≡ true = test.1 (leads, lt) in absurd cc) | inr le ↦ le ]
 
 -- the number of the first i bytes, which are digits
 pub record IsValue (word : List ℕ) (i value : ℕ) : Type 0 where

@@ -1,4 +1,5 @@
-ghost use Rattle.std.specs.Prelude.{◌≡◌, ◌≢◌, ◌≤◌, ◌++◌, ◌↔◌, length, true, IfSome, IfOk, MatchOption, MatchResult, Err};
+ghost use Rattle.std.specs.Prelude.{◌≡◌, ◌≢◌, ◌≤◌, ◌∷◌, ◌++◌, ◌↔◌, length, true, IfSome, IfOk, MatchOption, MatchResult, Err};
+ghost use Rattle.gc_graph.specs.Lines.{HasNo, newline};
 ghost use Rattle.gc_graph.specs.Streams.{bytes_left, source_failed};
 ghost use Rattle.gc_trace.specs.Grammar.{IsTextOf, IsRecording, IsHeading, heading};
 ghost use Rattle.gc_trace.specs.Faults.{limit, IsFaultOf, IsReadAs, MayFail, HasNoHeading};
@@ -24,19 +25,27 @@ struct Heading {
     mutators: u8,
 }
 
+/// The first line without its line feed, and what follows it. None where there is no line feed.
+fn split_line(text: &[u8]) -> Option<(&[u8], &[u8])>
+    ensures { MatchOption result (HasNo newline text.now)
+        (λ parts. (text.now ≡ parts.0.now ++ newline ∷ parts.1.now) × HasNo newline parts.0.now) }
+{
+    cut(b'\n', text)
+}
+
 /// What the first two lines say, and what follows them.
 fn split_heading(text: &[u8]) -> Option<(Heading, &[u8])>
     ensures { MatchOption result (HasNoHeading text.now)
         (λ found. IsHeading found.0.version found.0.size found.0.mutators
         × (text.now ≡ heading found.0.version found.0.size found.0.mutators ++ found.1.now)) }
 {
-    let Some((first, rest)) = cut(b'\n', text) else {
+    let Some((first, rest)) = split_line(text) else {
         return None;
     };
     let Some(version) = version(first) else {
         return None;
     };
-    let Some((second, body)) = cut(b'\n', rest) else {
+    let Some((second, body)) = split_line(rest) else {
         return None;
     };
     let Some((size, mutators)) = sizes(second) else {
@@ -66,7 +75,7 @@ fn spelled_trace(alloc: Global, text: &[u8]) -> Result<Trace, TraceFault>
     let mut rest = body;
     let mut number = 3u64;
     while !rest.is_empty() {
-        let Some((line, after)) = cut(b'\n', rest) else {
+        let Some((line, after)) = split_line(rest) else {
             return Err(TraceFault::BadLine(number));
         };
         let Some(Event::Mutate { m, op }) = event(line) else {

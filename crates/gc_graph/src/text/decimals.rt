@@ -1,4 +1,4 @@
-ghost use Rattle.std.specs.Prelude.{◌≡◌, ◌<◌, ◌≤◌, ◌-◌, ◌^◌, length, IfSome, MatchOption};
+ghost use Rattle.std.specs.Prelude.{◌≡◌, ◌<◌, ◌≤◌, ◌-◌, ◌^◌, ◌↔◌, length, slice_index, IfSome, IsTrue, MatchOption};
 ghost use Rattle.std.specs.Int.{IsInRange};
 ghost use Rattle.std.specs.Str.Parse.{digits_value};
 ghost use Rattle.gc_graph.specs.Words.{number_of, AreDigits};
@@ -51,6 +51,14 @@ fn digits_up_to_twenty(word: &[u8]) -> Option<u64>
     }
 }
 
+/// Whether a zero stands before other digits.
+fn has_leading_zero(word: &[u8]) -> bool
+    requires { 0 < length word.now }
+    ensures { IsTrue result ↔ ((slice_index word.now 0 ≡ 48) × (1 < length word.now)) }
+{
+    word[0] == b'0' && word.len() > 1
+}
+
 /// The number whose decimal the word is, if it is at most this.
 pub fn number(word: &[u8], most: u64) -> Option<u64>
     ensures value { result ≡ number_of most word.now }
@@ -59,7 +67,7 @@ pub fn number(word: &[u8], most: u64) -> Option<u64>
     if word.is_empty() || word.len() > 20 {
         return None;
     }
-    if word[0] == b'0' && word.len() > 1 {
+    if has_leading_zero(word) {
         return None;
     }
     let value = digits_up_to_twenty(word)?;

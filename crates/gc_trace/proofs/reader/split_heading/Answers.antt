@@ -9,14 +9,14 @@ returns-in_default c = no_first c.args.text.now c.in_default.ensures
 pub returns-in_default-version : goal.returns-in_default-version
 returns-in_default-version c = no_version c.args.text.now c.in-Some.first.now c.in-Some.rest.now c.in-Some.ensures.0 c.in-Some.ensures.1 (sym c.in_default-version.ensures)
 
-pub returns-in_default-cut : goal.returns-in_default-cut
-returns-in_default-cut c = no_second c.args.text.now c.in-Some.first.now c.in-Some.rest.now c.in-Some.ensures.0 c.in-Some.ensures.1 c.in_default-cut.ensures
+pub returns-in_default-split_line : goal.returns-in_default-split_line
+returns-in_default-split_line c = no_second c.args.text.now c.in-Some.first.now c.in-Some.rest.now c.in-Some.ensures.0 c.in-Some.ensures.1 c.in_default-split_line.ensures
 
 pub returns-in_default-sizes : goal.returns-in_default-sizes
 returns-in_default-sizes c =
-    no_sizes c.args.text.now c.in-Some.first.now c.in-Some.rest.now c.in-Some-cut.second.now c.in-Some-cut.body.now c.in-Some.ensures.0 c.in-Some.ensures.1 c.in-Some-cut.ensures.0 c.in-Some-cut.ensures.1 (sym c.in_default-sizes.ensures)
+    no_sizes c.args.text.now c.in-Some.first.now c.in-Some.rest.now c.in-Some-split_line.second.now c.in-Some-split_line.body.now c.in-Some.ensures.0 c.in-Some.ensures.1 c.in-Some-split_line.ensures.0 c.in-Some-split_line.ensures.1 (sym c.in_default-sizes.ensures)
 
 pub returns : goal.returns
 returns c =
-    one_heading c.args.text.now c.in-Some.first.now c.in-Some.rest.now c.in-Some-cut.second.now c.in-Some-cut.body.now c.in-Some-version.version c.in-Some-sizes.size c.in-Some-sizes.mutators c.in-Some.ensures.0 (sym c.in-Some-version.ensures)
-    c.in-Some-cut.ensures.0 (sym c.in-Some-sizes.ensures)
+    one_heading c.args.text.now c.in-Some.first.now c.in-Some.rest.now c.in-Some-split_line.second.now c.in-Some-split_line.body.now c.in-Some-version.version c.in-Some-sizes.size c.in-Some-sizes.mutators c.in-Some.ensures.0 (sym c.in-Some-version.ensures)
+    c.in-Some-split_line.ensures.0 (sym c.in-Some-sizes.ensures)
