@@ -43,6 +43,19 @@ def readers(program, folder):
         os.close(descriptor)
 
 
+def closed_streams(program, folder):
+    """A stream that is closed from the start fails like any other, also where a file takes its number."""
+    text, _ = trace_and_replies(PLAYED["cycle_of_two"])
+    path = file_of(folder, "played", text)
+    for name, words, closing, wanted in [
+        ("closed_standard_input", [], "<&-", CANNOT_READ),
+        ("closed_standard_output", ["play", path], ">&-", CANNOT_WRITE),
+        ("closed_standard_input_and_output", ["play", path], "<&- >&-", CANNOT_WRITE),
+    ]:
+        shell = ["-c", 'exec "$0" "$@" ' + closing, program, *words]
+        yield name, difference(run("/bin/sh", shell, text=text), wanted)
+
+
 def writers(program, folder):
     text, _ = trace_and_replies(PLAYED["cycle_of_two"])
     # Longer than a pipe and than any buffer, so that writes fail in mid-stream too.
@@ -87,4 +100,4 @@ def standard_error(program, folder):
     yield "statuses_with_full_standard_error", None if found == [3, 4, 2] else "statuses %s, wanted [3, 4, 2]" % found
 
 
-GROUPS = [readers, writers, nothing_to_write, broken_off, standard_error]
+GROUPS = [readers, closed_streams, writers, nothing_to_write, broken_off, standard_error]
