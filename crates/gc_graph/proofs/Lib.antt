@@ -6,3 +6,9 @@ pub mod Compose
 pub mod Plains
 pub mod Bounds
 pub mod Stepping
+pub mod Decimals
+pub mod WordLemmas
+pub mod Sending
+pub mod Taking
+pub mod LineLemmas
+pub mod WordReading

@@ -11,4 +11,6 @@ pub mod PlainMachine
 pub mod Codes
 pub mod Lines
 pub mod Streams
+pub mod Words
+pub mod Reading
 pub mod Rows

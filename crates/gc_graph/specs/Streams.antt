@@ -23,3 +23,9 @@ sink_failed s = s.failed
 -- known bytes grew by a front of the text, and by no more
 abbrev pub SendsFront : Option (List ℕ) → Option (List ℕ) → List ℕ → Type 0
 SendsFront old new text = (front : List ℕ) × (rest : List ℕ) × (text ≡ front ++ rest) × Appends old new front
+
+-- all of the text but the rest went out
+pub record HasSent (old new : Option (List ℕ)) (text rest : List ℕ) : Type 0 where
+  pub front : List ℕ
+  pub parts : text ≡ front ++ rest
+  pub out : Appends old new front

@@ -1,6 +1,6 @@
-ghost use Rattle.std.specs.Prelude.{◌≡◌, ◌<◌, true, false, is_err, IsErr, length, IfOk};
+ghost use Rattle.std.specs.Prelude.{◌≡◌, ◌<◌, true, false, is_err, IsErr, length, IfOk, OnOk, OnErr};
 ghost use Rattle.std.specs.Io.{WritesAtMost};
-ghost use Rattle.std.specs.Io.KnownBytes.{WriteAppends};
+ghost use Rattle.std.specs.Io.KnownBytes.{Appends, WriteAppends};
 
 use crate::text::source::Failed;
 use std::io::Write;
@@ -13,7 +13,7 @@ pub struct Sink<W> {
 }
 
 impl<W: Write> Sink<W> {
-    ghost use Rattle.gc_graph.specs.Streams.{bytes_written, sink_failed};
+    ghost use Rattle.gc_graph.specs.Streams.{bytes_written, sink_failed, SendsFront};
 
     pub fn new(writer: W) -> Self
         ensures bytes { bytes_written W.contents result ≡ W.contents writer }
@@ -59,5 +59,23 @@ impl<W: Write> Sink<W> {
                 Err(Failed)
             }
         }
+    }
+
+    /// Writes all of the text, or a front of it before the writer fails.
+    pub fn write_all(&mut self, text: &[u8]) -> Result<(), Failed>
+        ensures ok { OnOk result (Appends
+            (bytes_written W.contents self.old) (bytes_written W.contents self.new) text.now) }
+        ensures err { OnErr result (SendsFront
+            (bytes_written W.contents self.old) (bytes_written W.contents self.new) text.now) }
+        ensures failed { OnErr result (sink_failed self.new ≡ true) }
+    {
+        let mut rest = text;
+        while !rest.is_empty() {
+            let Ok(count) = self.write(rest) else {
+                return Err(Failed);
+            };
+            rest = &rest[count..];
+        }
+        Ok(())
     }
 }

@@ -1,0 +1,102 @@
+-- Lines that have no line feed inside, words that have no space, and cutting at a byte.
+use Rattle.std.proofs.Common.{◌≡◌, ℕ, ◌^◌, ◌<◌, ◌≤◌, Bool, true, false, eqb, leb, not, ◌&&◌, List, [], ◌∷◌, ◌++◌, length, get_or, refl, ap, ◌∙◌, arith, suc, inl, inr, ◌⊎◌}
+use Rattle.std.specs.Fmt.{decimal}
+use Rattle.std.specs.List.{AllByRecursion}
+use Rattle.std.proofs.lemmas.Bool.{and_parts, eqb-true, eqb-false, ne_eqb, leb-true}
+use Rattle.std.proofs.lemmas.List.Splits.{join_with_byte-slice_split}
+use Rattle.gc_graph.specs.Lines.{HasNo, space, newline, joined, words_of}
+use Rattle.gc_graph.proofs.Decimals.{decimal_are_digits}
+use Rattle.gc_graph.proofs.WordLemmas.{words_of-cut, words_of-whole}
+
+-- a test for words that are written out: no byte is below the digits
+abbrev pub all_high : List ℕ → Bool
+all_high [] = true
+all_high (b ∷ bs) = leb 48 b && all_high bs
+
+pub HasNo-name : (c : ℕ) (name : List ℕ) → c < 48 → all_high name ≡ true → HasNo c name
+HasNo-name c [] low e = tt
+HasNo-name c (b ∷ name) low e =
+    let p = and_parts (leb 48 b) (all_high name) e in
+    (omega (arith, low, leb-true 48 b p.0), HasNo-name c name low p.1)
+
+HasNo-digits : (c : ℕ) (ds : List ℕ) → c < 48 → ((i : ℕ) → i < length ds → 48 ≤ get_or ds i 0) → HasNo c ds
+HasNo-digits c [] low digits = tt
+HasNo-digits c (d ∷ ds) low digits = (omega (arith, digits 0 (omega arith)), HasNo-digits c ds low (λ i lt. digits (suc i) (omega arith)))
+
+pub HasNo-decimal : (c n : ℕ) → c < 48 → n < 2 ^ 64 → HasNo c (decimal n)
+HasNo-decimal c n low small = HasNo-digits c (decimal n) low (λ i lt. (decimal_are_digits n small i lt).0)
+
+abbrev pub AllHaveNo : ℕ → List (List ℕ) → Type 0
+AllHaveNo c words = AllByRecursion (HasNo c) words
+
+HasNo-append : (c : ℕ) (xs ys : List ℕ) → HasNo c xs → HasNo c ys → HasNo c (xs ++ ys)
+HasNo-append c [] ys p q = q
+HasNo-append c (x ∷ xs) ys p q = (p.0, HasNo-append c xs ys p.1 q)
+
+pub HasNo-joined : (words : List (List ℕ)) → AllHaveNo newline words → HasNo newline (joined words)
+HasNo-joined [] h = tt
+HasNo-joined (w ∷ []) h = h.0
+HasNo-joined (w ∷ v ∷ words) h = HasNo-append newline w (space ∷ joined (v ∷ words)) h.0 (omega arith, HasNo-joined (v ∷ words) h.1)
+
+-- words that were joined are found again
+pub words_of-joined : (w : List ℕ) (words : List (List ℕ)) → AllHaveNo space (w ∷ words) → words_of (joined (w ∷ words)) ≡ w ∷ words
+words_of-joined w [] h = words_of-whole w h.0
+words_of-joined w (v ∷ words) h = words_of-cut w (joined (v ∷ words)) h.0 ∙ ap (λ (ws : List (List ℕ)). w ∷ ws) (words_of-joined v words h.1)
+
+-- the words of a line, joined, are the line
+pub joined-words_of : (line : List ℕ) → joined (words_of line) ≡ line
+joined-words_of line = join_with_byte-slice_split space line
+
+-- ---- a test for texts that are written out
+
+abbrev pub lacks : ℕ → List ℕ → Bool
+lacks c [] = true
+lacks c (b ∷ bs) = not (eqb b c) && lacks c bs
+
+not_true : (b : Bool) → not b ≡ true → b ≡ false
+not_true true e = cc
+not_true false e = refl
+
+pub HasNo-lacks : (c : ℕ) (text : List ℕ) → lacks c text ≡ true → HasNo c text
+HasNo-lacks c [] e = tt
+HasNo-lacks c (b ∷ text) e =
+    let p = and_parts (not (eqb b c)) (lacks c text) e in
+    (eqb-false b c (not_true (eqb b c) p.0), HasNo-lacks c text p.1)
+
+pub lacks-HasNo : (c : ℕ) (text : List ℕ) → HasNo c text → lacks c text ≡ true
+lacks-HasNo c [] h = refl
+lacks-HasNo c (b ∷ text) h = rw (ne_eqb b c h.0, lacks-HasNo c text h.1) refl
+
+-- ---- cutting at a byte
+
+pub not_cut : (c : ℕ) (text front rest : List ℕ) → HasNo c text → text ≡ front ++ c ∷ rest → ⊥
+not_cut c [] [] rest h e = cc
+not_cut c [] (x ∷ front) rest h e = cc
+not_cut c (y ∷ text) [] rest h e = h.0 cc
+not_cut c (y ∷ text) (x ∷ front) rest h e = not_cut c text front rest h.1 cc
+
+pub one_cut : (c : ℕ) (a x b y : List ℕ) → HasNo c a → HasNo c b → a ++ c ∷ x ≡ b ++ c ∷ y → (a ≡ b) × (x ≡ y)
+one_cut c [] x [] y p q e = (refl, cc)
+one_cut c [] x (d ∷ b) y p q e = absurd (q.0 cc)
+one_cut c (d ∷ a) x [] y p q e = absurd (p.0 cc)
+one_cut c (d ∷ a) x (g ∷ b) y p q e =
+    let tails : a ++ c ∷ x ≡ b ++ c ∷ y = cc in
+    let r = one_cut c a x b y p.1 q.1 tails in
+    (let head : d ≡ g = cc in rw (head, r.0) refl, r.1)
+
+-- a line, and what stands behind it
+pub record Cut (text : List ℕ) : Type 0 where
+  pub line : List ℕ
+  pub rest : List ℕ
+  pub parts : text ≡ line ++ newline ∷ rest
+  pub whole : HasNo newline line
+
+-- each text has a line feed, or none
+pub cut : (text : List ℕ) → HasNo newline text ⊎ Cut text
+cut [] = inl tt
+cut (b ∷ text) = at (eqb b newline) refl (cut text)
+  where
+    at : (is : Bool) → eqb b newline ≡ is → HasNo newline text ⊎ Cut text → HasNo newline (b ∷ text) ⊎ Cut (b ∷ text)
+    at true e more = inr (record { line = []; rest = text; parts = ap (λ (c : ℕ). c ∷ text) (eqb-true b newline e); whole = tt })
+    at false e (inl h) = inl (eqb-false b newline e, h)
+    at false e (inr c) = inr (record { line = b ∷ c.line; rest = c.rest; parts = ap (λ (t : List ℕ). b ∷ t) c.parts; whole = (eqb-false b newline e, c.whole) })

@@ -1,0 +1,68 @@
+-- A text that goes out piece by piece.
+use Rattle.std.proofs.Common.{◌≡◌, ℕ, List, [], ◌++◌, take, drop, refl, sym, ap, ◌∙◌, append_assoc, Option, Some, None, subst, length, ◌-◌, arith}
+use Rattle.std.proofs.lemmas.List.{append-nil, take-append-drop, take_all, length-drop}
+use Rattle.std.specs.Io.KnownBytes.{Appends, Keeps}
+use Rattle.gc_graph.specs.Streams.{SendsFront, HasSent}
+
+Appends-nil : (old : Option (List ℕ)) → Appends old old []
+Appends-nil None = tt
+Appends-nil (Some xs) = sym (append-nil xs)
+
+Appends-then : (old mid new : Option (List ℕ)) (xs ys : List ℕ) → Appends old mid xs → Appends mid new ys → Appends old new (xs ++ ys)
+Appends-then None mid new xs ys p q = tt
+Appends-then (Some a) None new xs ys p q = absurd p
+Appends-then (Some a) (Some b) None xs ys p q = absurd q
+Appends-then (Some a) (Some b) (Some c) xs ys p q = q ∙ ap (λ (t : List ℕ). t ++ ys) p ∙ append_assoc a xs ys
+
+Keeps-appends : (old new : Option (List ℕ)) → Keeps old new → Appends old new []
+Keeps-appends None new k = tt
+Keeps-appends (Some a) None k = k
+Keeps-appends (Some a) (Some b) k = k ∙ sym (append-nil a)
+
+-- nothing went out
+pub nothing_sent : (old : Option (List ℕ)) (text : List ℕ) → HasSent old old text text
+nothing_sent old text = record { front = []; parts = refl; out = Appends-nil old }
+
+more_sent : (old mid new : Option (List ℕ)) (text rest : List ℕ) (count : ℕ) → HasSent old mid text rest → Appends mid new (take count rest) → HasSent old new text (drop count rest)
+more_sent old mid new text rest count so_far more = record {
+  front = so_far.front ++ take count rest;
+  parts = so_far.parts ∙ ap (λ (t : List ℕ). so_far.front ++ t) (sym (take-append-drop count rest)) ∙ sym (append_assoc so_far.front (take count rest) (drop count rest));
+  out = Appends-then old mid new so_far.front (take count rest) so_far.out more;
+}
+
+-- one write, with the rest as a slice gives it
+pub more_sent_slice : (old mid new : Option (List ℕ)) (text rest : List ℕ) (count : ℕ) → HasSent old mid text rest → Appends mid new (take count rest) → HasSent old new text (take (length rest - count) (drop count rest))
+more_sent_slice old mid new text rest count so_far more =
+    let all : take (length rest - count) (drop count rest) ≡ drop count rest = take_all (length rest - count) (drop count rest) (omega (arith, length-drop count rest)) in
+    subst (HasSent old new text) (sym all) (more_sent old mid new text rest count so_far more)
+
+pub all_sent : (old new : Option (List ℕ)) (text rest : List ℕ) → HasSent old new text rest → rest ≡ [] → Appends old new text
+all_sent old new text rest so_far none = subst (Appends old new) (sym (so_far.parts ∙ ap (λ (t : List ℕ). so_far.front ++ t) none ∙ append-nil so_far.front)) so_far.out
+
+pub part_sent : (old mid new : Option (List ℕ)) (text rest : List ℕ) → HasSent old mid text rest → Keeps mid new → SendsFront old new text
+part_sent old mid new text rest so_far kept = (so_far.front, rest, so_far.parts, subst (Appends old new) (append-nil so_far.front) (Appends-then old mid new so_far.front [] so_far.out (Keeps-appends mid new kept)))
+
+-- what waited went out
+pub flushed : (a b : Option (List ℕ)) (waiting rest : List ℕ) → Appends a b waiting → rest ≡ [] → HasSent a b waiting rest
+flushed a b waiting rest out none = record { front = waiting; parts = sym (ap (λ (t : List ℕ). waiting ++ t) none ∙ append-nil waiting); out = out }
+
+-- more text waits behind what waits already
+pub sent_then : (a b c : Option (List ℕ)) (text waiting mid more rest : List ℕ) → HasSent a b text waiting → HasSent b c waiting mid → rest ≡ mid ++ more → HasSent a c (text ++ more) rest
+sent_then a b c text waiting mid more rest first second is = record {
+  front = first.front ++ second.front;
+  parts = ap (λ (t : List ℕ). t ++ more) (first.parts ∙ ap (λ (t : List ℕ). first.front ++ t) second.parts ∙ sym (append_assoc first.front second.front mid)) ∙ append_assoc (first.front ++ second.front) mid more ∙ ap (λ (t : List ℕ). (first.front ++ second.front) ++ t) (sym is);
+  out = Appends-then a b c first.front second.front first.out second.out;
+}
+
+-- what waited goes out, or a front of it
+pub sent_at_last : (a b c : Option (List ℕ)) (text waiting : List ℕ) → HasSent a b text waiting → Appends b c waiting → Appends a c text
+sent_at_last a b c text waiting first out = subst (Appends a c) (sym first.parts) (Appends-then a b c first.front waiting first.out out)
+
+-- a front of what waits, and so of a text that goes on
+pub front_sent : (a b c : Option (List ℕ)) (text waiting more : List ℕ) → HasSent a b text waiting → SendsFront b c waiting → SendsFront a c (text ++ more)
+front_sent a b c text waiting more first (front, rest, parts, out) = (
+  first.front ++ front,
+  rest ++ more,
+  ap (λ (t : List ℕ). t ++ more) (first.parts ∙ ap (λ (t : List ℕ). first.front ++ t) parts ∙ sym (append_assoc first.front front rest)) ∙ append_assoc (first.front ++ front) rest more,
+  Appends-then a b c first.front front first.out out,
+)

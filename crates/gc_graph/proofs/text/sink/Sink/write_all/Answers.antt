@@ -1,0 +1,5 @@
+use Rattle.gc_graph.proofs.Sending.{more_sent_slice}
+use Rattle.gc_graph.proofs.text.sink.Sink.write_all.Goals as goal
+
+pub loop-rest-preserved : goal.loop-rest-preserved
+loop-rest-preserved g c = more_sent_slice _ _ _ c.args.text.now c.loop-rest.rest.now c.in-Ok.count c.loop-rest.invariant c.in-Ok.ensures.bytes

@@ -1,0 +1,87 @@
+use crate::text::sink::Sink;
+use crate::text::source::Failed;
+use arrayvec::ArrayVec;
+use itoa::Buffer;
+use std::io::Write;
+use std::marker::Model;
+
+/// Text that waits to go out, up to 16 KiB. It takes no memory.
+#[derive(Drop)]
+pub struct Printer {
+    waiting: ArrayVec<u8, 16384>,
+}
+
+impl Model for Printer {
+    ghost use Rattle.std.specs.Prelude.{List, ℕ};
+
+    ghost Value = { List ℕ };
+
+    ghost view = { λ p. p.waiting.items };
+}
+
+impl Printer {
+    ghost use Rattle.std.specs.Prelude.{◌≡◌, ◌++◌, ◌+◌, ◌≤◌, [], true, length, decimal, OnOk, OnErr};
+    ghost use Rattle.std.specs.Io.KnownBytes.{Appends};
+    ghost use Rattle.gc_graph.specs.Streams.{bytes_written, sink_failed, SendsFront, HasSent};
+
+    /// Nothing waits.
+    pub fn new() -> Self
+        ensures { result ≡ [] }
+    {
+        Printer {
+            waiting: ArrayVec::new(),
+        }
+    }
+
+    /// Makes room for so many bytes: where there is too little, what waits goes out.
+    pub fn make_room<W: Write>(&mut self, writer: &mut Sink<W>, count: usize) -> Result<(), Failed>
+        requires { count ≤ 16384 }
+        ensures room { OnOk result (length self.new + count ≤ 16384) }
+        ensures ok { OnOk result (HasSent
+            (bytes_written W.contents writer.old) (bytes_written W.contents writer.new) self.old self.new) }
+        ensures err { OnErr result (SendsFront
+            (bytes_written W.contents writer.old) (bytes_written W.contents writer.new) self.old) }
+        ensures failed { OnErr result (sink_failed writer.new ≡ true) }
+    {
+        if count <= self.waiting.remaining_capacity() {
+            return Ok(());
+        }
+        self.flush(writer)
+    }
+
+    /// The bytes wait, behind what waits already.
+    pub fn bytes(&mut self, text: &[u8])
+        requires { length self.old + length text.now ≤ 16384 }
+        ensures { self.new ≡ self.old ++ text.now }
+    {
+        let _ = self.waiting.try_extend_from_slice(text);
+    }
+
+    /// The number's decimal waits, behind what waits already.
+    pub fn number(&mut self, n: u64)
+        requires { length self.old + 20 ≤ 16384 }
+        ensures text { self.new ≡ self.old ++ decimal n }
+        ensures room { length self.new ≤ length self.old + 20 }
+    {
+        let mut digits = Buffer::new();
+        self.bytes(digits.format(n).as_bytes());
+    }
+
+    /// What waits goes out.
+    pub fn flush<W: Write>(&mut self, writer: &mut Sink<W>) -> Result<(), Failed>
+        ensures empty { OnOk result (self.new ≡ []) }
+        ensures ok { OnOk result (Appends
+            (bytes_written W.contents writer.old) (bytes_written W.contents writer.new) self.old) }
+        ensures err { OnErr result (SendsFront
+            (bytes_written W.contents writer.old) (bytes_written W.contents writer.new) self.old) }
+        ensures failed { OnErr result (sink_failed writer.new ≡ true) }
+    {
+        match writer.write_all(self.waiting.as_slice()) {
+            Ok(()) => {
+                self.waiting.clear();
+                Ok(())
+            }
+            Err(failed) => Err(failed),
+        }
+    }
+}

@@ -1,0 +1,98 @@
+use crate::text::{Printer, ReadFault, Sink, Source, Words, cut, number, read_all};
+use std::alloc::Global;
+use std::io;
+use std::io::Read;
+use std::test::Fail;
+
+/// Gives so many zeroes, in pieces that grow from one byte, and then ends.
+#[derive(Drop)]
+struct Zeroes {
+    left: usize,
+    piece: usize,
+}
+
+impl Read for Zeroes {
+    fn read(&mut self, buf: &mut [u8]) -> io::Result<usize> {
+        let count = self.piece.min(self.left).min(buf.len());
+        buf[..count].fill(0);
+        self.left -= count;
+        self.piece = self.piece.saturating_add(1);
+        Ok(count)
+    }
+}
+
+/// How many bytes are had of `left`, and how many are left then.
+fn had(alloc: Global, left: usize, limit: usize) -> (Result<usize, ReadFault>, usize) {
+    let mut source = Source::new(Zeroes { left, piece: 1 });
+    let had = read_all(alloc, &mut source, limit).map(|bytes| bytes.len());
+    let mut rest = [0u8; 64];
+    (had, source.read(&mut rest).unwrap_or(0))
+}
+
+#[test]
+fn all_bytes_up_to_the_limit(rt: HostRuntime) {
+    assert_eq!(rt; had(rt.alloc(), 0, 0), (Ok(0), 0));
+    assert_eq!(rt; had(rt.alloc(), 300000, 300000), (Ok(300000), 0));
+    assert_eq!(rt;
+        had(rt.alloc(), 300002, 300000),
+        (Err(ReadFault::TooLarge), 1)
+    );
+    assert_eq!(rt; had(rt.alloc(), 1, 0), (Err(ReadFault::TooLarge), 0));
+}
+
+#[test]
+fn numbers_up_to_the_greatest(rt: HostRuntime) {
+    let rows: [(&[u8], u64, Option<u64>); 10] = [
+        (b"0", 0, Some(0)),
+        (b"7", 6, None),
+        (b"", 9, None),
+        (b"00", 9, None),
+        (b"+1", 9, None),
+        (
+            b"9223372036854775807",
+            9223372036854775807,
+            Some(9223372036854775807),
+        ),
+        (b"18446744073709551615", u64::MAX, Some(u64::MAX)),
+        (b"18446744073709551616", u64::MAX, None),
+        (b"99999999999999999999", u64::MAX, None),
+        (b"100000000000000000000", u64::MAX, None),
+    ];
+    for (word, most, want) in rows {
+        assert_eq!(rt; number(word, most), want, "{word:?}");
+    }
+}
+
+#[test]
+fn words_of_a_line(rt: HostRuntime) -> Result<(), Fail> {
+    let (line, rest) = cut(b'\n', b"put 12  x\nmore").ok_or("line")?;
+    assert_eq!(rt; rest, b"more".as_slice());
+    let mut words = Words::new(line);
+    assert!(rt; words.word(b"put").is_some());
+    assert_eq!(rt; words.number(12), Some(12));
+    assert_eq!(rt; words.next_word(), Some(b"".as_slice()));
+    assert_eq!(rt; words.next_word(), Some(b"x".as_slice()));
+    assert!(rt; words.is_empty());
+    assert!(rt; words.next_word().is_none());
+    assert!(rt; cut(b'\n', rest).is_none());
+    Ok(())
+}
+
+#[test]
+fn what_waits_goes_out_in_order(rt: HostRuntime) -> Result<(), Fail> {
+    let mut sink = Sink::new(Vec::new(rt.alloc()));
+    let mut printer = Printer::new();
+    for _ in 0..2000 {
+        printer.make_room(&mut sink, 21)?;
+        printer.number(u64::MAX);
+        printer.bytes(b"\n");
+    }
+    printer.flush(&mut sink)?;
+    let all = sink.into_inner();
+    assert_eq!(rt; all.len(), 42000);
+    assert!(rt;
+        all.chunks(21)
+            .all(|line| line == b"18446744073709551615\n".as_slice())
+    );
+    Ok(())
+}

@@ -1,0 +1,187 @@
+-- What is read of words is what the grammar says.
+use Rattle.std.proofs.Common.{◌≡◌, ℕ, ◌≤◌, Bool, true, false, cond, eqb, List, [], ◌∷◌, refl, ap, ◌∙◌, arith, Some, None, subst, inl, inr, ◌⊎◌}
+use Rattle.std.specs.Prelude.{codes}
+use Rattle.std.specs.Fmt.{decimal}
+use Rattle.std.proofs.lemmas.Bool.{eqb-true}
+use Rattle.std.proofs.lemmas.Option.{cond_some}
+use Rattle.gc_graph.specs.Slots.{SlotName}
+use Rattle.gc_graph.specs.Range.{IsSlot, IsCommand}
+use Rattle.gc_graph.specs.Words.{◌>>=◌, Words, number_of, number_at, word_at, end_of}
+use Rattle.gc_graph.specs.declared.command.Op.{Op}
+use Rattle.gc_graph.specs.declared.command.Op.TheVariants as ops
+use Rattle.gc_graph.proofs.Decimals.{number_found}
+use Rattle.gc_graph.proofs.WordReading.{bind_some, some, some_is, onto, number_at_found, word_at_found, end_found, name_case, positive}
+use Rattle.gc_trace.specs.declared.event.Event.{Event}
+use Rattle.gc_trace.specs.declared.event.Event.TheVariants.{Mutate}
+use Rattle.gc_trace.specs.Reading.{slot_of, slot_at, new_of, num_of, nil_of, move_of, get_of, put_of, same_of, look_of, op_of, command_of, event_of, version_at, sizes_of}
+use Rattle.gc_trace.specs.Grammar.{newest, slot, op_words, event_words, version_words, size_words, IsEvent}
+
+own_or_shared : Bool → ℕ → SlotName
+own_or_shared b i = record { shared = b; index = i }
+
+slot_parts : (b d : Bool) (s t r : SlotName) → cond b (Some s) (cond d (Some t) None) ≡ Some r → ((b ≡ true) × (s ≡ r)) ⊎ ((b ≡ false) × (d ≡ true) × (t ≡ r))
+slot_parts true d s t r e = inl (refl, some_is s r e)
+slot_parts false d s t r e = let h = cond_some d t r e in inr (refl, h.0, h.1)
+
+slot_found : (word : List ℕ) (s : SlotName) → slot_of word ≡ Some s → (word ≡ slot s) × IsSlot s
+unfolding slot_of slot own_or_shared
+slot_found [] s e = absurd cc
+slot_found (letter ∷ digits) s e =
+    let b = bind_some (number_of 15 digits) (λ index. cond (eqb letter 103) (Some (own_or_shared true index)) (cond (eqb letter 114) (Some (own_or_shared false index)) None)) s e in
+    let n = number_found 15 digits b.0 b.1 in
+    elim (slot_parts (eqb letter 103) (eqb letter 114) (own_or_shared true b.0) (own_or_shared false b.0) s b.2) [
+      | inl w ↦ subst (λ (r : SlotName). (letter ∷ digits ≡ slot r) × IsSlot r) w.1 (ap (λ (l : ℕ). l ∷ digits) (eqb-true letter 103 w.0) ∙ ap (λ (ds : List ℕ). 103 ∷ ds) n.0, omega (arith, n.1))
+      | inr w ↦ subst (λ (r : SlotName). (letter ∷ digits ≡ slot r) × IsSlot r) w.2 (ap (λ (l : ℕ). l ∷ digits) (eqb-true letter 114 w.1) ∙ ap (λ (ds : List ℕ). 114 ∷ ds) n.0, omega (arith, n.1))
+    ]
+
+slot_at_found : (words : Words) (x : SlotName × Words) → slot_at words ≡ Some x → (words ≡ slot x.0 ∷ x.1) × IsSlot x.0
+unfolding slot_at
+slot_at_found [] x e = absurd cc
+slot_at_found (word ∷ words) x e =
+    let b = bind_some (slot_of word) (λ s. Some (s, words)) x e in
+    let s = slot_found word b.0 b.1 in
+    subst (λ (y : SlotName × Words). (word ∷ words ≡ slot y.0 ∷ y.1) × IsSlot y.0) (some_is (b.0, words) x b.2) (ap (λ (w : List ℕ). w ∷ words) s.0, s.1)
+
+abbrev IsRead : Op → Words → Type 0
+IsRead op words = (words ≡ op_words op) × IsCommand op
+
+new_found : (words : Words) (op : Op) → new_of words ≡ Some op → IsRead op (codes "new" ∷ words)
+unfolding new_of op_words
+new_found words op e =
+    let a0 = bind_some (slot_at words) (λ x0. number_at 255 x0.1 >>= λ x1. number_at 65535 x1.1 >>= λ x2. end_of (ops.New x0.0 x1.0 x2.0) x2.1) op e in
+    let a1 = bind_some (number_at 255 a0.0.1) (λ x1. number_at 65535 x1.1 >>= λ x2. end_of (ops.New a0.0.0 x1.0 x2.0) x2.1) op a0.2 in
+    let a2 = bind_some (number_at 65535 a1.0.1) (λ x2. end_of (ops.New a0.0.0 a1.0.0 x2.0) x2.1) op a1.2 in
+    let z = end_found (ops.New a0.0.0 a1.0.0 a2.0.0) a2.0.1 op a2.2 in
+    let w0 = slot_at_found words a0.0 a0.1 in
+    let w1 = number_at_found 255 a0.0.1 a1.0 a1.1 in
+    let w2 = number_at_found 65535 a1.0.1 a2.0 a2.1 in
+    subst (λ (o : Op). IsRead o (codes "new" ∷ words)) z.1 (onto (codes "new") (w0.0 ∙ onto (slot a0.0.0) (w1.0 ∙ onto (decimal a1.0.0) (w2.0 ∙ onto (decimal a2.0.0) z.0))), (w0.1, omega (arith, w1.1), omega (arith, w2.1)))
+
+num_found : (words : Words) (op : Op) → num_of words ≡ Some op → IsRead op (codes "num" ∷ words)
+unfolding num_of op_words
+num_found words op e =
+    let a0 = bind_some (slot_at words) (λ x0. number_at 9223372036854775807 x0.1 >>= λ x1. end_of (ops.Num x0.0 x1.0) x1.1) op e in
+    let a1 = bind_some (number_at 9223372036854775807 a0.0.1) (λ x1. end_of (ops.Num a0.0.0 x1.0) x1.1) op a0.2 in
+    let z = end_found (ops.Num a0.0.0 a1.0.0) a1.0.1 op a1.2 in
+    let w0 = slot_at_found words a0.0 a0.1 in
+    let w1 = number_at_found 9223372036854775807 a0.0.1 a1.0 a1.1 in
+    subst (λ (o : Op). IsRead o (codes "num" ∷ words)) z.1 (onto (codes "num") (w0.0 ∙ onto (slot a0.0.0) (w1.0 ∙ onto (decimal a1.0.0) z.0)), (w0.1, omega (arith, w1.1)))
+
+nil_found : (words : Words) (op : Op) → nil_of words ≡ Some op → IsRead op (codes "nil" ∷ words)
+unfolding nil_of op_words
+nil_found words op e =
+    let a0 = bind_some (slot_at words) (λ x0. end_of (ops.Nil x0.0) x0.1) op e in
+    let z = end_found (ops.Nil a0.0.0) a0.0.1 op a0.2 in
+    let w0 = slot_at_found words a0.0 a0.1 in
+    subst (λ (o : Op). IsRead o (codes "nil" ∷ words)) z.1 (onto (codes "nil") (w0.0 ∙ onto (slot a0.0.0) z.0), w0.1)
+
+move_found : (words : Words) (op : Op) → move_of words ≡ Some op → IsRead op (codes "move" ∷ words)
+unfolding move_of op_words
+move_found words op e =
+    let a0 = bind_some (slot_at words) (λ x0. slot_at x0.1 >>= λ x1. end_of (ops.Move x0.0 x1.0) x1.1) op e in
+    let a1 = bind_some (slot_at a0.0.1) (λ x1. end_of (ops.Move a0.0.0 x1.0) x1.1) op a0.2 in
+    let z = end_found (ops.Move a0.0.0 a1.0.0) a1.0.1 op a1.2 in
+    let w0 = slot_at_found words a0.0 a0.1 in
+    let w1 = slot_at_found a0.0.1 a1.0 a1.1 in
+    subst (λ (o : Op). IsRead o (codes "move" ∷ words)) z.1 (onto (codes "move") (w0.0 ∙ onto (slot a0.0.0) (w1.0 ∙ onto (slot a1.0.0) z.0)), (w0.1, w1.1))
+
+get_found : (words : Words) (op : Op) → get_of words ≡ Some op → IsRead op (codes "get" ∷ words)
+unfolding get_of op_words
+get_found words op e =
+    let a0 = bind_some (slot_at words) (λ x0. slot_at x0.1 >>= λ x1. number_at 65535 x1.1 >>= λ x2. end_of (ops.Get x0.0 x1.0 x2.0) x2.1) op e in
+    let a1 = bind_some (slot_at a0.0.1) (λ x1. number_at 65535 x1.1 >>= λ x2. end_of (ops.Get a0.0.0 x1.0 x2.0) x2.1) op a0.2 in
+    let a2 = bind_some (number_at 65535 a1.0.1) (λ x2. end_of (ops.Get a0.0.0 a1.0.0 x2.0) x2.1) op a1.2 in
+    let z = end_found (ops.Get a0.0.0 a1.0.0 a2.0.0) a2.0.1 op a2.2 in
+    let w0 = slot_at_found words a0.0 a0.1 in
+    let w1 = slot_at_found a0.0.1 a1.0 a1.1 in
+    let w2 = number_at_found 65535 a1.0.1 a2.0 a2.1 in
+    subst (λ (o : Op). IsRead o (codes "get" ∷ words)) z.1 (onto (codes "get") (w0.0 ∙ onto (slot a0.0.0) (w1.0 ∙ onto (slot a1.0.0) (w2.0 ∙ onto (decimal a2.0.0) z.0))), (w0.1, w1.1, omega (arith, w2.1)))
+
+put_found : (words : Words) (op : Op) → put_of words ≡ Some op → IsRead op (codes "put" ∷ words)
+unfolding put_of op_words
+put_found words op e =
+    let a0 = bind_some (slot_at words) (λ x0. number_at 65535 x0.1 >>= λ x1. slot_at x1.1 >>= λ x2. end_of (ops.Put x0.0 x1.0 x2.0) x2.1) op e in
+    let a1 = bind_some (number_at 65535 a0.0.1) (λ x1. slot_at x1.1 >>= λ x2. end_of (ops.Put a0.0.0 x1.0 x2.0) x2.1) op a0.2 in
+    let a2 = bind_some (slot_at a1.0.1) (λ x2. end_of (ops.Put a0.0.0 a1.0.0 x2.0) x2.1) op a1.2 in
+    let z = end_found (ops.Put a0.0.0 a1.0.0 a2.0.0) a2.0.1 op a2.2 in
+    let w0 = slot_at_found words a0.0 a0.1 in
+    let w1 = number_at_found 65535 a0.0.1 a1.0 a1.1 in
+    let w2 = slot_at_found a1.0.1 a2.0 a2.1 in
+    subst (λ (o : Op). IsRead o (codes "put" ∷ words)) z.1 (onto (codes "put") (w0.0 ∙ onto (slot a0.0.0) (w1.0 ∙ onto (decimal a1.0.0) (w2.0 ∙ onto (slot a2.0.0) z.0))), (w0.1, omega (arith, w1.1), w2.1))
+
+same_found : (words : Words) (op : Op) → same_of words ≡ Some op → IsRead op (codes "same" ∷ words)
+unfolding same_of op_words
+same_found words op e =
+    let a0 = bind_some (slot_at words) (λ x0. slot_at x0.1 >>= λ x1. end_of (ops.Same x0.0 x1.0) x1.1) op e in
+    let a1 = bind_some (slot_at a0.0.1) (λ x1. end_of (ops.Same a0.0.0 x1.0) x1.1) op a0.2 in
+    let z = end_found (ops.Same a0.0.0 a1.0.0) a1.0.1 op a1.2 in
+    let w0 = slot_at_found words a0.0 a0.1 in
+    let w1 = slot_at_found a0.0.1 a1.0 a1.1 in
+    subst (λ (o : Op). IsRead o (codes "same" ∷ words)) z.1 (onto (codes "same") (w0.0 ∙ onto (slot a0.0.0) (w1.0 ∙ onto (slot a1.0.0) z.0)), (w0.1, w1.1))
+
+look_found : (words : Words) (op : Op) → look_of words ≡ Some op → IsRead op (codes "look" ∷ words)
+unfolding look_of op_words
+look_found words op e =
+    let a0 = bind_some (slot_at words) (λ x0. end_of (ops.Look x0.0) x0.1) op e in
+    let z = end_found (ops.Look a0.0.0) a0.0.1 op a0.2 in
+    let w0 = slot_at_found words a0.0 a0.1 in
+    subst (λ (o : Op). IsRead o (codes "look" ∷ words)) z.1 (onto (codes "look") (w0.0 ∙ onto (slot a0.0.0) z.0), w0.1)
+
+op_found : (words : Words) (op : Op) → op_of words ≡ Some op → IsRead op words
+unfolding op_of
+op_found [] op e = absurd cc
+op_found (name ∷ words) op e =
+    name_case (λ (w : List ℕ). IsRead op (w ∷ words)) name (codes "new") (new_of words) _ op e (new_found words op) (λ e1. name_case (λ (w : List ℕ). IsRead op (w ∷ words)) name (codes "num") (num_of words) _ op e1 (num_found words op) (λ e2. name_case (λ (w : List ℕ). IsRead op (w ∷ words)) name (codes "nil") (nil_of words) _ op e2 (nil_found words op) (λ e3. name_case (λ (w : List ℕ). IsRead op (w ∷ words)) name (codes "move") (move_of words) _ op e3 (move_found words op) (λ e4. name_case (λ (w : List ℕ). IsRead op (w ∷ words)) name (codes "get") (get_of words) _ op e4 (get_found words op) (λ e5. name_case (λ (w : List ℕ). IsRead op (w ∷ words)) name (codes "put") (put_of words) _ op e5 (put_found words op) (λ e6. name_case (λ (w : List ℕ). IsRead op (w ∷ words)) name (codes "same") (same_of words) _ op e6 (same_found words op) (λ e7. name_case (λ (w : List ℕ). IsRead op (w ∷ words)) name (codes "look") (look_of words) _ op e7 (look_found words op) (λ e9. absurd cc))))))))
+
+abbrev IsReadEvent : Event → Words → Type 0
+IsReadEvent event words = (words ≡ event_words event) × IsEvent event
+
+command_found : (words : Words) (event : Event) → command_of words ≡ Some event → IsReadEvent event (codes "m" ∷ words)
+unfolding command_of event_words
+command_found words event e =
+    let a = bind_some (number_at 15 words) (λ m. op_of m.1 >>= λ op. Some (Mutate m.0 op)) event e in
+    let b = bind_some (op_of a.0.1) (λ op. Some (Mutate a.0.0 op)) event a.2 in
+    let w = number_at_found 15 words a.0 a.1 in
+    let op = op_found a.0.1 b.0 b.1 in
+    subst (λ (x : Event). IsReadEvent x (codes "m" ∷ words)) (some_is (Mutate a.0.0 b.0) event b.2) (onto (codes "m") (w.0 ∙ onto (decimal a.0.0) op.0), (omega (arith, w.1), op.1))
+
+pub event_found : (words : Words) (event : Event) → event_of words ≡ Some event → IsReadEvent event words
+unfolding event_of
+event_found [] event e = absurd cc
+event_found (letter ∷ words) event e = name_case (λ (w : List ℕ). IsReadEvent event (w ∷ words)) letter (codes "m") (command_of words) None event e (command_found words event) (λ e1. absurd cc)
+
+pub version_found : (words : Words) (v : ℕ) → version_at words ≡ Some v → (words ≡ version_words v) × (1 ≤ v) × (v ≤ newest)
+unfolding version_at version_words
+version_found words v e =
+    let a = bind_some (word_at (codes "heaptrace") words) (λ rest. number_at newest rest >>= λ version. cond (eqb version.0 0) None (end_of version.0 version.1)) v e in
+    let b = bind_some (number_at newest a.0) (λ version. cond (eqb version.0 0) None (end_of version.0 version.1)) v a.2 in
+    let c = positive b.0.0 (eqb b.0.0 0) (end_of b.0.0 b.0.1) v refl b.2 in
+    let z = end_found b.0.0 b.0.1 v c.1 in
+    let w = word_at_found (codes "heaptrace") words a.0 a.1 in
+    let n = number_at_found newest a.0 b.0 b.1 in
+    subst (λ (u : ℕ). (words ≡ codes "heaptrace" ∷ decimal u ∷ []) × (1 ≤ u) × (u ≤ newest)) z.1 (w ∙ onto (codes "heaptrace") (n.0 ∙ onto (decimal b.0.0) z.0), c.0, n.1)
+
+abbrev AreSizes : ℕ → ℕ → Type 0
+AreSizes s m = (1 ≤ s) × (s ≤ 1048576) × (1 ≤ m) × (m ≤ 16)
+
+pub sizes_found : (words : Words) (x : ℕ × ℕ) → sizes_of words ≡ Some x → (words ≡ size_words x.0 x.1) × AreSizes x.0 x.1
+unfolding sizes_of size_words
+sizes_found words x e =
+    let finish = λ (sizes : ℕ × ℕ). cond (eqb sizes.0 0) None (cond (eqb sizes.1 0) None (some sizes)) in
+    let a = bind_some (word_at (codes "space") words) (λ rest. number_at 1048576 rest >>= λ size. word_at (codes "mutators") size.1 >>= λ rest. number_at 16 rest >>= λ mutators. end_of (size.0, mutators.0) mutators.1 >>= finish) x e in
+    let b = bind_some (number_at 1048576 a.0) (λ size. word_at (codes "mutators") size.1 >>= λ rest. number_at 16 rest >>= λ mutators. end_of (size.0, mutators.0) mutators.1 >>= finish) x a.2 in
+    let c = bind_some (word_at (codes "mutators") b.0.1) (λ rest. number_at 16 rest >>= λ mutators. end_of (b.0.0, mutators.0) mutators.1 >>= finish) x b.2 in
+    let d = bind_some (number_at 16 c.0) (λ mutators. end_of (b.0.0, mutators.0) mutators.1 >>= finish) x c.2 in
+    let f = bind_some (end_of (b.0.0, d.0.0) d.0.1) finish x d.2 in
+    let end = end_found (b.0.0, d.0.0) d.0.1 f.0 f.1 in
+    let w1 = word_at_found (codes "space") words a.0 a.1 in
+    let size = number_at_found 1048576 a.0 b.0 b.1 in
+    let w2 = word_at_found (codes "mutators") b.0.1 c.0 c.1 in
+    let mutators = number_at_found 16 c.0 d.0 d.1 in
+    let nz = positive f.0.0 (eqb f.0.0 0) (cond (eqb f.0.1 0) None (some f.0)) x refl f.2 in
+    let nz2 = positive f.0.1 (eqb f.0.1 0) (some f.0) x refl nz.1 in
+    let whole : (b.0.0, d.0.0) ≡ x = end.1 ∙ some_is f.0 x nz2.1 in
+    subst (λ (p : ℕ × ℕ). (words ≡ codes "space" ∷ decimal p.0 ∷ codes "mutators" ∷ decimal p.1 ∷ []) × AreSizes p.0 p.1) whole (
+      w1 ∙ onto (codes "space") (size.0 ∙ onto (decimal b.0.0) (w2 ∙ onto (codes "mutators") (mutators.0 ∙ onto (decimal d.0.0) end.0))),
+      (omega (arith, nz.0, ap (λ (p : ℕ × ℕ). p.0) end.1), size.1, omega (arith, nz2.0, ap (λ (p : ℕ × ℕ). p.1) end.1), mutators.1),
+    )

@@ -1,0 +1,12 @@
+use Rattle.std.proofs.Common.{◌≡◌, length, take}
+use Rattle.gc_graph.specs.Slots.{roots_of}
+use Rattle.gc_graph.specs.Machine.{opening_roomy}
+use Rattle.gc_trace.specs.Playing.{commands_in}
+use Rattle.gc_trace.proofs.Played.{AnswersAll}
+use Rattle.gc_trace.proofs.player.run.Given as goal
+
+abbrev pub invariant-loop-event : goal.invariant-loop-event
+invariant-loop-event l = record {
+  answered : AnswersAll (opening_roomy l.trace.size l.trace.mutators) (commands_in (take l.event-index l.trace.events.items)) l.replies.items l.plain;
+  roots : length l.plain.graph.roots ≡ roots_of l.trace.mutators;
+}

@@ -1,0 +1,63 @@
+-- The first fault of a text that was read to its end.
+use Rattle.std.specs.Prelude.{◌≡◌, ◌≢◌, ℕ, ◌+◌, ◌<◌, ◌≤◌, ⊤, List, [], ◌++◌, length}
+use Rattle.gc_graph.specs.declared.text.whole.ReadFault.{ReadFault}
+use Rattle.gc_graph.specs.declared.text.whole.ReadFault.TheVariants as reading
+use Rattle.gc_trace.specs.declared.event.Event.{Event}
+use Rattle.gc_trace.specs.Grammar.{Recording, IsTextOf, IsEvent, IsOf, IsHeading, heading, event_line}
+use Rattle.gc_trace.specs.declared.fault.TraceFault.{TraceFault}
+use Rattle.gc_trace.specs.declared.fault.TraceFault.TheVariants.{Read, TooLarge, BadHeader, BadLine, NoSuchMutator, NoMemory}
+
+abbrev pub limit : ℕ
+limit = 16777216
+
+-- lines 1 and 2 are those of no trace
+abbrev pub HasNoHeading : List ℕ → Type 0
+HasNoHeading text = (version size mutators : ℕ) (more : List ℕ) → IsHeading version size mutators → text ≢ heading version size mutators ++ more
+
+-- The lines before line n are the text of this trace, and this stands from line n on.
+pub record GoodBefore (text : List ℕ) (n : ℕ) (front : Recording) (rest : List ℕ) : Type 0 where
+  pub lines : List ℕ
+  pub good : IsTextOf front lines
+  pub parts : text ≡ lines ++ rest
+  pub number : n ≡ 3 + length front.events
+
+-- no line of the grammar stands at the front
+abbrev pub BeginsWithNoEvent : List ℕ → Type 0
+BeginsWithNoEvent text = (event : Event) (more : List ℕ) → IsEvent event → text ≢ event_line event ++ more
+
+-- something stands at line n, and it is no line of the grammar with its line feed
+abbrev pub HasBadLine : List ℕ → ℕ → Type 0
+HasBadLine text n = (front : Recording) × (rest : List ℕ) × GoodBefore text n front rest × (rest ≢ []) × BeginsWithNoEvent rest
+
+-- line n is of the grammar, but of a mutator that there isn't
+abbrev pub HasStranger : List ℕ → ℕ → Type 0
+HasStranger text n =
+    (front : Recording) × (event : Event) × (more : List ℕ) × GoodBefore text n front (event_line event ++ more) × IsEvent event × ¬ IsOf front.mutators event
+
+-- this is the text's first fault; `Read` and `NoMemory` are none of the text's
+abbrev pub IsFaultOf : TraceFault → List ℕ → Type 0
+IsFaultOf Read text = ⊥
+IsFaultOf TooLarge text = limit < length text
+IsFaultOf BadHeader text = (length text ≤ limit) × HasNoHeading text
+IsFaultOf (BadLine n) text = (length text ≤ limit) × HasBadLine text n
+IsFaultOf (NoSuchMutator n) text = (length text ≤ limit) × HasStranger text n
+IsFaultOf NoMemory text = ⊥
+
+-- the value that the text is read as
+abbrev pub IsReadAs : Recording → List ℕ → Type 0
+IsReadAs t text = IsTextOf t text × (length text ≤ limit)
+
+-- what may be answered in the place of a value: the text's first fault, or one of the reader or of memory
+abbrev pub MayFail : TraceFault → List ℕ → Type 0
+MayFail Read text = ⊤
+MayFail NoMemory text = ⊤
+MayFail TooLarge text = IsFaultOf TooLarge text
+MayFail BadHeader text = IsFaultOf BadHeader text
+MayFail (BadLine n) text = IsFaultOf (BadLine n) text
+MayFail (NoSuchMutator n) text = IsFaultOf (NoSuchMutator n) text
+
+-- what a reader's own fault is called
+abbrev pub fault_of_reading : ReadFault → TraceFault
+fault_of_reading reading.Read = Read
+fault_of_reading reading.TooLarge = TooLarge
+fault_of_reading reading.NoMemory = NoMemory

@@ -1,0 +1,78 @@
+-- Traces, and the one text of each: a heading, and then one line for each event.
+use Rattle.std.specs.Prelude.{◌≡◌, ℕ, ◌<◌, ◌≤◌, List, [], ◌∷◌, ◌++◌, codes, if◌then◌else◌}
+use Rattle.std.specs.List.{flat_map, AllByRecursion}
+use Rattle.std.specs.Fmt.{decimal}
+use Rattle.gc_graph.specs.Slots.{SlotName}
+use Rattle.gc_graph.specs.Range.{IsCommand}
+use Rattle.gc_graph.specs.Lines.{line}
+use Rattle.gc_graph.specs.declared.command.Op.{Op}
+use Rattle.gc_graph.specs.declared.command.Op.TheVariants as ops
+use Rattle.gc_trace.specs.declared.event.Event.{Event}
+use Rattle.gc_trace.specs.declared.event.Event.TheVariants.{Mutate}
+
+-- what contracts see of a trace
+pub record Recording : Type 0 where
+  pub version : ℕ
+  pub size : ℕ
+  pub mutators : ℕ
+  pub events : List Event
+
+-- ---- its text
+
+unfoldable pub slot : SlotName → List ℕ
+slot s = (if s.shared then 103 else 114) ∷ decimal s.index
+
+unfoldable pub op_words : Op → List (List ℕ)
+op_words (ops.New d kind len) = codes "new" ∷ slot d ∷ decimal kind ∷ decimal len ∷ []
+op_words (ops.Num d n) = codes "num" ∷ slot d ∷ decimal n ∷ []
+op_words (ops.Nil d) = codes "nil" ∷ slot d ∷ []
+op_words (ops.Move d s) = codes "move" ∷ slot d ∷ slot s ∷ []
+op_words (ops.Get d s i) = codes "get" ∷ slot d ∷ slot s ∷ decimal i ∷ []
+op_words (ops.Put s i t) = codes "put" ∷ slot s ∷ decimal i ∷ slot t ∷ []
+op_words (ops.Same s t) = codes "same" ∷ slot s ∷ slot t ∷ []
+op_words (ops.Look s) = codes "look" ∷ slot s ∷ []
+
+unfoldable pub event_words : Event → List (List ℕ)
+event_words (Mutate m op) = codes "m" ∷ decimal m ∷ op_words op
+
+unfoldable pub event_line : Event → List ℕ
+event_line event = line (event_words event)
+
+unfoldable pub version_words : ℕ → List (List ℕ)
+version_words version = codes "heaptrace" ∷ decimal version ∷ []
+
+unfoldable pub size_words : ℕ → ℕ → List (List ℕ)
+size_words size mutators = codes "space" ∷ decimal size ∷ codes "mutators" ∷ decimal mutators ∷ []
+
+-- lines 1 and 2
+unfoldable pub heading : ℕ → ℕ → ℕ → List ℕ
+heading version size mutators = line (version_words version) ++ line (size_words size mutators)
+
+unfoldable pub spelling : Recording → List ℕ
+spelling t = heading t.version t.size t.mutators ++ flat_map event_line t.events
+
+-- ---- what has a text
+
+-- the newest version that is read
+abbrev pub newest : ℕ
+newest = 1
+
+abbrev pub IsHeading : ℕ → ℕ → ℕ → Type 0
+IsHeading version size mutators = (1 ≤ version) × (version ≤ newest) × (1 ≤ size) × (size ≤ 1048576) × (1 ≤ mutators) × (mutators ≤ 16)
+
+-- an event of the grammar, whoever the mutators are
+abbrev pub IsEvent : Event → Type 0
+IsEvent (Mutate m op) = (m < 16) × IsCommand op
+
+-- the mutator is one of so many
+abbrev pub IsOf : ℕ → Event → Type 0
+IsOf mutators (Mutate m op) = m < mutators
+
+pub record IsRecording (t : Recording) : Type 0 where
+  pub heading : IsHeading t.version t.size t.mutators
+  pub events : AllByRecursion (λ event. IsEvent event × IsOf t.mutators event) t.events
+
+-- the text of the trace
+pub record IsTextOf (t : Recording) (text : List ℕ) : Type 0 where
+  pub recording : IsRecording t
+  pub spelled : text ≡ spelling t

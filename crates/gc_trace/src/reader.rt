@@ -1,0 +1,111 @@
+ghost use Rattle.std.specs.Prelude.{◌≡◌, ◌≢◌, ◌≤◌, ◌∷◌, ◌++◌, ◌↔◌, length, true, IfSome, IfOk, MatchOption, MatchResult, Err};
+ghost use Rattle.gc_graph.specs.Lines.{HasNo, newline};
+ghost use Rattle.gc_graph.specs.Streams.{bytes_left, source_failed};
+ghost use Rattle.gc_trace.specs.Grammar.{IsTextOf, IsRecording, IsHeading, heading};
+ghost use Rattle.gc_trace.specs.Faults.{limit, IsFaultOf, IsReadAs, MayFail, HasNoHeading};
+ghost use Rattle.gc_trace.specs.Views.{recording};
+
+use crate::event::Event;
+use crate::fault::TraceFault;
+use crate::parser::{event, sizes, version};
+use crate::trace::Trace;
+use gc_graph::Source;
+use gc_graph::text::{cut, read_all};
+use std::alloc::Global;
+use std::io::Read;
+
+/// The most bytes that a trace has as text.
+const LIMIT: usize = 16777216;
+
+/// What the first two lines say.
+#[derive(Clone, Copy)]
+struct Heading {
+    version: u8,
+    size: u32,
+    mutators: u8,
+}
+
+/// The first line without its line feed, and what follows it. None where there is no line feed.
+fn split_line(text: &[u8]) -> Option<(&[u8], &[u8])>
+    ensures { MatchOption result (HasNo newline text.now)
+        (λ parts. (text.now ≡ parts.0.now ++ newline ∷ parts.1.now) × HasNo newline parts.0.now) }
+{
+    cut(b'\n', text)
+}
+
+/// What the first two lines say, and what follows them.
+fn split_heading(text: &[u8]) -> Option<(Heading, &[u8])>
+    ensures { MatchOption result (HasNoHeading text.now)
+        (λ found. IsHeading found.0.version found.0.size found.0.mutators
+        × (text.now ≡ heading found.0.version found.0.size found.0.mutators ++ found.1.now)) }
+{
+    let Some((first, rest)) = split_line(text) else {
+        return None;
+    };
+    let Some(version) = version(first) else {
+        return None;
+    };
+    let Some((second, body)) = split_line(rest) else {
+        return None;
+    };
+    let Some((size, mutators)) = sizes(second) else {
+        return None;
+    };
+    Some((
+        Heading {
+            version,
+            size,
+            mutators,
+        },
+        body,
+    ))
+}
+
+/// The trace that the text spells.
+fn spelled_trace(alloc: Global, text: &[u8]) -> Result<Trace, TraceFault>
+    requires { length text.now ≤ limit }
+    ensures exact { MatchResult result
+        (λ t. IsTextOf (recording t) text.now) (λ fault. MayFail fault text.now) }
+    ensures unread { result ≢ Err TraceFault.Read }
+{
+    let Some((heading, body)) = split_heading(text) else {
+        return Err(TraceFault::BadHeader);
+    };
+    let mut events = Vec::new(alloc);
+    let mut rest = body;
+    let mut number = 3u64;
+    while !rest.is_empty() {
+        let Some((line, after)) = split_line(rest) else {
+            return Err(TraceFault::BadLine(number));
+        };
+        let Some(Event::Mutate { m, op }) = event(line) else {
+            return Err(TraceFault::BadLine(number));
+        };
+        if m >= heading.mutators {
+            return Err(TraceFault::NoSuchMutator(number));
+        }
+        if events.push(Event::Mutate { m, op }).is_err() {
+            return Err(TraceFault::NoMemory);
+        }
+        rest = after;
+        number += 1;
+    }
+    Ok(Trace {
+        version: heading.version,
+        size: heading.size,
+        mutators: heading.mutators,
+        events,
+    })
+}
+
+/// The trace whose text the reader gives up to its end, else the first fault. Where the text has more than
+/// 16777216 bytes, one byte more than these is read.
+pub fn read_trace<R: Read>(alloc: Global, reader: &mut Source<R>) -> Result<Trace, TraceFault>
+    ensures exact { IfSome (bytes_left R.remaining reader.old) (λ text.
+        MatchResult result (λ t. IsReadAs (recording t) text) (λ fault. MayFail fault text)) }
+    ensures sound { IfOk result (λ t. IsRecording (recording t)) }
+    ensures read { (result ≡ Err TraceFault.Read) ↔ (source_failed reader.new ≡ true) }
+{
+    let bytes = read_all(alloc, reader, LIMIT)?;
+    spelled_trace(alloc, &bytes)
+}

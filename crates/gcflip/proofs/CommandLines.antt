@@ -1,0 +1,111 @@
+-- What clap's definitions find in the words that the program takes.
+use Rattle.std.proofs.Common.{◌≡◌, ◌==◌, ◌∙◌, List, [], ◌∷◌, refl, sym, ap, codes, drop, Bool, true, false, Option, Some, None, option_map}
+use Rattle.std.specs.Borrow.{Bor}
+use Rattle.std.specs.Str.{bytes_eq}
+use Rattle.clap.specs.Words.{App, HasMatchesOf, Row, Text, fault_of, first_of, first_value, found_of, is_simple, is_simple_and_free, rows_of, subcommand_of, subcommand_rows_of, takes}
+use Rattle.clap.specs.declared.parser.ArgMatches.{ArgMatches}
+use Rattle.clap.proofs.OnLiterals.{clap_on_literals}
+use Rattle.clap.proofs.WalkLemmas.{first_value-rows}
+use Rattle.gcflip.specs.CommandLine.{command_line, IsPlainWord}
+
+-- ---- no words behind the program's name
+
+none_taken : takes command_line ([] ∷ []) ≡ true
+unfolding clap_on_literals
+none_taken = refl
+
+none_found : subcommand_of command_line ([] ∷ []) ≡ None
+unfolding clap_on_literals
+none_found = refl
+
+pub no_words_taken : (words : List Text) → drop 1 words ≡ [] → takes command_line words ≡ true
+no_words_taken words e = ap (λ (rest : List Text). takes command_line ([] ∷ rest)) e ∙ none_taken
+
+no_words_found : (words : List Text) → drop 1 words ≡ [] → subcommand_of command_line words ≡ None
+no_words_found words e = ap (λ (rest : List Text). subcommand_of command_line ([] ∷ rest)) e ∙ none_found
+
+-- ---- `play` and a path
+
+-- the subcommand, and the FILE that was found for it
+abbrev pub file_of : Option (Text × List Row) → Option (Text × Option Text)
+file_of = option_map (λ p. (p.0, first_of (codes "FILE") p.1))
+
+not_two_hyphens : (path : Text) → IsPlainWord path → bytes_eq path (45 ∷ 45 ∷ []) ≡ false
+not_two_hyphens [] plain = refl
+not_two_hyphens (x ∷ xs) plain = go (x == 45) refl
+  where
+    go : (t : Bool) → (x == 45) ≡ t → bytes_eq (x ∷ xs) (45 ∷ 45 ∷ []) ≡ false
+    go true e = let hyphen = rw e at plain in cc
+    go false e = rw e refl
+
+play_taken : (path : Text) → IsPlainWord path → takes command_line ([] ∷ codes "play" ∷ path ∷ []) ≡ true
+unfolding clap_on_literals
+play_taken path plain = simp (plain, not_two_hyphens path plain)
+
+play_found : (path : Text) → IsPlainWord path → file_of (subcommand_of command_line ([] ∷ codes "play" ∷ path ∷ [])) ≡ Some (codes "play", Some path)
+unfolding clap_on_literals
+play_found path plain = simp (plain, not_two_hyphens path plain)
+
+pub play_words_taken : (words : List Text) (path : Text) → IsPlainWord path → drop 1 words ≡ codes "play" ∷ path ∷ [] → takes command_line words ≡ true
+play_words_taken words path plain e = ap (λ (rest : List Text). takes command_line ([] ∷ rest)) e ∙ play_taken path plain
+
+play_words_found : (words : List Text) (path : Text) → IsPlainWord path → drop 1 words ≡ codes "play" ∷ path ∷ [] → file_of (subcommand_of command_line words) ≡ Some (codes "play", Some path)
+play_words_found words path plain e = ap (λ (rest : List Text). file_of (subcommand_of command_line ([] ∷ rest))) e ∙ play_found path plain
+
+-- ---- what the matches of the program's command have
+
+line_is_simple : is_simple command_line ≡ true
+unfolding clap_on_literals
+line_is_simple = refl
+
+rows_are : (a : App) (words : List Text) (m : ArgMatches) → a ≡ command_line → HasMatchesOf a words m → subcommand_rows_of m ≡ subcommand_of command_line words
+rows_are a words m is has = (has (ap is_simple is ∙ line_is_simple)).1 ∙ ap (λ (b : App). subcommand_of b words) is
+
+pub matches_of_no_words : (a : App) (words : List Text) (m : ArgMatches) → a ≡ command_line → HasMatchesOf a words m → drop 1 words ≡ [] → subcommand_rows_of m ≡ None
+matches_of_no_words a words m is has none = rows_are a words m is has ∙ no_words_found words none
+
+line_is_simple_and_free : is_simple_and_free command_line ≡ true
+unfolding clap_on_literals
+line_is_simple_and_free = refl
+
+pub no_fault : (a : App) (words : List Text) → a ≡ command_line → (is_simple_and_free a ≡ true → fault_of a words ≡ []) → fault_of command_line words ≡ []
+no_fault a words is none =
+    ap (λ (b : App). fault_of b words) (sym is) ∙ none (ap is_simple_and_free is ∙ line_is_simple_and_free)
+
+-- rows in which the FILE stands
+pub record HasFile (m : ArgMatches) (path : Text) : Type 0 where
+  pub rows : List Row
+  pub are : subcommand_rows_of m ≡ Some (codes "play", rows)
+  pub first : first_of (codes "FILE") rows ≡ Some path
+
+has_file : (m : ArgMatches) (o : Option (Text × List Row)) (path : Text) → subcommand_rows_of m ≡ o → file_of o ≡ Some (codes "play", Some path) → HasFile m path
+has_file m None path is found = cc
+has_file m (Some p) path is found =
+    let both : ◌≡◌ {A = Text × Option Text} (p.0, first_of (codes "FILE") p.1) (codes "play", Some path) = cc in
+    record {
+      rows = p.1;
+      are = is ∙ ap (λ (name : Text). Some (name, p.1)) (ap (λ (q : Text × Option Text). q.0) both);
+      first = ap (λ (q : Text × Option Text). q.1) both;
+    }
+
+pub matches_of_play_words : (a : App) (words : List Text) (m : ArgMatches) (path : Text) → a ≡ command_line → HasMatchesOf a words m → IsPlainWord path → drop 1 words ≡ codes "play" ∷ path ∷ [] → HasFile m path
+matches_of_play_words a words m path is has plain e =
+    has_file m (subcommand_of command_line words) path (rows_are a words m is has) (play_words_found words path plain e)
+
+-- ---- from the rows of a subcommand to what its matches give
+
+pub found_file : (m : ArgMatches) (o : Option (Text × List Row)) (rows : List Row) (path : Text) → Some (rows_of (found_of m)) ≡ option_map (λ p. p.1) o → o ≡ Some (codes "play", rows) → first_of (codes "FILE") rows ≡ Some path → first_value (found_of m) (codes "FILE") ≡ Some path
+found_file m o rows path same is first =
+    let is_rows : Some (rows_of (found_of m)) ≡ Some rows = same ∙ ap (option_map (λ (p : Text × List Row). p.1)) is in
+    let rows_are : rows_of (found_of m) ≡ rows = cc in
+    first_value-rows (found_of m) (codes "FILE") ∙ ap (first_of (codes "FILE")) rows_are ∙ first
+
+-- ---- what a reference that may be there points to
+
+pub absent_has_no_text : (o : Option (Bor Text)) (v : Option Text) (text : Text) → o ≡ None → option_map (λ s. s.now) o ≡ v → v ≡ Some text → ⊥
+absent_has_no_text None v text is same found = cc
+absent_has_no_text (Some s) v text is same found = cc
+
+pub present_has_text : (o : Option (Bor Text)) (s : Bor Text) (v : Option Text) (text : Text) → o ≡ Some s → option_map (λ s. s.now) o ≡ v → v ≡ Some text → s.now ≡ text
+present_has_text None s v text is same found = cc
+present_has_text (Some r) s v text is same found = let both : r ≡ s = cc in cc

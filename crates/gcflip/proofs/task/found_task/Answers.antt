@@ -1,0 +1,11 @@
+use Rattle.std.proofs.Common.{rules}
+use Rattle.gcflip.proofs.CommandLines.{found_file, absent_has_no_text, present_has_text}
+use Rattle.gcflip.proofs.task.found_task.Goals as goal
+
+pub returns-in_err-file-clause-play : goal.returns-in_err-file-clause-play
+returns-in_err-file-clause-play c rows path is first =
+    absurd (absent_has_no_text _ _ path (search rules) c.get_str.ensures (found_file c.in-Some.matches.now _ rows path c.in-Some.ensures.rows is first))
+
+pub returns-in-play-clause-play : goal.returns-in-play-clause-play
+returns-in-play-clause-play c rows path is first =
+    present_has_text c.get_str.result c.in_ok-file.file _ path (search rules) c.get_str.ensures (found_file c.in-Some.matches.now _ rows path c.in-Some.ensures.rows is first)

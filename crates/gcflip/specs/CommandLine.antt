@@ -1,0 +1,27 @@
+-- The command line, as clap's definitions see it, and what words ask for.
+use Rattle.std.specs.Prelude.{◌≡◌, ℕ, true, List, None, codes}
+use Rattle.clap.specs.Lexer.{strip_byte}
+use Rattle.clap.specs.Words.{App, Rule, new_app, new_rule, with_rule, with_subcommand}
+use Rattle.gcflip.specs.declared.task.Task.{Task}
+use Rattle.gcflip.specs.declared.task.Task.TheVariants.{PlayInput, Play}
+
+-- a required FILE
+abbrev pub file_rule : Rule
+file_rule = record (new_rule (codes "FILE")) { required = true }
+
+-- a subcommand that takes a FILE and nothing else
+abbrev pub file_command : List ℕ → App
+file_command name = with_rule (new_app name) file_rule
+
+-- `gcflip`, `gcflip play FILE`
+abbrev pub command_line : App
+command_line = with_subcommand (new_app (codes "gcflip")) (file_command (codes "play")).top
+
+-- no hyphen stands first, so that clap takes the word for a value and no option
+abbrev pub IsPlainWord : List ℕ → Type 0
+IsPlainWord word = strip_byte 45 word ≡ None
+
+-- the task is to play this file
+abbrev pub PlaysFile : Task → List ℕ → Type 0
+PlaysFile PlayInput path = ⊥
+PlaysFile (Play file) path = file.now ≡ path

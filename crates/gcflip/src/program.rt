@@ -1,0 +1,106 @@
+ghost use Rattle.std.specs.Prelude.{◌≡◌, ◌≢◌, ◌⊎◌, Contains};
+ghost use Rattle.clap.specs.Values.{kind_of};
+ghost use Rattle.gcflip.specs.Faults.{status_of, statuses};
+
+use crate::fault::{Fault, write_fault};
+use crate::task::{Task, refusal_of_no_text, task_of};
+use clap::Error;
+use clap::error::ErrorKind;
+use gc_graph::{Sink, Source};
+use gc_trace::{PlayFault, play};
+use std::alloc::AllocError;
+use std::env::Env;
+use std::io::Read;
+use std::rt::Files;
+use std::{env, fs, io};
+
+/// Plays what the reader gives to standard output.
+fn play_from<R: Read + Drop>(rt: &(impl Print + AllocGlobal), reader: R) -> Result<(), Fault> {
+    let mut source = Source::new(reader);
+    // The engine has a buffer of its own.
+    let mut sink = Sink::new(io::writer(rt));
+    match play(rt.alloc(), &mut source, &mut sink) {
+        Ok(()) => Ok(()),
+        Err(fault) => Err(Fault::Play(fault)),
+    }
+}
+
+fn open<R: Files>(rt: &R, path: &str) -> Result<R::File, Fault> {
+    match fs::open(rt, path) {
+        Ok(file) => Ok(file),
+        Err(error) if error.kind() == io::ErrorKind::OutOfMemory => Err(Fault::NoMemory),
+        Err(_) => Err(Fault::Open),
+    }
+}
+
+fn perform<R: Files + Input + Print + AllocGlobal>(rt: &R, task: Task<'_>) -> Result<(), Fault> {
+    match task {
+        Task::PlayInput => play_from(rt, rt.reader()),
+        Task::Play(path) => play_from(rt, open(rt, path)?),
+    }
+}
+
+/// The words of the command line.
+fn words<R: Env + AllocGlobal>(rt: &R) -> Result<Vec<String>, Error> {
+    match env::args(rt) {
+        Ok(words) => Ok(words.collect(rt.alloc())?),
+        Err(error) if error.kind() == io::ErrorKind::OutOfMemory => Err(Error::from(AllocError)),
+        Err(_) => Err(refusal_of_no_text(rt.alloc())),
+    }
+}
+
+/// Tells the fault on standard error, and gives its status.
+#[tactic(auto, using(crate::proofs::Statuses::fault_has_status))]
+fn tell<E: Print>(errors: &E, fault: &Fault) -> u8
+    ensures status { result ≡ status_of fault.now }
+    ensures listed { Contains statuses result }
+{
+    write_fault(&mut Sink::new(io::writer(errors)), fault)
+}
+
+/// Prints why the words ask for nothing; help is asked for, and no mistake.
+#[tactic(auto, using(crate::proofs::Statuses::played_is_status, crate::proofs::Statuses::refused_is_status))]
+fn refuse<R: Print + Eprint, E: Print>(rt: &R, errors: &E, error: &Error) -> u8
+    ensures memory { kind_of error.now ≡ ErrorKind.OutOfMemory → result ≡ 5 }
+    ensures shown { (kind_of error.now ≡ ErrorKind.DisplayHelp)
+        ⊎ (kind_of error.now ≡ ErrorKind.DisplayVersion) → (result ≡ 0) ⊎ (result ≡ 4) }
+    ensures mistake { kind_of error.now ≢ ErrorKind.OutOfMemory → kind_of error.now ≢ ErrorKind.DisplayHelp
+        → kind_of error.now ≢ ErrorKind.DisplayVersion → result ≡ 2 }
+    ensures listed { Contains statuses result }
+{
+    if error.kind() == ErrorKind::OutOfMemory {
+        return tell(errors, &Fault::NoMemory);
+    }
+    let printed = error.print(rt);
+    if error.use_stderr() {
+        2
+    } else if printed.is_err() {
+        // Help that nobody can read is a failed write like any other.
+        tell(errors, &Fault::Play(PlayFault::Write))
+    } else {
+        0
+    }
+}
+
+/// Does what the command line asks, and gives the status. `errors` prints to standard error, for which the runtime
+/// has no writer of its own.
+#[tactic(auto, using(crate::proofs::Statuses::played_is_status))]
+pub fn run<R: Files + Env + Input + Print + Eprint + AllocGlobal, E: Print>(
+    rt: &R,
+    errors: &E,
+) -> u8
+    ensures { Contains statuses result }
+{
+    let words = match words(rt) {
+        Ok(words) => words,
+        Err(error) => return refuse(rt, errors, &error),
+    };
+    let task = match task_of(rt.alloc(), &words) {
+        Ok(task) => task,
+        Err(error) => return refuse(rt, errors, &error),
+    };
+    match perform(rt, task) {
+        Ok(()) => 0,
+        Err(fault) => tell(errors, &fault),
+    }
+}

@@ -1,0 +1,67 @@
+"""Runs the program, and compares what it answers with what it should."""
+import os
+import resource
+import subprocess
+
+# No case needs as much: a program that hangs, or takes all memory, is a failure and no trouble for the machine.
+SECONDS = 60
+BYTES = 4 << 30
+
+
+class Outcome:
+    """What a run of the program gave: standard output, standard error, status (negative: the signal)."""
+
+    def __init__(self, stdout=b"", stderr=b"", status=0):
+        self.stdout = stdout
+        self.stderr = stderr
+        self.status = status
+
+    def first_error_line(self):
+        return self.stderr.split(b"\n")[0].decode("utf-8", "replace")
+
+
+def refusal(line, status):
+    """The outcome of a fault: its line alone, and nothing on standard output."""
+    return Outcome(b"", line.encode() + b"\n", status)
+
+
+def limit_memory():
+    resource.setrlimit(resource.RLIMIT_AS, (BYTES, BYTES))
+
+
+def run(program, words=(), text=b"", **streams):
+    """Runs the program with these words, and the text on standard input. `streams` may put descriptors or files in
+    place of stdin, stdout and stderr, and gives what else subprocess.run takes."""
+    given = {"stdout": subprocess.PIPE, "stderr": subprocess.PIPE, **streams}
+    if "stdin" not in given:
+        given["input"] = text
+    try:
+        done = subprocess.run([program, *words], timeout=SECONDS, preexec_fn=limit_memory, **given)
+    except subprocess.TimeoutExpired:
+        return Outcome(status="no end after %d seconds" % SECONDS)
+    return Outcome(done.stdout or b"", done.stderr or b"", done.returncode)
+
+
+def shown(text):
+    if len(text) <= 100:
+        return repr(text)
+    return "%r.. (%d bytes)" % (text[:100], len(text))
+
+
+def difference(found, wanted):
+    """Why an outcome is not the one that is wanted; None where it is."""
+    if found.status != wanted.status:
+        return "status %s, wanted %s; standard error %s" % (found.status, wanted.status, shown(found.stderr))
+    if found.stderr != wanted.stderr:
+        return "standard error %s, wanted %s" % (shown(found.stderr), shown(wanted.stderr))
+    if found.stdout != wanted.stdout:
+        return "standard output %s, wanted %s" % (shown(found.stdout), shown(wanted.stdout))
+    return None
+
+
+def file_of(folder, name, content):
+    """The path of a new file in the folder."""
+    path = os.path.join(folder, name)
+    with open(path, "wb") as file:
+        file.write(content)
+    return path

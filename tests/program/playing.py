@@ -1,0 +1,87 @@
+"""What is played: every trace, every text that is no trace, each cut of a trace, and the limit on its length."""
+import subprocess
+import time
+
+from . import traces
+from .harness import Outcome, difference, file_of, refusal, run
+
+LIMIT = 16777216
+
+
+def both_ways(program, folder, text):
+    """The outcome on standard input, and the outcome on a file."""
+    yield "on standard input", run(program, text=text)
+    yield "of a file", run(program, ["play", file_of(folder, "text", text)])
+
+
+def played(program, folder):
+    for name, conversation in traces.PLAYED.items():
+        text, replies = traces.trace_and_replies(conversation)
+        for way, found in both_ways(program, folder, text):
+            yield "%s, %s" % (name, way), difference(found, Outcome(stdout=replies))
+
+
+def refused(program, folder):
+    for name, text, line in traces.refused_texts():
+        for way, found in both_ways(program, folder, text):
+            yield "%s, %s" % (name, way), difference(found, refusal(line, 3))
+
+
+def outcome_of_cut(text, replies, length):
+    """What the first bytes of a good trace answer: those of whole lines are a trace, the others are none."""
+    front = text[:length]
+    lines = front.count(b"\n")
+    if lines < 2:
+        return refusal(traces.BAD_HEADER, 3)
+    if not front.endswith(b"\n"):
+        return refusal(traces.bad_line(lines + 1), 3)
+    return Outcome(stdout=b"".join(replies.splitlines(keepends=True)[: lines - 2]))
+
+
+def cuts(program, _folder):
+    text, replies = traces.trace_and_replies(traces.PLAYED["cycle_of_two"])
+    for length in range(len(text) + 1):
+        found = run(program, text=text[:length])
+        yield "cycle_of_two, cut behind %d bytes" % length, difference(found, outcome_of_cut(text, replies, length))
+
+
+def byte_by_byte(program, _folder):
+    """A pipe gives what it has, so a line may come in many pieces."""
+    text, replies = traces.trace_and_replies(traces.PLAYED["full_leaves_the_slot_as_it_was"])
+    with subprocess.Popen([program], stdin=subprocess.PIPE, stdout=subprocess.PIPE, stderr=subprocess.PIPE) as running:
+        for byte in text:
+            running.stdin.write(bytes([byte]))
+            running.stdin.flush()
+            time.sleep(0.001)
+        stdout, stderr = running.communicate()
+    found = Outcome(stdout, stderr, running.returncode)
+    yield "a_trace_that_comes_byte_by_byte", difference(found, Outcome(stdout=replies))
+
+
+def text_of_length(length):
+    """A trace of this many bytes, and its replies."""
+    start = b"heaptrace 1\nspace 8 mutators 1\n"
+    line = b"m 0 nil r0\n"
+    count, left = divmod(length - len(start), len(line))
+    # The bytes that are left over lengthen the last line, whose number has one digit at least.
+    last = b"m 0 num r0 " + b"1" * (left + len(line) - len(b"m 0 num r0 \n")) + b"\n"
+    if left == 0:
+        last = line
+    text = start + line * (count - 1) + last
+    assert len(text) == length
+    return text, b"done\n" * count
+
+
+def limit(program, folder):
+    text, replies = text_of_length(LIMIT)
+    for way, found in both_ways(program, folder, text):
+        yield "longest_trace, %s" % way, difference(found, Outcome(stdout=replies))
+    too_large = refusal("trace: too large", 3)
+    for way, found in both_ways(program, folder, text_of_length(LIMIT + 1)[0]):
+        yield "one_byte_too_many, %s" % way, difference(found, too_large)
+    for way, found in both_ways(program, folder, b"x" * (LIMIT + 1)):
+        yield "too_large_before_bad_header, %s" % way, difference(found, too_large)
+    yield "a_file_without_end", difference(run(program, ["play", "/dev/zero"]), too_large)
+
+
+GROUPS = [played, refused, cuts, byte_by_byte, limit]

@@ -1,0 +1,69 @@
+/* Refuses the requests for memory whose numbers, counted from 1, lie from REFUSED_FIRST to REFUSED_LAST, and makes the
+   file that REFUSED_MARK names when it refuses one. It stands in front of the C library by LD_PRELOAD. It is written
+   without headers, so that a compiler alone can build it. */
+
+typedef unsigned long size_type;
+
+extern void *__libc_malloc(size_type size);
+extern void *__libc_calloc(size_type count, size_type size);
+extern void *__libc_realloc(void *old, size_type size);
+extern void *__libc_memalign(size_type alignment, size_type size);
+extern char *getenv(const char *name);
+extern long strtol(const char *text, char **end, int base);
+extern int open(const char *path, int flags, ...);
+extern int close(int descriptor);
+extern int *__errno_location(void);
+
+enum { OUT_OF_MEMORY = 12, WRITE_ONLY = 1, CREATE = 64, OWNER_MAY_READ_AND_WRITE = 384 };
+
+static long requests;
+
+static long number_from(const char *name)
+{
+    const char *text = getenv(name);
+    return text ? strtol(text, 0, 10) : 0;
+}
+
+static int is_refused(void)
+{
+    requests++;
+    if (requests < number_from("REFUSED_FIRST") || number_from("REFUSED_LAST") < requests)
+        return 0;
+    close(open(getenv("REFUSED_MARK"), WRITE_ONLY | CREATE, OWNER_MAY_READ_AND_WRITE));
+    *__errno_location() = OUT_OF_MEMORY;
+    return 1;
+}
+
+void *malloc(size_type size)
+{
+    return is_refused() ? 0 : __libc_malloc(size);
+}
+
+void *calloc(size_type count, size_type size)
+{
+    return is_refused() ? 0 : __libc_calloc(count, size);
+}
+
+void *realloc(void *old, size_type size)
+{
+    return is_refused() ? 0 : __libc_realloc(old, size);
+}
+
+void *memalign(size_type alignment, size_type size)
+{
+    return is_refused() ? 0 : __libc_memalign(alignment, size);
+}
+
+void *aligned_alloc(size_type alignment, size_type size)
+{
+    return memalign(alignment, size);
+}
+
+int posix_memalign(void **place, size_type alignment, size_type size)
+{
+    void *found = memalign(alignment, size);
+    if (!found)
+        return OUT_OF_MEMORY;
+    *place = found;
+    return 0;
+}

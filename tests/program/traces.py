@@ -1,0 +1,253 @@
+"""Traces with the reply to each line, and texts that are no trace.
+
+The replies and faults stand as the formats and the commands' rules give them (docs/FORMATS.md); none was taken from
+a run.
+"""
+import textwrap
+
+PLAYED = {
+    "no_events_no_replies": """
+        space 1 mutators 1
+    """,
+    "full_in_a_space_of_the_reserved_word": """
+        space 1 mutators 1
+        m 0 new r0 0 0 -> full
+    """,
+    "full_leaves_the_slot_as_it_was": """
+        space 7 mutators 1
+        m 0 new r0 3 4 -> made
+        m 0 new r1 0 0 -> full
+        m 0 look r1 -> saw nil
+    """,
+    "full_leaves_what_the_slot_held": """
+        space 6 mutators 1
+        m 0 num r0 5 -> done
+        m 0 new r0 0 4 -> full
+        m 0 look r0 -> saw num 5
+        m 0 new r0 0 3 -> made
+        m 0 look r0 -> saw obj 0 3
+    """,
+    "greatest_number": """
+        space 7 mutators 1
+        m 0 num r0 9223372036854775807 -> done
+        m 0 look r0 -> saw num 9223372036854775807
+    """,
+    "no_object_comes_before_no_field": """
+        space 8 mutators 1
+        m 0 get r1 r0 0 -> no object
+        m 0 num r0 0 -> done
+        m 0 put r0 0 r1 -> no object
+        m 0 same r0 r1 -> no
+        m 0 same r1 r2 -> yes
+        m 0 new r0 9 1 -> made
+        m 0 get r1 r0 1 -> no field
+        m 0 put r0 1 r0 -> no field
+        m 0 put r0 0 r0 -> done
+        m 0 get r1 r0 0 -> saw obj 9 1
+        m 0 same r0 r1 -> yes
+        m 0 move g0 r1 -> done
+        m 0 look g0 -> saw obj 9 1
+    """,
+    "exactly_full_in_the_largest_space": """
+        space 1048576 mutators 1
+    """ + """
+        m 0 new r0 255 65535 -> made
+    """ * 15 + """
+        m 0 new r0 255 65535 -> full
+        m 0 new r1 0 65518 -> made
+        m 0 new r1 0 0 -> full
+        m 0 look r1 -> saw obj 0 65518
+    """,
+    "cycle_of_two": """
+        space 32 mutators 1
+        m 0 new r0 1 2 -> made
+        m 0 new r1 2 1 -> made
+        m 0 put r0 0 r1 -> done
+        m 0 put r1 0 r0 -> done
+        m 0 put r0 1 r0 -> done
+        m 0 get r2 r0 0 -> saw obj 2 1
+        m 0 get r2 r2 0 -> saw obj 1 2
+        m 0 same r2 r0 -> yes
+        m 0 get r3 r0 1 -> saw obj 1 2
+        m 0 same r3 r2 -> yes
+        m 0 get r4 r0 0 -> saw obj 2 1
+        m 0 same r4 r3 -> no
+        m 0 same r4 r1 -> yes
+    """,
+    "last_write_of_two_mutators_wins": """
+        space 32 mutators 2
+        m 0 new g0 1 1 -> made
+        m 0 num r0 7 -> done
+        m 0 put g0 0 r0 -> done
+        m 1 look r0 -> saw nil
+        m 1 num r0 8 -> done
+        m 1 put g0 0 r0 -> done
+        m 0 get r1 g0 0 -> saw num 8
+        m 0 look r0 -> saw num 7
+    """,
+    "object_without_a_root_is_found_by_its_field": """
+        space 32 mutators 1
+        m 0 new r0 1 1 -> made
+        m 0 new r1 2 0 -> made
+        m 0 put r0 0 r1 -> done
+        m 0 nil r1 -> done
+        m 0 get r1 r0 0 -> saw obj 2 0
+        m 0 nil r0 -> done
+        m 0 new r2 5 0 -> made
+        m 0 look r1 -> saw obj 2 0
+        m 0 look r2 -> saw obj 5 0
+    """,
+    "garbage_still_fills_the_space": """
+        space 5 mutators 1
+        m 0 new r0 1 0 -> made
+        m 0 nil r0 -> done
+        m 0 new r0 2 0 -> made
+        m 0 new r0 3 0 -> full
+        m 0 look r0 -> saw obj 2 0
+    """,
+    "equal_objects_are_not_the_same": """
+        space 16 mutators 1
+        m 0 new r0 1 0 -> made
+        m 0 new r1 1 0 -> made
+        m 0 same r0 r1 -> no
+        m 0 same r0 r0 -> yes
+        m 0 num r2 4 -> done
+        m 0 num r3 4 -> done
+        m 0 same r2 r3 -> yes
+        m 0 num r3 5 -> done
+        m 0 same r2 r3 -> no
+        m 0 nil r3 -> done
+        m 0 same r2 r3 -> no
+        m 0 same r3 r0 -> no
+    """,
+    "new_fields_are_nil": """
+        space 8 mutators 1
+        m 0 new r0 7 2 -> made
+        m 0 num r1 3 -> done
+        m 0 get r1 r0 1 -> saw nil
+        m 0 look r1 -> saw nil
+    """,
+    "refused_get_keeps_the_slot": """
+        space 8 mutators 1
+        m 0 num r1 3 -> done
+        m 0 get r1 r0 0 -> no object
+        m 0 new r0 7 0 -> made
+        m 0 get r1 r0 0 -> no field
+        m 0 look r1 -> saw num 3
+    """,
+    "one_slot_twice_in_a_command": """
+        space 8 mutators 1
+        m 0 new r0 1 1 -> made
+        m 0 put r0 0 r0 -> done
+        m 0 get r0 r0 0 -> saw obj 1 1
+        m 0 move r0 r0 -> done
+        m 0 same r0 r0 -> yes
+        m 0 look r0 -> saw obj 1 1
+    """,
+    "every_limit_of_a_line": """
+        space 1048576 mutators 16
+        m 15 new g15 255 65535 -> made
+        m 15 num r15 9223372036854775807 -> done
+        m 15 put g15 65534 r15 -> done
+        m 15 get r15 g15 65534 -> saw num 9223372036854775807
+        m 15 put g15 65535 r15 -> no field
+        m 14 look r15 -> saw nil
+        m 14 look g15 -> saw obj 255 65535
+    """,
+}
+
+
+def trace_and_replies(conversation):
+    """The text of a trace, and the text of its replies."""
+    lines = [line.strip() for line in textwrap.dedent(conversation).split("\n") if line.strip()]
+    events = [line.split(" -> ") for line in lines[1:]]
+    trace = ["heaptrace 1", lines[0]] + [event for event, _ in events]
+    return "".join(line + "\n" for line in trace).encode(), "".join(reply + "\n" for _, reply in events).encode()
+
+
+BAD_HEADER = "trace: bad header"
+
+
+def bad_line(number):
+    return "trace: bad line %d" % number
+
+
+def no_such_mutator(number):
+    return "trace: no such mutator at line %d" % number
+
+
+HEADERS = {
+    "nothing_at_all": b"",
+    "only_the_first_line": b"heaptrace 1\n",
+    "first_line_without_its_end": b"heaptrace 1",
+    "second_line_without_its_end": b"heaptrace 1\nspace 8 mutators 1",
+    "space_of_no_words": b"heaptrace 1\nspace 0 mutators 1\n",
+    "space_too_large": b"heaptrace 1\nspace 1048577 mutators 1\n",
+    "no_mutators": b"heaptrace 1\nspace 8 mutators 0\n",
+    "too_many_mutators": b"heaptrace 1\nspace 8 mutators 17\n",
+    "size_with_leading_zero": b"heaptrace 1\nspace 08 mutators 1\n",
+    "size_beyond_64_bits": b"heaptrace 1\nspace 18446744073709551624 mutators 1\n",
+    "mutators_with_a_sign": b"heaptrace 1\nspace 8 mutators +1\n",
+    "unknown_version": b"heaptrace 9\nspace 8 mutators 1\n",
+    "version_with_leading_zero": b"heaptrace 01\nspace 8 mutators 1\n",
+    "another_text": b"heappair 1\nspace 8 mutators 1\n",
+    "carriage_returns": b"heaptrace 1\r\nspace 8 mutators 1\r\n",
+    "empty_line_first": b"\nheaptrace 1\nspace 8 mutators 1\n",
+    "empty_line_between": b"heaptrace 1\n\nspace 8 mutators 1\n",
+    "space_before_the_first_line": b" heaptrace 1\nspace 8 mutators 1\n",
+    "space_after_the_second_line": b"heaptrace 1\nspace 8 mutators 1 \n",
+    "header_before_a_bad_line": b"heaptrace 1\nspace 8 mutators 17\nx\n",
+}
+
+# The line behind `heaptrace 1` and `space 8 mutators 1`, without its end.
+BAD_LINES = {
+    "empty_line": b"",
+    "one_space": b" ",
+    "unknown_word": b"x",
+    "letter_of_the_mutator_alone": b"m",
+    "no_command": b"m 0",
+    "unknown_command": b"m 0 peek r0",
+    "capital_letters": b"M 0 look r0",
+    "slot_16": b"m 0 look r16",
+    "slot_with_leading_zero": b"m 0 look r00",
+    "slot_without_number": b"m 0 look r",
+    "slot_of_no_kind": b"m 0 look x0",
+    "two_spaces": b"m 0  look r0",
+    "space_before": b" m 0 look r0",
+    "space_behind": b"m 0 look r0 ",
+    "tab_between": b"m\t0 look r0",
+    "carriage_return": b"m 0 look r0\r",
+    "zero_byte_behind": b"m 0 look r0\0",
+    "comment_behind": b"m 0 look r0 # r0",
+    "byte_of_no_text": b"m 0 look r\xff",
+    "kind_256": b"m 0 new r0 256 0",
+    "length_65536": b"m 0 new r0 0 65536",
+    "field_65536": b"m 0 get r0 r0 65536",
+    "number_with_leading_zero": b"m 0 num r0 01",
+    "number_with_sign": b"m 0 num r0 -1",
+    "number_beyond_63_bits": b"m 0 num r0 9223372036854775808",
+    "number_beyond_64_bits": b"m 0 num r0 18446744073709551616",
+    "number_of_many_digits": b"m 0 num r0 " + b"1" * 1000,
+    "a_word_too_few": b"m 0 new r0 0",
+    "a_word_too_many": b"m 0 nil r0 r1",
+    "mutator_16": b"m 16 look r0",
+    "mutator_with_leading_zero": b"m 00 look r0",
+    "no_such_mutator_in_a_bad_line": b"m 1 look r16",
+}
+
+
+def refused_texts():
+    """Each text that is no trace: its name, its bytes, the line on standard error."""
+    start = b"heaptrace 1\nspace 8 mutators 1\n"
+    for name, text in HEADERS.items():
+        yield name, text, BAD_HEADER
+    for name, line in BAD_LINES.items():
+        yield name, start + line + b"\n", bad_line(3)
+    yield "no_such_mutator", start + b"m 1 look r0\n", no_such_mutator(3)
+    yield "last_line_without_its_end", start + b"m 0 look r0", bad_line(3)
+    yield "no_such_mutator_without_its_end", start + b"m 1 look r0", bad_line(3)
+    yield "empty_line_at_the_end", start + b"m 0 nil g0\n\n", bad_line(4)
+    yield "no_such_mutator_before_a_bad_line", start + b"m 1 look r0\nx\n", no_such_mutator(3)
+    yield "bad_line_before_no_such_mutator", start + b"x\nm 1 look r0\n", bad_line(3)
+    yield "bad_line_behind_good_ones", start + b"m 0 nil r0\n" * 997 + b"x\n", bad_line(1000)
+    yield "mutator_15_of_15", b"heaptrace 1\nspace 8 mutators 15\nm 15 look r0\n", no_such_mutator(3)
