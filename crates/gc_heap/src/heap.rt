@@ -29,7 +29,7 @@ impl Heap {
     ghost use Rattle.std.specs.Option.{option_map};
     ghost use Rattle.gc_graph.specs.Slots.{place as place_of};
     ghost use Rattle.gc_graph.specs.Graph.{object_of, field_of, root};
-    ghost use Rattle.gc_graph.specs.Machine.{roomy_step, get_field, put_field, same as same_in};
+    ghost use Rattle.gc_graph.specs.Machine.{roomy_step, opening_roomy, get_field, put_field, same as same_in};
     ghost use Rattle.gc_words.specs.Image.{is_start};
     ghost use Rattle.gc_words.specs.Space.{end_of, link_place, with_word, without_links};
     ghost use Rattle.gc_words.specs.Closed.{IsRootWord};
@@ -43,6 +43,7 @@ impl Heap {
         requires some { 1 ≤ mutators }
         requires few { mutators ≤ 16 }
         ensures empty { IfOk result (λ heap. heap ≡ empty_heap size mutators) }
+        ensures opening { IfOk result (λ heap. roomy_in heap ≡ opening_roomy size mutators) }
         ensures sound { IfOk result IsHeap }
     {
         let space = Space::new(alloc, size)?;
