@@ -11,7 +11,9 @@ use crate::fault::{PlayFault, TraceFault};
 use crate::printing::write_replies;
 use crate::reader::read_trace;
 use crate::trace::Trace;
-use gc_graph::{NoMemory, Plain, Reply, Sink, Source, names_do_not_matter};
+use gc_graph::{NoMemory, Reply, Sink, Source, names_do_not_matter};
+use gc_heap::Heap;
+use gc_words::end_is_unused;
 use std::alloc::Global;
 use std::io::{Read, Write};
 
@@ -20,15 +22,16 @@ fn run(alloc: Global, trace: &Trace) -> Result<Vec<Reply>, NoMemory>
     requires { IsRecording (recording trace.now) }
     ensures { IfOk result (λ replies. replies.items ≡ answers (recording trace.now)) }
 {
-    // The law makes the names that `Plain` gives those of the definition.
+    // A new object's name is the end of the heap, which occurs nowhere; names make no difference to replies.
+    end_is_unused();
     names_do_not_matter();
-    let mut plain = Plain::new(alloc, trace.size, trace.mutators)?;
+    let mut heap = Heap::new(alloc, trace.size, trace.mutators)?;
     let Ok(mut replies) = Vec::with_capacity(alloc, trace.events.len()) else {
         return Err(NoMemory);
     };
     for event in &trace.events {
         let Event::Mutate { m, op } = event;
-        let reply = plain.apply(*m, op)?;
+        let reply = heap.apply(*m, op);
         // Not a `push`: the borrow checker makes no plan for one of this type.
         if replies.extend_from_slice(&[reply]).is_err() {
             return Err(NoMemory);
