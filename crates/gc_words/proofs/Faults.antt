@@ -59,7 +59,7 @@ none_walk : {X : Type 0} (r : Result X ℕ) → IsOk r → fault_of_walk r ≡ N
 none_walk (Ok x) e = refl
 none_walk (Err at) e = cc
 
-shaped : (image : Image) → shape_fault image ≡ None → IsShaped image
+pub shaped : (image : Image) → shape_fault image ≡ None → IsShaped image
 shaped image e =
     let parts : (has_size image ≡ true) × (words_fault image.end image.words ≡ None) = if_none (has_size image) _ 0 e in
     let words : (((length image.words == image.end) && (slice_index image.words 0 == 0)) ≡ true) × (fault_of_walk (walk_words image.words) ≡ None) = if_none _ _ 0 parts.1 in
@@ -77,7 +77,7 @@ shaped image e =
       walked = walk_none _ words.1;
     }
 
-no_shape_fault : (image : Image) → IsShaped image → shape_fault image ≡ None
+pub no_shape_fault : (image : Image) → IsShaped image → shape_fault image ≡ None
 no_shape_fault image s =
     none_if (has_size image) (words_fault image.end image.words) 0
     (and_from _ _ (and_from _ _ (and_from _ _ (le-leb _ _ s.size_low) (le-leb _ _ s.size_high)) (le-leb _ _ s.end_low)) (le-leb _ _ s.end_high))

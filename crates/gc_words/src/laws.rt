@@ -5,13 +5,13 @@ ghost use Rattle.std.specs.Option.{option_map};
 ghost use Rattle.gc_graph.specs.Graph.{Value, Nil, Ref, IsUnused, lookup, field_of, root, new_object, add_object, set_field, set_root};
 ghost use Rattle.gc_graph.specs.Correspond.{Corresponding};
 ghost use Rattle.gc_words.specs.Word.{IsHeader, HasAddress, header_word, read_header, word_of, is_value, value_of, read_value, field_value};
-ghost use Rattle.gc_words.specs.Image.{Block, Image, walk_words, blocks, block_in, block_at, is_start, header_at, field_at, fresh_block, with_field_word, set_block, objects_of, object_of_block, graph_of};
+ghost use Rattle.gc_words.specs.Image.{Block, Image, IsShaped, walk_words, blocks, block_in, block_at, is_start, header_at, field_at, fresh_block, with_field_word, set_block, objects_of, object_of_block, graph_of};
 ghost use Rattle.gc_words.specs.Spelling.{LaidOut, spelled, link_at};
 ghost use Rattle.gc_words.specs.Space.{SpaceWords, IsSpace, CanPlace, empty_space, end_of, free_in, with_object, with_field_at, with_link, without_links, image_with};
 ghost use Rattle.gc_words.specs.Walking.{next_of, walk_from, StepsTo, StandsIn};
 ghost use Rattle.gc_words.specs.Closed.{IsClosed, RefersToStart, IsRootWord, IsFieldWord};
 ghost use Rattle.gc_words.specs.Certificate.{Certified};
-ghost use Rattle.gc_words.specs.Fault.{first_fault};
+ghost use Rattle.gc_words.specs.Fault.{shape_fault, first_fault};
 ghost use Rattle.gc_words.specs.Rows.{WordRows, PairRows};
 ghost use Rattle.gc_words.specs.declared.header.Header.{Header};
 
@@ -19,6 +19,11 @@ ghost use Rattle.gc_words.specs.declared.header.Header.{Header};
 pub fn worked_rows()
     ensures words { WordRows }
     ensures pairs { PairRows }
+{}
+
+/// An image has no fault of shape exactly where it is shaped.
+pub fn no_fault_where_shaped()
+    ensures { (image : Image) → (shape_fault image ≡ None) ↔ IsShaped image }
 {}
 
 /// There is no first fault exactly where the certificate holds.

@@ -15,9 +15,10 @@ pub use header::Header;
 pub use image::{ImageRef, Pair};
 pub use laws::{
     certified_graphs_correspond, end_is_unused, ends_after_writes, graphs_after_writes,
-    graphs_of_spaces, links_after_writes, no_fault_where_certified, objects_after_writes,
-    objects_have_their_fields, objects_stand_at_their_starts, references_stay_to_starts,
-    spaces_are_spelled, walks_go_by_steps, words_are_read_back, worked_rows, writes_keep_spaces,
+    graphs_of_spaces, links_after_writes, no_fault_where_certified, no_fault_where_shaped,
+    objects_after_writes, objects_have_their_fields, objects_stand_at_their_starts,
+    references_stay_to_starts, spaces_are_spelled, walks_go_by_steps, words_are_read_back,
+    worked_rows, writes_keep_spaces,
 };
 pub use refusal::Refusal;
 pub use shape::{ShapeFault, walk};

@@ -39,9 +39,9 @@ pub(crate) fn next_start(words: &[u64], at: usize) -> Option<usize>
     ensures { result ≡ next_of words.now at }
 {
     let header = Header::read(words[at])?;
-    let next = usize::from(header.len()) + 2;
-    if next <= words.len() - at {
-        Some(at + next)
+    let taken = usize::from(header.len()) + 2;
+    if taken <= words.len() - at {
+        Some(at + taken)
     } else {
         None
     }
