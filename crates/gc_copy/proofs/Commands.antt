@@ -1,0 +1,228 @@
+-- A mutator's command keeps the heap, and its objects but for the field that it writes.
+use Rattle.std.proofs.Common.{◌≡◌, ◌⊎◌, inl, inr, ⊎_elim, ℕ, ◌+◌, ◌-◌, ◌<◌, ◌≤◌, List, [], ◌∷◌, ◌++◌, map, length, replicate, Option, Some, None, slice_get, refl, sym, subst, arith, length-set}
+use Rattle.std.proofs.lemmas.List.{length-replicate}
+use Rattle.gc_graph.specs.Slots.{place}
+use Rattle.gc_graph.specs.Graph.{Value, Nil, Num, Ref, Object, Graph, lookup, object_of, field_of, root, value_or_nil, set_root, add_object, set_field, names_of}
+use Rattle.gc_graph.specs.Machine.{words_taken, step, get_field, put_field}
+use Rattle.gc_graph.specs.Range.{IsCommand}
+use Rattle.gc_copy.specs.Steps.{written}
+use Rattle.gc_copy.specs.Members.{In}
+use Rattle.gc_copy.specs.Belonging.{IsNamed, IsFine, IsObject, IsSpaceGraph, HasField}
+use Rattle.gc_graph.specs.declared.command.Op.{Op}
+use Rattle.gc_graph.specs.declared.command.Op.TheVariants as ops
+use Rattle.gc_graph.specs.declared.reply.Reply.{Reply}
+use Rattle.gc_graph.specs.declared.reply.Reply.TheVariants.{Full, Made, Done, NoObject, NoField}
+use Rattle.gc_copy.proofs.Lists.{in_left, in_right, in_push, in_set, in_replicate, get_in, get_past}
+use Rattle.gc_copy.proofs.Heap.{fine_map, laid_push, laid_set, lookup_in, lookup_left, lookup_written, set_from, named_set, written_entry, written_length, written_kind, written_in, written_get}
+
+-- an object as it is later, with the fields that may have changed
+pub record Still (objects : List (ℕ × Object)) (Touched : ℕ → Type 0) (a : ℕ) (o : Object) : Type 0 where
+  pub now : Object
+  pub found : lookup objects a ≡ Some now
+  pub kind : now.kind ≡ o.kind
+  pub len : length now.fields ≡ length o.fields
+  pub fields : (j : ℕ) (w : Value) → slice_get now.fields j ≡ Some w → (slice_get o.fields j ≡ Some w) ⊎ Touched j
+
+abbrev pub Evolves : List (ℕ × Object) → List (ℕ × Object) → (ℕ → ℕ → Type 0) → Type 0
+Evolves before later Touched = (a : ℕ) (o : Object) → lookup before a ≡ Some o → Still later (Touched a) a o
+
+pub record Kept (size : ℕ) (g : Graph) (Touched : ℕ → ℕ → Type 0) (free : ℕ) (next : Graph) : Type 0 where
+  pub heap : IsSpaceGraph size free next
+  pub evolves : Evolves g.objects next.objects Touched
+
+pub unchanged : (objects : List (ℕ × Object)) (Touched : ℕ → ℕ → Type 0) → Evolves objects objects Touched
+unchanged objects Touched a o h = record { now = o; found = h; kind = refl; len = refl; fields = λ j w k. inl k }
+
+pub object_more : (before later : List (ℕ × Object)) (o : Object) → ((a : ℕ) → IsNamed before a → IsNamed later a) → IsObject before o → IsObject later o
+object_more before later o more h = record { kind = h.kind; len = h.len; fields = λ v k. fine_map (IsNamed before) (IsNamed later) more v (h.fields v k) }
+
+keeps_same : (size free : ℕ) (g : Graph) (Touched : ℕ → ℕ → Type 0) → IsSpaceGraph size free g → Kept size g Touched free g
+keeps_same size free g Touched h = record { heap = h; evolves = unchanged g.objects Touched }
+
+keeps_root : (size free : ℕ) (g : Graph) (Touched : ℕ → ℕ → Type 0) (d : ℕ) (v : Value) → IsSpaceGraph size free g → IsFine (IsNamed g.objects) v → Kept size g Touched free (set_root g d v)
+keeps_root size free g Touched d v h f = record {
+  heap = record {
+    high = h.high;
+    room = h.room;
+    laid = h.laid;
+    objects = h.objects;
+    roots = λ w k. ⊎_elim (λ e. subst (IsFine (IsNamed g.objects)) e f) (h.roots w) (in_set w g.roots d v k);
+  };
+  evolves = unchanged g.objects Touched;
+}
+
+pub root_fine : (size free : ℕ) (g : Graph) (p : ℕ) → IsSpaceGraph size free g → IsFine (IsNamed g.objects) (root g p)
+root_fine size free g p h = go (slice_get g.roots p) refl
+  where
+    go : (o : Option Value) → slice_get g.roots p ≡ o → IsFine (IsNamed g.objects) (value_or_nil o)
+    go None e = tt
+    go (Some v) e = h.roots v (get_in v g.roots p e)
+
+pub field_fine : (size free : ℕ) (g : Graph) (v : Value) (i : ℕ) (w : Value) → IsSpaceGraph size free g → field_of (object_of g.objects v) i ≡ Some w → IsFine (IsNamed g.objects) w
+field_fine size free g Nil i w h e = absurd cc
+field_fine size free g (Num n) i w h e = absurd cc
+field_fine size free g (Ref a) i w h e = go (lookup g.objects a) refl e
+  where
+    go : (o : Option Object) → lookup g.objects a ≡ o → field_of o i ≡ Some w → IsFine (IsNamed g.objects) w
+    go None k l = absurd cc
+    go (Some o) k l = (h.objects a o (lookup_in g.objects a o k)).fields w (get_in w o.fields i l)
+
+keeps_get : (size free : ℕ) (g : Graph) (Touched : ℕ → ℕ → Type 0) (d : ℕ) (target : Option Object) (found : Option Value) → IsSpaceGraph size free g → ((v : Value) → found ≡ Some v → IsFine (IsNamed g.objects) v) → Kept size g Touched free (get_field g d target found).1
+keeps_get size free g Touched d None found h f = keeps_same size free g Touched h
+keeps_get size free g Touched d (Some o) None h f = keeps_same size free g Touched h
+keeps_get size free g Touched d (Some o) (Some v) h f = keeps_root size free g Touched d v h (f v refl)
+
+keeps_field : (size free : ℕ) (g : Graph) (Touched : ℕ → ℕ → Type 0) (name i : ℕ) (v : Value) → IsSpaceGraph size free g → IsFine (IsNamed g.objects) v → Touched name i → Kept size g Touched free (record g { objects = set_field g.objects name i v })
+keeps_field size free g Touched name i v h f t = record {
+  heap = record {
+    high = h.high;
+    room = h.room;
+    laid = laid_set name i v 1 g.objects (size - free) h.laid;
+    objects = λ a o k. let r = set_from name i v g.objects (a, o) k in ⊎_elim
+        (λ e. subst (λ (x : ℕ × Object). IsObject later x.1) e (object_more g.objects later r.0.1 more (h.objects r.0.0 r.0.1 r.1)))
+        (λ e. subst (λ (x : ℕ × Object). IsObject later x.1) e (entry r.0 r.1))
+        r.2;
+    roots = λ w k. fine_map (IsNamed g.objects) (IsNamed later) more w (h.roots w k);
+  };
+  evolves = λ a o k. record {
+    now = (written_entry name i v (a, o)).1;
+    found = lookup_written name i v g.objects a o k;
+    kind = written_kind name i v (a, o);
+    len = written_length name i v (a, o);
+    fields = λ j w l. ⊎_elim (λ x. inl x) (λ y. inr (subst (λ n. Touched n j) (sym y.0) (subst (Touched name) (sym y.1) t))) (written_get name i v (a, o) j w l);
+  };
+}
+  where
+    later : List (ℕ × Object)
+    later = set_field g.objects name i v
+
+    more : (a : ℕ) → IsNamed g.objects a → IsNamed later a
+    more a n = named_set name i v g.objects a n
+
+    entry : (e : ℕ × Object) → In e g.objects → IsObject later (written_entry name i v e).1
+    entry e k = let ok = h.objects e.0 e.1 k in record {
+      kind = subst (λ n. n < 256) (sym (written_kind name i v e)) ok.kind;
+      len = subst (λ n. n < 65536) (sym (written_length name i v e)) ok.len;
+      fields = λ w l. fine_map (IsNamed g.objects) (IsNamed later) more w (⊎_elim (λ x. subst (IsFine (IsNamed g.objects)) x f) (ok.fields w) (written_in name i v e w l));
+    }
+
+keeps_put : (size free : ℕ) (g : Graph) (Touched : Reply → ℕ → ℕ → Type 0) (v : Value) (target : Option Object) (found : Option Value) (i : ℕ) (w : Value) → IsSpaceGraph size free g → IsFine (IsNamed g.objects) w → ((name : ℕ) → v ≡ Ref name → Touched Done name i) → Kept size g (Touched (put_field g v target found i w).0) free (put_field g v target found i w).1
+keeps_put size free g Touched Nil target found i w h f t = keeps_same size free g (Touched NoObject) h
+keeps_put size free g Touched (Num n) target found i w h f t = keeps_same size free g (Touched NoObject) h
+keeps_put size free g Touched (Ref a) None found i w h f t = keeps_same size free g (Touched NoObject) h
+keeps_put size free g Touched (Ref a) (Some o) None i w h f t = keeps_same size free g (Touched NoField) h
+keeps_put size free g Touched (Ref a) (Some o) (Some before) i w h f t = keeps_field size free g (Touched Done) a i w h f (t a refl)
+
+keeps_new : (size free : ℕ) (g : Graph) (Touched : ℕ → ℕ → Type 0) (d kind len name : ℕ) → IsSpaceGraph size free g → kind < 256 → len < 65536 → len + 2 ≤ free → name ≡ size - free
+    → Kept size g Touched (free - (len + 2)) (set_root (add_object g name (record { kind = kind; fields = replicate len Nil })) d (Ref name))
+keeps_new size free g Touched d kind len name h k l fits is = record {
+  heap = record {
+    high = h.high;
+    room = let r = h.room in omega arith;
+    laid = laid_push 1 g.objects (size - free) (name, object) (size - (free - (len + 2))) h.laid is (let r = h.room in omega (arith, length-replicate len Nil));
+    objects = λ a o x. ⊎_elim
+        (λ y. object_more g.objects (g.objects ++ (name, object) ∷ []) o more (h.objects a o y))
+        (λ y. subst (λ (e : ℕ × Object). IsObject (g.objects ++ (name, object) ∷ []) e.1) y fresh)
+        (in_push (a, o) (name, object) g.objects x);
+    roots = λ w x. ⊎_elim
+        (λ e. subst (IsFine (IsNamed (g.objects ++ (name, object) ∷ []))) e (object, in_right (name, object) g.objects ((name, object) ∷ []) (inl refl)))
+        (λ y. fine_map (IsNamed g.objects) (IsNamed (g.objects ++ (name, object) ∷ [])) more w (h.roots w y))
+        (in_set w g.roots d (Ref name) x);
+  };
+  evolves = λ a o x. record { now = o; found = lookup_left g.objects ((name, object) ∷ []) a o x; kind = refl; len = refl; fields = λ j w y. inl y };
+}
+  where
+    object : Object
+    object = record { kind = kind; fields = replicate len Nil }
+
+    more : (a : ℕ) → IsNamed g.objects a → IsNamed (g.objects ++ (name, object) ∷ []) a
+    more a n = (n.0, in_left (a, n.0) g.objects ((name, object) ∷ []) n.1)
+
+    fresh : IsObject (g.objects ++ (name, object) ∷ []) object
+    fresh = record {
+      kind = k;
+      len = subst (λ n. n < 65536) (sym (length-replicate len Nil)) l;
+      fields = λ v x. subst (IsFine (IsNamed (g.objects ++ (name, object) ∷ []))) (in_replicate v Nil len x) tt;
+    }
+
+at_free : (size free : ℕ) (g : Graph) (Touched : ℕ → ℕ → Type 0) (next : Graph) → Kept size g Touched free next → Kept size g Touched (free - 0) next
+at_free size free g Touched next k = let e : free ≡ free - 0 = omega arith in subst (λ f. Kept size g Touched f next) e k
+
+abbrev pub WrittenBy : Graph → ℕ → Op → Reply → ℕ → ℕ → Type 0
+WrittenBy g m op reply a j = In (a, j) (written g m op reply)
+
+pub step_keeps : (size free : ℕ) (g : Graph) (m : ℕ) (op : Op) (name : ℕ) → IsSpaceGraph size free g → IsCommand op → words_taken op ≤ free → name ≡ size - free
+    → Kept size g (WrittenBy g m op (step g m op name).0) (free - words_taken op) (step g m op name).1
+step_keeps size free g m (ops.New d kind len) name h r fits is = keeps_new size free g (WrittenBy g m (ops.New d kind len) Made) (place d m) kind len name h r.1 r.2 fits is
+step_keeps size free g m (ops.Num d n) name h r fits is = at_free size free g _ _ (keeps_root size free g (WrittenBy g m (ops.Num d n) Done) (place d m) (Num n) h r.1)
+step_keeps size free g m (ops.Nil d) name h r fits is = at_free size free g _ _ (keeps_root size free g (WrittenBy g m (ops.Nil d) Done) (place d m) Nil h tt)
+step_keeps size free g m (ops.Move d s) name h r fits is = at_free size free g _ _ (keeps_root size free g (WrittenBy g m (ops.Move d s) Done) (place d m) (root g (place s m)) h (root_fine size free g (place s m) h))
+step_keeps size free g m (ops.Get d s i) name h r fits is =
+    at_free size free g _ _ (keeps_get size free g (WrittenBy g m (ops.Get d s i) (step g m (ops.Get d s i) name).0) (place d m) (object_of g.objects (root g (place s m))) (field_of (object_of g.objects (root g (place s m))) i) h (λ v e. field_fine size free g (root g (place s m)) i v h e))
+step_keeps size free g m (ops.Put s i t) name h r fits is =
+    at_free size free g _ _ (keeps_put size free g (WrittenBy g m (ops.Put s i t)) (root g (place s m)) (object_of g.objects (root g (place s m))) (field_of (object_of g.objects (root g (place s m))) i) i (root g (place t m)) h (root_fine size free g (place t m) h)
+    (λ n e. subst (λ (v : Value). In {X = ℕ × ℕ} (n, i) (map (λ k. (k, i)) (names_of v))) (sym e) (inl refl)))
+step_keeps size free g m (ops.Same s t) name h r fits is = at_free size free g _ _ (keeps_same size free g (WrittenBy g m (ops.Same s t) (step g m (ops.Same s t) name).0) h)
+step_keeps size free g m (ops.Look s) name h r fits is = at_free size free g _ _ (keeps_same size free g (WrittenBy g m (ops.Look s) (step g m (ops.Look s) name).0) h)
+
+-- ---- the field that a command writes is there
+
+pub field_stays : (before later : List (ℕ × Object)) (Touched : ℕ → ℕ → Type 0) (a i : ℕ) → Evolves before later Touched → HasField before a i → HasField later a i
+field_stays before later Touched a i evolves h = let still = evolves a h.0 h.1 in (still.now, still.found, (let l = still.len in let k = h.2 in omega arith))
+
+put_there : (g : Graph) (W : Reply → List (ℕ × ℕ)) (v : Value) (target : Option Object) (found : Option Value) (i : ℕ) (w : Value) (a j : ℕ)
+    → W Done ≡ map (λ n. (n, i)) (names_of v) → W NoObject ≡ [] → W NoField ≡ []
+    → object_of g.objects v ≡ target → field_of target i ≡ found
+    → In (a, j) (W (put_field g v target found i w).0) → HasField g.objects a j
+put_there g W Nil target found i w a j done object field is at h = absurd (subst (In (a, j)) object h)
+put_there g W (Num n) target found i w a j done object field is at h = absurd (subst (In (a, j)) object h)
+put_there g W (Ref n) None found i w a j done object field is at h = absurd (subst (In (a, j)) object h)
+put_there g W (Ref n) (Some o) None i w a j done object field is at h = absurd (subst (In (a, j)) field h)
+put_there g W (Ref n) (Some o) (Some before) i w a j done object field is at h = ⊎_elim
+    (λ e. subst (λ (p : ℕ × ℕ). HasField g.objects p.0 p.1) e (o, is, get_past o.fields i before at))
+    (λ k. absurd k)
+    (subst (In (a, j)) done h)
+
+pub written_there : (g : Graph) (m : ℕ) (op : Op) (name a j : ℕ) → WrittenBy g m op (step g m op name).0 a j → HasField g.objects a j
+written_there g m (ops.New d kind len) name a j h = absurd h
+written_there g m (ops.Num d n) name a j h = absurd h
+written_there g m (ops.Nil d) name a j h = absurd h
+written_there g m (ops.Move d s) name a j h = absurd h
+written_there g m (ops.Get d s i) name a j h = absurd h
+written_there g m (ops.Put s i t) name a j h = put_there g (written g m (ops.Put s i t)) (root g (place s m)) _ _ i (root g (place t m)) a j refl refl refl refl refl h
+written_there g m (ops.Same s t) name a j h = absurd h
+written_there g m (ops.Look s) name a j h = absurd h
+
+pub full_writes_nothing : (g : Graph) (m : ℕ) (op : Op) (a j : ℕ) → WrittenBy g m op Full a j → ⊥
+full_writes_nothing g m (ops.New d kind len) a j h = h
+full_writes_nothing g m (ops.Num d n) a j h = h
+full_writes_nothing g m (ops.Nil d) a j h = h
+full_writes_nothing g m (ops.Move d s) a j h = h
+full_writes_nothing g m (ops.Get d s i) a j h = h
+full_writes_nothing g m (ops.Put s i t) a j h = h
+full_writes_nothing g m (ops.Same s t) a j h = h
+full_writes_nothing g m (ops.Look s) a j h = h
+
+-- ---- there are as many roots as before
+
+get_roots : (g : Graph) (d : ℕ) (target : Option Object) (found : Option Value) → length (get_field g d target found).1.roots ≡ length g.roots
+get_roots g d None found = refl
+get_roots g d (Some o) None = refl
+get_roots g d (Some o) (Some v) = length-set g.roots d v
+
+put_roots : (g : Graph) (v : Value) (target : Option Object) (found : Option Value) (i : ℕ) (w : Value) → length (put_field g v target found i w).1.roots ≡ length g.roots
+put_roots g Nil target found i w = refl
+put_roots g (Num n) target found i w = refl
+put_roots g (Ref a) None found i w = refl
+put_roots g (Ref a) (Some o) None i w = refl
+put_roots g (Ref a) (Some o) (Some before) i w = refl
+
+pub step_roots : (g : Graph) (m : ℕ) (op : Op) (name : ℕ) → length (step g m op name).1.roots ≡ length g.roots
+step_roots g m (ops.New d kind len) name = length-set g.roots (place d m) (Ref name)
+step_roots g m (ops.Num d n) name = length-set g.roots (place d m) (Num n)
+step_roots g m (ops.Nil d) name = length-set g.roots (place d m) Nil
+step_roots g m (ops.Move d s) name = length-set g.roots (place d m) (root g (place s m))
+step_roots g m (ops.Get d s i) name = get_roots g (place d m) _ _
+step_roots g m (ops.Put s i t) name = put_roots g (root g (place s m)) _ _ i (root g (place t m))
+step_roots g m (ops.Same s t) name = refl
+step_roots g m (ops.Look s) name = refl

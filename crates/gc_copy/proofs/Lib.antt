@@ -1,0 +1,12 @@
+pub mod Lists
+pub mod Heap
+pub mod Commands
+pub mod Replicas
+pub mod Steps
+pub mod Runs
+pub mod Images
+pub mod Flips
+pub mod Room
+pub mod Carried
+pub mod Links
+pub mod Kept

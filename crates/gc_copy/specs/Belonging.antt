@@ -1,0 +1,104 @@
+-- What a heap is whose names are addresses, and when a collection belongs to it.
+use Rattle.std.specs.Prelude.{◌≡◌, ◌⊎◌, ℕ, ◌+◌, ◌-◌, ◌<◌, ◌≤◌, ◌^◌, List, [], ◌∷◌, length, map, Option, Some, None, slice_get, IsTrue, ⊤}
+use Rattle.gc_graph.specs.Slots.{roots_of}
+use Rattle.gc_graph.specs.Graph.{Value, Nil, Num, Ref, Object, Graph, lookup}
+use Rattle.gc_graph.specs.Correspond.{correspond}
+use Rattle.gc_copy.specs.State.{Replica, Collection, State, new_objects, new_end, pairs_of}
+use Rattle.gc_copy.specs.Steps.{log_at}
+use Rattle.gc_copy.specs.Members.{In, Distinct}
+
+-- ---- heaps
+
+-- objects back to back from a place up to an end
+abbrev pub Laid : ℕ → List (ℕ × Object) → ℕ → Type 0
+Laid at [] end = at ≡ end
+Laid at (entry ∷ rest) end = (entry.0 ≡ at) × Laid (at + length entry.1.fields + 2) rest end
+
+-- an object has this name
+abbrev pub IsNamed : List (ℕ × Object) → ℕ → Type 0
+IsNamed objects name = (o : Object) × In (name, o) objects
+
+-- nil, a number below 2^63, or a reference to what P holds of
+abbrev pub IsFine : (ℕ → Type 0) → Value → Type 0
+IsFine P Nil = ⊤
+IsFine P (Num n) = n < 2 ^ 63
+IsFine P (Ref name) = P name
+
+pub record IsObject (objects : List (ℕ × Object)) (o : Object) : Type 0 where
+  pub kind : o.kind < 256
+  pub len : length o.fields < 65536
+  pub fields : (v : Value) → In v o.fields → IsFine (IsNamed objects) v
+
+-- a graph whose names are the addresses of its objects in a space of this size with so many free words
+pub record IsSpaceGraph (size free : ℕ) (g : Graph) : Type 0 where
+  pub high : size ≤ 1048576
+  pub room : free < size
+  pub laid : Laid 1 g.objects (size - free)
+  pub objects : (a : ℕ) (o : Object) → In (a, o) g.objects → IsObject g.objects o
+  pub roots : (v : Value) → In v g.roots → IsFine (IsNamed g.objects) v
+
+-- ---- fields that are due
+
+-- the scan pointer has yet to come to field i of the replica at place p
+abbrev pub IsUnscanned : Collection → ℕ → ℕ → Type 0
+IsUnscanned c p i = (c.scan_place < p) ⊎ ((c.scan_place ≡ p) × (c.scan_field ≤ i))
+
+-- a log has this entry
+abbrev pub IsLogged : Collection → ℕ → ℕ → Type 0
+IsLogged c a i = (k : ℕ) × In (a, i) (log_at c k)
+
+-- Field i of object a and of its replica, at place p, may differ so far.
+abbrev pub IsDue : Collection → ℕ → ℕ → ℕ → Type 0
+IsDue c p a i = IsUnscanned c p i ⊎ IsLogged c a i
+
+-- ---- collections
+
+-- a replica has its original's kind and length, and corresponding fields where they are not due
+pub record IsReplica (objects : List (ℕ × Object)) (pairs : List (ℕ × ℕ)) (Due : ℕ → ℕ → ℕ → Type 0) (r : Replica) : Type 0 where
+  pub original : Object
+  pub found : lookup objects r.original ≡ Some original
+  pub kind : r.object.kind ≡ original.kind
+  pub len : length r.object.fields ≡ length original.fields
+  pub current : (i : ℕ) (v w : Value) → slice_get original.fields i ≡ Some v → slice_get r.object.fields i ≡ Some w → Due r.place r.original i ⊎ IsTrue (correspond pairs v w)
+
+-- at a field of a replica or at the end of one, or behind the last
+abbrev pub IsScanPlace : ℕ → ℕ → Collection → Type 0
+IsScanPlace place field c = ((r : Replica) × In r c.replicas × (r.place ≡ place) × (field ≤ length r.object.fields)) ⊎ ((place ≡ new_end c) × (field ≡ 0))
+
+abbrev pub HasField : List (ℕ × Object) → ℕ → ℕ → Type 0
+HasField objects a i = (o : Object) × (lookup objects a ≡ Some o) × (i < length o.fields)
+
+-- A collection of these objects, where the fields that are due may differ: the replicas are back to back in
+-- the new space, each object has one at most, and a log entry names a field.
+pub record BelongsBy (Due : ℕ → ℕ → ℕ → Type 0) (objects : List (ℕ × Object)) (c : Collection) : Type 0 where
+  pub laid : Laid 1 (new_objects c) (new_end c)
+  pub room : new_end c ≤ c.size
+  pub once : Distinct (map (λ r. r.original) c.replicas)
+  pub replicas : (r : Replica) → In r c.replicas → IsReplica objects (pairs_of c) Due r
+  pub scan : IsScanPlace c.scan_place c.scan_field c
+  pub entries : (a i : ℕ) → IsLogged c a i → HasField objects a i
+
+-- a field that is neither unscanned nor logged is up to date
+abbrev pub Belongs : List (ℕ × Object) → Collection → Type 0
+Belongs objects c = BelongsBy (IsDue c) objects c
+
+-- it belongs but for the fields of which E holds
+abbrev pub BelongsBut : (ℕ → ℕ → Type 0) → List (ℕ × Object) → Collection → Type 0
+BelongsBut E objects c = BelongsBy (λ p a i. IsDue c p a i ⊎ E a i) objects c
+
+-- ---- states
+
+-- an open collection belongs to the heap, its space is as large as a space may be, and each mutator has a log
+pub record IsOpened (s : State) (c : Collection) : Type 0 where
+  pub belongs : Belongs s.heap.graph.objects c
+  pub size : c.size ≤ 1048576
+  pub logs : length c.logs ≡ s.mutators
+
+abbrev pub IsOpen : State → Option Collection → Type 0
+IsOpen s None = ⊤
+IsOpen s (Some c) = IsOpened s c
+
+pub record IsState (s : State) : Type 0 where
+  pub heap : IsSpaceGraph s.size s.heap.free s.heap.graph
+  pub roots : length s.heap.graph.roots ≡ roots_of s.mutators
+  pub collection : IsOpen s s.collection

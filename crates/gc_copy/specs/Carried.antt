@@ -1,0 +1,46 @@
+-- What a collection can carry over: what could be reached when it began, and what was made since.
+use Rattle.std.specs.Prelude.{◌⊎◌, ℕ, ◌≤◌, Bool, true, false, if◌then◌else◌, List, [], ◌∷◌, Option, Some, None, ⊤}
+use Rattle.std.specs.List.{All}
+use Rattle.gc_graph.specs.Graph.{Reachable}
+use Rattle.gc_copy.specs.State.{Collection, State, opening_state, heap_end, pairs_of}
+use Rattle.gc_copy.specs.Steps.{collect}
+use Rattle.gc_copy.specs.Runs.{Event, Mutate, Collect, AreEvents, after, state_after}
+use Rattle.gc_copy.specs.declared.step.StepReply.{StepReply}
+use Rattle.gc_copy.specs.declared.step.StepReply.TheVariants.{Busy, Begun, Idle, Clean, NoRoom, Copied, Passed, Scanned, Applied, NotReady, Refused, Flipped, Dropped}
+
+abbrev pub is_begun : StepReply → Bool
+is_begun Busy = false
+is_begun Begun = true
+is_begun Idle = false
+is_begun Clean = false
+is_begun NoRoom = false
+is_begun Copied = false
+is_begun Passed = false
+is_begun Scanned = false
+is_begun Applied = false
+is_begun NotReady = false
+is_begun Refused = false
+is_begun (Flipped pairs) = false
+is_begun Dropped = false
+
+-- the state before the last event that was answered `Begun`, which so far is `base`
+abbrev pub base_after : State → State → Event → State
+base_after base s (Mutate m op) = base
+base_after base s (Collect step) = if is_begun (collect s step).0 then s else base
+
+abbrev pub base_of_run : State → State → List Event → State
+base_of_run base s [] = base
+base_of_run base s (event ∷ events) = base_of_run (base_after base s event) (after s event) events
+
+-- reachable in the base, or made later
+abbrev pub IsKept : State → ℕ → Type 0
+IsKept base name = Reachable base.heap.graph name ⊎ (heap_end base ≤ name)
+
+abbrev pub OnlyKeptIsPaired : State → Option Collection → Type 0
+OnlyKeptIsPaired base None = ⊤
+OnlyKeptIsPaired base (Some c) = All (λ p. IsKept base p.0) (pairs_of c)
+
+-- in every run each original of an open collection is kept from the state before it began
+abbrev pub CarriesOnlyKept : Type 0
+CarriesOnlyKept = (size mutators : ℕ) (events : List Event) → 1 ≤ size → size ≤ 1048576 → AreEvents mutators events
+    → (let opening = opening_state size mutators in OnlyKeptIsPaired (base_of_run opening opening events) (state_after opening events).collection)

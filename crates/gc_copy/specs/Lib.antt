@@ -1,0 +1,9 @@
+pub mod State
+pub mod Linked
+pub mod Steps
+pub mod Members
+pub mod Belonging
+pub mod Runs
+pub mod Passing
+pub mod Carried
+pub mod Rows

@@ -1,0 +1,60 @@
+-- Runs of a heap with its collector: the states that lists of events lead to.
+use Rattle.std.specs.Prelude.{ℕ, ◌<◌, ◌≤◌, List, [], ◌∷◌, ⊤}
+use Rattle.gc_graph.specs.Range.{IsCommand}
+use Rattle.gc_graph.specs.declared.command.Op.{Op}
+use Rattle.gc_copy.specs.State.{State, opening_state}
+use Rattle.gc_copy.specs.Steps.{mutate, collect}
+use Rattle.gc_copy.specs.declared.step.Step.{Step}
+use Rattle.gc_copy.specs.declared.step.Step.TheVariants as steps
+use Rattle.gc_graph.specs.declared.reply.Reply.{Reply}
+use Rattle.gc_copy.specs.declared.step.StepReply.{StepReply}
+
+-- mutator m's command, or a step of the collector
+pub data Event : Type 0 where
+  Mutate : (m : ℕ) → (op : Op) → Event
+  Collect : (step : Step) → Event
+
+-- a space's size, and the number of a log
+abbrev pub IsStep : ℕ → Step → Type 0
+IsStep mutators steps.Begin = ⊤
+IsStep mutators (steps.BeginSized size) = (1 ≤ size) × (size ≤ 1048576)
+IsStep mutators steps.Roots = ⊤
+IsStep mutators steps.Scan = ⊤
+IsStep mutators (steps.Apply k) = k < mutators
+IsStep mutators steps.Flip = ⊤
+IsStep mutators steps.Drop = ⊤
+
+abbrev pub IsEvent : ℕ → Event → Type 0
+IsEvent mutators (Mutate m op) = (m < mutators) × IsCommand op
+IsEvent mutators (Collect step) = IsStep mutators step
+
+abbrev pub AreEvents : ℕ → List Event → Type 0
+AreEvents mutators [] = ⊤
+AreEvents mutators (event ∷ events) = IsEvent mutators event × AreEvents mutators events
+
+abbrev pub after : State → Event → State
+after s (Mutate m op) = (mutate s m op).1
+after s (Collect step) = (collect s step).1
+
+abbrev pub state_after : State → List Event → State
+state_after s [] = s
+state_after s (event ∷ events) = state_after (after s event) events
+
+-- it holds of each state that events lead to from an empty heap
+abbrev pub InEveryRun : (State → Type 0) → Type 0
+InEveryRun P = (size mutators : ℕ) (events : List Event) → 1 ≤ size → size ≤ 1048576 → AreEvents mutators events → P (state_after (opening_state size mutators) events)
+
+-- ---- answers
+
+pub data Answer : Type 0 where
+  Replied : (reply : Reply) → Answer
+  Stepped : (reply : StepReply) → Answer
+
+abbrev pub answer : State → Event → Answer
+answer s (Mutate m op) = Replied (mutate s m op).0
+answer s (Collect step) = Stepped (collect s step).0
+
+-- the answers to events, one after the other
+abbrev pub answers : State → List Event → List Answer
+answers s [] = []
+answers s (event ∷ events) = answer s event ∷ answers (after s event) events

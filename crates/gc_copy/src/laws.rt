@@ -1,0 +1,121 @@
+//! What follows from the definitions: the crates above cite these calls.
+
+ghost use Rattle.std.specs.Prelude.{◌≡◌, ◌++◌, ◌∷◌, [], ℕ, List, ◌-◌, ◌<◌, ◌≤◌, ◌==◌, length, Some, is_none, IsTrue};
+ghost use Rattle.gc_graph.specs.Graph.{Value, Ref, Object, Graph, set_field};
+ghost use Rattle.gc_graph.specs.Machine.{Roomy, roomy_step};
+ghost use Rattle.gc_graph.specs.Range.{IsCommand};
+ghost use Rattle.gc_graph.specs.declared.command.Op.{Op};
+ghost use Rattle.gc_words.specs.Image.{IsShaped, graph_of, roomy_of};
+ghost use Rattle.gc_words.specs.Certificate.{Certified};
+ghost use Rattle.gc_copy.specs.State.{Replica, Collection, State, opening_state, new_objects, new_free, pairs_of, replica_of, replica_at, moved, new_graph};
+ghost use Rattle.gc_copy.specs.Linked.{linked_image, old_links, new_links};
+ghost use Rattle.gc_copy.specs.Steps.{written, log_at, with_log, write_replica, fresh_collection, mutate, collect, is_ready};
+ghost use Rattle.gc_copy.specs.Members.{In};
+ghost use Rattle.gc_copy.specs.Belonging.{IsSpaceGraph, HasField, Belongs, BelongsBut, IsState};
+ghost use Rattle.gc_copy.specs.Runs.{IsStep, InEveryRun};
+ghost use Rattle.gc_copy.specs.Passing.{HasImage, PassesWhereReady, NeverRefused, AlwaysHasRoom, ScansToTheEnd, HasFewPairs};
+ghost use Rattle.gc_copy.specs.Carried.{CarriesOnlyKept};
+ghost use Rattle.gc_copy.specs.Rows.{Rows, SizedRows, KeptRows};
+ghost use Rattle.gc_copy.specs.declared.step.Step.{Step};
+
+/// The worked rows hold of the definitions.
+pub fn worked_rows()
+    ensures answers { Rows }
+    ensures sized { SizedRows }
+    ensures kept { KeptRows }
+{}
+
+/// A collection that has just begun belongs to any heap. A command keeps the heap, and belonging but for
+/// the field that it writes; an entry in a log that names this field restores it.
+pub fn belonging_is_kept()
+    ensures begins { (objects : List (ℕ × Object)) (mutators size : ℕ)
+        → 1 ≤ size → Belongs objects (fresh_collection mutators size) }
+    ensures heaps { (size : ℕ) (heap : Roomy) (m : ℕ) (op : Op)
+        → IsSpaceGraph size heap.free heap.graph → IsCommand op
+        → (let next = roomy_step heap m op (size - heap.free) in
+        IsSpaceGraph size next.1.free next.1.graph) }
+    ensures commands { (size : ℕ) (heap : Roomy) (c : Collection) (m : ℕ) (op : Op)
+        → IsSpaceGraph size heap.free heap.graph → Belongs heap.graph.objects c → IsCommand op
+        → (let next = roomy_step heap m op (size - heap.free) in
+        BelongsBut (λ a i. In (a, i) (written heap.graph m op next.0)) next.1.graph.objects c) }
+    ensures notes { (objects : List (ℕ × Object)) (c : Collection) (m a i : ℕ)
+        → m < length c.logs → HasField objects a i
+        → BelongsBut (λ b j. (b ≡ a) × (j ≡ i)) objects c
+        → Belongs objects (with_log c m (log_at c m ++ (a, i) ∷ [])) }
+{}
+
+/// Whatever commands and steps come, the heap stays one, and an open collection goes on to belong to it.
+pub fn states_are_kept()
+    ensures opening { (size mutators : ℕ)
+        → 1 ≤ size → size ≤ 1048576 → IsState (opening_state size mutators) }
+    ensures commands { (s : State) (m : ℕ) (op : Op)
+        → IsState s → m < s.mutators → IsCommand op → IsState (mutate s m op).1 }
+    ensures steps { (s : State) (step : Step)
+        → IsState s → IsStep s.mutators step → IsState (collect s step).1 }
+    ensures runs { InEveryRun IsState }
+{}
+
+/// A heap is the graph of its image, whatever the links.
+pub fn images_have_their_graphs()
+    ensures shaped { (links : ℕ → ℕ) (size free : ℕ) (g : Graph)
+        → IsSpaceGraph size free g → IsShaped (linked_image links size g) }
+    ensures graph { (links : ℕ → ℕ) (size free : ℕ) (g : Graph)
+        → IsSpaceGraph size free g → graph_of (linked_image links size g) ≡ g }
+    ensures roomy { (links : ℕ → ℕ) (size free : ℕ) (g : Graph)
+        → IsSpaceGraph size free g
+        → roomy_of (linked_image links size g) ≡ record { graph = g; free = free } }
+    ensures runs { InEveryRun HasImage }
+{}
+
+/// What the links of a collection tell: an original's is its replica's place, or 0 where it has none; a
+/// replica's is its original. And a replica's field is written where its place says.
+pub fn links_tell_replicas()
+    ensures by_name { (objects : List (ℕ × Object)) (c : Collection) (r : Replica)
+        → Belongs objects c → In r c.replicas → replica_of c r.original ≡ Some r }
+    ensures by_place { (objects : List (ℕ × Object)) (c : Collection) (r : Replica)
+        → Belongs objects c → In r c.replicas → replica_at c r.place ≡ Some r }
+    ensures zero { (objects : List (ℕ × Object)) (c : Collection) (a : ℕ)
+        → Belongs objects c → (old_links c a == 0) ≡ is_none (replica_of c a) }
+    ensures moved { (objects : List (ℕ × Object)) (c : Collection) (a : ℕ) (r : Replica)
+        → Belongs objects c → replica_of c a ≡ Some r → moved c (Ref a) ≡ Ref (old_links c a) }
+    ensures back { (objects : List (ℕ × Object)) (c : Collection) (a : ℕ) (r : Replica)
+        → Belongs objects c → replica_of c a ≡ Some r → new_links c (old_links c a) ≡ a }
+    ensures writes { (objects : List (ℕ × Object)) (c : Collection) (a i : ℕ) (v : Value) (r : Replica)
+        → Belongs objects c → replica_of c a ≡ Some r
+        → new_objects (write_replica c a i v) ≡ set_field (new_objects c) r.place i v }
+{}
+
+/// A ready collection has a certificate, whatever the links, and its new space is a heap; so its flip passes
+/// the check, and no flip is ever refused.
+pub fn ready_flips_pass()
+    ensures certified { (links others : ℕ → ℕ) (size free : ℕ) (g : Graph) (c : Collection)
+        → IsSpaceGraph size free g → Belongs g.objects c → c.size ≤ 1048576 → IsTrue (is_ready c g)
+        → Certified (linked_image links size g) (linked_image others c.size (new_graph c g.roots)) (pairs_of c) }
+    ensures heap { (size free : ℕ) (g : Graph) (c : Collection)
+        → IsSpaceGraph size free g → Belongs g.objects c → c.size ≤ 1048576 → IsTrue (is_ready c g)
+        → IsSpaceGraph c.size (new_free c) (new_graph c g.roots) }
+    ensures passes { (s : State) → IsState s → PassesWhereReady s }
+    ensures never_refused { (s : State) → IsState s → NeverRefused s }
+    ensures runs { InEveryRun PassesWhereReady }
+    ensures runs_never_refused { InEveryRun NeverRefused }
+{}
+
+/// In every run, each original of an open collection was reachable when the collection began, or was made
+/// later.
+pub fn only_kept_is_carried()
+    ensures { CarriesOnlyKept }
+{}
+
+/// Where the new space is at least as large as the old one, no step lacks room.
+pub fn room_suffices()
+    ensures states { (s : State) → IsState s → AlwaysHasRoom s }
+    ensures runs { InEveryRun AlwaysHasRoom }
+{}
+
+/// Scanning is clean at the new end alone, and a collection has at most 524287 pairs.
+pub fn scans_and_pairs_are_bounded()
+    ensures scans { (s : State) → IsState s → ScansToTheEnd s }
+    ensures pairs { (s : State) → IsState s → HasFewPairs s }
+    ensures run_scans { InEveryRun ScansToTheEnd }
+    ensures run_pairs { InEveryRun HasFewPairs }
+{}

@@ -1,0 +1,12 @@
+//! A collection beside the mutators: what it consists of, what its steps do, when it belongs to a heap,
+//! and what follows.
+#![tactic(auto)]
+
+mod laws;
+mod step;
+
+pub use laws::{
+    belonging_is_kept, images_have_their_graphs, links_tell_replicas, only_kept_is_carried,
+    ready_flips_pass, room_suffices, scans_and_pairs_are_bounded, states_are_kept, worked_rows,
+};
+pub use step::{Step, StepReply};
