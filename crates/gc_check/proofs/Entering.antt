@@ -1,0 +1,203 @@
+-- Pairs entered into the row of partners, one after the other.
+use Rattle.std.proofs.Common.{◌≡◌, ℕ, zero, suc, ◌+◌, ◌<◌, ◌≤◌, Bool, true, false, not, ◌&&◌, ◌||◌, ◌==◌, List, [], ◌∷◌, ◌++◌, length, take, drop, get_or, set, replicate, Option, Some, None, refl, sym, ◌∙◌, ap, subst, inl, inr, arith, length-set, get_or-set_same, get_or-set_other}
+use Rattle.std.specs.Prelude.{slice_index, nat_le, IsOk}
+use Rattle.std.specs.List.{list_any}
+use Rattle.std.proofs.lemmas.Bool.{eqb-true, eq-eqb, ne_eqb, lt-leb, cases_eq, cases_Bool, not-false}
+use Rattle.std.proofs.lemmas.List.{length-replicate, take_all, map_more, at_drop_more, at_drop_all}
+use Rattle.std.proofs.lemmas.List.Folds.{list_any-append}
+use Rattle.gc_graph.specs.Correspond.{paired}
+use Rattle.gc_words.specs.Image.{Image, walk_words, is_start}
+use Rattle.gc_words.specs.Views.{addresses}
+use Rattle.gc_words.specs.Fault.{◌or_else◌, when, not_above_last, place_fault, place_faults}
+use Rattle.gc_words.specs.declared.image.Pair.{Pair}
+use Rattle.gc_words.specs.declared.refusal.Refusal.{Refusal}
+use Rattle.gc_words.specs.declared.refusal.Refusal.TheVariants.{OldNotStart, NewNotStart, NotRising, Twice}
+use Rattle.gc_check.specs.Tables.{HoldsPartners, entry_fault}
+use Rattle.gc_check.specs.Verdict.{pairs_of}
+use Rattle.gc_check.proofs.Marking.{start_within}
+
+-- ---- options
+
+pub or_none : {X : Type 0} (x y : Option X) → (x or_else y) ≡ None → (x ≡ None) × (y ≡ None)
+or_none None y e = (refl, e)
+or_none (Some x) y e = cc
+
+pub when_none : (b : Bool) (r : Refusal) → when b r ≡ None → b ≡ false
+when_none true r e = cc
+when_none false r e = refl
+
+-- ---- the row of partners
+
+none_paired : (n a : ℕ) → slice_index (replicate n 0) a ≡ 0
+none_paired zero a = refl
+none_paired (suc n) zero = refl
+none_paired (suc n) (suc a) = none_paired n a
+
+pub holds_none : (n : ℕ) → HoldsPartners (replicate n 0) []
+holds_none n = record {
+  pair = λ a b low. ap (λ m. m == b) (none_paired n a) ∙ ne_eqb 0 b (λ e. omega arith);
+  taken = λ a. ap (λ m. not (m == 0)) (none_paired n a);
+}
+
+or_false : (b : Bool) → (b || false) ≡ b
+or_false true = refl
+or_false false = refl
+
+or_true : (b : Bool) → (b || true) ≡ true
+or_true true = refl
+or_true false = refl
+
+paired_push : (pairs : List (ℕ × ℕ)) (p : ℕ × ℕ) (a b : ℕ) → paired (pairs ++ p ∷ []) a b ≡ (paired pairs a b || ((p.0 == a) && (p.1 == b)))
+paired_push pairs p a b =
+    list_any-append (λ q. (q.0 == a) && (q.1 == b)) pairs (p ∷ []) ∙ ap (λ t. paired pairs a b || t) (or_false ((p.0 == a) && (p.1 == b)))
+
+taken_push : (pairs : List (ℕ × ℕ)) (p : ℕ × ℕ) (a : ℕ) → list_any (λ q. q.0 == a) (pairs ++ p ∷ []) ≡ (list_any (λ q. q.0 == a) pairs || (p.0 == a))
+taken_push pairs p a = list_any-append (λ q. q.0 == a) pairs (p ∷ []) ∙ ap (λ t. list_any (λ q. q.0 == a) pairs || t) (or_false (p.0 == a))
+
+-- one pair more, whose old address is free
+pub holds_one : (row : List ℕ) (pairs : List (ℕ × ℕ)) (p : ℕ × ℕ) → p.0 < length row → 1 ≤ p.1 → slice_index row p.0 ≡ 0 → HoldsPartners row pairs → HoldsPartners (set row p.0 p.1) (pairs ++ p ∷ [])
+holds_one row pairs p inside low free h = record { pair = pair; taken = taken }
+  where
+    here : (a : ℕ) → p.0 ≡ a → slice_index (set row p.0 p.1) a ≡ p.1
+    here a same = ap (slice_index (set row p.0 p.1)) (sym same) ∙ get_or-set_same row p.0 p.1 0 inside
+
+    beside : (a : ℕ) → (p.0 ≡ a → ⊥) → slice_index (set row p.0 p.1) a ≡ slice_index row a
+    beside a other = get_or-set_other row p.0 a p.1 0 (λ e. other (sym e))
+
+    pair : (a b : ℕ) → 1 ≤ b → (slice_index (set row p.0 p.1) a == b) ≡ paired (pairs ++ p ∷ []) a b
+    pair a b some =
+        elim (cases_eq p.0 a) [
+          | inl same ↦ (let before : paired pairs a b ≡ false = sym (h.pair a b some) ∙ ap (λ m. m == b) (ap (slice_index row) (sym same) ∙ free) ∙ ne_eqb 0 b (λ e. omega arith) in
+              ap (λ m. m == b) (here a same)
+              ∙ sym (paired_push pairs p a b ∙ (λ i. before i || ((eq-eqb p.0 a same) i && (p.1 == b)))))
+          | inr other ↦ ap (λ m. m == b) (beside a other) ∙ h.pair a b some ∙ sym (or_false (paired pairs a b))
+              ∙ sym (paired_push pairs p a b ∙ ap (λ t. paired pairs a b || (t && (p.1 == b))) (ne_eqb p.0 a other))
+        ]
+
+    taken : (a : ℕ) → not (slice_index (set row p.0 p.1) a == 0) ≡ list_any (λ q. q.0 == a) (pairs ++ p ∷ [])
+    taken a =
+        elim (cases_eq p.0 a) [
+          | inl same ↦ ap (λ m. not (m == 0)) (here a same) ∙ ap not (ne_eqb p.1 0 (λ e. omega arith))
+              ∙ sym (taken_push pairs p a ∙ ap (λ t. list_any (λ q. q.0 == a) pairs || t) (eq-eqb p.0 a same) ∙ or_true (list_any (λ q. q.0 == a) pairs))
+          | inr other ↦ ap (λ m. not (m == 0)) (beside a other) ∙ h.taken a
+              ∙ sym (taken_push pairs p a ∙ ap (λ t. list_any (λ q. q.0 == a) pairs || t) (ne_eqb p.0 a other) ∙ or_false (list_any (λ q. q.0 == a) pairs))
+        ]
+
+-- ---- new addresses rise
+
+-- the last new address among the pairs; 0, below all starts, where there is none
+abbrev pub EndsAt : List (ℕ × ℕ) → ℕ → Type 0
+EndsAt before last = (n : ℕ) → 1 ≤ n → not_above_last before n ≡ nat_le n last
+
+pub ends_none : EndsAt [] 0
+ends_none n low = sym (lt-leb n 0 (omega arith))
+
+pub ends_one : (before : List (ℕ × ℕ)) (p : ℕ × ℕ) → EndsAt (before ++ p ∷ []) p.1
+ends_one before p n low = push before
+  where
+    push : (before : List (ℕ × ℕ)) → not_above_last (before ++ p ∷ []) n ≡ nat_le n p.1
+    push [] = refl
+    push (x ∷ []) = refl
+    push (x ∷ y ∷ rest) = push (y ∷ rest)
+
+-- ---- what the tables say of a pair's place is what is wrong with it
+
+settled : (o : Option Refusal) (r s : Refusal) (b c : Bool) (w : Option Refusal) → (o or_else Some r or_else when b s or_else w) ≡ (o or_else Some r or_else when c s or_else w)
+settled None r s b c w = refl
+settled (Some x) r s b c w = refl
+
+pub entry_is : (old new : Image) (row : List ℕ) (before : List (ℕ × ℕ)) (last k : ℕ) (p : ℕ × ℕ) → HoldsPartners row before → EndsAt before last → (is_start new.words p.1 ≡ true → 1 ≤ p.1)
+    → entry_fault old new row last k p ≡ place_fault old new before k p
+entry_is old new row before last k p held ends low =
+    ap (λ b. first or_else when (not (is_start new.words p.1)) (NewNotStart k) or_else when (nat_le p.1 last) (NotRising k) or_else when b (Twice k)) (held.taken p.0)
+    ∙ elim (cases_Bool (is_start new.words p.1)) [
+      | inl start ↦ ap (λ b. first or_else when (not (is_start new.words p.1)) (NewNotStart k) or_else when b (NotRising k) or_else twice) (sym (ends p.1 (low start)))
+      | inr none ↦ (let missing : when (not (is_start new.words p.1)) (NewNotStart k) ≡ Some (NewNotStart k) = ap (λ b. when (not b) (NewNotStart k)) none in
+          ap (λ o. first or_else o or_else when (nat_le p.1 last) (NotRising k) or_else twice) missing
+          ∙ settled first (NewNotStart k) (NotRising k) (nat_le p.1 last) (not_above_last before p.1) twice
+          ∙ sym (ap (λ o. first or_else o or_else when (not_above_last before p.1) (NotRising k) or_else twice) missing))
+    ]
+  where
+    first : Option Refusal
+    first = when (not (is_start old.words p.0)) (OldNotStart k)
+
+    twice : Option Refusal
+    twice = when (list_any (λ q. q.0 == p.0) before) (Twice k)
+
+-- a pair that is in its place
+pub record Placed (old new : Image) (row : List ℕ) (p : ℕ × ℕ) : Type 0 where
+  pub old_start : is_start old.words p.0 ≡ true
+  pub new_start : is_start new.words p.1 ≡ true
+  pub free : slice_index row p.0 ≡ 0
+
+pub no_entry_fault : (old new : Image) (row : List ℕ) (last k : ℕ) (p : ℕ × ℕ) → entry_fault old new row last k p ≡ None → Placed old new row p
+no_entry_fault old new row last k p e =
+    let s3 : ((when (not (is_start old.words p.0)) (OldNotStart k) or_else when (not (is_start new.words p.1)) (NewNotStart k) or_else when (nat_le p.1 last) (NotRising k)) ≡ None) × (when (not (slice_index row p.0 == 0)) (Twice k) ≡ None) = or_none _ _ e in
+    let s2 : ((when (not (is_start old.words p.0)) (OldNotStart k) or_else when (not (is_start new.words p.1)) (NewNotStart k)) ≡ None) × (when (nat_le p.1 last) (NotRising k) ≡ None) = or_none _ _ s3.0 in
+    let s1 : (when (not (is_start old.words p.0)) (OldNotStart k) ≡ None) × (when (not (is_start new.words p.1)) (NewNotStart k) ≡ None) = or_none _ _ s2.0 in
+    record {
+      old_start = not-false _ (when_none _ _ s1.0);
+      new_start = not-false _ (when_none _ _ s1.1);
+      free = eqb-true _ _ (not-false _ (when_none _ _ s3.1));
+    }
+
+-- ---- all pairs
+
+-- where the first k pairs of a certificate have been entered
+pub record Entered (old new : Image) (cert : List Pair) (row : List ℕ) (last k : ℕ) : Type 0 where
+  pub len : length row ≡ length old.words
+  pub held : HoldsPartners row (pairs_of (take k cert))
+  pub ends : EndsAt (pairs_of (take k cert)) last
+  pub same : place_faults old new [] 0 (pairs_of cert) ≡ place_faults old new (pairs_of (take k cert)) k (pairs_of (drop k cert))
+
+pub entered_none : (old new : Image) (cert : List Pair) (row : List ℕ) → row ≡ replicate (length old.words) 0 → Entered old new cert row 0 0
+entered_none old new cert row e = record {
+  len = ap length e ∙ length-replicate (length old.words) 0;
+  held = subst (λ row. HoldsPartners row []) (sym e) (holds_none (length old.words));
+  ends = ends_none;
+  same = refl;
+}
+
+-- the next pair
+unrolled : (old new : Image) (cert : List Pair) (k : ℕ) (d : Pair) → k < length cert
+    → let before = pairs_of (take k cert) in place_faults old new before k (pairs_of (drop k cert))
+    ≡ (place_fault old new before k (addresses (get_or cert k d)) or_else place_faults old new (before ++ addresses (get_or cert k d) ∷ []) (suc k) (pairs_of (drop (k + 1) cert)))
+unrolled old new cert k d inside = at_drop_more (λ rest. place_faults old new (pairs_of (take k cert)) k (pairs_of rest)) cert k d inside
+
+pub entered_fault : (old new : Image) (cert : List Pair) (row : List ℕ) (last k : ℕ) (d : Pair) (refusal : Refusal) → k < length cert → (is_start new.words (addresses (get_or cert k d)).1 ≡ true → 1 ≤ (addresses (get_or cert k d)).1)
+    → Entered old new cert row last k → entry_fault old new row last k (addresses (get_or cert k d)) ≡ Some refusal → place_faults old new [] 0 (pairs_of cert) ≡ Some refusal
+entered_fault old new cert row last k d refusal inside low s e =
+    let p : ℕ × ℕ = addresses (get_or cert k d) in
+    s.same ∙ unrolled old new cert k d inside
+    ∙ ap (λ o. o or_else place_faults old new (pairs_of (take k cert) ++ p ∷ []) (suc k) (pairs_of (drop (k + 1) cert))) (sym (entry_is old new row (pairs_of (take k cert)) last k p s.held s.ends low) ∙ e)
+
+pub entered_one : (old new : Image) (cert : List Pair) (row : List ℕ) (last k : ℕ) (d : Pair) → k < length cert
+    → let p = addresses (get_or cert k d) in (is_start new.words p.1 ≡ true → 1 ≤ p.1) → p.0 < length row
+    → Entered old new cert row last k → entry_fault old new row last k p ≡ None → Entered old new cert (set row p.0 p.1) p.1 (k + 1)
+entered_one old new cert row last k d inside low within s e =
+    let p : ℕ × ℕ = addresses (get_or cert k d) in
+    let before : List (ℕ × ℕ) = pairs_of (take k cert) in
+    let placed : Placed old new row p = no_entry_fault old new row last k p e in
+    let more : pairs_of (take (k + 1) cert) ≡ before ++ p ∷ [] = map_more addresses cert k d inside in
+    let next : suc k ≡ k + 1 = omega arith in
+    record {
+      len = length-set row p.0 p.1 ∙ s.len;
+      held = subst (HoldsPartners (set row p.0 p.1)) (sym more) (holds_one row before p within (low placed.new_start) placed.free s.held);
+      ends = subst (λ pairs. EndsAt pairs p.1) (sym more) (ends_one before p);
+      same = s.same ∙ unrolled old new cert k d inside
+          ∙ ap (λ o. o or_else place_faults old new (before ++ p ∷ []) (suc k) (pairs_of (drop (k + 1) cert))) (sym (entry_is old new row before last k p s.held s.ends low) ∙ e)
+          ∙ (λ i. place_faults old new (sym more i) (next i) (pairs_of (drop (k + 1) cert)));
+    }
+
+-- the pair's old address is a place of the row
+pub entered_within : (old new : Image) (cert : List Pair) (row : List ℕ) (last k : ℕ) (p : ℕ × ℕ) → IsOk (walk_words old.words) → Entered old new cert row last k → entry_fault old new row last k p ≡ None → p.0 < length row
+entered_within old new cert row last k p ok s e =
+    let placed : Placed old new row p = no_entry_fault old new row last k p e in
+    let within : p.0 < length old.words = start_within old.words p.0 ok placed.old_start in
+    omega (arith, s.len)
+
+pub entered_all : (old new : Image) (cert : List Pair) (row : List ℕ) (last k : ℕ) → length cert ≤ k → Entered old new cert row last k → (place_faults old new [] 0 (pairs_of cert) ≡ None) × HoldsPartners row (pairs_of cert)
+entered_all old new cert row last k past s = (
+  s.same ∙ at_drop_all (λ rest. place_faults old new (pairs_of (take k cert)) k (pairs_of rest)) cert k past,
+  subst (λ cert. HoldsPartners row (pairs_of cert)) (take_all k cert past) s.held,
+)

@@ -1,0 +1,89 @@
+-- Paths through graphs that correspond.
+use Rattle.std.proofs.Common.{◌≡◌, ℕ, suc, zero, true, false, List, [], ◌∷◌, length, take, Option, Some, None, refl, ap, subst}
+use Rattle.std.specs.Prelude.{slice_get}
+use Rattle.std.specs.List.{AllZip}
+use Rattle.gc_graph.specs.Graph.{Value, Nil, Num, Ref, Object, Graph, lookup, object_of, field_of, follow, at_path, Reachable}
+use Rattle.gc_graph.specs.Correspond.{paired, correspond, Agree, ObjectsCorrespond, Corresponding}
+use Rattle.gc_graph.specs.Machine.{Roomy, roomy_step}
+use Rattle.gc_graph.specs.Runs.{replies}
+use Rattle.gc_graph.specs.Graph.{fresh_name}
+use Rattle.gc_graph.specs.declared.command.Op.{Op}
+use Rattle.gc_check.specs.Headline.{EqualFieldByField}
+
+module _ (pairs : List (ℕ × ℕ)) (g h : Graph) (c : Corresponding pairs g h) where
+  get_agrees : (vs ws : List Value) (i : ℕ) → AllZip (λ v w. correspond pairs v w ≡ true) vs ws → Agree pairs (slice_get vs i) (slice_get ws i)
+  get_agrees [] [] i z = tt
+  get_agrees [] (w ∷ ws) i z = absurd z
+  get_agrees (v ∷ vs) [] i z = absurd z
+  get_agrees (v ∷ vs) (w ∷ ws) zero z = z.0
+  get_agrees (v ∷ vs) (w ∷ ws) (suc i) z = get_agrees vs ws i z.1
+
+  object_agrees : (o q : Option Object) (i : ℕ) → ObjectsCorrespond pairs o q → Agree pairs (field_of o i) (field_of q i)
+  object_agrees (Some o) (Some q) i e = get_agrees o.fields q.fields i e.1
+  object_agrees (Some o) None i e = absurd e
+  object_agrees None q i e = absurd e
+
+  field_agrees : (v w : Value) (i : ℕ) → correspond pairs v w ≡ true → Agree pairs (field_of (object_of g.objects v) i) (field_of (object_of h.objects w) i)
+  field_agrees Nil Nil i e = tt
+  field_agrees (Num a) (Num b) i e = tt
+  field_agrees (Ref a) (Ref b) i e = object_agrees (lookup g.objects a) (lookup h.objects b) i (c.objects a b e)
+  field_agrees Nil (Num b) i e = absurd (let no : false ≡ true = e in cc)
+  field_agrees Nil (Ref b) i e = absurd (let no : false ≡ true = e in cc)
+  field_agrees (Num a) Nil i e = absurd (let no : false ≡ true = e in cc)
+  field_agrees (Num a) (Ref b) i e = absurd (let no : false ≡ true = e in cc)
+  field_agrees (Ref a) Nil i e = absurd (let no : false ≡ true = e in cc)
+  field_agrees (Ref a) (Num b) i e = absurd (let no : false ≡ true = e in cc)
+
+  follow_agrees : (fields : List ℕ) (v w : Option Value) → Agree pairs v w → Agree pairs (follow g.objects v fields) (follow h.objects w fields)
+  follow_agrees fields None None a = tt
+  follow_agrees fields None (Some w) a = absurd a
+  follow_agrees fields (Some v) None a = absurd a
+  follow_agrees [] (Some v) (Some w) a = a
+  follow_agrees (i ∷ fields) (Some v) (Some w) a = follow_agrees fields _ _ (field_agrees v w i a)
+
+  pub paths_agree : (place : ℕ) (fields : List ℕ) → Agree pairs (at_path g place fields) (at_path h place fields)
+  paths_agree place fields = follow_agrees fields _ _ (get_agrees g.roots h.roots place c.roots)
+
+  -- ---- replicas
+
+  value_partner : (a : ℕ) (w : Value) → correspond pairs (Ref a) w ≡ true → (b : ℕ) × (paired pairs a b ≡ true)
+  value_partner a Nil e = absurd (let no : false ≡ true = e in cc)
+  value_partner a (Num n) e = absurd (let no : false ≡ true = e in cc)
+  value_partner a (Ref b) e = (b, e)
+
+  partner : (a : ℕ) (w : Option Value) → Agree pairs (Some (Ref a)) w → (b : ℕ) × (paired pairs a b ≡ true)
+  partner a None e = absurd e
+  partner a (Some w) e = value_partner a w e
+
+  reached_partner : (a : ℕ) → Reachable g a → (b : ℕ) × (paired pairs a b ≡ true)
+  reached_partner a r = partner a (at_path h r.0 r.1) (subst (λ v. Agree pairs v (at_path h r.0 r.1)) r.2 (paths_agree r.0 r.1))
+
+  pub one_replica : (a : ℕ) → Reachable g a → (b : ℕ) × (paired pairs a b ≡ true) × ((d : ℕ) → paired pairs a d ≡ true → d ≡ b)
+  one_replica a r = let found : (b : ℕ) × (paired pairs a b ≡ true) = reached_partner a r in (found.0, found.1, λ d p. c.one_right a d found.0 p found.1)
+
+  zip_length : (vs ws : List Value) → AllZip (λ v w. correspond pairs v w ≡ true) vs ws → length vs ≡ length ws
+  zip_length [] [] z = refl
+  zip_length [] (w ∷ ws) z = absurd z
+  zip_length (v ∷ vs) [] z = absurd z
+  zip_length (v ∷ vs) (w ∷ ws) z = ap suc (zip_length vs ws z.1)
+
+  equal_objects : (o q : Option Object) → ObjectsCorrespond pairs o q → EqualFieldByField pairs o q
+  equal_objects (Some o) (Some q) e = (e.0, zip_length o.fields q.fields e.1, e.1)
+  equal_objects (Some o) None e = absurd e
+  equal_objects None q e = absurd e
+
+  pub equal_fields : (a b : ℕ) → paired pairs a b ≡ true → EqualFieldByField pairs (lookup g.objects a) (lookup h.objects b)
+  equal_fields a b p = equal_objects _ _ (c.objects a b p)
+
+-- ---- as many replies as commands
+
+length_replies : (commands : List (ℕ × Op)) (s : Roomy) → length (replies s commands) ≡ length commands
+length_replies [] s = refl
+length_replies (command ∷ rest) s = ap suc (length_replies rest (roomy_step s command.0 command.1 (fresh_name s.graph)).1)
+
+take_whole : {X : Type 0} (xs : List X) → take (length xs) xs ≡ xs
+take_whole [] = refl
+take_whole (x ∷ xs) = ap (λ ys. x ∷ ys) (take_whole xs)
+
+pub take_replies : (commands : List (ℕ × Op)) (s : Roomy) → take (length commands) (replies s commands) ≡ replies s commands
+take_replies commands s = subst (λ n. take n (replies s commands) ≡ replies s commands) (length_replies commands s) (take_whole (replies s commands))

@@ -1,0 +1,28 @@
+use Rattle.std.proofs.Common.{◌≡◌, ◌+◌, ◌-◌, sym, ◌∙◌, ap, arith, take, drop, is_some, Some}
+use Rattle.gc_words.specs.declared.header.Header.{Header}
+use Rattle.gc_check.proofs.Marking.{start_stands, start_within}
+use Rattle.gc_check.proofs.object.object_at.Goals as goal
+
+pub bounds-words-at : goal.bounds-words-at
+bounds-words-at c = start_within c.args.words.now c.args.start c.requires.walked c.requires.start
+
+pub unwrap-header-requires : goal.unwrap-header-requires
+unwrap-header-requires c =
+    let found = start_stands c.args.words.now c.args.start c.requires.walked c.requires.start in
+    ap is_some (c.read.ensures ∙ found.2.header)
+
+pub slice_bounds-result-end : goal.slice_bounds-result-end
+slice_bounds-result-end c =
+    let found = start_stands c.args.words.now c.args.start c.requires.walked c.requires.start in
+    let same : c.unwrap-header.result ≡ found.0.header = (let s : Some c.unwrap-header.result ≡ Some found.0.header = sym c.unwrap-header.ensures ∙ c.read.ensures ∙ found.2.header in cc) in
+    let fields = c.from.ensures ∙ c.len.ensures ∙ ap (λ (h : Header). h.len) same in
+    let fits = found.2.fits in
+    omega arith
+
+pub returns : goal.returns
+returns c =
+    let found = start_stands c.args.words.now c.args.start c.requires.walked c.requires.start in
+    let same : c.unwrap-header.result ≡ found.0.header = (let s : Some c.unwrap-header.result ≡ Some found.0.header = sym c.unwrap-header.ensures ∙ c.read.ensures ∙ found.2.header in cc) in
+    let fields = c.from.ensures ∙ c.len.ensures ∙ ap (λ (h : Header). h.len) same in
+    let count : found.0.header.len ≡ c.args.start + 2 + c.from.result - (c.args.start + 2) = omega arith in
+    found.1 ∙ (λ i. Some (record { header = sym same i; fields = (found.2.fields ∙ ap (λ n. take n (drop (c.args.start + 2) c.args.words.now)) count) i }))

@@ -1,0 +1,31 @@
+use Rattle.std.proofs.Common.{sym, ◌∙◌, get_or}
+use Rattle.gc_words.specs.declared.image.Pair.{Pair}
+use Rattle.gc_check.proofs.Marking.{low_start}
+use Rattle.gc_check.proofs.Entering.{entered_fault, entered_one, entered_within}
+use Rattle.gc_check.proofs.placing.enter_pairs.Goals as goal
+
+-- any pair: a read within the certificate does not ask
+abbrev none : Pair
+none = record { old = record { 0 = 0 }; new = record { 0 = 0 } }
+
+pub returns-in-Some : goal.returns-in-Some
+returns-in-Some c =
+    let pair : Pair = get_or c.args.cert.now c.loop-k.k none in
+    entered_fault c.args.old.now c.args.new.now c.args.cert.now c.loop-k.partners c.loop-k.last.0 c.loop-k.k none c.in-Some.refusal c.loop-k-test.true
+    (λ start. low_start c.args.new.now.words pair.new.0 c.requires.new_walked start)
+    c.loop-k.invariant (sym c.place_fault.ensures ∙ c.in-Some.is)
+
+pub bounds-partners-pair : goal.bounds-partners-pair
+bounds-partners-pair c =
+    let pair : Pair = get_or c.args.cert.now c.loop-k.k none in
+    entered_within c.args.old.now c.args.new.now c.args.cert.now c.loop-k.partners c.loop-k.last.0 c.loop-k.k (pair.old.0, pair.new.0) c.requires.old_walked
+    c.loop-k.invariant (sym c.place_fault.ensures ∙ c.in_default.is)
+
+pub loop-k-preserved : goal.loop-k-preserved
+loop-k-preserved c =
+    let pair : Pair = get_or c.args.cert.now c.loop-k.k none in
+    let no_fault = sym c.place_fault.ensures ∙ c.in_default.is in
+    entered_one c.args.old.now c.args.new.now c.args.cert.now c.loop-k.partners c.loop-k.last.0 c.loop-k.k none c.loop-k-test.true
+    (λ start. low_start c.args.new.now.words pair.new.0 c.requires.new_walked start)
+    (entered_within c.args.old.now c.args.new.now c.args.cert.now c.loop-k.partners c.loop-k.last.0 c.loop-k.k (pair.old.0, pair.new.0) c.requires.old_walked c.loop-k.invariant no_fault)
+    c.loop-k.invariant no_fault

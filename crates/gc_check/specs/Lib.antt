@@ -1,0 +1,4 @@
+pub mod Headline
+pub mod Verdict
+pub mod Tables
+pub mod Rows

@@ -1,0 +1,22 @@
+//! What follows from the definitions: the calls that check cite it.
+
+ghost use Rattle.std.specs.Prelude.{ℕ, List};
+ghost use Rattle.gc_words.specs.Image.{Image};
+ghost use Rattle.gc_words.specs.Certificate.{Certified};
+ghost use Rattle.gc_check.specs.Headline.{Replicated};
+ghost use Rattle.gc_check.specs.Rows.{Rows};
+
+/// Where the certificate holds, each reachable object has one replica of its own, equal to it field by
+/// field, and later commands get the same replies from both heaps.
+pub fn certified_is_replicated()
+    ensures { (old new : Image) (pairs : List (ℕ × ℕ))
+        → Certified old new pairs → Replicated old new pairs }
+{
+    gc_graph::corresponding_graphs_reply_alike();
+    gc_words::certified_graphs_correspond();
+}
+
+/// The worked rows hold of the definitions.
+pub fn worked_rows()
+    ensures { Rows }
+{}

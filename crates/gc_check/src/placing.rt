@@ -1,0 +1,96 @@
+//! The pairs of a certificate, entered one after the other into the row of partners.
+
+ghost use Rattle.std.specs.Prelude.{◌≡◌, None, Some, [], length, replicate, IsOk, MatchResult};
+ghost use Rattle.gc_words.specs.Image.{IsShaped, walk_words};
+ghost use Rattle.gc_words.specs.Fault.{place_faults};
+ghost use Rattle.gc_words.specs.Views.{addresses, image_of};
+ghost use Rattle.gc_check.specs.Tables.{HoldsPartners, entry_fault};
+ghost use Rattle.gc_check.specs.Verdict.{pairs_of, IsRefusalOf};
+
+use crate::starts::Starts;
+use crate::verdict::CheckFault;
+use gc_words::{ImageRef, NewAddr, Pair, Refusal};
+use std::alloc::Global;
+
+/// The partners by old address, where all pairs are in their places. All three rows are made first.
+pub(crate) fn partners_of(
+    alloc: Global,
+    old: ImageRef,
+    new: ImageRef,
+    cert: &[Pair],
+) -> Result<Vec<u32>, CheckFault>
+    requires old_shaped { IsShaped (image_of old) }
+    requires new_shaped { IsShaped (image_of new) }
+    ensures { MatchResult result
+        (λ partners.
+        (place_faults (image_of old.entry) (image_of new.entry) [] 0 (pairs_of cert.now) ≡ None)
+        × HoldsPartners partners.items (pairs_of cert.now))
+        (IsRefusalOf
+        (place_faults (image_of old.entry) (image_of new.entry) [] 0 (pairs_of cert.now))) }
+{
+    let Ok(old_starts) = Starts::new(alloc, old) else {
+        return Err(CheckFault::NoMemory);
+    };
+    let Ok(new_starts) = Starts::new(alloc, new) else {
+        return Err(CheckFault::NoMemory);
+    };
+    let Ok(mut partners) = vec![in alloc; 0u32; old.words.len()] else {
+        return Err(CheckFault::NoMemory);
+    };
+    match enter_pairs(&old_starts, &new_starts, cert, partners.as_mut_slice()) {
+        Ok(()) => Ok(partners),
+        Err(refusal) => Err(CheckFault::Refused(refusal)),
+    }
+}
+
+// Enters all pairs, or those before the first that is refused for its place.
+fn enter_pairs(
+    old: &Starts,
+    new: &Starts,
+    cert: &[Pair],
+    partners: &mut [u32],
+) -> Result<(), Refusal>
+    requires old_walked { IsOk (walk_words old.now.words) }
+    requires new_walked { IsOk (walk_words new.now.words) }
+    requires empty { partners.old ≡ replicate (length old.now.words) 0 }
+    ensures { MatchResult result
+        (λ _. (place_faults old.now new.now [] 0 (pairs_of cert.now) ≡ None)
+        × HoldsPartners partners.new (pairs_of cert.now))
+        (λ refusal. place_faults old.now new.now [] 0 (pairs_of cert.now) ≡ Some refusal) }
+{
+    // No object starts at 0, so the first new address is above this one.
+    let mut last = NewAddr(0);
+    for (k, pair) in cert.iter().enumerate() {
+        if let Some(refusal) = place_fault(old, new, partners, last, k as u64, *pair) {
+            return Err(refusal);
+        }
+        partners[pair.old.0 as usize] = pair.new.0;
+        last = pair.new;
+    }
+    Ok(())
+}
+
+// What is wrong with the place of pair `k`, behind one whose new address is `last`.
+fn place_fault(
+    old: &Starts,
+    new: &Starts,
+    partners: &[u32],
+    last: NewAddr,
+    k: u64,
+    pair: Pair,
+) -> Option<Refusal>
+    requires { length partners.now ≡ length old.now.words }
+    ensures { result ≡ entry_fault old.now new.now partners.now last.0 k (addresses pair) }
+{
+    if !old.contains(pair.old.0) {
+        Some(Refusal::OldNotStart { k })
+    } else if !new.contains(pair.new.0) {
+        Some(Refusal::NewNotStart { k })
+    } else if pair.new.0 <= last.0 {
+        Some(Refusal::NotRising { k })
+    } else if partners[pair.old.0 as usize] != 0 {
+        Some(Refusal::Twice { k })
+    } else {
+        None
+    }
+}

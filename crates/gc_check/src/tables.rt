@@ -1,0 +1,153 @@
+use crate::images::image_fault;
+use crate::object::object_at;
+use crate::placing::partners_of;
+use crate::verdict::CheckFault;
+use gc_words::{Addr, ImageRef, Pair, Refusal, Value, decode};
+use std::alloc::Global;
+use std::marker::Model;
+
+/// Two images and a certificate whose pairs join starts, in their order and each old address once, with the
+/// partners by old address. Contracts see the images and the pairs.
+#[derive(Drop)]
+pub struct Tables<'a> {
+    old: ImageRef<'a>,
+    new: ImageRef<'a>,
+    cert: &'a [Pair],
+    /// The new address that is paired with an old one, or 0.
+    partners: Vec<u32>,
+}
+
+impl<'a> Model for Tables<'a> {
+    ghost use Rattle.gc_words.specs.Views.{image_of};
+    ghost use Rattle.gc_check.specs.Tables.{Checked, HasTables};
+    ghost use Rattle.gc_check.specs.Verdict.{pairs_of};
+
+    ghost Value = { Checked };
+
+    ghost view = { λ t. record {
+      old = image_of t.old;
+      new = image_of t.new;
+      pairs = pairs_of t.cert.now;
+    } };
+
+    ghost invariant = { λ t. HasTables (record {
+      old = image_of t.old;
+      new = image_of t.new;
+      pairs = pairs_of t.cert.now;
+    }) t.partners.items };
+}
+
+impl<'a> Tables<'a> {
+    ghost use Rattle.std.specs.Prelude.{◌≡◌, ◌<◌, ◌≤◌, ◌^◌, None, length, MatchResult};
+    ghost use Rattle.gc_graph.specs.Correspond.{paired};
+    ghost use Rattle.gc_words.specs.Word.{words_correspond};
+    ghost use Rattle.gc_words.specs.Fault.{table_fault, pair_fault, root_fault, first_difference};
+    ghost use Rattle.gc_words.specs.Views.{image_of};
+    ghost use Rattle.gc_check.specs.Tables.{pair_at};
+    ghost use Rattle.gc_check.specs.Verdict.{pairs_of, IsRefusalOf};
+
+    /// Takes memory three times, once for each row. The images and the certificate are borrowed.
+    pub fn new(
+        alloc: Global,
+        old: ImageRef<'a>,
+        new: ImageRef<'a>,
+        cert: &'a [Pair],
+    ) -> Result<Tables<'a>, CheckFault>
+        requires { length cert.now < 2 ^ 32 }
+        ensures { MatchResult result
+            (λ tables. (table_fault (image_of old.entry) (image_of new.entry) (pairs_of cert.now) ≡ None)
+            × (tables ≡ record {
+              old = image_of old.entry;
+              new = image_of new.entry;
+              pairs = pairs_of cert.now;
+            }))
+            (IsRefusalOf (table_fault (image_of old.entry) (image_of new.entry) (pairs_of cert.now))) }
+    {
+        if let Some(refusal) = image_fault(old, new) {
+            return Err(CheckFault::Refused(refusal));
+        }
+        let partners = match partners_of(alloc, old, new, cert) {
+            Ok(partners) => partners,
+            Err(fault) => return Err(fault),
+        };
+        Ok(Tables {
+            old,
+            new,
+            cert,
+            partners,
+        })
+    }
+
+    /// What is wrong with the objects that pair `k` joins. Takes no memory.
+    pub fn pair_fault(&self, k: u32) -> Option<Refusal>
+        requires { k < length self.now.pairs }
+        ensures { result ≡ pair_fault self.now.old self.now.new self.now.pairs k (pair_at self.now.pairs k) }
+    {
+        let pair = self.cert[k as usize];
+        let k = u64::from(k);
+        let old = object_at(self.old.words, pair.old.0);
+        let new = object_at(self.new.words, pair.new.0);
+        if old.header != new.header {
+            return Some(Refusal::HeaderDiffers { k });
+        }
+        match self.first_difference(old.fields, new.fields) {
+            Some(i) => Some(Refusal::FieldDiffers { k, i }),
+            None => None,
+        }
+    }
+
+    /// What is wrong with the roots. Takes no memory.
+    pub fn root_fault(&self) -> Option<Refusal>
+        ensures { result ≡ root_fault self.now.old self.now.new self.now.pairs }
+    {
+        match self.first_difference(self.old.roots, self.new.roots) {
+            Some(slot) => Some(Refusal::RootDiffers { slot }),
+            None => None,
+        }
+    }
+
+    // The first place at which the words do not correspond.
+    fn first_difference(&self, old: &[u64], new: &[u64]) -> Option<u64>
+        requires { length old.now ≡ length new.now }
+        ensures { result ≡ first_difference (words_correspond self.now.pairs) 0 old.now new.now }
+    {
+        for i in 0..old.len() {
+            if !self.is_correspondence(old[i], new[i]) {
+                return Some(i as u64);
+            }
+        }
+        None
+    }
+
+    // Whether the words are values that stand for each other.
+    fn is_correspondence(&self, old: u64, new: u64) -> bool
+        ensures { result ≡ words_correspond self.now.pairs old new }
+    {
+        let Some(old) = decode(old) else {
+            return false;
+        };
+        let Some(new) = decode(new) else {
+            return false;
+        };
+        match old {
+            Value::Nil => matches!(new, Value::Nil),
+            Value::Num(number) => match new {
+                Value::Num(other) => number == other,
+                _ => false,
+            },
+            Value::Ref(address) => match new {
+                Value::Ref(other) => self.is_partner(address, other),
+                _ => false,
+            },
+        }
+    }
+
+    // Whether the addresses are a pair.
+    fn is_partner(&self, old: Addr, new: Addr) -> bool
+        requires { 1 ≤ new.0 }
+        ensures { result ≡ paired self.now.pairs old.0 new.0 }
+    {
+        let place = old.0 as usize;
+        place < self.partners.len() && self.partners[place] == new.0
+    }
+}
