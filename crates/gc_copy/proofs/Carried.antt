@@ -9,7 +9,7 @@ use Rattle.gc_copy.specs.Steps.{written, logged, mutate, log_at, with_log, fresh
 use Rattle.gc_copy.specs.Runs.{Event, Mutate, Collect, IsEvent, AreEvents, after, state_after}
 use Rattle.gc_copy.specs.Carried.{is_begun, base_after, base_of_run, IsKept, OnlyKeptIsPaired, CarriesOnlyKept}
 use Rattle.gc_copy.specs.Members.{In}
-use Rattle.gc_copy.specs.Belonging.{IsState}
+use Rattle.gc_copy.specs.Belonging.{RefersTo, IsState}
 use Rattle.gc_graph.specs.declared.command.Op.{Op}
 use Rattle.gc_graph.specs.declared.command.Op.TheVariants as ops
 use Rattle.gc_graph.specs.declared.reply.Reply.{Reply}
@@ -23,44 +23,38 @@ use Rattle.gc_copy.proofs.Replicas.{pair, replica_in}
 use Rattle.gc_copy.proofs.Steps.{some_of, unreplicated_some}
 use Rattle.gc_copy.proofs.Runs.{Reached, opening_ok, event_keeps}
 
--- P holds of what the value refers to
-abbrev pub Refers : (ℕ → Type 0) → Value → Type 0
-Refers P Nil = Unit {0}
-Refers P (Num n) = Unit {0}
-Refers P (Ref a) = P a
-
 -- P holds of what the roots refer to, and of what objects of which it holds refer to
 pub record Closed (P : ℕ → Type 0) (g : Graph) : Type 0 where
-  pub roots : (v : Value) → In v g.roots → Refers P v
-  pub fields : (a : ℕ) (o : Object) → In (a, o) g.objects → P a → (v : Value) → In v o.fields → Refers P v
+  pub roots : (v : Value) → In v g.roots → RefersTo P v
+  pub fields : (a : ℕ) (o : Object) → In (a, o) g.objects → P a → (v : Value) → In v o.fields → RefersTo P v
 
 -- ---- commands
 
-root_refers : (P : ℕ → Type 0) (g : Graph) (p : ℕ) → Closed P g → Refers P (root g p)
+root_refers : (P : ℕ → Type 0) (g : Graph) (p : ℕ) → Closed P g → RefersTo P (root g p)
 root_refers P g p h = go (slice_get g.roots p) refl
   where
-    go : (o : Option Value) → slice_get g.roots p ≡ o → Refers P (value_or_nil o)
+    go : (o : Option Value) → slice_get g.roots p ≡ o → RefersTo P (value_or_nil o)
     go None e = tt
     go (Some v) e = h.roots v (get_in v g.roots p e)
 
-field_refers : (P : ℕ → Type 0) (g : Graph) (v : Value) (i : ℕ) (w : Value) → Closed P g → Refers P v → field_of (object_of g.objects v) i ≡ Some w → Refers P w
+field_refers : (P : ℕ → Type 0) (g : Graph) (v : Value) (i : ℕ) (w : Value) → Closed P g → RefersTo P v → field_of (object_of g.objects v) i ≡ Some w → RefersTo P w
 field_refers P g Nil i w h r e = absurd cc
 field_refers P g (Num n) i w h r e = absurd cc
 field_refers P g (Ref a) i w h r e = go (lookup g.objects a) refl e
   where
-    go : (o : Option Object) → lookup g.objects a ≡ o → field_of o i ≡ Some w → Refers P w
+    go : (o : Option Object) → lookup g.objects a ≡ o → field_of o i ≡ Some w → RefersTo P w
     go None k l = absurd cc
     go (Some o) k l = h.fields a o (lookup_in g.objects a o k) r w (get_in w o.fields i l)
 
-root_closed : (P : ℕ → Type 0) (g : Graph) (d : ℕ) (v : Value) → Closed P g → Refers P v → Closed P (set_root g d v)
-root_closed P g d v h r = record { roots = λ w k. ⊎_elim (λ e. subst (Refers P) e r) (h.roots w) (in_set w g.roots d v k); fields = h.fields }
+root_closed : (P : ℕ → Type 0) (g : Graph) (d : ℕ) (v : Value) → Closed P g → RefersTo P v → Closed P (set_root g d v)
+root_closed P g d v h r = record { roots = λ w k. ⊎_elim (λ e. subst (RefersTo P) e r) (h.roots w) (in_set w g.roots d v k); fields = h.fields }
 
-get_closed : (P : ℕ → Type 0) (g : Graph) (d : ℕ) (target : Option Object) (found : Option Value) → Closed P g → ((v : Value) → found ≡ Some v → Refers P v) → Closed P (get_field g d target found).1
+get_closed : (P : ℕ → Type 0) (g : Graph) (d : ℕ) (target : Option Object) (found : Option Value) → Closed P g → ((v : Value) → found ≡ Some v → RefersTo P v) → Closed P (get_field g d target found).1
 get_closed P g d None found h f = h
 get_closed P g d (Some o) None h f = h
 get_closed P g d (Some o) (Some v) h f = root_closed P g d v h (f v refl)
 
-put_closed : (P : ℕ → Type 0) (g : Graph) (v : Value) (target : Option Object) (found : Option Value) (i : ℕ) (w : Value) → Closed P g → Refers P w → Closed P (put_field g v target found i w).1
+put_closed : (P : ℕ → Type 0) (g : Graph) (v : Value) (target : Option Object) (found : Option Value) (i : ℕ) (w : Value) → Closed P g → RefersTo P w → Closed P (put_field g v target found i w).1
 put_closed P g Nil target found i w h r = h
 put_closed P g (Num n) target found i w h r = h
 put_closed P g (Ref a) None found i w h r = h
@@ -74,16 +68,16 @@ put_closed P g (Ref a) (Some o) (Some before) i w h r = record {
       (λ is.
       let name : e.0.0 ≡ b = ap (λ (z : ℕ × Object). z.0) is in
       let there : In x (written_entry a i w e.0).1.fields = subst (λ (z : ℕ × Object). In x z.1.fields) (sym is) l in
-      ⊎_elim (λ y. subst (Refers P) y r) (h.fields e.0.0 e.0.1 e.1 (subst P (sym name) p) x) (written_in a i w e.0 x there))
+      ⊎_elim (λ y. subst (RefersTo P) y r) (h.fields e.0.0 e.0.1 e.1 (subst P (sym name) p) x) (written_in a i w e.0 x there))
       e.2;
 }
 
 new_closed : (P : ℕ → Type 0) (g : Graph) (d kind len name : ℕ) → Closed P g → P name → Closed P (set_root (add_object g name (record { kind = kind; fields = replicate len Nil })) d (Ref name))
 new_closed P g d kind len name h p = record {
-  roots = λ w k. ⊎_elim (λ e. subst (Refers P) e p) (h.roots w) (in_set w g.roots d (Ref name) k);
+  roots = λ w k. ⊎_elim (λ e. subst (RefersTo P) e p) (h.roots w) (in_set w g.roots d (Ref name) k);
   fields = λ a o k q v l. ⊎_elim
       (λ x. h.fields a o x q v l)
-      (λ x. subst (Refers P) (in_replicate v Nil len (subst (λ (z : ℕ × Object). In v z.1.fields) (sym x) l)) tt)
+      (λ x. subst (RefersTo P) (in_replicate v Nil len (subst (λ (z : ℕ × Object). In v z.1.fields) (sym x) l)) tt)
       (in_push (a, o) (name, record { kind = kind; fields = replicate len Nil }) g.objects k);
 }
 
@@ -115,7 +109,7 @@ place_originals P c next name (Some o) h p e = go (nat_lt (new_free c) (length o
         let same : record c { replicas = c.replicas ++ one ∷ [] } ≡ next = cc e in
         subst (λ (d : Collection). Originals P d.replicas) same (λ r k. ⊎_elim (h r) (λ x. subst (λ (q : Replica). P q.original) x p) (in_push r one c.replicas k))
 
-with_originals : (P : ℕ → Type 0) (c next : Collection) (g : Graph) (v : Value) → Originals P c.replicas → Refers P v → with_replica c g v ≡ Some next → Originals P next.replicas
+with_originals : (P : ℕ → Type 0) (c next : Collection) (g : Graph) (v : Value) → Originals P c.replicas → RefersTo P v → with_replica c g v ≡ Some next → Originals P next.replicas
 with_originals P c next g Nil h p e = let same : c ≡ next = cc e in subst (λ (d : Collection). Originals P d.replicas) same h
 with_originals P c next g (Num n) h p e = let same : c ≡ next = cc e in subst (λ (d : Collection). Originals P d.replicas) same h
 with_originals P c next g (Ref a) h p e = go (is_some (replica_of c a)) e
@@ -130,7 +124,7 @@ with_written_original name i w r = cond_both (r.original == name) _ _ (λ (q : R
 bring_originals : (P : ℕ → Type 0) (c next : Collection) (g : Graph) (name i : ℕ) → Closed P g → Originals P c.replicas → P name → bring_up_to_date c g name i ≡ Some next → Originals P next.replicas
 bring_originals P c next g name i closed h p e = go (field_of (lookup g.objects name) i) refl e
   where
-    copied : (v : Value) (d : Option Collection) → with_replica c g v ≡ d → Refers P v → copy_value d name i v ≡ Some next → Originals P next.replicas
+    copied : (v : Value) (d : Option Collection) → with_replica c g v ≡ d → RefersTo P v → copy_value d name i v ≡ Some next → Originals P next.replicas
     copied v None is r e = absurd cc
     copied v (Some d) is r e =
         let same : write_replica d name i (moved d v) ≡ next = cc e in
@@ -164,7 +158,7 @@ module _ (P : ℕ → Type 0) (end : ℕ) (s : State) where
   open_quiet c (steps.BeginSized size) is h = same_quiet c Busy is refl h
   open_quiet c steps.Roots is h = go (root_target c s.heap.graph) refl
     where
-      name_refers : (v : Value) (name : ℕ) → Refers P v → In name (names_of v) → P name
+      name_refers : (v : Value) (name : ℕ) → RefersTo P v → In name (names_of v) → P name
       name_refers Nil name r k = absurd k
       name_refers (Num n) name r k = absurd k
       name_refers (Ref a) name r (inl e) = subst P e r
@@ -221,15 +215,15 @@ begun_closed s h = record { roots = roots; fields = fields }
     g : Graph
     g = s.heap.graph
 
-    root_kept : (i : ℕ) (v : Value) → slice_get g.roots i ≡ Some v → Refers (IsKept s) v
+    root_kept : (i : ℕ) (v : Value) → slice_get g.roots i ≡ Some v → RefersTo (IsKept s) v
     root_kept i Nil e = tt
     root_kept i (Num n) e = tt
     root_kept i (Ref a) e = inl (i, [], ap (λ o. follow g.objects o []) e)
 
-    roots : (v : Value) → In v g.roots → Refers (IsKept s) v
+    roots : (v : Value) → In v g.roots → RefersTo (IsKept s) v
     roots v k = let i = in_get v g.roots k in root_kept i.0 v i.1
 
-    field_kept : (a : ℕ) (o : Object) → In (a, o) g.objects → Reachable g a → (i : ℕ) (v : Value) → slice_get o.fields i ≡ Some v → Refers (IsKept s) v
+    field_kept : (a : ℕ) (o : Object) → In (a, o) g.objects → Reachable g a → (i : ℕ) (v : Value) → slice_get o.fields i ≡ Some v → RefersTo (IsKept s) v
     field_kept a o k r i Nil e = tt
     field_kept a o k r i (Num n) e = tt
     field_kept a o k r i (Ref b) e =
@@ -243,7 +237,7 @@ begun_closed s h = record { roots = roots; fields = fields }
               ∙ ap (λ x. follow g.objects x []) e)),
         )
 
-    fields : (a : ℕ) (o : Object) → In (a, o) g.objects → IsKept s a → (v : Value) → In v o.fields → Refers (IsKept s) v
+    fields : (a : ℕ) (o : Object) → In (a, o) g.objects → IsKept s a → (v : Value) → In v o.fields → RefersTo (IsKept s) v
     fields a o k (inl r) v l = let i = in_get v o.fields l in field_kept a o k r i.0 v i.1
     fields a o k (inr late) v l = absurd (let range = laid_range 1 g.objects (s.size - s.heap.free) (a, o) (h.heap).laid k in omega arith)
 

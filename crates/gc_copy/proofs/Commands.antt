@@ -1,19 +1,19 @@
 -- A mutator's command keeps the heap, and its objects but for the field that it writes.
-use Rattle.std.proofs.Common.{◌≡◌, ◌⊎◌, inl, inr, ⊎_elim, ℕ, ◌+◌, ◌-◌, ◌<◌, ◌≤◌, List, [], ◌∷◌, ◌++◌, map, length, replicate, Option, Some, None, slice_get, refl, sym, subst, arith, length-set}
+use Rattle.std.proofs.Common.{◌≡◌, ◌⊎◌, inl, inr, ⊎_elim, ℕ, ◌+◌, ◌-◌, ◌<◌, ◌≤◌, List, [], ◌∷◌, ◌++◌, map, length, Option, Some, None, slice_get, refl, sym, subst, arith, length-set}
 use Rattle.std.proofs.lemmas.List.{length-replicate}
 use Rattle.gc_graph.specs.Slots.{place}
-use Rattle.gc_graph.specs.Graph.{Value, Nil, Num, Ref, Object, Graph, lookup, object_of, field_of, root, value_or_nil, set_root, add_object, set_field, names_of}
+use Rattle.gc_graph.specs.Graph.{Value, Nil, Num, Ref, Object, Graph, lookup, object_of, field_of, root, value_or_nil, set_root, add_object, new_object, set_field, names_of}
 use Rattle.gc_graph.specs.Machine.{words_taken, step, get_field, put_field}
 use Rattle.gc_graph.specs.Range.{IsCommand}
 use Rattle.gc_copy.specs.Steps.{written}
 use Rattle.gc_copy.specs.Members.{In}
-use Rattle.gc_copy.specs.Belonging.{IsNamed, IsFine, IsObject, IsSpaceGraph, HasField}
+use Rattle.gc_copy.specs.Belonging.{IsNamed, RefersTo, IsObject, IsSpaceGraph, HasField}
 use Rattle.gc_graph.specs.declared.command.Op.{Op}
 use Rattle.gc_graph.specs.declared.command.Op.TheVariants as ops
 use Rattle.gc_graph.specs.declared.reply.Reply.{Reply}
-use Rattle.gc_graph.specs.declared.reply.Reply.TheVariants.{Full, Made, Done, NoObject, NoField}
+use Rattle.gc_graph.specs.declared.reply.Reply.TheVariants.{Full, Done, NoObject, NoField}
 use Rattle.gc_copy.proofs.Lists.{in_left, in_right, in_push, in_set, in_replicate, get_in, get_past}
-use Rattle.gc_copy.proofs.Heap.{fine_map, laid_push, laid_set, lookup_in, lookup_left, lookup_written, set_from, named_set, written_entry, written_length, written_kind, written_in, written_get}
+use Rattle.gc_copy.proofs.Heap.{refers_map, laid_push, laid_set, lookup_in, lookup_left, lookup_written, set_from, named_set, written_entry, written_length, written_kind, written_in, written_get}
 
 -- an object as it is later, with the fields that may have changed
 pub record Still (objects : List (ℕ × Object)) (Touched : ℕ → Type 0) (a : ℕ) (o : Object) : Type 0 where
@@ -26,71 +26,52 @@ pub record Still (objects : List (ℕ × Object)) (Touched : ℕ → Type 0) (a 
 abbrev pub Evolves : List (ℕ × Object) → List (ℕ × Object) → (ℕ → ℕ → Type 0) → Type 0
 Evolves before later Touched = (a : ℕ) (o : Object) → lookup before a ≡ Some o → Still later (Touched a) a o
 
-pub record Kept (size : ℕ) (g : Graph) (Touched : ℕ → ℕ → Type 0) (free : ℕ) (next : Graph) : Type 0 where
-  pub heap : IsSpaceGraph size free next
-  pub evolves : Evolves g.objects next.objects Touched
-
 pub unchanged : (objects : List (ℕ × Object)) (Touched : ℕ → ℕ → Type 0) → Evolves objects objects Touched
 unchanged objects Touched a o h = record { now = o; found = h; kind = refl; len = refl; fields = λ j w k. inl k }
 
 pub object_more : (before later : List (ℕ × Object)) (o : Object) → ((a : ℕ) → IsNamed before a → IsNamed later a) → IsObject before o → IsObject later o
-object_more before later o more h = record { kind = h.kind; len = h.len; fields = λ v k. fine_map (IsNamed before) (IsNamed later) more v (h.fields v k) }
+object_more before later o more h = record { kind = h.kind; len = h.len; fields = λ v k. refers_map (IsNamed before) (IsNamed later) more v (h.fields v k) }
 
-keeps_same : (size free : ℕ) (g : Graph) (Touched : ℕ → ℕ → Type 0) → IsSpaceGraph size free g → Kept size g Touched free g
-keeps_same size free g Touched h = record { heap = h; evolves = unchanged g.objects Touched }
-
-keeps_root : (size free : ℕ) (g : Graph) (Touched : ℕ → ℕ → Type 0) (d : ℕ) (v : Value) → IsSpaceGraph size free g → IsFine (IsNamed g.objects) v → Kept size g Touched free (set_root g d v)
-keeps_root size free g Touched d v h f = record {
-  heap = record {
-    high = h.high;
-    room = h.room;
-    laid = h.laid;
-    objects = h.objects;
-    roots = λ w k. ⊎_elim (λ e. subst (IsFine (IsNamed g.objects)) e f) (h.roots w) (in_set w g.roots d v k);
-  };
-  evolves = unchanged g.objects Touched;
+keeps_root : (size free : ℕ) (g : Graph) (d : ℕ) (v : Value) → IsSpaceGraph size free g → RefersTo (IsNamed g.objects) v → IsSpaceGraph size free (set_root g d v)
+keeps_root size free g d v h f = record {
+  high = h.high;
+  room = h.room;
+  laid = h.laid;
+  objects = h.objects;
+  roots = λ w k. ⊎_elim (λ e. subst (RefersTo (IsNamed g.objects)) e f) (h.roots w) (in_set w g.roots d v k);
 }
 
-pub root_fine : (size free : ℕ) (g : Graph) (p : ℕ) → IsSpaceGraph size free g → IsFine (IsNamed g.objects) (root g p)
+pub root_fine : (size free : ℕ) (g : Graph) (p : ℕ) → IsSpaceGraph size free g → RefersTo (IsNamed g.objects) (root g p)
 root_fine size free g p h = go (slice_get g.roots p) refl
   where
-    go : (o : Option Value) → slice_get g.roots p ≡ o → IsFine (IsNamed g.objects) (value_or_nil o)
+    go : (o : Option Value) → slice_get g.roots p ≡ o → RefersTo (IsNamed g.objects) (value_or_nil o)
     go None e = tt
     go (Some v) e = h.roots v (get_in v g.roots p e)
 
-pub field_fine : (size free : ℕ) (g : Graph) (v : Value) (i : ℕ) (w : Value) → IsSpaceGraph size free g → field_of (object_of g.objects v) i ≡ Some w → IsFine (IsNamed g.objects) w
+pub field_fine : (size free : ℕ) (g : Graph) (v : Value) (i : ℕ) (w : Value) → IsSpaceGraph size free g → field_of (object_of g.objects v) i ≡ Some w → RefersTo (IsNamed g.objects) w
 field_fine size free g Nil i w h e = absurd cc
 field_fine size free g (Num n) i w h e = absurd cc
 field_fine size free g (Ref a) i w h e = go (lookup g.objects a) refl e
   where
-    go : (o : Option Object) → lookup g.objects a ≡ o → field_of o i ≡ Some w → IsFine (IsNamed g.objects) w
+    go : (o : Option Object) → lookup g.objects a ≡ o → field_of o i ≡ Some w → RefersTo (IsNamed g.objects) w
     go None k l = absurd cc
     go (Some o) k l = (h.objects a o (lookup_in g.objects a o k)).fields w (get_in w o.fields i l)
 
-keeps_get : (size free : ℕ) (g : Graph) (Touched : ℕ → ℕ → Type 0) (d : ℕ) (target : Option Object) (found : Option Value) → IsSpaceGraph size free g → ((v : Value) → found ≡ Some v → IsFine (IsNamed g.objects) v) → Kept size g Touched free (get_field g d target found).1
-keeps_get size free g Touched d None found h f = keeps_same size free g Touched h
-keeps_get size free g Touched d (Some o) None h f = keeps_same size free g Touched h
-keeps_get size free g Touched d (Some o) (Some v) h f = keeps_root size free g Touched d v h (f v refl)
+keeps_get : (size free : ℕ) (g : Graph) (d : ℕ) (target : Option Object) (found : Option Value) → IsSpaceGraph size free g → ((v : Value) → found ≡ Some v → RefersTo (IsNamed g.objects) v) → IsSpaceGraph size free (get_field g d target found).1
+keeps_get size free g d None found h f = h
+keeps_get size free g d (Some o) None h f = h
+keeps_get size free g d (Some o) (Some v) h f = keeps_root size free g d v h (f v refl)
 
-keeps_field : (size free : ℕ) (g : Graph) (Touched : ℕ → ℕ → Type 0) (name i : ℕ) (v : Value) → IsSpaceGraph size free g → IsFine (IsNamed g.objects) v → Touched name i → Kept size g Touched free (record g { objects = set_field g.objects name i v })
-keeps_field size free g Touched name i v h f t = record {
-  heap = record {
-    high = h.high;
-    room = h.room;
-    laid = laid_set name i v 1 g.objects (size - free) h.laid;
-    objects = λ a o k. let r = set_from name i v g.objects (a, o) k in ⊎_elim
-        (λ e. subst (λ (x : ℕ × Object). IsObject later x.1) e (object_more g.objects later r.0.1 more (h.objects r.0.0 r.0.1 r.1)))
-        (λ e. subst (λ (x : ℕ × Object). IsObject later x.1) e (entry r.0 r.1))
-        r.2;
-    roots = λ w k. fine_map (IsNamed g.objects) (IsNamed later) more w (h.roots w k);
-  };
-  evolves = λ a o k. record {
-    now = (written_entry name i v (a, o)).1;
-    found = lookup_written name i v g.objects a o k;
-    kind = written_kind name i v (a, o);
-    len = written_length name i v (a, o);
-    fields = λ j w l. ⊎_elim (λ x. inl x) (λ y. inr (subst (λ n. Touched n j) (sym y.0) (subst (Touched name) (sym y.1) t))) (written_get name i v (a, o) j w l);
-  };
+keeps_field : (size free : ℕ) (g : Graph) (name i : ℕ) (v : Value) → IsSpaceGraph size free g → RefersTo (IsNamed g.objects) v → IsSpaceGraph size free (record g { objects = set_field g.objects name i v })
+keeps_field size free g name i v h f = record {
+  high = h.high;
+  room = h.room;
+  laid = laid_set name i v 1 g.objects (size - free) h.laid;
+  objects = λ a o k. let r = set_from name i v g.objects (a, o) k in ⊎_elim
+      (λ e. subst (λ (x : ℕ × Object). IsObject later x.1) e (object_more g.objects later r.0.1 more (h.objects r.0.0 r.0.1 r.1)))
+      (λ e. subst (λ (x : ℕ × Object). IsObject later x.1) e (entry r.0 r.1))
+      r.2;
+  roots = λ w k. refers_map (IsNamed g.objects) (IsNamed later) more w (h.roots w k);
 }
   where
     later : List (ℕ × Object)
@@ -103,37 +84,34 @@ keeps_field size free g Touched name i v h f t = record {
     entry e k = let ok = h.objects e.0 e.1 k in record {
       kind = subst (λ n. n < 256) (sym (written_kind name i v e)) ok.kind;
       len = subst (λ n. n < 65536) (sym (written_length name i v e)) ok.len;
-      fields = λ w l. fine_map (IsNamed g.objects) (IsNamed later) more w (⊎_elim (λ x. subst (IsFine (IsNamed g.objects)) x f) (ok.fields w) (written_in name i v e w l));
+      fields = λ w l. refers_map (IsNamed g.objects) (IsNamed later) more w (⊎_elim (λ x. subst (RefersTo (IsNamed g.objects)) x f) (ok.fields w) (written_in name i v e w l));
     }
 
-keeps_put : (size free : ℕ) (g : Graph) (Touched : Reply → ℕ → ℕ → Type 0) (v : Value) (target : Option Object) (found : Option Value) (i : ℕ) (w : Value) → IsSpaceGraph size free g → IsFine (IsNamed g.objects) w → ((name : ℕ) → v ≡ Ref name → Touched Done name i) → Kept size g (Touched (put_field g v target found i w).0) free (put_field g v target found i w).1
-keeps_put size free g Touched Nil target found i w h f t = keeps_same size free g (Touched NoObject) h
-keeps_put size free g Touched (Num n) target found i w h f t = keeps_same size free g (Touched NoObject) h
-keeps_put size free g Touched (Ref a) None found i w h f t = keeps_same size free g (Touched NoObject) h
-keeps_put size free g Touched (Ref a) (Some o) None i w h f t = keeps_same size free g (Touched NoField) h
-keeps_put size free g Touched (Ref a) (Some o) (Some before) i w h f t = keeps_field size free g (Touched Done) a i w h f (t a refl)
+keeps_put : (size free : ℕ) (g : Graph) (v : Value) (target : Option Object) (found : Option Value) (i : ℕ) (w : Value) → IsSpaceGraph size free g → RefersTo (IsNamed g.objects) w → IsSpaceGraph size free (put_field g v target found i w).1
+keeps_put size free g Nil target found i w h f = h
+keeps_put size free g (Num n) target found i w h f = h
+keeps_put size free g (Ref a) None found i w h f = h
+keeps_put size free g (Ref a) (Some o) None i w h f = h
+keeps_put size free g (Ref a) (Some o) (Some before) i w h f = keeps_field size free g a i w h f
 
-keeps_new : (size free : ℕ) (g : Graph) (Touched : ℕ → ℕ → Type 0) (d kind len name : ℕ) → IsSpaceGraph size free g → kind < 256 → len < 65536 → len + 2 ≤ free → name ≡ size - free
-    → Kept size g Touched (free - (len + 2)) (set_root (add_object g name (record { kind = kind; fields = replicate len Nil })) d (Ref name))
-keeps_new size free g Touched d kind len name h k l fits is = record {
-  heap = record {
-    high = h.high;
-    room = let r = h.room in omega arith;
-    laid = laid_push 1 g.objects (size - free) (name, object) (size - (free - (len + 2))) h.laid is (let r = h.room in omega (arith, length-replicate len Nil));
-    objects = λ a o x. ⊎_elim
-        (λ y. object_more g.objects (g.objects ++ (name, object) ∷ []) o more (h.objects a o y))
-        (λ y. subst (λ (e : ℕ × Object). IsObject (g.objects ++ (name, object) ∷ []) e.1) y fresh)
-        (in_push (a, o) (name, object) g.objects x);
-    roots = λ w x. ⊎_elim
-        (λ e. subst (IsFine (IsNamed (g.objects ++ (name, object) ∷ []))) e (object, in_right (name, object) g.objects ((name, object) ∷ []) (inl refl)))
-        (λ y. fine_map (IsNamed g.objects) (IsNamed (g.objects ++ (name, object) ∷ [])) more w (h.roots w y))
-        (in_set w g.roots d (Ref name) x);
-  };
-  evolves = λ a o x. record { now = o; found = lookup_left g.objects ((name, object) ∷ []) a o x; kind = refl; len = refl; fields = λ j w y. inl y };
+keeps_new : (size free : ℕ) (g : Graph) (d kind len name : ℕ) → IsSpaceGraph size free g → kind < 256 → len < 65536 → len + 2 ≤ free → name ≡ size - free
+    → IsSpaceGraph size (free - (len + 2)) (set_root (add_object g name (new_object kind len)) d (Ref name))
+keeps_new size free g d kind len name h k l fits is = record {
+  high = h.high;
+  room = let r = h.room in omega arith;
+  laid = laid_push 1 g.objects (size - free) (name, object) (size - (free - (len + 2))) h.laid is (let r = h.room in omega (arith, length-replicate len Nil));
+  objects = λ a o x. ⊎_elim
+      (λ y. object_more g.objects (g.objects ++ (name, object) ∷ []) o more (h.objects a o y))
+      (λ y. subst (λ (e : ℕ × Object). IsObject (g.objects ++ (name, object) ∷ []) e.1) y fresh)
+      (in_push (a, o) (name, object) g.objects x);
+  roots = λ w x. ⊎_elim
+      (λ e. subst (RefersTo (IsNamed (g.objects ++ (name, object) ∷ []))) e (object, in_right (name, object) g.objects ((name, object) ∷ []) (inl refl)))
+      (λ y. refers_map (IsNamed g.objects) (IsNamed (g.objects ++ (name, object) ∷ [])) more w (h.roots w y))
+      (in_set w g.roots d (Ref name) x);
 }
   where
     object : Object
-    object = record { kind = kind; fields = replicate len Nil }
+    object = new_object kind len
 
     more : (a : ℕ) → IsNamed g.objects a → IsNamed (g.objects ++ (name, object) ∷ []) a
     more a n = (n.0, in_left (a, n.0) g.objects ((name, object) ∷ []) n.1)
@@ -142,28 +120,64 @@ keeps_new size free g Touched d kind len name h k l fits is = record {
     fresh = record {
       kind = k;
       len = subst (λ n. n < 65536) (sym (length-replicate len Nil)) l;
-      fields = λ v x. subst (IsFine (IsNamed (g.objects ++ (name, object) ∷ []))) (in_replicate v Nil len x) tt;
+      fields = λ v x. subst (RefersTo (IsNamed (g.objects ++ (name, object) ∷ []))) (in_replicate v Nil len x) tt;
     }
 
-at_free : (size free : ℕ) (g : Graph) (Touched : ℕ → ℕ → Type 0) (next : Graph) → Kept size g Touched free next → Kept size g Touched (free - 0) next
-at_free size free g Touched next k = let e : free ≡ free - 0 = omega arith in subst (λ f. Kept size g Touched f next) e k
+-- no words are taken
+at_free : (size free : ℕ) (next : Graph) → IsSpaceGraph size free next → IsSpaceGraph size (free - 0) next
+at_free size free next k = let e : free ≡ free - 0 = omega arith in subst (λ f. IsSpaceGraph size f next) e k
+
+-- a command that has room keeps the heap
+pub step_keeps : (size free : ℕ) (g : Graph) (m : ℕ) (op : Op) (name : ℕ) → IsSpaceGraph size free g → IsCommand op → words_taken op ≤ free → name ≡ size - free
+    → IsSpaceGraph size (free - words_taken op) (step g m op name).1
+step_keeps size free g m (ops.New d kind len) name h r fits is = keeps_new size free g (place d m) kind len name h r.1 r.2 fits is
+step_keeps size free g m (ops.Num d n) name h r fits is = at_free size free _ (keeps_root size free g (place d m) (Num n) h tt)
+step_keeps size free g m (ops.Nil d) name h r fits is = at_free size free _ (keeps_root size free g (place d m) Nil h tt)
+step_keeps size free g m (ops.Move d s) name h r fits is = at_free size free _ (keeps_root size free g (place d m) (root g (place s m)) h (root_fine size free g (place s m) h))
+step_keeps size free g m (ops.Get d s i) name h r fits is =
+    at_free size free _ (keeps_get size free g (place d m) (object_of g.objects (root g (place s m))) (field_of (object_of g.objects (root g (place s m))) i) h (λ v e. field_fine size free g (root g (place s m)) i v h e))
+step_keeps size free g m (ops.Put s i t) name h r fits is =
+    at_free size free _ (keeps_put size free g (root g (place s m)) (object_of g.objects (root g (place s m))) (field_of (object_of g.objects (root g (place s m))) i) i (root g (place t m)) h (root_fine size free g (place t m) h))
+step_keeps size free g m (ops.Same s t) name h r fits is = at_free size free _ h
+step_keeps size free g m (ops.Look s) name h r fits is = at_free size free _ h
+
+-- ---- objects stay but for the field that a command writes
 
 abbrev pub WrittenBy : Graph → ℕ → Op → Reply → ℕ → ℕ → Type 0
 WrittenBy g m op reply a j = In (a, j) (written g m op reply)
 
-pub step_keeps : (size free : ℕ) (g : Graph) (m : ℕ) (op : Op) (name : ℕ) → IsSpaceGraph size free g → IsCommand op → words_taken op ≤ free → name ≡ size - free
-    → Kept size g (WrittenBy g m op (step g m op name).0) (free - words_taken op) (step g m op name).1
-step_keeps size free g m (ops.New d kind len) name h r fits is = keeps_new size free g (WrittenBy g m (ops.New d kind len) Made) (place d m) kind len name h r.1 r.2 fits is
-step_keeps size free g m (ops.Num d n) name h r fits is = at_free size free g _ _ (keeps_root size free g (WrittenBy g m (ops.Num d n) Done) (place d m) (Num n) h r.1)
-step_keeps size free g m (ops.Nil d) name h r fits is = at_free size free g _ _ (keeps_root size free g (WrittenBy g m (ops.Nil d) Done) (place d m) Nil h tt)
-step_keeps size free g m (ops.Move d s) name h r fits is = at_free size free g _ _ (keeps_root size free g (WrittenBy g m (ops.Move d s) Done) (place d m) (root g (place s m)) h (root_fine size free g (place s m) h))
-step_keeps size free g m (ops.Get d s i) name h r fits is =
-    at_free size free g _ _ (keeps_get size free g (WrittenBy g m (ops.Get d s i) (step g m (ops.Get d s i) name).0) (place d m) (object_of g.objects (root g (place s m))) (field_of (object_of g.objects (root g (place s m))) i) h (λ v e. field_fine size free g (root g (place s m)) i v h e))
-step_keeps size free g m (ops.Put s i t) name h r fits is =
-    at_free size free g _ _ (keeps_put size free g (WrittenBy g m (ops.Put s i t)) (root g (place s m)) (object_of g.objects (root g (place s m))) (field_of (object_of g.objects (root g (place s m))) i) i (root g (place t m)) h (root_fine size free g (place t m) h)
-    (λ n e. subst (λ (v : Value). In {X = ℕ × ℕ} (n, i) (map (λ k. (k, i)) (names_of v))) (sym e) (inl refl)))
-step_keeps size free g m (ops.Same s t) name h r fits is = at_free size free g _ _ (keeps_same size free g (WrittenBy g m (ops.Same s t) (step g m (ops.Same s t) name).0) h)
-step_keeps size free g m (ops.Look s) name h r fits is = at_free size free g _ _ (keeps_same size free g (WrittenBy g m (ops.Look s) (step g m (ops.Look s) name).0) h)
+get_evolves : (g : Graph) (Touched : Reply → ℕ → ℕ → Type 0) (d : ℕ) (target : Option Object) (found : Option Value) → Evolves g.objects (get_field g d target found).1.objects (Touched (get_field g d target found).0)
+get_evolves g Touched d None found = unchanged g.objects (Touched NoObject)
+get_evolves g Touched d (Some o) None = unchanged g.objects (Touched NoField)
+get_evolves g Touched d (Some o) (Some v) = unchanged g.objects (Touched _)
+
+set_evolves : (objects : List (ℕ × Object)) (Touched : ℕ → ℕ → Type 0) (name i : ℕ) (v : Value) → Touched name i → Evolves objects (set_field objects name i v) Touched
+set_evolves objects Touched name i v t a o k = record {
+  now = (written_entry name i v (a, o)).1;
+  found = lookup_written name i v objects a o k;
+  kind = written_kind name i v (a, o);
+  len = written_length name i v (a, o);
+  fields = λ j w l. ⊎_elim (λ x. inl x) (λ y. inr (subst (λ n. Touched n j) (sym y.0) (subst (Touched name) (sym y.1) t))) (written_get name i v (a, o) j w l);
+}
+
+put_evolves : (g : Graph) (Touched : Reply → ℕ → ℕ → Type 0) (v : Value) (target : Option Object) (found : Option Value) (i : ℕ) (w : Value) → ((name : ℕ) → v ≡ Ref name → Touched Done name i) → Evolves g.objects (put_field g v target found i w).1.objects (Touched (put_field g v target found i w).0)
+put_evolves g Touched Nil target found i w t = unchanged g.objects (Touched NoObject)
+put_evolves g Touched (Num n) target found i w t = unchanged g.objects (Touched NoObject)
+put_evolves g Touched (Ref a) None found i w t = unchanged g.objects (Touched NoObject)
+put_evolves g Touched (Ref a) (Some o) None i w t = unchanged g.objects (Touched NoField)
+put_evolves g Touched (Ref a) (Some o) (Some before) i w t = set_evolves g.objects (Touched Done) a i w (t a refl)
+
+-- whatever the name of a new object
+pub step_evolves : (g : Graph) (m : ℕ) (op : Op) (name : ℕ) → Evolves g.objects (step g m op name).1.objects (WrittenBy g m op (step g m op name).0)
+step_evolves g m (ops.New d kind len) name = λ a o x. record { now = o; found = lookup_left g.objects ((name, new_object kind len) ∷ []) a o x; kind = refl; len = refl; fields = λ j w y. inl y }
+step_evolves g m (ops.Num d n) name = unchanged g.objects _
+step_evolves g m (ops.Nil d) name = unchanged g.objects _
+step_evolves g m (ops.Move d s) name = unchanged g.objects _
+step_evolves g m (ops.Get d s i) name = get_evolves g (WrittenBy g m (ops.Get d s i)) (place d m) _ _
+step_evolves g m (ops.Put s i t) name = put_evolves g (WrittenBy g m (ops.Put s i t)) (root g (place s m)) _ _ i (root g (place t m))
+    (λ n e. subst (λ (v : Value). In {X = ℕ × ℕ} (n, i) (map (λ k. (k, i)) (names_of v))) (sym e) (inl refl))
+step_evolves g m (ops.Same s t) name = unchanged g.objects _
+step_evolves g m (ops.Look s) name = unchanged g.objects _
 
 -- ---- the field that a command writes is there
 

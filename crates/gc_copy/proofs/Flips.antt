@@ -12,24 +12,27 @@ use Rattle.gc_copy.specs.Linked.{object_block, object_header, field_word, image_
 use Rattle.gc_copy.specs.State.{Replica, Collection, State, new_free, pairs_of, moved, new_graph, replica_at}
 use Rattle.gc_copy.specs.Steps.{log_at, scan_done, is_ready, flipped, passes_check, flip, if_room, copy_root, root_target, scan_replica, apply_log, collect_with, collect}
 use Rattle.gc_copy.specs.Members.{In, Distinct}
-use Rattle.gc_copy.specs.Belonging.{Laid, IsNamed, IsFine, IsSpaceGraph, Belongs, IsOpen, IsOpened, IsState}
+use Rattle.gc_copy.specs.Belonging.{Laid, IsNamed, RefersTo, IsSpaceGraph, Belongs, IsOpen, IsOpened, IsState}
 use Rattle.gc_copy.specs.declared.step.Step.{Step}
 use Rattle.gc_copy.specs.declared.step.Step.TheVariants as steps
 use Rattle.gc_copy.specs.declared.step.StepReply.{StepReply}
 use Rattle.gc_copy.specs.declared.step.StepReply.TheVariants.{Copied, Scanned, Applied, Refused, Flipped}
 use Rattle.gc_copy.proofs.Lists.{in_map, in_map_from, get_in, all_from_in}
-use Rattle.gc_copy.proofs.Heap.{fine_map, laid_range, lookup_in, lookup_laid}
-use Rattle.gc_copy.proofs.Replicas.{pair, placed, end_of, IsPlace, corresponds_fine, moved_corresponds}
-use Rattle.gc_copy.proofs.Steps.{IsReady, roots_replicated, place_named, ready_parts, none_due, replica_fine, new_heap}
-use Rattle.gc_copy.proofs.Images.{IsAddress, read_back_fine, image_shaped, block_is, named_address}
+use Rattle.gc_copy.proofs.Heap.{refers_map, laid_range, lookup_in, lookup_laid}
+use Rattle.gc_copy.proofs.Replicas.{pair, placed, end_of, IsPlace, refers_corresponding, moved_corresponds}
+use Rattle.gc_copy.proofs.Steps.{IsReady, roots_replicated, place_named, ready_parts, none_due, replica_refers, new_heap}
+use Rattle.gc_copy.proofs.Images.{graph_back, IsAddress, read_back, image_shaped, block_is, named_address}
+use Rattle.gc_words.specs.Image.{graph_of}
+use Rattle.gc_graph.specs.Correspond.{Corresponding}
+use Rattle.gc_words.proofs.Certified.{corresponding}
 use Rattle.gc_words.proofs.Faults.{no_fault_of_certified}
 use Rattle.gc_words.specs.Spelling.{no_links}
 
 -- ---- words of values that correspond
 
-pub words_of_corresponding : (pairs : List (ℕ × ℕ)) (v w : Value) → IsFine IsAddress v → IsFine IsAddress w → correspond pairs v w ≡ true → words_correspond pairs (word_of v) (word_of w) ≡ true
+pub words_of_corresponding : (pairs : List (ℕ × ℕ)) (v w : Value) → RefersTo IsAddress v → RefersTo IsAddress w → correspond pairs v w ≡ true → words_correspond pairs (word_of v) (word_of w) ≡ true
 words_of_corresponding pairs v w f g h =
-    ap (λ o. read_correspond pairs o (read_value (word_of w))) (read_back_fine v f) ∙ (ap (read_correspond pairs (Some v)) (read_back_fine w g) ∙ h)
+    ap (λ o. read_correspond pairs o (read_value (word_of w))) (read_back v f) ∙ (ap (read_correspond pairs (Some v)) (read_back w g) ∙ h)
 
 fields_zip : (pairs : List (ℕ × ℕ)) (f : Value → ℕ) (g : Value → ℕ) (vs ws : List Value) → length vs ≡ length ws
     → ((i : ℕ) (v w : Value) → slice_get vs i ≡ Some v → slice_get ws i ≡ Some w → words_correspond pairs (f v) (g w) ≡ true)
@@ -83,7 +86,7 @@ certified links links' size free g c h k same ready = record {
   roots = roots_zip pairs (moved c) g.roots (λ v l.
       let f = h.roots v l in
       let e = moved_corresponds c v (roots_replicated c g ready.roots v l) in
-      words_of_corresponding pairs v (moved c v) (fine_map (IsNamed g.objects) IsAddress old_address v f) (fine_map (IsPlace pairs) IsAddress new_address (moved c v) (corresponds_fine (IsNamed g.objects) pairs v (moved c v) f e)) e);
+      words_of_corresponding pairs v (moved c v) (refers_map (IsNamed g.objects) IsAddress old_address v f) (refers_map (IsPlace pairs) IsAddress new_address (moved c v) (refers_corresponding (IsNamed g.objects) pairs v (moved c v) f e)) e);
 }
   where
     new : Graph
@@ -110,12 +113,19 @@ certified links links' size free g c h k same ready = record {
         let new_block = block_is links' c.size (new_free c) new r.place r.object new_ok there in
         let zip = fields_zip pairs (field_word (object_header ok.original)) (field_word (object_header r.object)) ok.original.fields r.object.fields (sym ok.len) (λ i v w x y.
         words_of_corresponding pairs v w
-        (fine_map (IsNamed g.objects) IsAddress old_address v (was.fields v (get_in v ok.original.fields i x)))
-        (fine_map (IsPlace pairs) IsAddress new_address w (replica_fine size free g c h k ready r l w (get_in w r.object.fields i y)))
+        (refers_map (IsNamed g.objects) IsAddress old_address v (was.fields v (get_in v ok.original.fields i x)))
+        (refers_map (IsPlace pairs) IsAddress new_address w (replica_refers size free g c h k ready r l w (get_in w r.object.fields i y)))
         (⊎_elim (λ d. absurd (none_due g.objects g c r i k ready l d)) (λ e. e) (ok.current i v w x y))) in
         subst (λ b. BlocksCorrespond pairs b (block_at (linked_image links' c.size new).words r.place)) (sym old_block)
         (subst (BlocksCorrespond pairs (Some (object_block ok.original))) (sym new_block)
         ((λ i. record { kind = sym ok.kind i; len = sym ok.len i }), zip))
+
+-- so the graphs of both spaces correspond
+pub corresponding_graphs : (size free : ℕ) (g : Graph) (c : Collection) → IsSpaceGraph size free g → Belongs g.objects c → c.size ≤ 1048576 → IsReady g c → Corresponding (pairs_of c) g (new_graph c g.roots)
+corresponding_graphs size free g c h k same ready =
+    let both = corresponding (linked_image no_links size g) (linked_image no_links c.size (new_graph c g.roots)) (pairs_of c) (certified no_links no_links size free g c h k same ready) in
+    subst (λ x. Corresponding (pairs_of c) x (new_graph c g.roots)) (graph_back no_links size free g h)
+    (subst (Corresponding (pairs_of c) (graph_of (linked_image no_links size g))) (graph_back no_links c.size (new_free c) (new_graph c g.roots) (new_heap size free g c h k same ready)) both)
 
 pub passes : (s : State) (c : Collection) → IsState s → IsOpened s c → is_ready c s.heap.graph ≡ true → passes_check s c ≡ true
 passes s c h k ready = ap is_none (no_fault_of_certified (image_of_graph s.size s.heap.graph) (image_of_graph c.size (new_graph c s.heap.graph.roots)) (pairs_of c) (certified no_links no_links s.size s.heap.free s.heap.graph c h.heap k.belongs k.size (ready_parts c s.heap.graph ready)))

@@ -4,13 +4,13 @@ use Rattle.std.proofs.lemmas.Bool.{cases_Bool, cond-true, cond-false, eqb-true, 
 use Rattle.gc_graph.specs.Graph.{Value, Nil, Num, Ref, Object, lookup, with_field, set_field}
 use Rattle.gc_copy.specs.State.{objects_end}
 use Rattle.gc_copy.specs.Members.{In}
-use Rattle.gc_copy.specs.Belonging.{Laid, IsNamed, IsFine}
+use Rattle.gc_copy.specs.Belonging.{Laid, IsNamed, RefersTo}
 use Rattle.gc_copy.proofs.Lists.{get_set, in_set}
 
-pub fine_map : (P Q : ℕ → Type 0) → ((a : ℕ) → P a → Q a) → (v : Value) → IsFine P v → IsFine Q v
-fine_map P Q f Nil h = tt
-fine_map P Q f (Num n) h = h
-fine_map P Q f (Ref a) h = f a h
+pub refers_map : (P Q : ℕ → Type 0) → ((a : ℕ) → P a → Q a) → (v : Value) → RefersTo P v → RefersTo Q v
+refers_map P Q f Nil h = tt
+refers_map P Q f (Num n) h = h
+refers_map P Q f (Ref a) h = f a h
 
 -- ---- layout
 

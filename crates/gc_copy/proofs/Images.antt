@@ -11,8 +11,8 @@ use Rattle.gc_words.proofs.Graphs.{value_read_back, meaning_back}
 use Rattle.gc_words.proofs.Spelled.{walk_spelled}
 use Rattle.gc_copy.specs.Linked.{object_header, field_word, object_block, block_entry, linked_space, linked_image}
 use Rattle.gc_copy.specs.Members.{In}
-use Rattle.gc_copy.specs.Belonging.{Laid, IsNamed, IsFine, IsSpaceGraph}
-use Rattle.gc_copy.proofs.Heap.{fine_map, laid_range}
+use Rattle.gc_copy.specs.Belonging.{Laid, IsNamed, RefersTo, IsSpaceGraph}
+use Rattle.gc_copy.proofs.Heap.{refers_map, laid_range}
 
 -- ---- words
 
@@ -20,16 +20,16 @@ use Rattle.gc_copy.proofs.Heap.{fine_map, laid_range}
 abbrev pub IsAddress : ℕ → Type 0
 IsAddress a = (1 ≤ a) × (a < 1048576)
 
-fine_address : (v : Value) → IsFine IsAddress v → HasAddress v
-fine_address Nil h = tt
-fine_address (Num n) h = tt
-fine_address (Ref a) h = h
+has_address : (v : Value) → RefersTo IsAddress v → HasAddress v
+has_address Nil h = tt
+has_address (Num n) h = tt
+has_address (Ref a) h = h
 
-value_back : (v : Value) → IsFine IsAddress v → value_of (word_of v) ≡ v
-value_back v h = (meaning_back v (fine_address v h)).1
+value_back : (v : Value) → RefersTo IsAddress v → value_of (word_of v) ≡ v
+value_back v h = (meaning_back v (has_address v h)).1
 
-pub read_back_fine : (v : Value) → IsFine IsAddress v → read_value (word_of v) ≡ Some v
-read_back_fine v h = value_read_back v (fine_address v h)
+pub read_back : (v : Value) → RefersTo IsAddress v → read_value (word_of v) ≡ Some v
+read_back v h = value_read_back v (has_address v h)
 
 -- ---- the walk
 
@@ -89,17 +89,17 @@ named_address size free g a h n =
 
 -- ---- the graph of the image
 
-values_back : (h : Header) (P : ℕ → Type 0) (vs : List Value) → ((a : ℕ) → P a → IsAddress a) → ((v : Value) → In v vs → IsFine P v) → map (field_value h) (map (field_word h) vs) ≡ vs
+values_back : (h : Header) (P : ℕ → Type 0) (vs : List Value) → ((a : ℕ) → P a → IsAddress a) → ((v : Value) → In v vs → RefersTo P v) → map (field_value h) (map (field_word h) vs) ≡ vs
 values_back h P [] f ok = refl
 values_back h P (v ∷ vs) f ok =
-    let e : value_of (word_of v) ≡ v = value_back v (fine_map P IsAddress f v (ok v (inl refl))) in
+    let e : value_of (word_of v) ≡ v = value_back v (refers_map P IsAddress f v (ok v (inl refl))) in
     let r = values_back h P vs f (λ w k. ok w (inr k)) in
     λ i. e i ∷ r i
 
-roots_back : (P : ℕ → Type 0) (vs : List Value) → ((a : ℕ) → P a → IsAddress a) → ((v : Value) → In v vs → IsFine P v) → map value_of (map word_of vs) ≡ vs
+roots_back : (P : ℕ → Type 0) (vs : List Value) → ((a : ℕ) → P a → IsAddress a) → ((v : Value) → In v vs → RefersTo P v) → map value_of (map word_of vs) ≡ vs
 roots_back P [] f ok = refl
 roots_back P (v ∷ vs) f ok =
-    let e : value_of (word_of v) ≡ v = value_back v (fine_map P IsAddress f v (ok v (inl refl))) in
+    let e : value_of (word_of v) ≡ v = value_back v (refers_map P IsAddress f v (ok v (inl refl))) in
     let r = roots_back P vs f (λ w k. ok w (inr k)) in
     λ i. e i ∷ r i
 

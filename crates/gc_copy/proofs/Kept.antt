@@ -11,18 +11,19 @@ use Rattle.gc_copy.specs.Linked.{linked_image}
 use Rattle.gc_copy.specs.Passing.{HasImage, PassesWhereReady, NeverRefused, ScansToTheEnd, HasFewPairs}
 use Rattle.gc_copy.specs.Runs.{InEveryRun, state_after}
 use Rattle.gc_copy.specs.State.{opening_state, Replica, Collection, State, new_end, replica_at}
-use Rattle.gc_copy.specs.Steps.{written, log_at, with_log, bring_up_to_date, next_field, if_room, scan_done, scan, scan_replica, collect_with}
+use Rattle.gc_copy.specs.Steps.{collect, written, log_at, with_log, bring_up_to_date, next_field, if_room, scan_done, scan, scan_replica, collect_with}
 use Rattle.gc_copy.specs.Members.{In}
 use Rattle.gc_copy.specs.Belonging.{Laid, IsSpaceGraph, HasField, Belongs, BelongsBut, IsDue, IsOpen, IsOpened, IsState}
 use Rattle.gc_graph.specs.declared.command.Op.{Op}
 use Rattle.gc_graph.specs.declared.reply.Reply.{Reply}
 use Rattle.gc_graph.specs.declared.reply.Reply.TheVariants.{Full}
+use Rattle.gc_copy.specs.declared.step.Step.{Step}
 use Rattle.gc_copy.specs.declared.step.Step.TheVariants as steps
 use Rattle.gc_copy.specs.declared.step.StepReply.{StepReply}
 use Rattle.gc_copy.specs.declared.step.StepReply.TheVariants.{Clean, Scanned}
-use Rattle.gc_copy.proofs.Commands.{unchanged, step_keeps}
+use Rattle.gc_copy.proofs.Commands.{unchanged, step_keeps, step_evolves}
 use Rattle.gc_copy.proofs.Replicas.{pair, placed, end_of, replicas_due}
-use Rattle.gc_copy.proofs.Steps.{ready_parts, its_replicas, belongs_from, belongs_but, belongs_noted}
+use Rattle.gc_copy.proofs.Steps.{open_keeps, ready_parts, its_replicas, belongs_from, belongs_but, belongs_noted}
 use Rattle.gc_copy.proofs.Links.{found_by_place}
 use Rattle.gc_copy.proofs.Runs.{run_ok}
 use Rattle.gc_copy.proofs.Images.{image_shaped, end_is, graph_back}
@@ -98,16 +99,14 @@ pub heap_kept : (size : ℕ) (h : Roomy) (m : ℕ) (op : Op) → IsSpaceGraph si
 heap_kept size h m op heap range =
     cond_both (nat_lt h.free (words_taken op)) _ _ (λ (next : Reply × Roomy). IsSpaceGraph size next.1.free next.1.graph)
     (λ full. heap)
-    (λ fits. (step_keeps size h.free h.graph m op (size - h.free) heap range (ltb-false h.free (words_taken op) fits) refl).heap)
+    (λ fits. step_keeps size h.free h.graph m op (size - h.free) heap range (ltb-false h.free (words_taken op) fits) refl)
 
-pub command_kept : (size : ℕ) (h : Roomy) (c : Collection) (m : ℕ) (op : Op) → IsSpaceGraph size h.free h.graph → Belongs h.graph.objects c → IsCommand op
-    → (let next = roomy_step h m op (size - h.free) in BelongsBut (λ a i. In (a, i) (written h.graph m op next.0)) next.1.graph.objects c)
-command_kept size h c m op heap belongs range =
+pub command_kept : (h : Roomy) (c : Collection) (m : ℕ) (op : Op) (name : ℕ) → Belongs h.graph.objects c
+    → (let next = roomy_step h m op name in BelongsBut (λ a i. In (a, i) (written h.graph m op next.0)) next.1.graph.objects c)
+command_kept h c m op name belongs =
     cond_both (nat_lt h.free (words_taken op)) _ _ (λ (next : Reply × Roomy). BelongsBut (λ a i. In (a, i) (written h.graph m op next.0)) next.1.graph.objects c)
     (λ full. belongs_but h.graph.objects h.graph.objects c (λ a i. In (a, i) (written h.graph m op Full)) belongs (unchanged h.graph.objects _))
-    (λ fits.
-    let kept = step_keeps size h.free h.graph m op (size - h.free) heap range (ltb-false h.free (words_taken op) fits) refl in
-    belongs_but h.graph.objects (step h.graph m op (size - h.free)).1.objects c (λ a i. In (a, i) (written h.graph m op (step h.graph m op (size - h.free)).0)) belongs kept.evolves)
+    (λ fits. belongs_but h.graph.objects (step h.graph m op name).1.objects c (λ a i. In (a, i) (written h.graph m op (step h.graph m op name).0)) belongs (step_evolves h.graph m op name))
 
 pub notes : (objects : List (ℕ × Object)) (c : Collection) (m a i : ℕ) → m < length c.logs → HasField objects a i → BelongsBut (λ b j. (b ≡ a) × (j ≡ i)) objects c
     → Belongs objects (with_log c m (log_at c m ++ (a, i) ∷ []))
@@ -119,3 +118,8 @@ notes objects c m a i within there h =
     (λ r l j x d. ⊎_elim (λ y. inl y) (λ y. inr (inl (λ n. (sym y.0 n, sym y.1 n)))) d))
     h.scan h.entries)
     (λ b j x. ⊎_elim (λ e. subst (λ (p : ℕ × ℕ). HasField objects p.0 p.1) e there) (λ y. absurd y) x)
+
+-- ---- the steps of an open collection
+
+pub step_kept : (s : State) (c : Collection) (step : Step) → s.collection ≡ Some c → IsOpened s c → step ≢ steps.Flip → IsOpen s (collect s step).1.collection
+step_kept s c step is k n = subst (λ o. IsOpen s (collect_with s o step).1.collection) (sym is) (open_keeps s c step is k n)

@@ -1,6 +1,7 @@
 pub mod Lists
 pub mod Heap
 pub mod Commands
+pub mod Numbers
 pub mod Replicas
 pub mod Steps
 pub mod Runs
@@ -10,3 +11,5 @@ pub mod Room
 pub mod Carried
 pub mod Links
 pub mod Kept
+pub mod Words
+pub mod Unused

@@ -1,5 +1,5 @@
 -- The replicas of an open collection, and which of their fields are up to date.
-use Rattle.std.proofs.Common.{◌≡◌, ◌⊎◌, inl, inr, ⊎_elim, ℕ, ◌+◌, ◌<◌, ◌^◌, ◌≤◌, ◌==◌, true, ◌&&◌, List, [], ◌∷◌, ◌++◌, map, length, Some, slice_get, refl, ap, sym, ◌∙◌, subst, arith, length-set}
+use Rattle.std.proofs.Common.{◌≡◌, ◌⊎◌, inl, inr, ⊎_elim, ℕ, ◌+◌, ◌<◌, ◌≤◌, ◌==◌, true, ◌&&◌, List, [], ◌∷◌, ◌++◌, map, length, Some, slice_get, refl, ap, sym, ◌∙◌, subst, arith, length-set}
 use Rattle.std.proofs.lemmas.Bool.{cases_Bool, cond-true, cond-false, eqb-true, eqb-false, eq-eqb, and_from, and_parts, or_cases, or_left, or_right}
 use Rattle.std.proofs.lemmas.List.{length-replicate, map-append}
 use Rattle.gc_graph.specs.Graph.{Value, Nil, Num, Ref, Object, lookup, with_field}
@@ -7,7 +7,7 @@ use Rattle.gc_graph.specs.Correspond.{paired, correspond}
 use Rattle.gc_copy.specs.State.{Replica, Collection, objects_end, replica_of, pairs_of, moved, moved_name}
 use Rattle.gc_copy.specs.Steps.{with_written, fresh_replica}
 use Rattle.gc_copy.specs.Members.{In, Distinct}
-use Rattle.gc_copy.specs.Belonging.{Laid, IsFine, IsReplica}
+use Rattle.gc_copy.specs.Belonging.{Laid, RefersTo, IsReplica}
 use Rattle.gc_copy.proofs.Lists.{in_left, in_push, in_map, in_map_from, get_past, get_set, find_some, find_exists, distinct_push, map_same}
 use Rattle.gc_copy.proofs.Heap.{laid_push, laid_end_is, end_push}
 use Rattle.gc_copy.proofs.Commands.{Evolves}
@@ -40,17 +40,17 @@ corresponds_more pairs more f (Ref a) Nil h = h
 corresponds_more pairs more f (Ref a) (Num b) h = h
 corresponds_more pairs more f (Ref a) (Ref b) h = in_paired more a b (f (a, b) (paired_in pairs a b h))
 
--- what corresponds to a number below 2^63 is one, and to a reference a place
-pub corresponds_fine : (P : ℕ → Type 0) (pairs : List (ℕ × ℕ)) (v w : Value) → IsFine P v → correspond pairs v w ≡ true → IsFine (IsPlace pairs) w
-corresponds_fine P pairs Nil Nil f h = tt
-corresponds_fine P pairs Nil (Num b) f h = absurd cc
-corresponds_fine P pairs Nil (Ref b) f h = absurd cc
-corresponds_fine P pairs (Num a) Nil f h = tt
-corresponds_fine P pairs (Num a) (Num b) f h = subst (λ n. n < 2 ^ 63) (eqb-true a b h) f
-corresponds_fine P pairs (Num a) (Ref b) f h = absurd cc
-corresponds_fine P pairs (Ref a) Nil f h = tt
-corresponds_fine P pairs (Ref a) (Num b) f h = absurd cc
-corresponds_fine P pairs (Ref a) (Ref b) f h = (a, paired_in pairs a b h)
+-- what corresponds to a reference is one to a place
+pub refers_corresponding : (P : ℕ → Type 0) (pairs : List (ℕ × ℕ)) (v w : Value) → RefersTo P v → correspond pairs v w ≡ true → RefersTo (IsPlace pairs) w
+refers_corresponding P pairs Nil Nil f h = tt
+refers_corresponding P pairs Nil (Num b) f h = absurd cc
+refers_corresponding P pairs Nil (Ref b) f h = absurd cc
+refers_corresponding P pairs (Num a) Nil f h = tt
+refers_corresponding P pairs (Num a) (Num b) f h = tt
+refers_corresponding P pairs (Num a) (Ref b) f h = absurd cc
+refers_corresponding P pairs (Ref a) Nil f h = tt
+refers_corresponding P pairs (Ref a) (Num b) f h = absurd cc
+refers_corresponding P pairs (Ref a) (Ref b) f h = (a, paired_in pairs a b h)
 
 -- ---- replicas
 

@@ -6,7 +6,7 @@ use Rattle.gc_graph.specs.Graph.{Value, Nil, Num, Ref, Object, Graph, lookup, fi
 use Rattle.gc_copy.specs.State.{Replica, Collection, State, objects_end, new_free, replica_of, replica_at}
 use Rattle.gc_copy.specs.Steps.{log_at, with_log, place_replica, with_replica, copy_value, bring_value, bring_up_to_date, if_room, root_target, copy_root, next_field, scan_done, scan_replica, apply_entry, apply_log, is_ready, passes_check, collect_with, collect}
 use Rattle.gc_copy.specs.Members.{In, Distinct}
-use Rattle.gc_copy.specs.Belonging.{Laid, IsNamed, IsFine, IsSpaceGraph, IsDue, IsOpen, IsOpened, IsState}
+use Rattle.gc_copy.specs.Belonging.{Laid, IsNamed, RefersTo, IsSpaceGraph, IsDue, IsOpen, IsOpened, IsState}
 use Rattle.gc_copy.specs.declared.step.Step.{Step}
 use Rattle.gc_copy.specs.declared.step.Step.TheVariants as steps
 use Rattle.gc_copy.specs.declared.step.StepReply.{StepReply}
@@ -86,7 +86,7 @@ module _ (s : State) (h : IsState s) where
       let is = ap (place_replica c name) o.1 ∙ cond-false (nat_lt (new_free c) (length o.0.fields + 2)) None _ roomy in
       λ e. cc (sym is ∙ e)
 
-  replicated_there : (c : Collection) (Due : ℕ → ℕ → ℕ → Type 0) (v : Value) → s.size ≤ c.size → AreReplicas s.heap.graph.objects c.size Due c.replicas → IsFine (IsNamed s.heap.graph.objects) v → with_replica c s.heap.graph v ≢ None
+  replicated_there : (c : Collection) (Due : ℕ → ℕ → ℕ → Type 0) (v : Value) → s.size ≤ c.size → AreReplicas s.heap.graph.objects c.size Due c.replicas → RefersTo (IsNamed s.heap.graph.objects) v → with_replica c s.heap.graph v ≢ None
   replicated_there c Due Nil same k f = λ e. cc e
   replicated_there c Due (Num n) same k f = λ e. cc e
   replicated_there c Due (Ref a) same k f = ⊎_elim
@@ -120,7 +120,7 @@ module _ (s : State) (h : IsState s) where
       let v = in_flat_map_from names_of name s.heap.graph.roots n.1 in
       in_room Copied (place_replica c name (lookup s.heap.graph.objects name)) (placed_there c (IsDue c) name same (its_replicas (IsDue c) s.heap.graph.objects c k.belongs) n.0 (named v.0 ((h.heap).roots v.0 v.1) v.2)) (λ x. cc x)
     where
-      named : (v : Value) → IsFine (IsNamed s.heap.graph.objects) v → In name (names_of v) → IsNamed s.heap.graph.objects name
+      named : (v : Value) → RefersTo (IsNamed s.heap.graph.objects) v → In name (names_of v) → IsNamed s.heap.graph.objects name
       named Nil f x = absurd x
       named (Num n) f x = absurd x
       named (Ref a) f (inl x) = subst (IsNamed s.heap.graph.objects) x f

@@ -7,7 +7,7 @@ use Rattle.gc_graph.specs.Graph.{Nil}
 use Rattle.gc_copy.specs.State.{Replica, Collection, State, opening_state, replica_at}
 use Rattle.gc_copy.specs.Steps.{if_room, root_target, copy_root, scan_done, scan_replica, log_at, apply_log, is_ready, passes_check, flip, collect_with, collect}
 use Rattle.gc_copy.specs.Runs.{IsStep, Event, Mutate, Collect, IsEvent, AreEvents, after, state_after}
-use Rattle.gc_copy.specs.Belonging.{IsNamed, IsFine, IsState}
+use Rattle.gc_copy.specs.Belonging.{IsNamed, RefersTo, IsSmall, IsState}
 use Rattle.gc_copy.specs.declared.step.Step.{Step}
 use Rattle.gc_copy.specs.declared.step.Step.TheVariants as steps
 use Rattle.gc_copy.specs.declared.step.StepReply.{StepReply}
@@ -27,8 +27,9 @@ opening_ok size mutators low high = record {
     room = omega arith;
     laid = omega arith;
     objects = λ a o k. absurd k;
-    roots = λ v k. subst (IsFine (IsNamed [])) (in_replicate v Nil (roots_of mutators) k) tt;
+    roots = λ v k. subst (RefersTo (IsNamed [])) (in_replicate v Nil (roots_of mutators) k) tt;
   };
+  numbers = record { fields = λ a o k. absurd k; roots = λ v k. subst IsSmall (in_replicate v Nil (roots_of mutators) k) tt };
   roots = length-replicate (roots_of mutators) Nil;
   collection = tt;
 }

@@ -6,11 +6,12 @@ use Rattle.std.proofs.lemmas.List.{length-replicate, length-map, map-append}
 use Rattle.gc_graph.specs.Graph.{Value, Nil, Num, Ref, Object, Graph, lookup, field_of, names_of}
 use Rattle.gc_graph.specs.Machine.{Roomy, words_taken, step}
 use Rattle.gc_graph.specs.Range.{IsCommand}
+use Rattle.gc_graph.specs.Correspond.{correspond}
 use Rattle.gc_copy.specs.State.{Replica, Collection, State, heap_end, new_end, new_free, replica_of, replica_at, pairs_of, moved, new_graph}
-use Rattle.gc_copy.specs.Steps.{written, log_or_nil, log_at, with_log, logged, mutate, fresh_replica, place_replica, with_replica, with_written, write_replica, copy_value, bring_value, bring_up_to_date, with_collection, if_room, fresh_collection, first_unreplicated, root_target, copy_root, scan, next_object, next_field, scan_replica, apply_entry, apply_log, is_empty, roots_done, scan_done, is_ready, passes_check, flip, collect_with, collect}
+use Rattle.gc_copy.specs.Steps.{written, log_or_nil, log_at, with_log, logged, mutate, fresh_replica, place_replica, with_replica, with_written, write_replica, copy_value, bring_value, bring_up_to_date, with_collection, if_room, fresh_collection, first_unreplicated, root_target, copy_root, scan, next_object, next_field, scan_replica, apply_entry, apply_log, is_empty, roots_done, scan_done, is_ready, passes_check, flip, step_in, collect_with, collect}
 use Rattle.gc_copy.specs.Runs.{IsStep}
 use Rattle.gc_copy.specs.Members.{In}
-use Rattle.gc_copy.specs.Belonging.{Laid, IsNamed, IsFine, IsObject, IsSpaceGraph, IsUnscanned, IsLogged, IsDue, IsScanPlace, HasField, IsOpened, BelongsBy, Belongs, BelongsBut, IsOpen, IsState}
+use Rattle.gc_copy.specs.Belonging.{Laid, IsNamed, RefersTo, IsObject, IsSpaceGraph, IsSmall, HasSmallNumbers, IsUnscanned, IsLogged, IsDue, IsScanPlace, HasField, IsOpened, BelongsBy, Belongs, BelongsBut, IsOpen, IsState}
 use Rattle.gc_graph.specs.declared.command.Op.{Op}
 use Rattle.gc_graph.specs.declared.reply.Reply.{Reply}
 use Rattle.gc_graph.specs.declared.reply.Reply.TheVariants.{Full}
@@ -19,9 +20,10 @@ use Rattle.gc_copy.specs.declared.step.Step.TheVariants as steps
 use Rattle.gc_copy.specs.declared.step.StepReply.{StepReply}
 use Rattle.gc_copy.specs.declared.step.StepReply.TheVariants.{Copied, Scanned, Applied}
 use Rattle.gc_copy.proofs.Lists.{in_left, in_right, in_cases, in_map, in_map_from, in_flat_map, in_get, get_in, get_past, get_within, get_set_same, get_set_other, find_some, find_none}
-use Rattle.gc_copy.proofs.Heap.{fine_map, laid_range, laid_apart, laid_end, lookup_in}
-use Rattle.gc_copy.proofs.Commands.{Evolves, unchanged, step_keeps, field_stays, written_there, full_writes_nothing, step_roots}
-use Rattle.gc_copy.proofs.Replicas.{pair, placed, end_of, IsPlace, AreReplicas, HasReplica, corresponds_fine, replicas_evolve, replicas_due, replicas_place, replicas_write, with_written_pair, with_written_length, pairs_written, moved_corresponds, replica_exists}
+use Rattle.gc_copy.proofs.Heap.{refers_map, laid_range, laid_apart, laid_end, lookup_in}
+use Rattle.gc_copy.proofs.Commands.{Evolves, unchanged, step_keeps, step_evolves, field_stays, written_there, full_writes_nothing, step_roots}
+use Rattle.gc_copy.proofs.Numbers.{step_small, small_corresponding, small_moved}
+use Rattle.gc_copy.proofs.Replicas.{pair, placed, end_of, IsPlace, AreReplicas, HasReplica, refers_corresponding, replicas_evolve, replicas_due, replicas_place, replicas_write, with_written_pair, with_written_length, pairs_written, moved_corresponds, replica_exists}
 
 -- ---- options
 
@@ -193,12 +195,12 @@ grown_open s c next same count scan entries h = record {
 
 -- a state with another collection
 still_state : (s : State) (o : Option Collection) → IsState s → IsOpen s o → IsState (with_collection s o)
-still_state s None h k = record { heap = h.heap; roots = h.roots; collection = tt }
-still_state s (Some c) h k = record { heap = h.heap; roots = h.roots; collection = record { belongs = k.belongs; size = k.size; logs = k.logs } }
+still_state s None h k = record { heap = h.heap; numbers = h.numbers; roots = h.roots; collection = tt }
+still_state s (Some c) h k = record { heap = h.heap; numbers = h.numbers; roots = h.roots; collection = record { belongs = k.belongs; size = k.size; logs = k.logs } }
 
-room_keeps : (s : State) (reply : StepReply) (o : Option Collection) → IsState s → ((c : Collection) → o ≡ Some c → IsOpened s c) → IsState (if_room s reply o).1
+room_keeps : (s : State) (reply : StepReply) (o : Option Collection) → IsOpen s s.collection → ((c : Collection) → o ≡ Some c → IsOpened s c) → IsOpen s (if_room s reply o).1.collection
 room_keeps s reply None h f = h
-room_keeps s reply (Some c) h f = still_state s (Some c) h (f c refl)
+room_keeps s reply (Some c) h f = f c refl
 
 pub unreplicated_some : (c : Collection) (names : List ℕ) (name : ℕ) → first_unreplicated c names ≡ Some name → (replica_of c name ≡ None) × In name names
 unreplicated_some c [] name h = absurd cc
@@ -217,10 +219,10 @@ unreplicated_none c (n ∷ names) name h k = ⊎_elim
     (λ f. absurd (cc (sym (cond-false (is_some (replica_of c n)) (first_unreplicated c names) (Some n) f) ∙ h)))
     (cases_Bool (is_some (replica_of c n)))
 
-roots_keep : (s : State) (c : Collection) → IsState s → IsOpened s c → IsState (copy_root s c (root_target c s.heap.graph)).1
+roots_keep : (s : State) (c : Collection) → IsOpen s s.collection → IsOpened s c → IsOpen s (copy_root s c (root_target c s.heap.graph)).1.collection
 roots_keep s c h k = go (root_target c s.heap.graph) refl
   where
-    go : (t : Option ℕ) → root_target c s.heap.graph ≡ t → IsState (copy_root s c t).1
+    go : (t : Option ℕ) → root_target c s.heap.graph ≡ t → IsOpen s (copy_root s c t).1.collection
     go None e = h
     go (Some name) e = room_keeps s Copied (place_replica c name (lookup s.heap.graph.objects name)) h (λ d is.
         grown_open s c d k.size k.logs (k.belongs).scan (k.belongs).entries
@@ -330,16 +332,16 @@ scanned_open s c r (Some n) d k here place more is e = subst (IsOpened s) same (
         (cases_eq c.scan_field i)
     less q l i within (inr g, not) = inr (g.0, subst (λ (z : List (List (ℕ × ℕ))). In {X = ℕ × ℕ} (q.original, i) (log_or_nil (slice_get z g.0))) (sym grown.logs) g.1)
 
-scan_keeps : (s : State) (c : Collection) → IsState s → IsOpened s c → IsState (scan s c).1
-scan_keeps s c h k = cond_both (scan_done c) _ _ (λ (next : StepReply × State). IsState next.1) (λ t. h) (λ t. go (replica_at c c.scan_place) refl)
+scan_keeps : (s : State) (c : Collection) → IsOpen s s.collection → IsOpened s c → IsOpen s (scan s c).1.collection
+scan_keeps s c h k = cond_both (scan_done c) _ _ (λ (next : StepReply × State). IsOpen s next.1.collection) (λ t. h) (λ t. go (replica_at c c.scan_place) refl)
   where
-    go : (t : Option Replica) → replica_at c c.scan_place ≡ t → IsState (scan_replica s c t).1
+    go : (t : Option Replica) → replica_at c c.scan_place ≡ t → IsOpen s (scan_replica s c t).1.collection
     go None e = h
     go (Some r) e =
         let f = find_some (λ (q : Replica). q.place == c.scan_place) c.replicas r e in
         let place = eqb-true r.place c.scan_place f.1 in
-        cond_both (c.scan_field == length r.object.fields) _ _ (λ (next : StepReply × State). IsState next.1)
-        (λ t. still_state s (Some (next_object c r)) h (passed_open s c r k f.0 place (eqb-true c.scan_field (length r.object.fields) t)))
+        cond_both (c.scan_field == length r.object.fields) _ _ (λ (next : StepReply × State). IsOpen s next.1.collection)
+        (λ t. passed_open s c r k f.0 place (eqb-true c.scan_field (length r.object.fields) t))
         (λ t. room_keeps s Scanned (next_field (bring_up_to_date c s.heap.graph r.original c.scan_field)) h (λ d is. scanned_open s c r (bring_up_to_date c s.heap.graph r.original c.scan_field) d k f.0 place (eqb-false c.scan_field (length r.object.fields) t) refl is))
 
 -- what is due while an entry is out of its log
@@ -395,10 +397,10 @@ applied_open s c m entry rest d k is e = go (is_some (replica_of c entry.0)) ref
         done (subst (Grown objects c' (IsDue c')) same (same_grown objects c' (IsDue c')
         (replicas_due objects c.size (IsDue c) (IsDue c') c.replicas its (λ r l i within x. ⊎_elim (λ y. absurd (no_replica c entry.0 r (none_of (replica_of c entry.0) t) l y.0)) (λ y. y) (less r.place r.original i x)))))
 
-apply_keeps : (s : State) (c : Collection) (m : ℕ) → IsState s → IsOpened s c → IsState (apply_log s c m (log_at c m)).1
+apply_keeps : (s : State) (c : Collection) (m : ℕ) → IsOpen s s.collection → IsOpened s c → IsOpen s (apply_log s c m (log_at c m)).1.collection
 apply_keeps s c m h k = go (log_at c m) refl
   where
-    go : (l : List (ℕ × ℕ)) → log_at c m ≡ l → IsState (apply_log s c m l).1
+    go : (l : List (ℕ × ℕ)) → log_at c m ≡ l → IsOpen s (apply_log s c m l).1.collection
     go [] e = h
     go (entry ∷ rest) e = room_keeps s Applied (apply_entry (with_log c m rest) s.heap.graph entry) h (λ d is. applied_open s c m entry rest d k e is)
 
@@ -442,19 +444,39 @@ none_due objects g c r i h ready l (inl u) =
     ⊎_elim (λ a. omega arith) (λ b. let e = b.0 in omega arith) u
 none_due objects g c r i h ready l (inr d) = subst (In {X = ℕ × ℕ} (r.original, i)) (empty_log c.logs ready.logs d.0) d.1
 
--- so each field of a replica corresponds to the original's, and is a value of the new space
-pub replica_fine : (size free : ℕ) (g : Graph) (c : Collection) → IsSpaceGraph size free g → Belongs g.objects c → IsReady g c → (r : Replica) → In r c.replicas → (v : Value) → In v r.object.fields → IsFine (IsPlace (pairs_of c)) v
-replica_fine size free g c h k ready r l w x =
+-- so each field of a replica corresponds to one of its original
+pub replica_field : (g : Graph) (c : Collection) → (k : Belongs g.objects c) → IsReady g c → (r : Replica) → (l : In r c.replicas) → (w : Value) → In w r.object.fields
+    → (v : Value) × In v (k.replicas r l).original.fields × (correspond (pairs_of c) v w ≡ true)
+replica_field g c k ready r l w x =
     let ok = k.replicas r l in
     let i = in_get w r.object.fields x in
     let within = get_past r.object.fields i.0 w i.1 in
     let same_len = ok.len in
-    let v = get_within ok.original.fields i.0 (omega arith) in
-    let was = (h.objects r.original ok.original (lookup_in g.objects r.original ok.original ok.found)).fields v.0 (get_in v.0 ok.original.fields i.0 v.1) in
-    ⊎_elim
-    (λ d. absurd (none_due g.objects g c r i.0 k ready l d))
-    (λ e. corresponds_fine (IsNamed g.objects) (pairs_of c) v.0 w was e)
-    (ok.current i.0 v.0 w v.1 i.1)
+    let v = get_within ok.original.fields i.0 (omega arith) in (
+      v.0,
+      get_in v.0 ok.original.fields i.0 v.1,
+      ⊎_elim
+          (λ d. absurd (none_due g.objects g c r i.0 k ready l d))
+          (λ e. e)
+          (ok.current i.0 v.0 w v.1 i.1),
+    )
+
+-- and is a value of the new space
+pub replica_refers : (size free : ℕ) (g : Graph) (c : Collection) → IsSpaceGraph size free g → Belongs g.objects c → IsReady g c → (r : Replica) → In r c.replicas → (w : Value) → In w r.object.fields → RefersTo (IsPlace (pairs_of c)) w
+replica_refers size free g c h k ready r l w x =
+    let ok = k.replicas r l in
+    let f = replica_field g c k ready r l w x in
+    refers_corresponding (IsNamed g.objects) (pairs_of c) f.0 w ((h.objects r.original ok.original (lookup_in g.objects r.original ok.original ok.found)).fields f.0 f.1) f.2
+
+pub new_small : (g : Graph) (c : Collection) → HasSmallNumbers g → Belongs g.objects c → IsReady g c → HasSmallNumbers (new_graph c g.roots)
+new_small g c h k ready = record {
+  fields = λ a o l w x.
+      let r = in_map_from placed (a, o) c.replicas l in
+      let ok = k.replicas r.0 r.1 in
+      let f = replica_field g c k ready r.0 r.1 w (subst (λ (e : ℕ × Object). In w e.1.fields) (sym r.2) x) in
+      small_corresponding (pairs_of c) f.0 w f.2 (h.fields r.0.original ok.original (lookup_in g.objects r.0.original ok.original ok.found) f.0 f.1);
+  roots = λ w l. let r = in_map_from (moved c) w g.roots l in subst IsSmall r.2 (small_moved c r.0 (h.roots r.0 r.1));
+}
 
 pub new_heap : (size free : ℕ) (g : Graph) (c : Collection) → IsSpaceGraph size free g → Belongs g.objects c → c.size ≤ 1048576 → IsReady g c → IsSpaceGraph c.size (new_free c) (new_graph c g.roots)
 new_heap size free g c h k same ready = record {
@@ -463,9 +485,9 @@ new_heap size free g c h k same ready = record {
   laid = let fits = k.room in let e : end_of c.replicas ≡ c.size - new_free c = omega arith in subst (Laid 1 (map placed c.replicas)) e k.laid;
   objects = λ a o l. let r = in_map_from placed (a, o) c.replicas l in subst (λ (e : ℕ × Object). IsObject (map placed c.replicas) e.1) r.2 (object r.0 r.1);
   roots = λ w l. let r = in_map_from (moved c) w g.roots l in
-      subst (IsFine (IsNamed (map placed c.replicas))) r.2
-      (fine_map (IsPlace (pairs_of c)) (IsNamed (map placed c.replicas)) (place_named c) (moved c r.0)
-      (corresponds_fine (IsNamed g.objects) (pairs_of c) r.0 (moved c r.0) (h.roots r.0 r.1) (moved_corresponds c r.0 (roots_replicated c g ready.roots r.0 r.1))));
+      subst (RefersTo (IsNamed (map placed c.replicas))) r.2
+      (refers_map (IsPlace (pairs_of c)) (IsNamed (map placed c.replicas)) (place_named c) (moved c r.0)
+      (refers_corresponding (IsNamed g.objects) (pairs_of c) r.0 (moved c r.0) (h.roots r.0 r.1) (moved_corresponds c r.0 (roots_replicated c g ready.roots r.0 r.1))));
 }
   where
     object : (r : Replica) → In r c.replicas → IsObject (map placed c.replicas) r.object
@@ -474,14 +496,14 @@ new_heap size free g c h k same ready = record {
         let was = h.objects r.original ok.original (lookup_in g.objects r.original ok.original ok.found) in record {
           kind = subst (λ n. n < 256) (sym ok.kind) was.kind;
           len = subst (λ n. n < 65536) (sym ok.len) was.len;
-          fields = λ v x. fine_map (IsPlace (pairs_of c)) (IsNamed (map placed c.replicas)) (place_named c) v (replica_fine size free g c h k ready r l v x);
+          fields = λ v x. refers_map (IsPlace (pairs_of c)) (IsNamed (map placed c.replicas)) (place_named c) v (replica_refers size free g c h k ready r l v x);
         }
 
 flip_keeps : (s : State) (c : Collection) → IsState s → IsOpened s c → IsState (flip s c).1
 flip_keeps s c h k =
     cond_both (is_ready c s.heap.graph) _ _ (λ (next : StepReply × State). IsState next.1)
     (λ t. cond_both (passes_check s c) _ _ (λ (next : StepReply × State). IsState next.1)
-    (λ u. record { heap = new_heap s.size s.heap.free s.heap.graph c h.heap k.belongs k.size (ready_parts c s.heap.graph t); roots = length-map s.heap.graph.roots (moved c) ∙ h.roots; collection = tt })
+    (λ u. record { heap = new_heap s.size s.heap.free s.heap.graph c h.heap k.belongs k.size (ready_parts c s.heap.graph t); numbers = new_small s.heap.graph c h.numbers k.belongs (ready_parts c s.heap.graph t); roots = length-map s.heap.graph.roots (moved c) ∙ h.roots; collection = tt })
     (λ u. h))
     (λ t. h)
 
@@ -505,24 +527,84 @@ begun_belongs objects mutators size low = record {
 fresh_open : (s : State) (size : ℕ) → 1 ≤ size → size ≤ 1048576 → IsOpened s (fresh_collection s.mutators size)
 fresh_open s size low high = record { belongs = begun_belongs s.heap.graph.objects s.mutators size low; size = high; logs = length-replicate s.mutators [] }
 
-pub collect_keeps : (s : State) (step : Step) → IsState s → IsStep s.mutators step → IsState (collect s step).1
-collect_keeps s step h range = go s.collection step range h.collection
+-- a step in an open collection keeps belonging, whatever the heap is
+pub open_keeps : (s : State) (c : Collection) (step : Step) → s.collection ≡ Some c → IsOpened s c → step ≢ steps.Flip → IsOpen s (step_in s c step).1.collection
+open_keeps s c step is k other = go step other
   where
-    go : (o : Option Collection) (step : Step) → IsStep s.mutators step → IsOpen s o → IsState (collect_with s o step).1
-    go None steps.Begin range k = still_state s (Some (fresh_collection s.mutators s.size)) h (fresh_open s s.size (let x = (h.heap).room in omega arith) (h.heap).high)
-    go None (steps.BeginSized size) range k = still_state s (Some (fresh_collection s.mutators size)) h (fresh_open s size range.0 range.1)
-    go None steps.Roots range k = h
-    go None steps.Scan range k = h
-    go None (steps.Apply m) range k = h
-    go None steps.Flip range k = h
-    go None steps.Drop range k = h
-    go (Some c) steps.Begin range k = h
-    go (Some c) (steps.BeginSized size) range k = h
-    go (Some c) steps.Roots range k = roots_keep s c h k
-    go (Some c) steps.Scan range k = scan_keeps s c h k
-    go (Some c) (steps.Apply m) range k = apply_keeps s c m h k
-    go (Some c) steps.Flip range k = flip_keeps s c h k
-    go (Some c) steps.Drop range k = still_state s None h tt
+    h : IsOpen s s.collection
+    h = subst (IsOpen s) (sym is) k
+
+    go : (step : Step) → step ≢ steps.Flip → IsOpen s (step_in s c step).1.collection
+    go steps.Begin n = h
+    go (steps.BeginSized size) n = h
+    go steps.Roots n = roots_keep s c h k
+    go steps.Scan n = scan_keeps s c h k
+    go (steps.Apply m) n = apply_keeps s c m h k
+    go steps.Flip n = absurd (n refl)
+    go steps.Drop n = tt
+
+-- a step but a flip leaves all but the collection
+abbrev Stays : State → StepReply × State → Type 0
+Stays s next = next.1 ≡ with_collection s next.1.collection
+
+room_stays : (s : State) (reply : StepReply) (o : Option Collection) → Stays s (if_room s reply o)
+room_stays s reply None = refl
+room_stays s reply (Some c) = refl
+
+roots_stay : (s : State) (c : Collection) (t : Option ℕ) → Stays s (copy_root s c t)
+roots_stay s c None = refl
+roots_stay s c (Some name) = room_stays s Copied _
+
+replica_stays : (s : State) (c : Collection) (t : Option Replica) → Stays s (scan_replica s c t)
+replica_stays s c None = refl
+replica_stays s c (Some r) = cond_both (c.scan_field == length r.object.fields) _ _ (Stays s) (λ t. refl) (λ t. room_stays s Scanned _)
+
+log_stays : (s : State) (c : Collection) (m : ℕ) (l : List (ℕ × ℕ)) → Stays s (apply_log s c m l)
+log_stays s c m [] = refl
+log_stays s c m (entry ∷ rest) = room_stays s Applied _
+
+pub steps_stay : (s : State) (step : Step) → step ≢ steps.Flip → Stays s (collect s step)
+steps_stay s step other = go s.collection step other
+  where
+    go : (o : Option Collection) (step : Step) → step ≢ steps.Flip → Stays s (collect_with s o step)
+    go None steps.Begin n = refl
+    go None (steps.BeginSized size) n = refl
+    go None steps.Roots n = refl
+    go None steps.Scan n = refl
+    go None (steps.Apply m) n = refl
+    go None steps.Flip n = refl
+    go None steps.Drop n = refl
+    go (Some c) steps.Begin n = refl
+    go (Some c) (steps.BeginSized size) n = refl
+    go (Some c) steps.Roots n = roots_stay s c (root_target c s.heap.graph)
+    go (Some c) steps.Scan n = cond_both (scan_done c) _ _ (Stays s) (λ t. refl) (λ t. replica_stays s c (replica_at c c.scan_place))
+    go (Some c) (steps.Apply m) n = log_stays s c m (log_at c m)
+    go (Some c) steps.Flip n = absurd (n refl)
+    go (Some c) steps.Drop n = refl
+
+pub collect_keeps : (s : State) (step : Step) → IsState s → IsStep s.mutators step → IsState (collect s step).1
+collect_keeps s step h range = go s.collection refl step range h.collection
+  where
+    quiet : (c : Collection) (step : Step) → s.collection ≡ Some c → IsOpened s c → step ≢ steps.Flip → IsState (step_in s c step).1
+    quiet c step is k n =
+        let stays : Stays s (step_in s c step) = subst (λ o. Stays s (collect_with s o step)) is (steps_stay s step n) in
+        subst IsState (sym stays) (still_state s (step_in s c step).1.collection h (open_keeps s c step is k n))
+
+    go : (o : Option Collection) → s.collection ≡ o → (step : Step) → IsStep s.mutators step → IsOpen s o → IsState (collect_with s o step).1
+    go None is steps.Begin range k = still_state s (Some (fresh_collection s.mutators s.size)) h (fresh_open s s.size (let x = (h.heap).room in omega arith) (h.heap).high)
+    go None is (steps.BeginSized size) range k = still_state s (Some (fresh_collection s.mutators size)) h (fresh_open s size range.0 range.1)
+    go None is steps.Roots range k = h
+    go None is steps.Scan range k = h
+    go None is (steps.Apply m) range k = h
+    go None is steps.Flip range k = h
+    go None is steps.Drop range k = h
+    go (Some c) is steps.Begin range k = h
+    go (Some c) is (steps.BeginSized size) range k = h
+    go (Some c) is steps.Roots range k = quiet c steps.Roots is k (λ e. cc e)
+    go (Some c) is steps.Scan range k = quiet c steps.Scan is k (λ e. cc e)
+    go (Some c) is (steps.Apply m) range k = quiet c (steps.Apply m) is k (λ e. cc e)
+    go (Some c) is steps.Flip range k = flip_keeps s c h k
+    go (Some c) is steps.Drop range k = quiet c steps.Drop is k (λ e. cc e)
 
 -- a command leaves a collection that belongs but for the field that it wrote
 pub belongs_but : (before later : List (ℕ × Object)) (c : Collection) (E : ℕ → ℕ → Type 0) → Belongs before c → Evolves before later E → BelongsBut E later c
@@ -576,11 +658,11 @@ logged_open s t (Some c) m entries size count l k evolves there = record {
 pub mutate_keeps : (s : State) (m : ℕ) (op : Op) → IsState s → m < s.mutators → IsCommand op → IsState (mutate s m op).1
 mutate_keeps s m op h l r =
     cond_both (nat_lt s.heap.free (words_taken op)) _ _ P
-    (λ full. record { heap = h.heap; roots = h.roots; collection = logged_open s (at (Full, s.heap)) s.collection m (written s.heap.graph m op Full) refl refl l h.collection (unchanged s.heap.graph.objects _) (λ a j x. absurd (full_writes_nothing s.heap.graph m op a j x)) })
+    (λ full. record { heap = h.heap; numbers = h.numbers; roots = h.roots; collection = logged_open s (at (Full, s.heap)) s.collection m (written s.heap.graph m op Full) refl refl l h.collection (unchanged s.heap.graph.objects _) (λ a j x. absurd (full_writes_nothing s.heap.graph m op a j x)) })
     (λ fits.
     let next = step s.heap.graph m op (heap_end s) in
-    let kept = step_keeps s.size s.heap.free s.heap.graph m op (heap_end s) h.heap r (ltb-false s.heap.free (words_taken op) fits) refl in
-    record { heap = kept.heap; roots = step_roots s.heap.graph m op (heap_end s) ∙ h.roots; collection = logged_open s (at (next.0, record { graph = next.1; free = s.heap.free - words_taken op })) s.collection m (written s.heap.graph m op next.0) refl refl l h.collection kept.evolves (λ a j x. written_there s.heap.graph m op (heap_end s) a j x) })
+    let heap = step_keeps s.size s.heap.free s.heap.graph m op (heap_end s) h.heap r (ltb-false s.heap.free (words_taken op) fits) refl in
+    record { heap = heap; numbers = step_small s.heap.graph m op (heap_end s) h.numbers r; roots = step_roots s.heap.graph m op (heap_end s) ∙ h.roots; collection = logged_open s (at (next.0, record { graph = next.1; free = s.heap.free - words_taken op })) s.collection m (written s.heap.graph m op next.0) refl refl l h.collection (step_evolves s.heap.graph m op (heap_end s)) (λ a j x. written_there s.heap.graph m op (heap_end s) a j x) })
   where
     at : Reply × Roomy → State
     at next = record s { heap = next.1; collection = logged s.collection m (written s.heap.graph m op next.0) }

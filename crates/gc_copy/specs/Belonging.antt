@@ -18,16 +18,16 @@ Laid at (entry ∷ rest) end = (entry.0 ≡ at) × Laid (at + length entry.1.fie
 abbrev pub IsNamed : List (ℕ × Object) → ℕ → Type 0
 IsNamed objects name = (o : Object) × In (name, o) objects
 
--- nil, a number below 2^63, or a reference to what P holds of
-abbrev pub IsFine : (ℕ → Type 0) → Value → Type 0
-IsFine P Nil = ⊤
-IsFine P (Num n) = n < 2 ^ 63
-IsFine P (Ref name) = P name
+-- nil, a number, or a reference to what P holds of
+abbrev pub RefersTo : (ℕ → Type 0) → Value → Type 0
+RefersTo P Nil = ⊤
+RefersTo P (Num n) = ⊤
+RefersTo P (Ref name) = P name
 
 pub record IsObject (objects : List (ℕ × Object)) (o : Object) : Type 0 where
   pub kind : o.kind < 256
   pub len : length o.fields < 65536
-  pub fields : (v : Value) → In v o.fields → IsFine (IsNamed objects) v
+  pub fields : (v : Value) → In v o.fields → RefersTo (IsNamed objects) v
 
 -- a graph whose names are the addresses of its objects in a space of this size with so many free words
 pub record IsSpaceGraph (size free : ℕ) (g : Graph) : Type 0 where
@@ -35,7 +35,17 @@ pub record IsSpaceGraph (size free : ℕ) (g : Graph) : Type 0 where
   pub room : free < size
   pub laid : Laid 1 g.objects (size - free)
   pub objects : (a : ℕ) (o : Object) → In (a, o) g.objects → IsObject g.objects o
-  pub roots : (v : Value) → In v g.roots → IsFine (IsNamed g.objects) v
+  pub roots : (v : Value) → In v g.roots → RefersTo (IsNamed g.objects) v
+
+-- a number is below 2^63
+abbrev pub IsSmall : Value → Type 0
+IsSmall Nil = ⊤
+IsSmall (Num n) = n < 2 ^ 63
+IsSmall (Ref name) = ⊤
+
+pub record HasSmallNumbers (g : Graph) : Type 0 where
+  pub fields : (a : ℕ) (o : Object) → In (a, o) g.objects → (v : Value) → In v o.fields → IsSmall v
+  pub roots : (v : Value) → In v g.roots → IsSmall v
 
 -- ---- fields that are due
 
@@ -100,5 +110,6 @@ IsOpen s (Some c) = IsOpened s c
 
 pub record IsState (s : State) : Type 0 where
   pub heap : IsSpaceGraph s.size s.heap.free s.heap.graph
+  pub numbers : HasSmallNumbers s.heap.graph
   pub roots : length s.heap.graph.roots ≡ roots_of s.mutators
   pub collection : IsOpen s s.collection

@@ -1,17 +1,21 @@
 //! What follows from the definitions: the crates above cite these calls.
 
-ghost use Rattle.std.specs.Prelude.{◌≡◌, ◌++◌, ◌∷◌, [], ℕ, List, ◌-◌, ◌<◌, ◌≤◌, ◌==◌, length, Some, is_none, IsTrue};
-ghost use Rattle.gc_graph.specs.Graph.{Value, Ref, Object, Graph, set_field};
+ghost use Rattle.std.specs.Prelude.{◌≡◌, ◌≢◌, ◌++◌, ◌∷◌, [], ℕ, List, ◌-◌, ◌<◌, ◌≤◌, ◌==◌, length, Some, is_none, IsTrue};
+ghost use Rattle.gc_graph.specs.Graph.{Value, Ref, Object, Graph, IsUnused, set_field};
+ghost use Rattle.gc_graph.specs.Correspond.{Corresponding};
 ghost use Rattle.gc_graph.specs.Machine.{Roomy, roomy_step};
 ghost use Rattle.gc_graph.specs.Range.{IsCommand};
 ghost use Rattle.gc_graph.specs.declared.command.Op.{Op};
 ghost use Rattle.gc_words.specs.Image.{IsShaped, graph_of, roomy_of};
+ghost use Rattle.gc_words.specs.Spelling.{link_at};
+ghost use Rattle.gc_words.specs.Space.{free_in};
 ghost use Rattle.gc_words.specs.Certificate.{Certified};
+ghost use Rattle.gc_heap.specs.Heap.{HeapWords, IsHeap, image_of, graph_in};
 ghost use Rattle.gc_copy.specs.State.{Replica, Collection, State, opening_state, new_objects, new_free, pairs_of, replica_of, replica_at, moved, new_graph};
 ghost use Rattle.gc_copy.specs.Linked.{linked_image, old_links, new_links};
-ghost use Rattle.gc_copy.specs.Steps.{written, log_at, with_log, write_replica, fresh_collection, mutate, collect, is_ready};
+ghost use Rattle.gc_copy.specs.Steps.{written, log_at, with_log, with_collection, write_replica, fresh_collection, mutate, collect, is_ready};
 ghost use Rattle.gc_copy.specs.Members.{In};
-ghost use Rattle.gc_copy.specs.Belonging.{IsSpaceGraph, HasField, Belongs, BelongsBut, IsState};
+ghost use Rattle.gc_copy.specs.Belonging.{IsSpaceGraph, HasField, Belongs, BelongsBut, IsOpened, IsOpen, IsState};
 ghost use Rattle.gc_copy.specs.Runs.{IsStep, InEveryRun};
 ghost use Rattle.gc_copy.specs.Passing.{HasImage, PassesWhereReady, NeverRefused, AlwaysHasRoom, ScansToTheEnd, HasFewPairs};
 ghost use Rattle.gc_copy.specs.Carried.{CarriesOnlyKept};
@@ -34,14 +38,22 @@ pub fn belonging_is_kept()
         → IsSpaceGraph size heap.free heap.graph → IsCommand op
         → (let next = roomy_step heap m op (size - heap.free) in
         IsSpaceGraph size next.1.free next.1.graph) }
-    ensures commands { (size : ℕ) (heap : Roomy) (c : Collection) (m : ℕ) (op : Op)
-        → IsSpaceGraph size heap.free heap.graph → Belongs heap.graph.objects c → IsCommand op
-        → (let next = roomy_step heap m op (size - heap.free) in
+    ensures commands { (heap : Roomy) (c : Collection) (m : ℕ) (op : Op) (name : ℕ)
+        → Belongs heap.graph.objects c
+        → (let next = roomy_step heap m op name in
         BelongsBut (λ a i. In (a, i) (written heap.graph m op next.0)) next.1.graph.objects c) }
     ensures notes { (objects : List (ℕ × Object)) (c : Collection) (m a i : ℕ)
         → m < length c.logs → HasField objects a i
         → BelongsBut (λ b j. (b ≡ a) × (j ≡ i)) objects c
         → Belongs objects (with_log c m (log_at c m ++ (a, i) ∷ [])) }
+{}
+
+/// A step but a flip leaves all but the collection as it is, and keeps belonging, whatever the heap.
+pub fn steps_keep_belonging()
+    ensures heap { (s : State) (step : Step) → step ≢ Step.Flip
+        → (collect s step).1 ≡ with_collection s (collect s step).1.collection }
+    ensures collection { (s : State) (c : Collection) (step : Step) → step ≢ Step.Flip
+        → s.collection ≡ Some c → IsOpened s c → IsOpen s (collect s step).1.collection }
 {}
 
 /// Whatever commands and steps come, the heap stays one, and an open collection goes on to belong to it.
@@ -67,6 +79,18 @@ pub fn images_have_their_graphs()
     ensures runs { InEveryRun HasImage }
 {}
 
+/// The graph of a heap of words is one whose names are addresses, and its image is that of this graph with
+/// the links that stand there. Its end is the name of no object.
+pub fn heaps_have_addresses_as_names()
+    ensures graph { (heap : HeapWords) → IsHeap heap
+        → IsSpaceGraph heap.space.size (free_in heap.space) (graph_in heap) }
+    ensures image { (heap : HeapWords) → IsHeap heap
+        → image_of heap
+        ≡ linked_image (link_at heap.space.words) heap.space.size (graph_in heap) }
+    ensures unused { (size free : ℕ) (g : Graph)
+        → IsSpaceGraph size free g → IsUnused g (size - free) }
+{}
+
 /// What the links of a collection tell: an original's is its replica's place, or 0 where it has none; a
 /// replica's is its original. And a replica's field is written where its place says.
 pub fn links_tell_replicas()
@@ -85,8 +109,8 @@ pub fn links_tell_replicas()
         → new_objects (write_replica c a i v) ≡ set_field (new_objects c) r.place i v }
 {}
 
-/// A ready collection has a certificate, whatever the links, and its new space is a heap; so its flip passes
-/// the check, and no flip is ever refused.
+/// A ready collection has a certificate, whatever the links, its new space is a heap, and its graph
+/// corresponds to the old one; so its flip passes the check, and no flip is ever refused.
 pub fn ready_flips_pass()
     ensures certified { (links others : ℕ → ℕ) (size free : ℕ) (g : Graph) (c : Collection)
         → IsSpaceGraph size free g → Belongs g.objects c → c.size ≤ 1048576 → IsTrue (is_ready c g)
@@ -94,6 +118,9 @@ pub fn ready_flips_pass()
     ensures heap { (size free : ℕ) (g : Graph) (c : Collection)
         → IsSpaceGraph size free g → Belongs g.objects c → c.size ≤ 1048576 → IsTrue (is_ready c g)
         → IsSpaceGraph c.size (new_free c) (new_graph c g.roots) }
+    ensures corresponding { (size free : ℕ) (g : Graph) (c : Collection)
+        → IsSpaceGraph size free g → Belongs g.objects c → c.size ≤ 1048576 → IsTrue (is_ready c g)
+        → Corresponding (pairs_of c) g (new_graph c g.roots) }
     ensures passes { (s : State) → IsState s → PassesWhereReady s }
     ensures never_refused { (s : State) → IsState s → NeverRefused s }
     ensures runs { InEveryRun PassesWhereReady }

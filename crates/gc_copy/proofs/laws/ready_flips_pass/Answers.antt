@@ -1,6 +1,6 @@
 use Rattle.gc_copy.specs.Passing.{PassesWhereReady, NeverRefused}
 use Rattle.gc_copy.proofs.Steps.{ready_parts, new_heap}
-use Rattle.gc_copy.proofs.Flips.{certified}
+use Rattle.gc_copy.proofs.Flips.{certified, corresponding_graphs}
 use Rattle.gc_copy.proofs.Kept.{in_runs, passes_where_ready, never_refused}
 use Rattle.gc_copy.proofs.laws.ready_flips_pass.Goals as goal
 
@@ -8,6 +8,7 @@ pub returns : goal.returns
 returns c = record {
   certified = λ links others size free g c h k same ready. certified links others size free g c h k same (ready_parts c g ready);
   heap = λ size free g c h k same ready. new_heap size free g c h k same (ready_parts c g ready);
+  corresponding = λ size free g c h k same ready. corresponding_graphs size free g c h k same (ready_parts c g ready);
   passes = passes_where_ready;
   never_refused = never_refused;
   runs = in_runs PassesWhereReady passes_where_ready;
