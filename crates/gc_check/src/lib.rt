@@ -15,3 +15,6 @@ pub use gc_words::Refusal;
 pub use laws::{certified_is_replicated, worked_rows};
 pub use tables::Tables;
 pub use verdict::{CheckFault, Verdict, Yes};
+
+#[cfg(test)]
+mod tests;
