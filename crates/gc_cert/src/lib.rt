@@ -1,0 +1,10 @@
+//! Certificates as text: two images and the pairs of their objects, read line by line and written as they are read.
+#![tactic(auto)]
+
+mod fault;
+mod image;
+mod laws;
+
+pub use fault::{PairFault, WriteFault};
+pub use image::{Image, PairFile};
+pub use laws::{texts_have_one_reading, worked_rows, written_is_read};
