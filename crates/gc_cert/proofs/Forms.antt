@@ -1,9 +1,9 @@
 -- Sections of one line, and of a number of lines of one form.
-use Rattle.std.proofs.Common.{◌≡◌, ◌≢◌, ℕ, suc, zero, ◌+◌, ◌-◌, ◌<◌, List, [], ◌∷◌, ◌++◌, length, map, replicate, refl, sym, ap, ◌∙◌, arith, append_assoc, subst, length-append, Option, Some, None}
+use Rattle.std.proofs.Common.{◌≡◌, ◌≢◌, ℕ, suc, zero, ◌-◌, ◌<◌, List, [], ◌∷◌, ◌++◌, length, map, replicate, refl, sym, ap, ◌∙◌, arith, append_assoc, subst, length-append, Option, Some, None}
 use Rattle.std.specs.List.{AllByRecursion}
 use Rattle.std.proofs.lemmas.List.{append-nil}
 use Rattle.gc_graph.specs.Lines.{newline, HasNo, ended}
-use Rattle.gc_cert.specs.Sections.{alone, AreAll, Place, HasTaken, Spelled, Begins, IsWrongAt, IsCutIn}
+use Rattle.gc_cert.specs.Sections.{alone, AreAll, Place, IsNext, HasTaken, Spelled, Begins, IsWrongAt, IsCutIn}
 use Rattle.gc_cert.proofs.Stops.{Delimits, BeginsWith}
 
 abbrev Lines : Type 0
@@ -41,20 +41,19 @@ not_all_alone : {V : Type 0} (InRange : V → Type 0) (line_of : V → List ℕ)
 not_all_alone InRange line_of (v, p, e) = no_line (line_of v) [] e
 
 -- the line is of no value
-pub line_wrong : {V : Type 0} (InRange : V → Type 0) (line_of : V → List ℕ) (read : List ℕ → Option V) (p : Place) (line after : List ℕ) → IsForm InRange line_of read → p.rest ≡ line ++ newline ∷ after → HasNo newline line → read line ≡ None
-    → IsWrongAt (Spelled InRange (alone line_of)) p (p.taken + 1)
-line_wrong InRange line_of read p line after form parts whole none = record {
+pub line_wrong : {V : Type 0} (InRange : V → Type 0) (line_of : V → List ℕ) (read : List ℕ → Option V) (p q : Place) (line : List ℕ) (n : ℕ) → IsForm InRange line_of read → IsNext line p q → read line ≡ None → n ≡ q.taken → IsWrongAt (Spelled InRange (alone line_of)) p n
+line_wrong InRange line_of read p q line n form next none numbered = record {
   before = [];
   line = line;
-  after = after;
-  parts = parts;
-  whole_line = whole;
-  number = omega arith;
+  after = q.rest;
+  parts = next.parts;
+  whole_line = next.whole;
+  number = omega (arith, numbered, next.number);
   good = begins_alone InRange line_of read form;
   not_all = not_all_alone InRange line_of;
-  wrong = λ (more, (v, q, e)).
+  wrong = λ (more, (v, fits, e)).
       let h = heads line (line_of v) more [] e in
-      let read_it : read line ≡ Some v = ap read h.0 ∙ form.again v q in
+      let read_it : read line ≡ Some v = ap read h.0 ∙ form.again v fits in
       absurd cc;
 }
 
@@ -70,11 +69,15 @@ line_cut InRange line_of read p form none = record {
 }
 
 -- the line of a value was taken
-pub line_taken : (line : List ℕ) (p q : Place) → p.rest ≡ line ++ newline ∷ q.rest → q.taken ≡ p.taken + 1 → HasTaken (line ∷ []) p q
-line_taken line p q parts number = record {
-  parts = parts ∙ sym (append_assoc line (newline ∷ []) q.rest) ∙ ap (λ (t : List ℕ). t ++ q.rest) (sym (append-nil (ended line)));
-  number = number;
-}
+pub line_taken : {V : Type 0} (InRange : V → Type 0) (line_of : V → List ℕ) (read : List ℕ → Option V) (p q : Place) (line : List ℕ) (v : V) → IsForm InRange line_of read → IsNext line p q → read line ≡ Some v → InRange v × HasTaken (line_of v ∷ []) p q
+line_taken InRange line_of read p q line v form next e =
+    let found = form.found line v e in (
+      found.0,
+      subst (λ (l : List ℕ). HasTaken (l ∷ []) p q) found.1 (record {
+        parts = next.parts ∙ sym (append_assoc line (newline ∷ []) q.rest) ∙ ap (λ (t : List ℕ). t ++ q.rest) (sym (append-nil (ended line)));
+        number = next.number;
+      }),
+    )
 
 -- ---- a number of lines
 

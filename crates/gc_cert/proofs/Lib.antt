@@ -1,4 +1,4 @@
-pub mod Lines
+pub mod SameLines
 pub mod OneReading
 pub mod Limit
 pub mod RowProofs
@@ -7,3 +7,4 @@ pub mod Forms
 pub mod LineForms
 pub mod Parts
 pub mod Total
+pub mod WordLists

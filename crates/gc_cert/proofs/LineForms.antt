@@ -12,6 +12,7 @@ use Rattle.gc_graph.proofs.LineLemmas.{HasNo-decimal, words_of-joined, joined-wo
 use Rattle.gc_graph.proofs.WordReading.{bind_some, onto, number_at_found, number_at_again, word_at_found, word_at_again, end_found, end_again, positive, some_is}
 use Rattle.gc_cert.specs.Grammar.{pair_line, count_line, size_line, IsWord, AreAddresses, AreSizes}
 use Rattle.gc_cert.specs.Reading.{is_name, is_line, word_in, count_of, sizes_of, pair_of}
+use Rattle.gc_cert.specs.Sections.{Nothing}
 use Rattle.gc_cert.proofs.Forms.{IsForm}
 
 HasNo-name : (c : ℕ) (name : List ℕ) → c < 58 → is_name name ≡ true → HasNo c name
@@ -27,9 +28,6 @@ from_words line words e = sym (joined-words_of line) ∙ ap joined e
 no_space : (n : ℕ) → n < 2 ^ 64 → HasNo space (decimal n)
 no_space n small = HasNo-decimal space n (omega arith) small
 
-abbrev pub Nothing : Unit {0} → Type 0
-Nothing u = Unit {0}
-
 pub fixed_form : (wanted : List ℕ) → IsForm Nothing (λ _. wanted) (is_line wanted)
 unfolding is_line
 fixed_form wanted = record {
@@ -38,6 +36,14 @@ fixed_form wanted = record {
   found = λ line v e. (tt, (bytes_eq-Decides line wanted).0 (cond_some (bytes_eq line wanted) tt v e).0);
   again = λ v _. rw ((bytes_eq-Decides wanted wanted).1 refl) refl;
 }
+
+pub line_is : (wanted line : List ℕ) → true ≡ bytes_eq line wanted → is_line wanted line ≡ Some tt
+unfolding is_line
+line_is wanted line e = rw (sym e) refl
+
+pub line_is_not : (wanted line : List ℕ) → false ≡ bytes_eq line wanted → is_line wanted line ≡ None
+unfolding is_line
+line_is_not wanted line e = rw (sym e) refl
 
 pub word_form : IsForm IsWord decimal word_in
 word_form = record {

@@ -8,7 +8,7 @@ use Rattle.gc_cert.specs.Faults.{AreFirst, AreWhole, HasWrongLine, HasByteBehind
 use Rattle.gc_cert.specs.declared.fault.PairFault.{PairFault}
 use Rattle.gc_cert.specs.declared.fault.PairFault.TheVariants.{Read, TooLarge, BadLine, EndsEarly, NoMemory}
 use Rattle.gc_graph.proofs.LineLemmas.{not_cut, one_cut}
-use Rattle.gc_cert.proofs.Lines.{AreLines, All-front, are_lines, lines_same}
+use Rattle.gc_cert.proofs.SameLines.{AreLines, All-front, are_lines, lines_same}
 
 text_more : (l : List ℕ) (ls : List (List ℕ)) (x : List ℕ) → text_of (l ∷ ls) ++ x ≡ l ++ newline ∷ (text_of ls ++ x)
 text_more l ls x = ap (λ (t : List ℕ). t ++ x) (flat_map-cons ended l ls) ∙ append_assoc (ended l) (text_of ls) x ∙ append_assoc l (newline ∷ []) (text_of ls ++ x)

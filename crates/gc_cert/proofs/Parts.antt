@@ -6,12 +6,12 @@ use Rattle.std.specs.List.{AllByRecursion}
 use Rattle.std.proofs.lemmas.List.{append-nil, append_cancel_left}
 use Rattle.gc_graph.specs.Lines.{space}
 use Rattle.gc_words.specs.Image.{Image}
-use Rattle.gc_cert.specs.Grammar.{CertifiedPair, pair_line, count_line, size_line, image_lines, certificate_lines, lines_of, IsWord, AreAddresses, AreSizes, IsCertificate, HasImageText, HasText}
-use Rattle.gc_cert.specs.Sections.{alone, AreAll, Place, HasTaken, Section, Spelled}
+use Rattle.gc_cert.specs.Grammar.{CertifiedPair, pair_line, count_line, size_line, image_lines, image_alone, certificate_lines, lines_of, IsWord, AreAddresses, AreSizes, IsCertificate, HasImageText, HasText}
+use Rattle.gc_cert.specs.Sections.{Nothing, alone, AreAll, Place, HasTaken, Section, Spelled}
 use Rattle.gc_cert.proofs.Stops.{Delimits, BeginsWith}
 use Rattle.gc_cert.proofs.Forms.{All-replicate, length-replicated, one_form}
-use Rattle.gc_cert.proofs.LineForms.{Nothing, pair_form}
-use Rattle.gc_cert.proofs.Lines.{head_of, number_head, count_same, two_same, same_lines, image_same, image_more, certificate_same}
+use Rattle.gc_cert.proofs.LineForms.{pair_form}
+use Rattle.gc_cert.proofs.SameLines.{head_of, number_head, count_same, two_same, same_lines, image_same, image_more, certificate_same}
 use Rattle.std.proofs.lemmas.Fmt.{decimal_injective}
 
 abbrev Lines : Type 0
@@ -22,9 +22,6 @@ pub none_taken : (p : Place) → HasTaken [] p p
 none_taken p = record { parts = refl; number = omega arith }
 
 -- ---- an image
-
-abbrev pub image_alone : List ℕ → Image → Lines
-image_alone name image = image_lines name image []
 
 abbrev pub ImageSection : List ℕ → Section
 ImageSection name = Spelled HasImageText (image_alone name)

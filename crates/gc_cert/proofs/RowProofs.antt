@@ -9,7 +9,7 @@ use Rattle.gc_cert.specs.Grammar.{pair_line, count_line, image_lines, certificat
 use Rattle.gc_cert.specs.Faults.{limit, AreFirst, AreWhole}
 use Rattle.gc_cert.specs.Rows.{least_image, least, Rows}
 use Rattle.gc_graph.proofs.LineLemmas.{HasNo-lacks}
-use Rattle.gc_cert.proofs.Lines.{lines_same, lines_more, image_same, certificate_more, head_of, count_same}
+use Rattle.gc_cert.proofs.SameLines.{lines_same, lines_more, image_same, certificate_more, head_of, count_same}
 
 short : (text : List ℕ) → leb (length text) limit ≡ true → length text ≤ limit
 short text e = leb-true (length text) limit e

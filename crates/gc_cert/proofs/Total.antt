@@ -1,5 +1,5 @@
 -- Each text has a reading: it is a pair of images, or it has a first fault.
-use Rattle.std.proofs.Common.{◌≡◌, ℕ, suc, zero, ◌+◌, ◌≤◌, Bool, true, false, leb, List, [], ◌∷◌, ◌++◌, length, map, refl, sym, ap, ◌∙◌, arith, subst, inl, inr, ◌⊎◌, length-append, Option, Some, None}
+use Rattle.std.proofs.Common.{◌≡◌, ◌≢◌, ℕ, suc, zero, ◌+◌, ◌≤◌, Bool, true, false, leb, List, [], ◌∷◌, ◌++◌, length, map, refl, sym, ap, ◌∙◌, arith, subst, inl, inr, ◌⊎◌, length-append, Option, Some, None}
 use Rattle.std.specs.Prelude.{codes}
 use Rattle.std.specs.Fmt.{decimal}
 use Rattle.std.specs.List.{AllByRecursion}
@@ -7,16 +7,16 @@ use Rattle.std.proofs.lemmas.Bool.{leb-true}
 use Rattle.std.proofs.lemmas.List.{append-nil}
 use Rattle.gc_graph.specs.Lines.{text_of, words_of}
 use Rattle.gc_graph.proofs.LineLemmas.{Cut, cut}
-use Rattle.gc_cert.specs.Grammar.{CertifiedPair, pair_line, count_line, size_line, certificate_lines, lines_of, spelling, IsWord, AreAddresses, AreSizes, IsCertificate, HasImageText, HasText, IsTextOf}
+use Rattle.gc_cert.specs.Grammar.{image_alone, CertifiedPair, pair_line, count_line, size_line, certificate_lines, lines_of, spelling, IsWord, AreAddresses, AreSizes, IsCertificate, HasImageText, HasText, IsTextOf}
 use Rattle.gc_cert.specs.Faults.{limit, AreFirst, AreWhole, HasWrongLine, HasByteBehind, IsCutOff, IsFaultOf, IsReadAs, MayFail}
-use Rattle.gc_cert.specs.Sections.{alone, AreAll, Place, start, HasTaken, Section, Spelled, Begins, IsWrongAt, IsCutIn, MayStop}
+use Rattle.gc_cert.specs.Sections.{Nothing, alone, AreAll, Place, start, IsNext, HasTaken, Section, Spelled, Begins, IsWrongAt, IsCutIn, MayStop}
 use Rattle.gc_cert.specs.Reading.{is_name, is_line, word_in, count_of, sizes_of, pair_of}
 use Rattle.gc_cert.specs.declared.fault.PairFault.{PairFault}
 use Rattle.gc_cert.specs.declared.fault.PairFault.TheVariants.{Read, TooLarge, BadLine, EndsEarly, NoMemory}
 use Rattle.gc_cert.proofs.Stops.{Delimits, BeginsWith, taken_then, wrong_within, cut_within}
 use Rattle.gc_cert.proofs.Forms.{IsForm, All-push, alone_delimits, all_delimit, line_wrong, line_cut, line_taken, begins_with_one, push_taken}
-use Rattle.gc_cert.proofs.LineForms.{Nothing, fixed_form, word_form, count_form, size_form, pair_form}
-use Rattle.gc_cert.proofs.Parts.{none_taken, image_alone, ImageSection, made_image, image_sizes, image_words, image_count, up_to_count, image_roots, image_taken, image_delimits, CertificateSection, pairs_line, certificate_count, certificate_pairs, up_to_end, certificate_end, certificate_taken, certificate_delimits, TextSection, heading, made_pair, text_heading, text_old, text_new, both_images, text_certificate, text_taken}
+use Rattle.gc_cert.proofs.LineForms.{fixed_form, word_form, count_form, size_form, pair_form}
+use Rattle.gc_cert.proofs.Parts.{none_taken, ImageSection, made_image, image_sizes, image_words, image_count, up_to_count, image_roots, image_taken, image_delimits, CertificateSection, pairs_line, certificate_count, certificate_pairs, up_to_end, certificate_end, certificate_taken, certificate_delimits, TextSection, heading, made_pair, text_heading, text_old, text_new, both_images, text_certificate, text_taken}
 
 -- the text goes no further than some line of the section
 Stops : Section → Place → Type 0
@@ -36,16 +36,19 @@ next InRange lines_of S done old mid one with taken (inr (inr w)) further = inr 
 
 -- ---- lines
 
+abbrev behind : (p : Place) → Cut p.rest → Place
+behind p c = record { rest = c.rest; taken = p.taken + 1 }
+
+is_next : (p : Place) (c : Cut p.rest) → IsNext c.line p (behind p c)
+is_next p c = record { parts = c.parts; whole = c.whole; number = refl }
+
 line_outcome : {V : Type 0} (InRange : V → Type 0) (line_of : V → List ℕ) (read : List ℕ → Option V) (p : Place) → IsForm InRange line_of read → Outcome InRange (alone line_of) p
 unfolding Stops Outcome
 line_outcome {V} InRange line_of read p form = elim (cut p.rest) [ inl none ↦ inr (inr (line_cut InRange line_of read p form none)) | inr c ↦ at c (read c.line) refl ]
   where
     at : (c : Cut p.rest) → (o : Option V) → read c.line ≡ o → Outcome InRange (alone line_of) p
-    at c None e = inr (inl (p.taken + 1, line_wrong InRange line_of read p c.line c.rest form c.parts c.whole e))
-    at c (Some v) e =
-        let after : Place = record { rest = c.rest; taken = p.taken + 1 } in
-        let found = form.found c.line v e in
-        inl (v, after, found.0, subst (λ (l : List ℕ). HasTaken (l ∷ []) p after) found.1 (line_taken c.line p after c.parts refl))
+    at c None e = inr (inl (p.taken + 1, line_wrong InRange line_of read p (behind p c) c.line (p.taken + 1) form (is_next p c) e refl))
+    at c (Some v) e = (let taken = line_taken InRange line_of read p (behind p c) c.line v form (is_next p c) e in inl (v, behind p c, taken.0, taken.1))
 
 all_outcome : {V : Type 0} (InRange : V → Type 0) (line_of : V → List ℕ) (read : List ℕ → Option V) (n : ℕ) (p : Place) → IsForm InRange line_of read → Outcome (AreAll InRange n) (map line_of) p
 unfolding Stops Outcome
@@ -152,6 +155,21 @@ byte_behind f text after byte bytes fits taken some = record {
   number = omega (arith, taken.number);
   whole = (f, fits, refl);
 }
+
+-- ---- the same, of a reader that began at the start
+
+pub stopped : (text : List ℕ) (p : Place) (fault : PairFault) → p ≡ start text → length text ≤ limit → MayStop TextSection fault p → MayFail fault text
+stopped text p fault began le stop = stop_of_text text fault le (subst (MayStop TextSection fault) began stop)
+
+pub went_through : (f : CertifiedPair) (text : List ℕ) (p after : Place) → p ≡ start text → HasText f × HasTaken (lines_of f) p after → after.rest ≡ [] → IsTextOf f text
+went_through f text p after began taken none = whole_text f text after taken.0 (subst (λ (q : Place). HasTaken (lines_of f) q after) began taken.1) none
+
+pub went_on : (f : CertifiedPair) (text : List ℕ) (p after : Place) (fault : PairFault) → p ≡ start text → length text ≤ limit → HasText f × HasTaken (lines_of f) p after → (after.rest ≢ []) × (fault ≡ BadLine (after.taken + 1)) → MayFail fault text
+went_on f text p after fault began le taken (some, is) = subst (λ (g : PairFault). MayFail g text) (sym is) (le, inr (at after.rest refl))
+  where
+    at : (rest : List ℕ) → after.rest ≡ rest → HasByteBehind text (after.taken + 1)
+    at [] none = absurd (some none)
+    at (byte ∷ bytes) more = byte_behind f text after byte bytes taken.0 (subst (λ (q : Place). HasTaken (lines_of f) q after) began taken.1) more
 
 -- a value, or a first fault
 abbrev pub Answered : List ℕ → Type 0

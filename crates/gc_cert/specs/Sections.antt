@@ -13,6 +13,12 @@ pub record Place : Type 0 where
 abbrev pub start : List ℕ → Place
 start text = record { rest = text; taken = 0 }
 
+-- the line that was taken next
+pub record IsNext (line : List ℕ) (old new : Place) : Type 0 where
+  pub parts : old.rest ≡ line ++ newline ∷ new.rest
+  pub whole : HasNo newline line
+  pub number : new.taken ≡ old.taken + 1
+
 -- these lines were taken
 pub record HasTaken (lines : List (List ℕ)) (old new : Place) : Type 0 where
   pub parts : old.rest ≡ text_of lines ++ new.rest
@@ -33,6 +39,10 @@ alone line_of v = line_of v ∷ []
 -- so many values in range
 abbrev pub AreAll : {V : Type 0} → (V → Type 0) → ℕ → List V → Type 0
 AreAll InRange n vs = (length vs ≡ n) × AllByRecursion InRange vs
+
+-- the value of a line that says nothing but that it stands there
+abbrev pub Nothing : Unit {0} → Type 0
+Nothing u = Unit {0}
 
 -- the first lines of a section
 abbrev pub Begins : Section → List (List ℕ) → Type 0

@@ -4,7 +4,13 @@
 mod fault;
 mod image;
 mod laws;
+mod lines;
+mod parser;
+mod reader;
+mod writer;
 
 pub use fault::{PairFault, WriteFault};
 pub use image::{Image, PairFile};
 pub use laws::{texts_have_one_reading, worked_rows, written_is_read};
+pub use reader::read_pair;
+pub use writer::pair_fits;
