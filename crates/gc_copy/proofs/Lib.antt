@@ -13,3 +13,4 @@ pub mod Links
 pub mod Kept
 pub mod Words
 pub mod Unused
+pub mod Changes

@@ -209,6 +209,22 @@ collect_with s (Some c) step = step_in s c step
 abbrev pub collect : State → Step → StepReply × State
 collect s step = collect_with s s.collection step
 
+-- the answers that change something
+abbrev pub is_change : StepReply → Bool
+is_change Busy = false
+is_change Begun = true
+is_change Idle = false
+is_change Clean = false
+is_change NoRoom = false
+is_change Copied = true
+is_change Passed = true
+is_change Scanned = true
+is_change Applied = true
+is_change NotReady = false
+is_change Refused = false
+is_change (Flipped pairs) = true
+is_change Dropped = true
+
 -- ---- the step that brings a collection on
 
 -- the least log from number k on that has an entry

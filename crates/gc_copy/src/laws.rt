@@ -1,6 +1,6 @@
 //! What follows from the definitions: the crates above cite these calls.
 
-ghost use Rattle.std.specs.Prelude.{◌≡◌, ◌≢◌, ◌++◌, ◌∷◌, [], ℕ, List, ◌-◌, ◌<◌, ◌≤◌, ◌==◌, length, Some, is_none, IsTrue};
+ghost use Rattle.std.specs.Prelude.{◌≡◌, ◌≢◌, ◌++◌, ◌∷◌, [], ℕ, List, ◌-◌, ◌<◌, ◌≤◌, ◌==◌, length, Some, is_none, ◌⊎◌, IsTrue, IsFalse};
 ghost use Rattle.gc_graph.specs.Graph.{Value, Ref, Object, Graph, IsUnused, set_field};
 ghost use Rattle.gc_graph.specs.Correspond.{Corresponding};
 ghost use Rattle.gc_graph.specs.Machine.{Roomy, roomy_step};
@@ -13,7 +13,7 @@ ghost use Rattle.gc_words.specs.Certificate.{Certified};
 ghost use Rattle.gc_heap.specs.Heap.{HeapWords, IsHeap, image_of, graph_in};
 ghost use Rattle.gc_copy.specs.State.{Replica, Collection, State, opening_state, new_objects, new_free, pairs_of, replica_of, replica_at, moved, new_graph};
 ghost use Rattle.gc_copy.specs.Linked.{linked_image, old_links, new_links};
-ghost use Rattle.gc_copy.specs.Steps.{written, log_at, with_log, with_collection, write_replica, fresh_collection, mutate, collect, is_ready};
+ghost use Rattle.gc_copy.specs.Steps.{written, log_at, with_log, with_collection, write_replica, fresh_collection, mutate, collect, is_change, is_ready, useful_step};
 ghost use Rattle.gc_copy.specs.Members.{In};
 ghost use Rattle.gc_copy.specs.Belonging.{IsSpaceGraph, HasField, Belongs, BelongsBut, IsOpened, IsOpen, IsState};
 ghost use Rattle.gc_copy.specs.Runs.{IsStep, InEveryRun};
@@ -21,6 +21,7 @@ ghost use Rattle.gc_copy.specs.Passing.{HasImage, PassesWhereReady, NeverRefused
 ghost use Rattle.gc_copy.specs.Carried.{CarriesOnlyKept};
 ghost use Rattle.gc_copy.specs.Rows.{Rows, SizedRows, KeptRows};
 ghost use Rattle.gc_copy.specs.declared.step.Step.{Step};
+ghost use Rattle.gc_copy.specs.declared.step.StepReply.TheVariants.{NoRoom};
 
 /// The worked rows hold of the definitions.
 pub fn worked_rows()
@@ -125,6 +126,16 @@ pub fn ready_flips_pass()
     ensures never_refused { (s : State) → IsState s → NeverRefused s }
     ensures runs { InEveryRun PassesWhereReady }
     ensures runs_never_refused { InEveryRun NeverRefused }
+{}
+
+/// An answer that is no change leaves the state as it is, and the useful step's is a change where the new
+/// space has room.
+pub fn answers_tell_changes()
+    ensures quiet { (s : State) (step : Step)
+        → IsFalse (is_change (collect s step).0) → (collect s step).1 ≡ s }
+    ensures useful { (s : State) → IsState s
+        → (let answer = (collect s (useful_step s)).0 in
+        (answer ≡ NoRoom) ⊎ IsTrue (is_change answer)) }
 {}
 
 /// In every run, each original of an open collection was reachable when the collection began, or was made

@@ -6,8 +6,8 @@ mod laws;
 mod step;
 
 pub use laws::{
-    belonging_is_kept, heaps_have_addresses_as_names, images_have_their_graphs,
-    links_tell_replicas, only_kept_is_carried, ready_flips_pass, room_suffices,
-    scans_and_pairs_are_bounded, states_are_kept, steps_keep_belonging, worked_rows,
+    answers_tell_changes, belonging_is_kept, heaps_have_addresses_as_names,
+    images_have_their_graphs, links_tell_replicas, only_kept_is_carried, ready_flips_pass,
+    room_suffices, scans_and_pairs_are_bounded, states_are_kept, steps_keep_belonging, worked_rows,
 };
 pub use step::{Step, StepReply};
