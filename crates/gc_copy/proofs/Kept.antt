@@ -21,7 +21,7 @@ use Rattle.gc_copy.specs.declared.step.Step.{Step}
 use Rattle.gc_copy.specs.declared.step.Step.TheVariants as steps
 use Rattle.gc_copy.specs.declared.step.StepReply.{StepReply}
 use Rattle.gc_copy.specs.declared.step.StepReply.TheVariants.{Clean, Scanned}
-use Rattle.gc_copy.proofs.Commands.{unchanged, step_keeps, step_evolves}
+use Rattle.gc_copy.proofs.Commands.{unchanged, step_keeps, step_evolves, field_stays, written_there, full_writes_nothing}
 use Rattle.gc_copy.proofs.Replicas.{pair, placed, end_of, replicas_due}
 use Rattle.gc_copy.proofs.Steps.{open_keeps, ready_parts, its_replicas, belongs_from, belongs_but, belongs_noted}
 use Rattle.gc_copy.proofs.Links.{found_by_place}
@@ -107,6 +107,14 @@ command_kept h c m op name belongs =
     cond_both (nat_lt h.free (words_taken op)) _ _ (λ (next : Reply × Roomy). BelongsBut (λ a i. In (a, i) (written h.graph m op next.0)) next.1.graph.objects c)
     (λ full. belongs_but h.graph.objects h.graph.objects c (λ a i. In (a, i) (written h.graph m op Full)) belongs (unchanged h.graph.objects _))
     (λ fits. belongs_but h.graph.objects (step h.graph m op name).1.objects c (λ a i. In (a, i) (written h.graph m op (step h.graph m op name).0)) belongs (step_evolves h.graph m op name))
+
+-- the field that a command writes is one of the heap
+pub field_there : (h : Roomy) (m : ℕ) (op : Op) (name a i : ℕ)
+    → (let next = roomy_step h m op name in In (a, i) (written h.graph m op next.0) → HasField next.1.graph.objects a i)
+field_there h m op name a i =
+    cond_both (nat_lt h.free (words_taken op)) _ _ (λ (next : Reply × Roomy). In (a, i) (written h.graph m op next.0) → HasField next.1.graph.objects a i)
+    (λ full. λ x. absurd (full_writes_nothing h.graph m op a i x))
+    (λ fits. λ x. field_stays h.graph.objects (step h.graph m op name).1.objects (λ b j. In (b, j) (written h.graph m op (step h.graph m op name).0)) a i (step_evolves h.graph m op name) (written_there h.graph m op name a i x))
 
 pub notes : (objects : List (ℕ × Object)) (c : Collection) (m a i : ℕ) → m < length c.logs → HasField objects a i → BelongsBut (λ b j. (b ≡ a) × (j ≡ i)) objects c
     → Belongs objects (with_log c m (log_at c m ++ (a, i) ∷ []))

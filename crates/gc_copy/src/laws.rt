@@ -31,7 +31,7 @@ pub fn worked_rows()
 {}
 
 /// A collection that has just begun belongs to any heap. A command keeps the heap, and belonging but for
-/// the field that it writes; an entry in a log that names this field restores it.
+/// the field that it writes, which is one of the heap; an entry in a log that names this field restores it.
 pub fn belonging_is_kept()
     ensures begins { (objects : List (ℕ × Object)) (mutators size : ℕ)
         → 1 ≤ size → Belongs objects (fresh_collection mutators size) }
@@ -43,6 +43,9 @@ pub fn belonging_is_kept()
         → Belongs heap.graph.objects c
         → (let next = roomy_step heap m op name in
         BelongsBut (λ a i. In (a, i) (written heap.graph m op next.0)) next.1.graph.objects c) }
+    ensures fields { (heap : Roomy) (m : ℕ) (op : Op) (name a i : ℕ)
+        → (let next = roomy_step heap m op name in
+        In (a, i) (written heap.graph m op next.0) → HasField next.1.graph.objects a i) }
     ensures notes { (objects : List (ℕ × Object)) (c : Collection) (m a i : ℕ)
         → m < length c.logs → HasField objects a i
         → BelongsBut (λ b j. (b ≡ a) × (j ≡ i)) objects c
