@@ -1,0 +1,135 @@
+-- Sections of one line, and of a number of lines of one form.
+use Rattle.std.proofs.Common.{◌≡◌, ◌≢◌, ℕ, suc, zero, ◌-◌, ◌<◌, List, [], ◌∷◌, ◌++◌, length, map, replicate, refl, sym, ap, ◌∙◌, arith, append_assoc, subst, length-append, Option, Some, None}
+use Rattle.std.specs.List.{AllByRecursion}
+use Rattle.std.proofs.lemmas.List.{append-nil}
+use Rattle.gc_graph.specs.Lines.{newline, HasNo, ended}
+use Rattle.gc_cert.specs.Sections.{alone, AreAll, Place, IsNext, HasTaken, Spelled, Begins, IsWrongAt, IsCutIn}
+use Rattle.gc_cert.proofs.Stops.{Delimits, BeginsWith}
+
+abbrev Lines : Type 0
+Lines = List (List ℕ)
+
+-- a line for each value in range, and its reading
+pub record IsForm {V : Type 0} (InRange : V → Type 0) (line_of : V → List ℕ) (read : List ℕ → Option V) : Type 0 where
+  pub some : V
+  pub in_range : InRange some
+  pub found : (line : List ℕ) (v : V) → read line ≡ Some v → InRange v × (line ≡ line_of v)
+  pub again : (v : V) → InRange v → read (line_of v) ≡ Some v
+
+-- ---- one line
+
+heads : (x y : List ℕ) (xs ys : Lines) → x ∷ xs ≡ y ∷ ys → (x ≡ y) × (xs ≡ ys)
+heads x y xs ys e = (cc, cc)
+
+pub one_form : {V : Type 0} (InRange : V → Type 0) (line_of : V → List ℕ) (read : List ℕ → Option V) → IsForm InRange line_of read → (v w : V) → InRange v → InRange w → line_of v ≡ line_of w → v ≡ w
+one_form InRange line_of read form v w p q e =
+    let both : Some v ≡ Some w = sym (form.again v p) ∙ ap read e ∙ form.again w q in
+    cc
+
+pub alone_delimits : {V : Type 0} (InRange : V → Type 0) (line_of : V → List ℕ) (read : List ℕ → Option V) → IsForm InRange line_of read → Delimits InRange (alone line_of)
+alone_delimits InRange line_of read form v w x y p q e =
+    let h = heads (line_of v) (line_of w) x y e in
+    (one_form InRange line_of read form v w p q h.0, h.1)
+
+begins_alone : {V : Type 0} (InRange : V → Type 0) (line_of : V → List ℕ) (read : List ℕ → Option V) → IsForm InRange line_of read → Begins (Spelled InRange (alone line_of)) []
+begins_alone InRange line_of read form = (line_of form.some ∷ [], (form.some, form.in_range, refl))
+
+no_line : (l : List ℕ) (ls : Lines) → [] ≢ l ∷ ls
+no_line l ls e = cc
+
+not_all_alone : {V : Type 0} (InRange : V → Type 0) (line_of : V → List ℕ) → ¬ Spelled InRange (alone line_of) []
+not_all_alone InRange line_of (v, p, e) = no_line (line_of v) [] e
+
+-- the line is of no value
+pub line_wrong : {V : Type 0} (InRange : V → Type 0) (line_of : V → List ℕ) (read : List ℕ → Option V) (p q : Place) (line : List ℕ) (n : ℕ) → IsForm InRange line_of read → IsNext line p q → read line ≡ None → n ≡ q.taken → IsWrongAt (Spelled InRange (alone line_of)) p n
+line_wrong InRange line_of read p q line n form next none numbered = record {
+  before = [];
+  line = line;
+  after = q.rest;
+  parts = next.parts;
+  whole_line = next.whole;
+  number = omega (arith, numbered, next.number);
+  good = begins_alone InRange line_of read form;
+  not_all = not_all_alone InRange line_of;
+  wrong = λ (more, (v, fits, e)).
+      let h = heads line (line_of v) more [] e in
+      let read_it : read line ≡ Some v = ap read h.0 ∙ form.again v fits in
+      absurd cc;
+}
+
+-- no line is left
+pub line_cut : {V : Type 0} (InRange : V → Type 0) (line_of : V → List ℕ) (read : List ℕ → Option V) (p : Place) → IsForm InRange line_of read → HasNo newline p.rest → IsCutIn (Spelled InRange (alone line_of)) p
+line_cut InRange line_of read p form none = record {
+  before = [];
+  unfinished = p.rest;
+  parts = refl;
+  no_line = none;
+  good = begins_alone InRange line_of read form;
+  not_all = not_all_alone InRange line_of;
+}
+
+-- the line of a value was taken
+pub line_taken : {V : Type 0} (InRange : V → Type 0) (line_of : V → List ℕ) (read : List ℕ → Option V) (p q : Place) (line : List ℕ) (v : V) → IsForm InRange line_of read → IsNext line p q → read line ≡ Some v → InRange v × HasTaken (line_of v ∷ []) p q
+line_taken InRange line_of read p q line v form next e =
+    let found = form.found line v e in (
+      found.0,
+      subst (λ (l : List ℕ). HasTaken (l ∷ []) p q) found.1 (record {
+        parts = next.parts ∙ sym (append_assoc line (newline ∷ []) q.rest) ∙ ap (λ (t : List ℕ). t ++ q.rest) (sym (append-nil (ended line)));
+        number = next.number;
+      }),
+    )
+
+-- ---- a number of lines
+
+All-append : {V : Type 0} (P : V → Type 0) (xs ys : List V) → AllByRecursion P xs → AllByRecursion P ys → AllByRecursion P (xs ++ ys)
+All-append P [] ys p q = q
+All-append P (x ∷ xs) ys p q = (p.0, All-append P xs ys p.1 q)
+
+pub All-push : {V : Type 0} (P : V → Type 0) (xs : List V) (y : V) → AllByRecursion P xs → P y → AllByRecursion P (xs ++ y ∷ [])
+All-push P xs y h p = All-append P xs (y ∷ []) h (p, tt)
+
+pub All-replicate : {V : Type 0} (P : V → Type 0) (n : ℕ) (x : V) → P x → AllByRecursion P (replicate n x)
+All-replicate P zero x p = tt
+All-replicate P (suc n) x p = (p, All-replicate P n x p)
+
+pub length-replicated : {V : Type 0} (n : ℕ) (x : V) → length (replicate n x) ≡ n
+length-replicated zero x = refl
+length-replicated (suc n) x = ap suc (length-replicated n x)
+
+map-append : {V : Type 0} (f : V → List ℕ) (xs ys : List V) → map f (xs ++ ys) ≡ map f xs ++ map f ys
+map-append f [] ys = refl
+map-append f (x ∷ xs) ys = ap (λ (ls : Lines). f x ∷ ls) (map-append f xs ys)
+
+pub all_delimit : {V : Type 0} (InRange : V → Type 0) (line_of : V → List ℕ) (read : List ℕ → Option V) (n : ℕ) → IsForm InRange line_of read → Delimits (AreAll InRange n) (map line_of)
+all_delimit {V} InRange line_of read n form vs ws x y p q e = same vs ws p.1 q.1 (p.0 ∙ sym q.0) e
+  where
+    same : (vs ws : List V) → AllByRecursion InRange vs → AllByRecursion InRange ws → length vs ≡ length ws → map line_of vs ++ x ≡ map line_of ws ++ y → (vs ≡ ws) × (x ≡ y)
+    same [] [] p q len e = (refl, e)
+    same [] (w ∷ ws) p q len e = absurd (omega (arith, len))
+    same (v ∷ vs) [] p q len e = absurd (omega (arith, len))
+    same (v ∷ vs) (w ∷ ws) p q len e =
+        let h = heads (line_of v) (line_of w) (map line_of vs ++ x) (map line_of ws ++ y) e in
+        let rest = same vs ws p.1 q.1 (omega (arith, len)) h.1 in
+        (rw (one_form InRange line_of read form v w p.0 q.0 h.0, rest.0) refl, rest.1)
+
+-- behind fewer lines than there are, one more stands
+one_more : {V : Type 0} (InRange : V → Type 0) (line_of : V → List ℕ) (done lines : Lines) (vs : List V) → length done < length vs → AllByRecursion InRange vs → done ++ lines ≡ map line_of vs → (v : V) × (more : Lines) × InRange v × (lines ≡ line_of v ∷ more)
+one_more InRange line_of done lines [] lt p e = absurd (omega (arith, lt))
+one_more InRange line_of [] lines (v ∷ vs) lt p e = (v, map line_of vs, p.0, e)
+one_more InRange line_of (l ∷ done) lines (v ∷ vs) lt p e = one_more InRange line_of done lines vs (omega (arith, lt)) p.1 (heads l (line_of v) (done ++ lines) (map line_of vs) e).1
+
+length-map : {V : Type 0} (f : V → List ℕ) (xs : List V) → length (map f xs) ≡ length xs
+length-map f [] = refl
+length-map f (x ∷ xs) = ap suc (length-map f xs)
+
+pub begins_with_one : {V : Type 0} (InRange : V → Type 0) (line_of : V → List ℕ) (n : ℕ) (vs : List V) → length vs < n → AllByRecursion InRange vs → BeginsWith InRange (alone line_of) (λ lines. Spelled (AreAll InRange n) (map line_of) (map line_of vs ++ lines))
+begins_with_one InRange line_of n vs lt p = record {
+  some = λ v q.
+      let more = replicate (n - length vs - 1) v in
+      (map line_of more, (vs ++ v ∷ more, (omega (arith, length-append vs (v ∷ more), length-replicated (n - length vs - 1) v), All-append InRange vs (v ∷ more) p (q, All-replicate InRange (n - length vs - 1) v q)), sym (map-append line_of vs (v ∷ more))));
+  only = λ lines (ws, q, e). one_more InRange line_of (map line_of vs) lines ws (omega (arith, lt, q.0, length-map line_of vs)) q.1 e;
+}
+
+-- one more line of the form was taken
+pub push_taken : {V : Type 0} (line_of : V → List ℕ) (vs : List V) (v : V) (a b : Place) → HasTaken (map line_of vs ++ line_of v ∷ []) a b → HasTaken (map line_of (vs ++ v ∷ [])) a b
+push_taken line_of vs v a b taken = subst (λ (ls : Lines). HasTaken ls a b) (sym (map-append line_of vs (v ∷ []))) taken

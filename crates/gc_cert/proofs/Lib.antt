@@ -1,0 +1,10 @@
+pub mod SameLines
+pub mod OneReading
+pub mod Limit
+pub mod RowProofs
+pub mod Stops
+pub mod Forms
+pub mod LineForms
+pub mod Parts
+pub mod Total
+pub mod WordLists

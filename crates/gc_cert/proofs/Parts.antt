@@ -1,0 +1,241 @@
+-- What each part of a pair text begins with, behind the lines that stand before.
+use Rattle.std.proofs.Common.{◌≡◌, ℕ, ◌≤◌, List, [], ◌∷◌, ◌++◌, length, map, replicate, refl, sym, ap, ◌∙◌, arith, append_assoc, subst}
+use Rattle.std.specs.Prelude.{codes}
+use Rattle.std.specs.Fmt.{decimal}
+use Rattle.std.specs.List.{AllByRecursion}
+use Rattle.std.proofs.lemmas.List.{append-nil, append_cancel_left}
+use Rattle.gc_graph.specs.Lines.{space}
+use Rattle.gc_words.specs.Image.{Image}
+use Rattle.gc_cert.specs.Grammar.{CertifiedPair, pair_line, count_line, size_line, image_lines, image_alone, certificate_lines, lines_of, IsWord, AreAddresses, AreSizes, IsCertificate, HasImageText, HasText}
+use Rattle.gc_cert.specs.Sections.{Nothing, alone, AreAll, Place, HasTaken, Section, Spelled}
+use Rattle.gc_cert.proofs.Stops.{Delimits, BeginsWith}
+use Rattle.gc_cert.proofs.Forms.{All-replicate, length-replicated, one_form}
+use Rattle.gc_cert.proofs.LineForms.{pair_form}
+use Rattle.gc_cert.proofs.SameLines.{head_of, number_head, count_same, two_same, same_lines, image_same, image_more, certificate_same}
+use Rattle.std.proofs.lemmas.Fmt.{decimal_injective}
+
+abbrev Lines : Type 0
+Lines = List (List ℕ)
+
+-- nothing was taken yet
+pub none_taken : (p : Place) → HasTaken [] p p
+none_taken p = record { parts = refl; number = omega arith }
+
+-- ---- an image
+
+abbrev pub ImageSection : List ℕ → Section
+ImageSection name = Spelled HasImageText (image_alone name)
+
+abbrev pub made_image : ℕ × ℕ → List ℕ → List ℕ → Image
+made_image s words roots = record { size = s.0; end = s.1; words = words; roots = roots }
+
+image_fits : (s : ℕ × ℕ) (words roots : List ℕ) → AreSizes s → AreAll IsWord s.1 words → length roots ≤ 272 → AllByRecursion IsWord roots → HasImageText (made_image s words roots)
+image_fits s words roots fits ws le rs = record { sizes = fits; count = ws.0; words = ws.1; roots = le; root_words = rs }
+
+-- what stands behind the words
+abbrev root_lines : List ℕ → Lines
+root_lines roots = count_line (codes "roots") (length roots) ∷ (map decimal roots ++ [])
+
+sizes_same : (name : List ℕ) (s t : ℕ × ℕ) → AreSizes s → AreSizes t → size_line name s.0 s.1 ≡ size_line name t.0 t.1 → (s.0 ≡ t.0) × (s.1 ≡ t.1)
+sizes_same name s t p q e =
+    two_same s.0 s.1 t.0 t.1 (omega (arith, p)) (omega (arith, p)) (omega (arith, q)) (omega (arith, q))
+    (number_head space space (decimal s.0 ++ space ∷ decimal s.1) (decimal t.0 ++ space ∷ decimal t.1) (append_cancel_left name (space ∷ decimal s.0 ++ space ∷ decimal s.1) (space ∷ decimal t.0 ++ space ∷ decimal t.1) e))
+
+behind_sizes : (name : List ℕ) (s : ℕ × ℕ) (image : Image) (lines : Lines) → AreSizes s → HasImageText image → size_line name s.0 s.1 ∷ lines ≡ image_alone name image → (length image.words ≡ s.1) × (lines ≡ map decimal image.words ++ root_lines image.roots)
+behind_sizes name s image lines p fits e =
+    let h = head_of (size_line name s.0 s.1) (size_line name image.size image.end) lines (map decimal image.words ++ root_lines image.roots) e in
+    (fits.count ∙ sym (sizes_same name s (image.size, image.end) p fits.sizes h.0).1, h.1)
+
+behind_words : (name : List ℕ) (s : ℕ × ℕ) (words : List ℕ) (image : Image) (lines : Lines) → AreSizes s → AreAll IsWord s.1 words → HasImageText image → size_line name s.0 s.1 ∷ (map decimal words ++ lines) ≡ image_alone name image → lines ≡ root_lines image.roots
+behind_words name s words image lines p ws fits e =
+    let behind = behind_sizes name s image (map decimal words ++ lines) p fits e in
+    (same_lines IsWord decimal decimal_injective words image.words lines (root_lines image.roots) ws.1 fits.words (ws.0 ∙ sym behind.0) behind.1).1
+
+pub image_sizes : (name : List ℕ) → BeginsWith AreSizes (alone (λ s. size_line name s.0 s.1)) (λ lines. ImageSection name ([] ++ lines))
+image_sizes name = record {
+  some = λ s fits.
+      let words = replicate s.1 0 in
+      (map decimal words ++ root_lines [], (made_image s words [], image_fits s words [] fits (length-replicated s.1 0, All-replicate IsWord s.1 0 (omega arith)) (omega arith) tt, refl));
+  only = λ lines (image, fits, e). ((image.size, image.end), map decimal image.words ++ root_lines image.roots, fits.sizes, e);
+}
+
+pub image_words : (name : List ℕ) (s : ℕ × ℕ) → AreSizes s → BeginsWith (AreAll IsWord s.1) (map decimal) (λ lines. ImageSection name ((size_line name s.0 s.1 ∷ []) ++ lines))
+image_words name s fits = record {
+  some = λ words ws. (root_lines [], (made_image s words [], image_fits s words [] fits ws (omega arith) tt, refl));
+  only = λ lines (image, fits', e). (let behind = behind_sizes name s image lines fits fits' e in (image.words, root_lines image.roots, (behind.0, fits'.words), behind.1));
+}
+
+pub image_count : (name : List ℕ) (s : ℕ × ℕ) (words : List ℕ) → AreSizes s → AreAll IsWord s.1 words → BeginsWith (λ n. n ≤ 272) (alone (count_line (codes "roots"))) (λ lines. ImageSection name (((size_line name s.0 s.1 ∷ []) ++ map decimal words) ++ lines))
+image_count name s words fits ws = record {
+  some = λ n le.
+      let roots = replicate n 0 in
+      let counted : length roots ≡ n = length-replicated n 0 in (
+        map decimal roots ++ [],
+        (
+          made_image s words roots,
+          image_fits s words roots fits ws (omega arith) (All-replicate IsWord n 0 (omega arith)),
+          ap (λ (k : ℕ). size_line name s.0 s.1 ∷ (map decimal words ++ count_line (codes "roots") k ∷ (map decimal roots ++ []))) (sym counted),
+        ),
+      );
+  only = λ lines (image, fits', e). (length image.roots, map decimal image.roots ++ [], fits'.roots, behind_words name s words image lines fits ws fits' e);
+}
+
+-- the lines up to the count of the roots
+abbrev pub up_to_count : List ℕ → ℕ × ℕ → List ℕ → ℕ → Lines
+up_to_count name s words n = ((size_line name s.0 s.1 ∷ []) ++ map decimal words) ++ count_line (codes "roots") n ∷ []
+
+whole_image : (name : List ℕ) (s : ℕ × ℕ) (words : List ℕ) (n : ℕ) (more : Lines) → up_to_count name s words n ++ more ≡ size_line name s.0 s.1 ∷ (map decimal words ++ count_line (codes "roots") n ∷ more)
+whole_image name s words n more = ap (λ (ls : Lines). size_line name s.0 s.1 ∷ ls) (append_assoc (map decimal words) (count_line (codes "roots") n ∷ []) more)
+
+up_to_roots : (name : List ℕ) (s : ℕ × ℕ) (words roots : List ℕ) (n : ℕ) (more : Lines) → length roots ≡ n → up_to_count name s words n ++ (map decimal roots ++ more) ≡ image_lines name (made_image s words roots) more
+up_to_roots name s words roots n more counted = whole_image name s words n (map decimal roots ++ more) ∙ ap (λ (k : ℕ). size_line name s.0 s.1 ∷ (map decimal words ++ count_line (codes "roots") k ∷ (map decimal roots ++ more))) (sym counted)
+
+pub image_roots : (name : List ℕ) (s : ℕ × ℕ) (words : List ℕ) (n : ℕ) → AreSizes s → AreAll IsWord s.1 words → n ≤ 272 → BeginsWith (AreAll IsWord n) (map decimal) (λ lines. ImageSection name (up_to_count name s words n ++ lines))
+image_roots name s words n fits ws le = record {
+  some = λ roots rs. ([], (made_image s words roots, image_fits s words roots fits ws (omega (arith, rs.0)) rs.1, up_to_roots name s words roots n [] rs.0));
+  only = λ lines (image, fits', e).
+      let behind = behind_words name s words image (count_line (codes "roots") n ∷ lines) fits ws fits' (sym (whole_image name s words n lines) ∙ e) in
+      let h = head_of (count_line (codes "roots") n) (count_line (codes "roots") (length image.roots)) lines (map decimal image.roots ++ []) behind in
+      (image.roots, [], (sym (count_same (codes "roots") n (length image.roots) (omega arith) (omega (arith, fits'.roots)) h.0), fits'.root_words), h.1);
+}
+
+-- all of an image was taken
+pub image_taken : (name : List ℕ) (s : ℕ × ℕ) (words roots : List ℕ) (n : ℕ) (a b : Place) → AreSizes s → AreAll IsWord s.1 words → n ≤ 272 → AreAll IsWord n roots → HasTaken (up_to_count name s words n ++ map decimal roots) a b
+    → HasImageText (made_image s words roots) × HasTaken (image_alone name (made_image s words roots)) a b
+image_taken name s words roots n a b fits ws le rs taken = (
+  image_fits s words roots fits ws (omega (arith, rs.0)) rs.1,
+  subst (λ (ls : Lines). HasTaken ls a b) (ap (λ (ls : Lines). up_to_count name s words n ++ ls) (sym (append-nil (map decimal roots))) ∙ up_to_roots name s words roots n [] rs.0) taken,
+)
+
+pub image_delimits : (name : List ℕ) → Delimits HasImageText (image_alone name)
+image_delimits name v w x y p q e = image_same name v w x y p q (sym (image_more name v [] x) ∙ e ∙ image_more name w [] y)
+
+-- ---- the pairs, and the line behind them
+
+abbrev pub CertificateSection : Section
+CertificateSection = Spelled IsCertificate certificate_lines
+
+abbrev pub pairs_line : ℕ → List ℕ
+pairs_line n = count_line (codes "pairs") n
+
+pub certificate_count : BeginsWith (λ n. n ≤ 524287) (alone (count_line (codes "pairs"))) (λ lines. CertificateSection ([] ++ lines))
+certificate_count = record {
+  some = λ n le.
+      let pairs = replicate n (0, 0) in
+      let counted : length pairs ≡ n = length-replicated n (0, 0) in
+      (map pair_line pairs ++ codes "end" ∷ [], (pairs, (omega arith, All-replicate AreAddresses n (0, 0) (omega arith, omega arith)), ap (λ (k : ℕ). pairs_line k ∷ (map pair_line pairs ++ codes "end" ∷ [])) (sym counted)));
+  only = λ lines (pairs, fits, e). (length pairs, map pair_line pairs ++ codes "end" ∷ [], fits.0, e);
+}
+
+behind_count : (n : ℕ) (pairs : List (ℕ × ℕ)) (lines : Lines) → n ≤ 524287 → IsCertificate pairs → pairs_line n ∷ lines ≡ certificate_lines pairs → (length pairs ≡ n) × (lines ≡ map pair_line pairs ++ codes "end" ∷ [])
+behind_count n pairs lines le fits e =
+    let h = head_of (pairs_line n) (pairs_line (length pairs)) lines (map pair_line pairs ++ codes "end" ∷ []) e in
+    (sym (count_same (codes "pairs") n (length pairs) (omega arith) (omega (arith, fits.0)) h.0), h.1)
+
+pub certificate_pairs : (n : ℕ) → n ≤ 524287 → BeginsWith (AreAll AreAddresses n) (map pair_line) (λ lines. CertificateSection ((pairs_line n ∷ []) ++ lines))
+certificate_pairs n le = record {
+  some = λ pairs ps. (codes "end" ∷ [], (pairs, (omega (arith, ps.0), ps.1), ap (λ (k : ℕ). pairs_line k ∷ (map pair_line pairs ++ codes "end" ∷ [])) (sym ps.0)));
+  only = λ lines (pairs, fits, e). (let behind = behind_count n pairs lines le fits e in (pairs, codes "end" ∷ [], (behind.0, fits.1), behind.1));
+}
+
+-- the lines up to the last
+abbrev pub up_to_end : ℕ → List (ℕ × ℕ) → Lines
+up_to_end n pairs = (pairs_line n ∷ []) ++ map pair_line pairs
+
+pub certificate_end : (n : ℕ) (pairs : List (ℕ × ℕ)) → n ≤ 524287 → AreAll AreAddresses n pairs → BeginsWith Nothing (alone (λ _. codes "end")) (λ lines. CertificateSection (up_to_end n pairs ++ lines))
+certificate_end n pairs le ps = record {
+  some = λ u _. ([], (pairs, (omega (arith, ps.0), ps.1), ap (λ (k : ℕ). pairs_line k ∷ (map pair_line pairs ++ codes "end" ∷ [])) (sym ps.0)));
+  only = λ lines (pairs', fits, e).
+      let behind = behind_count n pairs' (map pair_line pairs ++ lines) le fits e in
+      (tt, [], tt, at pairs' fits lines behind);
+}
+  where
+    at : (pairs' : List (ℕ × ℕ)) → IsCertificate pairs' → (lines : Lines) → (length pairs' ≡ n) × (map pair_line pairs ++ lines ≡ map pair_line pairs' ++ codes "end" ∷ []) → lines ≡ codes "end" ∷ []
+    at pairs' fits lines behind = (same_lines AreAddresses pair_line (one_form AreAddresses pair_line _ pair_form) pairs pairs' lines (codes "end" ∷ []) ps.1 fits.1 (ps.0 ∙ sym behind.0) behind.1).1
+
+-- all of a certificate was taken
+pub certificate_taken : (n : ℕ) (pairs : List (ℕ × ℕ)) (a b : Place) → n ≤ 524287 → AreAll AreAddresses n pairs → HasTaken (up_to_end n pairs ++ codes "end" ∷ []) a b → IsCertificate pairs × HasTaken (certificate_lines pairs) a b
+certificate_taken n pairs a b le ps taken =
+    ((omega (arith, ps.0), ps.1), subst (λ (ls : Lines). HasTaken ls a b) (ap (λ (k : ℕ). pairs_line k ∷ (map pair_line pairs ++ codes "end" ∷ [])) (sym ps.0)) taken)
+
+pub certificate_delimits : Delimits IsCertificate certificate_lines
+certificate_delimits v w x y p q e = certificate_same v w x y p.0 q.0 p.1 q.1 e
+
+-- ---- the whole text
+
+abbrev pub TextSection : Section
+TextSection = Spelled HasText lines_of
+
+abbrev pub heading : List ℕ
+heading = codes "heappair 1"
+
+abbrev pub made_pair : Image → Image → List (ℕ × ℕ) → CertifiedPair
+made_pair old new pairs = record { old = old; new = new; pairs = pairs }
+
+abbrev least_image : Image
+least_image = made_image (1, 1) (0 ∷ []) []
+
+least_fits : HasImageText least_image
+least_fits = image_fits (1, 1) (0 ∷ []) [] (omega arith, omega arith, omega arith, omega arith) (refl, (omega arith, tt)) (omega arith) tt
+
+pair_fits : (old new : Image) (pairs : List (ℕ × ℕ)) → HasImageText old → HasImageText new → IsCertificate pairs → HasText (made_pair old new pairs)
+pair_fits old new pairs p q r = record { old = p; new = q; pairs = r }
+
+pub text_heading : BeginsWith Nothing (alone (λ _. heading)) (λ lines. TextSection ([] ++ lines))
+unfolding lines_of
+text_heading = record {
+  some = λ u _. (image_lines (codes "old") least_image (image_lines (codes "new") least_image (certificate_lines [])), (made_pair least_image least_image [], pair_fits least_image least_image [] least_fits least_fits (omega arith, tt), refl));
+  only = λ lines (f, fits, e). (tt, image_lines (codes "old") f.old (image_lines (codes "new") f.new (certificate_lines f.pairs)), tt, e);
+}
+
+behind_heading : (f : CertifiedPair) (lines : Lines) → heading ∷ lines ≡ lines_of f → lines ≡ image_alone (codes "old") f.old ++ image_lines (codes "new") f.new (certificate_lines f.pairs)
+unfolding lines_of
+behind_heading f lines e =
+    let behind = image_lines (codes "new") f.new (certificate_lines f.pairs) in
+    (head_of heading heading lines (image_lines (codes "old") f.old behind) e).1 ∙ sym (image_more (codes "old") f.old [] behind)
+
+-- the lines of three parts
+pub three_parts : (old new : Image) (pairs : List (ℕ × ℕ)) → ((heading ∷ []) ++ image_alone (codes "old") old) ++ (image_alone (codes "new") new ++ certificate_lines pairs) ≡ lines_of (made_pair old new pairs)
+unfolding lines_of
+three_parts old new pairs =
+    ap (λ (ls : Lines). heading ∷ ls) (image_more (codes "old") old [] (image_alone (codes "new") new ++ certificate_lines pairs) ∙ ap (image_lines (codes "old") old) (image_more (codes "new") new [] (certificate_lines pairs)))
+
+pub text_old : BeginsWith HasImageText (image_alone (codes "old")) (λ lines. TextSection ((heading ∷ []) ++ lines))
+text_old = record {
+  some = λ image fits. (image_alone (codes "new") least_image ++ certificate_lines [], (made_pair image least_image [], pair_fits image least_image [] fits least_fits (omega arith, tt), three_parts image least_image []));
+  only = λ lines (f, fits, e). (f.old, image_lines (codes "new") f.new (certificate_lines f.pairs), fits.old, behind_heading f lines e);
+}
+
+behind_old : (old : Image) (f : CertifiedPair) (lines : Lines) → HasImageText old → HasText f → ((heading ∷ []) ++ image_alone (codes "old") old) ++ lines ≡ lines_of f → lines ≡ image_alone (codes "new") f.new ++ certificate_lines f.pairs
+behind_old old f lines p fits e =
+    (image_delimits (codes "old") old f.old lines (image_lines (codes "new") f.new (certificate_lines f.pairs)) p fits.old (behind_heading f (image_alone (codes "old") old ++ lines) e)).1
+    ∙ sym (image_more (codes "new") f.new [] (certificate_lines f.pairs))
+
+pub text_new : (old : Image) → HasImageText old → BeginsWith HasImageText (image_alone (codes "new")) (λ lines. TextSection (((heading ∷ []) ++ image_alone (codes "old") old) ++ lines))
+text_new old p = record {
+  some = λ image fits. (certificate_lines [], (made_pair old image [], pair_fits old image [] p fits (omega arith, tt), three_parts old image []));
+  only = λ lines (f, fits, e). (f.new, certificate_lines f.pairs, fits.new, behind_old old f lines p fits e);
+}
+
+-- the lines of both images
+abbrev pub both_images : Image → Image → Lines
+both_images old new = ((heading ∷ []) ++ image_alone (codes "old") old) ++ image_alone (codes "new") new
+
+pub text_certificate : (old new : Image) → HasImageText old → HasImageText new → BeginsWith IsCertificate certificate_lines (λ lines. TextSection (both_images old new ++ lines))
+text_certificate old new p q = record {
+  some = λ pairs fits. ([], (made_pair old new pairs, pair_fits old new pairs p q fits, ap (λ (ls : Lines). both_images old new ++ ls) (append-nil (certificate_lines pairs)) ∙ all_three pairs));
+  only = λ lines (f, fits, e).
+      let behind = behind_old old f (image_alone (codes "new") new ++ lines) p fits (sym (append_assoc ((heading ∷ []) ++ image_alone (codes "old") old) (image_alone (codes "new") new) lines) ∙ e) in
+      (f.pairs, [], fits.pairs, (image_delimits (codes "new") new f.new lines (certificate_lines f.pairs) q fits.new behind).1 ∙ sym (append-nil (certificate_lines f.pairs)));
+}
+  where
+    all_three : (pairs : List (ℕ × ℕ)) → both_images old new ++ certificate_lines pairs ≡ lines_of (made_pair old new pairs)
+    all_three pairs = append_assoc ((heading ∷ []) ++ image_alone (codes "old") old) (image_alone (codes "new") new) (certificate_lines pairs) ∙ three_parts old new pairs
+
+-- all of a text was taken
+pub text_taken : (old new : Image) (pairs : List (ℕ × ℕ)) (a b : Place) → HasImageText old → HasImageText new → IsCertificate pairs → HasTaken (both_images old new ++ certificate_lines pairs) a b
+    → HasText (made_pair old new pairs) × HasTaken (lines_of (made_pair old new pairs)) a b
+text_taken old new pairs a b p q r taken = (
+  pair_fits old new pairs p q r,
+  subst (λ (ls : Lines). HasTaken ls a b) (append_assoc ((heading ∷ []) ++ image_alone (codes "old") old) (image_alone (codes "new") new) (certificate_lines pairs) ∙ three_parts old new pairs) taken,
+)

@@ -1,0 +1,142 @@
+-- Lines of pair texts: none has a line feed inside, and none of two texts begins the other.
+use Rattle.std.proofs.Common.{◌≡◌, ℕ, ◌≤◌, List, [], ◌∷◌, ◌++◌, length, map, true, refl, sym, ap, ◌∙◌, arith, append_assoc}
+use Rattle.std.specs.Prelude.{codes}
+use Rattle.std.specs.Fmt.{decimal}
+use Rattle.std.specs.List.{AllByRecursion}
+use Rattle.std.proofs.lemmas.List.{append_cancel_left}
+use Rattle.std.proofs.lemmas.Fmt.{decimal_injective}
+use Rattle.gc_graph.specs.Lines.{HasNo, space, newline}
+use Rattle.gc_words.specs.Image.{Image}
+use Rattle.gc_cert.specs.Grammar.{CertifiedPair, pair_line, count_line, size_line, image_lines, certificate_lines, lines_of, IsWord, AreAddresses, HasImageText, HasText}
+use Rattle.gc_graph.proofs.LineLemmas.{HasNo-decimal, HasNo-lacks, HasNo-joined, lacks, one_cut}
+
+abbrev pub AreLines : List (List ℕ) → Type 0
+AreLines lines = AllByRecursion (HasNo newline) lines
+
+All-append : (xs ys : List (List ℕ)) → AreLines xs → AreLines ys → AreLines (xs ++ ys)
+All-append [] ys p q = q
+All-append (x ∷ xs) ys p q = (p.0, All-append xs ys p.1 q)
+
+pub All-front : (xs ys : List (List ℕ)) → AreLines (xs ++ ys) → AreLines xs
+All-front [] ys p = tt
+All-front (x ∷ xs) ys p = (p.0, All-front xs ys p.1)
+
+All-map : {X : Type 0} (P : X → Type 0) (f : X → List ℕ) → ((x : X) → P x → HasNo newline (f x)) → (xs : List X) → AllByRecursion P xs → AreLines (map f xs)
+All-map P f each [] h = tt
+All-map P f each (x ∷ xs) h = (each x h.0, All-map P f each xs h.1)
+
+decimal_line : (n : ℕ) → IsWord n → HasNo newline (decimal n)
+decimal_line n small = HasNo-decimal newline n (omega arith) small
+
+two_line : (a b : List ℕ) → HasNo newline a → HasNo newline b → HasNo newline (a ++ space ∷ b)
+two_line a b p q = HasNo-joined (a ∷ b ∷ []) (p, (q, tt))
+
+image_are_lines : (name : List ℕ) (image : Image) (more : List (List ℕ)) → lacks newline name ≡ true → HasImageText image → AreLines more → AreLines (image_lines name image more)
+image_are_lines name image more e fits h = (
+  two_line name (decimal image.size ++ space ∷ decimal image.end) (HasNo-lacks newline name e) (two_line (decimal image.size) (decimal image.end) (decimal_line image.size (omega (arith, fits.sizes))) (decimal_line image.end (omega (arith, fits.sizes)))),
+  All-append (map decimal image.words) (count_line (codes "roots") (length image.roots) ∷ (map decimal image.roots ++ more)) (All-map IsWord decimal decimal_line image.words fits.words) (
+    two_line (codes "roots") (decimal (length image.roots)) (HasNo-lacks newline (codes "roots") refl) (decimal_line (length image.roots) (omega (arith, fits.roots))),
+    All-append (map decimal image.roots) more (All-map IsWord decimal decimal_line image.roots fits.root_words) h,
+  ),
+)
+
+certificate_are_lines : (pairs : List (ℕ × ℕ)) → length pairs ≤ 524287 → AllByRecursion AreAddresses pairs → AreLines (certificate_lines pairs)
+certificate_are_lines pairs le h = (
+  two_line (codes "pairs") (decimal (length pairs)) (HasNo-lacks newline (codes "pairs") refl) (decimal_line (length pairs) (omega (arith, le))),
+  All-append (map pair_line pairs) (codes "end" ∷ []) (All-map AreAddresses pair_line (λ p small. two_line (decimal p.0) (decimal p.1) (decimal_line p.0 (omega (arith, small.0))) (decimal_line p.1 (omega (arith, small.1)))) pairs h)
+      (HasNo-lacks newline (codes "end") refl, tt),
+)
+
+pub are_lines : (f : CertifiedPair) → HasText f → AreLines (lines_of f)
+unfolding lines_of
+are_lines f fits = (
+  HasNo-lacks newline (codes "heappair 1") refl,
+  image_are_lines (codes "old") f.old (image_lines (codes "new") f.new (certificate_lines f.pairs)) refl fits.old
+      (image_are_lines (codes "new") f.new (certificate_lines f.pairs) refl fits.new (certificate_are_lines f.pairs fits.pairs.0 fits.pairs.1)),
+)
+
+-- ---- what follows from equal lines
+
+pub head_of : (x y : List ℕ) (xs ys : List (List ℕ)) → x ∷ xs ≡ y ∷ ys → (x ≡ y) × (xs ≡ ys)
+head_of x y xs ys e = (cc, cc)
+
+pub number_head : (x y : ℕ) (xs ys : List ℕ) → x ∷ xs ≡ y ∷ ys → xs ≡ ys
+number_head x y xs ys e = cc
+
+pub count_same : (name : List ℕ) (m n : ℕ) → IsWord m → IsWord n → count_line name m ≡ count_line name n → m ≡ n
+count_same name m n p q e = decimal_injective m n p q (number_head space space (decimal m) (decimal n) (append_cancel_left name (space ∷ decimal m) (space ∷ decimal n) e))
+
+pub two_same : (a b c d : ℕ) → IsWord a → IsWord b → IsWord c → IsWord d → decimal a ++ space ∷ decimal b ≡ decimal c ++ space ∷ decimal d → (a ≡ c) × (b ≡ d)
+two_same a b c d pa pb pc pd e =
+    let cut = one_cut space (decimal a) (decimal b) (decimal c) (decimal d) (HasNo-decimal space a (omega arith) pa) (HasNo-decimal space c (omega arith) pc) e in
+    (decimal_injective a c pa pc cut.0, decimal_injective b d pb pd cut.1)
+
+-- as many lines of the same form, and then others
+pub same_lines : {X : Type 0} (P : X → Type 0) (f : X → List ℕ) → ((x y : X) → P x → P y → f x ≡ f y → x ≡ y)
+    → (xs ys : List X) (a b : List (List ℕ)) → AllByRecursion P xs → AllByRecursion P ys → length xs ≡ length ys → map f xs ++ a ≡ map f ys ++ b → (xs ≡ ys) × (a ≡ b)
+same_lines P f one [] [] a b p q len e = (refl, e)
+same_lines P f one [] (y ∷ ys) a b p q len e = absurd (omega (arith, len))
+same_lines P f one (x ∷ xs) [] a b p q len e = absurd (omega (arith, len))
+same_lines P f one (x ∷ xs) (y ∷ ys) a b p q len e =
+    let h = head_of (f x) (f y) (map f xs ++ a) (map f ys ++ b) e in
+    let rest = same_lines P f one xs ys a b p.1 q.1 (omega (arith, len)) h.1 in
+    (rw (one x y p.0 q.0 h.0, rest.0) refl, rest.1)
+
+abbrev image_with : ℕ → ℕ → List ℕ → List ℕ → Image
+image_with size end words roots = record { size = size; end = end; words = words; roots = roots }
+
+pub image_same : (name : List ℕ) (a b : Image) (x y : List (List ℕ)) → HasImageText a → HasImageText b → image_lines name a x ≡ image_lines name b y → (a ≡ b) × (x ≡ y)
+image_same name a b x y p q e =
+    let after_a = count_line (codes "roots") (length a.roots) ∷ (map decimal a.roots ++ x) in
+    let after_b = count_line (codes "roots") (length b.roots) ∷ (map decimal b.roots ++ y) in
+    let first = head_of (size_line name a.size a.end) (size_line name b.size b.end) (map decimal a.words ++ after_a) (map decimal b.words ++ after_b) e in
+    let sizes = two_same a.size a.end b.size b.end (omega (arith, p.sizes)) (omega (arith, p.sizes)) (omega (arith, q.sizes)) (omega (arith, q.sizes))
+    (number_head space space (decimal a.size ++ space ∷ decimal a.end) (decimal b.size ++ space ∷ decimal b.end) (append_cancel_left name (space ∷ decimal a.size ++ space ∷ decimal a.end) (space ∷ decimal b.size ++ space ∷ decimal b.end) first.0)) in
+    let words = same_lines IsWord decimal decimal_injective a.words b.words after_a after_b p.words q.words (p.count ∙ sizes.1 ∙ sym q.count) first.1 in
+    let second = head_of (count_line (codes "roots") (length a.roots)) (count_line (codes "roots") (length b.roots)) (map decimal a.roots ++ x) (map decimal b.roots ++ y) words.1 in
+    let count = count_same (codes "roots") (length a.roots) (length b.roots) (omega (arith, p.roots)) (omega (arith, q.roots)) second.0 in
+    let roots = same_lines IsWord decimal decimal_injective a.roots b.roots x y p.root_words q.root_words count second.1 in (
+      ap (λ (s : ℕ). image_with s a.end a.words a.roots) sizes.0 ∙ ap (λ (n : ℕ). image_with b.size n a.words a.roots) sizes.1 ∙ ap (λ (ws : List ℕ). image_with b.size b.end ws a.roots) words.0
+          ∙ ap (image_with b.size b.end b.words) roots.0,
+      roots.1,
+    )
+
+pub pair_same : (p q : ℕ × ℕ) → AreAddresses p → AreAddresses q → pair_line p ≡ pair_line q → p ≡ q
+pair_same (a, b) (c, d) h k e =
+    let both = two_same a b c d (omega (arith, h.0)) (omega (arith, h.1)) (omega (arith, k.0)) (omega (arith, k.1)) e in
+    rw (both.0, both.1) refl
+
+pub certificate_more : (pairs : List (ℕ × ℕ)) (x : List (List ℕ)) → certificate_lines pairs ++ x ≡ count_line (codes "pairs") (length pairs) ∷ (map pair_line pairs ++ codes "end" ∷ x)
+certificate_more pairs x = ap (λ (l : List (List ℕ)). count_line (codes "pairs") (length pairs) ∷ l) (append_assoc (map pair_line pairs) (codes "end" ∷ []) x)
+
+pub certificate_same : (a b : List (ℕ × ℕ)) (x y : List (List ℕ)) → length a ≤ 524287 → length b ≤ 524287 → AllByRecursion AreAddresses a → AllByRecursion AreAddresses b → certificate_lines a ++ x ≡ certificate_lines b ++ y → (a ≡ b) × (x ≡ y)
+certificate_same a b x y la lb pa pb e =
+    let first = head_of (count_line (codes "pairs") (length a)) (count_line (codes "pairs") (length b)) (map pair_line a ++ codes "end" ∷ x) (map pair_line b ++ codes "end" ∷ y) (sym (certificate_more a x) ∙ e ∙ certificate_more b y) in
+    let count = count_same (codes "pairs") (length a) (length b) (omega (arith, la)) (omega (arith, lb)) first.0 in
+    let rest = same_lines AreAddresses pair_line pair_same a b (codes "end" ∷ x) (codes "end" ∷ y) pa pb count first.1 in
+    (rest.0, (head_of (codes "end") (codes "end") x y rest.1).1)
+
+pub image_more : (name : List ℕ) (image : Image) (more x : List (List ℕ)) → image_lines name image more ++ x ≡ image_lines name image (more ++ x)
+image_more name image more x =
+    ap (λ (l : List (List ℕ)). size_line name image.size image.end ∷ l) (append_assoc (map decimal image.words) (count_line (codes "roots") (length image.roots) ∷ (map decimal image.roots ++ more)) x
+    ∙ ap (λ (l : List (List ℕ)). map decimal image.words ++ count_line (codes "roots") (length image.roots) ∷ l) (append_assoc (map decimal image.roots) more x))
+
+pub lines_more : (f : CertifiedPair) (x : List (List ℕ)) → lines_of f ++ x ≡ codes "heappair 1" ∷ image_lines (codes "old") f.old (image_lines (codes "new") f.new (certificate_lines f.pairs ++ x))
+unfolding lines_of
+lines_more f x =
+    ap (λ (l : List (List ℕ)). codes "heappair 1" ∷ l) (image_more (codes "old") f.old (image_lines (codes "new") f.new (certificate_lines f.pairs)) x
+    ∙ ap (image_lines (codes "old") f.old) (image_more (codes "new") f.new (certificate_lines f.pairs) x))
+
+abbrev pair_with : Image → Image → List (ℕ × ℕ) → CertifiedPair
+pair_with old new pairs = record { old = old; new = new; pairs = pairs }
+
+-- the lines of one pair begin those of no other
+pub lines_same : (f g : CertifiedPair) (x y : List (List ℕ)) → HasText f → HasText g → lines_of f ++ x ≡ lines_of g ++ y → (f ≡ g) × (x ≡ y)
+lines_same f g x y p q e =
+    let f_new = image_lines (codes "new") f.new (certificate_lines f.pairs ++ x) in
+    let g_new = image_lines (codes "new") g.new (certificate_lines g.pairs ++ y) in
+    let tail = (head_of (codes "heappair 1") (codes "heappair 1") (image_lines (codes "old") f.old f_new) (image_lines (codes "old") g.old g_new) (sym (lines_more f x) ∙ e ∙ lines_more g y)).1 in
+    let old = image_same (codes "old") f.old g.old f_new g_new p.old q.old tail in
+    let new = image_same (codes "new") f.new g.new (certificate_lines f.pairs ++ x) (certificate_lines g.pairs ++ y) p.new q.new old.1 in
+    let pairs = certificate_same f.pairs g.pairs x y p.pairs.0 q.pairs.0 p.pairs.1 q.pairs.1 new.1 in
+    (ap (λ (i : Image). pair_with i f.new f.pairs) old.0 ∙ ap (λ (i : Image). pair_with g.old i f.pairs) new.0 ∙ ap (pair_with g.old g.new) pairs.0, pairs.1)

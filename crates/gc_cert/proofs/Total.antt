@@ -1,0 +1,193 @@
+-- Each text has a reading: it is a pair of images, or it has a first fault.
+use Rattle.std.proofs.Common.{◌≡◌, ◌≢◌, ℕ, suc, zero, ◌+◌, ◌≤◌, Bool, true, false, leb, List, [], ◌∷◌, ◌++◌, length, map, refl, sym, ap, ◌∙◌, arith, subst, inl, inr, ◌⊎◌, length-append, Option, Some, None}
+use Rattle.std.specs.Prelude.{codes}
+use Rattle.std.specs.Fmt.{decimal}
+use Rattle.std.specs.List.{AllByRecursion}
+use Rattle.std.proofs.lemmas.Bool.{leb-true}
+use Rattle.std.proofs.lemmas.List.{append-nil}
+use Rattle.gc_graph.specs.Lines.{text_of, words_of}
+use Rattle.gc_graph.proofs.LineLemmas.{Cut, cut}
+use Rattle.gc_cert.specs.Grammar.{image_alone, CertifiedPair, pair_line, count_line, size_line, certificate_lines, lines_of, spelling, IsWord, AreAddresses, AreSizes, IsCertificate, HasImageText, HasText, IsTextOf}
+use Rattle.gc_cert.specs.Faults.{limit, AreFirst, AreWhole, HasWrongLine, HasByteBehind, IsCutOff, IsFaultOf, IsReadAs, MayFail}
+use Rattle.gc_cert.specs.Sections.{Nothing, alone, AreAll, Place, start, IsNext, HasTaken, Section, Spelled, Begins, IsWrongAt, IsCutIn, MayStop}
+use Rattle.gc_cert.specs.Reading.{is_name, is_line, word_in, count_of, sizes_of, pair_of}
+use Rattle.gc_cert.specs.declared.fault.PairFault.{PairFault}
+use Rattle.gc_cert.specs.declared.fault.PairFault.TheVariants.{Read, TooLarge, BadLine, EndsEarly, NoMemory}
+use Rattle.gc_cert.proofs.Stops.{Delimits, BeginsWith, taken_then, wrong_within, cut_within}
+use Rattle.gc_cert.proofs.Forms.{IsForm, All-push, alone_delimits, all_delimit, line_wrong, line_cut, line_taken, begins_with_one, push_taken}
+use Rattle.gc_cert.proofs.LineForms.{fixed_form, word_form, count_form, size_form, pair_form}
+use Rattle.gc_cert.proofs.Parts.{none_taken, ImageSection, made_image, image_sizes, image_words, image_count, up_to_count, image_roots, image_taken, image_delimits, CertificateSection, pairs_line, certificate_count, certificate_pairs, up_to_end, certificate_end, certificate_taken, certificate_delimits, TextSection, heading, made_pair, text_heading, text_old, text_new, both_images, text_certificate, text_taken}
+
+-- the text goes no further than some line of the section
+Stops : Section → Place → Type 0
+Stops S p = ((n : ℕ) × IsWrongAt S p n) ⊎ IsCutIn S p
+
+-- a value and its lines, or the end of the section
+Outcome : {V : Type 0} → (V → Type 0) → (V → List (List ℕ)) → Place → Type 0
+Outcome {V} InRange lines_of p = ((v : V) × (after : Place) × InRange v × HasTaken (lines_of v) p after) ⊎ Stops (Spelled InRange lines_of) p
+
+-- one part after the others
+next : {V : Type 0} {A : Type 0} (InRange : V → Type 0) (lines_of : V → List (List ℕ)) (S : Section) (done : List (List ℕ)) (old mid : Place) → Delimits InRange lines_of → BeginsWith InRange lines_of (λ lines. S (done ++ lines)) → HasTaken done old mid
+    → Outcome InRange lines_of mid → ((v : V) (after : Place) → InRange v → HasTaken (done ++ lines_of v) old after → A ⊎ Stops S old) → A ⊎ Stops S old
+unfolding Stops Outcome
+next InRange lines_of S done old mid one with taken (inl (v, after, p, more)) further = further v after p (taken_then done (lines_of v) old mid after taken more)
+next InRange lines_of S done old mid one with taken (inr (inl (n, w))) further = inr (inl (n, wrong_within InRange lines_of S done old mid n one with taken w))
+next InRange lines_of S done old mid one with taken (inr (inr w)) further = inr (inr (cut_within InRange lines_of S done old mid one with taken w))
+
+-- ---- lines
+
+abbrev behind : (p : Place) → Cut p.rest → Place
+behind p c = record { rest = c.rest; taken = p.taken + 1 }
+
+is_next : (p : Place) (c : Cut p.rest) → IsNext c.line p (behind p c)
+is_next p c = record { parts = c.parts; whole = c.whole; number = refl }
+
+line_outcome : {V : Type 0} (InRange : V → Type 0) (line_of : V → List ℕ) (read : List ℕ → Option V) (p : Place) → IsForm InRange line_of read → Outcome InRange (alone line_of) p
+unfolding Stops Outcome
+line_outcome {V} InRange line_of read p form = elim (cut p.rest) [ inl none ↦ inr (inr (line_cut InRange line_of read p form none)) | inr c ↦ at c (read c.line) refl ]
+  where
+    at : (c : Cut p.rest) → (o : Option V) → read c.line ≡ o → Outcome InRange (alone line_of) p
+    at c None e = inr (inl (p.taken + 1, line_wrong InRange line_of read p (behind p c) c.line (p.taken + 1) form (is_next p c) e refl))
+    at c (Some v) e = (let taken = line_taken InRange line_of read p (behind p c) c.line v form (is_next p c) e in inl (v, behind p c, taken.0, taken.1))
+
+all_outcome : {V : Type 0} (InRange : V → Type 0) (line_of : V → List ℕ) (read : List ℕ → Option V) (n : ℕ) (p : Place) → IsForm InRange line_of read → Outcome (AreAll InRange n) (map line_of) p
+unfolding Stops Outcome
+all_outcome {V} InRange line_of read n p form = go n [] p (omega arith) tt (record { parts = refl; number = omega arith })
+  where
+    go : (left : ℕ) (vs : List V) (mid : Place) → length vs + left ≡ n → AllByRecursion InRange vs → HasTaken (map line_of vs) p mid → Outcome (AreAll InRange n) (map line_of) p
+    go zero vs mid counted all taken = inl (vs, mid, (omega (arith, counted), all), taken)
+    go (suc left) vs mid counted all taken =
+        next InRange (alone line_of) (Spelled (AreAll InRange n) (map line_of)) (map line_of vs) p mid (alone_delimits InRange line_of read form) (begins_with_one InRange line_of n vs (omega (arith, counted)) all) taken (line_outcome InRange line_of read mid form)
+        (λ v after q more. go left (vs ++ v ∷ []) after (omega (arith, counted, length-append vs (v ∷ []))) (All-push InRange vs v all q) (push_taken line_of vs v p after more))
+
+-- ---- parts
+
+image_outcome : (name : List ℕ) (p : Place) → is_name name ≡ true → Outcome HasImageText (image_alone name) p
+unfolding Outcome
+image_outcome name p named =
+    next AreSizes (alone (λ s. size_line name s.0 s.1)) (ImageSection name) [] p p (alone_delimits AreSizes (λ s. size_line name s.0 s.1) (λ line. sizes_of name (words_of line)) (size_form name named)) (image_sizes name) (none_taken p)
+    (line_outcome AreSizes (λ s. size_line name s.0 s.1) (λ line. sizes_of name (words_of line)) p (size_form name named)) (λ s a fits first.
+    next (AreAll IsWord s.1) (map decimal) (ImageSection name) (size_line name s.0 s.1 ∷ []) p a (all_delimit IsWord decimal word_in s.1 word_form) (image_words name s fits) first (all_outcome IsWord decimal word_in s.1 a word_form) (λ words b ws second.
+    next (λ n. n ≤ 272) (alone (count_line (codes "roots"))) (ImageSection name) ((size_line name s.0 s.1 ∷ []) ++ map decimal words) p b (alone_delimits (λ n. n ≤ 272) (count_line (codes "roots")) (λ line. count_of (codes "roots") 272 (words_of line)) roots)
+    (image_count name s words fits ws) second (line_outcome (λ n. n ≤ 272) (count_line (codes "roots")) (λ line. count_of (codes "roots") 272 (words_of line)) b roots) (λ n c le third.
+    next (AreAll IsWord n) (map decimal) (ImageSection name) (up_to_count name s words n) p c (all_delimit IsWord decimal word_in n word_form) (image_roots name s words n fits ws le) third (all_outcome IsWord decimal word_in n c word_form) (λ rs d all last.
+    (let whole = image_taken name s words rs n p d fits ws le all last in inl (made_image s words rs, d, whole.0, whole.1))))))
+  where
+    roots : IsForm (λ n. n ≤ 272) (count_line (codes "roots")) (λ line. count_of (codes "roots") 272 (words_of line))
+    roots = count_form (codes "roots") 272 refl (omega arith)
+
+certificate_outcome : (p : Place) → Outcome IsCertificate certificate_lines p
+unfolding Outcome
+certificate_outcome p =
+    next (λ n. n ≤ 524287) (alone (count_line (codes "pairs"))) CertificateSection [] p p (alone_delimits (λ n. n ≤ 524287) (count_line (codes "pairs")) (λ line. count_of (codes "pairs") 524287 (words_of line)) count) certificate_count (none_taken p)
+    (line_outcome (λ n. n ≤ 524287) (count_line (codes "pairs")) (λ line. count_of (codes "pairs") 524287 (words_of line)) p count) (λ n a le first.
+    next (AreAll AreAddresses n) (map pair_line) CertificateSection (pairs_line n ∷ []) p a (all_delimit AreAddresses pair_line (λ line. pair_of (words_of line)) n pair_form) (certificate_pairs n le) first
+    (all_outcome AreAddresses pair_line (λ line. pair_of (words_of line)) n a pair_form) (λ pairs b ps second.
+    next Nothing (alone (λ _. codes "end")) CertificateSection (up_to_end n pairs) p b (alone_delimits Nothing (λ _. codes "end") (is_line (codes "end")) (fixed_form (codes "end"))) (certificate_end n pairs le ps) second
+    (line_outcome Nothing (λ _. codes "end") (is_line (codes "end")) b (fixed_form (codes "end"))) (λ _ c _ last.
+    (let whole = certificate_taken n pairs p c le ps last in inl (pairs, c, whole.0, whole.1)))))
+  where
+    count : IsForm (λ n. n ≤ 524287) (count_line (codes "pairs")) (λ line. count_of (codes "pairs") 524287 (words_of line))
+    count = count_form (codes "pairs") 524287 refl (omega arith)
+
+text_outcome : (p : Place) → Outcome HasText lines_of p
+unfolding Outcome
+text_outcome p =
+    next Nothing (alone (λ _. heading)) TextSection [] p p (alone_delimits Nothing (λ _. heading) (is_line heading) (fixed_form heading)) text_heading (none_taken p) (line_outcome Nothing (λ _. heading) (is_line heading) p (fixed_form heading)) (λ _ a _ first.
+    next HasImageText (image_alone (codes "old")) TextSection (heading ∷ []) p a (image_delimits (codes "old")) text_old first (image_outcome (codes "old") a refl) (λ old b p-old second.
+    next HasImageText (image_alone (codes "new")) TextSection ((heading ∷ []) ++ image_alone (codes "old") old) p b (image_delimits (codes "new")) (text_new old p-old) second (image_outcome (codes "new") b refl) (λ new c p-new third.
+    next IsCertificate certificate_lines TextSection (both_images old new) p c certificate_delimits (text_certificate old new p-old p-new) third (certificate_outcome c) (λ pairs d p-pairs last.
+    (let whole = text_taken old new pairs p d p-old p-new p-pairs last in inl (made_pair old new pairs, d, whole.0, whole.1))))))
+
+-- ---- faults of a text
+
+first_lines : (lines : List (List ℕ)) → Begins TextSection lines → AreFirst lines
+first_lines lines (more, (f, fits, e)) = (f, more, fits, sym e)
+
+begins_text : (lines : List (List ℕ)) → AreFirst lines → Begins TextSection lines
+begins_text lines (f, more, fits, e) = (more, (f, fits, sym e))
+
+all_lines : (lines : List (List ℕ)) → AreWhole lines → TextSection lines
+all_lines lines (f, fits, e) = (f, fits, sym e)
+
+pub wrong_line : (text : List ℕ) (n : ℕ) → IsWrongAt TextSection (start text) n → HasWrongLine text n
+wrong_line text n w = record {
+  before = w.before;
+  line = w.line;
+  rest = w.after;
+  parts = w.parts;
+  whole_line = w.whole_line;
+  number = omega (arith, w.number);
+  good = first_lines w.before w.good;
+  wrong = λ first. w.wrong (begins_text (w.before ++ w.line ∷ []) first);
+}
+
+pub cut_off : (text : List ℕ) → IsCutIn TextSection (start text) → IsCutOff text
+cut_off text w = record {
+  before = w.before;
+  unfinished = w.unfinished;
+  parts = w.parts;
+  no_line = w.no_line;
+  good = first_lines w.before w.good;
+  not_all = λ whole. w.not_all (all_lines w.before whole);
+}
+
+-- what stopped the reading of a text is its first fault, or want of memory
+pub stop_of_text : (text : List ℕ) (fault : PairFault) → length text ≤ limit → MayStop TextSection fault (start text) → MayFail fault text
+stop_of_text text Read le stop = absurd stop
+stop_of_text text TooLarge le stop = absurd stop
+stop_of_text text (BadLine n) le stop = (le, inl (wrong_line text n stop))
+stop_of_text text EndsEarly le stop = (le, cut_off text stop)
+stop_of_text text NoMemory le stop = tt
+
+-- all of the text was taken
+pub whole_text : (f : CertifiedPair) (text : List ℕ) (after : Place) → HasText f → HasTaken (lines_of f) (start text) after → after.rest ≡ [] → IsTextOf f text
+unfolding spelling
+whole_text f text after fits taken none = record { fits = fits; spelled = taken.parts ∙ ap (λ (t : List ℕ). text_of (lines_of f) ++ t) none ∙ append-nil (text_of (lines_of f)) }
+
+-- a byte stands behind a text
+pub byte_behind : (f : CertifiedPair) (text : List ℕ) (after : Place) (byte : ℕ) (bytes : List ℕ) → HasText f → HasTaken (lines_of f) (start text) after → after.rest ≡ byte ∷ bytes → HasByteBehind text (after.taken + 1)
+byte_behind f text after byte bytes fits taken some = record {
+  before = lines_of f;
+  byte = byte;
+  rest = bytes;
+  parts = taken.parts ∙ ap (λ (t : List ℕ). text_of (lines_of f) ++ t) some;
+  number = omega (arith, taken.number);
+  whole = (f, fits, refl);
+}
+
+-- ---- the same, of a reader that began at the start
+
+pub stopped : (text : List ℕ) (p : Place) (fault : PairFault) → p ≡ start text → length text ≤ limit → MayStop TextSection fault p → MayFail fault text
+stopped text p fault began le stop = stop_of_text text fault le (subst (MayStop TextSection fault) began stop)
+
+pub went_through : (f : CertifiedPair) (text : List ℕ) (p after : Place) → p ≡ start text → HasText f × HasTaken (lines_of f) p after → after.rest ≡ [] → IsTextOf f text
+went_through f text p after began taken none = whole_text f text after taken.0 (subst (λ (q : Place). HasTaken (lines_of f) q after) began taken.1) none
+
+pub went_on : (f : CertifiedPair) (text : List ℕ) (p after : Place) (fault : PairFault) → p ≡ start text → length text ≤ limit → HasText f × HasTaken (lines_of f) p after → (after.rest ≢ []) × (fault ≡ BadLine (after.taken + 1)) → MayFail fault text
+went_on f text p after fault began le taken (some, is) = subst (λ (g : PairFault). MayFail g text) (sym is) (le, inr (at after.rest refl))
+  where
+    at : (rest : List ℕ) → after.rest ≡ rest → HasByteBehind text (after.taken + 1)
+    at [] none = absurd (some none)
+    at (byte ∷ bytes) more = byte_behind f text after byte bytes taken.0 (subst (λ (q : Place). HasTaken (lines_of f) q after) began taken.1) more
+
+-- a value, or a first fault
+abbrev pub Answered : List ℕ → Type 0
+Answered text = ((f : CertifiedPair) × IsReadAs f text) ⊎ ((fault : PairFault) × IsFaultOf fault text)
+
+answered : (text : List ℕ) → length text ≤ limit → Outcome HasText lines_of (start text) → Answered text
+unfolding Outcome Stops
+answered text le (inl (f, after, fits, taken)) = at after.rest refl
+  where
+    at : (rest : List ℕ) → after.rest ≡ rest → Answered text
+    at [] none = inl (f, (whole_text f text after fits taken none, le))
+    at (byte ∷ bytes) some = inr (BadLine (after.taken + 1), (le, inr (byte_behind f text after byte bytes fits taken some)))
+answered text le (inr (inl (n, w))) = inr (BadLine n, (le, inl (wrong_line text n w)))
+answered text le (inr (inr w)) = inr (EndsEarly, (le, cut_off text w))
+
+pub each_is_answered : (text : List ℕ) → Answered text
+each_is_answered text = at (leb (length text) limit) refl
+  where
+    at : (b : Bool) → leb (length text) limit ≡ b → Answered text
+    at true e = (let le : length text ≤ limit = leb-true (length text) limit e in answered text le (text_outcome (start text)))
+    at false e = inr (TooLarge, grind (arith, e))

@@ -1,0 +1,8 @@
+-- Words of a program are words of a text, since each number of their type is.
+use Rattle.std.proofs.Common.{ℕ, suc, zero, ◌<◌, ◌^◌, List, [], ◌∷◌, get_or}
+use Rattle.std.specs.List.{AllByRecursion}
+use Rattle.gc_cert.specs.Grammar.{IsWord}
+
+pub all_words : (words : List ℕ) → ((i : ℕ) → get_or words i 0 < 2 ^ 64) → AllByRecursion IsWord words
+all_words [] each = tt
+all_words (w ∷ words) each = (each zero, all_words words (λ i. each (suc i)))

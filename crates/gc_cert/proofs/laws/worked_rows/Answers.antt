@@ -1,0 +1,5 @@
+use Rattle.gc_cert.proofs.RowProofs.{rows}
+use Rattle.gc_cert.proofs.laws.worked_rows.Goals as goal
+
+pub returns : goal.returns
+returns c = rows

@@ -1,0 +1,74 @@
+-- The first fault of a text that was read to its end.
+use Rattle.std.specs.Prelude.{◌≡◌, ℕ, ◌+◌, ◌<◌, ◌≤◌, ⊤, ◌⊎◌, List, [], ◌∷◌, ◌++◌, length}
+use Rattle.gc_graph.specs.Lines.{newline, HasNo, text_of}
+use Rattle.gc_graph.specs.declared.text.whole.ReadFault.{ReadFault}
+use Rattle.gc_graph.specs.declared.text.whole.ReadFault.TheVariants as reading
+use Rattle.gc_cert.specs.Grammar.{CertifiedPair, HasText, IsTextOf, lines_of}
+use Rattle.gc_cert.specs.declared.fault.PairFault.{PairFault}
+use Rattle.gc_cert.specs.declared.fault.PairFault.TheVariants.{Read, TooLarge, BadLine, EndsEarly, NoMemory}
+
+abbrev pub limit : ℕ
+limit = 67108864
+
+-- the first lines of some text
+abbrev pub AreFirst : List (List ℕ) → Type 0
+AreFirst lines = (f : CertifiedPair) × (rest : List (List ℕ)) × HasText f × (lines_of f ≡ lines ++ rest)
+
+-- all lines of some text
+abbrev pub AreWhole : List (List ℕ) → Type 0
+AreWhole lines = (f : CertifiedPair) × HasText f × (lines_of f ≡ lines)
+
+-- line n, with its line feed, cannot follow the lines before it
+pub record HasWrongLine (text : List ℕ) (n : ℕ) : Type 0 where
+  pub before : List (List ℕ)
+  pub line : List ℕ
+  pub rest : List ℕ
+  pub parts : text ≡ text_of before ++ (line ++ newline ∷ rest)
+  pub whole_line : HasNo newline line
+  pub number : n ≡ 1 + length before
+  pub good : AreFirst before
+  pub wrong : ¬ AreFirst (before ++ line ∷ [])
+
+-- a byte follows a whole text, in line n
+pub record HasByteBehind (text : List ℕ) (n : ℕ) : Type 0 where
+  pub before : List (List ℕ)
+  pub byte : ℕ
+  pub rest : List ℕ
+  pub parts : text ≡ text_of before ++ byte ∷ rest
+  pub number : n ≡ 1 + length before
+  pub whole : AreWhole before
+
+-- the lines that have their line feed are the first of some text and not all of one
+pub record IsCutOff (text : List ℕ) : Type 0 where
+  pub before : List (List ℕ)
+  pub unfinished : List ℕ
+  pub parts : text ≡ text_of before ++ unfinished
+  pub no_line : HasNo newline unfinished
+  pub good : AreFirst before
+  pub not_all : ¬ AreWhole before
+
+-- this is the text's first fault; `Read` and `NoMemory` are none of the text's
+abbrev pub IsFaultOf : PairFault → List ℕ → Type 0
+IsFaultOf Read text = ⊥
+IsFaultOf TooLarge text = limit < length text
+IsFaultOf (BadLine n) text = (length text ≤ limit) × (HasWrongLine text n ⊎ HasByteBehind text n)
+IsFaultOf EndsEarly text = (length text ≤ limit) × IsCutOff text
+IsFaultOf NoMemory text = ⊥
+
+-- the value that the text is read as
+abbrev pub IsReadAs : CertifiedPair → List ℕ → Type 0
+IsReadAs f text = IsTextOf f text × (length text ≤ limit)
+
+-- what may be answered in the place of a value: the text's first fault, or one of the reader or of memory
+abbrev pub MayFail : PairFault → List ℕ → Type 0
+MayFail Read text = ⊤
+MayFail NoMemory text = ⊤
+MayFail TooLarge text = IsFaultOf TooLarge text
+MayFail (BadLine n) text = IsFaultOf (BadLine n) text
+MayFail EndsEarly text = IsFaultOf EndsEarly text
+
+-- what a reader's own fault is called
+abbrev pub fault_of_reading : ReadFault → PairFault
+fault_of_reading reading.Read = Read
+fault_of_reading reading.TooLarge = TooLarge
+fault_of_reading reading.NoMemory = NoMemory

@@ -1,0 +1,6 @@
+pub mod Grammar
+pub mod Faults
+pub mod Rows
+pub mod Views
+pub mod Sections
+pub mod Reading

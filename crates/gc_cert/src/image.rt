@@ -1,0 +1,39 @@
+use gc_words::{ImageRef, Pair};
+
+/// An image that owns its words and roots. Nothing is known of its numbers.
+#[derive(Debug, Drop)]
+pub struct Image {
+    /// How many words the space has.
+    pub size: u32,
+    /// The first place that no object takes.
+    pub end: u32,
+    /// The words 0 to `end - 1`, links among them.
+    pub words: Vec<u64>,
+    pub roots: Vec<u64>,
+}
+
+impl Image {
+    ghost use Rattle.std.specs.Prelude.{◌≡◌};
+    ghost use Rattle.gc_words.specs.Views.{image_of};
+    ghost use Rattle.gc_cert.specs.Views.{image_in};
+
+    /// The same image, borrowed.
+    pub fn as_ref(&self) -> ImageRef<'_>
+        ensures { image_of result ≡ image_in self.now }
+    {
+        ImageRef {
+            size: self.size,
+            end: self.end,
+            words: &self.words,
+            roots: &self.roots,
+        }
+    }
+}
+
+/// Two images, and the pairs of objects of the old one and their replicas in the new one.
+#[derive(Debug, Drop)]
+pub struct PairFile {
+    pub old: Image,
+    pub new: Image,
+    pub pairs: Vec<Pair>,
+}

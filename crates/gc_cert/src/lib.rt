@@ -1,0 +1,16 @@
+//! Certificates as text: two images and the pairs of their objects, read line by line and written as they are read.
+#![tactic(auto)]
+
+mod fault;
+mod image;
+mod laws;
+mod lines;
+mod parser;
+mod reader;
+mod writer;
+
+pub use fault::{PairFault, WriteFault};
+pub use image::{Image, PairFile};
+pub use laws::{texts_have_one_reading, worked_rows, written_is_read};
+pub use reader::read_pair;
+pub use writer::pair_fits;

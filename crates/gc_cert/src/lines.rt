@@ -1,0 +1,72 @@
+use crate::fault::PairFault;
+use gc_graph::text::cut;
+use std::marker::Model;
+
+/// The lines of a text from top to bottom.
+#[derive(Drop)]
+pub struct Lines<'a> {
+    rest: &'a [u8],
+    taken: u64,
+}
+
+impl<'a> Model for Lines<'a> {
+    ghost use Rattle.std.specs.Prelude.{ℕ, ◌+◌, ◌<◌, ◌^◌, length};
+    ghost use Rattle.gc_cert.specs.Sections.{Place};
+
+    ghost Value = { Place };
+
+    ghost view = { λ l. record { rest = l.rest.now; taken = l.taken } };
+
+    ghost invariant = { λ l. l.taken + length l.rest.now < 2 ^ 64 };
+}
+
+impl<'a> Lines<'a> {
+    ghost use Rattle.std.specs.Prelude.{◌≡◌, ◌≢◌, ◌+◌, [], MatchOption, MatchResult};
+    ghost use Rattle.gc_graph.specs.Lines.{HasNo, newline};
+    ghost use Rattle.gc_cert.specs.Sections.{start, IsNext};
+
+    /// All lines of the text.
+    pub fn new(text: &'a [u8]) -> Self
+        ensures { result ≡ start text.entry.now }
+    {
+        Lines {
+            rest: text,
+            taken: 0,
+        }
+    }
+
+    /// Takes the next line, without its line feed. None where no line feed is left.
+    pub fn line(&mut self) -> Option<&'a [u8]>
+        ensures { MatchOption result (HasNo newline self.old.rest)
+            (λ line. IsNext line.now self.old self.new) }
+    {
+        let (line, rest) = cut(b'\n', self.rest)?;
+        self.rest = rest;
+        self.taken += 1;
+        Some(line)
+    }
+
+    /// The number of the line that was taken last.
+    pub fn number(&self) -> u64
+        ensures { result ≡ self.now.taken }
+    {
+        self.taken
+    }
+
+    /// No more lines of a byte or more can still come.
+    pub fn most_left(&self) -> usize {
+        self.rest.len() / 2
+    }
+
+    /// Nothing may be left.
+    pub fn end(&self) -> Result<(), PairFault>
+        ensures { MatchResult result (λ _. self.now.rest ≡ [])
+            (λ fault. (self.now.rest ≢ []) × (fault ≡ PairFault.BadLine (self.now.taken + 1))) }
+    {
+        if self.rest.is_empty() {
+            Ok(())
+        } else {
+            Err(PairFault::BadLine(self.taken + 1))
+        }
+    }
+}

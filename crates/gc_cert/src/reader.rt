@@ -1,0 +1,210 @@
+ghost use Rattle.std.specs.Prelude.{◌≡◌, ◌≢◌, ◌≤◌, ◌<◌, ◌^◌, ◌∷◌, ◌↔◌, [], length, map, true, codes, decimal, IfSome, IfOk, MatchResult, Err};
+ghost use Rattle.gc_graph.specs.Streams.{bytes_left, source_failed};
+ghost use Rattle.gc_graph.specs.Lines.{words_of};
+ghost use Rattle.gc_words.specs.Views.{addresses};
+ghost use Rattle.gc_cert.specs.Grammar.{pair_line, count_line, size_line, image_alone, certificate_lines, IsWord, AreAddresses, AreSizes, IsCertificate, HasImageText, HasText, IsTextOf};
+ghost use Rattle.gc_cert.specs.Faults.{limit, IsReadAs, MayFail};
+ghost use Rattle.gc_cert.specs.Reading.{is_name};
+ghost use Rattle.gc_cert.specs.Sections.{alone, AreAll, HasTaken, Spelled, Nothing, MayStop};
+ghost use Rattle.gc_cert.specs.Views.{image_in, pair_in};
+
+use crate::fault::PairFault;
+use crate::image::{Image, PairFile};
+use crate::lines::Lines;
+use crate::parser::{count, pair, sizes};
+use gc_graph::Source;
+use gc_graph::text::{number, read_all};
+use gc_words::Pair;
+use std::alloc::Global;
+use std::io::Read;
+
+/// The most bytes that a pair text has.
+const LIMIT: usize = 67108864;
+
+/// The most roots of an image: sixteen slots that mutators share, and sixteen of each of sixteen mutators.
+const MOST_ROOTS: u64 = 272;
+
+/// The most pairs.
+const MOST_PAIRS: u64 = 524287;
+
+/// Takes this very line.
+fn take_line(lines: &mut Lines<'_>, wanted: &[u8]) -> Result<(), PairFault>
+    ensures { MatchResult result (λ _. HasTaken (wanted.now ∷ []) lines.old lines.new)
+        (λ fault. MayStop (Spelled Nothing (alone (λ _. wanted.now))) fault lines.old) }
+{
+    let Some(line) = lines.line() else {
+        return Err(PairFault::EndsEarly);
+    };
+    if line == wanted {
+        Ok(())
+    } else {
+        Err(PairFault::BadLine(lines.number()))
+    }
+}
+
+/// Takes a word of a space.
+fn take_word(lines: &mut Lines<'_>) -> Result<u64, PairFault>
+    ensures { MatchResult result (λ word. IsWord word × HasTaken (decimal word ∷ []) lines.old lines.new)
+        (λ fault. MayStop (Spelled IsWord (alone decimal)) fault lines.old) }
+{
+    let Some(line) = lines.line() else {
+        return Err(PairFault::EndsEarly);
+    };
+    let Some(word) = number(line, u64::MAX) else {
+        return Err(PairFault::BadLine(lines.number()));
+    };
+    Ok(word)
+}
+
+/// Takes a name and how many there are of it.
+fn take_count(lines: &mut Lines<'_>, name: &[u8], most: u64) -> Result<u64, PairFault>
+    requires { is_name name.now ≡ true }
+    ensures { MatchResult result
+        (λ count. (count ≤ most) × HasTaken (count_line name.now count ∷ []) lines.old lines.new)
+        (λ fault. MayStop (Spelled (λ n. n ≤ most) (alone (count_line name.now))) fault lines.old) }
+{
+    let Some(line) = lines.line() else {
+        return Err(PairFault::EndsEarly);
+    };
+    let Some(count) = count(line, name, most) else {
+        return Err(PairFault::BadLine(lines.number()));
+    };
+    Ok(count)
+}
+
+/// Takes a name, and the size and the end of an image.
+fn take_sizes(lines: &mut Lines<'_>, name: &[u8]) -> Result<(u32, u32), PairFault>
+    requires { is_name name.now ≡ true }
+    ensures { MatchResult result
+        (λ s. AreSizes s × HasTaken (size_line name.now s.0 s.1 ∷ []) lines.old lines.new)
+        (λ fault. MayStop (Spelled AreSizes (alone (λ s. size_line name.now s.0 s.1))) fault lines.old) }
+{
+    let Some(line) = lines.line() else {
+        return Err(PairFault::EndsEarly);
+    };
+    let Some(sizes) = sizes(line, name) else {
+        return Err(PairFault::BadLine(lines.number()));
+    };
+    Ok(sizes)
+}
+
+/// Takes a pair of addresses.
+fn take_pair(lines: &mut Lines<'_>) -> Result<Pair, PairFault>
+    ensures { MatchResult result
+        (λ pair. AreAddresses (addresses pair) × HasTaken (pair_line (addresses pair) ∷ []) lines.old lines.new)
+        (λ fault. MayStop (Spelled AreAddresses (alone pair_line)) fault lines.old) }
+{
+    let Some(line) = lines.line() else {
+        return Err(PairFault::EndsEarly);
+    };
+    let Some(pair) = pair(line) else {
+        return Err(PairFault::BadLine(lines.number()));
+    };
+    Ok(pair)
+}
+
+/// Takes so many words. No more memory is taken at once than the lines that can still come need.
+fn take_words(alloc: Global, lines: &mut Lines<'_>, count: u64) -> Result<Vec<u64>, PairFault>
+    ensures { MatchResult result
+        (λ words. AreAll IsWord count words.items × HasTaken (map decimal words.items) lines.old lines.new)
+        (λ fault. MayStop (Spelled (AreAll IsWord count) (map decimal)) fault lines.old) }
+{
+    let Ok(mut words) = Vec::with_capacity(alloc, lines.most_left().min(count as usize)) else {
+        return Err(PairFault::NoMemory);
+    };
+    for _ in 0..count {
+        match take_word(lines) {
+            Ok(word) => {
+                if words.push(word).is_err() {
+                    return Err(PairFault::NoMemory);
+                }
+            }
+            Err(fault) => return Err(fault),
+        }
+    }
+    Ok(words)
+}
+
+/// Takes so many pairs. No more memory is taken at once than the lines that can still come need.
+fn take_pairs(alloc: Global, lines: &mut Lines<'_>, count: u64) -> Result<Vec<Pair>, PairFault>
+    ensures { MatchResult result
+        (λ pairs. AreAll AreAddresses count (map addresses pairs.items)
+        × HasTaken (map pair_line (map addresses pairs.items)) lines.old lines.new)
+        (λ fault. MayStop (Spelled (AreAll AreAddresses count) (map pair_line)) fault lines.old) }
+{
+    let Ok(mut pairs) = Vec::with_capacity(alloc, lines.most_left().min(count as usize)) else {
+        return Err(PairFault::NoMemory);
+    };
+    for _ in 0..count {
+        match take_pair(lines) {
+            Ok(pair) => {
+                if pairs.push(pair).is_err() {
+                    return Err(PairFault::NoMemory);
+                }
+            }
+            Err(fault) => return Err(fault),
+        }
+    }
+    Ok(pairs)
+}
+
+/// Takes an image that goes by this name.
+fn take_image(alloc: Global, lines: &mut Lines<'_>, name: &[u8]) -> Result<Image, PairFault>
+    requires { is_name name.now ≡ true }
+    ensures { MatchResult result
+        (λ image. HasImageText (image_in image)
+        × HasTaken (image_alone name.now (image_in image)) lines.old lines.new)
+        (λ fault. MayStop (Spelled HasImageText (image_alone name.now)) fault lines.old) }
+{
+    let (size, end) = take_sizes(lines, name)?;
+    let words = take_words(alloc, lines, u64::from(end))?;
+    let count = take_count(lines, b"roots", MOST_ROOTS)?;
+    let roots = take_words(alloc, lines, count)?;
+    Ok(Image {
+        size,
+        end,
+        words,
+        roots,
+    })
+}
+
+/// Takes the pairs, and the line behind them.
+fn take_certificate(alloc: Global, lines: &mut Lines<'_>) -> Result<Vec<Pair>, PairFault>
+    ensures { MatchResult result
+        (λ pairs. IsCertificate (map addresses pairs.items)
+        × HasTaken (certificate_lines (map addresses pairs.items)) lines.old lines.new)
+        (λ fault. MayStop (Spelled IsCertificate certificate_lines) fault lines.old) }
+{
+    let count = take_count(lines, b"pairs", MOST_PAIRS)?;
+    let pairs = take_pairs(alloc, lines, count)?;
+    take_line(lines, b"end")?;
+    Ok(pairs)
+}
+
+/// The pair of images that the text spells.
+fn spelled_pair(alloc: Global, text: &[u8]) -> Result<PairFile, PairFault>
+    requires { length text.now ≤ limit }
+    ensures exact { MatchResult result
+        (λ file. IsTextOf (pair_in file) text.now) (λ fault. MayFail fault text.now) }
+    ensures unread { result ≢ Err PairFault.Read }
+{
+    let mut lines = Lines::new(text);
+    take_line(&mut lines, b"heappair 1")?;
+    let old = take_image(alloc, &mut lines, b"old")?;
+    let new = take_image(alloc, &mut lines, b"new")?;
+    let pairs = take_certificate(alloc, &mut lines)?;
+    lines.end()?;
+    Ok(PairFile { old, new, pairs })
+}
+
+/// The pair of images whose text the reader gives up to its end, else the first fault. Where the text has
+/// more than 67108864 bytes, one byte more than these is read.
+pub fn read_pair<R: Read>(alloc: Global, reader: &mut Source<R>) -> Result<PairFile, PairFault>
+    ensures exact { IfSome (bytes_left R.remaining reader.old) (λ text.
+        MatchResult result (λ file. IsReadAs (pair_in file) text) (λ fault. MayFail fault text)) }
+    ensures sound { IfOk result (λ file. HasText (pair_in file)) }
+    ensures read { (result ≡ Err PairFault.Read) ↔ (source_failed reader.new ≡ true) }
+{
+    let bytes = read_all(alloc, reader, LIMIT)?;
+    spelled_pair(alloc, &bytes)
+}
