@@ -1,4 +1,5 @@
 pub mod Headline
 pub mod Verdict
 pub mod Tables
+pub mod Texts
 pub mod Rows

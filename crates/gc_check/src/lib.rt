@@ -6,15 +6,19 @@ mod images;
 mod laws;
 mod object;
 mod placing;
+mod printing;
 mod starts;
 mod tables;
+mod text;
 mod verdict;
 
 pub use checker::check;
 pub use gc_words::Refusal;
 pub use laws::{certified_is_replicated, worked_rows};
+pub use printing::write_verdict;
 pub use tables::Tables;
-pub use verdict::{CheckFault, Verdict, Yes};
+pub use text::check_text;
+pub use verdict::{CheckFault, RunFault, Verdict, Yes};
 
 #[cfg(test)]
 mod tests;

@@ -1,3 +1,4 @@
+use gc_cert::PairFault;
 use gc_words::Refusal;
 use thiserror::Error;
 
@@ -24,4 +25,18 @@ pub enum CheckFault {
 pub enum Verdict {
     Yes { pairs: u32 },
     Refused(Refusal),
+}
+
+/// Why a text gets no verdict, or one that could not be told.
+#[derive(Clone, Copy, Debug, PartialEq, Eq, Error)]
+pub enum RunFault {
+    /// What is wrong with the text.
+    #[error("{0}")]
+    Pair(PairFault),
+    /// A growth was refused, perhaps in reading.
+    #[error("no memory")]
+    NoMemory,
+    /// The writer failed.
+    #[error("cannot write")]
+    Write,
 }

@@ -1,0 +1,30 @@
+-- What the checker answers to a text, and what it writes.
+use Rattle.std.specs.Prelude.{◌≡◌, ℕ, List, Option, ⊤}
+use Rattle.gc_graph.specs.Streams.{SendsFront}
+use Rattle.gc_cert.specs.Grammar.{CertifiedPair}
+use Rattle.gc_cert.specs.Faults.{IsReadAs}
+use Rattle.gc_check.specs.Headline.{Replicated}
+use Rattle.gc_check.specs.Verdict.{verdict_of, verdict_line}
+use Rattle.gc_check.specs.declared.verdict.Verdict.{Verdict}
+use Rattle.gc_check.specs.declared.verdict.Verdict.TheVariants as verdict
+
+-- the verdict on a pair of images with its certificate
+abbrev pub verdict_on : CertifiedPair → Verdict
+verdict_on pair = verdict_of pair.old pair.new pair.pairs
+
+-- what a verdict promises
+abbrev pub Promises : Verdict → CertifiedPair → Type 0
+Promises (verdict.Yes pairs) pair = Replicated pair.old pair.new pair.pairs
+Promises (verdict.Refused refusal) pair = ⊤
+
+-- the text spells a pair, and this is the verdict on it
+pub record IsVerdictOn (text : List ℕ) (verdict : Verdict) : Type 0 where
+  pub pair : CertifiedPair
+  pub read : IsReadAs pair text
+  pub verdict_is : verdict ≡ verdict_on pair
+
+-- the text spells a pair, and a front of the line of its verdict went out
+pub record TellsFront (text : List ℕ) (old new : Option (List ℕ)) : Type 0 where
+  pub pair : CertifiedPair
+  pub read : IsReadAs pair text
+  pub front : SendsFront old new (verdict_line (verdict_on pair))
