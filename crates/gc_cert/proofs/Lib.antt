@@ -8,3 +8,4 @@ pub mod LineForms
 pub mod Parts
 pub mod Total
 pub mod WordLists
+pub mod Printed

@@ -84,7 +84,7 @@ image_count name s words fits ws = record {
 abbrev pub up_to_count : List ℕ → ℕ × ℕ → List ℕ → ℕ → Lines
 up_to_count name s words n = ((size_line name s.0 s.1 ∷ []) ++ map decimal words) ++ count_line (codes "roots") n ∷ []
 
-whole_image : (name : List ℕ) (s : ℕ × ℕ) (words : List ℕ) (n : ℕ) (more : Lines) → up_to_count name s words n ++ more ≡ size_line name s.0 s.1 ∷ (map decimal words ++ count_line (codes "roots") n ∷ more)
+pub whole_image : (name : List ℕ) (s : ℕ × ℕ) (words : List ℕ) (n : ℕ) (more : Lines) → up_to_count name s words n ++ more ≡ size_line name s.0 s.1 ∷ (map decimal words ++ count_line (codes "roots") n ∷ more)
 whole_image name s words n more = ap (λ (ls : Lines). size_line name s.0 s.1 ∷ ls) (append_assoc (map decimal words) (count_line (codes "roots") n ∷ []) more)
 
 up_to_roots : (name : List ℕ) (s : ℕ × ℕ) (words roots : List ℕ) (n : ℕ) (more : Lines) → length roots ≡ n → up_to_count name s words n ++ (map decimal roots ++ more) ≡ image_lines name (made_image s words roots) more

@@ -4,3 +4,4 @@ pub mod Rows
 pub mod Views
 pub mod Sections
 pub mod Reading
+pub mod Printing

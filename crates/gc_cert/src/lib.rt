@@ -2,6 +2,7 @@
 #![tactic(auto)]
 
 mod fault;
+mod fits;
 mod image;
 mod laws;
 mod lines;
@@ -10,7 +11,8 @@ mod reader;
 mod writer;
 
 pub use fault::{PairFault, WriteFault};
+pub use fits::pair_fits;
 pub use image::{Image, PairFile};
 pub use laws::{texts_have_one_reading, worked_rows, written_is_read};
 pub use reader::read_pair;
-pub use writer::pair_fits;
+pub use writer::write_pair;

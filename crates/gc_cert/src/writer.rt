@@ -1,11 +1,9 @@
-ghost use Rattle.std.specs.Prelude.{◌≡◌, ◌↔◌, ◌∷◌, ◌++◌, ◌+◌, ◌<◌, ◌≤◌, [], true, length, map, codes, decimal, IsTrue, OnOk, OnErr};
+ghost use Rattle.std.specs.Prelude.{◌≡◌, ◌∷◌, ◌≤◌, [], true, length, map, codes, decimal, OnOk, OnErr};
 ghost use Rattle.std.specs.Io.KnownBytes.{Appends};
-ghost use Rattle.gc_graph.specs.Lines.{newline, text_of};
-ghost use Rattle.gc_graph.specs.Streams.{bytes_written, sink_failed, SendsFront, HasSent};
+ghost use Rattle.gc_graph.specs.Streams.{bytes_written, sink_failed, SendsFront};
 ghost use Rattle.gc_words.specs.Views.{image_of, addresses};
-ghost use Rattle.gc_cert.specs.Grammar.{pair_line, count_line, size_line, image_alone, certificate_lines, spelling, IsWord, IsCertificate, HasText, HasImageText};
-ghost use Rattle.gc_cert.specs.Sections.{AreAll};
-ghost use Rattle.std.specs.List.{AllByRecursion};
+ghost use Rattle.gc_cert.specs.Grammar.{pair_line, count_line, size_line, image_alone, certificate_lines, lines_of, spelling, HasText};
+ghost use Rattle.gc_cert.specs.Printing.{Prints, PrintsFront};
 ghost use Rattle.gc_cert.specs.Views.{pair_of};
 
 use crate::fault::WriteFault;
@@ -17,64 +15,254 @@ use std::io::Write;
 /// More bytes than any line of a pair text has.
 const LINE: usize = 64;
 
-/// The most words that a space has.
-const MOST_WORDS: u32 = 1048576;
-
-/// The most roots of an image: sixteen slots that mutators share, and sixteen of each of sixteen mutators.
-const MOST_ROOTS: usize = 272;
-
-/// The most pairs.
-const MOST_PAIRS: usize = 524287;
-
-/// Whether a space may have so many words, or end there.
-fn is_size(n: u32) -> bool
-    ensures { IsTrue result ↔ ((1 ≤ n) × (n ≤ 1048576)) }
+/// This very line.
+fn print_line<W: Write>(
+    printer: &mut Printer,
+    writer: &mut Sink<W>,
+    line: &[u8],
+) -> Result<(), Failed>
+    requires { length line.now ≤ 16 }
+    ensures ok { OnOk result (Prints (line.now ∷ [])
+        (bytes_written W.contents writer.old) (bytes_written W.contents writer.new) printer.old printer.new) }
+    ensures err { OnErr result (PrintsFront (line.now ∷ [])
+        (bytes_written W.contents writer.old) (bytes_written W.contents writer.new) printer.old) }
+    ensures failed { OnErr result (sink_failed writer.new ≡ true) }
 {
-    n >= 1 && n <= MOST_WORDS
-}
-
-/// Whether there are so many words. Each is a word of a text, as each number of its type is.
-fn are_words(words: &[u64], count: u32) -> bool
-    ensures { IsTrue result ↔ AreAll IsWord count words.now }
-{
-    words.len() == count as usize
-}
-
-/// Whether these are few enough roots.
-fn are_roots(roots: &[u64]) -> bool
-    ensures { IsTrue result ↔ ((length roots.now ≤ 272) × AllByRecursion IsWord roots.now) }
-{
-    roots.len() <= MOST_ROOTS
-}
-
-/// Whether these are few enough pairs.
-fn are_pairs(pairs: &[Pair]) -> bool
-    ensures { IsTrue result ↔ IsCertificate (map addresses pairs.now) }
-{
-    if pairs.len() > MOST_PAIRS {
-        return false;
+    match printer.make_room(writer, LINE) {
+        Ok(()) => {
+            printer.bytes(line);
+            printer.bytes(b"\n");
+            Ok(())
+        }
+        Err(failed) => Err(failed),
     }
+}
+
+/// A word of a space.
+fn print_word<W: Write>(
+    printer: &mut Printer,
+    writer: &mut Sink<W>,
+    word: u64,
+) -> Result<(), Failed>
+    ensures ok { OnOk result (Prints (decimal word ∷ [])
+        (bytes_written W.contents writer.old) (bytes_written W.contents writer.new) printer.old printer.new) }
+    ensures err { OnErr result (PrintsFront (decimal word ∷ [])
+        (bytes_written W.contents writer.old) (bytes_written W.contents writer.new) printer.old) }
+    ensures failed { OnErr result (sink_failed writer.new ≡ true) }
+{
+    match printer.make_room(writer, LINE) {
+        Ok(()) => {
+            printer.number(word);
+            printer.bytes(b"\n");
+            Ok(())
+        }
+        Err(failed) => Err(failed),
+    }
+}
+
+/// A name, and how many there are of it.
+fn print_count<W: Write>(
+    printer: &mut Printer,
+    writer: &mut Sink<W>,
+    name: &[u8],
+    count: usize,
+) -> Result<(), Failed>
+    requires { length name.now ≤ 16 }
+    ensures ok { OnOk result (Prints (count_line name.now count ∷ [])
+        (bytes_written W.contents writer.old) (bytes_written W.contents writer.new) printer.old printer.new) }
+    ensures err { OnErr result (PrintsFront (count_line name.now count ∷ [])
+        (bytes_written W.contents writer.old) (bytes_written W.contents writer.new) printer.old) }
+    ensures failed { OnErr result (sink_failed writer.new ≡ true) }
+{
+    match printer.make_room(writer, LINE) {
+        Ok(()) => {
+            printer.bytes(name);
+            printer.bytes(b" ");
+            printer.number(count as u64);
+            printer.bytes(b"\n");
+            Ok(())
+        }
+        Err(failed) => Err(failed),
+    }
+}
+
+/// A name, and the size and the end of an image.
+fn print_sizes<W: Write>(
+    printer: &mut Printer,
+    writer: &mut Sink<W>,
+    name: &[u8],
+    size: u32,
+    end: u32,
+) -> Result<(), Failed>
+    requires { length name.now ≤ 16 }
+    ensures ok { OnOk result (Prints (size_line name.now size end ∷ [])
+        (bytes_written W.contents writer.old) (bytes_written W.contents writer.new) printer.old printer.new) }
+    ensures err { OnErr result (PrintsFront (size_line name.now size end ∷ [])
+        (bytes_written W.contents writer.old) (bytes_written W.contents writer.new) printer.old) }
+    ensures failed { OnErr result (sink_failed writer.new ≡ true) }
+{
+    match printer.make_room(writer, LINE) {
+        Ok(()) => {
+            printer.bytes(name);
+            printer.bytes(b" ");
+            printer.number(u64::from(size));
+            printer.bytes(b" ");
+            printer.number(u64::from(end));
+            printer.bytes(b"\n");
+            Ok(())
+        }
+        Err(failed) => Err(failed),
+    }
+}
+
+/// A pair of addresses.
+fn print_pair<W: Write>(
+    printer: &mut Printer,
+    writer: &mut Sink<W>,
+    pair: &Pair,
+) -> Result<(), Failed>
+    ensures ok { OnOk result (Prints (pair_line (addresses pair.now) ∷ [])
+        (bytes_written W.contents writer.old) (bytes_written W.contents writer.new) printer.old printer.new) }
+    ensures err { OnErr result (PrintsFront (pair_line (addresses pair.now) ∷ [])
+        (bytes_written W.contents writer.old) (bytes_written W.contents writer.new) printer.old) }
+    ensures failed { OnErr result (sink_failed writer.new ≡ true) }
+{
+    match printer.make_room(writer, LINE) {
+        Ok(()) => {
+            printer.number(u64::from(pair.old.0));
+            printer.bytes(b" ");
+            printer.number(u64::from(pair.new.0));
+            printer.bytes(b"\n");
+            Ok(())
+        }
+        Err(failed) => Err(failed),
+    }
+}
+
+/// A line for each word.
+fn print_words<W: Write>(
+    printer: &mut Printer,
+    writer: &mut Sink<W>,
+    words: &[u64],
+) -> Result<(), Failed>
+    ensures ok { OnOk result (Prints (map decimal words.now)
+        (bytes_written W.contents writer.old) (bytes_written W.contents writer.new) printer.old printer.new) }
+    ensures err { OnErr result (PrintsFront (map decimal words.now)
+        (bytes_written W.contents writer.old) (bytes_written W.contents writer.new) printer.old) }
+    ensures failed { OnErr result (sink_failed writer.new ≡ true) }
+{
+    for word in words {
+        match print_word(printer, writer, *word) {
+            Ok(()) => {}
+            Err(failed) => return Err(failed),
+        }
+    }
+    Ok(())
+}
+
+/// A line for each pair.
+fn print_pairs<W: Write>(
+    printer: &mut Printer,
+    writer: &mut Sink<W>,
+    pairs: &[Pair],
+) -> Result<(), Failed>
+    ensures ok { OnOk result (Prints (map pair_line (map addresses pairs.now))
+        (bytes_written W.contents writer.old) (bytes_written W.contents writer.new) printer.old printer.new) }
+    ensures err { OnErr result (PrintsFront (map pair_line (map addresses pairs.now))
+        (bytes_written W.contents writer.old) (bytes_written W.contents writer.new) printer.old) }
+    ensures failed { OnErr result (sink_failed writer.new ≡ true) }
+{
     for pair in pairs {
-        // Each is read, so that the proof knows it to be a number of its type; nothing is left to do.
-        let (_old, _new) = (pair.old.0, pair.new.0);
+        match print_pair(printer, writer, pair) {
+            Ok(()) => {}
+            Err(failed) => return Err(failed),
+        }
     }
-    true
+    Ok(())
 }
 
-/// Whether an image has a text.
-fn image_fits(image: &ImageRef<'_>) -> bool
-    ensures { IsTrue result ↔ HasImageText (image_of image.now) }
+/// The lines of an image.
+fn print_image<W: Write>(
+    printer: &mut Printer,
+    writer: &mut Sink<W>,
+    name: &[u8],
+    image: &ImageRef<'_>,
+) -> Result<(), Failed>
+    requires { length name.now ≤ 16 }
+    ensures ok { OnOk result (Prints (image_alone name.now (image_of image.now))
+        (bytes_written W.contents writer.old) (bytes_written W.contents writer.new) printer.old printer.new) }
+    ensures err { OnErr result (PrintsFront (image_alone name.now (image_of image.now))
+        (bytes_written W.contents writer.old) (bytes_written W.contents writer.new) printer.old) }
+    ensures failed { OnErr result (sink_failed writer.new ≡ true) }
 {
-    is_size(image.size)
-        && is_size(image.end)
-        && are_words(image.words, image.end)
-        && are_roots(image.roots)
+    print_sizes(printer, writer, name, image.size, image.end)?;
+    print_words(printer, writer, image.words)?;
+    print_count(printer, writer, b"roots", image.roots.len())?;
+    print_words(printer, writer, image.roots)?;
+    Ok(())
 }
 
-/// Whether two images and pairs have a text: each number is in the range that the text has for it, and each
-/// image has as many words as its end says.
-pub fn pair_fits(old: ImageRef<'_>, new: ImageRef<'_>, pairs: &[Pair]) -> bool
-    ensures { IsTrue result ↔ HasText (pair_of old.entry new.entry pairs.now) }
+/// The lines of the pairs, and the line behind them.
+fn print_certificate<W: Write>(
+    printer: &mut Printer,
+    writer: &mut Sink<W>,
+    pairs: &[Pair],
+) -> Result<(), Failed>
+    ensures ok { OnOk result (Prints (certificate_lines (map addresses pairs.now))
+        (bytes_written W.contents writer.old) (bytes_written W.contents writer.new) printer.old printer.new) }
+    ensures err { OnErr result (PrintsFront (certificate_lines (map addresses pairs.now))
+        (bytes_written W.contents writer.old) (bytes_written W.contents writer.new) printer.old) }
+    ensures failed { OnErr result (sink_failed writer.new ≡ true) }
 {
-    image_fits(&old) && image_fits(&new) && are_pairs(pairs)
+    print_count(printer, writer, b"pairs", pairs.len())?;
+    print_pairs(printer, writer, pairs)?;
+    print_line(printer, writer, b"end")?;
+    Ok(())
+}
+
+/// All lines of two images and pairs.
+fn print_text<W: Write>(
+    printer: &mut Printer,
+    writer: &mut Sink<W>,
+    old: &ImageRef<'_>,
+    new: &ImageRef<'_>,
+    pairs: &[Pair],
+) -> Result<(), Failed>
+    ensures ok { OnOk result (Prints (lines_of (pair_of old.now new.now pairs.now))
+        (bytes_written W.contents writer.old) (bytes_written W.contents writer.new) printer.old printer.new) }
+    ensures err { OnErr result (PrintsFront (lines_of (pair_of old.now new.now pairs.now))
+        (bytes_written W.contents writer.old) (bytes_written W.contents writer.new) printer.old) }
+    ensures failed { OnErr result (sink_failed writer.new ≡ true) }
+{
+    print_line(printer, writer, b"heappair 1")?;
+    print_image(printer, writer, b"old", old)?;
+    print_image(printer, writer, b"new", new)?;
+    print_certificate(printer, writer, pairs)?;
+    Ok(())
+}
+
+/// Writes the text of two images and pairs, or a front of it before the writer fails.
+pub fn write_pair<W: Write>(
+    writer: &mut Sink<W>,
+    old: ImageRef<'_>,
+    new: ImageRef<'_>,
+    pairs: &[Pair],
+) -> Result<(), WriteFault>
+    requires { HasText (pair_of old new pairs.now) }
+    ensures ok { OnOk result (Appends
+        (bytes_written W.contents writer.old) (bytes_written W.contents writer.new)
+        (spelling (pair_of old.entry new.entry pairs.now))) }
+    ensures err { OnErr result (SendsFront
+        (bytes_written W.contents writer.old) (bytes_written W.contents writer.new)
+        (spelling (pair_of old.entry new.entry pairs.now))) }
+    ensures failed { OnErr result (sink_failed writer.new ≡ true) }
+{
+    let mut printer = Printer::new();
+    let Ok(()) = print_text(&mut printer, writer, &old, &new, pairs) else {
+        return Err(WriteFault::Write);
+    };
+    let Ok(()) = printer.flush(writer) else {
+        return Err(WriteFault::Write);
+    };
+    Ok(())
 }

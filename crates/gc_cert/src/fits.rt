@@ -1,0 +1,70 @@
+ghost use Rattle.std.specs.Prelude.{◌↔◌, ◌≤◌, length, map, IsTrue};
+ghost use Rattle.std.specs.List.{AllByRecursion};
+ghost use Rattle.gc_words.specs.Views.{image_of, addresses};
+ghost use Rattle.gc_cert.specs.Grammar.{IsWord, IsCertificate, HasText, HasImageText};
+ghost use Rattle.gc_cert.specs.Sections.{AreAll};
+ghost use Rattle.gc_cert.specs.Views.{pair_of};
+
+use gc_words::{ImageRef, Pair};
+
+/// The most words that a space has.
+const MOST_WORDS: u32 = 1048576;
+
+/// The most roots of an image: sixteen slots that mutators share, and sixteen of each of sixteen mutators.
+const MOST_ROOTS: usize = 272;
+
+/// The most pairs.
+const MOST_PAIRS: usize = 524287;
+
+/// Whether a space may have so many words, or end there.
+fn is_size(n: u32) -> bool
+    ensures { IsTrue result ↔ ((1 ≤ n) × (n ≤ 1048576)) }
+{
+    n >= 1 && n <= MOST_WORDS
+}
+
+/// Whether there are so many words. Each is a word of a text, as each number of its type is.
+fn are_words(words: &[u64], count: u32) -> bool
+    ensures { IsTrue result ↔ AreAll IsWord count words.now }
+{
+    words.len() == count as usize
+}
+
+/// Whether these are few enough roots.
+fn are_roots(roots: &[u64]) -> bool
+    ensures { IsTrue result ↔ ((length roots.now ≤ 272) × AllByRecursion IsWord roots.now) }
+{
+    roots.len() <= MOST_ROOTS
+}
+
+/// Whether these are few enough pairs.
+fn are_pairs(pairs: &[Pair]) -> bool
+    ensures { IsTrue result ↔ IsCertificate (map addresses pairs.now) }
+{
+    if pairs.len() > MOST_PAIRS {
+        return false;
+    }
+    for pair in pairs {
+        // Each is read, so that the proof knows it to be a number of its type; nothing is left to do.
+        let (_old, _new) = (pair.old.0, pair.new.0);
+    }
+    true
+}
+
+/// Whether an image has a text.
+fn image_fits(image: &ImageRef<'_>) -> bool
+    ensures { IsTrue result ↔ HasImageText (image_of image.now) }
+{
+    is_size(image.size)
+        && is_size(image.end)
+        && are_words(image.words, image.end)
+        && are_roots(image.roots)
+}
+
+/// Whether two images and pairs have a text: each number is in the range that the text has for it, and each
+/// image has as many words as its end says.
+pub fn pair_fits(old: ImageRef<'_>, new: ImageRef<'_>, pairs: &[Pair]) -> bool
+    ensures { IsTrue result ↔ HasText (pair_of old.entry new.entry pairs.now) }
+{
+    image_fits(&old) && image_fits(&new) && are_pairs(pairs)
+}
