@@ -1,5 +1,6 @@
 mod plain;
 mod rows;
+mod texts;
 
 use crate::{CheckFault, Refusal, Tables, Yes, check};
 use gc_words::{ImageRef, NewAddr, OldAddr, Pair};
