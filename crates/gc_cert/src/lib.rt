@@ -16,3 +16,6 @@ pub use image::{Image, PairFile};
 pub use laws::{texts_have_one_reading, worked_rows, written_is_read};
 pub use reader::read_pair;
 pub use writer::write_pair;
+
+#[cfg(test)]
+mod tests;

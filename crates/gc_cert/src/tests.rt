@@ -1,0 +1,289 @@
+use crate::{PairFault, WriteFault, pair_fits, read_pair, write_pair};
+use gc_graph::{Sink, Source};
+use gc_words::{ImageRef, NewAddr, OldAddr, Pair};
+use std::alloc::Global;
+use std::io;
+use std::io::{Read, Write};
+use std::test::Fail;
+
+/// Two images of no objects.
+const LEAST: &[u8] = b"heappair 1\nold 1 1\n0\nroots 1\n0\nnew 1 1\n0\nroots 1\n0\npairs 0\nend\n";
+
+/// One object is kept, and one is left behind.
+const ONE_KEPT: &[u8] =
+    b"heappair 1\nold 9 9\n0\n16842754\n0\n0\n0\n16842754\n1\n0\n0\nroots 32\n0\n0\n0\n0\n0\n0\n0\n0\n0\n0\n0\n0\n0\n0\n0\n0\n10\n0\n0\n0\n0\n0\n0\n0\n0\n0\n0\n0\n0\n0\n0\n0\nnew 9 5\n0\n16842754\n5\n0\n0\nroots 32\n0\n0\n0\n0\n0\n0\n0\n0\n0\n0\n0\n0\n0\n0\n0\n0\n2\n0\n0\n0\n0\n0\n0\n0\n0\n0\n0\n0\n0\n0\n0\n0\npairs 1\n5 1\nend\n";
+
+/// Gives its bytes a few at a time, and then ends or fails.
+#[derive(Drop)]
+struct Slow<'a> {
+    bytes: &'a [u8],
+    step: usize,
+    fails: bool,
+}
+
+impl Read for Slow<'_> {
+    fn read(&mut self, buf: &mut [u8]) -> io::Result<usize> {
+        if self.bytes.is_empty() && self.fails {
+            return Err(io::Error::from(io::ErrorKind::Interrupted));
+        }
+        let all = self.bytes;
+        let count = self.step.min(buf.len()).min(all.len());
+        buf[..count].copy_from_slice(&all[..count]);
+        self.bytes = &all[count..];
+        Ok(count)
+    }
+}
+
+/// Gives so many bytes `x`, and then ends.
+#[derive(Drop)]
+struct Same {
+    left: usize,
+}
+
+impl Read for Same {
+    fn read(&mut self, buf: &mut [u8]) -> io::Result<usize> {
+        let count = self.left.min(buf.len());
+        buf[..count].fill(b'x');
+        self.left -= count;
+        Ok(count)
+    }
+}
+
+/// Takes as many bytes as it has room, and then fails.
+#[derive(Drop)]
+struct Narrow {
+    taken: Vec<u8>,
+    room: usize,
+}
+
+impl Write for Narrow {
+    fn write(&mut self, buf: &[u8]) -> io::Result<usize> {
+        if self.room == 0 {
+            return Err(io::Error::from(io::ErrorKind::Interrupted));
+        }
+        let count = self.room.min(buf.len());
+        self.taken.extend_from_slice(&buf[..count])?;
+        self.room -= count;
+        Ok(count)
+    }
+
+    fn flush(&mut self) -> io::Result<()> {
+        Ok(())
+    }
+}
+
+/// The fault of a text, if it has one.
+fn fault_of<R: Read + Drop>(alloc: Global, reader: R) -> Option<PairFault> {
+    read_pair(alloc, &mut Source::new(reader)).err()
+}
+
+/// The text, read and written back.
+fn written_back(alloc: Global, text: &[u8]) -> Result<Vec<u8>, Fail> {
+    let file = read_pair(alloc, &mut Source::new(text))?;
+    let (old, new) = (file.old.as_ref(), file.new.as_ref());
+    if !pair_fits(old, new, &file.pairs) {
+        return Err(Fail::from("does not fit"));
+    }
+    let mut sink = Sink::new(Vec::new(alloc));
+    write_pair(&mut sink, old, new, &file.pairs)?;
+    Ok(sink.into_inner())
+}
+
+#[test]
+fn a_text_is_read_as_its_parts(rt: HostRuntime) -> Result<(), Fail> {
+    let file = read_pair(rt.alloc(), &mut Source::new(ONE_KEPT))?;
+    assert_eq!(rt; (file.old.size, file.old.end), (9, 9));
+    assert_eq!(rt; (file.new.size, file.new.end), (9, 5));
+    assert_eq!(rt; file.old.words.len(), 9);
+    assert_eq!(rt;
+        file.new.words.as_slice(),
+        [0, 16842754, 5, 0, 0].as_slice()
+    );
+    assert_eq!(rt;
+        (file.old.roots.len(), file.old.roots.get(16).copied()),
+        (32, Some(10))
+    );
+    assert_eq!(rt;
+        (file.new.roots.len(), file.new.roots.get(16).copied()),
+        (32, Some(2))
+    );
+    let pair = Pair {
+        old: OldAddr(5),
+        new: NewAddr(1),
+    };
+    assert_eq!(rt; file.pairs.as_slice(), [pair].as_slice());
+    Ok(())
+}
+
+#[test]
+fn what_is_read_is_written_back(rt: HostRuntime) -> Result<(), Fail> {
+    assert_eq!(rt; written_back(rt.alloc(), LEAST)?.as_slice(), LEAST);
+    assert_eq!(rt; written_back(rt.alloc(), ONE_KEPT)?.as_slice(), ONE_KEPT);
+    Ok(())
+}
+
+#[test]
+fn each_front_of_a_text_ends_early(rt: HostRuntime) {
+    for end in 0..LEAST.len() {
+        assert_eq!(rt;
+            fault_of(rt.alloc(), &LEAST[..end]),
+            Some(PairFault::EndsEarly),
+            "at {end}"
+        );
+    }
+    assert_eq!(rt; fault_of(rt.alloc(), LEAST), None);
+}
+
+#[test]
+fn the_first_bad_line_is_answered(rt: HostRuntime) {
+    let rows: [(&[u8], PairFault); 9] = [
+        (b"heappair 9", PairFault::EndsEarly),
+        (b"heappair 9\n", PairFault::BadLine(1)),
+        (b"heappair 1\nold 0 1\n", PairFault::BadLine(2)),
+        (b"heappair 1\nold 1 1048577\n", PairFault::BadLine(2)),
+        (b"heappair 1\nold 1 1\n00\n", PairFault::BadLine(3)),
+        (
+            b"heappair 1\nold 1 1\n18446744073709551616\n",
+            PairFault::BadLine(3),
+        ),
+        (
+            b"heappair 1\nold 1 1\n0\nroots 273\n",
+            PairFault::BadLine(4),
+        ),
+        (b"heappair 1\nold 1 1\n0\nroots  0\n", PairFault::BadLine(4)),
+        (
+            b"heappair 1\nold 1 1\n0\nroots 0\nnew 1 1\n0\nroots 0\npairs 524288\n",
+            PairFault::BadLine(8),
+        ),
+    ];
+    for (text, want) in rows {
+        assert_eq!(rt; fault_of(rt.alloc(), text), Some(want), "{text:?}");
+    }
+}
+
+#[test]
+fn nothing_may_stand_behind_the_end(rt: HostRuntime) -> Result<(), Fail> {
+    let mut text = Vec::from_slice(rt.alloc(), LEAST)?;
+    text.extend_from_slice(b"x\n")?;
+    assert_eq!(rt;
+        fault_of(rt.alloc(), text.as_slice()),
+        Some(PairFault::BadLine(12))
+    );
+    Ok(())
+}
+
+#[test]
+fn a_slow_reader_changes_no_answer(rt: HostRuntime) -> Result<(), Fail> {
+    let slow = Slow {
+        bytes: ONE_KEPT,
+        step: 1,
+        fails: false,
+    };
+    let file = read_pair(rt.alloc(), &mut Source::new(slow))?;
+    assert_eq!(rt; (file.old.words.len(), file.pairs.len()), (9, 1));
+    Ok(())
+}
+
+#[test]
+fn a_reader_that_fails_midway_is_read(rt: HostRuntime) {
+    let broken = Slow {
+        bytes: &LEAST[..20],
+        step: 20,
+        fails: true,
+    };
+    assert_eq!(rt; fault_of(rt.alloc(), broken), Some(PairFault::Read));
+}
+
+#[test]
+fn the_limit_comes_first(rt: HostRuntime) {
+    let limit = 67108864;
+    assert_eq!(rt;
+        fault_of(rt.alloc(), Same { left: limit }),
+        Some(PairFault::EndsEarly)
+    );
+    assert_eq!(rt;
+        fault_of(rt.alloc(), Same { left: limit + 1 }),
+        Some(PairFault::TooLarge)
+    );
+}
+
+#[test]
+fn a_front_goes_out_before_the_writer_fails(rt: HostRuntime) -> Result<(), Fail> {
+    let file = read_pair(rt.alloc(), &mut Source::new(LEAST))?;
+    let (old, new) = (file.old.as_ref(), file.new.as_ref());
+    if !pair_fits(old, new, &file.pairs) {
+        return Err(Fail::from("does not fit"));
+    }
+    let mut sink = Sink::new(Narrow {
+        taken: Vec::new(rt.alloc()),
+        room: 7,
+    });
+    assert_eq!(rt;
+        write_pair(&mut sink, old, new, &file.pairs),
+        Err(WriteFault::Write)
+    );
+    assert!(rt; sink.failed());
+    assert_eq!(rt; sink.into_inner().taken.as_slice(), b"heappai".as_slice());
+    Ok(())
+}
+
+#[test]
+fn what_is_out_of_range_has_no_text(rt: HostRuntime) -> Result<(), Fail> {
+    let words = [0u64; 2];
+    let roots = vec![in rt.alloc(); 0u64; 273]?;
+    let pair = Pair {
+        old: OldAddr(u32::MAX),
+        new: NewAddr(u32::MAX),
+    };
+    let pairs = vec![in rt.alloc(); pair; 524287]?;
+    let many = vec![in rt.alloc(); pair; 524288]?;
+    let good = ImageRef {
+        size: 1048576,
+        end: 2,
+        words: &words,
+        roots: &roots[..272],
+    };
+    assert!(rt; pair_fits(good, good, &pairs));
+    assert!(rt; !pair_fits(good, good, &many));
+    let bad = [
+        ImageRef { size: 0, ..good },
+        ImageRef {
+            size: 1048577,
+            ..good
+        },
+        ImageRef { end: 1, ..good },
+        ImageRef { end: 3, ..good },
+        ImageRef {
+            end: 0,
+            words: &words[..0],
+            ..good
+        },
+        ImageRef {
+            roots: &roots,
+            ..good
+        },
+    ];
+    for image in bad {
+        assert!(rt; !pair_fits(image, good, &pairs));
+        assert!(rt; !pair_fits(good, image, &pairs));
+    }
+    Ok(())
+}
+
+#[test]
+fn faults_are_shown(rt: HostRuntime) -> Result<(), Fail> {
+    for (fault, text) in [
+        (PairFault::Read, "cannot read"),
+        (PairFault::TooLarge, "pair: too large"),
+        (PairFault::BadLine(3), "pair: bad line 3"),
+        (PairFault::EndsEarly, "pair: ends early"),
+        (PairFault::NoMemory, "no memory"),
+    ] {
+        assert_eq!(rt; fault.to_string(rt.alloc())?.as_str(), text);
+    }
+    assert_eq!(rt;
+        WriteFault::Write.to_string(rt.alloc())?.as_str(),
+        "cannot write"
+    );
+    Ok(())
+}
