@@ -14,3 +14,5 @@ pub mod Kept
 pub mod Words
 pub mod Unused
 pub mod Changes
+pub mod Spaces
+pub mod Opened

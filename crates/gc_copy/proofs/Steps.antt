@@ -228,6 +228,15 @@ roots_keep s c h k = go (root_target c s.heap.graph) refl
         grown_open s c d k.size k.logs (k.belongs).scan (k.belongs).entries
         (placing s.heap.graph.objects c (IsDue c) name d (its_replicas (IsDue c) s.heap.graph.objects c k.belongs) (unreplicated_some c (flat_map names_of s.heap.graph.roots) name e).0 (due_at_end s.heap.graph.objects c k.belongs) is).0)
 
+-- a replica that is placed, and a field that is brought up to date, leave a collection that belongs to the heap
+pub placing_keeps : (s : State) (c next : Collection) (name : ℕ) → IsOpened s c → replica_of c name ≡ None → place_replica c name (lookup s.heap.graph.objects name) ≡ Some next → IsOpened s next
+placing_keeps s c next name k none is = grown_open s c next k.size k.logs (k.belongs).scan (k.belongs).entries
+    (placing s.heap.graph.objects c (IsDue c) name next (its_replicas (IsDue c) s.heap.graph.objects c k.belongs) none (due_at_end s.heap.graph.objects c k.belongs) is).0
+
+pub bringing_keeps : (s : State) (c next : Collection) (name i : ℕ) → IsOpened s c → bring_up_to_date c s.heap.graph name i ≡ Some next → IsOpened s next
+bringing_keeps s c next name i k is = grown_open s c next k.size k.logs (k.belongs).scan (k.belongs).entries
+    (bringing s.heap.graph c (IsDue c) (IsDue c) name i next (its_replicas (IsDue c) s.heap.graph.objects c k.belongs) (due_at_end s.heap.graph.objects c k.belongs) (λ p a j d. inr d) is)
+
 -- of two replicas at one place
 pub same_place : (at : ℕ) (replicas : List Replica) (end : ℕ) (r s : Replica) → Laid at (map placed replicas) end → In r replicas → In s replicas → r.place ≡ s.place → r ≡ s
 same_place at [] end r s h k l e = absurd k

@@ -26,7 +26,7 @@ in_all P xs x all k =
     let same : get_or xs i.0 x ≡ x = (let e = slice_get-get_or xs i.0 x within in cc (sym e ∙ i.1)) in
     subst P same (all i.0 x within)
 
-block_found_in : (bs : List (ℕ × Block)) (a : ℕ) → is_some (block_in bs a) ≡ true → (b : Block) × In (a, b) bs
+pub block_found_in : (bs : List (ℕ × Block)) (a : ℕ) → is_some (block_in bs a) ≡ true → (b : Block) × In (a, b) bs
 block_found_in [] a h = absurd cc
 block_found_in (e ∷ rest) a h = ⊎_elim
     (λ t. (e.1, inl (ap (λ n. (n, e.1)) (eqb-true e.0 a t))))
@@ -58,7 +58,7 @@ module _ (space : SpaceWords) (is : IsSpace space) where
   spelling : space.words ≡ spelled (link_at space.words) (blocks space.words)
   spelling = spelled_words space.words is.walked is.end_low is.reserved
 
-  objects_laid : Laid 1 (objects_of space.words) (space.size - free_in space)
+  pub objects_laid : Laid 1 (objects_of space.words) (space.size - free_in space)
   objects_laid = laid_objects (link_at space.words) 1 (blocks space.words) (space.size - free_in space) laid
       (let count = ap length spelling in let low = is.end_low in let high = is.end_high in omega (arith, count))
 

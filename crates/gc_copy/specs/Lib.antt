@@ -3,6 +3,8 @@ pub mod Linked
 pub mod Steps
 pub mod Members
 pub mod Belonging
+pub mod Words
+pub mod Entries
 pub mod Runs
 pub mod Passing
 pub mod Carried

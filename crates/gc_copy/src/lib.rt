@@ -2,9 +2,12 @@
 //! and what follows.
 #![tactic(auto)]
 
+mod collection;
 mod laws;
+mod log;
 mod step;
 
+pub use collection::Collection;
 pub use laws::{
     answers_tell_changes, belonging_is_kept, heaps_have_addresses_as_names,
     images_have_their_graphs, links_tell_replicas, only_kept_is_carried, ready_flips_pass,

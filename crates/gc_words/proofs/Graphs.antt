@@ -107,7 +107,7 @@ graph_empty size count = ap (λ vs. record { objects = []; roots = vs }) (roots_
 -- ---- writes
 
 -- a new object's fields are all nil
-fresh_object : (h : Header) → object_of_block (fresh_block h) ≡ new_object h.kind h.len
+pub fresh_object : (h : Header) → object_of_block (fresh_block h) ≡ new_object h.kind h.len
 fresh_object h = ap (λ fs. record { kind = h.kind; fields = fs }) (nils h.len)
   where
     nils : (n : ℕ) → map (field_value h) (replicate n 0) ≡ replicate n Nil

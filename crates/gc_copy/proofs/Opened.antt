@@ -1,0 +1,555 @@
+-- A heap of words with a collection of words, as a state, and what keeps them together.
+use Rattle.std.proofs.Common.{◌≡◌, ◌≢◌, ⊎_elim, inl, inr, ℕ, ◌+◌, ◌-◌, ◌<◌, ◌≤◌, ◌==◌, nat_lt, Bool, true, false, cond, List, [], ◌∷◌, ◌++◌, map, length, Option, Some, None, Result, Ok, Err, is_some, refl, ap, sym, ◌∙◌, subst, arith}
+use Rattle.std.specs.List.{find}
+use Rattle.std.proofs.lemmas.Bool.{cases_Bool, cases_lt, cond-true, cond-false, eqb-true, eqb-false, eq-eqb, ne_eqb, le-ltb, lt-ltb}
+use Rattle.std.proofs.lemmas.List.{length-map}
+use Rattle.std.specs.Option.{option_map}
+use Rattle.std.specs.Prelude.{◌^◌, IsSome, OnOk, OnErr, slice_get}
+use Rattle.gc_words.proofs.References.{closed_field_read}
+use Rattle.gc_heap.proofs.Commands.{named}
+use Rattle.gc_graph.specs.Graph.{Value, Nil, Num, Ref, Object, Graph, lookup, field_of, new_object}
+use Rattle.gc_words.specs.Word.{IsHeader, HasAddress, word_of, field_value}
+use Rattle.gc_words.specs.Word.{value_of}
+use Rattle.gc_words.specs.Image.{Block, blocks, block_in, block_at, is_start, header_at, field_in, field_at, object_of_block, objects_of}
+use Rattle.gc_words.specs.Spelling.{link_at}
+use Rattle.gc_words.specs.Space.{SpaceWords, IsSpace, CanPlace, HasRoom, end_of, free_in, with_object, with_word, link_place, field_place}
+use Rattle.gc_words.specs.Closed.{RefersToStart, IsRootWord}
+use Rattle.gc_words.specs.declared.header.Header.{Header}
+use Rattle.gc_words.specs.Walking.{StandsIn}
+use Rattle.gc_words.proofs.Starts.{stands_in}
+use Rattle.gc_words.proofs.Writes.{link_written}
+use Rattle.gc_words.proofs.Links.{link_written_there, link_written_beside}
+use Rattle.gc_words.proofs.Graphs.{object_found, field_found, graph_link, meaning_back}
+use Rattle.gc_words.proofs.Fields.{block_of_header}
+use Rattle.gc_words.proofs.Ends.{fields_counted, end_written}
+use Rattle.gc_heap.specs.Heap.{HeapWords, IsHeap, graph_in, roomy_in, name_of}
+use Rattle.gc_copy.specs.State.{Replica, Collection, State, new_objects, new_end, new_free, replica_of, moved, moved_name}
+use Rattle.gc_copy.specs.Linked.{place_or_zero, old_links}
+use Rattle.gc_copy.specs.Steps.{fresh_replica, place_replica, with_replica, with_written, write_replica, copy_value, bring_value, bring_up_to_date, collect, step_in}
+use Rattle.gc_copy.specs.Members.{In}
+use Rattle.gc_copy.proofs.Lists.{in_push, in_right, in_map, in_map_from, find_exists, get_within, get_past}
+use Rattle.gc_copy.proofs.Heap.{laid_range, lookup_laid}
+use Rattle.gc_copy.specs.Belonging.{IsDue, Belongs, IsOpen, IsOpened}
+use Rattle.gc_copy.proofs.Replicas.{placed, with_written_pair, replica_in}
+use Rattle.gc_copy.specs.Words.{Log, CollectionWords, IsCollection, entries_of, replicas_in, collection_in, state_of, open_state, LinksReplicas, BelongsTo, HasReplicaOf, KeepsGraph, KeepsRest}
+use Rattle.gc_copy.specs.declared.step.Step.{Step}
+use Rattle.gc_copy.specs.declared.step.Step.TheVariants as steps
+use Rattle.gc_copy.specs.declared.step.StepReply.{StepReply}
+use Rattle.gc_copy.proofs.Steps.{some_of, none_of, open_keeps, placing_keeps, bringing_keeps}
+use Rattle.gc_copy.proofs.Spaces.{word_back, fresh_at, space_placed, space_written, new_objects_are, new_end_is}
+
+-- ---- the heap, links apart
+
+pub graph_kept : (old new : HeapWords) → KeepsGraph old new → graph_in new ≡ graph_in old
+graph_kept old new k = ap (λ h. h.graph) k.heap
+
+pub state_kept : (old new : HeapWords) (o : Option Collection) → KeepsGraph old new → state_of new o ≡ state_of old o
+state_kept old new o k = λ i. record { mutators = k.mutators i; size = k.size i; heap = k.heap i; collection = o }
+
+pub same_graph : (h : HeapWords) → KeepsGraph h h
+same_graph h = record { mutators = refl; size = refl; roots = refl; heap = refl; blocks = refl }
+
+pub graph_twice : (a b c : HeapWords) → KeepsGraph a b → KeepsGraph b c → KeepsGraph a c
+graph_twice a b c k l = record { mutators = l.mutators ∙ k.mutators; size = l.size ∙ k.size; roots = l.roots ∙ k.roots; heap = l.heap ∙ k.heap; blocks = l.blocks ∙ k.blocks }
+
+pub start_kept : (old new : HeapWords) (a : ℕ) → KeepsGraph old new → is_start new.space.words a ≡ is_start old.space.words a
+start_kept old new a k = ap (λ bs. is_some (block_in bs a)) k.blocks
+
+pub root_word_kept : (old new : HeapWords) (w : ℕ) → KeepsGraph old new → IsRootWord old.space.words w → IsRootWord new.space.words w
+root_word_kept old new w k is = record { value = is.value; start = by (value_of w) is.start }
+  where
+    by : (v : Value) → RefersToStart old.space.words v → RefersToStart new.space.words v
+    by Nil h = tt
+    by (Num n) h = tt
+    by (Ref a) h = start_kept old new a k ∙ h
+
+-- a link is no part of what mutators see
+pub linked_heap : (heap : HeapWords) (name place : ℕ) → IsHeap heap → is_start heap.space.words name ≡ true → KeepsGraph heap (record heap { space = with_word heap.space (link_place name) place })
+linked_heap heap name place is start =
+    let graph = graph_link heap.space name place heap.roots is.space start in
+    let end = end_written heap.space (link_place name) place in
+    record {
+      mutators = refl;
+      size = refl;
+      roots = refl;
+      heap = λ i. record { graph = graph i; free = heap.space.size - end i };
+      blocks = (link_written heap.space name place is.space start).1;
+    }
+
+-- ---- the collection as a part of a state
+
+pub opened : (heap : HeapWords) (c : CollectionWords) → IsCollection c → BelongsTo heap c → IsOpened (open_state heap c) (collection_in c)
+opened heap c is k = record { belongs = k.belongs; size = (is.space).size_high; logs = length-map c.logs entries_of ∙ k.logs }
+
+-- a collection of the state that belongs to it, and whose replicas the links tell, belongs to the heap
+pub closed : (heap new : HeapWords) (before after : CollectionWords) → KeepsGraph heap new → BelongsTo heap before → length after.logs ≡ length before.logs → IsOpened (open_state heap before) (collection_in after) → LinksReplicas new (collection_in after) → BelongsTo new after
+closed heap new before after same k count is links = record {
+  belongs = subst (λ (g : Graph). Belongs g.objects (collection_in after)) (sym (graph_kept heap new same)) is.belongs;
+  links = links;
+  logs = count ∙ k.logs ∙ sym same.mutators;
+}
+
+-- after a step that is no flip
+pub after_step : (heap new : HeapWords) (c next : CollectionWords) (step : Step) (reply : StepReply) → step ≢ steps.Flip → IsCollection c → BelongsTo heap c → KeepsGraph heap new → length next.logs ≡ length c.logs
+    → collect (open_state heap c) step ≡ (reply, open_state new next) → LinksReplicas new (collection_in next) → BelongsTo new next
+after_step heap new c next step reply other is k same count e links =
+    closed heap new c next same k count
+    (subst (λ (x : StepReply × State). IsOpen (open_state heap c) x.1.collection) e (open_keeps (open_state heap c) (collection_in c) step refl (opened heap c is k) other))
+    links
+
+-- ---- finding
+
+find_push : {X : Type 0} (p : X → Bool) (xs : List X) (y : X) → find p xs ≡ None → p y ≡ true → find p (xs ++ y ∷ []) ≡ Some y
+find_push p [] y none is = cond-true (p y) (Some y) None is
+find_push p (x ∷ xs) y none is = ⊎_elim
+    (λ t. absurd (let some : Some x ≡ None = sym (cond-true (p x) (Some x) (find p xs) t) ∙ none in cc))
+    (λ f. cond-false (p x) (Some x) (find p (xs ++ y ∷ [])) f ∙ find_push p xs y (sym (cond-false (p x) (Some x) (find p xs) f) ∙ none) is)
+    (cases_Bool (p x))
+
+find_push_other : {X : Type 0} (p : X → Bool) (xs : List X) (y : X) → p y ≡ false → find p (xs ++ y ∷ []) ≡ find p xs
+find_push_other p [] y is = cond-false (p y) (Some y) None is
+find_push_other p (x ∷ xs) y is = ⊎_elim
+    (λ t. cond-true (p x) (Some x) (find p (xs ++ y ∷ [])) t ∙ sym (cond-true (p x) (Some x) (find p xs) t))
+    (λ f. cond-false (p x) (Some x) (find p (xs ++ y ∷ [])) f ∙ find_push_other p xs y is ∙ sym (cond-false (p x) (Some x) (find p xs) f))
+    (cases_Bool (p x))
+
+-- a written replica is found where it was
+place_written : (replicas : List Replica) (name i a : ℕ) (v : Value) → option_map (λ r. r.place) (find (λ r. r.original == a) (map (with_written name i v) replicas)) ≡ option_map (λ r. r.place) (find (λ (r : Replica). r.original == a) replicas)
+place_written [] name i a v = refl
+place_written (r ∷ rs) name i a v =
+    let pair_is = with_written_pair name i v r in
+    let same : (with_written name i v r).original ≡ r.original = λ j. (pair_is j).0 in
+    let place : (with_written name i v r).place ≡ r.place = λ j. (pair_is j).1 in
+    ⊎_elim
+    (λ t.
+    ap (option_map (λ (r : Replica). r.place)) (cond-true ((with_written name i v r).original == a) (Some (with_written name i v r)) (find (λ (r : Replica). r.original == a) (map (with_written name i v) rs)) (ap (λ n. n == a) same ∙ t))
+    ∙ ap Some place
+    ∙ sym (ap (option_map (λ (r : Replica). r.place)) (cond-true (r.original == a) (Some r) (find (λ (r : Replica). r.original == a) rs) t)))
+    (λ f.
+    ap (option_map (λ (r : Replica). r.place)) (cond-false ((with_written name i v r).original == a) (Some (with_written name i v r)) (find (λ (r : Replica). r.original == a) (map (with_written name i v) rs)) (ap (λ n. n == a) same ∙ f))
+    ∙ place_written rs name i a v
+    ∙ sym (ap (option_map (λ (r : Replica). r.place)) (cond-false (r.original == a) (Some r) (find (λ (r : Replica). r.original == a) rs) f)))
+    (cases_Bool (r.original == a))
+
+zero_of_none : (o : Option Replica) (p : Option Replica) → option_map (λ r. r.place) o ≡ option_map (λ (r : Replica). r.place) p → place_or_zero o ≡ place_or_zero p
+zero_of_none None None e = refl
+zero_of_none None (Some q) e = absurd (let no : None ≡ Some q.place = e in cc)
+zero_of_none (Some r) None e = absurd (let no : Some r.place ≡ None = e in cc)
+zero_of_none (Some r) (Some q) e = let s : Some r.place ≡ Some q.place = e in cc
+
+-- writing a field leaves the old links as they are
+pub links_written : (c : Collection) (name i a : ℕ) (v : Value) → old_links (write_replica c name i v) a ≡ old_links c a
+links_written c name i a v = zero_of_none (replica_of (write_replica c name i v) a) (replica_of c a) (place_written c.replicas name i a v)
+
+-- ---- a replica is placed
+
+links_placed : (heap : HeapWords) (c : Collection) (r : Replica) → IsHeap heap → is_start heap.space.words r.original ≡ true → LinksReplicas heap c → replica_of c r.original ≡ None
+    → LinksReplicas (record heap { space = with_word heap.space (link_place r.original) r.place }) (record c { replicas = c.replicas ++ r ∷ [] })
+links_placed heap c r is start links none a there = ⊎_elim
+    (λ t.
+    let here : r.original ≡ a = eqb-true r.original a t in
+    let found : replica_of (record c { replicas = c.replicas ++ r ∷ [] }) a ≡ Some r = find_push (λ (q : Replica). q.original == a) c.replicas r (subst (λ n. replica_of c n ≡ None) here none) t in
+    subst (λ n. link_at (with_word heap.space (link_place r.original) r.place).words n ≡ r.place) here (link_written_there heap.space r.original r.place is.space start) ∙ sym (ap place_or_zero found))
+    (λ f.
+    let found : replica_of (record c { replicas = c.replicas ++ r ∷ [] }) a ≡ replica_of c a = find_push_other (λ (q : Replica). q.original == a) c.replicas r f in
+    let old : is_start heap.space.words a ≡ true = sym (start_kept heap (record heap { space = with_word heap.space (link_place r.original) r.place }) a (linked_heap heap r.original r.place is start)) ∙ there in
+    link_written_beside heap.space r.original r.place a (eqb-false r.original a f) ∙ links a old ∙ sym (ap place_or_zero found))
+    (cases_Bool (r.original == a))
+
+pub record Placing (heap new : HeapWords) (c next : CollectionWords) (name : ℕ) : Type 0 where
+  pub sound : IsCollection next
+  pub placed : place_replica (collection_in c) name (lookup (graph_in heap).objects name) ≡ Some (collection_in next)
+  pub belongs : BelongsTo new next
+  pub graph : KeepsGraph heap new
+  pub rest : KeepsRest c next
+
+module _ (heap : HeapWords) (c : CollectionWords) (name : ℕ) (h : Header) (heap_is : IsHeap heap) (is : IsCollection c) (header : header_at heap.space.words name ≡ Some h) where
+  block : (b : Block) × (block_at heap.space.words name ≡ Some b) × (b.header ≡ h)
+  block = block_of_header heap.space.words name h header
+
+  object : Object
+  object = object_of_block block.0
+
+  found : lookup (graph_in heap).objects name ≡ Some (object_of_block block.0)
+  found = object_found heap.space.words name ∙ ap (option_map object_of_block) block.1
+
+  count : length (object_of_block block.0).fields ≡ h.len
+  count = fields_counted heap.space.words name block.0 (heap_is.space).walked block.1 ∙ ap (λ (k : Header). k.len) block.2
+
+  free : new_free (collection_in c) ≡ free_in c.space
+  free = ap (λ n. c.space.size - n) (new_end_is c is.space)
+
+  pub full : (HasRoom c.space h.len → ⊥) → place_replica (collection_in c) name (lookup (graph_in heap).objects name) ≡ None
+  full none =
+      ap (place_replica (collection_in c) name) found
+      ∙ cond-true (nat_lt (new_free (collection_in c)) (length (object_of_block block.0).fields + 2)) None _
+      (lt-ltb _ _ (⊎_elim (λ l. omega (arith, l, count, free)) (λ k. absurd (none (omega (arith, k)))) (cases_lt (free_in c.space) (h.len + 2))))
+
+  stands : StandsIn heap.space.words name block.0
+  stands = stands_in heap.space.words name block.0 (heap_is.space).walked block.1
+
+  head : IsHeader h
+  head = subst IsHeader block.2 (stands.whole).header
+
+  small : name < 2 ^ 32
+  small = let fits = stands.fits in let count = (heap_is.space).count in let high = (heap_is.space).end_high in let size = (heap_is.space).size_high in omega arith
+
+  pub placing : BelongsTo heap c → is_start heap.space.words name ≡ true → replica_of (collection_in c) name ≡ None → HasRoom c.space h.len
+      → Placing heap (record heap { space = with_word heap.space (link_place name) (end_of c.space) }) c (record c { space = with_word (with_object c.space h) (link_place (end_of c.space)) name }) name
+  placing k start none room = record {
+    sound = record {
+      space = made.0;
+      logs = is.logs;
+      originals = λ r l. ⊎_elim
+          (λ old. is.originals r old)
+          (λ new. subst (λ n. n < 2 ^ 32) (ap (λ (q : Replica). q.original) new) small)
+          (in_push r (fresh_at c.space h name) (replicas_in c.space.words) (subst (In r) made.1 l));
+    };
+    placed = step;
+    belongs = closed heap next_heap c next (linked_heap heap name (end_of c.space) heap_is start) k refl
+        (placing_keeps (open_state heap c) (collection_in c) (collection_in next) name (opened heap c is k) none step)
+        (subst (LinksReplicas next_heap) (sym grown) (links_placed heap (collection_in c) (fresh_at c.space h name) heap_is start k.links none));
+    graph = linked_heap heap name (end_of c.space) heap_is start;
+    rest = record { size = refl; logs = refl; scan_place = refl; scan_field = refl };
+  }
+    where
+      next : CollectionWords
+      next = record c { space = with_word (with_object c.space h) (link_place (end_of c.space)) name }
+
+      next_heap : HeapWords
+      next_heap = record heap { space = with_word heap.space (link_place name) (end_of c.space) }
+
+      made : IsSpace (next.space) × (replicas_in next.space.words ≡ replicas_in c.space.words ++ fresh_at c.space h name ∷ [])
+      made = space_placed c.space h name (record { shaped = is.space; header = head; room = room })
+
+      grown : collection_in next ≡ record (collection_in c) { replicas = replicas_in c.space.words ++ fresh_at c.space h name ∷ [] }
+      grown = λ i. record (collection_in c) { replicas = made.1 i }
+
+      fits : nat_lt (new_free (collection_in c)) (length (object_of_block block.0).fields + 2) ≡ false
+      fits = le-ltb _ _ (omega (arith, room, count, free))
+
+      same : fresh_replica name (new_end (collection_in c)) (object_of_block block.0) ≡ fresh_at c.space h name
+      same =
+          let end = new_end_is c is.space in
+          let kind : block.0.header.kind ≡ h.kind = ap (λ (k : Header). k.kind) block.2 in
+          λ i. record { original = name; place = end i; object = new_object (kind i) (count i) }
+
+      step : place_replica (collection_in c) name (lookup (graph_in heap).objects name) ≡ Some (collection_in next)
+      step =
+          ap (place_replica (collection_in c) name) found
+          ∙ cond-false (nat_lt (new_free (collection_in c)) (length (object_of_block block.0).fields + 2)) None _ fits
+          ∙ ap (λ r. Some (record (collection_in c) { replicas = replicas_in c.space.words ++ r ∷ [] })) same
+          ∙ ap Some (sym grown)
+
+-- ---- what a word refers to is replicated
+
+-- what the word refers to has a replica already, or it refers to nothing
+pub replicated_already : (c : Collection) (g : Graph) (w : ℕ) → HasReplicaOf c (value_of w) → with_replica c g (value_of w) ≡ Some c
+replicated_already c g w h = by (value_of w) h
+  where
+    by : (v : Value) → HasReplicaOf c v → with_replica c g v ≡ Some c
+    by Nil h = refl
+    by (Num n) h = refl
+    by (Ref a) h = cond-true (is_some (replica_of c a)) (Some c) (place_replica c a (lookup g.objects a)) h
+
+pub no_target : (c : Collection) (v : Value) → None ≡ name_of v → HasReplicaOf c v
+no_target c Nil e = tt
+no_target c (Num n) e = tt
+no_target c (Ref a) e = absurd (let no : None ≡ Some a = e in cc)
+
+pub target_placed : (c : Collection) (g : Graph) (a : ℕ) → replica_of c a ≡ None → with_replica c g (Ref a) ≡ place_replica c a (lookup g.objects a)
+target_placed c g a none = cond-false (is_some (replica_of c a)) (Some c) (place_replica c a (lookup g.objects a)) (ap is_some none)
+
+-- once it is placed it has one
+pub placed_has : (c next : Collection) (a : ℕ) (o : Option Object) → place_replica c a o ≡ Some next → IsSome (replica_of next a)
+placed_has c next a None e = absurd (let no : None ≡ Some next = e in cc)
+placed_has c next a (Some o) e = by (nat_lt (new_free c) (length o.fields + 2)) e
+  where
+    by : (b : Bool) → cond b None (Some (record c { replicas = c.replicas ++ fresh_replica a (new_end c) o ∷ [] })) ≡ Some next → IsSome (replica_of next a)
+    by true e = absurd (let no : None ≡ Some next = e in cc)
+    by false e =
+        let same : record c { replicas = c.replicas ++ fresh_replica a (new_end c) o ∷ [] } ≡ next = (let f : Some (record c { replicas = c.replicas ++ fresh_replica a (new_end c) o ∷ [] }) ≡ Some next = e in cc) in
+        let r : (r : Replica) × (find (λ (q : Replica). q.original == a) (c.replicas ++ fresh_replica a (new_end c) o ∷ []) ≡ Some r) = find_exists (λ (q : Replica). q.original == a) (c.replicas ++ fresh_replica a (new_end c) o ∷ []) (fresh_replica a (new_end c) o) (in_right (fresh_replica a (new_end c) o) c.replicas (fresh_replica a (new_end c) o ∷ []) (inl refl)) (eq-eqb a a refl) in
+        subst (λ (d : Collection). IsSome (replica_of d a)) same (ap is_some r.1)
+
+-- ---- a field is brought up to date
+
+pub record Bringing (c next : CollectionWords) (name i : ℕ) (v : Value) : Type 0 where
+  pub sound : IsCollection next
+  pub copied : collection_in next ≡ write_replica (collection_in c) name i v
+  pub rest : KeepsRest c next
+
+-- the replica's field word as written by the code
+pub bringing : (objects : List (ℕ × Object)) (c : CollectionWords) (name i w place : ℕ) → IsCollection c → Belongs objects (collection_in c) → option_map (λ r. r.place) (replica_of (collection_in c) name) ≡ Some place → IsSome (field_at c.space.words place i)
+    → Bringing c (record c { space = with_word c.space (field_place place i) w }) name i (value_of w)
+bringing objects c name i w place is belongs found there = from (replica_of (collection_in c) name) refl found
+  where
+    at : (r : Replica) → replica_of (collection_in c) name ≡ Some r → IsSome (field_at c.space.words r.place i) → Bringing c (record c { space = with_word c.space (field_place r.place i) w }) name i (value_of w)
+    at r e there =
+        let made = space_written (IsDue (collection_in c)) objects c name i w r is.space belongs e there in
+        record {
+          sound = record {
+            space = made.0;
+            logs = is.logs;
+            originals = λ q l.
+                let k = in_map_from (with_written name i (value_of w)) q (replicas_in c.space.words) (subst (In q) made.1 l) in
+                let o : k.0.original ≡ q.original = ap (λ (p : ℕ × ℕ). p.0) (sym (with_written_pair name i (value_of w) k.0)) ∙ ap (λ (p : Replica). p.original) k.2 in
+                subst (λ n. n < 2 ^ 32) o (is.originals k.0 k.1);
+          };
+          copied = λ j. record (collection_in c) { replicas = made.1 j };
+          rest = record { size = refl; logs = refl; scan_place = refl; scan_field = refl };
+        }
+
+    from : (o : Option Replica) → replica_of (collection_in c) name ≡ o → option_map (λ r. r.place) o ≡ Some place → Bringing c (record c { space = with_word c.space (field_place place i) w }) name i (value_of w)
+    from None e f = absurd (let no : None ≡ Some place = f in cc)
+    from (Some r) e f =
+        let p : r.place ≡ place = (let s : Some r.place ≡ Some place = f in cc) in
+        subst (λ n. Bringing c (record c { space = with_word c.space (field_place n i) w }) name i (value_of w)) p (at r e (subst (λ n. IsSome (field_at c.space.words n i)) (sym p) there))
+
+-- ---- fields
+
+block_of_object : (words : List ℕ) (a : ℕ) (o : Object) → lookup (objects_of words) a ≡ Some o → (b : Block) × (block_at words a ≡ Some b) × (object_of_block b ≡ o)
+block_of_object words a o e = from (block_at words a) refl (sym (object_found words a) ∙ e)
+  where
+    from : (x : Option Block) → block_at words a ≡ x → option_map object_of_block x ≡ Some o → (b : Block) × (block_at words a ≡ Some b) × (object_of_block b ≡ o)
+    from None f g = absurd (let no : None ≡ Some o = g in cc)
+    from (Some b) f g = (b, f, (let s : Some (object_of_block b) ≡ Some o = g in cc))
+
+-- an object has the fields that the words have
+pub field_present : (words : List ℕ) (a i : ℕ) (o : Object) → lookup (objects_of words) a ≡ Some o → i < length o.fields → IsSome (field_at words a i)
+field_present words a i o e less =
+    let b = block_of_object words a o e in
+    let count : length o.fields ≡ length b.0.fields = ap (λ (x : Object). length x.fields) (sym b.2) ∙ length-map b.0.fields (field_value b.0.header) in
+    let w = get_within b.0.fields i (omega (arith, count, less)) in
+    ap is_some (ap (λ x. field_in x i) b.1 ∙ w.1)
+
+pub field_below : (words : List ℕ) (a i : ℕ) (o : Object) → lookup (objects_of words) a ≡ Some o → IsSome (field_at words a i) → i < length o.fields
+field_below words a i o e there =
+    let b = block_of_object words a o e in
+    let count : length o.fields ≡ length b.0.fields = ap (λ (x : Object). length x.fields) (sym b.2) ∙ length-map b.0.fields (field_value b.0.header) in
+    let w : (w : ℕ) × (slice_get b.0.fields i ≡ Some w) = some_of (slice_get b.0.fields i) (subst (λ x. IsSome (field_in x i)) b.1 there) in
+    let less = get_past b.0.fields i w.0 w.1 in
+    omega (arith, count, less)
+
+-- an object whose field there is
+pub object_with_field : (words : List ℕ) (a i : ℕ) → IsSome (field_at words a i) → (o : Object) × (lookup (objects_of words) a ≡ Some o)
+object_with_field words a i there = from (block_at words a) refl there
+  where
+    from : (x : Option Block) → block_at words a ≡ x → IsSome (field_in x i) → (o : Object) × (lookup (objects_of words) a ≡ Some o)
+    from None e h = absurd (let no : false ≡ true = h in cc)
+    from (Some b) e h = (object_of_block b, object_found words a ∙ ap (option_map object_of_block) e)
+
+pub replica_object : (objects : List (ℕ × Object)) (c : CollectionWords) (r : Replica) → Belongs objects (collection_in c) → In r (replicas_in c.space.words) → lookup (objects_of c.space.words) r.place ≡ Some r.object
+replica_object objects c r belongs l =
+    subst (λ os. lookup os r.place ≡ Some r.object) (new_objects_are c)
+    (lookup_laid 1 (new_objects (collection_in c)) (new_end (collection_in c)) r.place r.object belongs.laid (in_map placed r (replicas_in c.space.words) l))
+
+-- the replica has the field that the original has
+pub field_of_replica : (heap : HeapWords) (c : CollectionWords) (name i place : ℕ) → Belongs (graph_in heap).objects (collection_in c) → option_map (λ r. r.place) (replica_of (collection_in c) name) ≡ Some place
+    → IsSome (field_at heap.space.words name i) → IsSome (field_at c.space.words place i)
+field_of_replica heap c name i place belongs found there = from (replica_of (collection_in c) name) refl found
+  where
+    from : (o : Option Replica) → replica_of (collection_in c) name ≡ o → option_map (λ r. r.place) o ≡ Some place → IsSome (field_at c.space.words place i)
+    from None e f = absurd (let no : None ≡ Some place = f in cc)
+    from (Some r) e f =
+        let p : r.place ≡ place = (let s : Some r.place ≡ Some place = f in cc) in
+        let l = replica_in (collection_in c) name r e in
+        let ok = belongs.replicas r l.0 in
+        let less : i < length ok.original.fields = field_below heap.space.words name i ok.original (subst (λ n. lookup (graph_in heap).objects n ≡ Some ok.original) l.1 ok.found) there in
+        subst (λ n. IsSome (field_at c.space.words n i)) p
+        (field_present c.space.words r.place i r.object (replica_object (graph_in heap).objects c r belongs l.0) (let same = ok.len in omega arith))
+
+-- ---- moved values
+
+-- a replica stands at an address
+pub replica_address : (objects : List (ℕ × Object)) (c : CollectionWords) (r : Replica) → IsCollection c → Belongs objects (collection_in c) → In r (replicas_in c.space.words) → (1 ≤ r.place) × (r.place < 1048576)
+replica_address objects c r is belongs l =
+    let range = laid_range 1 (new_objects (collection_in c)) (new_end (collection_in c)) (placed r) belongs.laid (in_map placed r (replicas_in c.space.words) l) in
+    let room = belongs.room in
+    let high = (is.space).size_high in
+    (range.0, omega (arith, range, room, high))
+
+pub moved_address : (objects : List (ℕ × Object)) (c : CollectionWords) (v : Value) → IsCollection c → Belongs objects (collection_in c) → HasReplicaOf (collection_in c) v → HasAddress (moved (collection_in c) v)
+moved_address objects c Nil is belongs h = tt
+moved_address objects c (Num n) is belongs h = tt
+moved_address objects c (Ref a) is belongs h =
+    let r = some_of (replica_of (collection_in c) a) h in
+    let l = replica_in (collection_in c) a r.0 r.1 in
+    subst (λ o. HasAddress (moved_name o a)) (sym r.1) (replica_address objects c r.0 is belongs l.0)
+
+-- what stands in the field of a heap's object
+pub field_value_is : (heap : HeapWords) (name i w : ℕ) → field_at heap.space.words name i ≡ Some w → field_of (lookup (graph_in heap).objects name) i ≡ Some (value_of w)
+field_value_is heap name i w e = from (block_at heap.space.words name) refl e
+  where
+    from : (x : Option Block) → block_at heap.space.words name ≡ x → field_in x i ≡ Some w → field_of (lookup (graph_in heap).objects name) i ≡ Some (value_of w)
+    from None f g = absurd (let no : None ≡ Some w = g in cc)
+    from (Some b) f g = field_found heap.space.words name i b f ∙ ap (option_map (field_value b.header)) e
+
+-- the definition's step, put together from the code's: the target first, then the field
+pub brought : (g : Graph) (c one : Collection) (name i : ℕ) (v : Value) → field_of (lookup g.objects name) i ≡ Some v → with_replica c g v ≡ Some one
+    → bring_up_to_date c g name i ≡ Some (write_replica one name i (moved one v))
+brought g c one name i v field target = ap (bring_value c g name i) field ∙ ap (λ o. copy_value o name i v) target
+
+pub not_brought : (g : Graph) (c : Collection) (name i : ℕ) (v : Value) → field_of (lookup g.objects name) i ≡ Some v → with_replica c g v ≡ None → bring_up_to_date c g name i ≡ None
+not_brought g c name i v field target = ap (bring_value c g name i) field ∙ ap (λ o. copy_value o name i v) target
+
+-- a replica that is placed for one object leaves that of another
+pub kept_replica : (c next : Collection) (g : Graph) (v : Value) (a place : ℕ) → with_replica c g v ≡ Some next → option_map (λ r. r.place) (replica_of c a) ≡ Some place → option_map (λ r. r.place) (replica_of next a) ≡ Some place
+kept_replica c next g v a place e found = by v e
+  where
+    same : c ≡ next → option_map (λ r. r.place) (replica_of next a) ≡ Some place
+    same s = subst (λ (d : Collection). option_map (λ (r : Replica). r.place) (replica_of d a) ≡ Some place) s found
+
+    grown : (name : ℕ) (o : Option Object) → replica_of c name ≡ None → place_replica c name o ≡ Some next → option_map (λ r. r.place) (replica_of next a) ≡ Some place
+    grown name None none e = absurd (let no : None ≡ Some next = e in cc)
+    grown name (Some o) none e = at (nat_lt (new_free c) (length o.fields + 2)) e
+      where
+        r : Replica
+        r = fresh_replica name (new_end c) o
+
+        other : (name == a) ≡ false
+        other = ne_eqb name a (λ s.
+            let gone : option_map (λ (r : Replica). r.place) (replica_of c a) ≡ None = ap (option_map (λ (r : Replica). r.place)) (subst (λ n. replica_of c n ≡ None) s none) in
+            let no : None ≡ Some place = sym gone ∙ found in absurd cc)
+
+        at : (b : Bool) → cond b None (Some (record c { replicas = c.replicas ++ r ∷ [] })) ≡ Some next → option_map (λ r. r.place) (replica_of next a) ≡ Some place
+        at true e = absurd (let no : None ≡ Some next = e in cc)
+        at false e =
+            let s : record c { replicas = c.replicas ++ r ∷ [] } ≡ next = (let f : Some (record c { replicas = c.replicas ++ r ∷ [] }) ≡ Some next = e in cc) in
+            subst (λ (d : Collection). option_map (λ (q : Replica). q.place) (replica_of d a) ≡ Some place) s
+            (ap (option_map (λ (q : Replica). q.place)) (find_push_other (λ (q : Replica). q.original == a) c.replicas r other) ∙ found)
+
+    by : (v : Value) → with_replica c g v ≡ Some next → option_map (λ r. r.place) (replica_of next a) ≡ Some place
+    by Nil e = same (let f : Some c ≡ Some next = e in cc)
+    by (Num n) e = same (let f : Some c ≡ Some next = e in cc)
+    by (Ref name) e = at (is_some (replica_of c name)) refl e
+      where
+        at : (b : Bool) → is_some (replica_of c name) ≡ b → cond b (Some c) (place_replica c name (lookup g.objects name)) ≡ Some next → option_map (λ r. r.place) (replica_of next a) ≡ Some place
+        at true t e = same (let f : Some c ≡ Some next = e in cc)
+        at false t e = grown name (lookup g.objects name) (none_of (replica_of c name) t) e
+
+-- what the link of an object tells
+pub record Tells (c : CollectionWords) (a link : ℕ) : Type 0 where
+  pub small : link < 2 ^ 32
+  pub none : link ≡ 0 → option_map (λ r. r.place) (replica_of (collection_in c) a) ≡ None
+  pub some : (link ≡ 0 → ⊥) → option_map (λ r. r.place) (replica_of (collection_in c) a) ≡ Some link
+  pub address : (link ≡ 0 → ⊥) → (1 ≤ link) × (link < 1048576)
+
+pub link_tells : (heap : HeapWords) (c : CollectionWords) (a link : ℕ) → IsCollection c → BelongsTo heap c → is_start heap.space.words a ≡ true → link ≡ link_at heap.space.words a → Tells c a link
+link_tells heap c a link is k start e = from (replica_of (collection_in c) a) refl (e ∙ k.links a start)
+  where
+    from : (o : Option Replica) → replica_of (collection_in c) a ≡ o → link ≡ place_or_zero o → Tells c a link
+    from None f g = record { small = omega arith; none = λ z. ap (option_map (λ (r : Replica). r.place)) f; some = λ n. absurd (n g); address = λ n. absurd (n g) }
+    from (Some r) f g =
+        let at : (1 ≤ r.place) × (r.place < 1048576) = replica_address (graph_in heap).objects c r is k.belongs (replica_in (collection_in c) a r f).0 in
+        let same : link ≡ r.place = g in
+        record {
+          small = omega (arith, at);
+          none = λ z. absurd (omega (arith, at, z));
+          some = λ n. ap (option_map (λ (r : Replica). r.place)) f ∙ ap Some (sym same);
+          address = λ n. ((omega (arith, at)), (omega (arith, at)));
+        }
+
+-- the placing as the code does it: with what each call said of its part
+pub placing_done : (heap new : HeapWords) (c next : CollectionWords) (name end link place : ℕ) (h : Header) (one : SpaceWords) → IsHeap heap → IsCollection c → BelongsTo heap c → is_start heap.space.words name ≡ true → replica_of (collection_in c) name ≡ None
+    → header_at heap.space.words name ≡ Some h → HasRoom c.space h.len
+    → end ≡ end_of c.space → one ≡ with_object c.space h → link ≡ name → next ≡ record c { space = with_word one (link_place end) link } → place ≡ end → new ≡ record heap { space = with_word heap.space (link_place name) place }
+    → Placing heap new c next name
+placing_done heap new c next name end link place h one heap_is is k start none header room at made linked after there heap_after =
+    let next_is : next ≡ record c { space = with_word (with_object c.space h) (link_place (end_of c.space)) name } = after ∙ (λ i. record c { space = with_word (made i) (link_place (at i)) (linked i) }) in
+    let new_is : new ≡ record heap { space = with_word heap.space (link_place name) (end_of c.space) } = heap_after ∙ ap (λ n. record heap { space = with_word heap.space (link_place name) n }) (there ∙ at) in
+    let done = placing heap c name h heap_is is header k start none room in
+    subst (λ x. Placing heap x c next name) (sym new_is) (subst (λ x. Placing heap (record heap { space = with_word heap.space (link_place name) (end_of c.space) }) c x name) (sym next_is) done)
+
+-- ---- results
+
+pub on_ok : {X Y : Type 0} (P Q : Type 0) (r : Result X Y) → (P → Q) → OnOk r P → OnOk r Q
+on_ok P Q (Ok x) f h = f h
+on_ok P Q (Err e) f h = tt
+
+pub on_err : {X Y : Type 0} (P Q : Type 0) (r : Result X Y) → (P → Q) → OnErr r P → OnErr r Q
+on_err P Q (Ok x) f h = tt
+on_err P Q (Err e) f h = f h
+
+pub if_err : {X Y : Type 0} (P : Type 0) (r : Result X Y) → P → OnErr r P
+if_err P (Ok x) h = tt
+if_err P (Err e) h = h
+
+-- ---- what the heap's words say
+
+pub target_named : (w a : ℕ) → Some a ≡ name_of (value_of w) → value_of w ≡ Ref a
+target_named w a e = named (value_of w) a e
+
+pub has_placed : (c next : Collection) (w a : ℕ) (o : Option Object) → Some a ≡ name_of (value_of w) → place_replica c a o ≡ Some next → HasReplicaOf next (value_of w)
+has_placed c next w a o e p = subst (HasReplicaOf next) (sym (named (value_of w) a e)) (placed_has c next a o p)
+
+pub field_word_is : (heap : HeapWords) (name i w : ℕ) → IsHeap heap → field_at heap.space.words name i ≡ Some w → IsRootWord heap.space.words w
+field_word_is heap name i w is e = from (block_at heap.space.words name) refl e
+  where
+    from : (x : Option Block) → block_at heap.space.words name ≡ x → field_in x i ≡ Some w → IsRootWord heap.space.words w
+    from None f g = absurd (let no : None ≡ Some w = g in cc)
+    from (Some b) f g = closed_field_read heap.space.words heap.roots name i w b is.closed f e
+
+pub field_kept : (old new : HeapWords) (a i : ℕ) → KeepsGraph old new → field_at new.space.words a i ≡ field_at old.space.words a i
+field_kept old new a i k = ap (λ bs. field_in (block_in bs a) i) k.blocks
+
+-- ---- bringing a field up to date, as the code does it
+
+pub record Brought (heap new : HeapWords) (c next : CollectionWords) (name i : ℕ) : Type 0 where
+  pub sound : IsCollection next
+  pub brought : bring_up_to_date (collection_in c) (graph_in heap) name i ≡ Some (collection_in next)
+  pub belongs : BelongsTo new next
+  pub rest : KeepsRest c next
+
+-- `c` is the collection before, `one` that in which what the field refers to has its replica, and `x` is its parts
+module _ (heap new : HeapWords) (c one x : CollectionWords) (name i w place : ℕ) (heap_is : IsHeap heap) (is : IsCollection x) (seen : x ≡ one) (k : BelongsTo new one) (graph : KeepsGraph heap new) (rest : KeepsRest c one)
+    (field : field_at heap.space.words name i ≡ Some w) (target : with_replica (collection_in c) (graph_in heap) (value_of w) ≡ Some (collection_in one)) (has : HasReplicaOf (collection_in one) (value_of w))
+    (replica : option_map (λ r. r.place) (replica_of (collection_in c) name) ≡ Some place) where
+  belongs_here : BelongsTo new x
+  belongs_here = subst (BelongsTo new) (sym seen) k
+
+  has_here : HasReplicaOf (collection_in x) (value_of w)
+  has_here = subst (λ y. HasReplicaOf (collection_in y) (value_of w)) (sym seen) has
+
+  replica_here : option_map (λ r. r.place) (replica_of (collection_in x) name) ≡ Some place
+  replica_here = subst (λ y. option_map (λ (r : Replica). r.place) (replica_of (collection_in y) name) ≡ Some place) (sym seen) (kept_replica (collection_in c) (collection_in one) (graph_in heap) (value_of w) name place target replica)
+
+  field_new : field_at new.space.words name i ≡ Some w
+  field_new = field_kept heap new name i graph ∙ field
+
+  pub present : IsSome (field_at x.space.words place i)
+  present = field_of_replica new x name i place belongs_here.belongs replica_here (ap is_some field_new)
+
+  pub brought_words : (moved_word : ℕ) → moved_word ≡ word_of (moved (collection_in one) (value_of w)) → (next : CollectionWords) → next ≡ record x { space = with_word x.space (field_place place i) moved_word } → Brought heap new c next name i
+  brought_words moved_word moved_is next after = subst (λ y. Brought heap new c y name i) (sym after) (record {
+    sound = made.sound;
+    brought = brought (graph_in heap) (collection_in c) (collection_in x) name i (value_of w) (field_value_is heap name i w field) (subst (λ y. with_replica (collection_in c) (graph_in heap) (value_of w) ≡ Some (collection_in y)) (sym seen) target) ∙ ap Some (sym copied);
+    belongs = closed new new x after_words (same_graph new) belongs_here refl
+        (bringing_keeps (open_state new x) (collection_in x) (collection_in after_words) name i (opened new x is belongs_here)
+        (brought (graph_in new) (collection_in x) (collection_in x) name i (value_of w) (field_value_is new name i w field_new) (replicated_already (collection_in x) (graph_in new) w has_here) ∙ ap Some (sym copied)))
+        (λ a start. (belongs_here.links) a start ∙ sym (links_written (collection_in x) name i a (moved (collection_in x) (value_of w))) ∙ sym (ap (λ d. old_links d a) copied));
+    rest = subst (λ (y : CollectionWords). KeepsRest c (record y { space = with_word y.space (field_place place i) moved_word })) (sym seen) (record { size = rest.size; logs = rest.logs; scan_place = rest.scan_place; scan_field = rest.scan_field });
+  })
+    where
+      after_words : CollectionWords
+      after_words = record x { space = with_word x.space (field_place place i) moved_word }
+
+      made : Bringing x after_words name i (value_of moved_word)
+      made = bringing (graph_in new).objects x name i moved_word place is belongs_here.belongs replica_here present
+
+      value_is : value_of moved_word ≡ moved (collection_in x) (value_of w)
+      value_is =
+          ap value_of (moved_is ∙ ap (λ (y : CollectionWords). word_of (moved (collection_in y) (value_of w))) (sym seen))
+          ∙ (meaning_back (moved (collection_in x) (value_of w)) (moved_address (graph_in new).objects x (value_of w) is belongs_here.belongs has_here)).1
+
+      copied : collection_in after_words ≡ write_replica (collection_in x) name i (moved (collection_in x) (value_of w))
+      copied = made.copied ∙ ap (write_replica (collection_in x) name i) value_is
+
+-- a word that refers to nothing is its own
+pub unmoved : (c : Collection) (w : ℕ) → None ≡ name_of (value_of w) → w ≡ word_of (moved c (value_of w))
+unmoved c w e = sym (word_back w) ∙ ap word_of (by (value_of w) e)
+  where
+    by : (v : Value) → None ≡ name_of v → v ≡ moved c v
+    by Nil e = refl
+    by (Num n) e = refl
+    by (Ref a) e = absurd (let no : None ≡ Some a = e in cc)

@@ -1,0 +1,197 @@
+-- The replicas that the words of a space are, and what writes do to them.
+use Rattle.std.proofs.Common.{◌≡◌, ⊎_elim, inl, inr, ℕ, zero, suc, ◌+◌, ◌-◌, ◌*◌, ◌/◌, ◌%◌, ◌<◌, ◌≤◌, ◌==◌, Bool, true, false, cond, List, [], ◌∷◌, ◌++◌, map, length, Option, Some, None, is_some, refl, ap, sym, ◌∙◌, subst, arith}
+use Rattle.std.specs.Prelude.{IsSome}
+use Rattle.std.proofs.lemmas.Bool.{cases_Bool, cond-true, cond-false, eqb-true, eqb-false, eq-eqb}
+use Rattle.std.proofs.lemmas.List.{map-append}
+use Rattle.gc_graph.specs.Graph.{Value, Nil, Num, Ref, Object, set_field, new_object}
+use Rattle.gc_words.specs.Word.{value_of, word_of, field_value}
+use Rattle.gc_words.specs.Image.{Block, blocks, block_in, block_at, is_start, field_at, fresh_block, set_block, object_of_block, object_entry, objects_of}
+use Rattle.gc_words.specs.Spelling.{link_at}
+use Rattle.gc_words.specs.Space.{SpaceWords, IsSpace, CanPlace, end_of, free_in, with_object, with_word, link_place, field_place}
+use Rattle.gc_words.specs.declared.header.Header.{Header}
+use Rattle.gc_words.proofs.Walks.{objects_set}
+use Rattle.gc_words.proofs.Writes.{some_of, placed, field_written, link_written}
+use Rattle.gc_words.proofs.Blocks.{none_at_end, placed_block}
+use Rattle.gc_words.proofs.Links.{link_placed_beside, link_beside_field, link_written_there, link_written_beside}
+use Rattle.gc_words.proofs.Graphs.{fresh_object}
+use Rattle.gc_copy.specs.State.{Replica, Collection, new_objects, new_end, replica_of}
+use Rattle.gc_copy.specs.Steps.{with_written, write_replica}
+use Rattle.gc_copy.specs.Words.{CollectionWords, replica_entry, replicas_in, collection_in}
+use Rattle.gc_copy.specs.Members.{In}
+use Rattle.gc_copy.specs.Belonging.{BelongsBy}
+use Rattle.gc_copy.proofs.Lists.{map_same, in_map_from}
+use Rattle.gc_copy.proofs.Heap.{laid_end_is}
+use Rattle.gc_copy.proofs.Replicas.{with_written_pair}
+use Rattle.gc_copy.proofs.Links.{write_is_set}
+use Rattle.gc_copy.proofs.Words.{objects_laid}
+
+-- ---- words and values
+
+-- each word is the word of what it means
+pub word_back : (w : ℕ) → word_of (value_of w) ≡ w
+word_back w = by (w == 0) refl (w % 2 == 1) refl
+  where
+    by : (a : Bool) → (w == 0) ≡ a → (b : Bool) → (w % 2 == 1) ≡ b → word_of (cond a Nil (cond b (Num (w / 2)) (Ref (w / 2)))) ≡ w
+    by true e b f = let is : w ≡ 0 = eqb-true w 0 e in omega arith
+    by false e true f = let is : w % 2 ≡ 1 = eqb-true (w % 2) 1 f in omega arith
+    by false e false f = let isnt : w % 2 ≡ 1 → ⊥ = eqb-false (w % 2) 1 f in omega arith
+
+-- ---- lists
+
+pub map_agree : {X Y : Type 0} (f g : X → Y) (xs : List X) → ((x : X) → In x xs → f x ≡ g x) → map f xs ≡ map g xs
+map_agree f g [] h = refl
+map_agree f g (x ∷ xs) h =
+    let here = h x (inl refl) in
+    let rest = map_agree f g xs (λ y k. h y (inr k)) in
+    λ i. here i ∷ rest i
+
+map_twice : {X Y Z : Type 0} (f : Y → Z) (g : X → Y) (xs : List X) → map f (map g xs) ≡ map (λ x. f (g x)) xs
+map_twice f g [] = refl
+map_twice f g (x ∷ xs) = let rest = map_twice f g xs in λ i. f (g x) ∷ rest i
+
+abbrev placed_of : Replica → ℕ × Object
+placed_of r = (r.place, r.object)
+
+-- replicas are told by their originals and their objects
+pub replicas_same : (rs ss : List Replica) → map (λ r. r.original) rs ≡ map (λ r. r.original) ss → map placed_of rs ≡ map placed_of ss → rs ≡ ss
+replicas_same [] [] e f = refl
+replicas_same [] (s ∷ ss) e f = absurd cc
+replicas_same (r ∷ rs) [] e f = absurd cc
+replicas_same (r ∷ rs) (s ∷ ss) e f =
+    let o : r.original ≡ s.original = cc e in
+    let q : placed_of r ≡ placed_of s = cc f in
+    let t : map (λ (r : Replica). r.original) rs ≡ map (λ (r : Replica). r.original) ss = cc e in
+    let u : map placed_of rs ≡ map placed_of ss = cc f in
+    let rest = replicas_same rs ss t u in
+    λ i. record { original = o i; place = (q i).0; object = (q i).1 } ∷ rest i
+
+-- ---- replicas of words
+
+pub originals_at : (words : List ℕ) (bs : List (ℕ × Block)) → map (λ r. r.original) (map (replica_entry words) bs) ≡ map (link_at words) (map (λ e. e.0) bs)
+originals_at words [] = refl
+originals_at words (e ∷ bs) = let rest = originals_at words bs in λ i. link_at words e.0 ∷ rest i
+
+pub placed_at : (words : List ℕ) (bs : List (ℕ × Block)) → map placed_of (map (replica_entry words) bs) ≡ map object_entry bs
+placed_at words [] = refl
+placed_at words (e ∷ bs) = let rest = placed_at words bs in λ i. object_entry e ∷ rest i
+
+pub new_objects_are : (c : CollectionWords) → new_objects (collection_in c) ≡ objects_of c.space.words
+new_objects_are c = placed_at c.space.words (blocks c.space.words)
+
+pub new_end_is : (c : CollectionWords) → IsSpace c.space → new_end (collection_in c) ≡ end_of c.space
+new_end_is c is =
+    let ends = ap (λ os. Rattle.gc_copy.specs.State.objects_end 1 os) (new_objects_are c) ∙ laid_end_is 1 (objects_of c.space.words) (c.space.size - free_in c.space) (objects_laid c.space is) in
+    let high = is.end_high in
+    omega (arith, ends)
+
+in_block : (bs : List (ℕ × Block)) (e : ℕ × Block) → In e bs → is_some (block_in bs e.0) ≡ true
+in_block [] e k = absurd k
+in_block (d ∷ bs) e (inl k) = ap is_some (cond-true (d.0 == e.0) (Some d.1) (block_in bs e.0) (eq-eqb d.0 e.0 (ap (λ (x : ℕ × Block). x.0) k)))
+in_block (d ∷ bs) e (inr k) = ⊎_elim
+    (λ t. ap is_some (cond-true (d.0 == e.0) (Some d.1) (block_in bs e.0) t))
+    (λ f. ap is_some (cond-false (d.0 == e.0) (Some d.1) (block_in bs e.0) f) ∙ in_block bs e k)
+    (cases_Bool (d.0 == e.0))
+
+pub in_start : (words : List ℕ) (e : ℕ × Block) → In e (blocks words) → is_start words e.0 ≡ true
+in_start words e k = in_block (blocks words) e k
+
+-- a replica stands at a start of the space
+pub replica_start : (words : List ℕ) (r : Replica) → In r (replicas_in words) → (e : ℕ × Block) × In e (blocks words) × (replica_entry words e ≡ r)
+replica_start words r k = in_map_from (replica_entry words) r (blocks words) k
+
+entry_agrees : (words others : List ℕ) (e : ℕ × Block) → link_at words e.0 ≡ link_at others e.0 → replica_entry words e ≡ replica_entry others e
+entry_agrees words others e h = λ i. record { original = h i; place = e.0; object = object_of_block e.1 }
+
+-- ---- a replica is placed
+
+abbrev pub fresh_at : SpaceWords → Header → ℕ → Replica
+fresh_at s h name = record { original = name; place = end_of s; object = new_object h.kind h.len }
+
+pub space_placed : (s : SpaceWords) (h : Header) (name : ℕ) → CanPlace s h
+    → let after = with_word (with_object s h) (link_place (end_of s)) name in IsSpace after × (replicas_in after.words ≡ replicas_in s.words ++ fresh_at s h name ∷ [])
+space_placed s h name can = (linked.0, each)
+  where
+    one : IsSpace (with_object s h) × (blocks (with_object s h).words ≡ blocks s.words ++ (end_of s, fresh_block h) ∷ [])
+    one = placed s h can
+
+    start : is_start (with_object s h).words (end_of s) ≡ true
+    start = ap is_some (placed_block s h can)
+
+    linked : IsSpace (with_word (with_object s h) (link_place (end_of s)) name) × (blocks (with_word (with_object s h) (link_place (end_of s)) name).words ≡ blocks (with_object s h).words)
+    linked = link_written (with_object s h) (end_of s) name one.0 start
+
+    words : List ℕ
+    words = (with_word (with_object s h) (link_place (end_of s)) name).words
+
+    apart : (e : ℕ × Block) → In e (blocks s.words) → end_of s ≡ e.0 → ⊥
+    apart e k same =
+        let there : is_some (block_at s.words (end_of s)) ≡ true = ap (λ n. is_some (block_at s.words n)) same ∙ in_start s.words e k in
+        let gone : is_some (block_at s.words (end_of s)) ≡ false = ap is_some (none_at_end s can.shaped) in
+        let no : true ≡ false = sym there ∙ gone in absurd cc
+
+    link_kept : (e : ℕ × Block) → In e (blocks s.words) → link_at words e.0 ≡ link_at s.words e.0
+    link_kept e k = link_written_beside (with_object s h) (end_of s) name e.0 (apart e k) ∙ link_placed_beside s h e.0 can.shaped (in_start s.words e k)
+
+    last : replica_entry words (end_of s, fresh_block h) ≡ fresh_at s h name
+    last =
+        let link = link_written_there (with_object s h) (end_of s) name one.0 start in
+        let object = fresh_object h in
+        λ i. record { original = link i; place = end_of s; object = object i }
+
+    each : replicas_in words ≡ replicas_in s.words ++ fresh_at s h name ∷ []
+    each =
+        ap (map (replica_entry words)) (linked.1 ∙ one.1)
+        ∙ map-append (replica_entry words) (blocks s.words) ((end_of s, fresh_block h) ∷ [])
+        ∙ ap (λ rs. rs ++ replica_entry words (end_of s, fresh_block h) ∷ []) (map_agree (replica_entry words) (replica_entry s.words) (blocks s.words) (λ e k. entry_agrees words s.words e (link_kept e k)))
+        ∙ ap (λ r. replicas_in s.words ++ r ∷ []) last
+
+-- ---- a field is written
+
+places_set : (bs : List (ℕ × Block)) (a i w : ℕ) → map (λ e. e.0) (set_block bs a i w) ≡ map (λ (e : ℕ × Block). e.0) bs
+places_set [] a i w = refl
+places_set (e ∷ bs) a i w = ⊎_elim
+    (λ t. ap (map (λ (e : ℕ × Block). e.0)) (cond-true (e.0 == a) _ _ t))
+    (λ f. ap (map (λ (e : ℕ × Block). e.0)) (cond-false (e.0 == a) _ _ f) ∙ (let rest = places_set bs a i w in λ j. e.0 ∷ rest j))
+    (cases_Bool (e.0 == a))
+
+in_places : (bs : List (ℕ × Block)) (p : ℕ) → In p (map (λ e. e.0) bs) → is_some (block_in bs p) ≡ true
+in_places bs p k =
+    let e = in_map_from (λ (e : ℕ × Block). e.0) p bs k in
+    subst (λ n. is_some (block_in bs n) ≡ true) e.2 (in_block bs e.0 e.1)
+
+pub space_written : (Due : ℕ → ℕ → ℕ → Type 0) (objects : List (ℕ × Object)) (c : CollectionWords) (name i w : ℕ) (r : Replica)
+    → IsSpace c.space → BelongsBy Due objects (collection_in c) → replica_of (collection_in c) name ≡ Some r → IsSome (field_at c.space.words r.place i)
+    → let after = with_word c.space (field_place r.place i) w in IsSpace after × (replicas_in after.words ≡ (write_replica (collection_in c) name i (value_of w)).replicas)
+space_written Due objects c name i w r is belongs found there = (done.0, replicas_same (replicas_in words) (write_replica (collection_in c) name i (value_of w)).replicas same_originals same_objects)
+  where
+    done : IsSpace (with_word c.space (field_place r.place i) w) × (blocks (with_word c.space (field_place r.place i) w).words ≡ set_block (blocks c.space.words) r.place i w)
+    done = field_written c.space r.place i w is there
+
+    words : List ℕ
+    words = (with_word c.space (field_place r.place i) w).words
+
+    places : map (λ (e : ℕ × Block). e.0) (blocks words) ≡ map (λ (e : ℕ × Block). e.0) (blocks c.space.words)
+    places = ap (map (λ (e : ℕ × Block). e.0)) done.1 ∙ places_set (blocks c.space.words) r.place i w
+
+    same_originals : map (λ (r : Replica). r.original) (replicas_in words) ≡ map (λ (r : Replica). r.original) (write_replica (collection_in c) name i (value_of w)).replicas
+    same_originals =
+        originals_at words (blocks words)
+        ∙ ap (map (link_at words)) places
+        ∙ map_agree (link_at words) (link_at c.space.words) (map (λ (e : ℕ × Block). e.0) (blocks c.space.words)) (λ p k. link_beside_field c.space r.place i w p is there (in_places (blocks c.space.words) p k))
+        ∙ sym (originals_at c.space.words (blocks c.space.words))
+        ∙ sym (map_same (λ (q : Replica). q.original) (with_written name i (value_of w)) (λ q. ap (λ (x : ℕ × ℕ). x.0) (with_written_pair name i (value_of w) q)) (replicas_in c.space.words))
+
+    block : (b : Block) × (block_at c.space.words r.place ≡ Some b)
+    block = from (block_at c.space.words r.place) refl there
+      where
+        from : (o : Option Block) → block_at c.space.words r.place ≡ o → IsSome (Rattle.gc_words.specs.Image.field_in o i) → (b : Block) × (block_at c.space.words r.place ≡ Some b)
+        from None e h = absurd cc
+        from (Some b) e h = (b, e)
+
+    same_objects : map placed_of (replicas_in words) ≡ map placed_of (write_replica (collection_in c) name i (value_of w)).replicas
+    same_objects =
+        placed_at words (blocks words)
+        ∙ ap (map object_entry) done.1
+        ∙ objects_set (blocks c.space.words) r.place i w block.0 block.1
+        ∙ ap (λ os. set_field os r.place i (value_of w)) (sym (new_objects_are c))
+        ∙ sym (write_is_set Due objects (collection_in c) belongs name i (value_of w) r found)

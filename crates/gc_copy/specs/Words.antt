@@ -1,0 +1,112 @@
+-- A collection as contracts see it: a new space whose links are originals, logs with their room, and the scan pointer.
+use Rattle.std.specs.Prelude.{◌≡◌, ℕ, ◌+◌, ◌-◌, ◌<◌, ◌≤◌, ◌^◌, List, [], ◌∷◌, ◌++◌, length, map, replicate, slice_get, IsTrue, IsSome, Option, Some, None, ⊤}
+use Rattle.gc_graph.specs.Graph.{Value, Nil, Num, Ref}
+use Rattle.gc_words.specs.Word.{word_of, value_of}
+use Rattle.gc_words.specs.Image.{Block, blocks, is_start, object_of_block}
+use Rattle.gc_words.specs.Spelling.{link_at}
+use Rattle.gc_words.specs.Space.{SpaceWords, IsSpace}
+use Rattle.gc_heap.specs.Heap.{HeapWords, graph_in, roomy_in}
+use Rattle.gc_copy.specs.State.{Replica, Collection, State, replica_of, new_graph}
+use Rattle.gc_copy.specs.Linked.{old_links}
+use Rattle.gc_copy.specs.Members.{In}
+use Rattle.gc_copy.specs.Belonging.{Belongs, BelongsBut}
+
+-- what a mutator wrote, the oldest first, and how many entries more have their memory
+pub record Log : Type 0 where
+  pub entries : List (ℕ × ℕ)
+  pub spare : ℕ
+
+pub record CollectionWords : Type 0 where
+  pub space : SpaceWords
+  pub logs : List Log
+  pub scan_place : ℕ
+  pub scan_field : ℕ
+
+-- ---- the collection that the words are
+
+-- an object of the new space, which is a replica of what its link names
+abbrev pub replica_entry : List ℕ → ℕ × Block → Replica
+replica_entry words entry = record { original = link_at words entry.0; place = entry.0; object = object_of_block entry.1 }
+
+abbrev pub replicas_in : List ℕ → List Replica
+replicas_in words = map (replica_entry words) (blocks words)
+
+abbrev pub entries_of : Log → List (ℕ × ℕ)
+entries_of log = log.entries
+
+abbrev pub collection_in : CollectionWords → Collection
+collection_in c = record { size = c.space.size; replicas = replicas_in c.space.words; logs = map entries_of c.logs; scan_place = c.scan_place; scan_field = c.scan_field }
+
+-- a space of objects, each of which has an original, and no more logs than a `u8` can number
+pub record IsCollection (c : CollectionWords) : Type 0 where
+  pub space : IsSpace c.space
+  pub logs : length c.logs < 256
+  pub originals : (r : Replica) → In r (replicas_in c.space.words) → r.original < 2 ^ 32
+
+-- ---- with a heap
+
+-- the state without a collection, and with this one
+abbrev pub state_of : HeapWords → Option Collection → State
+state_of heap collection = record { mutators = heap.mutators; size = heap.space.size; heap = roomy_in heap; collection = collection }
+
+abbrev pub idle_state : HeapWords → State
+idle_state heap = state_of heap None
+
+abbrev pub open_state : HeapWords → CollectionWords → State
+open_state heap c = state_of heap (Some (collection_in c))
+
+-- no object has a link
+abbrev pub HasNoLinks : HeapWords → Type 0
+HasNoLinks heap = (a : ℕ) → IsTrue (is_start heap.space.words a) → link_at heap.space.words a ≡ 0
+
+-- an original's link is its replica's place, every other link is 0
+abbrev pub LinksReplicas : HeapWords → Collection → Type 0
+LinksReplicas heap c = (a : ℕ) → IsTrue (is_start heap.space.words a) → link_at heap.space.words a ≡ old_links c a
+
+-- the collection belongs to the heap, whose links tell its replicas
+pub record BelongsTo (heap : HeapWords) (c : CollectionWords) : Type 0 where
+  pub belongs : Belongs (graph_in heap).objects (collection_in c)
+  pub links : LinksReplicas heap (collection_in c)
+  pub logs : length c.logs ≡ heap.mutators
+
+-- the same but for the fields of which E holds
+pub record BelongsToBut (E : ℕ → ℕ → Type 0) (heap : HeapWords) (c : CollectionWords) : Type 0 where
+  pub belongs : BelongsBut E (graph_in heap).objects (collection_in c)
+  pub links : LinksReplicas heap (collection_in c)
+  pub logs : length c.logs ≡ heap.mutators
+
+-- the words of the moved roots
+abbrev pub new_root_words : HeapWords → Collection → List ℕ
+new_root_words heap c = map word_of (new_graph c (graph_in heap).roots).roots
+
+-- how many entries more mutator m's log has room for
+abbrev pub spare_in : Option Log → ℕ
+spare_in None = 0
+spare_in (Some log) = log.spare
+
+abbrev pub spare_of : CollectionWords → ℕ → ℕ
+spare_of c m = spare_in (slice_get c.logs m)
+
+-- what the word refers to has a replica
+abbrev pub HasReplicaOf : Collection → Value → Type 0
+HasReplicaOf c Nil = ⊤
+HasReplicaOf c (Num n) = ⊤
+HasReplicaOf c (Ref name) = IsSome (replica_of c name)
+
+abbrev pub HasReplicaWord : Collection → ℕ → Type 0
+HasReplicaWord c word = HasReplicaOf c (value_of word)
+
+-- links apart, the heap stays as it is
+pub record KeepsGraph (old new : HeapWords) : Type 0 where
+  pub mutators : new.mutators ≡ old.mutators
+  pub size : new.space.size ≡ old.space.size
+  pub roots : new.roots ≡ old.roots
+  pub heap : roomy_in new ≡ roomy_in old
+  pub blocks : blocks new.space.words ≡ blocks old.space.words
+
+-- the space apart, the collection stays as it is
+pub record KeepsRest (old new : CollectionWords) : Type 0 where
+  pub size : new.space.size ≡ old.space.size
+  pub logs : new.logs ≡ old.logs
+  pub scan_place : new.scan_place ≡ old.scan_place
+  pub scan_field : new.scan_field ≡ old.scan_field

@@ -1,0 +1,44 @@
+mod beginning;
+mod copying;
+mod flipping;
+mod logging;
+mod roots;
+mod stepping;
+
+use crate::log::MutationLog;
+use gc_words::{Addr, Space};
+use std::marker::Model;
+
+/// An open collection: the new space with its replicas, a mutation log for each mutator, and the scan pointer.
+/// Replicas stand in the new space in the order in which they were placed.
+///
+/// While it is open, an original's link is its replica's address, and a replica's link is its original's. Both
+/// are set here and nowhere else. A heap to which the collection belongs has to be handed to each call.
+#[derive(Debug, Drop)]
+pub struct Collection {
+    space: Space,
+    logs: Vec<MutationLog>,
+    // The replica that the scan has come to, or the end, and how many of its fields were scanned.
+    scan_place: Addr,
+    scan_field: u16,
+}
+
+impl Model for Collection {
+    ghost use Rattle.gc_copy.specs.Words.{CollectionWords, IsCollection};
+
+    ghost Value = { CollectionWords };
+
+    ghost view = { λ c. record {
+      space = c.space;
+      logs = c.logs.items;
+      scan_place = c.scan_place.0;
+      scan_field = c.scan_field;
+    } };
+
+    ghost invariant = { λ c. IsCollection (record {
+      space = c.space;
+      logs = c.logs.items;
+      scan_place = c.scan_place.0;
+      scan_field = c.scan_field;
+    }) };
+}

@@ -1,0 +1,120 @@
+ghost use Rattle.std.specs.Prelude.{◌≤◌, ◌<◌, IfSome, ◌≡◌, OnOk, OnErr, IfOk, Some, None, IsTrue, IsSome, is_none};
+ghost use Rattle.std.specs.Option.{option_map};
+ghost use Rattle.gc_graph.specs.Graph.{lookup};
+ghost use Rattle.gc_words.specs.Word.{value_of, word_of};
+ghost use Rattle.gc_words.specs.Image.{is_start, field_at};
+ghost use Rattle.gc_words.specs.Closed.{IsRootWord};
+ghost use Rattle.gc_heap.specs.Heap.{IsHeap, graph_in};
+ghost use Rattle.gc_copy.specs.State.{replica_of as replica_in, moved};
+ghost use Rattle.gc_copy.specs.Steps.{place_replica as placed_in, with_replica as with_replica_in, bring_up_to_date as brought_in};
+ghost use Rattle.gc_copy.specs.Words.{collection_in, BelongsTo, HasReplicaWord, KeepsGraph, KeepsRest};
+
+use super::Collection;
+use super::roots::target_of;
+use gc_heap::Heap;
+use gc_words::{Addr, NewAddr, OldAddr, Value, encode};
+
+/// A replica has to be placed, and the new space has no room for it.
+#[derive(Debug, Drop)]
+pub(super) struct NoRoom;
+
+impl Collection {
+    /// The replica of an original, whose link tells it.
+    pub(super) fn replica_of(&self, heap: &Heap, original: OldAddr) -> Option<NewAddr>
+        requires belongs { BelongsTo heap.now self.now }
+        requires start { IsTrue (is_start heap.now.space.words original.0) }
+        ensures place { option_map (λ a. a.0) result ≡ option_map (λ r. r.place) (replica_in (collection_in self.now) original.0) }
+        ensures address { IfSome result (λ a. (1 ≤ a.0) × (a.0 < 1048576)) }
+    {
+        // Here the prover learns how large the new space is.
+        let _ = &self.space;
+        let link = heap.space().link(Addr(original.0));
+        if link == 0 {
+            None
+        } else {
+            Some(NewAddr(link as u32))
+        }
+    }
+
+    /// The word with a reference to the replica in the place of one to the original.
+    pub(super) fn moved_word(&self, heap: &Heap, word: u64) -> u64
+        requires belongs { BelongsTo heap.now self.now }
+        requires word { IsRootWord heap.now.space.words word }
+        requires replica { HasReplicaWord (collection_in self.now) word }
+        ensures { result ≡ word_of (moved (collection_in self.now) (value_of word)) }
+    {
+        let Some(target) = target_of(word) else {
+            return word;
+        };
+        match self.replica_of(heap, target) {
+            Some(replica) => encode(Value::Ref(Addr(replica.0))),
+            None => word,
+        }
+    }
+
+    /// Places a fresh replica at the new end: the original's header, all fields nil.
+    pub(super) fn place_replica(&mut self, heap: &mut Heap, original: OldAddr) -> Result<(), NoRoom>
+        requires belongs { BelongsTo heap.old self.old }
+        requires start { IsTrue (is_start heap.old.space.words original.0) }
+        requires missing { replica_in (collection_in self.old) original.0 ≡ None }
+        ensures placed { OnOk result (placed_in (collection_in self.old) original.0 (lookup (graph_in heap.old).objects original.0) ≡ Some (collection_in self.new)) }
+        ensures full { OnErr result ((placed_in (collection_in self.old) original.0 (lookup (graph_in heap.old).objects original.0) ≡ None) × (self.new ≡ self.old) × (heap.new ≡ heap.old)) }
+        ensures belongs { BelongsTo heap.new self.new }
+        ensures graph { KeepsGraph heap.old heap.new }
+        ensures rest { KeepsRest self.old self.new }
+    {
+        let header = heap.space().header(Addr(original.0));
+        if !self.space.has_room(header.len()) {
+            return Err(NoRoom);
+        }
+        let replica = self.space.place(header);
+        self.space.set_link(replica, u64::from(original.0));
+        heap.set_link(original, NewAddr(replica.0));
+        Ok(())
+    }
+
+    /// Sees to it that what the word refers to has a replica.
+    pub(super) fn replicate_target(&mut self, heap: &mut Heap, word: u64) -> Result<(), NoRoom>
+        requires belongs { BelongsTo heap.old self.old }
+        requires word { IsRootWord heap.old.space.words word }
+        ensures placed { OnOk result (with_replica_in (collection_in self.old) (graph_in heap.old) (value_of word) ≡ Some (collection_in self.new)) }
+        ensures full { OnErr result ((with_replica_in (collection_in self.old) (graph_in heap.old) (value_of word) ≡ None) × (self.new ≡ self.old) × (heap.new ≡ heap.old)) }
+        ensures replica { OnOk result (HasReplicaWord (collection_in self.new) word) }
+        ensures belongs { BelongsTo heap.new self.new }
+        ensures graph { KeepsGraph heap.old heap.new }
+        ensures rest { KeepsRest self.old self.new }
+    {
+        let Some(target) = target_of(word) else {
+            return Ok(());
+        };
+        if self.replica_of(heap, target).is_some() {
+            return Ok(());
+        }
+        self.place_replica(heap, target)
+    }
+
+    /// Reads the original's present field and writes the same nil or number, or the reference to the target's
+    /// replica, into the replica.
+    pub(super) fn bring_up_to_date(
+        &mut self,
+        heap: &mut Heap,
+        original: OldAddr,
+        replica: NewAddr,
+        field: u16,
+    ) -> Result<(), NoRoom>
+        requires belongs { BelongsTo heap.old self.old }
+        requires field { IsSome (field_at heap.old.space.words original.0 field) }
+        requires replica { option_map (λ r. r.place) (replica_in (collection_in self.old) original.0) ≡ Some replica.0 }
+        ensures brought { OnOk result (brought_in (collection_in self.old) (graph_in heap.old) original.0 field ≡ Some (collection_in self.new)) }
+        ensures full { OnErr result ((brought_in (collection_in self.old) (graph_in heap.old) original.0 field ≡ None) × (self.new ≡ self.old) × (heap.new ≡ heap.old)) }
+        ensures belongs { BelongsTo heap.new self.new }
+        ensures graph { KeepsGraph heap.old heap.new }
+        ensures rest { KeepsRest self.old self.new }
+    {
+        let word = heap.space().field(Addr(original.0), field);
+        self.replicate_target(heap, word)?;
+        let moved = self.moved_word(heap, word);
+        self.space.set_field(Addr(replica.0), field, moved);
+        Ok(())
+    }
+}

@@ -1,0 +1,98 @@
+ghost use Rattle.std.specs.Prelude.{◌≡◌, IfOk, IsTrue, map, length};
+ghost use Rattle.gc_words.specs.Space.{image_with, without_links};
+ghost use Rattle.gc_words.specs.Views.{image_of as image_in, addresses};
+ghost use Rattle.gc_heap.specs.Heap.{IsHeap, graph_in};
+ghost use Rattle.gc_copy.specs.State.{pairs_of};
+ghost use Rattle.gc_copy.specs.Steps.{collect, is_ready};
+ghost use Rattle.gc_copy.specs.Words.{collection_in, idle_state, open_state, BelongsTo, HasNoLinks, new_root_words};
+ghost use Rattle.gc_copy.specs.declared.step.Step.{Step};
+ghost use Rattle.gc_copy.specs.declared.step.StepReply.{StepReply};
+
+use super::Collection;
+use gc_graph::NoMemory;
+use gc_heap::Heap;
+use gc_words::{Addr, ImageRef, NewAddr, OldAddr, Pair, Space};
+use std::alloc::Global;
+
+impl Collection {
+    /// The certificate: each original with its replica, in the order of the replicas.
+    pub fn pairs(&self, alloc: Global) -> Result<Vec<Pair>, NoMemory>
+        ensures { IfOk result (λ pairs. map addresses pairs.items ≡ pairs_of (collection_in self.now)) }
+    {
+        let Ok(mut pairs) = Vec::with_capacity(alloc, self.replicas()) else {
+            return Err(NoMemory);
+        };
+        let mut at = Addr(1);
+        while at.0 < self.space.end() {
+            let original = OldAddr(self.space.link(at) as u32);
+            if pairs
+                .push(Pair {
+                    old: original,
+                    new: NewAddr(at.0),
+                })
+                .is_err()
+            {
+                return Err(NoMemory);
+            }
+            at = self.behind(at);
+        }
+        Ok(pairs)
+    }
+
+    /// How many replicas there are.
+    fn replicas(&self) -> usize {
+        let mut count = 0;
+        let mut at = Addr(1);
+        while at.0 < self.space.end() {
+            count += 1;
+            at = self.behind(at);
+        }
+        count
+    }
+
+    /// The place behind the replica that starts here.
+    fn behind(&self, at: Addr) -> Addr {
+        Addr(at.0 + u32::from(self.space.header(at).len()) + 2)
+    }
+
+    /// The new space with these roots, links included.
+    pub fn new_image<'a>(&'a self, roots: &'a [u64]) -> ImageRef<'a>
+        ensures words { image_in result ≡ image_with self.now.space roots.now }
+    {
+        ImageRef {
+            size: self.space.size(),
+            end: self.space.end(),
+            words: self.space.words(),
+            roots,
+        }
+    }
+
+    /// Lets the mutators go on in the new space with its links cleared and these roots, those of `new_roots`.
+    /// Hands the old space back, links included, and the old roots.
+    pub fn flip_into(self, heap: &mut Heap, roots: Vec<u64>) -> (Space, Vec<u64>)
+        requires belongs { BelongsTo heap.old self }
+        requires ready { IsTrue (is_ready (collection_in self) (graph_in heap.old)) }
+        requires roots { roots.items ≡ new_root_words heap.old (collection_in self) }
+        ensures step { collect (open_state heap.old self) Step.Flip ≡ (StepReply.Flipped (length (pairs_of (collection_in self))), idle_state heap.new) }
+        ensures heap { heap.new ≡ record heap.old { space = without_links self.space; roots = roots.items } }
+        ensures links { HasNoLinks heap.new }
+        ensures space { result.0 ≡ heap.old.space }
+        ensures roots { result.1.items ≡ heap.old.roots }
+        ensures sound { IsHeap heap.new }
+    {
+        let Collection { mut space, .. } = self;
+        space.clear_links();
+        heap.replace(space, roots)
+    }
+
+    /// Gives the new space and the logs up, and clears the old space's links.
+    pub fn drop_into(self, heap: &mut Heap)
+        requires { BelongsTo heap.old self }
+        ensures step { collect (open_state heap.old self) Step.Drop ≡ (StepReply.Dropped, idle_state heap.new) }
+        ensures heap { heap.new ≡ record heap.old { space = without_links heap.old.space } }
+        ensures links { HasNoLinks heap.new }
+        ensures sound { IsHeap heap.new }
+    {
+        heap.clear_links();
+    }
+}

@@ -1,0 +1,49 @@
+ghost use Rattle.std.specs.Prelude.{◌≡◌, ◌<◌, ◌≤◌, ◌-◌, ◌++◌, ◌∷◌, [], ℕ, length, map, slice_index_or, OnOk, IsTrue};
+ghost use Rattle.gc_graph.specs.Graph.{Object};
+ghost use Rattle.gc_heap.specs.Heap.{HeapWords, graph_in};
+ghost use Rattle.gc_copy.specs.Steps.{log_at, with_log, first_log};
+ghost use Rattle.gc_copy.specs.Belonging.{HasField};
+ghost use Rattle.gc_copy.specs.Words.{Log, CollectionWords, entries_of, collection_in, BelongsTo, BelongsToBut, spare_of};
+
+use super::Collection;
+use crate::log::LogEntry;
+use gc_graph::NoMemory;
+use gc_words::OldAddr;
+
+impl Collection {
+    /// Makes room in mutator m's log for one entry more; nothing else changes.
+    pub fn reserve(&mut self, m: u8) -> Result<(), NoMemory>
+        requires { m < length self.old.logs }
+        ensures room { OnOk result (1 ≤ spare_of self.new m) }
+        ensures collection { collection_in self.new ≡ collection_in self.old }
+        ensures space { self.new.space ≡ self.old.space }
+        ensures belongs { (heap : HeapWords) → BelongsTo heap self.old → BelongsTo heap self.new }
+    {
+        self.logs[m as usize].reserve()
+    }
+
+    /// Appends a field that mutator m wrote to its log. `reserve` has made the room.
+    pub fn note(&mut self, m: u8, object: OldAddr, field: u16)
+        requires log { m < length self.old.logs }
+        requires room { 1 ≤ spare_of self.old m }
+        ensures collection { collection_in self.new ≡ with_log (collection_in self.old) m (log_at (collection_in self.old) m ++ (object.0, field) ∷ []) }
+        ensures space { self.new.space ≡ self.old.space }
+        // What is noted may differ from then on.
+        ensures belongs { (heap : HeapWords) → HasField (graph_in heap).objects object.0 field
+            → BelongsToBut (λ a i. (a ≡ object.0) × (i ≡ field)) heap self.old → BelongsTo heap self.new }
+    {
+        self.logs[m as usize].note(LogEntry { object, field });
+    }
+
+    /// The least number of a mutator whose log has an entry.
+    pub fn next_log(&self) -> Option<u8>
+        ensures { result ≡ first_log 0 (collection_in self.now).logs }
+    {
+        for m in 0..self.logs.len() {
+            if !self.logs[m].is_empty() {
+                return Some(m as u8);
+            }
+        }
+        None
+    }
+}

@@ -1,0 +1,96 @@
+ghost use Rattle.std.specs.Prelude.{◌≡◌, ◌<◌, length};
+ghost use Rattle.gc_heap.specs.Heap.{graph_in};
+ghost use Rattle.gc_copy.specs.Steps.{collect, scan_done as scan_done_in, is_ready};
+ghost use Rattle.gc_copy.specs.Words.{collection_in, open_state, BelongsTo};
+ghost use Rattle.gc_copy.specs.declared.step.Step.{Step};
+
+use super::Collection;
+use super::copying::NoRoom;
+use crate::step::StepReply;
+use gc_heap::Heap;
+use gc_words::{Addr, NewAddr, OldAddr};
+
+impl Collection {
+    /// Replicates the target of the first root whose target has no replica: `Copied`, `NoRoom`, or `Clean` where
+    /// there is none.
+    pub fn roots(&mut self, heap: &mut Heap) -> StepReply
+        requires { BelongsTo heap.old self.old }
+        ensures step { collect (open_state heap.old self.old) Step.Roots ≡ (result, open_state heap.new self.new) }
+        ensures belongs { BelongsTo heap.new self.new }
+    {
+        let Some(target) = self.root_target(heap) else {
+            return StepReply::Clean;
+        };
+        match self.place_replica(heap, target) {
+            Ok(()) => StepReply::Copied,
+            Err(NoRoom) => StepReply::NoRoom,
+        }
+    }
+
+    /// Brings the field at the scan pointer up to date: `Scanned`, or `NoRoom`; or goes on to the next replica:
+    /// `Passed`. `Clean` where all is scanned.
+    pub fn scan(&mut self, heap: &mut Heap) -> StepReply
+        requires { BelongsTo heap.old self.old }
+        ensures step { collect (open_state heap.old self.old) Step.Scan ≡ (result, open_state heap.new self.new) }
+        ensures belongs { BelongsTo heap.new self.new }
+    {
+        if self.scan_done() {
+            return StepReply::Clean;
+        }
+        let at = self.scan_place;
+        let field = self.scan_field;
+        let len = self.space.header(at).len();
+        if field == len {
+            self.scan_place = Addr(at.0 + u32::from(len) + 2);
+            self.scan_field = 0;
+            return StepReply::Passed;
+        }
+        let original = OldAddr(self.space.link(at) as u32);
+        match self.bring_up_to_date(heap, original, NewAddr(at.0), field) {
+            Ok(()) => {
+                self.scan_field = field + 1;
+                StepReply::Scanned
+            }
+            Err(NoRoom) => StepReply::NoRoom,
+        }
+    }
+
+    /// Takes the oldest entry out of mutator m's log and brings its field up to date, where its object has a
+    /// replica: `Applied`, or `NoRoom`, and then the entry stays. `Clean` where the log has no entry.
+    pub fn apply_log(&mut self, m: u8, heap: &mut Heap) -> StepReply
+        requires belongs { BelongsTo heap.old self.old }
+        requires log { m < length self.old.logs }
+        ensures step { collect (open_state heap.old self.old) (Step.Apply m) ≡ (result, open_state heap.new self.new) }
+        ensures belongs { BelongsTo heap.new self.new }
+    {
+        let Some(entry) = self.logs[m as usize].oldest() else {
+            return StepReply::Clean;
+        };
+        if let Some(replica) = self.replica_of(heap, entry.object) {
+            if self
+                .bring_up_to_date(heap, entry.object, replica, entry.field)
+                .is_err()
+            {
+                return StepReply::NoRoom;
+            }
+        }
+        self.logs[m as usize].drop_oldest();
+        StepReply::Applied
+    }
+
+    /// Whether the scan pointer is at the new end.
+    pub fn scan_done(&self) -> bool
+        ensures { result ≡ scan_done_in (collection_in self.now) }
+    {
+        self.scan_place.0 == self.space.end()
+    }
+
+    /// Whether nothing is left to do: no log has an entry, all is scanned, and the target of each root has a
+    /// replica.
+    pub fn ready(&self, heap: &Heap) -> bool
+        requires { BelongsTo heap.now self.now }
+        ensures { result ≡ is_ready (collection_in self.now) (graph_in heap.now) }
+    {
+        self.next_log().is_none() && self.scan_done() && self.roots_done(heap)
+    }
+}

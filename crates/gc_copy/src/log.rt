@@ -1,0 +1,91 @@
+//! Mutation logs.
+
+use gc_graph::NoMemory;
+use gc_words::OldAddr;
+use std::alloc::Global;
+use std::collections::VecDeque;
+use std::marker::Model;
+
+/// A field of the old space that a mutator wrote.
+#[derive(Clone, Copy, Debug, PartialEq, Eq)]
+pub(crate) struct LogEntry {
+    pub(crate) object: OldAddr,
+    pub(crate) field: u16,
+}
+
+/// What one mutator wrote while a collection is open. The oldest entry leaves without moving the others.
+#[derive(Debug, Drop)]
+pub(crate) struct MutationLog {
+    entries: VecDeque<LogEntry>,
+}
+
+impl Model for MutationLog {
+    ghost use Rattle.std.specs.Prelude.{◌-◌, map};
+    ghost use Rattle.std.specs.VecDeque.{deque_len, deque_capacity};
+    ghost use Rattle.gc_copy.specs.Words.{Log};
+    ghost use Rattle.gc_copy.specs.Entries.{entry_in};
+
+    ghost Value = { Log };
+
+    ghost view = { λ log. record {
+      entries = map entry_in log.entries.items;
+      spare = deque_capacity log.entries - deque_len log.entries;
+    } };
+}
+
+impl MutationLog {
+    ghost use Rattle.std.specs.Prelude.{◌≡◌, ◌≤◌, ◌-◌, ◌++◌, ◌∷◌, [], drop, OnOk, Some, None};
+    ghost use Rattle.std.specs.Option.{option_map};
+    ghost use Rattle.gc_copy.specs.Steps.{is_empty};
+    ghost use Rattle.gc_copy.specs.Entries.{entry_in, oldest};
+
+    /// A log without entries and without room.
+    pub(crate) fn new(alloc: Global) -> MutationLog
+        ensures { result.entries ≡ [] }
+    {
+        MutationLog {
+            entries: VecDeque::new(alloc),
+        }
+    }
+
+    pub(crate) fn is_empty(&self) -> bool
+        ensures { result ≡ is_empty self.now.entries }
+    {
+        self.entries.is_empty()
+    }
+
+    /// Makes room for one entry more.
+    pub(crate) fn reserve(&mut self) -> Result<(), NoMemory>
+        ensures entries { self.new.entries ≡ self.old.entries }
+        ensures room { OnOk result (1 ≤ self.new.spare) }
+        ensures kept { self.old.spare ≤ self.new.spare }
+    {
+        match self.entries.reserve(1) {
+            Ok(()) => Ok(()),
+            Err(_) => Err(NoMemory),
+        }
+    }
+
+    /// Appends an entry, for which `reserve` has made room.
+    pub(crate) fn note(&mut self, entry: LogEntry)
+        requires { 1 ≤ self.old.spare }
+        ensures entries { self.new.entries ≡ self.old.entries ++ entry_in entry ∷ [] }
+        ensures room { self.new.spare ≡ self.old.spare - 1 }
+    {
+        self.entries.push_back_reserved(entry);
+    }
+
+    /// The oldest entry.
+    pub(crate) fn oldest(&self) -> Option<LogEntry>
+        ensures { option_map entry_in result ≡ oldest self.now.entries }
+    {
+        self.entries.front().copied()
+    }
+
+    /// Takes the oldest entry out.
+    pub(crate) fn drop_oldest(&mut self)
+        ensures { self.new.entries ≡ drop 1 self.old.entries }
+    {
+        let _ = self.entries.pop_front();
+    }
+}
