@@ -16,3 +16,4 @@ pub mod Unused
 pub mod Changes
 pub mod Spaces
 pub mod Opened
+pub mod RootWalks

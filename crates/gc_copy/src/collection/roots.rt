@@ -1,8 +1,11 @@
-ghost use Rattle.std.specs.Prelude.{◌≡◌, IfOk, map, is_none, IsTrue};
+ghost use Rattle.std.specs.Prelude.{IfSome, ◌≡◌, IfOk, map, is_none, IsTrue};
 ghost use Rattle.std.specs.Option.{option_map};
 ghost use Rattle.gc_words.specs.Word.{value_of, is_value};
+ghost use Rattle.gc_graph.specs.Graph.{names_of};
+ghost use Rattle.gc_words.specs.Image.{is_start};
+ghost use Rattle.gc_words.specs.Closed.{IsRootWord};
 ghost use Rattle.gc_heap.specs.Heap.{IsHeap, graph_in, name_of};
-ghost use Rattle.gc_copy.specs.Steps.{root_target, roots_done as roots_done_in};
+ghost use Rattle.gc_copy.specs.Steps.{first_unreplicated, root_target, roots_done as roots_done_in};
 ghost use Rattle.gc_copy.specs.Words.{collection_in, BelongsTo, new_root_words};
 
 use super::Collection;
@@ -23,16 +26,30 @@ impl Collection {
     /// The target of the first root whose target has no replica.
     pub(super) fn root_target(&self, heap: &Heap) -> Option<OldAddr>
         requires { BelongsTo heap.now self.now }
-        ensures { option_map (λ a. a.0) result ≡ root_target (collection_in self.now) (graph_in heap.now) }
+        ensures target { option_map (λ a. a.0) result ≡ root_target (collection_in self.now) (graph_in heap.now) }
+        ensures start { IfSome result (λ a. IsTrue (is_start heap.now.space.words a.0)) }
     {
         for word in heap.roots() {
-            if let Some(target) = target_of(*word) {
-                if self.replica_of(heap, target).is_none() {
-                    return Some(target);
-                }
+            if let Some(target) = self.target_without_replica(heap, *word) {
+                return Some(target);
             }
         }
         None
+    }
+
+    /// What a word refers to, where that has no replica.
+    fn target_without_replica(&self, heap: &Heap, word: u64) -> Option<OldAddr>
+        requires belongs { BelongsTo heap.now self.now }
+        requires word { IsRootWord heap.now.space.words word }
+        ensures target { option_map (λ a. a.0) result
+            ≡ first_unreplicated (collection_in self.now) (names_of (value_of word)) }
+        ensures start { IfSome result (λ a. IsTrue (is_start heap.now.space.words a.0)) }
+    {
+        let target = target_of(word)?;
+        if self.replica_of(heap, target).is_some() {
+            return None;
+        }
+        Some(target)
     }
 
     /// The root words after a flip: each reference is to the replica.

@@ -12,7 +12,6 @@ use Rattle.gc_copy.specs.Words.{CollectionWords, IsCollection, collection_in, Be
 use Rattle.gc_copy.proofs.Opened.{if_err, field_word_is, field_value_is, root_word_kept, not_brought, present, Brought, brought_words}
 use Rattle.gc_copy.proofs.collection.Collection.bring_up_to_date.Goals as goal
 
-
 -- the field's word, in the heap
 read : (heap : HeapWords) (s : SpaceWords) (name i w : ℕ) → s ≡ heap.space → field_at s.words name i ≡ Some w → field_at heap.space.words name i ≡ Some w
 read heap s name i w same e = subst (λ (s : SpaceWords). field_at s.words name i ≡ Some w) same e

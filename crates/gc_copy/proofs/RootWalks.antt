@@ -1,0 +1,106 @@
+-- The roots, one word after the other.
+use Rattle.std.proofs.Common.{◌≡◌, ⊎_elim, ℕ, suc, zero, ◌+◌, ◌<◌, ◌≤◌, Bool, true, false, cond, List, [], ◌∷◌, ◌++◌, map, drop, flat_map, length, get_or, Option, Some, None, is_some, refl, ap, sym, ◌∙◌, subst, arith, append_assoc, append-nil, inl, inr}
+use Rattle.std.proofs.lemmas.Bool.{cond-true, cond-false}
+use Rattle.std.proofs.lemmas.List.{drop_more, drop_all}
+use Rattle.gc_graph.specs.Graph.{Value, Nil, Num, Ref, Graph, names_of}
+use Rattle.gc_words.specs.Word.{value_of, word_of}
+use Rattle.gc_heap.specs.Heap.{HeapWords, graph_in, name_of}
+use Rattle.gc_copy.specs.State.{Collection, replica_of, moved}
+use Rattle.gc_copy.specs.Steps.{first_unreplicated, root_target, roots_done}
+use Rattle.gc_copy.specs.Members.{In}
+use Rattle.gc_copy.proofs.Replicas.{HasReplica}
+use Rattle.gc_copy.specs.Words.{new_root_words, HasReplicaOf}
+use Rattle.gc_copy.proofs.Lists.{in_map, in_flat_map}
+use Rattle.gc_copy.proofs.Steps.{roots_replicated}
+
+-- what is found among the words from place i on
+abbrev pub found_from : Collection → List ℕ → ℕ → Option ℕ
+found_from c words i = first_unreplicated c (flat_map names_of (map value_of (drop i words)))
+
+first_of_both : (c : Collection) (xs ys : List ℕ) → first_unreplicated c xs ≡ None → first_unreplicated c (xs ++ ys) ≡ first_unreplicated c ys
+first_of_both c [] ys e = refl
+first_of_both c (x ∷ xs) ys e = by (is_some (replica_of c x)) (first_of_both c xs ys) e
+  where
+    by : (b : Bool) → (first_unreplicated c xs ≡ None → first_unreplicated c (xs ++ ys) ≡ first_unreplicated c ys) → cond b (first_unreplicated c xs) (Some x) ≡ None
+        → cond b (first_unreplicated c (xs ++ ys)) (Some x) ≡ first_unreplicated c ys
+    by true rest e = rest e
+    by false rest e = absurd (let no : Some x ≡ None = e in cc)
+
+first_of_first : (c : Collection) (xs ys : List ℕ) (a : ℕ) → first_unreplicated c xs ≡ Some a → first_unreplicated c (xs ++ ys) ≡ Some a
+first_of_first c [] ys a e = absurd (let no : None ≡ Some a = e in cc)
+first_of_first c (x ∷ xs) ys a e = by (is_some (replica_of c x)) (first_of_first c xs ys a) e
+  where
+    by : (b : Bool) → (first_unreplicated c xs ≡ Some a → first_unreplicated c (xs ++ ys) ≡ Some a) → cond b (first_unreplicated c xs) (Some x) ≡ Some a → cond b (first_unreplicated c (xs ++ ys)) (Some x) ≡ Some a
+    by true rest e = rest e
+    by false rest e = e
+
+opened : (c : Collection) (words : List ℕ) (i : ℕ) → i < length words → found_from c words i ≡ first_unreplicated c (names_of (value_of (get_or words i 0)) ++ flat_map names_of (map value_of (drop (i + 1) words)))
+opened c words i h = ap (λ ws. first_unreplicated c (flat_map names_of (map value_of ws))) (drop_more words i 0 h)
+
+pub passed_over : (c : Collection) (words : List ℕ) (i : ℕ) → i < length words → None ≡ first_unreplicated c (names_of (value_of (get_or words i 0))) → found_from c words (i + 1) ≡ found_from c words i
+passed_over c words i h e = sym (opened c words i h ∙ first_of_both c (names_of (value_of (get_or words i 0))) (flat_map names_of (map value_of (drop (i + 1) words))) (sym e))
+
+pub found_here : (c : Collection) (words : List ℕ) (i a : ℕ) → i < length words → Some a ≡ first_unreplicated c (names_of (value_of (get_or words i 0))) → found_from c words i ≡ Some a
+found_here c words i a h e = opened c words i h ∙ first_of_first c (names_of (value_of (get_or words i 0))) (flat_map names_of (map value_of (drop (i + 1) words))) a (sym e)
+
+pub none_left : (c : Collection) (words : List ℕ) (i : ℕ) → length words ≤ i → found_from c words i ≡ None
+none_left c words i h = ap (λ ws. first_unreplicated c (flat_map names_of (map value_of ws))) (drop_all i words h)
+
+-- of one word
+pub refers_to_none : (c : Collection) (w : ℕ) → None ≡ name_of (value_of w) → None ≡ first_unreplicated c (names_of (value_of w))
+refers_to_none c w e = by (value_of w) e
+  where
+    by : (v : Value) → None ≡ name_of v → None ≡ first_unreplicated c (names_of v)
+    by Nil e = refl
+    by (Num n) e = refl
+    by (Ref a) e = absurd (let no : None ≡ Some a = e in cc)
+
+pub one_replicated : (c : Collection) (w a : ℕ) → value_of w ≡ Ref a → is_some (replica_of c a) ≡ true → None ≡ first_unreplicated c (names_of (value_of w))
+one_replicated c w a is t = sym (ap (λ v. first_unreplicated c (names_of v)) is ∙ cond-true (is_some (replica_of c a)) None (Some a) t)
+
+pub one_unreplicated : (c : Collection) (w a : ℕ) → value_of w ≡ Ref a → is_some (replica_of c a) ≡ false → Some a ≡ first_unreplicated c (names_of (value_of w))
+one_unreplicated c w a is f = sym (ap (λ v. first_unreplicated c (names_of v)) is ∙ cond-false (is_some (replica_of c a)) None (Some a) f)
+
+-- ---- moving them
+
+abbrev pub moved_to : Collection → ℕ → ℕ
+moved_to c w = word_of (moved c (value_of w))
+
+pub one_more : (c : Collection) (done words : List ℕ) (i x : ℕ) → i < length words → done ++ map (moved_to c) (drop i words) ≡ map (moved_to c) words → x ≡ moved_to c (get_or words i 0)
+    → (done ++ x ∷ []) ++ map (moved_to c) (drop (i + 1) words) ≡ map (moved_to c) words
+one_more c done words i x h e is =
+    append_assoc done (x ∷ []) (map (moved_to c) (drop (i + 1) words))
+    ∙ ap (λ y. done ++ y ∷ map (moved_to c) (drop (i + 1) words)) is
+    ∙ ap (λ ws. done ++ map (moved_to c) ws) (sym (drop_more words i 0 h))
+    ∙ e
+
+pub all_moved : (heap : HeapWords) (c : Collection) → map (moved_to c) heap.roots ≡ new_root_words heap c
+all_moved heap c = by heap.roots
+  where
+    by : (ws : List ℕ) → map (moved_to c) ws ≡ map word_of (map (moved c) (map value_of ws))
+    by [] = refl
+    by (w ∷ ws) = let rest = by ws in λ i. moved_to c w ∷ rest i
+
+get_or_in : (ws : List ℕ) (i : ℕ) → i < length ws → In (get_or ws i 0) ws
+get_or_in [] i h = absurd (omega arith)
+get_or_in (w ∷ ws) zero h = inl refl
+get_or_in (w ∷ ws) (suc i) h = inr (get_or_in ws i (omega arith))
+
+has_one : (c : Collection) (v : Value) → HasReplica c v → HasReplicaOf c v
+has_one c Nil h = tt
+has_one c (Num n) h = tt
+has_one c (Ref a) h = ap is_some h.1
+
+-- where the roots are done, what each root word refers to has a replica
+pub root_has_replica : (heap : HeapWords) (c : Collection) (words : List ℕ) (i : ℕ) → words ≡ heap.roots → i < length words → roots_done c (graph_in heap) ≡ true → HasReplicaOf c (value_of (get_or words i 0))
+root_has_replica heap c words i same h done =
+    has_one c (value_of (get_or words i 0))
+    (roots_replicated c (graph_in heap) done (value_of (get_or words i 0)) (subst (λ ws. In (value_of (get_or words i 0)) (map value_of ws)) same (in_map value_of (get_or words i 0) words (get_or_in words i h))))
+
+pub moved_all : (heap : HeapWords) (c : Collection) (words done : List ℕ) (i : ℕ) → words ≡ heap.roots → length words ≤ i → done ++ map (moved_to c) (drop i words) ≡ map (moved_to c) words → done ≡ new_root_words heap c
+moved_all heap c words done i same h e =
+    sym (append-nil done)
+    ∙ ap (λ ws. done ++ map (moved_to c) ws) (sym (drop_all i words h))
+    ∙ e
+    ∙ ap (map (moved_to c)) same
+    ∙ all_moved heap c
