@@ -17,3 +17,4 @@ pub mod Changes
 pub mod Spaces
 pub mod Opened
 pub mod RootWalks
+pub mod Logs

@@ -1,0 +1,106 @@
+-- Mutation logs in their list.
+use Rattle.std.proofs.Common.{◌≡◌, ℕ, suc, zero, ◌+◌, ◌<◌, ◌≤◌, Bool, true, false, cond, List, [], ◌∷◌, ◌++◌, map, drop, length, get_or, set, replicate, Option, Some, None, refl, ap, sym, ◌∙◌, subst, arith, length-set}
+use Rattle.std.specs.Prelude.{slice_get, slice_set}
+use Rattle.std.proofs.lemmas.Option.{slice_get-get_or}
+use Rattle.std.specs.Option.{option_map}
+use Rattle.std.proofs.lemmas.Bool.{cond-true, cond-false}
+use Rattle.std.proofs.lemmas.List.{drop_all, length-map}
+use Rattle.gc_heap.specs.Heap.{HeapWords, graph_in}
+use Rattle.gc_copy.specs.State.{Collection}
+use Rattle.gc_copy.specs.Steps.{log_or_nil, log_at, with_log, is_empty, first_log}
+use Rattle.gc_copy.specs.Belonging.{HasField, Belongs}
+use Rattle.gc_copy.specs.Words.{Log, CollectionWords, entries_of, collection_in, LinksReplicas, BelongsTo, BelongsToBut}
+use Rattle.gc_copy.proofs.Kept.{notes}
+
+entries_set : (logs : List Log) (m : ℕ) (log : Log) → map entries_of (slice_set logs m log) ≡ slice_set (map entries_of logs) m log.entries
+entries_set [] m log = refl
+entries_set (l ∷ logs) zero log = refl
+entries_set (l ∷ logs) (suc m) log = let rest = entries_set logs m log in λ i. l.entries ∷ rest i
+
+set_same : (logs : List Log) (m : ℕ) (log : Log) → slice_get logs m ≡ Some log → slice_set (map entries_of logs) m log.entries ≡ map entries_of logs
+set_same [] m log e = refl
+set_same (l ∷ logs) zero log e = let same : l ≡ log = (let f : Some l ≡ Some log = e in cc) in λ i. (sym same i).entries ∷ map entries_of logs
+set_same (l ∷ logs) (suc m) log e = let rest = set_same logs m log e in λ i. l.entries ∷ rest i
+
+pub entries_at : (logs : List Log) (m : ℕ) (log : Log) → slice_get logs m ≡ Some log → slice_get (map entries_of logs) m ≡ Some log.entries
+entries_at [] m log e = absurd (let no : None ≡ Some log = e in cc)
+entries_at (l ∷ logs) zero log e = let f : Some l ≡ Some log = e in ap (λ (o : Option Log). option_map entries_of o) f
+entries_at (l ∷ logs) (suc m) log e = entries_at logs m log e
+
+-- ---- one log changes
+
+-- the same entries, with other room
+pub room_made : (c : CollectionWords) (m : ℕ) (log later : Log) → slice_get c.logs m ≡ Some log → later.entries ≡ log.entries → collection_in (record c { logs = slice_set c.logs m later }) ≡ collection_in c
+room_made c m log later there same =
+    let logs = entries_set c.logs m later ∙ ap (slice_set (map entries_of c.logs) m) same ∙ set_same c.logs m log there in
+    λ i. record (collection_in c) { logs = logs i }
+
+pub entry_noted : (c : CollectionWords) (m a f : ℕ) (log later : Log) → slice_get c.logs m ≡ Some log → later.entries ≡ log.entries ++ (a, f) ∷ []
+    → collection_in (record c { logs = slice_set c.logs m later }) ≡ with_log (collection_in c) m (log_at (collection_in c) m ++ (a, f) ∷ [])
+entry_noted c m a f log later there more =
+    let was : log_at (collection_in c) m ≡ log.entries = ap log_or_nil (entries_at c.logs m log there) in
+    let logs = entries_set c.logs m later ∙ ap (slice_set (map entries_of c.logs) m) (more ∙ ap (λ (es : List (ℕ × ℕ)). es ++ (a, f) ∷ []) (sym was)) in
+    λ i. record (collection_in c) { logs = logs i }
+
+pub entry_dropped : (c : CollectionWords) (m : ℕ) (log later : Log) → slice_get c.logs m ≡ Some log → later.entries ≡ drop 1 log.entries
+    → collection_in (record c { logs = slice_set c.logs m later }) ≡ with_log (collection_in c) m (drop 1 (log_at (collection_in c) m))
+entry_dropped c m log later there less =
+    let was : log_at (collection_in c) m ≡ log.entries = ap log_or_nil (entries_at c.logs m log there) in
+    let logs = entries_set c.logs m later ∙ ap (slice_set (map entries_of c.logs) m) (less ∙ ap (λ (es : List (ℕ × ℕ)). drop 1 es) (sym was)) in
+    λ i. record (collection_in c) { logs = logs i }
+
+-- what belongs to a heap goes on to
+pub same_belongs : (heap : HeapWords) (c next : CollectionWords) → collection_in next ≡ collection_in c → length next.logs ≡ length c.logs → BelongsTo heap c → BelongsTo heap next
+same_belongs heap c next same count k = record {
+  belongs = subst (Belongs (graph_in heap).objects) (sym same) k.belongs;
+  links = subst (LinksReplicas heap) (sym same) k.links;
+  logs = count ∙ k.logs;
+}
+
+pub noted_belongs : (heap : HeapWords) (c next : CollectionWords) (m a f : ℕ) → m < length c.logs → collection_in next ≡ with_log (collection_in c) m (log_at (collection_in c) m ++ (a, f) ∷ []) → length next.logs ≡ length c.logs
+    → HasField (graph_in heap).objects a f → BelongsToBut (λ b j. (b ≡ a) × (j ≡ f)) heap c → BelongsTo heap next
+noted_belongs heap c next m a f less same count field k = record {
+  belongs = subst (Belongs (graph_in heap).objects) (sym same) (notes (graph_in heap).objects (collection_in c) m a f (let n = length-map c.logs entries_of in omega arith) field k.belongs);
+  links = subst (LinksReplicas heap) (sym same) k.links;
+  logs = count ∙ k.logs;
+}
+
+-- ---- the first log with an entry
+
+abbrev pub first_from : List Log → ℕ → Option ℕ
+first_from logs m = first_log m (map entries_of (drop m logs))
+
+-- ---- new logs
+
+pub replicate_more : (n : ℕ) → ◌≡◌ {A = List (List (ℕ × ℕ))} (replicate n [] ++ [] ∷ []) (replicate (n + 1) [])
+replicate_more n = by n ∙ ap (λ k. replicate k []) (let e : suc n ≡ n + 1 = omega arith in e)
+  where
+    by : (n : ℕ) → ◌≡◌ {A = List (List (ℕ × ℕ))} (replicate n [] ++ [] ∷ []) (replicate (suc n) [])
+    by zero = refl
+    by (suc n) = let rest = by n in λ i. [] ∷ rest i
+
+-- ---- what an index gives
+
+pub there_in : (c outer : CollectionWords) (m : ℕ) (log : Log) → c ≡ outer → m < length outer.logs → log ≡ get_or c.logs m log → slice_get c.logs m ≡ Some log
+there_in c outer m log seen less is =
+    let here : m < length c.logs = subst (λ (y : CollectionWords). m < length y.logs) (sym seen) less in
+    slice_get-get_or c.logs m log here ∙ ap Some (sym is)
+
+drop_at : (logs : List Log) (m : ℕ) (log : Log) → slice_get logs m ≡ Some log → drop m logs ≡ log ∷ drop (suc m) logs
+drop_at [] m log e = absurd (let no : None ≡ Some log = e in cc)
+drop_at (l ∷ logs) zero log e = let same : l ≡ log = (let f : Some l ≡ Some log = e in cc) in λ i. same i ∷ logs
+drop_at (l ∷ logs) (suc m) log e = drop_at logs m log e
+
+pub first_here : (c : CollectionWords) (m : ℕ) (log : Log) → slice_get c.logs m ≡ Some log → is_empty log.entries ≡ false → first_from c.logs m ≡ Some m
+first_here c m log there full =
+    ap (λ ls. first_log m (map entries_of ls)) (drop_at c.logs m log there)
+    ∙ cond-false (is_empty log.entries) (first_log (suc m) (map entries_of (drop (suc m) c.logs))) (Some m) full
+
+pub first_later : (c : CollectionWords) (m : ℕ) (log : Log) → slice_get c.logs m ≡ Some log → is_empty log.entries ≡ true → first_from c.logs (m + 1) ≡ first_from c.logs m
+first_later c m log there empty =
+    ap (first_from c.logs) (let e : m + 1 ≡ suc m = omega arith in e)
+    ∙ sym (ap (λ ls. first_log m (map entries_of ls)) (drop_at c.logs m log there)
+    ∙ cond-true (is_empty log.entries) (first_log (suc m) (map entries_of (drop (suc m) c.logs))) (Some m) empty)
+
+pub first_none : (c : CollectionWords) (m : ℕ) → length c.logs ≤ m → first_from c.logs m ≡ None
+first_none c m h = ap (λ ls. first_log m (map entries_of ls)) (drop_all m c.logs h)
