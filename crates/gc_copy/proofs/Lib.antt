@@ -18,3 +18,4 @@ pub mod Spaces
 pub mod Opened
 pub mod RootWalks
 pub mod Logs
+pub mod Scanning

@@ -1,0 +1,142 @@
+use Rattle.std.proofs.Common.{rules, ◌≡◌, ℕ, ◌+◌, ◌<◌, ◌==◌, Bool, true, false, Option, Some, None, refl, ap, sym, ◌∙◌, subst, arith}
+use Rattle.std.specs.Prelude.{◌^◌, IsSome}
+use Rattle.std.specs.Option.{option_map}
+use Rattle.gc_words.specs.Image.{field_at}
+use Rattle.gc_words.specs.Spelling.{link_at}
+use Rattle.gc_heap.specs.Heap.{HeapWords, graph_in}
+use Rattle.gc_copy.specs.State.{Replica, replica_of}
+use Rattle.gc_copy.specs.Steps.{scan_done, scan, bring_up_to_date}
+use Rattle.gc_copy.specs.Words.{CollectionWords, collection_in, open_state, BelongsTo, KeepsRest}
+use Rattle.gc_copy.specs.declared.step.StepReply.TheVariants.{Passed, Scanned, NoRoom}
+use Rattle.gc_copy.proofs.Scanning.{start, within, small, replica, field_there, next_small, passed, passed_belongs, no_room, scanned, scanned_belongs}
+use Rattle.gc_copy.proofs.collection.Collection.scan.Goals as goal
+
+pub header-requires : goal.header-requires
+header-requires c =
+    let x : CollectionWords = record { space = c.self.inside.space; logs = c.self.inside.logs.items; scan_place = c.self.inside.scan_place.0; scan_field = c.self.inside.scan_field } in
+    let k : BelongsTo c.args.heap.now x = subst (BelongsTo c.args.heap.now) (sym c.self.view_is) c.requires in
+    let more : scan_done (collection_in x) ≡ false = ap (λ (y : CollectionWords). scan_done (collection_in y)) c.self.view_is ∙ sym c.scan_done.ensures ∙ c.if-scan_done.false in
+    start c.args.heap.now x c.self.invariant k more
+
+pub overflow_add-self : goal.overflow_add-self
+overflow_add-self c =
+    let x : CollectionWords = record { space = c.self.inside.space; logs = c.self.inside.logs.items; scan_place = c.self.inside.scan_place.0; scan_field = c.self.inside.scan_field } in
+    let k : BelongsTo c.args.heap.now x = subst (BelongsTo c.args.heap.now) (sym c.self.view_is) c.requires in
+    let more : scan_done (collection_in x) ≡ false = ap (λ (y : CollectionWords). scan_done (collection_in y)) c.self.view_is ∙ sym c.scan_done.ensures ∙ c.if-scan_done.false in
+    let len : c.len-len.result ≡ c.header.result.len = c.len-len.ensures in
+    let w = within c.args.heap.now x c.self.invariant k more c.header.result c.header.ensures in
+    let from : c.from.result ≡ c.len-len.result = c.from.ensures in
+    let fits : c.self.inside.scan_place.0 + c.from.result < 2 ^ 32 = omega (arith, w, len, from) in
+    search rules
+
+pub overflow_add-self-then-field-len : goal.overflow_add-self-then-field-len
+overflow_add-self-then-field-len c =
+    let x : CollectionWords = record { space = c.self.inside.space; logs = c.self.inside.logs.items; scan_place = c.self.inside.scan_place.0; scan_field = c.self.inside.scan_field } in
+    let k : BelongsTo c.args.heap.now x = subst (BelongsTo c.args.heap.now) (sym c.self.view_is) c.requires in
+    let more : scan_done (collection_in x) ≡ false = ap (λ (y : CollectionWords). scan_done (collection_in y)) c.self.view_is ∙ sym c.scan_done.ensures ∙ c.if-scan_done.false in
+    let len : c.len-len.result ≡ c.header.result.len = c.len-len.ensures in
+    let w = within c.args.heap.now x c.self.invariant k more c.header.result c.header.ensures in
+    let from : c.from.result ≡ c.len-len.result = c.from.ensures in
+    let fits : c.self.inside.scan_place.0 + c.from.result + 2 < 2 ^ 32 = omega (arith, w, len, from) in
+    search rules
+
+pub returns-then-field-len-clause-step : goal.returns-then-field-len-clause-step
+returns-then-field-len-clause-step c =
+    let x : CollectionWords = record { space = c.self.inside.space; logs = c.self.inside.logs.items; scan_place = c.self.inside.scan_place.0; scan_field = c.self.inside.scan_field } in
+    let k : BelongsTo c.args.heap.now x = subst (BelongsTo c.args.heap.now) (sym c.self.view_is) c.requires in
+    let more : scan_done (collection_in x) ≡ false = ap (λ (y : CollectionWords). scan_done (collection_in y)) c.self.view_is ∙ sym c.scan_done.ensures ∙ c.if-scan_done.false in
+    let len : c.len-len.result ≡ c.header.result.len = c.len-len.ensures in
+    let from : c.from.result ≡ c.len-len.result = c.from.ensures in
+    let place : c.self.inside.scan_place.0 + c.from.result + 2 ≡ c.self.inside.scan_place.0 + c.header.result.len + 2 = omega (arith, len, from) in
+    subst (λ y. scan (open_state c.args.heap.now y) (collection_in y) ≡ (Passed, open_state c.args.heap.now (record x { scan_place = c.self.inside.scan_place.0 + c.from.result + 2; scan_field = 0 }))) c.self.view_is
+    (passed c.args.heap.now x c.self.invariant k more c.header.result c.header.ensures (c.if-field-len.true ∙ len) (c.self.inside.scan_place.0 + c.from.result + 2) place)
+
+pub returns-then-field-len-clause-belongs : goal.returns-then-field-len-clause-belongs
+returns-then-field-len-clause-belongs c =
+    let x : CollectionWords = record { space = c.self.inside.space; logs = c.self.inside.logs.items; scan_place = c.self.inside.scan_place.0; scan_field = c.self.inside.scan_field } in
+    let k : BelongsTo c.args.heap.now x = subst (BelongsTo c.args.heap.now) (sym c.self.view_is) c.requires in
+    let more : scan_done (collection_in x) ≡ false = ap (λ (y : CollectionWords). scan_done (collection_in y)) c.self.view_is ∙ sym c.scan_done.ensures ∙ c.if-scan_done.false in
+    let len : c.len-len.result ≡ c.header.result.len = c.len-len.ensures in
+    let from : c.from.result ≡ c.len-len.result = c.from.ensures in
+    let place : c.self.inside.scan_place.0 + c.from.result + 2 ≡ c.self.inside.scan_place.0 + c.header.result.len + 2 = omega (arith, len, from) in
+    passed_belongs c.args.heap.now x c.self.invariant k more c.header.result c.header.ensures (c.if-field-len.true ∙ len) (c.self.inside.scan_place.0 + c.from.result + 2) place
+
+pub overflow_cast-original : goal.overflow_cast-original
+overflow_cast-original c =
+    let x : CollectionWords = record { space = c.self.inside.space; logs = c.self.inside.logs.items; scan_place = c.self.inside.scan_place.0; scan_field = c.self.inside.scan_field } in
+    let k : BelongsTo c.args.heap.now x = subst (BelongsTo c.args.heap.now) (sym c.self.view_is) c.requires in
+    let more : scan_done (collection_in x) ≡ false = ap (λ (y : CollectionWords). scan_done (collection_in y)) c.self.view_is ∙ sym c.scan_done.ensures ∙ c.if-scan_done.false in
+    let fits : c.link.result < 2 ^ 32 = subst (λ n. n < 2 ^ 32) (sym c.link.ensures) (small c.args.heap.now x c.self.invariant k more) in
+    search rules
+
+pub bring_up_to_date-requires-clause-field : goal.bring_up_to_date-requires-clause-field
+bring_up_to_date-requires-clause-field c =
+    let x : CollectionWords = record { space = c.self.inside.space; logs = c.self.inside.logs.items; scan_place = c.self.inside.scan_place.0; scan_field = c.self.inside.scan_field } in
+    let k : BelongsTo c.args.heap.now x = subst (BelongsTo c.args.heap.now) (sym c.self.view_is) c.requires in
+    let more : scan_done (collection_in x) ≡ false = ap (λ (y : CollectionWords). scan_done (collection_in y)) c.self.view_is ∙ sym c.scan_done.ensures ∙ c.if-scan_done.false in
+    let len : c.len-len.result ≡ c.header.result.len = c.len-len.ensures in
+    subst (λ a. IsSome (field_at c.args.heap.now.space.words a c.self.inside.scan_field)) (sym c.link.ensures)
+    (field_there c.args.heap.now x c.self.invariant k more c.header.result c.header.ensures (λ same. c.if-field-len.false (same ∙ sym len)))
+
+pub bring_up_to_date-requires-clause-replica : goal.bring_up_to_date-requires-clause-replica
+bring_up_to_date-requires-clause-replica c =
+    let x : CollectionWords = record { space = c.self.inside.space; logs = c.self.inside.logs.items; scan_place = c.self.inside.scan_place.0; scan_field = c.self.inside.scan_field } in
+    let k : BelongsTo c.args.heap.now x = subst (BelongsTo c.args.heap.now) (sym c.self.view_is) c.requires in
+    let more : scan_done (collection_in x) ≡ false = ap (λ (y : CollectionWords). scan_done (collection_in y)) c.self.view_is ∙ sym c.scan_done.ensures ∙ c.if-scan_done.false in
+    subst (λ y. option_map (λ (r : Replica). r.place) (replica_of (collection_in y) c.link.result) ≡ Some c.self.inside.scan_place.0) c.self.view_is
+    (subst (λ a. option_map (λ (r : Replica). r.place) (replica_of (collection_in x) a) ≡ Some c.self.inside.scan_place.0) (sym c.link.ensures) (replica c.args.heap.now x c.self.invariant k more))
+
+pub overflow_add-self-in-Ok : goal.overflow_add-self-in-Ok
+overflow_add-self-in-Ok c =
+    let x : CollectionWords = record { space = c.self.inside.space; logs = c.self.inside.logs.items; scan_place = c.self.inside.scan_place.0; scan_field = c.self.inside.scan_field } in
+    let k : BelongsTo c.args.heap.now x = subst (BelongsTo c.args.heap.now) (sym c.self.view_is) c.requires in
+    let more : scan_done (collection_in x) ≡ false = ap (λ (y : CollectionWords). scan_done (collection_in y)) c.self.view_is ∙ sym c.scan_done.ensures ∙ c.if-scan_done.false in
+    let len : c.len-len.result ≡ c.header.result.len = c.len-len.ensures in
+    let most = next_small c.args.heap.now x c.self.invariant k more c.header.result c.header.ensures (λ same. c.if-field-len.false (same ∙ sym len)) in
+    let fits : c.self.inside.scan_field + 1 < 2 ^ 16 = (let t = c.len-len.type_inv in omega (arith, most, len, t)) in
+    search rules
+
+-- what a call said of whole collections, of their parts
+kept : (x c after one : CollectionWords) → x ≡ c → after ≡ one → KeepsRest c one → KeepsRest x after
+kept x c after one e f k = subst (λ y. KeepsRest y after) (sym e) (subst (KeepsRest c) (sym f) k)
+
+brought_here : (heap : HeapWords) (x c after one : CollectionWords) (a link i : ℕ) → x ≡ c → after ≡ one → a ≡ link → bring_up_to_date (collection_in c) (graph_in heap) a i ≡ Some (collection_in one) → bring_up_to_date (collection_in x) (graph_in heap) link i ≡ Some (collection_in after)
+brought_here heap x c after one a link i e f g b =
+    ap (λ (y : CollectionWords). bring_up_to_date (collection_in y) (graph_in heap) link i) e ∙ ap (λ n. bring_up_to_date (collection_in c) (graph_in heap) n i) (sym g) ∙ b ∙ ap (λ (y : CollectionWords). Some (collection_in y)) (sym f)
+
+pub returns-in-Ok-clause-step : goal.returns-in-Ok-clause-step
+returns-in-Ok-clause-step c =
+    let x : CollectionWords = record { space = c.self.inside.space; logs = c.self.inside.logs.items; scan_place = c.self.inside.scan_place.0; scan_field = c.self.inside.scan_field } in
+    let k : BelongsTo c.args.heap.now x = subst (BelongsTo c.args.heap.now) (sym c.self.view_is) c.requires in
+    let more : scan_done (collection_in x) ≡ false = ap (λ (y : CollectionWords). scan_done (collection_in y)) c.self.view_is ∙ sym c.scan_done.ensures ∙ c.if-scan_done.false in
+    let other : c.self.inside.scan_field ≡ c.header.result.len → ⊥ = λ same. c.if-field-len.false (same ∙ sym c.len-len.ensures) in
+    let after : CollectionWords = record { space = c.self-2.inside.space; logs = c.self-2.inside.logs.items; scan_place = c.self-2.inside.scan_place.0; scan_field = c.self-2.inside.scan_field } in
+    let rest : KeepsRest x after = kept x c.args.self.now after c.bring_up_to_date.new.self c.self.view_is c.self-2.view_is c.in-Ok.ensures.rest in
+    let brought = brought_here c.args.heap.now x c.args.self.now after c.bring_up_to_date.new.self c.link.result (link_at x.space.words x.scan_place) x.scan_field c.self.view_is c.self-2.view_is c.link.ensures c.in-Ok.ensures.brought in
+    subst (λ y. scan (open_state c.args.heap.now y) (collection_in y) ≡ (Scanned, open_state c.bring_up_to_date.new.heap (record after { scan_field = c.self.inside.scan_field + 1 }))) c.self.view_is
+    (scanned c.args.heap.now x c.self.invariant k more c.header.result c.header.ensures other c.bring_up_to_date.new.heap after c.in-Ok.ensures.graph rest brought)
+
+pub returns-in-Ok-clause-belongs : goal.returns-in-Ok-clause-belongs
+returns-in-Ok-clause-belongs c =
+    let x : CollectionWords = record { space = c.self.inside.space; logs = c.self.inside.logs.items; scan_place = c.self.inside.scan_place.0; scan_field = c.self.inside.scan_field } in
+    let k : BelongsTo c.args.heap.now x = subst (BelongsTo c.args.heap.now) (sym c.self.view_is) c.requires in
+    let more : scan_done (collection_in x) ≡ false = ap (λ (y : CollectionWords). scan_done (collection_in y)) c.self.view_is ∙ sym c.scan_done.ensures ∙ c.if-scan_done.false in
+    let other : c.self.inside.scan_field ≡ c.header.result.len → ⊥ = λ same. c.if-field-len.false (same ∙ sym c.len-len.ensures) in
+    let after : CollectionWords = record { space = c.self-2.inside.space; logs = c.self-2.inside.logs.items; scan_place = c.self-2.inside.scan_place.0; scan_field = c.self-2.inside.scan_field } in
+    let rest : KeepsRest x after = kept x c.args.self.now after c.bring_up_to_date.new.self c.self.view_is c.self-2.view_is c.in-Ok.ensures.rest in
+    let brought = brought_here c.args.heap.now x c.args.self.now after c.bring_up_to_date.new.self c.link.result (link_at x.space.words x.scan_place) x.scan_field c.self.view_is c.self-2.view_is c.link.ensures c.in-Ok.ensures.brought in
+    scanned_belongs c.args.heap.now x c.self.invariant k more c.header.result c.header.ensures other c.bring_up_to_date.new.heap after c.in-Ok.ensures.graph rest
+    (subst (BelongsTo c.bring_up_to_date.new.heap) (sym c.self-2.view_is) c.in-Ok.ensures.belongs) brought
+
+pub returns-in-Err-clause-step : goal.returns-in-Err-clause-step
+returns-in-Err-clause-step c =
+    let x : CollectionWords = record { space = c.self.inside.space; logs = c.self.inside.logs.items; scan_place = c.self.inside.scan_place.0; scan_field = c.self.inside.scan_field } in
+    let k : BelongsTo c.args.heap.now x = subst (BelongsTo c.args.heap.now) (sym c.self.view_is) c.requires in
+    let more : scan_done (collection_in x) ≡ false = ap (λ (y : CollectionWords). scan_done (collection_in y)) c.self.view_is ∙ sym c.scan_done.ensures ∙ c.if-scan_done.false in
+    let other : c.self.inside.scan_field ≡ c.header.result.len → ⊥ = λ same. c.if-field-len.false (same ∙ sym c.len-len.ensures) in
+    let full = c.in-Err.ensures.full in
+    let none : bring_up_to_date (collection_in x) (graph_in c.args.heap.now) (link_at x.space.words x.scan_place) x.scan_field ≡ None
+    = ap (λ (y : CollectionWords). bring_up_to_date (collection_in y) (graph_in c.args.heap.now) (link_at x.space.words x.scan_place) x.scan_field) c.self.view_is
+    ∙ ap (λ n. bring_up_to_date (collection_in c.args.self.now) (graph_in c.args.heap.now) n x.scan_field) (sym c.link.ensures) ∙ full.0 in
+    subst (λ y. scan (open_state c.args.heap.now y) (collection_in y) ≡ (NoRoom, open_state c.args.heap.now y)) c.self.view_is (no_room c.args.heap.now x c.self.invariant k more c.header.result c.header.ensures other none)
+    ∙ (λ i. (NoRoom, open_state (sym full.2 i) (sym full.1 i)))
