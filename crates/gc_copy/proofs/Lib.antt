@@ -19,3 +19,4 @@ pub mod Opened
 pub mod RootWalks
 pub mod Logs
 pub mod Scanning
+pub mod Applying

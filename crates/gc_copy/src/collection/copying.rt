@@ -6,11 +6,13 @@ ghost use Rattle.gc_words.specs.Image.{is_start, field_at};
 ghost use Rattle.gc_words.specs.Closed.{IsRootWord};
 ghost use Rattle.gc_heap.specs.Heap.{IsHeap, graph_in};
 ghost use Rattle.gc_copy.specs.State.{replica_of as replica_in, moved};
-ghost use Rattle.gc_copy.specs.Steps.{place_replica as placed_in, with_replica as with_replica_in, bring_up_to_date as brought_in};
+ghost use Rattle.gc_copy.specs.Steps.{place_replica as placed_in, with_replica as with_replica_in, bring_up_to_date as brought_in, apply_entry as applied_in};
+ghost use Rattle.gc_copy.specs.Entries.{entry_in};
 ghost use Rattle.gc_copy.specs.Words.{collection_in, BelongsTo, HasReplicaWord, KeepsGraph, KeepsRest};
 
 use super::Collection;
 use super::roots::target_of;
+use crate::log::LogEntry;
 use gc_heap::Heap;
 use gc_words::{Addr, NewAddr, OldAddr, Value, encode};
 
@@ -116,5 +118,21 @@ impl Collection {
         let moved = self.moved_word(heap, word);
         self.space.set_field(Addr(replica.0), field, moved);
         Ok(())
+    }
+
+    /// Brings the entry's field up to date, or skips it where its object has no replica.
+    pub(super) fn apply_entry(&mut self, heap: &mut Heap, entry: LogEntry) -> Result<(), NoRoom>
+        requires belongs { BelongsTo heap.old self.old }
+        requires field { IsSome (field_at heap.old.space.words entry.object.0 entry.field) }
+        ensures applied { OnOk result (applied_in (collection_in self.old) (graph_in heap.old) (entry_in entry) ≡ Some (collection_in self.new)) }
+        ensures full { OnErr result ((applied_in (collection_in self.old) (graph_in heap.old) (entry_in entry) ≡ None) × (self.new ≡ self.old) × (heap.new ≡ heap.old)) }
+        ensures belongs { BelongsTo heap.new self.new }
+        ensures graph { KeepsGraph heap.old heap.new }
+        ensures rest { KeepsRest self.old self.new }
+    {
+        match self.replica_of(heap, entry.object) {
+            Some(replica) => self.bring_up_to_date(heap, entry.object, replica, entry.field),
+            None => Ok(()),
+        }
     }
 }

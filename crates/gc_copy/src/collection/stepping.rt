@@ -66,16 +66,13 @@ impl Collection {
         let Some(entry) = self.logs[m as usize].oldest() else {
             return StepReply::Clean;
         };
-        if let Some(replica) = self.replica_of(heap, entry.object) {
-            if self
-                .bring_up_to_date(heap, entry.object, replica, entry.field)
-                .is_err()
-            {
-                return StepReply::NoRoom;
+        match self.apply_entry(heap, entry) {
+            Ok(()) => {
+                self.logs[m as usize].drop_oldest();
+                StepReply::Applied
             }
+            Err(NoRoom) => StepReply::NoRoom,
         }
-        self.logs[m as usize].drop_oldest();
-        StepReply::Applied
     }
 
     /// Whether the scan pointer is at the new end.

@@ -1,0 +1,166 @@
+-- The oldest entry of a log applied, as the code does it; and when a collection is ready.
+use Rattle.std.proofs.Common.{◌≡◌, ◌≢◌, ⊎_elim, inl, inr, ℕ, zero, suc, ◌+◌, ◌<◌, Bool, true, false, cond, ◌&&◌, not, List, [], ◌∷◌, ◌++◌, map, drop, length, Option, Some, None, is_some, is_none, refl, ap, sym, ◌∙◌, subst, arith, length-set}
+use Rattle.std.specs.Prelude.{IsSome, nat_lt, slice_get, slice_set}
+use Rattle.std.specs.List.{list_all}
+use Rattle.std.specs.Option.{option_map}
+use Rattle.std.proofs.lemmas.Bool.{cond-true, cond-false, cases_Bool}
+use Rattle.gc_graph.specs.Graph.{Value, Nil, Num, Ref, Object, Graph, lookup, field_of}
+use Rattle.gc_words.specs.Image.{is_start, field_at, block_at, field_in, Block}
+use Rattle.gc_heap.specs.Heap.{HeapWords, graph_in}
+use Rattle.gc_copy.specs.State.{Replica, Collection, State, new_end, new_free, replica_of, moved}
+use Rattle.gc_copy.specs.Steps.{log_at, with_log, is_empty, first_log, fresh_replica, place_replica, with_replica, write_replica, copy_value, bring_value, bring_up_to_date, apply_entry, apply_log, if_room, scan_done, roots_done, is_ready}
+use Rattle.gc_copy.specs.Entries.{oldest}
+use Rattle.gc_copy.specs.Belonging.{HasField, IsLogged, Belongs}
+use Rattle.gc_copy.specs.Words.{Log, CollectionWords, IsCollection, entries_of, collection_in, open_state, BelongsTo, KeepsGraph, KeepsRest}
+use Rattle.gc_copy.specs.declared.step.Step.TheVariants as steps
+use Rattle.gc_copy.specs.declared.step.StepReply.TheVariants.{Clean, Applied, NoRoom}
+use Rattle.gc_copy.proofs.Logs.{entries_at, entry_dropped}
+use Rattle.gc_copy.proofs.Opened.{state_kept, after_step, field_present}
+
+-- ---- a log that is taken out is not looked at
+
+-- with these entries as log m, where there is a collection
+abbrev pub relogged : ℕ → List (ℕ × ℕ) → Option Collection → Option Collection
+relogged m entries o = option_map (λ c. with_log c m entries) o
+
+place_beside : (c : Collection) (m : ℕ) (entries : List (ℕ × ℕ)) (name : ℕ) (o : Option Object) → place_replica (with_log c m entries) name o ≡ relogged m entries (place_replica c name o)
+place_beside c m entries name None = refl
+place_beside c m entries name (Some o) = by (nat_lt (new_free c) (length o.fields + 2))
+  where
+    by : (b : Bool) → cond b None (Some (record (with_log c m entries) { replicas = c.replicas ++ fresh_replica name (new_end c) o ∷ [] })) ≡ relogged m entries (cond b None (Some (record c { replicas = c.replicas ++ fresh_replica name (new_end c) o ∷ [] })))
+    by true = refl
+    by false = refl
+
+with_beside : (c : Collection) (g : Graph) (m : ℕ) (entries : List (ℕ × ℕ)) (v : Value) → with_replica (with_log c m entries) g v ≡ relogged m entries (with_replica c g v)
+with_beside c g m entries Nil = refl
+with_beside c g m entries (Num n) = refl
+with_beside c g m entries (Ref a) = by (is_some (replica_of c a))
+  where
+    by : (b : Bool) → cond b (Some (with_log c m entries)) (place_replica (with_log c m entries) a (lookup g.objects a)) ≡ relogged m entries (cond b (Some c) (place_replica c a (lookup g.objects a)))
+    by true = refl
+    by false = place_beside c m entries a (lookup g.objects a)
+
+moved_beside : (c : Collection) (m : ℕ) (entries : List (ℕ × ℕ)) (v : Value) → moved (with_log c m entries) v ≡ moved c v
+moved_beside c m entries Nil = refl
+moved_beside c m entries (Num n) = refl
+moved_beside c m entries (Ref a) = refl
+
+copy_beside : (o : Option Collection) (m : ℕ) (entries : List (ℕ × ℕ)) (name i : ℕ) (v : Value) → copy_value (relogged m entries o) name i v ≡ relogged m entries (copy_value o name i v)
+copy_beside None m entries name i v = refl
+copy_beside (Some c) m entries name i v = ap (λ w. Some (write_replica (with_log c m entries) name i w)) (moved_beside c m entries v)
+
+bring_beside : (c : Collection) (g : Graph) (m : ℕ) (entries : List (ℕ × ℕ)) (name i : ℕ) → bring_up_to_date (with_log c m entries) g name i ≡ relogged m entries (bring_up_to_date c g name i)
+bring_beside c g m entries name i = by (field_of (lookup g.objects name) i)
+  where
+    by : (f : Option Value) → bring_value (with_log c m entries) g name i f ≡ relogged m entries (bring_value c g name i f)
+    by None = refl
+    by (Some v) = ap (λ o. copy_value o name i v) (with_beside c g m entries v) ∙ copy_beside (with_replica c g v) m entries name i v
+
+entry_beside : (c : Collection) (g : Graph) (m : ℕ) (entries : List (ℕ × ℕ)) (entry : ℕ × ℕ) → apply_entry (with_log c m entries) g entry ≡ relogged m entries (apply_entry c g entry)
+entry_beside c g m entries entry = by (is_some (replica_of c entry.0))
+  where
+    by : (b : Bool) → cond b (bring_up_to_date (with_log c m entries) g entry.0 entry.1) (Some (with_log c m entries)) ≡ relogged m entries (cond b (bring_up_to_date c g entry.0 entry.1) (Some c))
+    by true = bring_beside c g m entries entry.0 entry.1
+    by false = refl
+
+-- ---- one entry
+
+pub entry_brought : (c : Collection) (g : Graph) (entry : ℕ × ℕ) (place : ℕ) → option_map (λ r. r.place) (replica_of c entry.0) ≡ Some place → apply_entry c g entry ≡ bring_up_to_date c g entry.0 entry.1
+entry_brought c g entry place e = cond-true (is_some (replica_of c entry.0)) (bring_up_to_date c g entry.0 entry.1) (Some c) (there (replica_of c entry.0) e)
+  where
+    there : (o : Option Replica) → option_map (λ r. r.place) o ≡ Some place → is_some o ≡ true
+    there None f = absurd (let no : None ≡ Some place = f in cc)
+    there (Some r) f = refl
+
+pub entry_skipped : (c : Collection) (g : Graph) (entry : ℕ × ℕ) → option_map (λ r. r.place) (replica_of c entry.0) ≡ None → apply_entry c g entry ≡ Some c
+entry_skipped c g entry e = cond-false (is_some (replica_of c entry.0)) (bring_up_to_date c g entry.0 entry.1) (Some c) (gone (replica_of c entry.0) e)
+  where
+    gone : (o : Option Replica) → option_map (λ r. r.place) o ≡ None → is_some o ≡ false
+    gone None f = refl
+    gone (Some r) f = absurd (let no : Some r.place ≡ None = f in cc)
+
+-- the start of an object that has a field
+pub start_of_field : (words : List ℕ) (a i : ℕ) → IsSome (field_at words a i) → is_start words a ≡ true
+start_of_field words a i h = by (block_at words a) h
+  where
+    by : (o : Option Block) → IsSome (field_in o i) → is_some o ≡ true
+    by None h = absurd (let no : false ≡ true = h in cc)
+    by (Some b) h = refl
+
+-- ---- the oldest entry
+
+pub oldest_first : (entries : List (ℕ × ℕ)) (entry : ℕ × ℕ) → Some entry ≡ oldest entries → entries ≡ entry ∷ drop 1 entries
+oldest_first [] entry e = absurd (let no : Some entry ≡ None = e in cc)
+oldest_first (d ∷ rest) entry e = let same : d ≡ entry = (let f : Some entry ≡ Some d = e in cc) in λ i. same i ∷ rest
+
+pub oldest_none : (entries : List (ℕ × ℕ)) → None ≡ oldest entries → entries ≡ []
+oldest_none [] e = refl
+oldest_none (d ∷ rest) e = absurd (let no : None ≡ Some d = e in cc)
+
+module _ (heap : HeapWords) (x : CollectionWords) (m : ℕ) (log : Log) (there : slice_get x.logs m ≡ Some log) where
+  entries_are : log_at (collection_in x) m ≡ log.entries
+  entries_are = ap Rattle.gc_copy.specs.Steps.log_or_nil (entries_at x.logs m log there)
+
+  pub clean : None ≡ oldest log.entries → apply_log (open_state heap x) (collection_in x) m (log_at (collection_in x) m) ≡ (Clean, open_state heap x)
+  clean e = ap (apply_log (open_state heap x) (collection_in x) m) (entries_are ∙ oldest_none log.entries e)
+
+  module _ (entry : ℕ × ℕ) (first : Some entry ≡ oldest log.entries) where
+    entries_split : log_at (collection_in x) m ≡ entry ∷ drop 1 log.entries
+    entries_split = entries_are ∙ oldest_first log.entries entry first
+
+    -- the entry names a field of the heap
+    pub field_there : BelongsTo heap x → IsSome (field_at heap.space.words entry.0 entry.1)
+    field_there k =
+        let f = (k.belongs).entries entry.0 entry.1 (m, subst (Rattle.gc_copy.specs.Members.In entry) (sym entries_split) (inl refl)) in
+        field_present heap.space.words entry.0 entry.1 f.0 f.1 f.2
+
+    steps_are : apply_log (open_state heap x) (collection_in x) m (log_at (collection_in x) m) ≡ if_room (open_state heap x) Applied (relogged m (drop 1 log.entries) (apply_entry (collection_in x) (graph_in heap) entry))
+    steps_are = ap (apply_log (open_state heap x) (collection_in x) m) entries_split ∙ ap (if_room (open_state heap x) Applied) (entry_beside (collection_in x) (graph_in heap) m (drop 1 log.entries) entry)
+
+    pub stays : apply_entry (collection_in x) (graph_in heap) entry ≡ None → apply_log (open_state heap x) (collection_in x) m (log_at (collection_in x) m) ≡ (NoRoom, open_state heap x)
+    stays none = steps_are ∙ ap (λ o. if_room (open_state heap x) Applied (relogged m (drop 1 log.entries) o)) none
+
+    -- `after` is the collection in which the field is up to date, `later` the log without the entry
+    pub applied : (new : HeapWords) (after : CollectionWords) (last later : Log) → KeepsGraph heap new → KeepsRest x after → apply_entry (collection_in x) (graph_in heap) entry ≡ Some (collection_in after)
+        → slice_get after.logs m ≡ Some last → later.entries ≡ drop 1 last.entries
+        → apply_log (open_state heap x) (collection_in x) m (log_at (collection_in x) m) ≡ (Applied, open_state new (record after { logs = slice_set after.logs m later }))
+    applied new after last later graph rest done has less =
+        let same : last ≡ log = (let f : Some last ≡ Some log = sym has ∙ ap (λ ls. slice_get ls m) rest.logs ∙ there in cc) in
+        let log_is : drop 1 (log_at (collection_in after) m) ≡ drop 1 log.entries = ap (λ ls. drop 1 (Rattle.gc_copy.specs.Steps.log_or_nil (slice_get (map entries_of ls) m))) rest.logs ∙ ap (drop 1) entries_are in
+        let dropped : collection_in (record after { logs = slice_set after.logs m later }) ≡ with_log (collection_in after) m (drop 1 log.entries) = entry_dropped after m last later has less ∙ ap (with_log (collection_in after) m) log_is in
+        steps_are
+        ∙ ap (λ o. if_room (open_state heap x) Applied (relogged m (drop 1 log.entries) o)) done
+        ∙ ap (λ (c : Collection). (Applied, Rattle.gc_copy.specs.Words.state_of heap (Some c))) (sym dropped)
+        ∙ ap (λ s. (Applied, s)) (sym (state_kept heap new (Some (collection_in (record after { logs = slice_set after.logs m later }))) graph))
+
+    pub applied_belongs : (new : HeapWords) (after : CollectionWords) (last later : Log) → IsCollection x → BelongsTo heap x → KeepsGraph heap new → KeepsRest x after → BelongsTo new after → apply_entry (collection_in x) (graph_in heap) entry ≡ Some (collection_in after)
+        → slice_get after.logs m ≡ Some last → later.entries ≡ drop 1 last.entries → BelongsTo new (record after { logs = slice_set after.logs m later })
+    applied_belongs new after last later is k graph rest belongs done has less =
+        after_step heap new x (record after { logs = slice_set after.logs m later }) (steps.Apply m) Applied (λ no. cc no) is k graph (length-set after.logs m later ∙ ap length rest.logs)
+        (applied new after last later graph rest done has less) belongs.links
+
+-- ---- ready
+
+-- what tells whether there is a first log with an entry tells whether all are empty
+none_first : (k : ℕ) (logs : List (List (ℕ × ℕ))) (b : Bool) → is_some (first_log k logs) ≡ b → list_all is_empty logs ≡ not b
+none_first k [] b e = ap not e
+none_first k (log ∷ logs) b e = by (is_empty log) (none_first (suc k) logs b) e
+  where
+    by : (a : Bool) → (is_some (first_log (suc k) logs) ≡ b → list_all is_empty logs ≡ not b) → is_some (cond a (first_log (suc k) logs) (Some k)) ≡ b → (a && list_all is_empty logs) ≡ not b
+    by true rest e = rest e
+    by false rest e = ap not e
+
+pub ready_where : (c : Collection) (g : Graph) (o : Option ℕ) (r : Bool) → o ≡ first_log 0 c.logs → is_some o ≡ false → scan_done c ≡ true → r ≡ roots_done c g → r ≡ is_ready c g
+ready_where c g o r first none scan roots =
+    let all : list_all is_empty c.logs ≡ true = none_first 0 c.logs false (ap is_some (sym first) ∙ none) in
+    roots ∙ ap (λ b. b && roots_done c g) (sym (ap (λ a. a && scan_done c) all ∙ scan))
+
+pub unready_logs : (c : Collection) (g : Graph) (o : Option ℕ) → o ≡ first_log 0 c.logs → is_some o ≡ true → false ≡ is_ready c g
+unready_logs c g o first some =
+    let all : list_all is_empty c.logs ≡ false = none_first 0 c.logs true (ap is_some (sym first) ∙ some) in
+    sym (ap (λ a. (a && scan_done c) && roots_done c g) all)
+
+pub unready_scan : (c : Collection) (g : Graph) (o : Option ℕ) → o ≡ first_log 0 c.logs → is_some o ≡ false → scan_done c ≡ false → false ≡ is_ready c g
+unready_scan c g o first none scan =
+    let all : list_all is_empty c.logs ≡ true = none_first 0 c.logs false (ap is_some (sym first) ∙ none) in
+    sym (ap (λ a. (a && scan_done c) && roots_done c g) all ∙ ap (λ b. b && roots_done c g) scan)
