@@ -127,10 +127,10 @@ corresponding_graphs size free g c h k same ready =
     subst (λ x. Corresponding (pairs_of c) x (new_graph c g.roots)) (graph_back no_links size free g h)
     (subst (Corresponding (pairs_of c) (graph_of (linked_image no_links size g))) (graph_back no_links c.size (new_free c) (new_graph c g.roots) (new_heap size free g c h k same ready)) both)
 
-pub passes : (s : State) (c : Collection) → IsState s → IsOpened s c → is_ready c s.heap.graph ≡ true → passes_check s c ≡ true
-passes s c h k ready = ap is_none (no_fault_of_certified (image_of_graph s.size s.heap.graph) (image_of_graph c.size (new_graph c s.heap.graph.roots)) (pairs_of c) (certified no_links no_links s.size s.heap.free s.heap.graph c h.heap k.belongs k.size (ready_parts c s.heap.graph ready)))
+pub passes : (s : State) (c : Collection) → IsSpaceGraph s.size s.heap.free s.heap.graph → IsOpened s c → is_ready c s.heap.graph ≡ true → passes_check s c ≡ true
+passes s c h k ready = ap is_none (no_fault_of_certified (image_of_graph s.size s.heap.graph) (image_of_graph c.size (new_graph c s.heap.graph.roots)) (pairs_of c) (certified no_links no_links s.size s.heap.free s.heap.graph c h k.belongs k.size (ready_parts c s.heap.graph ready)))
 
-pub flips : (s : State) (c : Collection) → IsState s → IsOpened s c → is_ready c s.heap.graph ≡ true → flip s c ≡ (Flipped (length c.replicas), flipped s c)
+pub flips : (s : State) (c : Collection) → IsSpaceGraph s.size s.heap.free s.heap.graph → IsOpened s c → is_ready c s.heap.graph ≡ true → flip s c ≡ (Flipped (length c.replicas), flipped s c)
 flips s c h k ready = cond-true (is_ready c s.heap.graph) _ _ ready ∙ cond-true (passes_check s c) _ _ (passes s c h k ready)
 
 -- ---- no step is refused
@@ -168,6 +168,6 @@ not_refused s step h = go s.collection step h.collection
     go (Some c) steps.Scan k = cond_both (scan_done c) _ _ (λ (next : StepReply × State). next.0 ≢ Refused) (λ t. λ e. cc e) (λ t. scan c (replica_at c c.scan_place))
     go (Some c) (steps.Apply m) k = apply c m (log_at c m)
     go (Some c) steps.Flip k = cond_both (is_ready c s.heap.graph) _ _ (λ (next : StepReply × State). next.0 ≢ Refused)
-        (λ t. subst (λ (next : StepReply × State). next.0 ≢ Refused) (sym (cond-true (passes_check s c) (Flipped (length c.replicas), flipped s c) (Refused, s) (passes s c h k t))) (λ e. cc e))
+        (λ t. subst (λ (next : StepReply × State). next.0 ≢ Refused) (sym (cond-true (passes_check s c) (Flipped (length c.replicas), flipped s c) (Refused, s) (passes s c h.heap k t))) (λ e. cc e))
         (λ t. λ e. cc e)
     go (Some c) steps.Drop k = λ e. cc e

@@ -45,7 +45,7 @@ has_image s h = record { shaped = image_shaped no_links s.size s.heap.free s.hea
 pub passes_where_ready : (s : State) → IsState s → PassesWhereReady s
 passes_where_ready s h c is ready =
     let k : IsOpened s c = subst (IsOpen s) is h.collection in
-    record { certified = certified no_links no_links s.size s.heap.free s.heap.graph c h.heap k.belongs k.size (ready_parts c s.heap.graph ready); flips = ap (λ o. collect_with s o steps.Flip) is ∙ flips s c h k ready }
+    record { certified = certified no_links no_links s.size s.heap.free s.heap.graph c h.heap k.belongs k.size (ready_parts c s.heap.graph ready); flips = ap (λ o. collect_with s o steps.Flip) is ∙ flips s c h.heap k ready }
 
 pub never_refused : (s : State) → IsState s → NeverRefused s
 never_refused s h step = not_refused s step h

@@ -20,3 +20,5 @@ pub mod RootWalks
 pub mod Logs
 pub mod Scanning
 pub mod Applying
+pub mod ObjectWalks
+pub mod Flipping

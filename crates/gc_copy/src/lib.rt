@@ -6,6 +6,7 @@ mod collection;
 mod laws;
 mod log;
 mod step;
+mod walk;
 
 pub use collection::Collection;
 pub use laws::{

@@ -9,9 +9,10 @@ ghost use Rattle.gc_copy.specs.declared.step.Step.{Step};
 ghost use Rattle.gc_copy.specs.declared.step.StepReply.{StepReply};
 
 use super::Collection;
+use crate::walk::linked_pairs;
 use gc_graph::NoMemory;
 use gc_heap::Heap;
-use gc_words::{Addr, ImageRef, NewAddr, OldAddr, Pair, Space};
+use gc_words::{ImageRef, Pair, Space};
 use std::alloc::Global;
 
 impl Collection {
@@ -19,40 +20,7 @@ impl Collection {
     pub fn pairs(&self, alloc: Global) -> Result<Vec<Pair>, NoMemory>
         ensures { IfOk result (λ pairs. map addresses pairs.items ≡ pairs_of (collection_in self.now)) }
     {
-        let Ok(mut pairs) = Vec::with_capacity(alloc, self.replicas()) else {
-            return Err(NoMemory);
-        };
-        let mut at = Addr(1);
-        while at.0 < self.space.end() {
-            let original = OldAddr(self.space.link(at) as u32);
-            if pairs
-                .push(Pair {
-                    old: original,
-                    new: NewAddr(at.0),
-                })
-                .is_err()
-            {
-                return Err(NoMemory);
-            }
-            at = self.behind(at);
-        }
-        Ok(pairs)
-    }
-
-    /// How many replicas there are.
-    fn replicas(&self) -> usize {
-        let mut count = 0;
-        let mut at = Addr(1);
-        while at.0 < self.space.end() {
-            count += 1;
-            at = self.behind(at);
-        }
-        count
-    }
-
-    /// The place behind the replica that starts here.
-    fn behind(&self, at: Addr) -> Addr {
-        Addr(at.0 + u32::from(self.space.header(at).len()) + 2)
+        linked_pairs(alloc, &self.space)
     }
 
     /// The new space with these roots, links included.
@@ -80,6 +48,8 @@ impl Collection {
         ensures roots { result.1.items ≡ heap.old.roots }
         ensures sound { IsHeap heap.new }
     {
+        // Here the prover learns that the heap is one.
+        let _ = heap.space();
         let Collection { mut space, .. } = self;
         space.clear_links();
         heap.replace(space, roots)
@@ -93,6 +63,8 @@ impl Collection {
         ensures links { HasNoLinks heap.new }
         ensures sound { IsHeap heap.new }
     {
+        // Here the prover learns that the heap is one.
+        let _ = heap.space();
         heap.clear_links();
     }
 }

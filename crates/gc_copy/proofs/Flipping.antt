@@ -1,0 +1,150 @@
+-- The end of a collection, as the code makes it.
+use Rattle.std.proofs.Common.{◌≡◌, ⊎_elim, inl, inr, ℕ, suc, zero, ◌+◌, ◌-◌, ◌*◌, ◌/◌, ◌%◌, ◌<◌, ◌≤◌, ◌==◌, ◌||◌, nat_lt, Bool, true, false, cond, List, [], ◌∷◌, map, length, Option, Some, None, All, refl, ap, sym, ◌∙◌, subst, arith}
+use Rattle.std.proofs.lemmas.Bool.{cond-true, eqb-true, eqb-false, lt-ltb}
+use Rattle.std.proofs.lemmas.List.{length-map}
+use Rattle.gc_graph.specs.Graph.{Value, Nil, Num, Ref, Object, Graph}
+use Rattle.gc_words.specs.Word.{value_of, word_of, is_value, field_value, HasAddress}
+use Rattle.gc_words.specs.Image.{Block, blocks, block_in, is_start, object_entry, object_of_block, objects_of, graph_of}
+use Rattle.gc_words.specs.Spelling.{link_at}
+use Rattle.gc_words.specs.Space.{SpaceWords, IsSpace, end_of, free_in, without_links, image_with}
+use Rattle.gc_words.specs.Closed.{RefersToStart, IsRootWord, IsFieldWord, HasFieldWords, IsClosed}
+use Rattle.gc_words.proofs.Graphs.{graph_cleared, meaning_back}
+use Rattle.gc_words.proofs.Spelled.{cleared}
+use Rattle.gc_words.proofs.Links.{link_cleared}
+use Rattle.gc_words.proofs.Ends.{end_cleared}
+use Rattle.gc_words.proofs.References.{closed_objects}
+use Rattle.gc_heap.specs.Heap.{HeapWords, IsHeap, graph_in, roomy_in}
+use Rattle.gc_copy.specs.State.{Collection, State, new_objects, new_end, new_free, new_graph, moved, pairs_of}
+use Rattle.gc_copy.specs.Steps.{is_ready, flip, flipped, with_collection}
+use Rattle.gc_copy.specs.Members.{In}
+use Rattle.gc_copy.specs.Belonging.{IsNamed, RefersTo, IsObject, IsSpaceGraph}
+use Rattle.gc_copy.specs.Words.{CollectionWords, IsCollection, collection_in, idle_state, open_state, BelongsTo, HasNoLinks, new_root_words}
+use Rattle.gc_copy.specs.declared.step.StepReply.{StepReply}
+use Rattle.gc_copy.specs.declared.step.StepReply.TheVariants.{Flipped, Dropped}
+use Rattle.gc_copy.proofs.Lists.{in_map, in_map_from, all_from_in}
+use Rattle.gc_copy.proofs.Words.{heap_graph}
+use Rattle.gc_copy.proofs.Steps.{IsReady, ready_parts, new_heap}
+use Rattle.gc_copy.proofs.Images.{named_address}
+use Rattle.gc_copy.proofs.Flips.{flips}
+use Rattle.gc_copy.proofs.Spaces.{in_start, new_objects_are, new_end_is}
+use Rattle.gc_copy.proofs.Opened.{opened}
+
+-- ---- links cleared
+
+pub cleared_links : (s : SpaceWords) → IsSpace s → (a : ℕ) → is_start (without_links s).words a ≡ true → link_at (without_links s).words a ≡ 0
+cleared_links s is a start = link_cleared s a is (sym (ap (λ bs. Rattle.std.proofs.Common.is_some (block_in bs a)) (cleared s is).1) ∙ start)
+
+pub cleared_heap : (heap : HeapWords) → IsHeap heap → HasNoLinks (record heap { space = without_links heap.space })
+cleared_heap heap is a start = cleared_links heap.space is.space a start
+
+pub dropped : (heap : HeapWords) (c : CollectionWords) → IsHeap heap → ◌≡◌ {A = StepReply × State} (Dropped, with_collection (open_state heap c) None) (Dropped, idle_state (record heap { space = without_links heap.space }))
+dropped heap c is =
+    let graph = graph_cleared heap.space heap.roots is.space in
+    let end = end_cleared heap.space is.space in
+    λ i. (Dropped, record { mutators = heap.mutators; size = heap.space.size; heap = record { graph = sym graph i; free = heap.space.size - sym end i }; collection = None })
+
+-- ---- words that refer to objects
+
+word_fine : (words : List ℕ) (w : ℕ) → ((a : ℕ) → IsNamed (objects_of words) a → (1 ≤ a) × (a < 1048576)) → RefersTo (IsNamed (objects_of words)) (value_of w) → IsRootWord words w
+word_fine words w address named = by (w == 0) refl (w % 2 == 1) refl named
+  where
+    start : (a : ℕ) → IsNamed (objects_of words) a → is_start words a ≡ true
+    start a n =
+        let e = in_map_from object_entry (a, n.0) (blocks words) n.1 in
+        subst (λ p. is_start words p ≡ true) (ap (λ (x : ℕ × Object). x.0) e.2) (in_start words e.0 e.1)
+
+    refers : (v : Value) → RefersTo (IsNamed (objects_of words)) v → RefersToStart words v
+    refers Nil h = tt
+    refers (Num n) h = tt
+    refers (Ref a) h = start a h
+
+    even : (b : Bool) → w < 2097152 → (b || nat_lt w 2097152) ≡ true
+    even true h = refl
+    even false h = lt-ltb w 2097152 h
+
+    by : (z : Bool) → (w == 0) ≡ z → (o : Bool) → (w % 2 == 1) ≡ o → RefersTo (IsNamed (objects_of words)) (cond z Nil (cond o (Num (w / 2)) (Ref (w / 2)))) → IsRootWord words w
+    by true e o f h = record { value = even (w % 2 == 1) (let is : w ≡ 0 = eqb-true w 0 e in omega arith); start = refers (value_of w) named }
+    by false e true f h = record { value = ap (λ b. b || nat_lt w 2097152) f; start = refers (value_of w) named }
+    by false e false f h =
+        let high = (address (w / 2) h).1 in
+        let isnt : w % 2 ≡ 1 → ⊥ = eqb-false (w % 2) 1 f in
+        record { value = even (w % 2 == 1) (omega arith); start = refers (value_of w) named }
+
+-- ---- the flip
+
+module _ (heap : HeapWords) (x : CollectionWords) (heap_is : IsHeap heap) (is : IsCollection x) (k : BelongsTo heap x) (ready : is_ready (collection_in x) (graph_in heap) ≡ true) where
+  old_ok : IsSpaceGraph heap.space.size (free_in heap.space) (graph_in heap)
+  old_ok = heap_graph heap heap_is
+
+  parts : IsReady (graph_in heap) (collection_in x)
+  parts = ready_parts (collection_in x) (graph_in heap) ready
+
+  new_ok : IsSpaceGraph x.space.size (new_free (collection_in x)) (new_graph (collection_in x) (graph_in heap).roots)
+  new_ok = new_heap heap.space.size (free_in heap.space) (graph_in heap) (collection_in x) old_ok k.belongs (is.space).size_high parts
+
+  address : (a : ℕ) → IsNamed (objects_of x.space.words) a → (1 ≤ a) × (a < 1048576)
+  address a n = named_address x.space.size (new_free (collection_in x)) (new_graph (collection_in x) (graph_in heap).roots) a new_ok (subst (λ os. IsNamed os a) (sym (new_objects_are x)) n)
+
+  here : (v : Value) → RefersTo (IsNamed (new_objects (collection_in x))) v → RefersTo (IsNamed (objects_of x.space.words)) v
+  here v h = subst (λ os. RefersTo (IsNamed os) v) (new_objects_are x) h
+
+  has_address : (v : Value) → RefersTo (IsNamed (objects_of x.space.words)) v → HasAddress v
+  has_address Nil h = tt
+  has_address (Num n) h = tt
+  has_address (Ref a) h = address a h
+
+  -- the new roots, and their words
+  roots_back : (vs : List Value) → ((v : Value) → In v vs → RefersTo (IsNamed (objects_of x.space.words)) v) → map value_of (map word_of vs) ≡ vs
+  roots_back [] h = refl
+  roots_back (v ∷ vs) h =
+      let e = (meaning_back v (has_address v (h v (inl refl)))).1 in
+      let rest = roots_back vs (λ w l. h w (inr l)) in
+      λ i. e i ∷ rest i
+
+  field_words : (e : ℕ × Block) → In e (blocks x.space.words) → HasFieldWords x.space.words e.1
+  field_words e l = all_from_in (IsFieldWord x.space.words e.1.header) e.1.fields (λ w m.
+      let o : In (object_entry e) (new_objects (collection_in x)) = subst (In (object_entry e)) (sym (new_objects_are x)) (in_map object_entry e (blocks x.space.words) l) in
+      word_fine x.space.words w address (here (value_of w) ((new_ok.objects e.0 (object_of_block e.1) o).fields (value_of w) (in_map (field_value e.1.header) w e.1.fields m))))
+
+  root_words : (w : ℕ) → In w (new_root_words heap (collection_in x)) → IsRootWord x.space.words w
+  root_words w l =
+      let v = in_map_from word_of w (new_graph (collection_in x) (graph_in heap).roots).roots l in
+      let refers = here v.0 (new_ok.roots v.0 v.1) in
+      let back : value_of w ≡ v.0 = ap value_of (sym v.2) ∙ (meaning_back v.0 (has_address v.0 refers)).1 in
+      word_fine x.space.words w address (subst (RefersTo (IsNamed (objects_of x.space.words))) (sym back) refers)
+
+  after : HeapWords
+  after = record heap { space = without_links x.space; roots = new_root_words heap (collection_in x) }
+
+  pub flipped_sound : IsHeap (record heap { space = without_links x.space; roots = new_root_words heap (collection_in x) })
+  flipped_sound = record {
+    space = (cleared x.space is.space).0;
+    closed = closed_objects x.space.words (without_links x.space).words (new_root_words heap (collection_in x)) (cleared x.space is.space).1 (record {
+      fields = all_from_in (λ (e : ℕ × Block). HasFieldWords x.space.words e.1) (blocks x.space.words) field_words;
+      roots = all_from_in (IsRootWord x.space.words) (new_root_words heap (collection_in x)) root_words;
+    });
+    roots =
+        length-map (new_graph (collection_in x) (graph_in heap).roots).roots word_of
+        ∙ length-map (graph_in heap).roots (moved (collection_in x))
+        ∙ length-map heap.roots value_of
+        ∙ heap_is.roots;
+  }
+
+  graph_after : graph_in (record heap { space = without_links x.space; roots = new_root_words heap (collection_in x) }) ≡ new_graph (collection_in x) (graph_in heap).roots
+  graph_after =
+      graph_cleared x.space (new_root_words heap (collection_in x)) is.space
+      ∙ (let objects = new_objects_are x in
+      let roots = roots_back (new_graph (collection_in x) (graph_in heap).roots).roots (λ v l. here v (new_ok.roots v l)) in
+      λ i. record { objects = sym objects i; roots = roots i })
+
+  state_after : flipped (open_state heap x) (collection_in x) ≡ idle_state (record heap { space = without_links x.space; roots = new_root_words heap (collection_in x) })
+  state_after =
+      let graph = graph_after in
+      let end : new_end (collection_in x) ≡ end_of (without_links x.space) = new_end_is x is.space ∙ sym (end_cleared x.space is.space) in
+      λ i. record { mutators = heap.mutators; size = x.space.size; heap = record { graph = sym graph i; free = x.space.size - end i }; collection = None }
+
+  pub flip_is : flip (open_state heap x) (collection_in x) ≡ (Flipped (length (pairs_of (collection_in x))), idle_state (record heap { space = without_links x.space; roots = new_root_words heap (collection_in x) }))
+  flip_is =
+      let count : length (pairs_of (collection_in x)) ≡ length (collection_in x).replicas = length-map (collection_in x).replicas (λ (r : Rattle.gc_copy.specs.State.Replica). (r.original, r.place)) in
+      let state = state_after in
+      flips (open_state heap x) (collection_in x) old_ok (opened heap x is k) ready ∙ (λ i. (Flipped (sym count i), state i))

@@ -1,0 +1,10 @@
+use Rattle.std.proofs.Common.{ℕ, ◌-◌, length}
+use Rattle.gc_copy.proofs.ObjectWalks.{Lists}
+use Rattle.gc_copy.proofs.walk.linked_pairs.Given as goal
+
+-- the objects before the place are listed
+abbrev pub invariant-loop-at : goal.invariant-loop-at
+invariant-loop-at l = Lists l.space.words l.at.0 l.pairs.items
+
+abbrev pub decreases-loop-at : goal.decreases-loop-at
+decreases-loop-at l = length l.space.words - l.at.0
