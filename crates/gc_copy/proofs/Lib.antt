@@ -22,3 +22,4 @@ pub mod Scanning
 pub mod Applying
 pub mod ObjectWalks
 pub mod Flipping
+pub mod Shown

@@ -1,5 +1,5 @@
 -- Mutation logs in their list.
-use Rattle.std.proofs.Common.{◌≡◌, ℕ, suc, zero, ◌+◌, ◌<◌, ◌≤◌, Bool, true, false, cond, List, [], ◌∷◌, ◌++◌, map, drop, length, get_or, set, replicate, Option, Some, None, refl, ap, sym, ◌∙◌, subst, arith, length-set}
+use Rattle.std.proofs.Common.{◌≡◌, ℕ, suc, zero, ◌+◌, ◌<◌, ◌≤◌, Bool, true, false, cond, List, [], ◌∷◌, ◌++◌, map, drop, length, get_or, set, replicate, Option, Some, None, refl, ap, sym, ◌∙◌, subst, arith, length-set, inl, inr}
 use Rattle.std.specs.Prelude.{slice_get, slice_set}
 use Rattle.std.proofs.lemmas.Option.{slice_get-get_or}
 use Rattle.std.specs.Option.{option_map}
@@ -10,7 +10,9 @@ use Rattle.gc_copy.specs.State.{Collection}
 use Rattle.gc_copy.specs.Steps.{log_or_nil, log_at, with_log, is_empty, first_log}
 use Rattle.gc_copy.specs.Belonging.{HasField, Belongs}
 use Rattle.gc_copy.specs.Words.{Log, CollectionWords, entries_of, collection_in, LinksReplicas, BelongsTo, BelongsToBut}
-use Rattle.gc_copy.proofs.Kept.{notes}
+use Rattle.gc_graph.specs.Graph.{Object}
+use Rattle.gc_copy.specs.Members.{In}
+use Rattle.gc_copy.proofs.Steps.{belongs_noted}
 
 entries_set : (logs : List Log) (m : ℕ) (log : Log) → map entries_of (slice_set logs m log) ≡ slice_set (map entries_of logs) m log.entries
 entries_set [] m log = refl
@@ -57,10 +59,14 @@ same_belongs heap c next same count k = record {
   logs = count ∙ k.logs;
 }
 
+only : (objects : List (ℕ × Object)) (a f : ℕ) → HasField objects a f → (b j : ℕ) → In {X = ℕ × ℕ} (b, j) ((a, f) ∷ []) → HasField objects b j
+only objects a f field b j (inl e) = subst (λ (p : ℕ × ℕ). HasField objects p.0 p.1) e field
+only objects a f field b j (inr none) = absurd none
+
 pub noted_belongs : (heap : HeapWords) (c next : CollectionWords) (m a f : ℕ) → m < length c.logs → collection_in next ≡ with_log (collection_in c) m (log_at (collection_in c) m ++ (a, f) ∷ []) → length next.logs ≡ length c.logs
-    → HasField (graph_in heap).objects a f → BelongsToBut (λ b j. (b ≡ a) × (j ≡ f)) heap c → BelongsTo heap next
+    → HasField (graph_in heap).objects a f → BelongsToBut ((a, f) ∷ []) heap c → BelongsTo heap next
 noted_belongs heap c next m a f less same count field k = record {
-  belongs = subst (Belongs (graph_in heap).objects) (sym same) (notes (graph_in heap).objects (collection_in c) m a f (let n = length-map c.logs entries_of in omega arith) field k.belongs);
+  belongs = subst (Belongs (graph_in heap).objects) (sym same) (belongs_noted (graph_in heap).objects (collection_in c) m ((a, f) ∷ []) (let n = length-map c.logs entries_of in omega arith) k.belongs (only (graph_in heap).objects a f field));
   links = subst (LinksReplicas heap) (sym same) k.links;
   logs = count ∙ k.logs;
 }

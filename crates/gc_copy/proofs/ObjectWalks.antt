@@ -121,8 +121,7 @@ lists_none space pairs is none = ([], met_none space is, ap (map addresses) none
 
 pub lists_more : (words : List ℕ) (at next : ℕ) (pairs more : List Pair) (pair : Pair) → Lists words at pairs → at < length words → next_of words at ≡ Some next → addresses pair ≡ (link_at words at, at) → more ≡ pairs ++ pair ∷ [] → Lists words next more
 lists_more words at next pairs more pair k less e is after =
-    let p : Passing words at next k.0 = passing words at next k.0 k.1 less e in
-    (
+    let p : Passing words at next k.0 = passing words at next k.0 k.1 less e in (
       k.0 ++ (at, p.block) ∷ [],
       p.met,
       ap (map addresses) after

@@ -36,7 +36,8 @@ use Rattle.gc_copy.specs.declared.step.Step.{Step}
 use Rattle.gc_copy.specs.declared.step.Step.TheVariants as steps
 use Rattle.gc_copy.specs.declared.step.StepReply.{StepReply}
 use Rattle.gc_copy.proofs.Steps.{some_of, none_of, open_keeps, placing_keeps, bringing_keeps}
-use Rattle.gc_copy.proofs.Spaces.{word_back, fresh_at, space_placed, space_written, new_objects_are, new_end_is}
+use Rattle.gc_copy.proofs.Words.{word_back}
+use Rattle.gc_copy.proofs.Spaces.{fresh_at, space_placed, space_written, new_objects_are, new_end_is}
 
 -- ---- the heap, links apart
 

@@ -25,17 +25,6 @@ use Rattle.gc_copy.proofs.Replicas.{with_written_pair}
 use Rattle.gc_copy.proofs.Links.{write_is_set}
 use Rattle.gc_copy.proofs.Words.{objects_laid}
 
--- ---- words and values
-
--- each word is the word of what it means
-pub word_back : (w : ℕ) → word_of (value_of w) ≡ w
-word_back w = by (w == 0) refl (w % 2 == 1) refl
-  where
-    by : (a : Bool) → (w == 0) ≡ a → (b : Bool) → (w % 2 == 1) ≡ b → word_of (cond a Nil (cond b (Num (w / 2)) (Ref (w / 2)))) ≡ w
-    by true e b f = let is : w ≡ 0 = eqb-true w 0 e in omega arith
-    by false e true f = let is : w % 2 ≡ 1 = eqb-true (w % 2) 1 f in omega arith
-    by false e false f = let isnt : w % 2 ≡ 1 → ⊥ = eqb-false (w % 2) 1 f in omega arith
-
 -- ---- lists
 
 pub map_agree : {X Y : Type 0} (f g : X → Y) (xs : List X) → ((x : X) → In x xs → f x ≡ g x) → map f xs ≡ map g xs

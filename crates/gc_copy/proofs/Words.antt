@@ -1,6 +1,6 @@
 -- The heap that words spell.
-use Rattle.std.proofs.Common.{◌≡◌, ⊎_elim, inl, inr, ℕ, ◌+◌, ◌-◌, ◌<◌, ◌==◌, true, List, [], ◌∷◌, map, length, get_or, Some, is_some, All, refl, ap, sym, ◌∙◌, subst, arith, length-append}
-use Rattle.std.proofs.lemmas.Bool.{cases_Bool, cond-false, eqb-true}
+use Rattle.std.proofs.Common.{◌≡◌, ⊎_elim, inl, inr, ℕ, ◌+◌, ◌-◌, ◌*◌, ◌/◌, ◌%◌, ◌<◌, ◌==◌, Bool, true, false, cond, List, [], ◌∷◌, map, length, get_or, Some, is_some, All, refl, ap, sym, ◌∙◌, subst, arith, length-append}
+use Rattle.std.proofs.lemmas.Bool.{cases_Bool, cond-false, eqb-true, eqb-false}
 use Rattle.std.proofs.lemmas.List.{length-map}
 use Rattle.std.proofs.lemmas.Option.{slice_get-get_or}
 use Rattle.gc_graph.specs.Graph.{Value, Nil, Num, Ref, Object}
@@ -10,7 +10,6 @@ use Rattle.gc_words.specs.Spelling.{block_words, spelled, spelled_from, link_at,
 use Rattle.gc_words.specs.Space.{SpaceWords, IsSpace, free_in}
 use Rattle.gc_words.specs.Closed.{RefersToStart, IsRootWord, IsFieldWord, HasFieldWords}
 use Rattle.gc_words.specs.declared.header.Header.{Header}
-use Rattle.gc_words.proofs.Graphs.{meant}
 use Rattle.gc_words.proofs.Spelled.{spelled_words, laid_out_words}
 use Rattle.gc_heap.specs.Heap.{HeapWords, IsHeap, image_of, graph_in}
 use Rattle.gc_copy.specs.Linked.{field_word, object_header, block_entry, linked_image}
@@ -77,33 +76,53 @@ module _ (space : SpaceWords) (is : IsSpace space) where
             subst (RefersTo (IsNamed (objects_of space.words))) w.2 (value_refers (value_of w.0) (in_all (IsFieldWord space.words e.1.header) e.1.fields w.0 words w.1).start);
       }
 
-words_back : (words : List ℕ) (root_words : List ℕ) → ((w : ℕ) → In w root_words → IsRootWord words w) → map word_of (map value_of root_words) ≡ root_words
-words_back words [] ok = refl
-words_back words (w ∷ ws) ok =
-    let e : word_of (value_of w) ≡ w = (meant w (ok w (inl refl)).value).0 in
-    let r = words_back words ws (λ v k. ok v (inr k)) in
+-- ---- words and values
+
+-- each word is the word of what it means
+pub word_back : (w : ℕ) → word_of (value_of w) ≡ w
+word_back w = by (w == 0) refl (w % 2 == 1) refl
+  where
+    by : (a : Bool) → (w == 0) ≡ a → (b : Bool) → (w % 2 == 1) ≡ b → word_of (cond a Nil (cond b (Num (w / 2)) (Ref (w / 2)))) ≡ w
+    by true e b f = let is : w ≡ 0 = eqb-true w 0 e in omega arith
+    by false e true f = let is : w % 2 ≡ 1 = eqb-true (w % 2) 1 f in omega arith
+    by false e false f = let isnt : w % 2 ≡ 1 → ⊥ = eqb-false (w % 2) 1 f in omega arith
+
+pub words_back : (ws : List ℕ) → map word_of (map value_of ws) ≡ ws
+words_back [] = refl
+words_back (w ∷ ws) =
+    let e = word_back w in
+    let r = words_back ws in
     λ i. e i ∷ r i
 
-field_words_back : (h : Header) (words : List ℕ) (fields : List ℕ) → ((w : ℕ) → In w fields → IsRootWord words w) → map (field_word h) (map (field_value h) fields) ≡ fields
-field_words_back h words [] ok = refl
-field_words_back h words (w ∷ ws) ok =
-    let e : word_of (value_of w) ≡ w = (meant w (ok w (inl refl)).value).0 in
-    let r = field_words_back h words ws (λ v k. ok v (inr k)) in
+field_words_back : (h : Header) (fields : List ℕ) → map (field_word h) (map (field_value h) fields) ≡ fields
+field_words_back h [] = refl
+field_words_back h (w ∷ ws) =
+    let e = word_back w in
+    let r = field_words_back h ws in
     λ i. e i ∷ r i
 
-block_back : (words : List ℕ) (b : Block) → IsBlock b → ((w : ℕ) → In w b.fields → IsRootWord words w) → (block_entry (0, object_of_block b)).1 ≡ b
-block_back words b whole ok =
+block_back : (b : Block) → IsBlock b → (block_entry (0, object_of_block b)).1 ≡ b
+block_back b whole =
     let len : length (map (field_value b.header) b.fields) ≡ b.header.len = length-map b.fields (field_value b.header) ∙ whole.fields in
     let same : object_header (object_of_block b) ≡ b.header = λ i. record { kind = b.header.kind; len = len i } in
-    let fields = field_words_back b.header words b.fields ok in
+    let fields = field_words_back b.header b.fields in
     λ i. record { header = same i; fields = fields i }
 
-blocks_back : (words : List ℕ) (bs : List (ℕ × Block)) → ((e : ℕ × Block) → In e bs → IsBlock e.1) → ((e : ℕ × Block) → In e bs → HasFieldWords words e.1) → map block_entry (map object_entry bs) ≡ bs
-blocks_back words [] whole ok = refl
-blocks_back words (e ∷ rest) whole ok =
-    let here = block_back words e.1 (whole e (inl refl)) (λ w k. in_all (IsFieldWord words e.1.header) e.1.fields w (ok e (inl refl)) k) in
-    let r = blocks_back words rest (λ d k. whole d (inr k)) (λ d k. ok d (inr k)) in
+blocks_back : (bs : List (ℕ × Block)) → ((e : ℕ × Block) → In e bs → IsBlock e.1) → map block_entry (map object_entry bs) ≡ bs
+blocks_back [] whole = refl
+blocks_back (e ∷ rest) whole =
+    let here = block_back e.1 (whole e (inl refl)) in
+    let r = blocks_back rest (λ d k. whole d (inr k)) in
     λ i. (e.0, here i) ∷ r i
+
+pub space_blocks : (space : SpaceWords) → IsSpace space → map block_entry (objects_of space.words) ≡ blocks space.words
+space_blocks space is = blocks_back (blocks space.words) (λ e k. laid_whole 1 (blocks space.words) e (laid_out_words space.words is.walked) k)
+
+-- a space's words are those of its objects with their links
+pub space_spelled : (space : SpaceWords) → IsSpace space → space.words ≡ spelled (link_at space.words) (map block_entry (objects_of space.words))
+space_spelled space is =
+    spelled_words space.words is.walked is.end_low is.reserved
+    ∙ ap (spelled (link_at space.words)) (sym (space_blocks space is))
 
 -- ---- a heap of such words
 
@@ -123,11 +142,6 @@ heap_graph heap is = record {
 
 pub heap_image : (heap : HeapWords) → IsHeap heap → image_of heap ≡ linked_image (link_at heap.space.words) heap.space.size (graph_in heap)
 heap_image heap is =
-    let words : List ℕ = heap.space.words in
-    let bs = blocks_back words (blocks words)
-    (λ e k. laid_whole 1 (blocks words) e (laid_out_words words (is.space).walked) k)
-    (λ e k. in_all (λ (entry : ℕ × Block). HasFieldWords words entry.1) (blocks words) e (is.closed).fields k) in
-    let all : words ≡ spelled (link_at words) (map block_entry (objects_of words)) =
-    spelled_words words (is.space).walked (is.space).end_low (is.space).reserved ∙ ap (spelled (link_at words)) (sym bs) in
-    let rs = words_back words heap.roots (λ w k. in_all (IsRootWord words) heap.roots w (is.closed).roots k) in
+    let all = space_spelled heap.space is.space in
+    let rs = words_back heap.roots in
     λ i. record { size = heap.space.size; end = length (all i); words = all i; roots = sym rs i }

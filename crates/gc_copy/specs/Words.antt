@@ -69,9 +69,9 @@ pub record BelongsTo (heap : HeapWords) (c : CollectionWords) : Type 0 where
   pub links : LinksReplicas heap (collection_in c)
   pub logs : length c.logs ≡ heap.mutators
 
--- the same but for the fields of which E holds
-pub record BelongsToBut (E : ℕ → ℕ → Type 0) (heap : HeapWords) (c : CollectionWords) : Type 0 where
-  pub belongs : BelongsBut E (graph_in heap).objects (collection_in c)
+-- the same but for these fields, each an object and a number
+pub record BelongsToBut (fields : List (ℕ × ℕ)) (heap : HeapWords) (c : CollectionWords) : Type 0 where
+  pub belongs : BelongsBut (λ a i. In {X = ℕ × ℕ} (a, i) fields) (graph_in heap).objects (collection_in c)
   pub links : LinksReplicas heap (collection_in c)
   pub logs : length c.logs ≡ heap.mutators
 

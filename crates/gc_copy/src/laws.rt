@@ -8,11 +8,13 @@ ghost use Rattle.gc_graph.specs.Range.{IsCommand};
 ghost use Rattle.gc_graph.specs.declared.command.Op.{Op};
 ghost use Rattle.gc_words.specs.Image.{IsShaped, graph_of, roomy_of};
 ghost use Rattle.gc_words.specs.Spelling.{link_at};
-ghost use Rattle.gc_words.specs.Space.{free_in};
+ghost use Rattle.gc_words.specs.Space.{free_in, end_of, image_with};
 ghost use Rattle.gc_words.specs.Certificate.{Certified};
-ghost use Rattle.gc_heap.specs.Heap.{HeapWords, IsHeap, image_of, graph_in};
+ghost use Rattle.gc_heap.specs.Heap.{HeapWords, IsHeap, KeepsLinks, image_of, graph_in, roomy_in};
+ghost use Rattle.gc_copy.specs.Words.{CollectionWords, IsCollection, BelongsTo, BelongsToBut, collection_in, open_state, new_root_words};
+ghost use Rattle.gc_graph.specs.declared.reply.Reply.{Reply};
 ghost use Rattle.gc_copy.specs.State.{Replica, Collection, State, opening_state, new_objects, new_free, pairs_of, replica_of, replica_at, moved, new_graph};
-ghost use Rattle.gc_copy.specs.Linked.{linked_image, old_links, new_links};
+ghost use Rattle.gc_copy.specs.Linked.{linked_image, old_links, new_links, old_image, new_image};
 ghost use Rattle.gc_copy.specs.Steps.{written, log_at, with_log, with_collection, write_replica, fresh_collection, mutate, collect, is_change, is_ready, useful_step};
 ghost use Rattle.gc_copy.specs.Members.{In};
 ghost use Rattle.gc_copy.specs.Belonging.{IsSpaceGraph, HasField, Belongs, BelongsBut, IsOpened, IsOpen, IsState};
@@ -159,4 +161,31 @@ pub fn scans_and_pairs_are_bounded()
     ensures pairs { (s : State) → IsState s → HasFewPairs s }
     ensures run_scans { InEveryRun ScansToTheEnd }
     ensures run_pairs { InEveryRun HasFewPairs }
+{}
+
+/// What the checker sees of a heap and of the collection that belongs to it: both images with their links; and
+/// where the collection is ready, its certificate holds of them.
+pub fn images_show_links()
+    ensures old { (heap : HeapWords) (c : CollectionWords) → IsHeap heap → BelongsTo heap c
+        → image_of heap ≡ old_image (open_state heap c) (collection_in c) }
+    ensures new { (heap : HeapWords) (c : CollectionWords) → IsCollection c → BelongsTo heap c
+        → image_with c.space (new_root_words heap (collection_in c))
+        ≡ new_image (open_state heap c) (collection_in c) }
+    ensures certified { (heap : HeapWords) (c : CollectionWords)
+        → IsHeap heap → IsCollection c → BelongsTo heap c
+        → IsTrue (is_ready (collection_in c) (graph_in heap))
+        → Certified (image_of heap) (image_with c.space (new_root_words heap (collection_in c)))
+        (pairs_of (collection_in c)) }
+{}
+
+/// A mutator's command leaves a collection that belongs to the heap but for the field that it wrote, and so
+/// one that belongs to it where it wrote none. `note` restores the rest.
+pub fn commands_keep_collections()
+    ensures but { (heap new : HeapWords) (c : CollectionWords) (m : ℕ) (op : Op) (reply : Reply)
+        → BelongsTo heap c → KeepsLinks heap.space.words new.space.words
+        → new.mutators ≡ heap.mutators
+        → roomy_step (roomy_in heap) m op (end_of heap.space) ≡ (reply, roomy_in new)
+        → BelongsToBut (written (graph_in heap) m op reply) new c }
+    ensures none { (heap : HeapWords) (c : CollectionWords)
+        → BelongsToBut [] heap c → BelongsTo heap c }
 {}

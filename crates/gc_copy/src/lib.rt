@@ -10,8 +10,9 @@ mod walk;
 
 pub use collection::Collection;
 pub use laws::{
-    answers_tell_changes, belonging_is_kept, heaps_have_addresses_as_names,
-    images_have_their_graphs, links_tell_replicas, only_kept_is_carried, ready_flips_pass,
-    room_suffices, scans_and_pairs_are_bounded, states_are_kept, steps_keep_belonging, worked_rows,
+    answers_tell_changes, belonging_is_kept, commands_keep_collections,
+    heaps_have_addresses_as_names, images_have_their_graphs, images_show_links,
+    links_tell_replicas, only_kept_is_carried, ready_flips_pass, room_suffices,
+    scans_and_pairs_are_bounded, states_are_kept, steps_keep_belonging, worked_rows,
 };
 pub use step::{Step, StepReply};

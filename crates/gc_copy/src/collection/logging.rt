@@ -30,7 +30,7 @@ impl Collection {
         ensures space { self.new.space ≡ self.old.space }
         // What is noted may differ from then on.
         ensures belongs { (heap : HeapWords) → HasField (graph_in heap).objects object.0 field
-            → BelongsToBut (λ a i. (a ≡ object.0) × (i ≡ field)) heap self.old → BelongsTo heap self.new }
+            → BelongsToBut ((object.0, field) ∷ []) heap self.old → BelongsTo heap self.new }
     {
         self.logs[m as usize].note(LogEntry { object, field });
     }

@@ -8,13 +8,13 @@ use Rattle.gc_copy.proofs.collection.Collection.ready.Goals.{then-is_none, else-
 pub returns-then-scan_done : goal.returns-then-scan_done
 returns-then-scan_done c =
     elim c.if-is_none.branch [
-      then-is_none w ↦ ready_where (collection_in c.args.self.now) (graph_in c.args.heap.now) c.next_log.result c.roots_done.result c.next_log.ensures w.if-is_none.ensures (sym w.scan_done.ensures ∙ sym w.value-is ∙ c.if-scan_done.true) c.roots_done.ensures
-    | else-is_none w ↦ absurd (let no : true ≡ false = sym c.if-scan_done.true ∙ w.value-is ∙ w.if-is_none.false in cc)
+      | then-is_none w ↦ ready_where (collection_in c.args.self.now) (graph_in c.args.heap.now) c.next_log.result c.roots_done.result c.next_log.ensures w.if-is_none.ensures (sym w.scan_done.ensures ∙ sym w.value-is ∙ c.if-scan_done.true) c.roots_done.ensures
+      | else-is_none w ↦ absurd (let no : true ≡ false = sym c.if-scan_done.true ∙ w.value-is ∙ w.if-is_none.false in cc)
     ]
 
 pub returns-else-scan_done : goal.returns-else-scan_done
 returns-else-scan_done c =
     elim c.if-is_none.branch [
-      then-is_none w ↦ c.if-scan_done.false ∙ unready_scan (collection_in c.args.self.now) (graph_in c.args.heap.now) c.next_log.result c.next_log.ensures w.if-is_none.ensures (sym w.scan_done.ensures ∙ sym w.value-is ∙ c.if-scan_done.false)
-    | else-is_none w ↦ c.if-scan_done.false ∙ unready_logs (collection_in c.args.self.now) (graph_in c.args.heap.now) c.next_log.result c.next_log.ensures w.if-is_none.ensures
+      | then-is_none w ↦ c.if-scan_done.false ∙ unready_scan (collection_in c.args.self.now) (graph_in c.args.heap.now) c.next_log.result c.next_log.ensures w.if-is_none.ensures (sym w.scan_done.ensures ∙ sym w.value-is ∙ c.if-scan_done.false)
+      | else-is_none w ↦ c.if-scan_done.false ∙ unready_logs (collection_in c.args.self.now) (graph_in c.args.heap.now) c.next_log.result c.next_log.ensures w.if-is_none.ensures
     ]

@@ -1,0 +1,111 @@
+-- What a heap and its collection show to the checker, and what commands leave of them.
+use Rattle.std.proofs.Common.{◌≡◌, ◌⊎◌, ⊎_elim, inl, inr, ℕ, ◌+◌, ◌-◌, ◌<◌, ◌≤◌, Bool, true, false, List, [], ◌∷◌, ◌++◌, map, flat_map, length, Option, Some, None, is_some, refl, ap, sym, ◌∙◌, subst, arith}
+use Rattle.std.specs.Prelude.{IsTrue, IsFalse}
+use Rattle.std.specs.Option.{option_map}
+use Rattle.std.proofs.lemmas.Bool.{cases_Bool, cases_eq}
+use Rattle.gc_graph.specs.Graph.{Value, Nil, Num, Ref, Object, Graph, lookup}
+use Rattle.gc_graph.specs.Machine.{Roomy, roomy_step}
+use Rattle.gc_graph.specs.declared.command.Op.{Op}
+use Rattle.gc_graph.specs.declared.reply.Reply.{Reply}
+use Rattle.gc_words.specs.Word.{word_of, value_of}
+use Rattle.gc_words.specs.Image.{Block, Image, blocks, block_at, is_start, objects_of, object_of_block}
+use Rattle.gc_words.specs.Spelling.{block_words, spelled, link_at}
+use Rattle.gc_words.specs.Space.{SpaceWords, IsSpace, end_of, free_in, image_with}
+use Rattle.gc_words.specs.Certificate.{Certified}
+use Rattle.gc_words.proofs.Graphs.{object_found}
+use Rattle.gc_heap.specs.Heap.{HeapWords, IsHeap, KeepsLinks, image_of, graph_in, roomy_in}
+use Rattle.gc_copy.specs.State.{Replica, Collection, new_objects, new_graph, pairs_of, replica_of, replica_at}
+use Rattle.gc_copy.specs.Linked.{block_entry, place_or_zero, original_or_zero, old_links, new_links, linked_image, old_image, new_image}
+use Rattle.gc_copy.specs.Steps.{written, is_ready}
+use Rattle.gc_copy.specs.Members.{In}
+use Rattle.gc_copy.specs.Belonging.{IsDue, Belongs, BelongsBut}
+use Rattle.gc_copy.specs.Words.{CollectionWords, IsCollection, replica_entry, replicas_in, collection_in, open_state, LinksReplicas, BelongsTo, BelongsToBut, new_root_words}
+use Rattle.gc_copy.proofs.Lists.{in_map}
+use Rattle.gc_copy.proofs.Replicas.{replica_in, replicas_due}
+use Rattle.gc_copy.proofs.Steps.{its_replicas, belongs_from, ready_parts}
+use Rattle.gc_copy.proofs.Links.{found_by_place}
+use Rattle.gc_copy.proofs.Kept.{command_kept}
+use Rattle.gc_copy.proofs.Flips.{certified}
+use Rattle.gc_copy.proofs.Words.{heap_graph, heap_image, space_blocks, space_spelled, words_back}
+use Rattle.gc_copy.proofs.Spaces.{in_start, new_objects_are}
+
+-- ---- links
+
+-- the same words, where the links of all objects are the same
+spelled_agree : (links others : ℕ → ℕ) (bs : List (ℕ × Block)) → ((e : ℕ × Block) → In e bs → links e.0 ≡ others e.0) → flat_map (λ e. block_words (links e.0) e.1) bs ≡ flat_map (λ (e : ℕ × Block). block_words (others e.0) e.1) bs
+spelled_agree links others [] h = refl
+spelled_agree links others (e ∷ bs) h =
+    let here = h e (inl refl) in
+    let rest = spelled_agree links others bs (λ d k. h d (inr k)) in
+    λ i. block_words (here i) e.1 ++ rest i
+
+-- a space with its links told
+links_told : (space : SpaceWords) (links : ℕ → ℕ) → IsSpace space → ((e : ℕ × Block) → In e (blocks space.words) → link_at space.words e.0 ≡ links e.0) → space.words ≡ spelled links (map block_entry (objects_of space.words))
+links_told space links is told =
+    let same = space_blocks space is in
+    space_spelled space is
+    ∙ ap (spelled (link_at space.words)) same
+    ∙ ap (λ ws. 0 ∷ ws) (spelled_agree (link_at space.words) links (blocks space.words) told)
+    ∙ ap (spelled links) (sym same)
+
+pub old_shown : (heap : HeapWords) (c : CollectionWords) → IsHeap heap → BelongsTo heap c → image_of heap ≡ old_image (open_state heap c) (collection_in c)
+old_shown heap c is k =
+    let all = links_told heap.space (old_links (collection_in c)) is.space (λ e l. k.links e.0 (in_start heap.space.words e l)) in
+    let rs = words_back heap.roots in
+    λ i. record { size = heap.space.size; end = length (all i); words = all i; roots = sym rs i }
+
+pub new_shown : (heap : HeapWords) (c : CollectionWords) → IsCollection c → BelongsTo heap c → image_with c.space (new_root_words heap (collection_in c)) ≡ new_image (open_state heap c) (collection_in c)
+new_shown heap c is k =
+    let told : (e : ℕ × Block) → In e (blocks c.space.words) → link_at c.space.words e.0 ≡ new_links (collection_in c) e.0
+    = λ e l. sym (ap original_or_zero (found_by_place (IsDue (collection_in c)) (graph_in heap).objects (collection_in c) k.belongs (replica_entry c.space.words e) (in_map (replica_entry c.space.words) e (blocks c.space.words) l))) in
+    let all = links_told c.space (new_links (collection_in c)) is.space told ∙ ap (λ os. spelled (new_links (collection_in c)) (map block_entry os)) (sym (new_objects_are c)) in
+    λ i. record { size = c.space.size; end = length (all i); words = all i; roots = new_root_words heap (collection_in c) }
+
+pub shown_certified : (heap : HeapWords) (c : CollectionWords) → IsHeap heap → IsCollection c → BelongsTo heap c → is_ready (collection_in c) (graph_in heap) ≡ true
+    → Certified (image_of heap) (image_with c.space (new_root_words heap (collection_in c))) (pairs_of (collection_in c))
+shown_certified heap c heap_is is k ready =
+    subst (λ x. Certified x (image_with c.space (new_root_words heap (collection_in c))) (pairs_of (collection_in c))) (sym (old_shown heap c heap_is k))
+    (subst (λ x. Certified (old_image (open_state heap c) (collection_in c)) x (pairs_of (collection_in c))) (sym (new_shown heap c is k))
+    (certified (old_links (collection_in c)) (new_links (collection_in c)) heap.space.size (free_in heap.space) (graph_in heap) (collection_in c) (heap_graph heap heap_is) k.belongs (is.space).size_high (ready_parts (collection_in c) (graph_in heap) ready)))
+
+-- ---- commands
+
+-- what is no object has no replica
+no_link : (heap : HeapWords) (c : CollectionWords) (a : ℕ) → BelongsTo heap c → is_start heap.space.words a ≡ false → old_links (collection_in c) a ≡ 0
+no_link heap c a k none = from (replica_of (collection_in c) a) refl
+  where
+    from : (o : Option Replica) → replica_of (collection_in c) a ≡ o → place_or_zero o ≡ 0
+    from None e = refl
+    from (Some r) e =
+        let l = replica_in (collection_in c) a r e in
+        let ok = (k.belongs).replicas r l.0 in
+        let found : lookup (graph_in heap).objects a ≡ Some ok.original = subst (λ n. lookup (graph_in heap).objects n ≡ Some ok.original) l.1 ok.found in
+        let gone : lookup (graph_in heap).objects a ≡ None = object_found heap.space.words a ∙ ap (option_map object_of_block) (absent (block_at heap.space.words a) none) in
+        absurd (let no : None ≡ Some ok.original = sym gone ∙ found in cc)
+      where
+        absent : (o : Option Block) → is_some o ≡ false → o ≡ None
+        absent None e = refl
+        absent (Some b) e = absurd (let no : true ≡ false = e in cc)
+
+links_kept : (heap new : HeapWords) (c : CollectionWords) → BelongsTo heap c → KeepsLinks heap.space.words new.space.words → LinksReplicas new (collection_in c)
+links_kept heap new c k kept a there = ⊎_elim
+    (λ t. kept.kept a t ∙ k.links a t)
+    (λ f. kept.fresh a f there ∙ sym (no_link heap c a k f))
+    (cases_Bool (is_start heap.space.words a))
+
+pub command_leaves : (heap new : HeapWords) (c : CollectionWords) (m : ℕ) (op : Op) (reply : Reply) → BelongsTo heap c → KeepsLinks heap.space.words new.space.words → new.mutators ≡ heap.mutators
+    → roomy_step (roomy_in heap) m op (end_of heap.space) ≡ (reply, roomy_in new) → BelongsToBut (written (graph_in heap) m op reply) new c
+command_leaves heap new c m op reply k kept mutators step = record {
+  belongs = subst (λ (x : Reply × Roomy). BelongsBut (λ a i. In (a, i) (written (graph_in heap) m op x.0)) x.1.graph.objects (collection_in c)) step (command_kept (roomy_in heap) (collection_in c) m op (end_of heap.space) k.belongs);
+  links = links_kept heap new c k kept;
+  logs = k.logs ∙ sym mutators;
+}
+
+-- where nothing was written, nothing differs
+pub nothing_left : (heap : HeapWords) (c : CollectionWords) → BelongsToBut [] heap c → BelongsTo heap c
+nothing_left heap c k = record { belongs = same; links = k.links; logs = k.logs }
+  where
+    same : Belongs (graph_in heap).objects (collection_in c)
+    same = belongs_from (IsDue (collection_in c)) (graph_in heap).objects (collection_in c)
+        (replicas_due (graph_in heap).objects c.space.size _ (IsDue (collection_in c)) (collection_in c).replicas (its_replicas _ (graph_in heap).objects (collection_in c) k.belongs) (λ r l i w d. ⊎_elim (λ x. x) (λ x. absurd x) d))
+        (k.belongs).scan (k.belongs).entries
