@@ -23,3 +23,4 @@ pub mod Applying
 pub mod ObjectWalks
 pub mod Flipping
 pub mod Shown
+pub mod Mutating

@@ -2,6 +2,7 @@ mod beginning;
 mod copying;
 mod flipping;
 mod logging;
+mod mutating;
 mod roots;
 mod stepping;
 

@@ -16,3 +16,6 @@ pub use laws::{
     scans_and_pairs_are_bounded, states_are_kept, steps_keep_belonging, worked_rows,
 };
 pub use step::{Step, StepReply};
+
+#[cfg(test)]
+mod tests;

@@ -48,7 +48,7 @@ impl Collection {
         ensures roots { result.1.items ≡ heap.old.roots }
         ensures sound { IsHeap heap.new }
     {
-        // Here the prover learns that the heap is one.
+        // Here the prover learns that the heap is sound.
         let _ = heap.space();
         let Collection { mut space, .. } = self;
         space.clear_links();
@@ -63,7 +63,7 @@ impl Collection {
         ensures links { HasNoLinks heap.new }
         ensures sound { IsHeap heap.new }
     {
-        // Here the prover learns that the heap is one.
+        // Here the prover learns that the heap is sound.
         let _ = heap.space();
         heap.clear_links();
     }

@@ -1,11 +1,15 @@
-ghost use Rattle.std.specs.Prelude.{◌≡◌, ◌<◌, length};
-ghost use Rattle.gc_heap.specs.Heap.{graph_in};
+ghost use Rattle.std.specs.Prelude.{IsTrue, ◌≡◌, ◌<◌, length};
+ghost use Rattle.gc_words.specs.Space.{image_with};
+ghost use Rattle.gc_words.specs.Certificate.{Certified};
+ghost use Rattle.gc_heap.specs.Heap.{image_of, graph_in};
+ghost use Rattle.gc_copy.specs.State.{pairs_of};
 ghost use Rattle.gc_copy.specs.Steps.{collect, scan_done as scan_done_in, is_ready};
-ghost use Rattle.gc_copy.specs.Words.{collection_in, open_state, BelongsTo};
+ghost use Rattle.gc_copy.specs.Words.{collection_in, open_state, BelongsTo, new_root_words};
 ghost use Rattle.gc_copy.specs.declared.step.Step.{Step};
 
 use super::Collection;
 use super::copying::NoRoom;
+use crate::laws::images_show_links;
 use crate::step::StepReply;
 use gc_heap::Heap;
 use gc_words::{Addr, NewAddr, OldAddr};
@@ -86,8 +90,16 @@ impl Collection {
     /// replica.
     pub fn ready(&self, heap: &Heap) -> bool
         requires { BelongsTo heap.now self.now }
-        ensures { result ≡ is_ready (collection_in self.now) (graph_in heap.now) }
+        ensures ready { result ≡ is_ready (collection_in self.now) (graph_in heap.now) }
+        // So its flip will pass the checker.
+        ensures certified { IsTrue result → Certified (image_of heap.now)
+            (image_with self.now.space (new_root_words heap.now (collection_in self.now)))
+            (pairs_of (collection_in self.now)) }
     {
+        images_show_links();
+        // Here the prover learns that the heap and the collection are sound.
+        let _ = heap.space();
+        let _ = &self.space;
         self.next_log().is_none() && self.scan_done() && self.roots_done(heap)
     }
 }

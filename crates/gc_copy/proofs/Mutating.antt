@@ -1,0 +1,90 @@
+-- A mutator's command with its write barrier, as the code makes it.
+use Rattle.std.proofs.Common.{◌≡◌, ◌≢◌, ⊎_elim, inl, inr, ℕ, zero, suc, ◌+◌, ◌-◌, ◌<◌, ◌≤◌, Bool, true, false, List, [], ◌∷◌, ◌++◌, map, length, Option, Some, None, refl, ap, sym, ◌∙◌, subst, arith, append-nil}
+use Rattle.std.specs.Prelude.{slice_get, slice_set}
+use Rattle.std.specs.Option.{option_map, option_to_list}
+use Rattle.std.proofs.lemmas.List.{length-map}
+use Rattle.gc_graph.specs.Machine.{Roomy, roomy_step}
+use Rattle.gc_graph.specs.Graph.{Graph, names_of, root}
+use Rattle.gc_graph.specs.Slots.{place}
+use Rattle.gc_graph.specs.declared.command.Op.{Op}
+use Rattle.gc_graph.specs.declared.command.Op.TheVariants as ops
+use Rattle.gc_graph.specs.declared.reply.Reply.{Reply}
+use Rattle.gc_graph.specs.declared.reply.Reply.TheVariants as replies
+use Rattle.gc_words.specs.Space.{IsSpace, end_of}
+use Rattle.gc_heap.specs.Heap.{HeapWords, IsHeap, KeepsLinks, graph_in, roomy_in}
+use Rattle.gc_copy.specs.State.{Collection, State}
+use Rattle.gc_copy.specs.Steps.{log_or_nil, log_at, with_log, written, mutate}
+use Rattle.gc_graph.specs.Slots.{SlotName}
+use Rattle.gc_copy.specs.Entries.{if_done}
+use Rattle.gc_copy.specs.Members.{In}
+use Rattle.gc_copy.specs.Belonging.{HasField}
+use Rattle.gc_copy.specs.Words.{Log, CollectionWords, entries_of, collection_in, open_state, BelongsTo, BelongsToBut}
+use Rattle.gc_copy.proofs.Kept.{field_there}
+use Rattle.gc_copy.proofs.Shown.{command_leaves, nothing_left}
+
+-- a log with nothing more is as it was
+set_kept : (logs : List (List (ℕ × ℕ))) (m : ℕ) → slice_set logs m (log_or_nil (slice_get logs m) ++ []) ≡ logs
+set_kept [] m = refl
+set_kept (l ∷ logs) zero = let same = append-nil l in λ i. same i ∷ logs
+set_kept (l ∷ logs) (suc m) = let rest = set_kept logs m in λ i. l ∷ rest i
+
+pub nothing_noted : (c : Collection) (m : ℕ) → with_log c m (log_at c m ++ []) ≡ c
+nothing_noted c m = let logs = set_kept c.logs m in λ i. record c { logs = logs i }
+
+pub mutate_is : (heap new : HeapWords) (c next : CollectionWords) (m : ℕ) (op : Op) (reply : Reply) (entries : List (ℕ × ℕ)) → IsHeap heap → new.space.size ≡ heap.space.size → new.mutators ≡ heap.mutators
+    → roomy_step (roomy_in heap) m op (end_of heap.space) ≡ (reply, roomy_in new) → written (graph_in heap) m op reply ≡ entries → collection_in next ≡ with_log (collection_in c) m (log_at (collection_in c) m ++ entries)
+    → mutate (open_state heap c) m op ≡ (reply, open_state new next)
+mutate_is heap new c next m op reply entries is size mutators step wrote noted =
+    let end : heap.space.size - (heap.space.size - end_of heap.space) ≡ end_of heap.space = (let high = (is.space).end_high in omega arith) in
+    let steps : roomy_step (roomy_in heap) m op (heap.space.size - (heap.space.size - end_of heap.space)) ≡ (reply, roomy_in new) = ap (roomy_step (roomy_in heap) m op) end ∙ step in
+    let left : Reply × Roomy → Reply × State = λ x. (x.0, record (open_state heap c) { heap = x.1; collection = Some (with_log (collection_in c) m (log_at (collection_in c) m ++ written (graph_in heap) m op x.0)) }) in
+    ap left steps
+    ∙ (λ i. (reply, record { mutators = sym mutators i; size = sym size i; heap = roomy_in new; collection = Some (with_log (collection_in c) m (log_at (collection_in c) m ++ wrote i)) }))
+    ∙ ap (λ d. (reply, record { mutators = new.mutators; size = new.space.size; heap = roomy_in new; collection = Some d })) (sym noted)
+
+-- only a put that is done writes
+nothing_put : (g : Graph) (m : ℕ) (s t : SlotName) (i : ℕ) (reply : Reply) → reply ≢ replies.Done → written g m (ops.Put s i t) reply ≡ []
+nothing_put g m s t i replies.Done other = absurd (other refl)
+nothing_put g m s t i replies.Full other = refl
+nothing_put g m s t i replies.Made other = refl
+nothing_put g m s t i replies.NoObject other = refl
+nothing_put g m s t i replies.NoField other = refl
+nothing_put g m s t i (replies.Saw view) other = refl
+nothing_put g m s t i replies.Yes other = refl
+nothing_put g m s t i replies.No other = refl
+
+nothing : (g : Graph) (m : ℕ) (op : Op) (reply : Reply) → reply ≢ replies.Done → written g m op reply ≡ []
+nothing g m (ops.New d kind len) reply other = refl
+nothing g m (ops.Num d n) reply other = refl
+nothing g m (ops.Nil d) reply other = refl
+nothing g m (ops.Move d s) reply other = refl
+nothing g m (ops.Get d s i) reply other = refl
+nothing g m (ops.Put s i t) reply other = nothing_put g m s t i reply other
+nothing g m (ops.Same s t) reply other = refl
+nothing g m (ops.Look s) reply other = refl
+
+wrote_by_reply : (g : Graph) (m : ℕ) (op : Op) (reply : Reply) (o : Option (ℕ × ℕ)) → option_to_list o ≡ written g m op replies.Done → written g m op reply ≡ option_to_list (if_done reply o)
+wrote_by_reply g m op replies.Done o e = sym e
+wrote_by_reply g m op replies.Full o e = nothing g m op replies.Full (λ no. cc no)
+wrote_by_reply g m op replies.Made o e = nothing g m op replies.Made (λ no. cc no)
+wrote_by_reply g m op replies.NoObject o e = nothing g m op replies.NoObject (λ no. cc no)
+wrote_by_reply g m op replies.NoField o e = nothing g m op replies.NoField (λ no. cc no)
+wrote_by_reply g m op (replies.Saw view) o e = nothing g m op (replies.Saw view) (λ no. cc no)
+wrote_by_reply g m op replies.Yes o e = nothing g m op replies.Yes (λ no. cc no)
+wrote_by_reply g m op replies.No o e = nothing g m op replies.No (λ no. cc no)
+
+-- the entries, from what the code found of the put and of the answer
+pub wrote : (g : Graph) (m : ℕ) (op : Op) (reply : Reply) (put found : Option (ℕ × ℕ)) → option_to_list put ≡ written g m op replies.Done → found ≡ if_done reply put → written g m op reply ≡ option_to_list found
+wrote g m op reply put found e f = wrote_by_reply g m op reply put e ∙ ap option_to_list (sym f)
+
+pub nothing_belongs : (heap new : HeapWords) (c : CollectionWords) (m : ℕ) (op : Op) (reply : Reply) → BelongsTo heap c → KeepsLinks heap.space.words new.space.words → new.mutators ≡ heap.mutators
+    → roomy_step (roomy_in heap) m op (end_of heap.space) ≡ (reply, roomy_in new) → written (graph_in heap) m op reply ≡ [] → BelongsTo new c
+nothing_belongs heap new c m op reply k links mutators step none = nothing_left new c (subst (λ es. BelongsToBut es new c) none (command_leaves heap new c m op reply k links mutators step))
+
+pub one_but : (heap new : HeapWords) (c : CollectionWords) (m : ℕ) (op : Op) (reply : Reply) (a f : ℕ) → BelongsTo heap c → KeepsLinks heap.space.words new.space.words → new.mutators ≡ heap.mutators
+    → roomy_step (roomy_in heap) m op (end_of heap.space) ≡ (reply, roomy_in new) → written (graph_in heap) m op reply ≡ (a, f) ∷ [] → BelongsToBut ((a, f) ∷ []) new c × HasField (graph_in new).objects a f
+one_but heap new c m op reply a f k links mutators step one = (
+  subst (λ es. BelongsToBut es new c) one (command_leaves heap new c m op reply k links mutators step),
+  subst (λ (x : Reply × Roomy). In {X = ℕ × ℕ} (a, f) (written (graph_in heap) m op x.0) → HasField x.1.graph.objects a f) step (field_there (roomy_in heap) m op (end_of heap.space) a f)
+      (subst (In {X = ℕ × ℕ} (a, f)) (sym one) (inl refl)),
+)

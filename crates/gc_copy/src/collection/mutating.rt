@@ -1,0 +1,59 @@
+ghost use Rattle.std.specs.Prelude.{◌≡◌, ◌<◌, ◌≤◌, map};
+ghost use Rattle.std.specs.Option.{option_map, option_to_list};
+ghost use Rattle.gc_heap.specs.Heap.{graph_in};
+ghost use Rattle.gc_copy.specs.Steps.{mutate, written};
+ghost use Rattle.gc_copy.specs.Entries.{entry_in, if_done};
+ghost use Rattle.gc_copy.specs.Words.{open_state, spare_of, BelongsTo};
+ghost use Rattle.gc_graph.specs.declared.reply.Reply.{Reply};
+
+use super::Collection;
+use crate::log::LogEntry;
+use gc_graph::{Op, Reply};
+use gc_heap::Heap;
+
+impl Collection {
+    /// Makes mutator m's command and notes the field that it wrote, where it wrote one: the write barrier. `reserve`
+    /// has made the room.
+    pub fn mutate(&mut self, heap: &mut Heap, m: u8, op: &Op) -> Reply
+        requires belongs { BelongsTo heap.old self.old }
+        requires mutator { m < heap.old.mutators }
+        requires room { 1 ≤ spare_of self.old m }
+        ensures step { mutate (open_state heap.old self.old) m op.now ≡ (result, open_state heap.new self.new) }
+        ensures belongs { BelongsTo heap.new self.new }
+        ensures mutators { heap.new.mutators ≡ heap.old.mutators }
+    {
+        // Here the prover learns that the heap is sound.
+        let _ = heap.space();
+        let put = put_field(heap, m, op);
+        let reply = heap.apply(m, op);
+        let Some(entry) = written_field(put, &reply) else {
+            return reply;
+        };
+        self.note(m, entry.object, entry.field);
+        reply
+    }
+}
+
+// The field that the command writes, if it is answered `Done`.
+fn put_field(heap: &Heap, m: u8, op: &Op) -> Option<LogEntry>
+    requires { m < heap.now.mutators }
+    ensures { option_to_list (option_map entry_in result) ≡ written (graph_in heap.now) m op.now Reply.Done }
+{
+    match *op {
+        Op::Put { s, i, t: _ } => Some(LogEntry {
+            object: heap.target(m, s)?,
+            field: i,
+        }),
+        _ => None,
+    }
+}
+
+// What was written, by the answer.
+fn written_field(put: Option<LogEntry>, reply: &Reply) -> Option<LogEntry>
+    ensures { option_map entry_in result ≡ if_done reply.now (option_map entry_in put) }
+{
+    match reply {
+        Reply::Done => put,
+        _ => None,
+    }
+}
