@@ -19,7 +19,7 @@ use Rattle.gc_copy.specs.Linked.{block_entry, place_or_zero, original_or_zero, o
 use Rattle.gc_copy.specs.Steps.{written, is_ready}
 use Rattle.gc_copy.specs.Members.{In}
 use Rattle.gc_copy.specs.Belonging.{IsDue, Belongs, BelongsBut}
-use Rattle.gc_copy.specs.Words.{CollectionWords, IsCollection, replica_entry, replicas_in, collection_in, open_state, LinksReplicas, BelongsTo, BelongsToBut, new_root_words}
+use Rattle.gc_copy.specs.Words.{CollectionWords, IsCollection, replica_entry, replicas_in, collection_in, open_state, LinksReplicas, BelongsTo, BelongsToBut, HasNoLinks, new_root_words}
 use Rattle.gc_copy.proofs.Lists.{in_map}
 use Rattle.gc_copy.proofs.Replicas.{replica_in, replicas_due}
 use Rattle.gc_copy.proofs.Steps.{its_replicas, belongs_from, ready_parts}
@@ -109,3 +109,7 @@ nothing_left heap c k = record { belongs = same; links = k.links; logs = k.logs 
     same = belongs_from (IsDue (collection_in c)) (graph_in heap).objects (collection_in c)
         (replicas_due (graph_in heap).objects c.space.size _ (IsDue (collection_in c)) (collection_in c).replicas (its_replicas _ (graph_in heap).objects (collection_in c) k.belongs) (λ r l i w d. ⊎_elim (λ x. x) (λ x. absurd x) d))
         (k.belongs).scan (k.belongs).entries
+
+-- no link comes from a command
+pub no_links_kept : (heap new : HeapWords) → HasNoLinks heap → KeepsLinks heap.space.words new.space.words → HasNoLinks new
+no_links_kept heap new none kept a there = ⊎_elim (λ t. kept.kept a t ∙ none a t) (λ f. kept.fresh a f there) (cases_Bool (is_start heap.space.words a))

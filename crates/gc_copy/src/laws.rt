@@ -11,7 +11,7 @@ ghost use Rattle.gc_words.specs.Spelling.{link_at};
 ghost use Rattle.gc_words.specs.Space.{free_in, end_of, image_with};
 ghost use Rattle.gc_words.specs.Certificate.{Certified};
 ghost use Rattle.gc_heap.specs.Heap.{HeapWords, IsHeap, KeepsLinks, image_of, graph_in, roomy_in};
-ghost use Rattle.gc_copy.specs.Words.{CollectionWords, IsCollection, BelongsTo, BelongsToBut, collection_in, open_state, new_root_words};
+ghost use Rattle.gc_copy.specs.Words.{CollectionWords, IsCollection, BelongsTo, BelongsToBut, HasNoLinks, collection_in, open_state, new_root_words};
 ghost use Rattle.gc_graph.specs.declared.reply.Reply.{Reply};
 ghost use Rattle.gc_copy.specs.State.{Replica, Collection, State, opening_state, new_objects, new_free, pairs_of, replica_of, replica_at, moved, new_graph};
 ghost use Rattle.gc_copy.specs.Linked.{linked_image, old_links, new_links, old_image, new_image};
@@ -188,4 +188,7 @@ pub fn commands_keep_collections()
         → BelongsToBut (written (graph_in heap) m op reply) new c }
     ensures none { (heap : HeapWords) (c : CollectionWords)
         → BelongsToBut [] heap c → BelongsTo heap c }
+    // While no collection is open no object has a link.
+    ensures idle { (heap new : HeapWords)
+        → HasNoLinks heap → KeepsLinks heap.space.words new.space.words → HasNoLinks new }
 {}

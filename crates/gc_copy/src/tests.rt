@@ -1,11 +1,35 @@
 ghost use Rattle.std.specs.Prelude.{◌≡◌, ◌<◌, ◌≤◌, length, IfOk};
-ghost use Rattle.gc_copy.specs.Words.{BelongsTo};
+ghost use Rattle.gc_copy.specs.Words.{BelongsTo, HasNoLinks};
 
-use crate::{Collection, StepReply};
+use crate::{Collection, StepReply, commands_keep_collections};
 use gc_graph::{NoMemory, Number, Op, Reply, Slot, View};
 use gc_heap::Heap;
 use gc_words::{NewAddr, OldAddr, Pair};
+use std::alloc::Global;
 use std::test::Fail;
+
+/// Makes mutator m's command while no collection is open.
+fn command(heap: &mut Heap, m: u8, op: &Op) -> Reply
+    requires mutator { m < heap.old.mutators }
+    requires idle { HasNoLinks heap.old }
+    ensures idle { HasNoLinks heap.new }
+    ensures mutators { heap.new.mutators ≡ heap.old.mutators }
+{
+    commands_keep_collections();
+    heap.apply(m, op)
+}
+
+/// A heap without objects.
+fn empty(alloc: Global, size: u32, mutators: u8) -> Result<Heap, NoMemory>
+    requires low { 1 ≤ size }
+    requires high { size ≤ 1048576 }
+    requires some { 1 ≤ mutators }
+    requires few { mutators ≤ 16 }
+    ensures idle { IfOk result HasNoLinks }
+    ensures mutators { IfOk result (λ heap. heap.mutators ≡ mutators) }
+{
+    Heap::new(alloc, size, mutators)
+}
 
 /// Makes mutator m's command while the collection is open.
 fn mutate(collection: &mut Collection, heap: &mut Heap, m: u8, op: &Op) -> Result<Reply, NoMemory>
@@ -43,7 +67,7 @@ fn write_while_scanning(rt: HostRuntime) -> Result<(), Fail> {
     let r1 = Slot::own(1).ok_or("slot")?;
     let r2 = Slot::own(2).ok_or("slot")?;
     let nine = Number::new(9).ok_or("number")?;
-    let mut heap = Heap::new(rt.alloc(), 32, 1)?;
+    let mut heap = empty(rt.alloc(), 32, 1)?;
     assert_eq!(rt;
         heap.apply(
             0,
@@ -55,7 +79,10 @@ fn write_while_scanning(rt: HostRuntime) -> Result<(), Fail> {
         ),
         Reply::Made
     );
-    assert_eq!(rt; heap.apply(0, &Op::Num { d: r1, n: nine }), Reply::Done);
+    assert_eq!(rt;
+        command(&mut heap, 0, &Op::Num { d: r1, n: nine }),
+        Reply::Done
+    );
     let mut collection = Collection::begin(rt.alloc(), &heap)?;
     assert_eq!(rt; collection.roots(&mut heap), StepReply::Copied);
     assert_eq!(rt; collection.scan(&mut heap), StepReply::Scanned);
@@ -77,5 +104,165 @@ fn write_while_scanning(rt: HostRuntime) -> Result<(), Fail> {
     assert_eq!(rt; roots[16], 2);
     let get = Op::Get { d: r2, s: r0, i: 0 };
     assert_eq!(rt; heap.apply(0, &get), Reply::Saw(View::Num(nine)));
+    Ok(())
+}
+
+#[test]
+fn log_across_two_mutators(rt: HostRuntime) -> Result<(), Fail> {
+    let g0 = Slot::shared(0).ok_or("slot")?;
+    let r0 = Slot::own(0).ok_or("slot")?;
+    let r1 = Slot::own(1).ok_or("slot")?;
+    let seven = Number::new(7).ok_or("number")?;
+    let eight = Number::new(8).ok_or("number")?;
+    let mut heap = empty(rt.alloc(), 32, 2)?;
+    assert_eq!(rt;
+        command(
+            &mut heap,
+            0,
+            &Op::New {
+                d: g0,
+                kind: 1,
+                len: 1
+            }
+        ),
+        Reply::Made
+    );
+    let mut collection = Collection::begin(rt.alloc(), &heap)?;
+    assert_eq!(rt; collection.roots(&mut heap), StepReply::Copied);
+    assert_eq!(rt; collection.scan(&mut heap), StepReply::Scanned);
+    assert_eq!(rt; collection.scan(&mut heap), StepReply::Passed);
+    let put = Op::Put { s: g0, i: 0, t: r0 };
+    let num = Op::Num { d: r0, n: seven };
+    assert_eq!(rt; mutate(&mut collection, &mut heap, 0, &num)?, Reply::Done);
+    assert_eq!(rt; mutate(&mut collection, &mut heap, 0, &put)?, Reply::Done);
+    let look = Op::Look { s: r0 };
+    assert_eq!(rt;
+        mutate(&mut collection, &mut heap, 1, &look)?,
+        Reply::Saw(View::Nil)
+    );
+    let num = Op::Num { d: r0, n: eight };
+    assert_eq!(rt; mutate(&mut collection, &mut heap, 1, &num)?, Reply::Done);
+    assert_eq!(rt; mutate(&mut collection, &mut heap, 1, &put)?, Reply::Done);
+    assert_eq!(rt; collection.next_log(), Some(0));
+    // The later write is applied first, and the earlier one does not undo it.
+    assert_eq!(rt; collection.apply_log(1, &mut heap), StepReply::Applied);
+    assert_eq!(rt; collection.apply_log(0, &mut heap), StepReply::Applied);
+    assert_eq!(rt; collection.apply_log(0, &mut heap), StepReply::Clean);
+    assert_eq!(rt; collection.next_log(), None);
+    let (pairs, _roots) = flip(rt.alloc(), collection, &mut heap)?;
+    assert_eq!(rt; pairs.len(), 1);
+    let get = Op::Get { d: r1, s: g0, i: 0 };
+    assert_eq!(rt; heap.apply(0, &get), Reply::Saw(View::Num(eight)));
+    Ok(())
+}
+
+#[test]
+fn link_left_over(rt: HostRuntime) -> Result<(), Fail> {
+    let r0 = Slot::own(0).ok_or("slot")?;
+    let mut heap = empty(rt.alloc(), 16, 1)?;
+    assert_eq!(rt;
+        command(
+            &mut heap,
+            0,
+            &Op::New {
+                d: r0,
+                kind: 2,
+                len: 1
+            }
+        ),
+        Reply::Made
+    );
+    let mut given_up = Collection::begin(rt.alloc(), &heap)?;
+    assert_eq!(rt; given_up.roots(&mut heap), StepReply::Copied);
+    let put = Op::Put { s: r0, i: 0, t: r0 };
+    assert_eq!(rt; mutate(&mut given_up, &mut heap, 0, &put)?, Reply::Done);
+    given_up.drop_into(&mut heap);
+    let mut collection = Collection::begin(rt.alloc(), &heap)?;
+    assert_eq!(rt; collection.apply_log(0, &mut heap), StepReply::Clean);
+    assert_eq!(rt; collection.roots(&mut heap), StepReply::Copied);
+    assert!(rt; collection.roots_done(&heap));
+    assert!(rt; !collection.scan_done());
+    assert_eq!(rt; collection.scan(&mut heap), StepReply::Scanned);
+    assert_eq!(rt; collection.scan(&mut heap), StepReply::Passed);
+    assert!(rt; collection.scan_done());
+    let (pairs, roots) = flip(rt.alloc(), collection, &mut heap)?;
+    assert_eq!(rt; pairs.len(), 1);
+    assert_eq!(rt; roots[16], 2);
+    Ok(())
+}
+
+#[test]
+fn entry_stays_without_room(rt: HostRuntime) -> Result<(), Fail> {
+    let r0 = Slot::own(0).ok_or("slot")?;
+    let r1 = Slot::own(1).ok_or("slot")?;
+    let mut heap = empty(rt.alloc(), 16, 1)?;
+    assert_eq!(rt;
+        command(
+            &mut heap,
+            0,
+            &Op::New {
+                d: r0,
+                kind: 1,
+                len: 1
+            }
+        ),
+        Reply::Made
+    );
+    let mut collection = Collection::begin_sized(rt.alloc(), &heap, 5)?;
+    assert_eq!(rt; collection.roots(&mut heap), StepReply::Copied);
+    assert_eq!(rt; collection.scan(&mut heap), StepReply::Scanned);
+    assert_eq!(rt; collection.scan(&mut heap), StepReply::Passed);
+    let new = Op::New {
+        d: r1,
+        kind: 2,
+        len: 0,
+    };
+    let put = Op::Put { s: r0, i: 0, t: r1 };
+    assert_eq!(rt; mutate(&mut collection, &mut heap, 0, &new)?, Reply::Made);
+    assert_eq!(rt; mutate(&mut collection, &mut heap, 0, &put)?, Reply::Done);
+    assert_eq!(rt; collection.apply_log(0, &mut heap), StepReply::NoRoom);
+    assert_eq!(rt; collection.apply_log(0, &mut heap), StepReply::NoRoom);
+    let nil = Op::Nil { d: r1 };
+    assert_eq!(rt; mutate(&mut collection, &mut heap, 0, &nil)?, Reply::Done);
+    assert_eq!(rt; mutate(&mut collection, &mut heap, 0, &put)?, Reply::Done);
+    assert_eq!(rt; collection.apply_log(0, &mut heap), StepReply::Applied);
+    assert_eq!(rt; collection.apply_log(0, &mut heap), StepReply::Applied);
+    assert_eq!(rt; collection.apply_log(0, &mut heap), StepReply::Clean);
+    let (pairs, _roots) = flip(rt.alloc(), collection, &mut heap)?;
+    assert_eq!(rt; pairs.len(), 1);
+    // The mutators' space has the new size.
+    assert_eq!(rt; heap.space().size(), 5);
+    Ok(())
+}
+
+#[test]
+fn too_small_for_a_replica(rt: HostRuntime) -> Result<(), Fail> {
+    let r0 = Slot::own(0).ok_or("slot")?;
+    let mut heap = empty(rt.alloc(), 7, 1)?;
+    assert_eq!(rt;
+        command(
+            &mut heap,
+            0,
+            &Op::New {
+                d: r0,
+                kind: 3,
+                len: 4
+            }
+        ),
+        Reply::Made
+    );
+    let mut small = Collection::begin_sized(rt.alloc(), &heap, 6)?;
+    assert_eq!(rt; small.roots(&mut heap), StepReply::NoRoom);
+    assert!(rt; !small.ready(&heap));
+    small.drop_into(&mut heap);
+    let mut collection = Collection::begin_sized(rt.alloc(), &heap, 12)?;
+    assert_eq!(rt; collection.roots(&mut heap), StepReply::Copied);
+    for _ in 0..4u8 {
+        assert_eq!(rt; collection.scan(&mut heap), StepReply::Scanned);
+    }
+    assert_eq!(rt; collection.scan(&mut heap), StepReply::Passed);
+    let (pairs, _roots) = flip(rt.alloc(), collection, &mut heap)?;
+    assert_eq!(rt; pairs.len(), 1);
+    assert_eq!(rt; heap.space().free(), 5);
     Ok(())
 }

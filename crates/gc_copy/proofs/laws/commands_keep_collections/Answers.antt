@@ -1,5 +1,5 @@
-use Rattle.gc_copy.proofs.Shown.{command_leaves, nothing_left}
+use Rattle.gc_copy.proofs.Shown.{command_leaves, nothing_left, no_links_kept}
 use Rattle.gc_copy.proofs.laws.commands_keep_collections.Goals as goal
 
 pub returns : goal.returns
-returns c = record { but = command_leaves; none = nothing_left }
+returns c = record { but = command_leaves; none = nothing_left; idle = no_links_kept }
