@@ -108,7 +108,7 @@ useful_brings s h = go s.collection h.collection
 
     logs_bring : (c : Collection) → IsOpened s c → scan_done c ≡ true → roots_done c s.heap.graph ≡ true → (o : Option ℕ) → first_log 0 c.logs ≡ o → Brings (step_in s c (apply_or_flip o))
     logs_bring c k scanned replicated None e =
-        inr (ap (λ (next : StepReply × State). is_change next.0) (flips s c h k (and_from _ _ (and_from _ _ (no_log c.logs 0 e) scanned) replicated)))
+        inr (ap (λ (next : StepReply × State). is_change next.0) (flips s c h.heap k (and_from _ _ (and_from _ _ (no_log c.logs 0 e) scanned) replicated)))
     logs_bring c k scanned replicated (Some m) e =
         let found = found_log c.logs 0 m e in
         let same : m ≡ found.0 = let is = found.1 in omega arith in
