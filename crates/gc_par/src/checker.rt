@@ -12,8 +12,8 @@ use rayon::prelude::*;
 use std::alloc::Global;
 use std::thread::Threads;
 
-/// Whether the certificate holds of the images. Nothing is known of either, nor of who made them. The objects
-/// are compared by as many threads as there are processors, once there are enough of them.
+/// Whether the certificate holds of the images. Nothing is known of either, nor of who made them. Where there are
+/// many pairs, several threads compare their objects.
 pub fn check_par(
     rt: &(impl Threads + Sync),
     alloc: Global,

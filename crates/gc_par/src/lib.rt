@@ -1,4 +1,4 @@
-//! The checker in threads: the same answer as the checker's own, by as many threads as there are processors.
+//! The checker in threads: the same answers as the checker's own, whatever the threads do.
 #![tactic(auto)]
 
 mod checker;

@@ -17,8 +17,8 @@ use std::alloc::Global;
 use std::io::{Read, Write};
 use std::thread::Threads;
 
-/// Checks the pair of images whose text the reader gives, and writes the line of the verdict. Reading and
-/// writing are in one thread.
+/// Checks the pair of images whose text the reader gives, and writes the line of the verdict. One thread reads
+/// and writes.
 pub fn check_text_par<R: Read, W: Write>(
     rt: &(impl Threads + Sync),
     alloc: Global,
