@@ -1,0 +1,11 @@
+//! The checker in threads: the same answers as the checker's own, whatever the threads do.
+#![tactic(auto)]
+
+mod checker;
+mod text;
+
+pub use checker::check_par;
+pub use text::check_text_par;
+
+#[cfg(test)]
+mod tests;

@@ -1,0 +1,89 @@
+mod altered;
+mod growths;
+mod plain;
+mod texts;
+
+use crate::check_par;
+use gc_check::{CheckFault, Refusal, Yes};
+use gc_words::{ImageRef, NewAddr, OldAddr, Pair};
+use std::alloc::{AllocError, Global};
+use std::test::Fail;
+
+fn image<'a>(size: u32, words: &'a [u64], roots: &'a [u64]) -> ImageRef<'a> {
+    ImageRef {
+        size,
+        end: u32::try_from(words.len()).unwrap_or(0),
+        words,
+        roots,
+    }
+}
+
+fn pair(old: u32, new: u32) -> Pair {
+    Pair {
+        old: OldAddr(old),
+        new: NewAddr(new),
+    }
+}
+
+fn refused(refusal: Refusal) -> Result<Yes, CheckFault> {
+    Err(CheckFault::Refused(refusal))
+}
+
+/// The words with another at each of these places.
+fn changed(alloc: Global, words: &[u64], changes: &[(usize, u64)]) -> Result<Vec<u64>, AllocError> {
+    let mut words = Vec::from_slice(alloc, words)?;
+    for (place, word) in changes {
+        if let Some(changed) = words.get_mut(*place) {
+            *changed = *word;
+        }
+    }
+    Ok(words)
+}
+
+/// 4,096 objects of one field, the number 0.
+fn long_words(alloc: Global) -> Result<Vec<u64>, AllocError> {
+    let mut words = Vec::new(alloc);
+    words.push(0)?;
+    for _ in 0..4096 {
+        words.push(16777217)?;
+        words.push(0)?;
+        words.push(1)?;
+    }
+    Ok(words)
+}
+
+/// New words of the long row that differ, and the answer.
+const DIFFERENCES: [(&[(usize, u64)], Result<Yes, CheckFault>); 4] = [
+    (&[], Ok(Yes { pairs: 4096 })),
+    (
+        &[(3003, 3), (9003, 3)],
+        Err(CheckFault::Refused(Refusal::FieldDiffers { k: 1000, i: 0 })),
+    ),
+    (
+        &[(9003, 3)],
+        Err(CheckFault::Refused(Refusal::FieldDiffers { k: 3000, i: 0 })),
+    ),
+    (
+        &[(3003, 3), (9001, 16842753)],
+        Err(CheckFault::Refused(Refusal::FieldDiffers { k: 1000, i: 0 })),
+    ),
+];
+
+/// There are pairs enough for more than one thread.
+#[test]
+fn first_of_many_differences(rt: HostRuntime) -> Result<(), Fail> {
+    let alloc = rt.alloc();
+    let words = long_words(alloc)?;
+    let old = image(12289, words.as_slice(), &[]);
+    let mut cert = Vec::new(alloc);
+    for k in 0..4096 {
+        cert.push(pair(1 + 3 * k, 1 + 3 * k))?;
+    }
+    assert!(rt; cert.len() <= 4096);
+    for (changes, expected) in DIFFERENCES {
+        let words = changed(alloc, words.as_slice(), changes)?;
+        let new = image(12289, words.as_slice(), &[]);
+        assert_eq!(rt; check_par(&rt, alloc, old, new, cert.as_slice()), expected);
+    }
+    Ok(())
+}

@@ -1,0 +1,185 @@
+//! What two flips compared, with each number of theirs changed in turn: all checks give the slow one's answer.
+
+use super::plain::plain_check;
+use super::{image, pair};
+use crate::{check_par, check_text_par};
+use gc_cert::{pair_fits, write_pair};
+use gc_check::{CheckFault, RunFault, Verdict, Yes, check, check_text};
+use gc_graph::{Sink, Source};
+use gc_words::{ImageRef, NewAddr, OldAddr, Pair};
+use std::alloc::{AllocError, Global};
+use std::process::Abort;
+use std::test::Fail;
+use std::thread::Threads;
+
+/// What a flip compared.
+#[derive(Clone, Copy)]
+struct Flip<'a> {
+    old: ImageRef<'a>,
+    new: ImageRef<'a>,
+    pairs: &'a [Pair],
+}
+
+/// Sixteen slots that mutators share, and sixteen of one mutator, which begin with these.
+const fn roots(first: u64, second: u64, third: u64, fourth: u64) -> [u64; 32] {
+    [
+        0, 0, 0, 0, 0, 0, 0, 0, 0, 0, 0, 0, 0, 0, 0, 0, first, second, third, fourth, 0, 0, 0, 0,
+        0, 0, 0, 0, 0, 0, 0, 0,
+    ]
+}
+
+/// Each of the lists that differ from this one in one number: it is 0, one more, or the greatest.
+fn alterations(alloc: Global, numbers: &[u64], greatest: u64) -> Result<Vec<Vec<u64>>, AllocError> {
+    let mut lists = Vec::new(alloc);
+    for (place, number) in numbers.iter().enumerate() {
+        for other in [0, number.saturating_add(1), greatest] {
+            let mut list = Vec::from_slice(alloc, numbers)?;
+            if let Some(altered) = list.get_mut(place) {
+                *altered = other;
+            }
+            lists.push(list)?;
+        }
+    }
+    Ok(lists)
+}
+
+fn addresses(alloc: Global, pairs: &[Pair]) -> Result<Vec<u64>, AllocError> {
+    let mut numbers = Vec::new(alloc);
+    for pair in pairs {
+        numbers.push(u64::from(pair.old.0))?;
+        numbers.push(u64::from(pair.new.0))?;
+    }
+    Ok(numbers)
+}
+
+fn pairs_of(alloc: Global, addresses: &[u64]) -> Result<Vec<Pair>, AllocError> {
+    let mut pairs = Vec::new(alloc);
+    for two in addresses.chunks_exact(2) {
+        pairs.push(Pair {
+            old: OldAddr(u32::try_from(two[0]).unwrap_or(0)),
+            new: NewAddr(u32::try_from(two[1]).unwrap_or(0)),
+        })?;
+    }
+    Ok(pairs)
+}
+
+fn as_verdict(answer: Result<Yes, CheckFault>) -> Result<Verdict, RunFault> {
+    match answer {
+        Ok(yes) => Ok(Verdict::Yes { pairs: yes.pairs }),
+        Err(CheckFault::Refused(refusal)) => Ok(Verdict::Refused(refusal)),
+        Err(CheckFault::NoMemory) => Err(RunFault::NoMemory),
+    }
+}
+
+/// All checks give one answer, those of texts as a verdict.
+fn expect_agreement(
+    rt: &(impl Threads + Sync + Abort),
+    alloc: Global,
+    flip: Flip,
+) -> Result<(), Fail> {
+    let Flip { old, new, pairs } = flip;
+    assert!(rt; pair_fits(old, new, pairs));
+    assert!(rt; pairs.len() <= 2);
+    let expected = plain_check(old, new, pairs);
+    assert_eq!(rt; check(alloc, old, new, pairs), expected);
+    assert_eq!(rt; check_par(rt, alloc, old, new, pairs), expected);
+
+    let mut text = Sink::new(Vec::new(alloc));
+    write_pair(&mut text, old, new, pairs)?;
+    let text = text.into_inner();
+    let mut line = Sink::new(Vec::new(alloc));
+    let verdict = check_text(alloc, &mut Source::new(text.as_slice()), &mut line);
+    assert_eq!(rt; verdict, as_verdict(expected));
+    let mut line = Sink::new(Vec::new(alloc));
+    let verdict = check_text_par(rt, alloc, &mut Source::new(text.as_slice()), &mut line);
+    assert_eq!(rt; verdict, as_verdict(expected));
+    Ok(())
+}
+
+/// The images with each word of either in turn changed.
+fn expect_agreement_on_words(
+    rt: &(impl Threads + Sync + Abort),
+    alloc: Global,
+    flip: Flip,
+) -> Result<(), Fail> {
+    for list in alterations(alloc, flip.old.words, u64::MAX)?.iter() {
+        let words = list.as_slice();
+        let old = ImageRef { words, ..flip.old };
+        expect_agreement(rt, alloc, Flip { old, ..flip })?;
+    }
+    for list in alterations(alloc, flip.new.words, u64::MAX)?.iter() {
+        let words = list.as_slice();
+        let new = ImageRef { words, ..flip.new };
+        expect_agreement(rt, alloc, Flip { new, ..flip })?;
+    }
+    Ok(())
+}
+
+/// The images with each root of either in turn changed.
+fn expect_agreement_on_roots(
+    rt: &(impl Threads + Sync + Abort),
+    alloc: Global,
+    flip: Flip,
+) -> Result<(), Fail> {
+    for list in alterations(alloc, flip.old.roots, u64::MAX)?.iter() {
+        let roots = list.as_slice();
+        let old = ImageRef { roots, ..flip.old };
+        expect_agreement(rt, alloc, Flip { old, ..flip })?;
+    }
+    for list in alterations(alloc, flip.new.roots, u64::MAX)?.iter() {
+        let roots = list.as_slice();
+        let new = ImageRef { roots, ..flip.new };
+        expect_agreement(rt, alloc, Flip { new, ..flip })?;
+    }
+    Ok(())
+}
+
+/// The pairs with each address in turn changed.
+fn expect_agreement_on_pairs(
+    rt: &(impl Threads + Sync + Abort),
+    alloc: Global,
+    flip: Flip,
+) -> Result<(), Fail> {
+    let addresses = addresses(alloc, flip.pairs)?;
+    for list in alterations(alloc, addresses.as_slice(), 4294967295)?.iter() {
+        let pairs = pairs_of(alloc, list.as_slice())?;
+        let pairs = pairs.as_slice();
+        expect_agreement(rt, alloc, Flip { pairs, ..flip })?;
+    }
+    Ok(())
+}
+
+/// Two objects that refer to each other, and one of them to itself.
+#[test]
+fn cycle_of_two(rt: HostRuntime) -> Result<(), Fail> {
+    let words = [0, 16842754, 1, 10, 2, 16908289, 5, 2];
+    let roots = roots(2, 10, 2, 2);
+    let both = image(32, &words, &roots);
+    let flip = Flip {
+        old: both,
+        new: both,
+        pairs: &[pair(1, 1), pair(5, 5)],
+    };
+    let answer = check_par(&rt, rt.alloc(), flip.old, flip.new, flip.pairs);
+    assert_eq!(rt; answer, Ok(Yes { pairs: 2 }));
+    expect_agreement_on_words(&rt, rt.alloc(), flip)?;
+    expect_agreement_on_roots(&rt, rt.alloc(), flip)?;
+    expect_agreement_on_pairs(&rt, rt.alloc(), flip)
+}
+
+/// One object is kept, at another address, and one is left behind.
+#[test]
+fn one_of_two_is_kept(rt: HostRuntime) -> Result<(), Fail> {
+    let old_roots = roots(10, 0, 0, 0);
+    let new_roots = roots(2, 0, 0, 0);
+    let flip = Flip {
+        old: image(9, &[0, 16842754, 0, 0, 0, 16842754, 1, 0, 0], &old_roots),
+        new: image(9, &[0, 16842754, 5, 0, 0], &new_roots),
+        pairs: &[pair(5, 1)],
+    };
+    let answer = check_par(&rt, rt.alloc(), flip.old, flip.new, flip.pairs);
+    assert_eq!(rt; answer, Ok(Yes { pairs: 1 }));
+    expect_agreement_on_words(&rt, rt.alloc(), flip)?;
+    expect_agreement_on_roots(&rt, rt.alloc(), flip)?;
+    expect_agreement_on_pairs(&rt, rt.alloc(), flip)
+}
