@@ -1,0 +1,77 @@
+-- Histories: what happened, and what it was answered.
+use Rattle.std.specs.Prelude.{◌≡◌, ℕ, ◌≤◌, List, [], ◌∷◌, map, ⊤}
+use Rattle.std.specs.List.{flat_map}
+use Rattle.gc_graph.specs.Legal.{Told}
+use Rattle.gc_copy.specs.State.{State, opening_state}
+use Rattle.gc_copy.specs.Steps.{useful_step}
+use Rattle.gc_copy.specs.Runs as runs
+use Rattle.gc_world.specs.declared.event.Event.{Event}
+use Rattle.gc_world.specs.declared.event.Event.TheVariants.{Mutate, Collect}
+use Rattle.gc_world.specs.declared.event.Answer.{Answer}
+use Rattle.gc_world.specs.declared.event.Answer.TheVariants.{Mutator, Collector, Useful}
+use Rattle.gc_world.specs.declared.event.Entry.{Entry}
+
+-- ---- as runs have them
+
+abbrev pub run_event : Event → runs.Event
+run_event (Mutate m op) = runs.Mutate m op
+run_event (Collect step) = runs.Collect step
+
+-- `Useful` counts as the collector's answer
+abbrev pub run_answer : Answer → runs.Answer
+run_answer (Mutator reply) = runs.Replied reply
+run_answer (Collector reply) = runs.Stepped reply
+run_answer (Useful reply) = runs.Stepped reply
+
+abbrev pub events_of : List Entry → List runs.Event
+events_of entries = map (λ entry. run_event entry.event) entries
+
+abbrev pub answers_of : List Entry → List runs.Answer
+answers_of entries = map (λ entry. run_answer entry.answer) entries
+
+-- ---- core runs
+
+-- the answers are those that the events get from this state on
+abbrev pub RunsFrom : State → List Entry → Type 0
+RunsFrom s entries = answers_of entries ≡ runs.answers s (events_of entries)
+
+abbrev pub IsCoreRun : ℕ → ℕ → List Entry → Type 0
+IsCoreRun size mutators entries = RunsFrom (opening_state size mutators) entries
+
+-- the state that a history of so many words and mutators leads to
+abbrev pub state_after : ℕ → ℕ → List Entry → State
+state_after size mutators entries = runs.state_after (opening_state size mutators) (events_of entries)
+
+-- ---- the useful step
+
+-- what is answered `Useful` is the useful step
+abbrev pub IsUseful : State → Event → Answer → Type 0
+IsUseful s (Mutate m op) answer = ⊤
+IsUseful s (Collect step) (Mutator reply) = ⊤
+IsUseful s (Collect step) (Collector reply) = ⊤
+IsUseful s (Collect step) (Useful reply) = step ≡ useful_step s
+
+abbrev pub UsefulFrom : State → List Entry → Type 0
+UsefulFrom s [] = ⊤
+UsefulFrom s (entry ∷ rest) = IsUseful s entry.event entry.answer × UsefulFrom (runs.after s (run_event entry.event)) rest
+
+-- ---- histories
+
+-- the history of a world that was opened with so many words and mutators
+pub record IsHistory (size mutators : ℕ) (entries : List Entry) : Type 0 where
+  pub low : 1 ≤ size
+  pub high : size ≤ 1048576
+  pub events : runs.AreEvents mutators (events_of entries)
+  pub run : IsCoreRun size mutators entries
+  pub useful : UsefulFrom (opening_state size mutators) entries
+
+-- ---- what mutators were told
+
+abbrev pub told_by : Event → Answer → List Told
+told_by (Mutate m op) (Mutator reply) = record { m = m; op = op; reply = reply } ∷ []
+told_by (Mutate m op) (Collector reply) = []
+told_by (Mutate m op) (Useful reply) = []
+told_by (Collect step) answer = []
+
+abbrev pub told_of : List Entry → List Told
+told_of entries = flat_map (λ entry. told_by entry.event entry.answer) entries

@@ -1,0 +1,8 @@
+//! Worlds: a heap, its mutators and its collector, with the history of all that happened.
+#![tactic(auto)]
+
+mod event;
+mod laws;
+
+pub use event::{Answer, Entry, Event};
+pub use laws::runs_are_legal;
