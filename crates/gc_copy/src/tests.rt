@@ -101,7 +101,7 @@ fn write_while_scanning(rt: HostRuntime) -> Result<(), Fail> {
         }]
         .as_slice()
     );
-    assert_eq!(rt; roots[16], 2);
+    assert_eq!(rt; roots.get(16).copied(), Some(2));
     let get = Op::Get { d: r2, s: r0, i: 0 };
     assert_eq!(rt; heap.apply(0, &get), Reply::Saw(View::Num(nine)));
     Ok(())
@@ -187,7 +187,7 @@ fn link_left_over(rt: HostRuntime) -> Result<(), Fail> {
     assert!(rt; collection.scan_done());
     let (pairs, roots) = flip(rt.alloc(), collection, &mut heap)?;
     assert_eq!(rt; pairs.len(), 1);
-    assert_eq!(rt; roots[16], 2);
+    assert_eq!(rt; roots.get(16).copied(), Some(2));
     Ok(())
 }
 
@@ -257,9 +257,10 @@ fn too_small_for_a_replica(rt: HostRuntime) -> Result<(), Fail> {
     small.drop_into(&mut heap);
     let mut collection = Collection::begin_sized(rt.alloc(), &heap, 12)?;
     assert_eq!(rt; collection.roots(&mut heap), StepReply::Copied);
-    for _ in 0..4u8 {
-        assert_eq!(rt; collection.scan(&mut heap), StepReply::Scanned);
-    }
+    assert_eq!(rt; collection.scan(&mut heap), StepReply::Scanned);
+    assert_eq!(rt; collection.scan(&mut heap), StepReply::Scanned);
+    assert_eq!(rt; collection.scan(&mut heap), StepReply::Scanned);
+    assert_eq!(rt; collection.scan(&mut heap), StepReply::Scanned);
     assert_eq!(rt; collection.scan(&mut heap), StepReply::Passed);
     let (pairs, _roots) = flip(rt.alloc(), collection, &mut heap)?;
     assert_eq!(rt; pairs.len(), 1);

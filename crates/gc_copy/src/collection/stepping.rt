@@ -21,6 +21,7 @@ impl Collection {
         requires { BelongsTo heap.old self.old }
         ensures step { collect (open_state heap.old self.old) Step.Roots ≡ (result, open_state heap.new self.new) }
         ensures belongs { BelongsTo heap.new self.new }
+        ensures mutators { heap.new.mutators ≡ heap.old.mutators }
     {
         let Some(target) = self.root_target(heap) else {
             return StepReply::Clean;
@@ -37,6 +38,7 @@ impl Collection {
         requires { BelongsTo heap.old self.old }
         ensures step { collect (open_state heap.old self.old) Step.Scan ≡ (result, open_state heap.new self.new) }
         ensures belongs { BelongsTo heap.new self.new }
+        ensures mutators { heap.new.mutators ≡ heap.old.mutators }
     {
         if self.scan_done() {
             return StepReply::Clean;
@@ -63,9 +65,10 @@ impl Collection {
     /// replica: `Applied`, or `NoRoom`, and then the entry stays. `Clean` where the log has no entry.
     pub fn apply_log(&mut self, m: u8, heap: &mut Heap) -> StepReply
         requires belongs { BelongsTo heap.old self.old }
-        requires log { m < length self.old.logs }
+        requires mutator { m < heap.old.mutators }
         ensures step { collect (open_state heap.old self.old) (Step.Apply m) ≡ (result, open_state heap.new self.new) }
         ensures belongs { BelongsTo heap.new self.new }
+        ensures mutators { heap.new.mutators ≡ heap.old.mutators }
     {
         let Some(entry) = self.logs[m as usize].oldest() else {
             return StepReply::Clean;
