@@ -3,6 +3,7 @@
 
 mod event;
 mod laws;
+mod live;
 
 pub use event::{Answer, Entry, Event};
 pub use laws::runs_are_legal;

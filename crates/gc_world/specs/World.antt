@@ -1,0 +1,49 @@
+-- A world as contracts see it: what it was opened with, its history, and the pair that its last flip kept.
+use Rattle.std.specs.Prelude.{◌≡◌, ℕ, List, [], ◌∷◌, ◌++◌, length, map, Option, Some, None, ⊤}
+use Rattle.gc_words.specs.Image.{Image}
+use Rattle.gc_words.specs.Certificate.{Certified}
+use Rattle.gc_copy.specs.State.{State, Collection, pairs_of}
+use Rattle.gc_copy.specs.Linked.{old_image, new_image}
+use Rattle.gc_cert.specs.Grammar.{CertifiedPair}
+use Rattle.gc_world.specs.Live.{state_in, IsLive}
+use Rattle.gc_world.specs.declared.live.Live.{Live}
+use Rattle.gc_world.specs.History.{IsHistory, state_after}
+use Rattle.gc_world.specs.declared.event.Event.{Event}
+use Rattle.gc_world.specs.declared.event.Answer.{Answer}
+use Rattle.gc_world.specs.declared.event.Entry.{Entry}
+
+-- `kept` is the pair of the last flip, until it is taken
+pub record Past : Type 0 where
+  pub size : ℕ
+  pub mutators : ℕ
+  pub entries : List Entry
+  pub kept : Option CertifiedPair
+
+-- the state that the history leads to
+abbrev pub present : Past → State
+present past = state_after past.size past.mutators past.entries
+
+-- one entry more
+abbrev pub entry_of : Event → Answer → Entry
+entry_of event answer = record { event = event; answer = answer }
+
+abbrev pub with_entry : Past → Event → Answer → Past
+with_entry past event answer = record past { entries = past.entries ++ entry_of event answer ∷ [] }
+
+-- ---- what the words of a world are
+
+-- a kept pair is certified
+abbrev pub IsKept : Option CertifiedPair → Type 0
+IsKept None = ⊤
+IsKept (Some pair) = Certified pair.old pair.new pair.pairs
+
+-- the images and the pairs of a flip, links included
+abbrev pub flip_pair : State → Collection → CertifiedPair
+flip_pair s c = record { old = old_image s c; new = new_image s c; pairs = pairs_of c }
+
+-- what is there is what the history led to
+pub record IsWorld (live : Live) (past : Past) : Type 0 where
+  pub history : IsHistory past.size past.mutators past.entries
+  pub present : state_in live ≡ present past
+  pub live : IsLive live
+  pub kept : IsKept past.kept

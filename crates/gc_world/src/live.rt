@@ -1,0 +1,119 @@
+ghost use Rattle.std.specs.Prelude.{◌≡◌, ◌≢◌, ◌<◌, ◌≤◌, IfOk, OnErr};
+ghost use Rattle.gc_copy.specs.State.{opening_state};
+ghost use Rattle.gc_copy.specs.Steps.{mutate, collect};
+ghost use Rattle.gc_copy.specs.Runs.{IsStep};
+ghost use Rattle.gc_world.specs.Live.{state_in, IsLive};
+ghost use Rattle.gc_copy.specs.declared.step.Step.{Step};
+
+use gc_copy::{Collection, StepReply};
+use gc_graph::{NoMemory, Op, Reply};
+use gc_heap::Heap;
+use std::alloc::Global;
+
+/// The heap that mutators work on, and the collection that is open.
+#[derive(Debug, Drop)]
+pub(crate) struct Live {
+    pub(crate) heap: Heap,
+    pub(crate) collection: Option<Collection>,
+}
+
+impl Live {
+    /// An empty heap without a collection.
+    pub(crate) fn open(alloc: Global, size: u32, mutators: u8) -> Result<Live, NoMemory>
+        requires low { 1 ≤ size }
+        requires high { size ≤ 1048576 }
+        requires some { 1 ≤ mutators }
+        requires few { mutators ≤ 16 }
+        ensures state { IfOk result (λ live. state_in live ≡ opening_state size mutators) }
+        ensures live { IfOk result IsLive }
+    {
+        Ok(Live {
+            heap: Heap::new(alloc, size, mutators)?,
+            collection: None,
+        })
+    }
+
+    /// Makes mutator m's command. While a collection is open, a field that it wrote is noted.
+    pub(crate) fn mutate(&mut self, m: u8, op: &Op) -> Result<Reply, NoMemory>
+        requires live { IsLive self.old }
+        requires mutator { m < self.old.heap.mutators }
+        ensures step { IfOk result (λ reply. mutate (state_in self.old) m op.now ≡ (reply, state_in self.new)) }
+        ensures refused { OnErr result (state_in self.new ≡ state_in self.old) }
+        ensures live { IsLive self.new }
+        ensures mutators { self.new.heap.mutators ≡ self.old.heap.mutators }
+    {
+        match &mut self.collection {
+            None => Ok(self.heap.apply(m, op)),
+            Some(collection) => {
+                collection.reserve(m)?;
+                Ok(collection.mutate(&mut self.heap, m, op))
+            }
+        }
+    }
+
+    /// Opens a collection whose new space has `size` words.
+    pub(crate) fn begin(&mut self, alloc: Global, size: u32) -> Result<StepReply, NoMemory>
+        requires live { IsLive self.old }
+        requires low { 1 ≤ size }
+        requires high { size ≤ 1048576 }
+        ensures step { IfOk result (λ reply. collect (state_in self.old) (Step.BeginSized size) ≡ (reply, state_in self.new)) }
+        ensures refused { OnErr result (self.new ≡ self.old) }
+        ensures live { IsLive self.new }
+    {
+        if self.collection.is_some() {
+            return Ok(StepReply::Busy);
+        }
+        self.collection = Some(Collection::begin_sized(alloc, &self.heap, size)?);
+        Ok(StepReply::Begun)
+    }
+
+    /// Replicates the target of a root.
+    pub(crate) fn roots(&mut self) -> StepReply
+        requires { IsLive self.old }
+        ensures step { collect (state_in self.old) Step.Roots ≡ (result, state_in self.new) }
+        ensures live { IsLive self.new }
+    {
+        match &mut self.collection {
+            None => StepReply::Idle,
+            Some(collection) => collection.roots(&mut self.heap),
+        }
+    }
+
+    /// Brings a field up to date, or goes on to the next replica.
+    pub(crate) fn scan(&mut self) -> StepReply
+        requires { IsLive self.old }
+        ensures step { collect (state_in self.old) Step.Scan ≡ (result, state_in self.new) }
+        ensures live { IsLive self.new }
+    {
+        match &mut self.collection {
+            None => StepReply::Idle,
+            Some(collection) => collection.scan(&mut self.heap),
+        }
+    }
+
+    /// Applies the oldest entry of mutator m's log.
+    pub(crate) fn apply_log(&mut self, m: u8) -> StepReply
+        requires live { IsLive self.old }
+        requires mutator { m < self.old.heap.mutators }
+        ensures step { collect (state_in self.old) (Step.Apply m) ≡ (result, state_in self.new) }
+        ensures live { IsLive self.new }
+    {
+        match &mut self.collection {
+            None => StepReply::Idle,
+            Some(collection) => collection.apply_log(m, &mut self.heap),
+        }
+    }
+
+    /// Gives the open collection up.
+    pub(crate) fn give_up(&mut self) -> StepReply
+        requires { IsLive self.old }
+        ensures step { collect (state_in self.old) Step.Drop ≡ (result, state_in self.new) }
+        ensures live { IsLive self.new }
+    {
+        let Some(collection) = self.collection.take() else {
+            return StepReply::Idle;
+        };
+        collection.drop_into(&mut self.heap);
+        StepReply::Dropped
+    }
+}
