@@ -113,13 +113,9 @@ fn take_words(alloc: Global, lines: &mut Lines<'_>, count: u64) -> Result<Vec<u6
         return Err(PairFault::NoMemory);
     };
     for _ in 0..count {
-        match take_word(lines) {
-            Ok(word) => {
-                if words.push(word).is_err() {
-                    return Err(PairFault::NoMemory);
-                }
-            }
-            Err(fault) => return Err(fault),
+        let word = take_word(lines)?;
+        if words.push(word).is_err() {
+            return Err(PairFault::NoMemory);
         }
     }
     Ok(words)
@@ -136,13 +132,9 @@ fn take_pairs(alloc: Global, lines: &mut Lines<'_>, count: u64) -> Result<Vec<Pa
         return Err(PairFault::NoMemory);
     };
     for _ in 0..count {
-        match take_pair(lines) {
-            Ok(pair) => {
-                if pairs.push(pair).is_err() {
-                    return Err(PairFault::NoMemory);
-                }
-            }
-            Err(fault) => return Err(fault),
+        let pair = take_pair(lines)?;
+        if pairs.push(pair).is_err() {
+            return Err(PairFault::NoMemory);
         }
     }
     Ok(pairs)
