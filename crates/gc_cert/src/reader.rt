@@ -14,18 +14,12 @@ use crate::lines::Lines;
 use crate::parser::{count, pair, sizes};
 use gc_graph::Source;
 use gc_graph::text::{number, read_all};
-use gc_words::Pair;
+use gc_words::{MOST_PAIRS, MOST_ROOTS, Pair};
 use std::alloc::Global;
 use std::io::Read;
 
 /// The most bytes that a pair text has.
 const LIMIT: usize = 67108864;
-
-/// The most roots of an image: sixteen slots that mutators share, and sixteen of each of sixteen mutators.
-const MOST_ROOTS: u64 = 272;
-
-/// The most pairs.
-const MOST_PAIRS: u64 = 524287;
 
 /// Takes this very line.
 fn take_line(lines: &mut Lines<'_>, wanted: &[u8]) -> Result<(), PairFault>
@@ -150,7 +144,7 @@ fn take_image(alloc: Global, lines: &mut Lines<'_>, name: &[u8]) -> Result<Image
 {
     let (size, end) = take_sizes(lines, name)?;
     let words = take_words(alloc, lines, u64::from(end))?;
-    let count = take_count(lines, b"roots", MOST_ROOTS)?;
+    let count = take_count(lines, b"roots", MOST_ROOTS as u64)?;
     let roots = take_words(alloc, lines, count)?;
     Ok(Image {
         size,
@@ -167,7 +161,7 @@ fn take_certificate(alloc: Global, lines: &mut Lines<'_>) -> Result<Vec<Pair>, P
         × HasTaken (certificate_lines (map addresses pairs.items)) lines.old lines.new)
         (λ fault. MayStop (Spelled IsCertificate certificate_lines) fault lines.old) }
 {
-    let count = take_count(lines, b"pairs", MOST_PAIRS)?;
+    let count = take_count(lines, b"pairs", MOST_PAIRS as u64)?;
     let pairs = take_pairs(alloc, lines, count)?;
     take_line(lines, b"end")?;
     Ok(pairs)
