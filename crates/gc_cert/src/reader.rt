@@ -1,4 +1,4 @@
-ghost use Rattle.std.specs.Prelude.{◌≡◌, ◌≢◌, ◌≤◌, ◌<◌, ◌^◌, ◌∷◌, ◌↔◌, [], length, map, true, codes, decimal, IfSome, IfOk, MatchResult, Err};
+ghost use Rattle.std.specs.Prelude.{◌≡◌, ◌≢◌, ◌+◌, ◌≤◌, ◌<◌, ◌^◌, ◌∷◌, ◌↔◌, [], length, map, drop, true, codes, decimal, IfSome, IfOk, MatchResult, Err, Some};
 ghost use Rattle.gc_graph.specs.Streams.{bytes_left, source_failed};
 ghost use Rattle.gc_graph.specs.Lines.{words_of};
 ghost use Rattle.gc_words.specs.Views.{addresses};
@@ -189,6 +189,8 @@ pub fn read_pair<R: Read>(alloc: Global, reader: &mut Source<R>) -> Result<PairF
     ensures exact { IfSome (bytes_left R.remaining reader.old) (λ text.
         MatchResult result (λ file. IsReadAs (pair_in file) text) (λ fault. MayFail fault text)) }
     ensures sound { IfOk result (λ file. HasText (pair_in file)) }
+    ensures stops { result ≡ Err PairFault.TooLarge → IfSome (bytes_left R.remaining reader.old)
+        (λ text. bytes_left R.remaining reader.new ≡ Some (drop (limit + 1) text)) }
     ensures read { (result ≡ Err PairFault.Read) ↔ (source_failed reader.new ≡ true) }
 {
     let bytes = read_all(alloc, reader, LIMIT)?;
