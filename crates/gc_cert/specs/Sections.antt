@@ -1,5 +1,5 @@
 -- Reading a text section by section: what a section took of the text, and where a text is none of its own.
-use Rattle.std.specs.Prelude.{◌≡◌, ℕ, ◌+◌, ⊤, List, [], ◌∷◌, ◌++◌, length}
+use Rattle.std.specs.Prelude.{◌≡◌, ℕ, ◌+◌, ◌≤◌, ⊤, List, [], ◌∷◌, ◌++◌, length}
 use Rattle.std.specs.List.{AllByRecursion}
 use Rattle.gc_graph.specs.Lines.{newline, HasNo, text_of}
 use Rattle.gc_cert.specs.declared.fault.PairFault.{PairFault}
@@ -23,6 +23,10 @@ pub record IsNext (line : List ℕ) (old new : Place) : Type 0 where
 pub record HasTaken (lines : List (List ℕ)) (old new : Place) : Type 0 where
   pub parts : old.rest ≡ text_of lines ++ new.rest
   pub number : new.taken ≡ old.taken + length lines
+
+-- each line has a byte or more
+abbrev pub NoneEmpty : List (List ℕ) → Type 0
+NoneEmpty lines = AllByRecursion (λ line. 1 ≤ length line) lines
 
 -- which lines are a whole section
 abbrev pub Section : Type 1

@@ -5,16 +5,7 @@ ghost use Rattle.gc_cert.specs.Grammar.{IsWord, IsCertificate, HasText, HasImage
 ghost use Rattle.gc_cert.specs.Sections.{AreAll};
 ghost use Rattle.gc_cert.specs.Views.{pair_of};
 
-use gc_words::{ImageRef, Pair};
-
-/// The most words that a space has.
-const MOST_WORDS: u32 = 1048576;
-
-/// The most roots of an image: sixteen slots that mutators share, and sixteen of each of sixteen mutators.
-const MOST_ROOTS: usize = 272;
-
-/// The most pairs.
-const MOST_PAIRS: usize = 524287;
+use gc_words::{ImageRef, MOST_PAIRS, MOST_ROOTS, MOST_WORDS, Pair};
 
 /// Whether a space may have so many words, or end there.
 fn is_size(n: u32) -> bool

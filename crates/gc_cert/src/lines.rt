@@ -21,9 +21,9 @@ impl<'a> Model for Lines<'a> {
 }
 
 impl<'a> Lines<'a> {
-    ghost use Rattle.std.specs.Prelude.{◌≡◌, ◌≢◌, ◌+◌, [], MatchOption, MatchResult};
+    ghost use Rattle.std.specs.Prelude.{◌≡◌, ◌≢◌, ◌≤◌, ◌+◌, ◌*◌, ℕ, List, [], length, MatchOption, MatchResult};
     ghost use Rattle.gc_graph.specs.Lines.{HasNo, newline};
-    ghost use Rattle.gc_cert.specs.Sections.{start, IsNext};
+    ghost use Rattle.gc_cert.specs.Sections.{start, IsNext, HasTaken, NoneEmpty, Place};
 
     /// All lines of the text.
     pub fn new(text: &'a [u8]) -> Self
@@ -53,8 +53,12 @@ impl<'a> Lines<'a> {
         self.taken
     }
 
-    /// No more lines of a byte or more can still come.
-    pub fn most_left(&self) -> usize {
+    /// No more lines of a byte or more can still come: with its line feed each takes two bytes or more.
+    pub fn most_left(&self) -> usize
+        ensures enough { (lines : List (List ℕ)) (after : Place) → NoneEmpty lines
+            → HasTaken lines self.now after → length lines ≤ result }
+        ensures within { 2 * result ≤ length self.now.rest }
+    {
         self.rest.len() / 2
     }
 

@@ -5,10 +5,7 @@ ghost use Rattle.gc_words.specs.Views.{addresses};
 ghost use Rattle.gc_cert.specs.Reading.{count_of, sizes_of, pair_of};
 
 use gc_graph::text::Words;
-use gc_words::{NewAddr, OldAddr, Pair};
-
-/// The most words that a space has.
-const MOST_WORDS: u64 = 1048576;
+use gc_words::{MOST_WORDS, NewAddr, OldAddr, Pair};
 
 /// The number behind this name.
 #[tactic(auto, unfolding(crate::specs::Reading::count_of, gc_graph::specs::Words::end_of))]
@@ -28,8 +25,8 @@ pub fn sizes(line: &[u8], name: &[u8]) -> Option<(u32, u32)>
 {
     let mut words = Words::new(line);
     words.word(name)?;
-    let size = words.number(MOST_WORDS)? as u32;
-    let end = words.number(MOST_WORDS)? as u32;
+    let size = words.number(u64::from(MOST_WORDS))? as u32;
+    let end = words.number(u64::from(MOST_WORDS))? as u32;
     if !words.is_empty() || size == 0 || end == 0 {
         return None;
     }

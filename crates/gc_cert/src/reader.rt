@@ -1,4 +1,4 @@
-ghost use Rattle.std.specs.Prelude.{◌≡◌, ◌≢◌, ◌≤◌, ◌<◌, ◌^◌, ◌∷◌, ◌↔◌, [], length, map, true, codes, decimal, IfSome, IfOk, MatchResult, Err};
+ghost use Rattle.std.specs.Prelude.{◌≡◌, ◌≢◌, ◌+◌, ◌≤◌, ◌<◌, ◌^◌, ◌∷◌, ◌↔◌, [], length, map, drop, true, codes, decimal, IfSome, IfOk, MatchResult, Err, Some};
 ghost use Rattle.gc_graph.specs.Streams.{bytes_left, source_failed};
 ghost use Rattle.gc_graph.specs.Lines.{words_of};
 ghost use Rattle.gc_words.specs.Views.{addresses};
@@ -14,18 +14,12 @@ use crate::lines::Lines;
 use crate::parser::{count, pair, sizes};
 use gc_graph::Source;
 use gc_graph::text::{number, read_all};
-use gc_words::Pair;
+use gc_words::{MOST_PAIRS, MOST_ROOTS, Pair};
 use std::alloc::Global;
 use std::io::Read;
 
 /// The most bytes that a pair text has.
 const LIMIT: usize = 67108864;
-
-/// The most roots of an image: sixteen slots that mutators share, and sixteen of each of sixteen mutators.
-const MOST_ROOTS: u64 = 272;
-
-/// The most pairs.
-const MOST_PAIRS: u64 = 524287;
 
 /// Takes this very line.
 fn take_line(lines: &mut Lines<'_>, wanted: &[u8]) -> Result<(), PairFault>
@@ -113,13 +107,9 @@ fn take_words(alloc: Global, lines: &mut Lines<'_>, count: u64) -> Result<Vec<u6
         return Err(PairFault::NoMemory);
     };
     for _ in 0..count {
-        match take_word(lines) {
-            Ok(word) => {
-                if words.push(word).is_err() {
-                    return Err(PairFault::NoMemory);
-                }
-            }
-            Err(fault) => return Err(fault),
+        let word = take_word(lines)?;
+        if words.push(word).is_err() {
+            return Err(PairFault::NoMemory);
         }
     }
     Ok(words)
@@ -136,13 +126,9 @@ fn take_pairs(alloc: Global, lines: &mut Lines<'_>, count: u64) -> Result<Vec<Pa
         return Err(PairFault::NoMemory);
     };
     for _ in 0..count {
-        match take_pair(lines) {
-            Ok(pair) => {
-                if pairs.push(pair).is_err() {
-                    return Err(PairFault::NoMemory);
-                }
-            }
-            Err(fault) => return Err(fault),
+        let pair = take_pair(lines)?;
+        if pairs.push(pair).is_err() {
+            return Err(PairFault::NoMemory);
         }
     }
     Ok(pairs)
@@ -158,7 +144,7 @@ fn take_image(alloc: Global, lines: &mut Lines<'_>, name: &[u8]) -> Result<Image
 {
     let (size, end) = take_sizes(lines, name)?;
     let words = take_words(alloc, lines, u64::from(end))?;
-    let count = take_count(lines, b"roots", MOST_ROOTS)?;
+    let count = take_count(lines, b"roots", MOST_ROOTS as u64)?;
     let roots = take_words(alloc, lines, count)?;
     Ok(Image {
         size,
@@ -175,7 +161,7 @@ fn take_certificate(alloc: Global, lines: &mut Lines<'_>) -> Result<Vec<Pair>, P
         × HasTaken (certificate_lines (map addresses pairs.items)) lines.old lines.new)
         (λ fault. MayStop (Spelled IsCertificate certificate_lines) fault lines.old) }
 {
-    let count = take_count(lines, b"pairs", MOST_PAIRS)?;
+    let count = take_count(lines, b"pairs", MOST_PAIRS as u64)?;
     let pairs = take_pairs(alloc, lines, count)?;
     take_line(lines, b"end")?;
     Ok(pairs)
@@ -203,6 +189,8 @@ pub fn read_pair<R: Read>(alloc: Global, reader: &mut Source<R>) -> Result<PairF
     ensures exact { IfSome (bytes_left R.remaining reader.old) (λ text.
         MatchResult result (λ file. IsReadAs (pair_in file) text) (λ fault. MayFail fault text)) }
     ensures sound { IfOk result (λ file. HasText (pair_in file)) }
+    ensures stops { result ≡ Err PairFault.TooLarge → IfSome (bytes_left R.remaining reader.old)
+        (λ text. bytes_left R.remaining reader.new ≡ Some (drop (limit + 1) text)) }
     ensures read { (result ≡ Err PairFault.Read) ↔ (source_failed reader.new ≡ true) }
 {
     let bytes = read_all(alloc, reader, LIMIT)?;

@@ -28,14 +28,10 @@ fn print_line<W: Write>(
         (bytes_written W.contents writer.old) (bytes_written W.contents writer.new) printer.old) }
     ensures failed { OnErr result (sink_failed writer.new ≡ true) }
 {
-    match printer.make_room(writer, LINE) {
-        Ok(()) => {
-            printer.bytes(line);
-            printer.bytes(b"\n");
-            Ok(())
-        }
-        Err(failed) => Err(failed),
-    }
+    printer.make_room(writer, LINE)?;
+    printer.bytes(line);
+    printer.bytes(b"\n");
+    Ok(())
 }
 
 /// A word of a space.
@@ -50,14 +46,10 @@ fn print_word<W: Write>(
         (bytes_written W.contents writer.old) (bytes_written W.contents writer.new) printer.old) }
     ensures failed { OnErr result (sink_failed writer.new ≡ true) }
 {
-    match printer.make_room(writer, LINE) {
-        Ok(()) => {
-            printer.number(word);
-            printer.bytes(b"\n");
-            Ok(())
-        }
-        Err(failed) => Err(failed),
-    }
+    printer.make_room(writer, LINE)?;
+    printer.number(word);
+    printer.bytes(b"\n");
+    Ok(())
 }
 
 /// A name, and how many there are of it.
@@ -74,16 +66,12 @@ fn print_count<W: Write>(
         (bytes_written W.contents writer.old) (bytes_written W.contents writer.new) printer.old) }
     ensures failed { OnErr result (sink_failed writer.new ≡ true) }
 {
-    match printer.make_room(writer, LINE) {
-        Ok(()) => {
-            printer.bytes(name);
-            printer.bytes(b" ");
-            printer.number(count as u64);
-            printer.bytes(b"\n");
-            Ok(())
-        }
-        Err(failed) => Err(failed),
-    }
+    printer.make_room(writer, LINE)?;
+    printer.bytes(name);
+    printer.bytes(b" ");
+    printer.number(count as u64);
+    printer.bytes(b"\n");
+    Ok(())
 }
 
 /// A name, and the size and the end of an image.
@@ -101,18 +89,14 @@ fn print_sizes<W: Write>(
         (bytes_written W.contents writer.old) (bytes_written W.contents writer.new) printer.old) }
     ensures failed { OnErr result (sink_failed writer.new ≡ true) }
 {
-    match printer.make_room(writer, LINE) {
-        Ok(()) => {
-            printer.bytes(name);
-            printer.bytes(b" ");
-            printer.number(u64::from(size));
-            printer.bytes(b" ");
-            printer.number(u64::from(end));
-            printer.bytes(b"\n");
-            Ok(())
-        }
-        Err(failed) => Err(failed),
-    }
+    printer.make_room(writer, LINE)?;
+    printer.bytes(name);
+    printer.bytes(b" ");
+    printer.number(u64::from(size));
+    printer.bytes(b" ");
+    printer.number(u64::from(end));
+    printer.bytes(b"\n");
+    Ok(())
 }
 
 /// A pair of addresses.
@@ -127,16 +111,12 @@ fn print_pair<W: Write>(
         (bytes_written W.contents writer.old) (bytes_written W.contents writer.new) printer.old) }
     ensures failed { OnErr result (sink_failed writer.new ≡ true) }
 {
-    match printer.make_room(writer, LINE) {
-        Ok(()) => {
-            printer.number(u64::from(pair.old.0));
-            printer.bytes(b" ");
-            printer.number(u64::from(pair.new.0));
-            printer.bytes(b"\n");
-            Ok(())
-        }
-        Err(failed) => Err(failed),
-    }
+    printer.make_room(writer, LINE)?;
+    printer.number(u64::from(pair.old.0));
+    printer.bytes(b" ");
+    printer.number(u64::from(pair.new.0));
+    printer.bytes(b"\n");
+    Ok(())
 }
 
 /// A line for each word.
@@ -152,10 +132,7 @@ fn print_words<W: Write>(
     ensures failed { OnErr result (sink_failed writer.new ≡ true) }
 {
     for word in words {
-        match print_word(printer, writer, *word) {
-            Ok(()) => {}
-            Err(failed) => return Err(failed),
-        }
+        print_word(printer, writer, *word)?;
     }
     Ok(())
 }
@@ -173,10 +150,7 @@ fn print_pairs<W: Write>(
     ensures failed { OnErr result (sink_failed writer.new ≡ true) }
 {
     for pair in pairs {
-        match print_pair(printer, writer, pair) {
-            Ok(()) => {}
-            Err(failed) => return Err(failed),
-        }
+        print_pair(printer, writer, pair)?;
     }
     Ok(())
 }

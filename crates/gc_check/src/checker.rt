@@ -23,10 +23,7 @@ pub fn check(alloc: Global, old: ImageRef, new: ImageRef, cert: &[Pair]) -> Resu
     ensures replicated { OnOk result
         (Replicated (image_of old.entry) (image_of new.entry) (pairs_of cert.now)) }
 {
-    let tables = match Tables::new(alloc, old, new, cert) {
-        Ok(tables) => tables,
-        Err(fault) => return Err(fault),
-    };
+    let tables = Tables::new(alloc, old, new, cert)?;
     let pairs = cert.len() as u32;
     if let Some(refusal) = first_pair_fault(&tables, pairs) {
         return Err(CheckFault::Refused(refusal));

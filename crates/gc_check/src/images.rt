@@ -3,10 +3,7 @@ ghost use Rattle.gc_words.specs.Fault.{shape_fault};
 ghost use Rattle.gc_words.specs.Views.{image_of};
 ghost use Rattle.gc_check.specs.Tables.{image_fault};
 
-use gc_words::{ImageRef, Refusal, walk};
-
-/// The most words that a space has.
-const MOST: u32 = 1_048_576;
+use gc_words::{ImageRef, MOST_WORDS, Refusal, walk};
 
 /// What is wrong with two images, whatever the certificate.
 pub(crate) fn image_fault(old: ImageRef, new: ImageRef) -> Option<Refusal>
@@ -28,7 +25,7 @@ pub(crate) fn image_fault(old: ImageRef, new: ImageRef) -> Option<Refusal>
 fn shape_fault(image: ImageRef) -> Option<u64>
     ensures { result ≡ shape_fault (image_of image.entry) }
 {
-    if image.size < 1 || image.size > MOST || image.end < 1 || image.end > image.size {
+    if image.size < 1 || image.size > MOST_WORDS || image.end < 1 || image.end > image.size {
         return Some(0);
     }
     match walk(image.words, image.end) {

@@ -66,10 +66,7 @@ impl<'a> Tables<'a> {
         if let Some(refusal) = image_fault(old, new) {
             return Err(CheckFault::Refused(refusal));
         }
-        let partners = match partners_of(alloc, old, new, cert) {
-            Ok(partners) => partners,
-            Err(fault) => return Err(fault),
-        };
+        let partners = partners_of(alloc, old, new, cert)?;
         Ok(Tables {
             old,
             new,

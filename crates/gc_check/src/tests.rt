@@ -204,3 +204,22 @@ fn tables_refuse_places_alone(rt: HostRuntime) -> Result<(), Fail> {
     assert_eq!(rt; tables.root_fault(), Some(Refusal::RootDiffers { slot: 1 }));
     Ok(())
 }
+
+#[test]
+fn tables_of_what_passes_name_no_fault(rt: HostRuntime) -> Result<(), Fail> {
+    let alloc = rt.alloc();
+    let least = image(1, 1, &[0], &[0]);
+    let tables = Tables::new(alloc, least, least, &[])?;
+    assert_eq!(rt; tables.root_fault(), None);
+
+    // The second object is garbage, and has no replica.
+    let words = [0, 16777216, 0, 16777216, 0];
+    let old = image(8, 5, &words, &[2]);
+    let new = image(8, 3, &words[..3], &[2]);
+    let cert = certificate(alloc, &[(1, 1)])?;
+    assert_eq!(rt; cert.len(), 1);
+    let tables = Tables::new(alloc, old, new, cert.as_slice())?;
+    assert_eq!(rt; tables.pair_fault(0), None);
+    assert_eq!(rt; tables.root_fault(), None);
+    Ok(())
+}

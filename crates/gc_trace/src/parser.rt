@@ -6,6 +6,7 @@ ghost use Rattle.gc_trace.specs.Reading.{slot_of, slot_at, new_of, num_of, nil_o
 use crate::event::Event;
 use gc_graph::text::{Words, number};
 use gc_graph::{Number, Op, Slot};
+use gc_words::MOST_WORDS;
 
 /// The newest version of the text.
 const NEWEST: u64 = 1;
@@ -183,7 +184,7 @@ pub fn sizes(line: &[u8]) -> Option<(u32, u8)>
 {
     let mut words = Words::new(line);
     words.word(b"space")?;
-    let size = words.number(1048576)? as u32;
+    let size = words.number(u64::from(MOST_WORDS))? as u32;
     words.word(b"mutators")?;
     let mutators = words.number(16)? as u8;
     if !words.is_empty() || size == 0 || mutators == 0 {

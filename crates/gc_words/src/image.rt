@@ -1,5 +1,14 @@
 use crate::value::{NewAddr, OldAddr};
 
+/// The most words that a space has.
+pub const MOST_WORDS: u32 = 1048576;
+
+/// The most roots of an image: sixteen slots that mutators share, and sixteen of each of sixteen mutators.
+pub const MOST_ROOTS: usize = 272;
+
+/// The most pairs of a certificate: no space has more objects, since each takes two words and word 0 is of none.
+pub const MOST_PAIRS: usize = 524287;
+
 /// What a space holds, with roots beside it. A checker takes any: nothing is known of its numbers.
 #[derive(Clone, Copy, Debug)]
 pub struct ImageRef<'a> {

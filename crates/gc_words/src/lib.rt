@@ -12,7 +12,7 @@ mod space;
 mod value;
 
 pub use header::Header;
-pub use image::{ImageRef, Pair};
+pub use image::{ImageRef, MOST_PAIRS, MOST_ROOTS, MOST_WORDS, Pair};
 pub use laws::{
     certified_graphs_correspond, end_is_unused, ends_after_writes, graphs_after_writes,
     graphs_of_spaces, links_after_writes, no_fault_where_certified, no_fault_where_shaped,

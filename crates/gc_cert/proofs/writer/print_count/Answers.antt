@@ -1,8 +1,11 @@
 use Rattle.std.proofs.Common.{[], ◌∷◌}
+use Rattle.std.proofs.lemmas.Result.{err_from_is_err_and}
 use Rattle.gc_graph.specs.Streams.{bytes_written}
 use Rattle.gc_cert.specs.Grammar.{count_line}
 use Rattle.gc_cert.proofs.Printed.{front_longer}
 use Rattle.gc_cert.proofs.writer.print_count.Goals as goal
 
-pub returns-in-Err-clause-err : goal.returns-in-Err-clause-err
-returns-in-Err-clause-err g c = front_longer (bytes_written g.W.Write.contents c.args.writer.now) (bytes_written g.W.Write.contents c.make_room.new.writer) c.args.printer.now (count_line c.args.name.now c.args.count ∷ []) c.in-Err.ensures.err
+pub returns-in_err-make_room-clause-err : goal.returns-in_err-make_room-clause-err
+returns-in_err-make_room-clause-err g c =
+    let p = err_from_is_err_and c.from_residual.result c.from_residual.ensures.1 in
+    rw p.1 (front_longer (bytes_written g.W.Write.contents c.args.writer.now) (bytes_written g.W.Write.contents c.make_room.new.writer) c.args.printer.now (count_line c.args.name.now c.args.count ∷ []) c.in_err-make_room.ensures.err)

@@ -1,4 +1,5 @@
 use Rattle.std.proofs.Common.{subst, List, ℕ}
+use Rattle.std.proofs.lemmas.Result.{err_from_is_err_and}
 use Rattle.gc_graph.specs.Streams.{bytes_written}
 use Rattle.gc_words.specs.Views.{addresses}
 use Rattle.gc_words.specs.declared.image.Pair.{Pair}
@@ -7,11 +8,13 @@ use Rattle.gc_cert.specs.Printing.{Prints, PrintsFront}
 use Rattle.gc_cert.proofs.Printed.{one_failed, one_printed, all_printed, map_map}
 use Rattle.gc_cert.proofs.writer.print_pairs.Goals as goal
 
-pub returns-in-Err-clause-err : goal.returns-in-Err-clause-err
-returns-in-Err-clause-err g c = subst (λ (ls : List (List ℕ)). PrintsFront ls (bytes_written g.W.Write.contents c.args.writer.now) (bytes_written g.W.Write.contents c.print_pair.new.writer) c.args.printer.now) (map_map addresses pair_line c.args.pairs.now) (one_failed (λ (p : Pair). pair_line (addresses p)) (bytes_written g.W.Write.contents c.args.writer.now) (bytes_written g.W.Write.contents c.loop-pair.writer) (bytes_written g.W.Write.contents c.print_pair.new.writer) c.args.pairs.now c.loop-pair.pair-index (record { old = record { 0 = 0 }; new = record { 0 = 0 } }) c.args.printer.now c.loop-pair.printer c.loop-pair-test.true c.loop-pair.invariant c.in-Err.ensures.err)
+pub returns-in_err-print_pair-clause-err : goal.returns-in_err-print_pair-clause-err
+returns-in_err-print_pair-clause-err g c =
+    let p = err_from_is_err_and c.from_residual.result c.from_residual.ensures.1 in
+    rw p.1 (subst (λ (ls : List (List ℕ)). PrintsFront ls (bytes_written g.W.Write.contents c.args.writer.now) (bytes_written g.W.Write.contents c.print_pair.new.writer) c.args.printer.now) (map_map addresses pair_line c.args.pairs.now) (one_failed (λ (p : Pair). pair_line (addresses p)) (bytes_written g.W.Write.contents c.args.writer.now) (bytes_written g.W.Write.contents c.loop-pair.writer) (bytes_written g.W.Write.contents c.print_pair.new.writer) c.args.pairs.now c.loop-pair.pair-index (record { old = record { 0 = 0 }; new = record { 0 = 0 } }) c.args.printer.now c.loop-pair.printer c.loop-pair-test.true c.loop-pair.invariant c.in_err-print_pair.ensures.err))
 
 pub loop-pair-preserved : goal.loop-pair-preserved
-loop-pair-preserved g c = one_printed (λ (p : Pair). pair_line (addresses p)) (bytes_written g.W.Write.contents c.args.writer.now) (bytes_written g.W.Write.contents c.loop-pair.writer) (bytes_written g.W.Write.contents c.print_pair.new.writer) c.args.pairs.now c.loop-pair.pair-index (record { old = record { 0 = 0 }; new = record { 0 = 0 } }) c.args.printer.now c.loop-pair.printer c.print_pair.new.printer c.loop-pair-test.true c.loop-pair.invariant c.in-Ok.ensures.ok
+loop-pair-preserved g c = one_printed (λ (p : Pair). pair_line (addresses p)) (bytes_written g.W.Write.contents c.args.writer.now) (bytes_written g.W.Write.contents c.loop-pair.writer) (bytes_written g.W.Write.contents c.print_pair.new.writer) c.args.pairs.now c.loop-pair.pair-index (record { old = record { 0 = 0 }; new = record { 0 = 0 } }) c.args.printer.now c.loop-pair.printer c.print_pair.new.printer c.loop-pair-test.true c.loop-pair.invariant c.in_ok-print_pair.ensures.ok
 
 pub returns-clause-ok : goal.returns-clause-ok
 returns-clause-ok g c = subst (λ (ls : List (List ℕ)). Prints ls (bytes_written g.W.Write.contents c.args.writer.now) (bytes_written g.W.Write.contents c.loop-pair.writer) c.args.printer.now c.loop-pair.printer) (map_map addresses pair_line c.args.pairs.now) (all_printed (λ (p : Pair). pair_line (addresses p)) (bytes_written g.W.Write.contents c.args.writer.now) (bytes_written g.W.Write.contents c.loop-pair.writer) c.args.pairs.now c.loop-pair.pair-index c.args.printer.now c.loop-pair.printer c.loop-pair-test.false c.loop-pair.invariant)
