@@ -1,3 +1,4 @@
+pub mod Flip
 pub mod History
 pub mod Live
 pub mod World

@@ -2,6 +2,7 @@
 #![tactic(auto)]
 
 mod event;
+mod flip;
 mod laws;
 mod live;
 

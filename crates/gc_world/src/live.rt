@@ -116,4 +116,24 @@ impl Live {
         collection.drop_into(&mut self.heap);
         StepReply::Dropped
     }
+
+    /// Carries out a flip for which all is ready, and hands out the pair that the checker saw.
+    pub(crate) fn carry_out(&mut self, plan: Plan) -> PairFile
+        requires live { IsLive self.old }
+        requires ready { IsSomeAnd self.old.collection (λ c. IsTrue (is_ready (collection_in c) (graph_in self.old.heap))) }
+        requires planned { IsSomeAnd self.old.collection (λ c. IsDraft self.old.heap c plan.draft × IsPlan c plan.draft plan) }
+        ensures step { IfSome self.old.collection (λ c. collect (state_in self.old) Step.Flip ≡ (StepReply.Flipped (length (pairs_of (collection_in c))), state_in self.new)) }
+        ensures kept { IfSome self.old.collection (λ c. pair_in result ≡ flip_pair (state_in self.old) (collection_in c)) }
+        ensures live { IsLive self.new }
+    {
+        images_show_links();
+        let collection = self.collection.take().unwrap();
+        let new = collection.new_image(&plan.draft.roots);
+        let size = new.size;
+        let end = new.end;
+        let (space, roots) = collection.flip_into(&mut self.heap, plan.draft.roots);
+        let old = Image { size: space.size(), end: space.end(), words: space.into_words(), roots };
+        let new = Image { size, end, words: plan.words, roots: plan.roots };
+        PairFile { old, new, pairs: plan.draft.pairs }
+    }
 }

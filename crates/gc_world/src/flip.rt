@@ -1,0 +1,60 @@
+ghost use Rattle.std.specs.Prelude.{◌≡◌, ◌<◌, ◌^◌, IfOk, IsTrue, OnOk, length, map};
+ghost use Rattle.gc_words.specs.Views.{addresses};
+ghost use Rattle.gc_heap.specs.Heap.{graph_in};
+ghost use Rattle.gc_copy.specs.State.{pairs_of};
+ghost use Rattle.gc_copy.specs.Steps.{is_ready};
+ghost use Rattle.gc_copy.specs.Words.{collection_in, BelongsTo};
+ghost use Rattle.gc_world.specs.Flip.{IsDraft, IsPlan};
+
+use gc_copy::Collection;
+use gc_graph::NoMemory;
+use gc_heap::Heap;
+use gc_words::Pair;
+use std::alloc::Global;
+
+/// What the checker is shown of a flip beside the two spaces: the certificate, and the moved roots.
+#[derive(Debug, Drop)]
+pub(crate) struct Draft {
+    pub(crate) pairs: Vec<Pair>,
+    pub(crate) roots: Vec<u64>,
+}
+
+/// A flip for which all memory is there: the draft, with copies of the new words and roots to be kept.
+#[derive(Debug, Drop)]
+pub(crate) struct Plan {
+    pub(crate) draft: Draft,
+    pub(crate) words: Vec<u64>,
+    pub(crate) roots: Vec<u64>,
+}
+
+impl Draft {
+/// The draft of a ready collection's flip. Two growths.
+pub(crate) fn new(alloc: Global, collection: &Collection, heap: &Heap) -> Result<Draft, NoMemory>
+    requires belongs { BelongsTo heap.now collection.now }
+    requires ready { IsTrue (is_ready (collection_in collection.now) (graph_in heap.now)) }
+    ensures { IfOk result (IsDraft heap.now collection.now) }
+{
+    let pairs = collection.pairs(alloc)?;
+    let roots = collection.new_roots(alloc, heap)?;
+    Ok(Draft { pairs, roots })
+}
+}
+
+impl Plan {
+/// The flip of this draft with what is to be kept of it. Two growths.
+pub(crate) fn new(alloc: Global, collection: &Collection, draft: Draft) -> Result<Plan, NoMemory>
+    ensures { IfOk result (IsPlan collection.now draft) }
+{
+    let Ok(words) = Vec::from_slice(alloc, collection.new_image(&draft.roots).words) else {
+        return Err(NoMemory);
+    };
+    let Ok(roots) = Vec::from_slice(alloc, &draft.roots) else {
+        return Err(NoMemory);
+    };
+    Ok(Plan {
+        draft,
+        words,
+        roots,
+    })
+}
+}
