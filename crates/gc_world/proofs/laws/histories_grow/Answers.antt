@@ -1,0 +1,10 @@
+use Rattle.gc_copy.specs.State.{opening_state}
+use Rattle.gc_world.proofs.Growing.{history_opens, history_more, state_more}
+use Rattle.gc_world.proofs.laws.histories_grow.Goals as goal
+
+pub returns : goal.returns
+returns c = record {
+  opening = history_opens;
+  event = λ size mutators entries entry. history_more entry size mutators entries;
+  state = λ size mutators entries entry. state_more entry (opening_state size mutators) entries;
+}
