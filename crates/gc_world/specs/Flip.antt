@@ -13,7 +13,7 @@ pub record IsDraft (heap : HeapWords) (c : CollectionWords) (draft : Draft) : Ty
   pub roots : draft.roots.items ≡ new_root_words heap (collection_in c)
 
 -- the draft, with copies of the new words and roots
-pub record IsPlan (c : CollectionWords) (draft : Draft) (plan : Plan) : Type 0 where
-  pub draft : plan.draft ≡ draft
+pub record IsPlan (c : CollectionWords) (drafted : Draft) (plan : Plan) : Type 0 where
+  pub draft : plan.draft ≡ drafted
   pub words : plan.words.items ≡ c.space.words
-  pub roots : plan.roots.items ≡ draft.roots.items
+  pub roots : plan.roots.items ≡ drafted.roots.items

@@ -42,8 +42,8 @@ abbrev pub flip_pair : State → Collection → CertifiedPair
 flip_pair s c = record { old = old_image s c; new = new_image s c; pairs = pairs_of c }
 
 -- what is there is what the history led to
-pub record IsWorld (live : Live) (past : Past) : Type 0 where
+pub record IsWorld (now : Live) (past : Past) : Type 0 where
   pub history : IsHistory past.size past.mutators past.entries
-  pub present : state_in live ≡ present past
-  pub live : IsLive live
+  pub state : state_in now ≡ present past
+  pub live : IsLive now
   pub kept : IsKept past.kept

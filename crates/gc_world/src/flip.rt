@@ -28,33 +28,41 @@ pub(crate) struct Plan {
 }
 
 impl Draft {
-/// The draft of a ready collection's flip. Two growths.
-pub(crate) fn new(alloc: Global, collection: &Collection, heap: &Heap) -> Result<Draft, NoMemory>
-    requires belongs { BelongsTo heap.now collection.now }
-    requires ready { IsTrue (is_ready (collection_in collection.now) (graph_in heap.now)) }
-    ensures { IfOk result (IsDraft heap.now collection.now) }
-{
-    let pairs = collection.pairs(alloc)?;
-    let roots = collection.new_roots(alloc, heap)?;
-    Ok(Draft { pairs, roots })
-}
+    /// The draft of a ready collection's flip. Two growths.
+    pub(crate) fn new(
+        alloc: Global,
+        collection: &Collection,
+        heap: &Heap,
+    ) -> Result<Draft, NoMemory>
+        requires belongs { BelongsTo heap.now collection.now }
+        requires ready { IsTrue (is_ready (collection_in collection.now) (graph_in heap.now)) }
+        ensures { IfOk result (IsDraft heap.now collection.now) }
+    {
+        let pairs = collection.pairs(alloc)?;
+        let roots = collection.new_roots(alloc, heap)?;
+        Ok(Draft { pairs, roots })
+    }
 }
 
 impl Plan {
-/// The flip of this draft with what is to be kept of it. Two growths.
-pub(crate) fn new(alloc: Global, collection: &Collection, draft: Draft) -> Result<Plan, NoMemory>
-    ensures { IfOk result (IsPlan collection.now draft) }
-{
-    let Ok(words) = Vec::from_slice(alloc, collection.new_image(&draft.roots).words) else {
-        return Err(NoMemory);
-    };
-    let Ok(roots) = Vec::from_slice(alloc, &draft.roots) else {
-        return Err(NoMemory);
-    };
-    Ok(Plan {
-        draft,
-        words,
-        roots,
-    })
-}
+    /// The flip of this draft with what is to be kept of it. Two growths.
+    pub(crate) fn new(
+        alloc: Global,
+        collection: &Collection,
+        draft: Draft,
+    ) -> Result<Plan, NoMemory>
+        ensures { IfOk result (IsPlan collection.now draft) }
+    {
+        let Ok(words) = Vec::from_slice(alloc, collection.new_image(&draft.roots).words) else {
+            return Err(NoMemory);
+        };
+        let Ok(roots) = Vec::from_slice(alloc, &draft.roots) else {
+            return Err(NoMemory);
+        };
+        Ok(Plan {
+            draft,
+            words,
+            roots,
+        })
+    }
 }

@@ -1,11 +1,18 @@
-ghost use Rattle.std.specs.Prelude.{◌≡◌, ◌≢◌, ◌<◌, ◌≤◌, IfOk, OnErr};
-ghost use Rattle.gc_copy.specs.State.{opening_state};
-ghost use Rattle.gc_copy.specs.Steps.{mutate, collect};
-ghost use Rattle.gc_copy.specs.Runs.{IsStep};
+ghost use Rattle.std.specs.Prelude.{◌≡◌, ◌<◌, ◌≤◌, IfOk, OnErr, IfSome, IsSomeAnd, IsTrue, length};
+ghost use Rattle.gc_heap.specs.Heap.{graph_in};
+ghost use Rattle.gc_cert.specs.Views.{pair_in};
+ghost use Rattle.gc_copy.specs.State.{opening_state, pairs_of};
+ghost use Rattle.gc_copy.specs.Steps.{mutate, collect, is_ready};
+ghost use Rattle.gc_copy.specs.Words.{collection_in};
+ghost use Rattle.gc_copy.specs.declared.step.StepReply.{StepReply};
+ghost use Rattle.gc_world.specs.Flip.{IsDraft, IsPlan};
 ghost use Rattle.gc_world.specs.Live.{state_in, IsLive};
+ghost use Rattle.gc_world.specs.World.{flip_pair};
 ghost use Rattle.gc_copy.specs.declared.step.Step.{Step};
 
-use gc_copy::{Collection, StepReply};
+use crate::flip::{Draft, Plan};
+use gc_cert::{Image, PairFile};
+use gc_copy::{Collection, StepReply, images_show_links};
 use gc_graph::{NoMemory, Op, Reply};
 use gc_heap::Heap;
 use std::alloc::Global;
@@ -127,13 +134,31 @@ impl Live {
         ensures live { IsLive self.new }
     {
         images_show_links();
+        // Here the prover learns that the heap is sound.
+        let _ = self.heap.space();
+        let Plan {
+            draft,
+            words,
+            roots: kept_roots,
+        } = plan;
+        let Draft { pairs, roots } = draft;
         let collection = self.collection.take().unwrap();
-        let new = collection.new_image(&plan.draft.roots);
+        let new = collection.new_image(&roots);
         let size = new.size;
         let end = new.end;
-        let (space, roots) = collection.flip_into(&mut self.heap, plan.draft.roots);
-        let old = Image { size: space.size(), end: space.end(), words: space.into_words(), roots };
-        let new = Image { size, end, words: plan.words, roots: plan.roots };
-        PairFile { old, new, pairs: plan.draft.pairs }
+        let (old_space, old_roots) = collection.flip_into(&mut self.heap, roots);
+        let old = Image {
+            size: old_space.size(),
+            end: old_space.end(),
+            words: old_space.into_words(),
+            roots: old_roots,
+        };
+        let new = Image {
+            size,
+            end,
+            words,
+            roots: kept_roots,
+        };
+        PairFile { old, new, pairs }
     }
 }

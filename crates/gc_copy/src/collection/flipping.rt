@@ -4,7 +4,7 @@ ghost use Rattle.gc_words.specs.Views.{image_of as image_in, addresses};
 ghost use Rattle.gc_heap.specs.Heap.{IsHeap, graph_in};
 ghost use Rattle.gc_copy.specs.State.{pairs_of};
 ghost use Rattle.gc_copy.specs.Steps.{collect, is_ready};
-ghost use Rattle.gc_copy.specs.Words.{collection_in, idle_state, open_state, BelongsTo, HasNoLinks, new_root_words};
+ghost use Rattle.gc_copy.specs.Words.{IsCollection, collection_in, idle_state, open_state, BelongsTo, HasNoLinks, new_root_words};
 ghost use Rattle.gc_copy.specs.declared.step.Step.{Step};
 ghost use Rattle.gc_copy.specs.declared.step.StepReply.{StepReply};
 
@@ -26,6 +26,7 @@ impl Collection {
     /// The new space with these roots, links included.
     pub fn new_image<'a>(&'a self, roots: &'a [u64]) -> ImageRef<'a>
         ensures words { image_in result ≡ image_with self.now.space roots.now }
+        ensures sound { IsCollection self.now }
     {
         ImageRef {
             size: self.space.size(),
