@@ -5,4 +5,4 @@ mod event;
 mod laws;
 
 pub use event::{Answer, Entry, Event};
-pub use laws::{histories_grow, runs_are_legal};
+pub use laws::{histories_grow, runs_are_legal, runs_keep_states};
