@@ -41,7 +41,7 @@ itself s = (own_pairs s.heap.graph.objects, matched_itself s.heap.graph)
 module _ (s : State) (ok : IsState s) where
   stays_follows : (step : Step) → step ≢ steps.Flip → Follows s (collect s step)
   stays_follows step other =
-      (own_pairs s.heap.graph.objects, subst (λ (t : State). Matched (own_pairs s.heap.graph.objects) s.heap.graph t.heap.graph) (sym (steps_stay s step other)) (matched_itself s.heap.graph))
+      subst (λ (t : State). (pairs : List (ℕ × ℕ)) × Matched pairs s.heap.graph t.heap.graph) (sym (steps_stay s step other)) (itself s)
 
   opened_flip : (c : Collection) → IsOpened s c → Follows s (flip s c)
   opened_flip c k =

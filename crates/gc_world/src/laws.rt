@@ -1,9 +1,15 @@
 //! What follows from the definitions: the crates above cite these calls.
 
-ghost use Rattle.std.specs.Prelude.{◌≡◌, ◌++◌, ◌∷◌, [], ℕ, List, ◌≤◌};
+ghost use Rattle.std.specs.Prelude.{◌≡◌, ◌≢◌, ◌++◌, ◌∷◌, [], ℕ, List, ◌≤◌};
+ghost use Rattle.std.specs.List.{All};
 ghost use Rattle.gc_graph.specs.Legal.{IsLegal};
-ghost use Rattle.gc_copy.specs.Runs.{IsEvent, after, answer};
-ghost use Rattle.gc_world.specs.History.{run_event, run_answer, state_after, IsUseful, IsHistory, told_of};
+ghost use Rattle.gc_copy.specs.State.{opening_state};
+ghost use Rattle.gc_copy.specs.Runs.{IsEvent, Stepped, after, answer};
+ghost use Rattle.gc_copy.specs.Belonging.{IsState};
+ghost use Rattle.gc_copy.specs.Passing.{PassesWhereReady, AlwaysHasRoom};
+ghost use Rattle.gc_copy.specs.Carried.{OnlyKeptIsPaired, base_of_run};
+ghost use Rattle.gc_copy.specs.declared.step.StepReply.TheVariants.{Refused};
+ghost use Rattle.gc_world.specs.History.{run_event, run_answer, events_of, state_after, IsUseful, IsHistory, told_of};
 ghost use Rattle.gc_world.specs.declared.event.Entry.{Entry};
 
 /// A world that was just opened has an empty history. An event with the answer that it gets, which is
@@ -28,4 +34,27 @@ pub fn histories_grow()
 pub fn runs_are_legal()
     ensures { (size mutators : ℕ) (entries : List Entry)
         → IsHistory size mutators entries → IsLegal mutators (told_of entries) }
+{}
+
+/// The state that a history leads to is as it has to be, with as many mutators as the world was opened with.
+/// A flip of a ready collection is answered `Flipped` there, with the number of its pairs; where the new space
+/// is at least as large as the old one, no step lacks room; and each original of an open collection was
+/// reachable when the collection began, or was made later. No answer of a history is `Refused`.
+pub fn runs_keep_states()
+    ensures states { (size mutators : ℕ) (entries : List Entry)
+        → IsHistory size mutators entries → IsState (state_after size mutators entries) }
+    ensures mutators { (size mutators : ℕ) (entries : List Entry)
+        → IsHistory size mutators entries → (state_after size mutators entries).mutators ≡ mutators }
+    ensures flips { (size mutators : ℕ) (entries : List Entry)
+        → IsHistory size mutators entries → PassesWhereReady (state_after size mutators entries) }
+    ensures none_refused { (size mutators : ℕ) (entries : List Entry)
+        → IsHistory size mutators entries
+        → All (λ (entry : Entry). run_answer entry.answer ≢ Stepped Refused) entries }
+    ensures room { (size mutators : ℕ) (entries : List Entry)
+        → IsHistory size mutators entries → AlwaysHasRoom (state_after size mutators entries) }
+    ensures kept { (size mutators : ℕ) (entries : List Entry)
+        → IsHistory size mutators entries
+        → (let opening = opening_state size mutators in
+        OnlyKeptIsPaired (base_of_run opening opening (events_of entries))
+        (state_after size mutators entries).collection) }
 {}

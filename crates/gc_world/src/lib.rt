@@ -7,4 +7,4 @@ mod laws;
 mod live;
 
 pub use event::{Answer, Entry, Event};
-pub use laws::{histories_grow, runs_are_legal};
+pub use laws::{histories_grow, runs_are_legal, runs_keep_states};

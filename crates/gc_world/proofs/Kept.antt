@@ -1,0 +1,46 @@
+-- What holds of the state that a history leads to, and of its answers.
+use Rattle.std.proofs.Common.{◌≡◌, ◌≢◌, ℕ, List, [], ◌∷◌, refl, sym, ◌∙◌}
+use Rattle.std.specs.List.{All}
+use Rattle.std.proofs.lemmas.List.Elements.{All-nil, All-cons}
+use Rattle.gc_copy.specs.State.{State, opening_state}
+use Rattle.gc_copy.specs.Belonging.{IsState}
+use Rattle.gc_copy.specs.Runs.{Event, Mutate, Collect, Stepped, AreEvents, after, answer, answers}
+use Rattle.gc_copy.specs.Carried.{OnlyKeptIsPaired, base_of_run}
+use Rattle.gc_copy.specs.declared.step.StepReply.TheVariants.{Refused}
+use Rattle.gc_copy.proofs.Runs.{Reached, opening_ok, event_keeps, run_keeps}
+use Rattle.gc_copy.proofs.Kept.{never_refused}
+use Rattle.gc_copy.proofs.Carried.{carries_only_kept}
+use Rattle.gc_world.specs.History.{run_event, run_answer, events_of, answers_of, RunsFrom, state_after, IsHistory}
+use Rattle.gc_world.specs.declared.event.Entry.{Entry}
+
+module _ (size mutators : ℕ) (entries : List Entry) (h : IsHistory size mutators entries) where
+  opens : Reached mutators (opening_state size mutators)
+  opens = record { ok = opening_ok size mutators h.low h.high; count = refl }
+
+  pub reached : Reached mutators (state_after size mutators entries)
+  reached = run_keeps mutators (events_of entries) (opening_state size mutators) opens h.events
+
+-- ---- no answer is `Refused`
+
+not_refused : (s : State) (event : Event) → IsState s → answer s event ≢ Stepped Refused
+not_refused s (Mutate m op) ok e = cc
+not_refused s (Collect step) ok e = never_refused s ok step (cc)
+
+none_from : (mutators : ℕ) (entries : List Entry) (s : State) → Reached mutators s → AreEvents mutators (events_of entries) → RunsFrom s entries
+    → All (λ (entry : Entry). run_answer entry.answer ≢ Stepped Refused) entries
+none_from mutators [] s h r e = All-nil _
+none_from mutators (entry ∷ entries) s h r e =
+    let first : run_answer entry.answer ≡ answer s (run_event entry.event) = cc in
+    let rest : answers_of entries ≡ answers (after s (run_event entry.event)) (events_of entries) = cc in
+    All-cons (λ (entry : Entry). run_answer entry.answer ≢ Stepped Refused) entry entries
+    (λ is. not_refused s (run_event entry.event) h.ok (sym first ∙ is))
+    (none_from mutators entries (after s (run_event entry.event)) (event_keeps mutators s (run_event entry.event) h r.0) r.1 rest)
+
+pub none_refused : (size mutators : ℕ) (entries : List Entry) → IsHistory size mutators entries → All (λ (entry : Entry). run_answer entry.answer ≢ Stepped Refused) entries
+none_refused size mutators entries h = none_from mutators entries (opening_state size mutators) (opens size mutators entries h) h.events h.run
+
+-- ---- only what is kept is carried over
+
+pub only_kept : (size mutators : ℕ) (entries : List Entry) → IsHistory size mutators entries
+    → (let opening = opening_state size mutators in OnlyKeptIsPaired (base_of_run opening opening (events_of entries)) (state_after size mutators entries).collection)
+only_kept size mutators entries h = carries_only_kept size mutators (events_of entries) h.low h.high h.events
