@@ -2,7 +2,7 @@
 use Rattle.std.proofs.Common.{◌≡◌, ℕ, suc, zero, ◌+◌, ◌-◌, ◌<◌, ◌≤◌, Bool, true, false, cond, List, [], ◌∷◌, ◌++◌, map, length, Option, Some, None, Ok, is_some, refl, ap, sym, ◌∙◌, subst, arith, append_assoc, append-nil, length-append, inl, inr}
 use Rattle.std.specs.Prelude.{◌^◌, IsOk, IsSome, slice_index, nat_le}
 use Rattle.std.proofs.lemmas.Bool.{cond-true, le-leb}
-use Rattle.std.proofs.lemmas.List.{map-append}
+use Rattle.std.proofs.lemmas.List.{map-append, length-map}
 use Rattle.gc_words.specs.Image.{Block, walk_words, blocks, block_in, block_at, is_start, header_at, ok_or_nil}
 use Rattle.gc_words.specs.Spelling.{link_at}
 use Rattle.gc_words.specs.Space.{SpaceWords, IsSpace}
@@ -139,3 +139,13 @@ link_small words at done small m less =
     let n = some_of (next_of words at) (has_next words at less m.walked) in
     let p : Passing words at n.0 done = passing words at n.0 done m less n.1 in
     small (replica_entry words (at, p.block)) (in_map (replica_entry words) (at, p.block) (blocks words) p.found)
+
+-- no more pairs than words
+pub lists_few : (space : SpaceWords) (at : ℕ) (pairs : List Pair) → IsSpace space → Lists space.words at pairs → length pairs < 2 ^ 32
+lists_few space at pairs is k =
+    let count : length pairs ≡ length k.0 = sym (length-map pairs addresses) ∙ ap length k.2 ∙ length-map (map (replica_entry space.words) k.0) pair_of ∙ length-map k.0 (replica_entry space.words) in
+    let few = (k.1).few in
+    let within = (k.1).within in
+    let high = is.end_high in
+    let size = is.size_high in
+    omega (arith, count, few, within)

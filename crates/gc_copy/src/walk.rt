@@ -40,7 +40,8 @@ fn count_objects(space: &Space) -> usize
 pub(crate) fn linked_pairs(alloc: Global, space: &Space) -> Result<Vec<Pair>, NoMemory>
     requires shaped { IsSpace space.now }
     requires links { (r : Replica) → In r (replicas_in space.now.words) → r.original < 2 ^ 32 }
-    ensures { IfOk result (λ pairs. map addresses pairs.items
+    ensures few { IfOk result (λ pairs. length pairs.items < 2 ^ 32) }
+    ensures pairs { IfOk result (λ pairs. map addresses pairs.items
         ≡ map (λ r. (r.original, r.place)) (replicas_in space.now.words)) }
 {
     let Ok(mut pairs) = Vec::with_capacity(alloc, count_objects(space)) else {

@@ -6,10 +6,11 @@ ghost use Rattle.gc_copy.specs.Steps.{is_ready};
 ghost use Rattle.gc_copy.specs.Words.{collection_in, BelongsTo};
 ghost use Rattle.gc_world.specs.Flip.{IsDraft, IsPlan};
 
-use gc_copy::Collection;
+use gc_check::{CheckFault, check};
+use gc_copy::{Collection, images_show_links};
 use gc_graph::NoMemory;
 use gc_heap::Heap;
-use gc_words::Pair;
+use gc_words::{Pair, no_fault_where_certified};
 use std::alloc::Global;
 
 /// What the checker is shown of a flip beside the two spaces: the certificate, and the moved roots.
@@ -36,7 +37,8 @@ impl Draft {
     ) -> Result<Draft, NoMemory>
         requires belongs { BelongsTo heap.now collection.now }
         requires ready { IsTrue (is_ready (collection_in collection.now) (graph_in heap.now)) }
-        ensures { IfOk result (IsDraft heap.now collection.now) }
+        ensures draft { IfOk result (IsDraft heap.now collection.now) }
+        ensures few { IfOk result (λ draft. length draft.pairs.items < 2 ^ 32) }
     {
         let pairs = collection.pairs(alloc)?;
         let roots = collection.new_roots(alloc, heap)?;
@@ -64,5 +66,29 @@ impl Plan {
             words,
             roots,
         })
+    }
+}
+
+/// Whether the checker accepts the draft; of a ready collection's it always does.
+pub(crate) fn is_accepted(
+    alloc: Global,
+    heap: &Heap,
+    collection: &Collection,
+    draft: &Draft,
+) -> Result<bool, NoMemory>
+    requires belongs { BelongsTo heap.now collection.now }
+    requires ready { IsTrue (is_ready (collection_in collection.now) (graph_in heap.now)) }
+    requires draft { IsDraft heap.now collection.now draft.now }
+    requires few { length draft.now.pairs.items < 2 ^ 32 }
+    ensures { IfOk result (λ yes. IsTrue yes) }
+{
+    images_show_links();
+    no_fault_where_certified();
+    let old = heap.image();
+    let new = collection.new_image(&draft.roots);
+    match check(alloc, old, new, &draft.pairs) {
+        Ok(_) => Ok(true),
+        Err(CheckFault::Refused(_)) => Ok(false),
+        Err(CheckFault::NoMemory) => Err(NoMemory),
     }
 }

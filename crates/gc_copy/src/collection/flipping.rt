@@ -1,4 +1,4 @@
-ghost use Rattle.std.specs.Prelude.{◌≡◌, IfOk, IsTrue, map, length};
+ghost use Rattle.std.specs.Prelude.{◌≡◌, ◌<◌, ◌^◌, IfOk, IsTrue, map, length};
 ghost use Rattle.gc_words.specs.Space.{image_with, without_links};
 ghost use Rattle.gc_words.specs.Views.{image_of as image_in, addresses};
 ghost use Rattle.gc_heap.specs.Heap.{IsHeap, graph_in};
@@ -18,7 +18,8 @@ use std::alloc::Global;
 impl Collection {
     /// The certificate: each original with its replica, in the order of the replicas.
     pub fn pairs(&self, alloc: Global) -> Result<Vec<Pair>, NoMemory>
-        ensures { IfOk result (λ pairs. map addresses pairs.items ≡ pairs_of (collection_in self.now)) }
+        ensures few { IfOk result (λ pairs. length pairs.items < 2 ^ 32) }
+        ensures pairs { IfOk result (λ pairs. map addresses pairs.items ≡ pairs_of (collection_in self.now)) }
     {
         linked_pairs(alloc, &self.space)
     }

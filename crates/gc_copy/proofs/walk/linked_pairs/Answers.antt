@@ -3,7 +3,7 @@ use Rattle.std.specs.Prelude.{◌^◌}
 use Rattle.std.specs.Result.{is_ok}
 use Rattle.std.proofs.lemmas.Bool.{cond-true}
 use Rattle.gc_words.specs.declared.image.Pair.{Pair}
-use Rattle.gc_copy.proofs.ObjectWalks.{start_met, link_small, lists_more}
+use Rattle.gc_copy.proofs.ObjectWalks.{start_met, link_small, lists_more, lists_few}
 use Rattle.gc_copy.proofs.walk.linked_pairs.Goals as goal
 
 pub link-requires : goal.link-requires
@@ -29,3 +29,6 @@ loop-at-preserved c =
     let pushed : is_ok c.push.result ≡ true = c.is_err.ensures.negation ∙ ap not c.if-is_err.false in
     let more : c.push.new.self.items ≡ c.loop-at.pairs.items ++ pair ∷ [] = c.push.ensures.items ∙ cond-true (is_ok c.push.result) _ _ pushed in
     lists_more c.args.space.now.words c.loop-at.at.0 c.behind-at.result.0 c.loop-at.pairs.items c.push.new.self.items pair c.loop-at.invariant less c.behind-at.ensures (ap (λ n. (n, c.loop-at.at.0)) c.link.ensures) more
+
+pub returns-clause-few : goal.returns-clause-few
+returns-clause-few c = lists_few c.args.space.now c.loop-at.at.0 c.loop-at.pairs.items c.requires.shaped c.loop-at.invariant
