@@ -8,8 +8,7 @@ use Rattle.gc_cert.specs.Grammar.{CertifiedPair}
 use Rattle.gc_copy.specs.State.{pairs_of}
 use Rattle.gc_copy.specs.Words.{CollectionWords, IsCollection, collection_in, state_of, open_state, BelongsTo, new_root_words}
 use Rattle.gc_copy.proofs.Shown.{old_shown, new_shown}
-use Rattle.gc_world.specs.World.{flip_pair}
-use Rattle.gc_world.specs.Flip.{IsDraft, IsPlan}
+use Rattle.gc_world.specs.Flip.{IsDraft, IsPlan, flip_pair}
 use Rattle.gc_world.specs.declared.flip.Draft.{Draft}
 use Rattle.gc_world.specs.declared.flip.Plan.{Plan}
 

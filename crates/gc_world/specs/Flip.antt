@@ -1,11 +1,19 @@
 -- What is made ready of a flip before anything changes.
-use Rattle.std.specs.Prelude.{◌≡◌, ℕ, List, length, map, Option, Some, None}
+use Rattle.std.specs.Prelude.{◌≡◌, ℕ, List, length, map, Option, Some, None, ⊤}
 use Rattle.gc_words.specs.Views.{addresses}
 use Rattle.gc_heap.specs.Heap.{HeapWords, graph_in}
 use Rattle.gc_copy.specs.State.{pairs_of}
 use Rattle.gc_copy.specs.Words.{CollectionWords, collection_in, new_root_words}
 use Rattle.gc_world.specs.declared.flip.Draft.{Draft}
 use Rattle.gc_world.specs.declared.flip.Plan.{Plan}
+use Rattle.gc_world.specs.declared.flip.Flip.{Flip}
+use Rattle.gc_world.specs.declared.flip.Flip.TheVariants.{Unchanged, Flipped}
+use Rattle.gc_copy.specs.declared.step.StepReply.{StepReply}
+use Rattle.gc_copy.specs.declared.step.StepReply.TheVariants as replies
+use Rattle.gc_cert.specs.Grammar.{CertifiedPair}
+use Rattle.gc_cert.specs.Views.{pair_in}
+use Rattle.gc_copy.specs.State.{State, Collection}
+use Rattle.gc_copy.specs.Linked.{old_image, new_image}
 
 -- the collection's pairs, and the moved roots
 pub record IsDraft (heap : HeapWords) (c : CollectionWords) (draft : Draft) : Type 0 where
@@ -17,3 +25,23 @@ pub record IsPlan (c : CollectionWords) (drafted : Draft) (plan : Plan) : Type 0
   pub draft : plan.draft ≡ drafted
   pub words : plan.words.items ≡ c.space.words
   pub roots : plan.roots.items ≡ drafted.roots.items
+
+-- ---- what came of it
+
+abbrev pub reply_of : Flip → StepReply
+reply_of (Unchanged reply) = reply
+reply_of (Flipped file) = replies.Flipped (length file.pairs.items)
+
+-- the images and the pairs of a flip, links included
+abbrev pub flip_pair : State → Collection → CertifiedPair
+flip_pair s c = record { old = old_image s c; new = new_image s c; pairs = pairs_of c }
+
+-- the pair that is kept then, if one is open
+abbrev pub kept_of : State → Option Collection → Option CertifiedPair
+kept_of s None = None
+kept_of s (Some c) = Some (flip_pair s c)
+
+-- a flip that is carried out keeps the pair of its state
+abbrev pub KeepsPair : State → Flip → Type 0
+KeepsPair s (Unchanged reply) = ⊤
+KeepsPair s (Flipped file) = kept_of s s.collection ≡ Some (pair_in file)

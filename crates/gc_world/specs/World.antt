@@ -37,10 +37,6 @@ abbrev pub IsKept : Option CertifiedPair → Type 0
 IsKept None = ⊤
 IsKept (Some pair) = Certified pair.old pair.new pair.pairs
 
--- the images and the pairs of a flip, links included
-abbrev pub flip_pair : State → Collection → CertifiedPair
-flip_pair s c = record { old = old_image s c; new = new_image s c; pairs = pairs_of c }
-
 -- what is there is what the history led to
 pub record IsWorld (now : Live) (past : Past) : Type 0 where
   pub history : IsHistory past.size past.mutators past.entries

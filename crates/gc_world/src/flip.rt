@@ -6,12 +6,20 @@ ghost use Rattle.gc_copy.specs.Steps.{is_ready};
 ghost use Rattle.gc_copy.specs.Words.{collection_in, BelongsTo};
 ghost use Rattle.gc_world.specs.Flip.{IsDraft, IsPlan};
 
+use gc_cert::PairFile;
 use gc_check::{CheckFault, check};
-use gc_copy::{Collection, images_show_links};
+use gc_copy::{Collection, StepReply, images_show_links};
 use gc_graph::NoMemory;
 use gc_heap::Heap;
 use gc_words::{Pair, no_fault_where_certified};
 use std::alloc::Global;
+
+/// What came of a flip: an answer that changed nothing, or the pair that the checker accepted.
+#[derive(Debug, Drop)]
+pub(crate) enum Flip {
+    Unchanged(StepReply),
+    Flipped(PairFile),
+}
 
 /// What the checker is shown of a flip beside the two spaces: the certificate, and the moved roots.
 #[derive(Debug, Drop)]

@@ -5,12 +5,11 @@ ghost use Rattle.gc_copy.specs.State.{opening_state, pairs_of};
 ghost use Rattle.gc_copy.specs.Steps.{mutate, collect, is_ready};
 ghost use Rattle.gc_copy.specs.Words.{collection_in};
 ghost use Rattle.gc_copy.specs.declared.step.StepReply.{StepReply};
-ghost use Rattle.gc_world.specs.Flip.{IsDraft, IsPlan};
+ghost use Rattle.gc_world.specs.Flip.{IsDraft, IsPlan, flip_pair, reply_of, KeepsPair};
 ghost use Rattle.gc_world.specs.Live.{state_in, IsLive};
-ghost use Rattle.gc_world.specs.World.{flip_pair};
 ghost use Rattle.gc_copy.specs.declared.step.Step.{Step};
 
-use crate::flip::{Draft, Plan};
+use crate::flip::{Draft, Flip, Plan, is_accepted};
 use gc_cert::{Image, PairFile};
 use gc_copy::{Collection, StepReply, images_show_links};
 use gc_graph::{NoMemory, Op, Reply};
@@ -122,6 +121,29 @@ impl Live {
         };
         collection.drop_into(&mut self.heap);
         StepReply::Dropped
+    }
+
+    /// Flips where the collection is ready and the checker accepts its pairs. All growths come before the first
+    /// change.
+    pub(crate) fn flip(&mut self, alloc: Global) -> Result<Flip, NoMemory>
+        requires { IsLive self.old }
+        ensures step { IfOk result (λ flip. collect (state_in self.old) Step.Flip ≡ (reply_of flip, state_in self.new)) }
+        ensures kept { IfOk result (KeepsPair (state_in self.old)) }
+        ensures refused { OnErr result (self.new ≡ self.old) }
+        ensures live { IsLive self.new }
+    {
+        let Some(collection) = &self.collection else {
+            return Ok(Flip::Unchanged(StepReply::Idle));
+        };
+        if !collection.ready(&self.heap) {
+            return Ok(Flip::Unchanged(StepReply::NotReady));
+        }
+        let draft = Draft::new(alloc, collection, &self.heap)?;
+        if !is_accepted(alloc, &self.heap, collection, &draft)? {
+            return Ok(Flip::Unchanged(StepReply::Refused));
+        }
+        let plan = Plan::new(alloc, collection, draft)?;
+        Ok(Flip::Flipped(self.carry_out(plan)))
     }
 
     /// Carries out a flip for which all is ready, and hands out the pair that the checker saw.
