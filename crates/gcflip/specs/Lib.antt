@@ -1,2 +1,6 @@
+pub mod Checking
 pub mod CommandLine
 pub mod Faults
+pub mod PairFaults
+pub mod Statuses
+pub mod TraceFaults

@@ -1,7 +1,9 @@
-ghost use Rattle.std.specs.Prelude.{◌≡◌, ◌≢◌, ◌⊎◌, Contains};
+ghost use Rattle.std.specs.Prelude.{◌≡◌, ◌≢◌, ◌⊎◌, Contains, IfOk};
 ghost use Rattle.clap.specs.Values.{kind_of};
-ghost use Rattle.gcflip.specs.Faults.{status_of, statuses};
+ghost use Rattle.gcflip.specs.Faults.{status_of};
+ghost use Rattle.gcflip.specs.Statuses.{statuses, statuses_of};
 
+use crate::check::check_from;
 use crate::fault::{Fault, write_fault};
 use crate::task::{Task, refusal_of_no_text, task_of};
 use clap::Error;
@@ -15,12 +17,14 @@ use std::rt::Files;
 use std::{env, fs, io};
 
 /// Plays what the reader gives to standard output.
-fn play_from<R: Read + Drop>(rt: &(impl Print + AllocGlobal), reader: R) -> Result<(), Fault> {
+fn play_from<R: Read + Drop>(rt: &(impl Print + AllocGlobal), reader: R) -> Result<u8, Fault>
+    ensures { IfOk result (λ status. status ≡ 0) }
+{
     let mut source = Source::new(reader);
     // The engine has a buffer of its own.
     let mut sink = Sink::new(io::writer(rt));
     match play(rt.alloc(), &mut source, &mut sink) {
-        Ok(()) => Ok(()),
+        Ok(()) => Ok(0),
         Err(fault) => Err(Fault::Play(fault)),
     }
 }
@@ -33,10 +37,18 @@ fn open<R: Files>(rt: &R, path: &str) -> Result<R::File, Fault> {
     }
 }
 
-fn perform<R: Files + Input + Print + AllocGlobal>(rt: &R, task: Task<'_>) -> Result<(), Fault> {
+/// Does the task, and gives the status that tells what came out.
+fn perform<R: Files + Input + Print + AllocGlobal>(rt: &R, task: Task<'_>) -> Result<u8, Fault>
+    ensures { IfOk result (λ status. Contains (statuses_of task.entry) status) }
+{
     match task {
         Task::PlayInput => play_from(rt, rt.reader()),
         Task::Play(path) => play_from(rt, open(rt, path)?),
+        Task::Check(path) => {
+            let mut source = Source::new(open(rt, path)?);
+            let mut sink = Sink::new(io::writer(rt));
+            check_from(rt.alloc(), &mut source, &mut sink)
+        }
     }
 }
 
@@ -59,7 +71,7 @@ fn tell<E: Print>(errors: &E, fault: &Fault) -> u8
 }
 
 /// Prints why the words ask for nothing; help is asked for, and no mistake.
-#[tactic(auto, using(crate::proofs::Statuses::played_is_status, crate::proofs::Statuses::refused_is_status))]
+#[tactic(auto, using(crate::proofs::Statuses::done_is_status, crate::proofs::Statuses::mistake_is_status))]
 fn refuse<R: Print + Eprint, E: Print>(rt: &R, errors: &E, error: &Error) -> u8
     ensures memory { kind_of error.now ≡ ErrorKind.OutOfMemory → result ≡ 5 }
     ensures shown { (kind_of error.now ≡ ErrorKind.DisplayHelp)
@@ -84,7 +96,7 @@ fn refuse<R: Print + Eprint, E: Print>(rt: &R, errors: &E, error: &Error) -> u8
 
 /// Does what the command line asks, and gives the status. `errors` prints to standard error, for which the runtime
 /// has no writer of its own.
-#[tactic(auto, using(crate::proofs::Statuses::played_is_status))]
+#[tactic(auto, using(crate::proofs::Statuses::done_is_status))]
 pub fn run<R: Files + Env + Input + Print + Eprint + AllocGlobal, E: Print>(
     rt: &R,
     errors: &E,
@@ -100,7 +112,7 @@ pub fn run<R: Files + Env + Input + Print + Eprint + AllocGlobal, E: Print>(
         Err(error) => return refuse(rt, errors, &error),
     };
     match perform(rt, task) {
-        Ok(()) => 0,
+        Ok(status) => status,
         Err(fault) => tell(errors, &fault),
     }
 }

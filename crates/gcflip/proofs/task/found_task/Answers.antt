@@ -4,8 +4,16 @@ use Rattle.gcflip.proofs.task.found_task.Goals as goal
 
 pub returns-in_err-file-clause-play : goal.returns-in_err-file-clause-play
 returns-in_err-file-clause-play c rows path is first =
-    absurd (absent_has_no_text _ _ path (search rules) c.get_str.ensures (found_file c.in-Some.matches.now _ rows path c.in-Some.ensures.rows is first))
+    absurd (absent_has_no_text _ _ path (search rules) c.get_str.ensures (found_file c.in-Some.matches.now _ rows _ path c.in-Some.ensures.rows is first))
+
+pub returns-in_err-file-clause-check : goal.returns-in_err-file-clause-check
+returns-in_err-file-clause-check c rows path is first =
+    absurd (absent_has_no_text _ _ path (search rules) c.get_str.ensures (found_file c.in-Some.matches.now _ rows _ path c.in-Some.ensures.rows is first))
 
 pub returns-in-play-clause-play : goal.returns-in-play-clause-play
 returns-in-play-clause-play c rows path is first =
-    present_has_text c.get_str.result c.in_ok-file.file _ path (search rules) c.get_str.ensures (found_file c.in-Some.matches.now _ rows path c.in-Some.ensures.rows is first)
+    present_has_text c.get_str.result c.in_ok-file.file _ path (search rules) c.get_str.ensures (found_file c.in-Some.matches.now _ rows _ path c.in-Some.ensures.rows is first)
+
+pub returns-in-check-clause-check : goal.returns-in-check-clause-check
+returns-in-check-clause-check c rows path is first =
+    present_has_text c.get_str.result c.in_ok-file.file _ path (search rules) c.get_str.ensures (found_file c.in-Some.matches.now _ rows _ path c.in-Some.ensures.rows is first)
