@@ -1,5 +1,5 @@
 -- What the program makes of a pair text.
-use Rattle.std.specs.Prelude.{◌≡◌, ℕ, List, Option, ⊤}
+use Rattle.std.specs.Prelude.{◌≡◌, ℕ, List, Option}
 use Rattle.std.specs.Io.KnownBytes.{Appends}
 use Rattle.gc_cert.specs.Grammar.{CertifiedPair}
 use Rattle.gc_cert.specs.Faults.{IsReadAs}
@@ -7,8 +7,6 @@ use Rattle.gc_check.specs.Headline.{Replicated}
 use Rattle.gc_check.specs.Texts.{verdict_on}
 use Rattle.gc_check.specs.Verdict.{verdict_line}
 use Rattle.gcflip.specs.Statuses.{verdict_status}
-use Rattle.gcflip.specs.declared.fault.Fault.{Fault}
-use Rattle.gcflip.specs.declared.fault.Fault.TheVariants.{Open, NoMemory, Play, Check}
 
 -- the text spells a pair, the status is that of the verdict on it, and the verdict's line went out and nothing else
 pub record TellsVerdict (text : List ℕ) (status : ℕ) (old new : Option (List ℕ)) : Type 0 where
@@ -20,10 +18,3 @@ pub record TellsVerdict (text : List ℕ) (status : ℕ) (old new : Option (List
 -- what the text spells is replicated
 abbrev pub SpellsReplicated : List ℕ → Type 0
 SpellsReplicated text = (pair : CertifiedPair) → IsReadAs pair text → Replicated pair.old pair.new pair.pairs
-
--- the fault is the checker's
-abbrev pub IsOfCheck : Fault → Type 0
-IsOfCheck Open = ⊥
-IsOfCheck NoMemory = ⊥
-IsOfCheck (Play fault) = ⊥
-IsOfCheck (Check fault) = ⊤

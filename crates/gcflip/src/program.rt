@@ -1,7 +1,8 @@
-ghost use Rattle.std.specs.Prelude.{◌≡◌, ◌≢◌, ◌⊎◌, Contains, IfOk};
+ghost use Rattle.std.specs.Prelude.{◌≡◌, ◌≢◌, ◌⊎◌, Contains, IfOk, IfErr};
 ghost use Rattle.clap.specs.Values.{kind_of};
 ghost use Rattle.gcflip.specs.Faults.{status_of};
-ghost use Rattle.gcflip.specs.Statuses.{statuses, statuses_of};
+ghost use Rattle.gcflip.specs.Outcomes.{IsFaultOf, IsOfOpening, IsOfPlay, IsStatusOf};
+ghost use Rattle.gcflip.specs.Statuses.{statuses};
 
 use crate::check::check_from;
 use crate::fault::{Fault, write_fault};
@@ -18,7 +19,8 @@ use std::{env, fs, io};
 
 /// Plays what the reader gives to standard output.
 fn play_from<R: Read + Drop>(rt: &(impl Print + AllocGlobal), reader: R) -> Result<u8, Fault>
-    ensures { IfOk result (λ status. status ≡ 0) }
+    ensures done { IfOk result (λ status. status ≡ 0) }
+    ensures player { IfErr result IsOfPlay }
 {
     let mut source = Source::new(reader);
     // The engine has a buffer of its own.
@@ -29,7 +31,9 @@ fn play_from<R: Read + Drop>(rt: &(impl Print + AllocGlobal), reader: R) -> Resu
     }
 }
 
-fn open<R: Files>(rt: &R, path: &str) -> Result<R::File, Fault> {
+fn open<R: Files>(rt: &R, path: &str) -> Result<R::File, Fault>
+    ensures { IfErr result IsOfOpening }
+{
     match fs::open(rt, path) {
         Ok(file) => Ok(file),
         Err(error) if error.kind() == io::ErrorKind::OutOfMemory => Err(Fault::NoMemory),
@@ -39,7 +43,8 @@ fn open<R: Files>(rt: &R, path: &str) -> Result<R::File, Fault> {
 
 /// Does the task, and gives the status that tells what came out.
 fn perform<R: Files + Input + Print + AllocGlobal>(rt: &R, task: Task<'_>) -> Result<u8, Fault>
-    ensures { IfOk result (λ status. Contains (statuses_of task.entry) status) }
+    ensures done { IfOk result (IsStatusOf task.entry) }
+    ensures failed { IfErr result (IsFaultOf task.entry) }
 {
     match task {
         Task::PlayInput => play_from(rt, rt.reader()),
@@ -70,6 +75,17 @@ fn tell<E: Print>(errors: &E, fault: &Fault) -> u8
     write_fault(&mut Sink::new(io::writer(errors)), fault)
 }
 
+/// The status of what came of a task. A fault is told.
+fn finish<E: Print>(errors: &E, outcome: Result<u8, Fault>) -> u8
+    ensures done { IfOk outcome (λ status. result ≡ status) }
+    ensures failed { IfErr outcome (λ fault. result ≡ status_of fault) }
+{
+    match outcome {
+        Ok(status) => status,
+        Err(fault) => tell(errors, &fault),
+    }
+}
+
 /// Prints why the words ask for nothing; help is asked for, and no mistake.
 #[tactic(auto, using(crate::proofs::Statuses::done_is_status, crate::proofs::Statuses::mistake_is_status))]
 fn refuse<R: Print + Eprint, E: Print>(rt: &R, errors: &E, error: &Error) -> u8
@@ -96,7 +112,7 @@ fn refuse<R: Print + Eprint, E: Print>(rt: &R, errors: &E, error: &Error) -> u8
 
 /// Does what the command line asks, and gives the status. `errors` prints to standard error, for which the runtime
 /// has no writer of its own.
-#[tactic(auto, using(crate::proofs::Statuses::done_is_status))]
+#[tactic(auto, using(crate::proofs::Statuses::outcome_has_status))]
 pub fn run<R: Files + Env + Input + Print + Eprint + AllocGlobal, E: Print>(
     rt: &R,
     errors: &E,
@@ -111,8 +127,5 @@ pub fn run<R: Files + Env + Input + Print + Eprint + AllocGlobal, E: Print>(
         Ok(task) => task,
         Err(error) => return refuse(rt, errors, &error),
     };
-    match perform(rt, task) {
-        Ok(status) => status,
-        Err(fault) => tell(errors, &fault),
-    }
+    finish(errors, perform(rt, task))
 }
