@@ -5,6 +5,7 @@ mod check;
 mod fault;
 mod numbered;
 mod pair_faults;
+mod play;
 mod program;
 mod task;
 mod trace_faults;

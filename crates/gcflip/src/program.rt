@@ -1,35 +1,21 @@
 ghost use Rattle.std.specs.Prelude.{◌≡◌, ◌≢◌, ◌⊎◌, Contains, IfOk, IfErr};
 ghost use Rattle.clap.specs.Values.{kind_of};
 ghost use Rattle.gcflip.specs.Faults.{status_of};
-ghost use Rattle.gcflip.specs.Outcomes.{IsFaultOf, IsOfOpening, IsOfPlay, IsStatusOf};
+ghost use Rattle.gcflip.specs.Outcomes.{IsFaultOf, IsOfOpening, IsStatusOf};
 ghost use Rattle.gcflip.specs.Statuses.{statuses};
 
 use crate::check::check_from;
 use crate::fault::{Fault, write_fault};
+use crate::play::play_from;
 use crate::task::{Task, refusal_of_no_text, task_of};
 use clap::Error;
 use clap::error::ErrorKind;
 use gc_graph::{Sink, Source};
-use gc_trace::{PlayFault, play};
+use gc_trace::PlayFault;
 use std::alloc::AllocError;
 use std::env::Env;
-use std::io::Read;
 use std::rt::Files;
 use std::{env, fs, io};
-
-/// Plays what the reader gives to standard output.
-fn play_from<R: Read + Drop>(rt: &(impl Print + AllocGlobal), reader: R) -> Result<u8, Fault>
-    ensures done { IfOk result (λ status. status ≡ 0) }
-    ensures player { IfErr result IsOfPlay }
-{
-    let mut source = Source::new(reader);
-    // The engine has a buffer of its own.
-    let mut sink = Sink::new(io::writer(rt));
-    match play(rt.alloc(), &mut source, &mut sink) {
-        Ok(()) => Ok(0),
-        Err(fault) => Err(Fault::Play(fault)),
-    }
-}
 
 fn open<R: Files>(rt: &R, path: &str) -> Result<R::File, Fault>
     ensures { IfErr result IsOfOpening }
@@ -46,14 +32,13 @@ fn perform<R: Files + Input + Print + AllocGlobal>(rt: &R, task: Task<'_>) -> Re
     ensures done { IfOk result (IsStatusOf task.entry) }
     ensures failed { IfErr result (IsFaultOf task.entry) }
 {
+    let alloc = rt.alloc();
+    // The engines have buffers of their own.
+    let mut sink = Sink::new(io::writer(rt));
     match task {
-        Task::PlayInput => play_from(rt, rt.reader()),
-        Task::Play(path) => play_from(rt, open(rt, path)?),
-        Task::Check(path) => {
-            let mut source = Source::new(open(rt, path)?);
-            let mut sink = Sink::new(io::writer(rt));
-            check_from(rt.alloc(), &mut source, &mut sink)
-        }
+        Task::PlayInput => play_from(alloc, &mut Source::new(rt.reader()), &mut sink),
+        Task::Play(path) => play_from(alloc, &mut Source::new(open(rt, path)?), &mut sink),
+        Task::Check(path) => check_from(alloc, &mut Source::new(open(rt, path)?), &mut sink),
     }
 }
 
