@@ -16,7 +16,7 @@ const REFUSED: &[u8] = b"heappair 1\nold 8 3\n0\n16777216\n0\nroots 1\n2\n\
 #[test]
 fn verdicts_have_their_lines_and_statuses(rt: HostRuntime) -> Result<(), Fail> {
     let refused: &[u8] = b"refused 8 HeaderDiffers 0\n";
-    for (text, line, status) in [(YES, b"yes 1\n" as &[u8], 0), (REFUSED, refused, 1)] {
+    for (text, line, status) in [(YES, b"yes 1\n".as_slice(), 0), (REFUSED, refused, 1)] {
         let mut sink = Sink::new(Vec::new(rt.alloc()));
         let found = check_from(rt.alloc(), &mut Source::new(text), &mut sink);
         assert_eq!(rt; found, Ok(status));
