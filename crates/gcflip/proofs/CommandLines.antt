@@ -1,12 +1,16 @@
 -- What clap's definitions find in the words that the program takes.
 use Rattle.std.proofs.Common.{◌≡◌, ◌==◌, ◌∙◌, List, [], ◌∷◌, refl, sym, ap, codes, drop, Bool, true, false, Option, Some, None, option_map}
 use Rattle.std.specs.Borrow.{Bor}
+use Rattle.std.specs.Box.{box_value}
+use Rattle.std.specs.Prelude.{Box}
 use Rattle.std.specs.Str.{bytes_eq}
-use Rattle.clap.specs.Words.{App, HasMatchesOf, Row, Text, fault_of, first_of, first_value, found_of, is_simple, is_simple_and_free, rows_of, subcommand_of, subcommand_rows_of, takes}
+use Rattle.clap.specs.Words.{App, HasMatchesOf, Row, Text, fault_of, first_of, first_value, found_of, is_simple, is_simple_and_free, rows_of, subcommand_name_of, subcommand_of, subcommand_rows, subcommand_rows_of, takes}
 use Rattle.clap.specs.declared.parser.ArgMatches.{ArgMatches}
+use Rattle.clap.specs.declared.parser.matches.ArgMatches.TheViews.{out-ArgMatches, out-SubCommand}
+use Rattle.clap.specs.declared.parser.matches.SubCommand.{SubCommand}
 use Rattle.clap.proofs.OnLiterals.{clap_on_literals}
 use Rattle.clap.proofs.WalkLemmas.{first_value-rows}
-use Rattle.gcflip.specs.CommandLine.{command_line, IsPlainWord}
+use Rattle.gcflip.specs.CommandLine.{command_line, FindsFile, IsPlainWord}
 
 -- ---- no words behind the program's name
 
@@ -118,6 +122,24 @@ found_file m o rows name path same is first =
     let is_rows : Some (rows_of (found_of m)) ≡ Some rows = same ∙ ap (option_map (λ (p : Text × List Row). p.1)) is in
     let rows_are : rows_of (found_of m) ≡ rows = cc in
     first_value-rows (found_of m) (codes "FILE") ∙ ap (first_of (codes "FILE")) rows_are ∙ first
+
+-- ---- and back: a task is what the rows ask for
+
+names_of_rows : {Z : Type 0} (s : Option (Box SubCommand Z)) → option_map (λ b. (out-SubCommand (box_value b)).name.now) s ≡ option_map (λ p. p.0) (subcommand_rows s)
+names_of_rows None = refl
+names_of_rows (Some b) = refl
+
+finds_file : (o : Option (Text × List Row)) (name file : Text) (rows : List Row) → Some name ≡ option_map (λ p. p.0) o → Some rows ≡ option_map (λ p. p.1) o → first_of (codes "FILE") rows ≡ Some file → FindsFile name file o
+finds_file None name file rows is_name is_rows first = cc
+finds_file (Some p) name file rows is_name is_rows first =
+    let name_is : p.0 ≡ name = cc in
+    let rows_are : p.1 ≡ rows = cc in
+    (name_is, ap (first_of (codes "FILE")) rows_are ∙ first)
+
+pub matches_find_file : (m found : ArgMatches) (name file : Text) → Some name ≡ subcommand_name_of m → Some (rows_of (found_of found)) ≡ option_map (λ p. p.1) (subcommand_rows_of m) → first_value (found_of found) (codes "FILE") ≡ Some file → FindsFile name file (subcommand_rows_of m)
+matches_find_file m found name file is_name is_rows first =
+    finds_file (subcommand_rows_of m) name file (rows_of (found_of found)) (is_name ∙ names_of_rows (out-ArgMatches m).subcommand) is_rows
+    (sym (first_value-rows (found_of found) (codes "FILE")) ∙ first)
 
 -- ---- what a reference that may be there points to
 

@@ -1,7 +1,7 @@
 -- The command line, as clap's definitions see it, and what words ask for.
-use Rattle.std.specs.Prelude.{◌≡◌, ℕ, true, List, None, codes}
+use Rattle.std.specs.Prelude.{◌≡◌, ℕ, true, List, Option, Some, None, codes}
 use Rattle.clap.specs.Lexer.{strip_byte}
-use Rattle.clap.specs.Words.{App, Rule, new_app, new_rule, with_rule, with_subcommand}
+use Rattle.clap.specs.Words.{App, Row, Rule, first_of, new_app, new_rule, with_rule, with_subcommand}
 use Rattle.gcflip.specs.declared.task.Task.{Task}
 use Rattle.gcflip.specs.declared.task.Task.TheVariants.{PlayInput, Play, Check}
 
@@ -36,3 +36,14 @@ abbrev pub ChecksFile : Task → List ℕ → Type 0
 ChecksFile PlayInput path = ⊥
 ChecksFile (Play file) path = ⊥
 ChecksFile (Check file) path = file.now ≡ path
+
+-- the subcommand of this name was found, and the path as its FILE
+abbrev pub FindsFile : List ℕ → List ℕ → Option (List ℕ × List Row) → Type 0
+FindsFile name path None = ⊥
+FindsFile name path (Some found) = (found.0 ≡ name) × (first_of (codes "FILE") found.1 ≡ Some path)
+
+-- where this was found for a subcommand, the task is what it asks for
+abbrev pub IsAskedBy : Option (List ℕ × List Row) → Task → Type 0
+IsAskedBy found PlayInput = found ≡ None
+IsAskedBy found (Play file) = FindsFile (codes "play") file.now found
+IsAskedBy found (Check file) = FindsFile (codes "check") file.now found

@@ -1,8 +1,8 @@
 ghost use Rattle.std.specs.Prelude.{◌≡◌, ◌⊎◌, ℕ, List, [], ◌∷◌, codes, drop, map, string_bytes, false};
-ghost use Rattle.std.specs.Prelude.{Some, None, IfOk, IfErr, IsSomeAnd, MatchResult};
-ghost use Rattle.clap.specs.Words.{Row, app_of, fault_of, first_of, kind_of, subcommand_rows_of};
+ghost use Rattle.std.specs.Prelude.{Some, None, IfSome, IfOk, IfErr, IsSomeAnd, MatchResult};
+ghost use Rattle.clap.specs.Words.{Row, app_of, fault_of, first_of, kind_of, subcommand_of, subcommand_rows_of};
 ghost use Rattle.clap.specs.declared.builder.Command.TheViews.{out-Command};
-ghost use Rattle.gcflip.specs.CommandLine.{IsPlainWord, PlaysFile, ChecksFile, command_line, file_command};
+ghost use Rattle.gcflip.specs.CommandLine.{IsAskedBy, IsPlainWord, PlaysFile, ChecksFile, command_line, file_command};
 
 use clap::error::ErrorKind;
 use clap::{Arg, ArgMatches, Command, Error};
@@ -59,6 +59,7 @@ fn found_task<'a>(matches: &ArgMatches<'a>) -> Option<Task<'a>>
     ensures check { (rows : List Row) (path : List ℕ)
         → subcommand_rows_of matches.now ≡ Some (codes "check", rows)
         → first_of (codes "FILE") rows ≡ Some path → IsSomeAnd result (λ task. ChecksFile task path) }
+    ensures asked { IfSome result (IsAskedBy (subcommand_rows_of matches.now)) }
 {
     let Some((name, matches)) = matches.subcommand() else {
         return Some(Task::PlayInput);
@@ -82,6 +83,8 @@ pub fn task_of<'a>(alloc: Global, words: &'a [String]) -> Result<Task<'a>, Error
     ensures check { (path : List ℕ) → IsPlainWord path
         → drop 1 (map string_bytes words.now) ≡ codes "check" ∷ path ∷ [] →
         MatchResult result (λ task. ChecksFile task path) (λ e. kind_of e ≡ ErrorKind.OutOfMemory) }
+    // A task is what clap's definitions find in the words.
+    ensures asked { IfOk result (IsAskedBy (subcommand_of command_line (map string_bytes words.now))) }
     // Words in which clap finds a fault, or a call for help, ask for no task.
     ensures faultless { IfOk result (λ _. fault_of command_line (map string_bytes words.now) ≡ []) }
 {
