@@ -43,7 +43,9 @@ fn perform<R: Files + Input + Print + AllocGlobal>(rt: &R, task: Task<'_>) -> Re
 }
 
 /// The words of the command line.
-fn words<R: Env + AllocGlobal>(rt: &R) -> Result<Vec<String>, Error> {
+fn words<R: Env + AllocGlobal>(rt: &R) -> Result<Vec<String>, Error>
+    ensures { IfErr result (λ e. (kind_of e ≡ ErrorKind.InvalidValue) ⊎ (kind_of e ≡ ErrorKind.OutOfMemory)) }
+{
     match env::args(rt) {
         Ok(words) => Ok(words.collect(rt.alloc())?),
         Err(error) if error.kind() == io::ErrorKind::OutOfMemory => Err(Error::from(AllocError)),
