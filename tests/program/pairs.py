@@ -177,10 +177,14 @@ def refused_texts():
     yield "bad_line_before_the_early_end", LEAST[: LEAST.index(b"roots")] + b"x\n", bad_line(4)
 
 
-def greatest_text():
-    """The text with the most pairs that there may be, and its verdict."""
-    count = 524287
-    image = "%d %d\n0\n" % (1048576, 1 + 2 * count) + "16777216\n0\n" * count + "roots 272\n" + "2\n" * 272
+def all_paired(count, roots):
+    """The text of so many objects without fields, each paired with the one in its place, and its verdict."""
+    image = "1048576 %d\n0\n" % (1 + 2 * count) + "16777216\n0\n" * count + "roots %d\n" % roots + "2\n" * roots
     pairs = "".join("%d %d\n" % (place, place) for place in range(1, 1 + 2 * count, 2))
     text = "heappair 1\nold %snew %spairs %d\n%send\n" % (image, image, count, pairs)
     return text.encode(), "yes %d" % count
+
+
+def greatest_text():
+    """The text with the most pairs and roots that there may be, and its verdict."""
+    return all_paired(524287, 272)
