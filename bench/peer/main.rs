@@ -1,7 +1,9 @@
-//! The player of traces in plain Rust, for its speed alone: it reads, plays and writes what gcflip does, with the
-//! panics, checks and unproved steps of ordinary Rust. Nothing else of the repository stands on it.
+//! The player of traces and the checker of pairs in plain Rust, for their speed alone: they read, play, check and write
+//! what gcflip does, with the panics, checks and unproved steps of ordinary Rust. Nothing else of the repository stands
+//! on them.
 
 mod machine;
+mod pair;
 mod text;
 
 use std::fs::File;
@@ -11,11 +13,11 @@ use std::process::ExitCode;
 /// The most bytes of a trace.
 const LIMIT: u64 = 16_777_216;
 
-fn read(path: Option<String>) -> io::Result<Vec<u8>> {
+fn read(path: Option<String>, limit: u64) -> io::Result<Vec<u8>> {
     let mut bytes = Vec::new();
     match path {
-        Some(path) => File::open(path)?.take(LIMIT + 1).read_to_end(&mut bytes)?,
-        None => io::stdin().lock().take(LIMIT + 1).read_to_end(&mut bytes)?,
+        Some(path) => File::open(path)?.take(limit + 1).read_to_end(&mut bytes)?,
+        None => io::stdin().lock().take(limit + 1).read_to_end(&mut bytes)?,
     };
     Ok(bytes)
 }
@@ -40,16 +42,26 @@ fn told(line: &str, status: u8) -> ExitCode {
     ExitCode::from(status)
 }
 
-/// `peer [play FILE]`, as gcflip takes it.
+fn written(lines: &[u8], status: u8) -> ExitCode {
+    match io::stdout().write_all(lines).and_then(|()| io::stdout().flush()) {
+        Ok(()) => ExitCode::from(status),
+        Err(_) => told("cannot write", 4),
+    }
+}
+
+/// `peer [play FILE]` and `peer check FILE`, as gcflip takes them.
 fn main() -> ExitCode {
-    let Ok(bytes) = read(std::env::args().nth(2)) else {
+    let checks = std::env::args().nth(1).is_some_and(|word| word == "check");
+    let Ok(bytes) = read(std::env::args().nth(2), if checks { pair::LIMIT } else { LIMIT }) else {
         return told("cannot read", 4);
     };
-    match played(&bytes) {
+    let answer = if checks {
+        pair::verdict(&bytes).map(|(line, status)| (line.into_bytes(), status))
+    } else {
+        played(&bytes).map(|lines| (lines, 0))
+    };
+    match answer {
         Err(line) => told(&line, 3),
-        Ok(lines) => match io::stdout().write_all(&lines).and_then(|()| io::stdout().flush()) {
-            Ok(()) => ExitCode::SUCCESS,
-            Err(_) => told("cannot write", 4),
-        },
+        Ok((lines, status)) => written(&lines, status),
     }
 }

@@ -46,7 +46,7 @@ impl<'a> Words<'a> {
 }
 
 /// Digits without a leading zero.
-fn decimal(digits: &[u8]) -> Option<u64> {
+pub fn decimal(digits: &[u8]) -> Option<u64> {
     if digits.is_empty() || (digits[0] == b'0' && digits.len() > 1) {
         return None;
     }
@@ -94,7 +94,7 @@ fn sizes(line: &[u8]) -> Option<(u32, u8)> {
 }
 
 /// The line, without its end, and what follows it.
-fn cut(text: &[u8]) -> Option<(&[u8], &[u8])> {
+pub fn cut(text: &[u8]) -> Option<(&[u8], &[u8])> {
     let end = text.iter().position(|byte| *byte == b'\n')?;
     Some((&text[..end], &text[end + 1..]))
 }

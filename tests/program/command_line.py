@@ -2,6 +2,7 @@
 import os
 
 from .harness import Outcome, difference, refusal, run
+from .pairs import LEAST
 from .traces import PLAYED, trace_and_replies
 
 HELP = b"""Plays the trace on standard input, or does what a subcommand says
@@ -9,8 +10,9 @@ HELP = b"""Plays the trace on standard input, or does what a subcommand says
 Usage: gcflip [COMMAND]
 
 Commands:
-  play  Plays a trace: writes a line for each reply
-  help  Print this message or the help of the given subcommand(s)
+  play   Plays a trace: writes a line for each reply
+  check  Checks a pair of heaps: writes the line of the verdict
+  help   Print this message or the help of the given subcommand(s)
 
 Options:
   -h, --help  Print help
@@ -27,6 +29,17 @@ Options:
   -h, --help  Print help
 """
 
+CHECK_HELP = b"""Checks a pair of heaps: writes the line of the verdict
+
+Usage: gcflip check <FILE>
+
+Arguments:
+  <FILE>  The path of the file to read
+
+Options:
+  -h, --help  Print help
+"""
+
 HELP_WORDS = {
     ("--help",): HELP,
     ("-h",): HELP,
@@ -34,6 +47,9 @@ HELP_WORDS = {
     ("play", "--help"): PLAY_HELP,
     ("play", "-h"): PLAY_HELP,
     ("help", "play"): PLAY_HELP,
+    ("check", "--help"): CHECK_HELP,
+    ("check", "-h"): CHECK_HELP,
+    ("help", "check"): CHECK_HELP,
     ("--help", "nothing"): HELP,
 }
 
@@ -47,9 +63,15 @@ REFUSED_WORDS = {
     ("play",): "error: the following required arguments were not provided:",
     ("play", "a", "b"): "error: unexpected argument 'b' found",
     ("play", "--nothing", "a"): "error: unexpected argument '--nothing' found",
+    ("Check", "a"): "error: unrecognized subcommand 'Check'",
+    ("check",): "error: the following required arguments were not provided:",
+    ("check", "a", "b"): "error: unexpected argument 'b' found",
+    ("check", "--nothing", "a"): "error: unexpected argument '--nothing' found",
+    ("play", "check", "a"): "error: unexpected argument 'a' found",
     ("help", "nothing"): "error: unrecognized subcommand 'nothing'",
     (b"\xff",): "error: invalid UTF-8 was detected in one or more arguments",
     ("play", b"\xff"): "error: invalid UTF-8 was detected in one or more arguments",
+    ("check", b"\xff"): "error: invalid UTF-8 was detected in one or more arguments",
 }
 
 
@@ -70,10 +92,11 @@ def refused_words(program, _folder):
 
 def order_of_faults(program, folder):
     missing = os.path.join(folder, "nothing", "here")
-    found = run(program, ["play", missing, "one more"])
-    yield "words_before_opening", None if found.status == 2 else "status %s, wanted 2" % found.status
-    found = run(program, ["play", missing], text=b"x")
-    yield "opening_before_reading", difference(found, refusal("cannot read", 4))
+    for command in ["play", "check"]:
+        found = run(program, [command, missing, "one more"])
+        yield "%s: words_before_opening" % command, None if found.status == 2 else "status %s, wanted 2" % found.status
+        found = run(program, [command, missing], text=b"x")
+        yield "%s: opening_before_reading" % command, difference(found, refusal("cannot read", 4))
 
 
 def paths(program, folder):
@@ -81,14 +104,28 @@ def paths(program, folder):
     text, replies = trace_and_replies(PLAYED["cycle_of_two"])
     played = Outcome(stdout=replies)
     cannot_read = refusal("cannot read", 4)
-    for name in ["-", "play", "a b", " ", "\u00e9", "--"]:
+    for name in ["-", "play", "check", "a b", " ", "\u00e9", "--"]:
         with open(os.path.join(folder, name), "wb") as file:
             file.write(text)
-    for name in ["play", "a b", " ", "\u00e9", "./-"]:
+    for name in ["play", "check", "a b", " ", "\u00e9", "./-"]:
         yield "file %r is played" % name, difference(run(program, ["play", name], cwd=folder), played)
     yield "dash_is_a_file", difference(run(program, ["play", "-"], text=b"x", cwd=folder), played)
     yield "dash_is_not_standard_input", difference(run(program, ["play", "-"], text=text, cwd="/"), cannot_read)
     yield "words_behind_two_dashes", difference(run(program, ["play", "--", "--"], cwd=folder), played)
 
 
-GROUPS = [help_words, refused_words, order_of_faults, paths]
+def paths_of_pairs(program, folder):
+    """The same of a pair."""
+    checked = Outcome(stdout=b"yes 0\n")
+    for name in ["-", "play", "check", "a b", "\u00e9", "--"]:
+        with open(os.path.join(folder, name), "wb") as file:
+            file.write(LEAST)
+    for name in ["play", "check", "a b", "\u00e9", "./-"]:
+        yield "file %r is checked" % name, difference(run(program, ["check", name], cwd=folder), checked)
+    yield "dash_is_a_file_to_check", difference(run(program, ["check", "-"], text=b"x", cwd=folder), checked)
+    found = run(program, ["check", "-"], text=LEAST, cwd="/")
+    yield "dash_is_no_input_to_check", difference(found, refusal("cannot read", 4))
+    yield "path_to_check_behind_two_dashes", difference(run(program, ["check", "--", "--"], cwd=folder), checked)
+
+
+GROUPS = [help_words, refused_words, order_of_faults, paths, paths_of_pairs]

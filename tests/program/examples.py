@@ -1,7 +1,8 @@
-"""The traces of examples/, each with its replies beside it."""
+"""The traces of examples/, each with its replies beside it, and the pairs, each with its verdict."""
 import os
 
 from .harness import Outcome, difference, run
+from .pairs import status_of
 
 FOLDER = os.path.join(os.path.dirname(os.path.abspath(__file__)), "..", "..", "examples")
 
@@ -11,12 +12,25 @@ def content(name):
         return file.read()
 
 
-def examples(program, _folder):
-    names = sorted(name[: -len(".trace")] for name in os.listdir(FOLDER) if name.endswith(".trace"))
+def names_of(ending):
+    return sorted(name[: -len(ending)] for name in os.listdir(FOLDER) if name.endswith(ending))
+
+
+def traces(program, _folder):
+    names = names_of(".trace")
     for name in names:
         found = run(program, ["play", os.path.join(FOLDER, name + ".trace")])
         yield "example %s" % name, difference(found, Outcome(stdout=content(name + ".replies")))
-    yield "there_are_examples", None if names else "no .trace in %s" % FOLDER
+    yield "there_are_traces", None if names else "no .trace in %s" % FOLDER
 
 
-GROUPS = [examples]
+def pairs(program, _folder):
+    names = names_of(".pair")
+    for name in names:
+        found = run(program, ["check", os.path.join(FOLDER, name + ".pair")])
+        verdict = content(name + ".verdict")
+        yield "example %s" % name, difference(found, Outcome(verdict, b"", status_of(verdict.decode())))
+    yield "there_are_pairs", None if names else "no .pair in %s" % FOLDER
+
+
+GROUPS = [traces, pairs]

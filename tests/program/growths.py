@@ -10,6 +10,7 @@ import shutil
 import subprocess
 
 from .harness import Outcome, difference, file_of, refusal, run
+from .pairs import CHECKED, LEAST, all_paired, text_of
 from .traces import PLAYED, trace_and_replies
 
 SOURCE = os.path.join(os.path.dirname(os.path.abspath(__file__)), "refusing_allocator.c")
@@ -77,11 +78,22 @@ def growths(program, folder):
     text, replies = trace_and_replies(PLAYED["cycle_of_two"])
     path = file_of(folder, "played", text)
     missing = os.path.join(folder, "nothing", "here")
+    yes = file_of(folder, "yes", text_of(CHECKED["old_addresses_may_fall"][0]))
+    # So long that the bytes which are read need more room several times.
+    long_text, long_verdict = all_paired(20000, 100)
+    long_yes = file_of(folder, "long yes", long_text)
+    refused = file_of(folder, "refusal", text_of(CHECKED["an_original_has_two_replicas"][0]))
+    bad_pair = file_of(folder, "bad pair", LEAST + b"x\n")
     runs = [
         ("play_of_standard_input", [], text, Outcome(stdout=replies)),
         ("play_of_a_file", ["play", path], b"", Outcome(stdout=replies)),
         ("bad_line", [], text + b"x\n", refusal("trace: bad line 16", 3)),
         ("missing_file", ["play", missing], b"", refusal("cannot read", 4)),
+        ("check_of_a_yes", ["check", yes], b"", Outcome(stdout=b"yes 2\n")),
+        ("check_of_a_longer_text", ["check", long_yes], b"", Outcome(stdout=long_verdict.encode() + b"\n")),
+        ("check_of_a_refusal", ["check", refused], b"", Outcome(b"refused 7 Twice 1\n", b"", 1)),
+        ("bad_line_of_a_pair", ["check", bad_pair], b"", refusal("pair: bad line 12", 3)),
+        ("missing_file_to_check", ["check", missing], b"", refusal("cannot read", 4)),
         ("unknown_word", ["nothing"], b"", run(program, ["nothing"])),
         ("help", ["--help"], b"", run(program, ["--help"])),
     ]

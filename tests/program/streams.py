@@ -3,6 +3,7 @@ import os
 import subprocess
 
 from .harness import Outcome, difference, file_of, refusal, run
+from .pairs import CHECKED, LEAST, text_of
 from .traces import PLAYED, trace_and_replies
 
 CANNOT_READ = refusal("cannot read", 4)
@@ -26,11 +27,15 @@ def to_pipe_without_reader(program, words, text=b""):
 
 
 def readers(program, folder):
-    missing = os.path.join(folder, "nothing", "here")
-    yield "missing_file", difference(run(program, ["play", missing]), CANNOT_READ)
-    yield "empty_path", difference(run(program, ["play", ""]), CANNOT_READ)
-    yield "path_through_a_file", difference(run(program, ["play", "/dev/null/here"]), CANNOT_READ)
-    yield "folder_as_file", difference(run(program, ["play", folder]), CANNOT_READ)
+    unreadable = {
+        "missing_file": os.path.join(folder, "nothing", "here"),
+        "empty_path": "",
+        "path_through_a_file": "/dev/null/here",
+        "folder_as_file": folder,
+    }
+    for name, path in unreadable.items():
+        yield name, difference(run(program, ["play", path]), CANNOT_READ)
+        yield "%s, checked" % name, difference(run(program, ["check", path]), CANNOT_READ)
     descriptor = os.open(folder, os.O_RDONLY)
     try:
         yield "folder_as_standard_input", difference(run(program, stdin=descriptor), CANNOT_READ)
@@ -47,10 +52,13 @@ def closed_streams(program, folder):
     """A stream that is closed from the start fails like any other, also where a file takes its number."""
     text, _ = trace_and_replies(PLAYED["cycle_of_two"])
     path = file_of(folder, "played", text)
+    pair = file_of(folder, "pair", LEAST)
     for name, words, closing, wanted in [
         ("closed_standard_input", [], "<&-", CANNOT_READ),
         ("closed_standard_output", ["play", path], ">&-", CANNOT_WRITE),
         ("closed_standard_input_and_output", ["play", path], "<&- >&-", CANNOT_WRITE),
+        ("closed_standard_output_for_a_verdict", ["check", pair], ">&-", CANNOT_WRITE),
+        ("closed_standard_input_and_output_for_a_verdict", ["check", pair], "<&- >&-", CANNOT_WRITE),
     ]:
         shell = ["-c", 'exec "$0" "$@" ' + closing, program, *words]
         yield name, difference(run("/bin/sh", shell, text=text), wanted)
@@ -66,6 +74,17 @@ def writers(program, folder):
         yield "replies_of_input_to_%s" % name, difference(writer(program, [], text=text), CANNOT_WRITE)
         yield "many_replies_to_%s" % name, difference(writer(program, [], text=long_text), CANNOT_WRITE)
         yield "help_to_%s" % name, difference(writer(program, ["--help"]), CANNOT_WRITE)
+
+
+def writers_of_verdicts(program, folder):
+    """A verdict that cannot be written is `cannot write`, a refusal like a yes; a bad text needs no writer."""
+    refused = text_of(CHECKED["kinds_differ"][0])
+    for name, writer in [("full_device", to_full_device), ("pipe_without_reader", to_pipe_without_reader)]:
+        for verdict, text in [("yes", LEAST), ("refusal", refused)]:
+            found = writer(program, ["check", file_of(folder, verdict, text)])
+            yield "%s_to_%s" % (verdict, name), difference(found, CANNOT_WRITE)
+        found = writer(program, ["check", file_of(folder, "bad", LEAST + b"x\n")])
+        yield "bad_line_of_a_pair_with_%s" % name, difference(found, refusal("pair: bad line 12", 3))
 
 
 def nothing_to_write(program, _folder):
@@ -96,8 +115,10 @@ def standard_error(program, folder):
             run(program, text=b"x", stderr=full).status,
             run(program, ["play", missing], stderr=full).status,
             run(program, ["nothing"], stderr=full).status,
+            run(program, ["check", "/dev/null"], stderr=full).status,
         ]
-    yield "statuses_with_full_standard_error", None if found == [3, 4, 2] else "statuses %s, wanted [3, 4, 2]" % found
+    wanted = [3, 4, 2, 3]
+    yield "statuses_with_full_standard_error", None if found == wanted else "statuses %s, wanted %s" % (found, wanted)
 
 
-GROUPS = [readers, closed_streams, writers, nothing_to_write, broken_off, standard_error]
+GROUPS = [readers, closed_streams, writers, writers_of_verdicts, nothing_to_write, broken_off, standard_error]

@@ -1,12 +1,16 @@
 -- What clap's definitions find in the words that the program takes.
 use Rattle.std.proofs.Common.{◌≡◌, ◌==◌, ◌∙◌, List, [], ◌∷◌, refl, sym, ap, codes, drop, Bool, true, false, Option, Some, None, option_map}
 use Rattle.std.specs.Borrow.{Bor}
+use Rattle.std.specs.Box.{box_value}
+use Rattle.std.specs.Prelude.{Box}
 use Rattle.std.specs.Str.{bytes_eq}
-use Rattle.clap.specs.Words.{App, HasMatchesOf, Row, Text, fault_of, first_of, first_value, found_of, is_simple, is_simple_and_free, rows_of, subcommand_of, subcommand_rows_of, takes}
+use Rattle.clap.specs.Words.{App, HasMatchesOf, Row, Text, fault_of, first_of, first_value, found_of, is_simple, is_simple_and_free, rows_of, subcommand_name_of, subcommand_of, subcommand_rows, subcommand_rows_of, takes}
 use Rattle.clap.specs.declared.parser.ArgMatches.{ArgMatches}
+use Rattle.clap.specs.declared.parser.matches.ArgMatches.TheViews.{out-ArgMatches, out-SubCommand}
+use Rattle.clap.specs.declared.parser.matches.SubCommand.{SubCommand}
 use Rattle.clap.proofs.OnLiterals.{clap_on_literals}
 use Rattle.clap.proofs.WalkLemmas.{first_value-rows}
-use Rattle.gcflip.specs.CommandLine.{command_line, IsPlainWord}
+use Rattle.gcflip.specs.CommandLine.{command_line, FindsFile, IsPlainWord}
 
 -- ---- no words behind the program's name
 
@@ -24,7 +28,7 @@ no_words_taken words e = ap (λ (rest : List Text). takes command_line ([] ∷ r
 no_words_found : (words : List Text) → drop 1 words ≡ [] → subcommand_of command_line words ≡ None
 no_words_found words e = ap (λ (rest : List Text). subcommand_of command_line ([] ∷ rest)) e ∙ none_found
 
--- ---- `play` and a path
+-- ---- a subcommand and a path
 
 -- the subcommand, and the FILE that was found for it
 abbrev pub file_of : Option (Text × List Row) → Option (Text × Option Text)
@@ -38,6 +42,11 @@ not_two_hyphens (x ∷ xs) plain = go (x == 45) refl
     go true e = let hyphen = rw e at plain in cc
     go false e = rw e refl
 
+-- the program's command takes the subcommand's name and the path, and finds the path as its FILE
+pub record TakesFile (name path : Text) : Type 0 where
+  pub taken : takes command_line ([] ∷ name ∷ path ∷ []) ≡ true
+  pub found : file_of (subcommand_of command_line ([] ∷ name ∷ path ∷ [])) ≡ Some (name, Some path)
+
 play_taken : (path : Text) → IsPlainWord path → takes command_line ([] ∷ codes "play" ∷ path ∷ []) ≡ true
 unfolding clap_on_literals
 play_taken path plain = simp (plain, not_two_hyphens path plain)
@@ -46,11 +55,25 @@ play_found : (path : Text) → IsPlainWord path → file_of (subcommand_of comma
 unfolding clap_on_literals
 play_found path plain = simp (plain, not_two_hyphens path plain)
 
-pub play_words_taken : (words : List Text) (path : Text) → IsPlainWord path → drop 1 words ≡ codes "play" ∷ path ∷ [] → takes command_line words ≡ true
-play_words_taken words path plain e = ap (λ (rest : List Text). takes command_line ([] ∷ rest)) e ∙ play_taken path plain
+pub play_takes_file : (path : Text) → IsPlainWord path → TakesFile (codes "play") path
+play_takes_file path plain = record { taken = play_taken path plain; found = play_found path plain }
 
-play_words_found : (words : List Text) (path : Text) → IsPlainWord path → drop 1 words ≡ codes "play" ∷ path ∷ [] → file_of (subcommand_of command_line words) ≡ Some (codes "play", Some path)
-play_words_found words path plain e = ap (λ (rest : List Text). file_of (subcommand_of command_line ([] ∷ rest))) e ∙ play_found path plain
+check_taken : (path : Text) → IsPlainWord path → takes command_line ([] ∷ codes "check" ∷ path ∷ []) ≡ true
+unfolding clap_on_literals
+check_taken path plain = simp (plain, not_two_hyphens path plain)
+
+check_found : (path : Text) → IsPlainWord path → file_of (subcommand_of command_line ([] ∷ codes "check" ∷ path ∷ [])) ≡ Some (codes "check", Some path)
+unfolding clap_on_literals
+check_found path plain = simp (plain, not_two_hyphens path plain)
+
+pub check_takes_file : (path : Text) → IsPlainWord path → TakesFile (codes "check") path
+check_takes_file path plain = record { taken = check_taken path plain; found = check_found path plain }
+
+pub file_words_taken : (words : List Text) (name path : Text) → TakesFile name path → drop 1 words ≡ name ∷ path ∷ [] → takes command_line words ≡ true
+file_words_taken words name path takes_file e = ap (λ (rest : List Text). takes command_line ([] ∷ rest)) e ∙ takes_file.taken
+
+file_words_found : (words : List Text) (name path : Text) → TakesFile name path → drop 1 words ≡ name ∷ path ∷ [] → file_of (subcommand_of command_line words) ≡ Some (name, Some path)
+file_words_found words name path takes_file e = ap (λ (rest : List Text). file_of (subcommand_of command_line ([] ∷ rest))) e ∙ takes_file.found
 
 -- ---- what the matches of the program's command have
 
@@ -72,33 +95,51 @@ pub no_fault : (a : App) (words : List Text) → a ≡ command_line → (is_simp
 no_fault a words is none =
     ap (λ (b : App). fault_of b words) (sym is) ∙ none (ap is_simple_and_free is ∙ line_is_simple_and_free)
 
--- rows in which the FILE stands
-pub record HasFile (m : ArgMatches) (path : Text) : Type 0 where
+-- rows of the subcommand in which the FILE stands
+pub record HasFile (m : ArgMatches) (name path : Text) : Type 0 where
   pub rows : List Row
-  pub are : subcommand_rows_of m ≡ Some (codes "play", rows)
+  pub are : subcommand_rows_of m ≡ Some (name, rows)
   pub first : first_of (codes "FILE") rows ≡ Some path
 
-has_file : (m : ArgMatches) (o : Option (Text × List Row)) (path : Text) → subcommand_rows_of m ≡ o → file_of o ≡ Some (codes "play", Some path) → HasFile m path
-has_file m None path is found = cc
-has_file m (Some p) path is found =
-    let both : ◌≡◌ {A = Text × Option Text} (p.0, first_of (codes "FILE") p.1) (codes "play", Some path) = cc in
+has_file : (m : ArgMatches) (o : Option (Text × List Row)) (name path : Text) → subcommand_rows_of m ≡ o → file_of o ≡ Some (name, Some path) → HasFile m name path
+has_file m None name path is found = cc
+has_file m (Some p) name path is found =
+    let both : ◌≡◌ {A = Text × Option Text} (p.0, first_of (codes "FILE") p.1) (name, Some path) = cc in
     record {
       rows = p.1;
-      are = is ∙ ap (λ (name : Text). Some (name, p.1)) (ap (λ (q : Text × Option Text). q.0) both);
+      are = is ∙ ap (λ (word : Text). Some (word, p.1)) (ap (λ (q : Text × Option Text). q.0) both);
       first = ap (λ (q : Text × Option Text). q.1) both;
     }
 
-pub matches_of_play_words : (a : App) (words : List Text) (m : ArgMatches) (path : Text) → a ≡ command_line → HasMatchesOf a words m → IsPlainWord path → drop 1 words ≡ codes "play" ∷ path ∷ [] → HasFile m path
-matches_of_play_words a words m path is has plain e =
-    has_file m (subcommand_of command_line words) path (rows_are a words m is has) (play_words_found words path plain e)
+pub matches_of_file_words : (a : App) (words : List Text) (m : ArgMatches) (name path : Text) → a ≡ command_line → HasMatchesOf a words m → TakesFile name path → drop 1 words ≡ name ∷ path ∷ [] → HasFile m name path
+matches_of_file_words a words m name path is has takes_file e =
+    has_file m (subcommand_of command_line words) name path (rows_are a words m is has) (file_words_found words name path takes_file e)
 
 -- ---- from the rows of a subcommand to what its matches give
 
-pub found_file : (m : ArgMatches) (o : Option (Text × List Row)) (rows : List Row) (path : Text) → Some (rows_of (found_of m)) ≡ option_map (λ p. p.1) o → o ≡ Some (codes "play", rows) → first_of (codes "FILE") rows ≡ Some path → first_value (found_of m) (codes "FILE") ≡ Some path
-found_file m o rows path same is first =
+pub found_file : (m : ArgMatches) (o : Option (Text × List Row)) (rows : List Row) (name path : Text) → Some (rows_of (found_of m)) ≡ option_map (λ p. p.1) o → o ≡ Some (name, rows) → first_of (codes "FILE") rows ≡ Some path → first_value (found_of m) (codes "FILE") ≡ Some path
+found_file m o rows name path same is first =
     let is_rows : Some (rows_of (found_of m)) ≡ Some rows = same ∙ ap (option_map (λ (p : Text × List Row). p.1)) is in
     let rows_are : rows_of (found_of m) ≡ rows = cc in
     first_value-rows (found_of m) (codes "FILE") ∙ ap (first_of (codes "FILE")) rows_are ∙ first
+
+-- ---- and back: a task is what the rows ask for
+
+names_of_rows : {Z : Type 0} (s : Option (Box SubCommand Z)) → option_map (λ b. (out-SubCommand (box_value b)).name.now) s ≡ option_map (λ p. p.0) (subcommand_rows s)
+names_of_rows None = refl
+names_of_rows (Some b) = refl
+
+finds_file : (o : Option (Text × List Row)) (name file : Text) (rows : List Row) → Some name ≡ option_map (λ p. p.0) o → Some rows ≡ option_map (λ p. p.1) o → first_of (codes "FILE") rows ≡ Some file → FindsFile name file o
+finds_file None name file rows is_name is_rows first = cc
+finds_file (Some p) name file rows is_name is_rows first =
+    let name_is : p.0 ≡ name = cc in
+    let rows_are : p.1 ≡ rows = cc in
+    (name_is, ap (first_of (codes "FILE")) rows_are ∙ first)
+
+pub matches_find_file : (m found : ArgMatches) (name file : Text) → Some name ≡ subcommand_name_of m → Some (rows_of (found_of found)) ≡ option_map (λ p. p.1) (subcommand_rows_of m) → first_value (found_of found) (codes "FILE") ≡ Some file → FindsFile name file (subcommand_rows_of m)
+matches_find_file m found name file is_name is_rows first =
+    finds_file (subcommand_rows_of m) name file (rows_of (found_of found)) (is_name ∙ names_of_rows (out-ArgMatches m).subcommand) is_rows
+    (sym (first_value-rows (found_of found) (codes "FILE")) ∙ first)
 
 -- ---- what a reference that may be there points to
 

@@ -1,26 +1,35 @@
 -- Which statuses the program ends with.
-use Rattle.std.proofs.Common.{refl, lit<}
+use Rattle.std.proofs.Common.{ℕ, ◌≡◌, refl, sym, subst, lit<, inl, inr, Result, Ok, Err, IfOk, IfErr}
 use Rattle.std.specs.Prelude.{Contains}
+use Rattle.gc_cert.specs.declared.fault.PairFault.TheVariants as pair
+use Rattle.gc_check.specs.declared.verdict.RunFault.TheVariants as check
 use Rattle.gc_trace.specs.declared.fault.TraceFault.TheVariants as trace
 use Rattle.gc_trace.specs.declared.fault.PlayFault.TheVariants as play
 use Rattle.gcflip.specs.declared.fault.Fault.{Fault}
 use Rattle.gcflip.specs.declared.fault.Fault.TheVariants as program
-use Rattle.gcflip.specs.Faults.{status_of, statuses}
+use Rattle.gcflip.specs.declared.task.Task.{Task}
+use Rattle.gcflip.specs.declared.task.Task.TheVariants as task
+use Rattle.gcflip.specs.Faults.{status_of}
+use Rattle.gcflip.specs.Outcomes.{IsStatusOf}
+use Rattle.gcflip.specs.Statuses.{statuses}
 
-pub played_is_status : Contains statuses 0
-played_is_status = (0, lit< tt, refl)
+pub done_is_status : Contains statuses 0
+done_is_status = (0, lit< tt, refl)
 
-pub refused_is_status : Contains statuses 2
-refused_is_status = (1, lit< tt, refl)
+pub refusal_is_status : Contains statuses 1
+refusal_is_status = (1, lit< tt, refl)
+
+pub mistake_is_status : Contains statuses 2
+mistake_is_status = (2, lit< tt, refl)
 
 pub text_fault_is_status : Contains statuses 3
-text_fault_is_status = (2, lit< tt, refl)
+text_fault_is_status = (3, lit< tt, refl)
 
 pub stream_fault_is_status : Contains statuses 4
-stream_fault_is_status = (3, lit< tt, refl)
+stream_fault_is_status = (4, lit< tt, refl)
 
 pub memory_fault_is_status : Contains statuses 5
-memory_fault_is_status = (4, lit< tt, refl)
+memory_fault_is_status = (5, lit< tt, refl)
 
 pub fault_has_status : (fault : Fault) → Contains statuses (status_of fault)
 fault_has_status program.Open = stream_fault_is_status
@@ -33,3 +42,25 @@ fault_has_status (program.Play (play.Trace (trace.NoSuchMutator n))) = text_faul
 fault_has_status (program.Play (play.Trace trace.NoMemory)) = memory_fault_is_status
 fault_has_status (program.Play play.NoMemory) = memory_fault_is_status
 fault_has_status (program.Play play.Write) = stream_fault_is_status
+fault_has_status (program.Check (check.Pair pair.Read)) = stream_fault_is_status
+fault_has_status (program.Check (check.Pair pair.TooLarge)) = text_fault_is_status
+fault_has_status (program.Check (check.Pair (pair.BadLine n))) = text_fault_is_status
+fault_has_status (program.Check (check.Pair pair.EndsEarly)) = text_fault_is_status
+fault_has_status (program.Check (check.Pair pair.NoMemory)) = memory_fault_is_status
+fault_has_status (program.Check check.NoMemory) = memory_fault_is_status
+fault_has_status (program.Check check.Write) = stream_fault_is_status
+
+same_is_status : (n m : ℕ) → n ≡ m → Contains statuses m → Contains statuses n
+same_is_status n m same is = let P : ℕ → Type 0 = λ k. Contains statuses k in subst P (sym same) is
+
+done_has_status : (t : Task) (status : ℕ) → IsStatusOf t status → Contains statuses status
+done_has_status task.PlayInput status zero = same_is_status status 0 zero done_is_status
+done_has_status (task.Play file) status zero = same_is_status status 0 zero done_is_status
+done_has_status (task.Check file) status either = elim either [
+  | inl zero ↦ same_is_status status 0 zero done_is_status
+  | inr one ↦ same_is_status status 1 one refusal_is_status
+]
+
+pub outcome_has_status : (t : Task) (outcome : Result ℕ Fault) (status : ℕ) → IfOk outcome (IsStatusOf t) → IfOk outcome (λ s. status ≡ s) → IfErr outcome (λ f. status ≡ status_of f) → Contains statuses status
+outcome_has_status t (Ok s) status done same none = same_is_status status s same (done_has_status t s done)
+outcome_has_status t (Err f) status done none same = same_is_status status (status_of f) same (fault_has_status f)

@@ -1,57 +1,23 @@
 -- What the program says of a fault: a line on standard error, and the status that it ends with.
-use Rattle.std.specs.Prelude.{ℕ, List, [], ◌∷◌, ◌++◌, codes, decimal}
+use Rattle.std.specs.Prelude.{ℕ, List, codes}
 use Rattle.gc_graph.specs.Lines.{ended}
-use Rattle.gc_trace.specs.declared.fault.TraceFault.{TraceFault}
-use Rattle.gc_trace.specs.declared.fault.TraceFault.TheVariants as trace
-use Rattle.gc_trace.specs.declared.fault.PlayFault.{PlayFault}
-use Rattle.gc_trace.specs.declared.fault.PlayFault.TheVariants as play
+use Rattle.gcflip.specs.PairFaults.{check_fault_text, check_fault_status}
+use Rattle.gcflip.specs.TraceFaults.{play_fault_text, play_fault_status}
 use Rattle.gcflip.specs.declared.fault.Fault.{Fault}
-use Rattle.gcflip.specs.declared.fault.Fault.TheVariants as program
-
--- ---- texts
-
-unfoldable pub trace_fault_text : TraceFault → List ℕ
-trace_fault_text trace.Read = codes "cannot read"
-trace_fault_text trace.TooLarge = codes "trace: too large"
-trace_fault_text trace.BadHeader = codes "trace: bad header"
-trace_fault_text (trace.BadLine n) = codes "trace: bad line " ++ decimal n
-trace_fault_text (trace.NoSuchMutator n) = codes "trace: no such mutator at line " ++ decimal n
-trace_fault_text trace.NoMemory = codes "no memory"
-
-unfoldable pub play_fault_text : PlayFault → List ℕ
-play_fault_text (play.Trace fault) = trace_fault_text fault
-play_fault_text play.NoMemory = codes "no memory"
-play_fault_text play.Write = codes "cannot write"
+use Rattle.gcflip.specs.declared.fault.Fault.TheVariants.{Open, NoMemory, Play, Check}
 
 unfoldable pub fault_text : Fault → List ℕ
-fault_text program.Open = codes "cannot read"
-fault_text program.NoMemory = codes "no memory"
-fault_text (program.Play fault) = play_fault_text fault
+fault_text Open = codes "cannot read"
+fault_text NoMemory = codes "no memory"
+fault_text (Play fault) = play_fault_text fault
+fault_text (Check fault) = check_fault_text fault
 
 -- the line on standard error
 abbrev pub line_of : Fault → List ℕ
 line_of fault = ended (fault_text fault)
 
--- ---- statuses: 3 where a text is at fault, 4 for reading and writing, 5 for memory
-
-abbrev pub trace_fault_status : TraceFault → ℕ
-trace_fault_status trace.Read = 4
-trace_fault_status trace.TooLarge = 3
-trace_fault_status trace.BadHeader = 3
-trace_fault_status (trace.BadLine n) = 3
-trace_fault_status (trace.NoSuchMutator n) = 3
-trace_fault_status trace.NoMemory = 5
-
-abbrev pub play_fault_status : PlayFault → ℕ
-play_fault_status (play.Trace fault) = trace_fault_status fault
-play_fault_status play.NoMemory = 5
-play_fault_status play.Write = 4
-
 abbrev pub status_of : Fault → ℕ
-status_of program.Open = 4
-status_of program.NoMemory = 5
-status_of (program.Play fault) = play_fault_status fault
-
--- what the program ends with: 0 where it did what it was asked, 2 where the command line asks for nothing
-abbrev pub statuses : List ℕ
-statuses = 0 ∷ 2 ∷ 3 ∷ 4 ∷ 5 ∷ []
+status_of Open = 4
+status_of NoMemory = 5
+status_of (Play fault) = play_fault_status fault
+status_of (Check fault) = check_fault_status fault

@@ -1,9 +1,14 @@
-//! The program: plays a trace of a collector and its mutators.
+//! The program: plays traces of a collector and its mutators, and checks pairs of heaps.
 #![tactic(auto)]
 
+mod check;
 mod fault;
+mod numbered;
+mod pair_faults;
+mod play;
 mod program;
 mod task;
+mod trace_faults;
 
 use program::run;
 use std::process::ExitCode;
@@ -11,3 +16,6 @@ use std::process::ExitCode;
 fn main(rt: HostRuntime) -> ExitCode {
     ExitCode::from(run(&rt, &rt.stderr()))
 }
+
+#[cfg(test)]
+mod tests;

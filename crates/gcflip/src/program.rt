@@ -1,31 +1,25 @@
-ghost use Rattle.std.specs.Prelude.{◌≡◌, ◌≢◌, ◌⊎◌, Contains};
+ghost use Rattle.std.specs.Prelude.{◌≡◌, ◌≢◌, ◌⊎◌, Contains, IfOk, IfErr};
 ghost use Rattle.clap.specs.Values.{kind_of};
-ghost use Rattle.gcflip.specs.Faults.{status_of, statuses};
+ghost use Rattle.gcflip.specs.Faults.{status_of};
+ghost use Rattle.gcflip.specs.Outcomes.{IsFaultOf, IsOfOpening, IsStatusOf};
+ghost use Rattle.gcflip.specs.Statuses.{statuses};
 
+use crate::check::check_from;
 use crate::fault::{Fault, write_fault};
+use crate::play::play_from;
 use crate::task::{Task, refusal_of_no_text, task_of};
 use clap::Error;
 use clap::error::ErrorKind;
 use gc_graph::{Sink, Source};
-use gc_trace::{PlayFault, play};
+use gc_trace::PlayFault;
 use std::alloc::AllocError;
 use std::env::Env;
-use std::io::Read;
 use std::rt::Files;
 use std::{env, fs, io};
 
-/// Plays what the reader gives to standard output.
-fn play_from<R: Read + Drop>(rt: &(impl Print + AllocGlobal), reader: R) -> Result<(), Fault> {
-    let mut source = Source::new(reader);
-    // The engine has a buffer of its own.
-    let mut sink = Sink::new(io::writer(rt));
-    match play(rt.alloc(), &mut source, &mut sink) {
-        Ok(()) => Ok(()),
-        Err(fault) => Err(Fault::Play(fault)),
-    }
-}
-
-fn open<R: Files>(rt: &R, path: &str) -> Result<R::File, Fault> {
+fn open<R: Files>(rt: &R, path: &str) -> Result<R::File, Fault>
+    ensures { IfErr result IsOfOpening }
+{
     match fs::open(rt, path) {
         Ok(file) => Ok(file),
         Err(error) if error.kind() == io::ErrorKind::OutOfMemory => Err(Fault::NoMemory),
@@ -33,15 +27,25 @@ fn open<R: Files>(rt: &R, path: &str) -> Result<R::File, Fault> {
     }
 }
 
-fn perform<R: Files + Input + Print + AllocGlobal>(rt: &R, task: Task<'_>) -> Result<(), Fault> {
+/// Does the task, and gives the status that tells what came out.
+fn perform<R: Files + Input + Print + AllocGlobal>(rt: &R, task: Task<'_>) -> Result<u8, Fault>
+    ensures done { IfOk result (IsStatusOf task.entry) }
+    ensures failed { IfErr result (IsFaultOf task.entry) }
+{
+    let alloc = rt.alloc();
+    // The engines have buffers of their own.
+    let mut sink = Sink::new(io::writer(rt));
     match task {
-        Task::PlayInput => play_from(rt, rt.reader()),
-        Task::Play(path) => play_from(rt, open(rt, path)?),
+        Task::PlayInput => play_from(alloc, &mut Source::new(rt.reader()), &mut sink),
+        Task::Play(path) => play_from(alloc, &mut Source::new(open(rt, path)?), &mut sink),
+        Task::Check(path) => check_from(alloc, &mut Source::new(open(rt, path)?), &mut sink),
     }
 }
 
 /// The words of the command line.
-fn words<R: Env + AllocGlobal>(rt: &R) -> Result<Vec<String>, Error> {
+fn words<R: Env + AllocGlobal>(rt: &R) -> Result<Vec<String>, Error>
+    ensures { IfErr result (λ e. (kind_of e ≡ ErrorKind.InvalidValue) ⊎ (kind_of e ≡ ErrorKind.OutOfMemory)) }
+{
     match env::args(rt) {
         Ok(words) => Ok(words.collect(rt.alloc())?),
         Err(error) if error.kind() == io::ErrorKind::OutOfMemory => Err(Error::from(AllocError)),
@@ -58,8 +62,19 @@ fn tell<E: Print>(errors: &E, fault: &Fault) -> u8
     write_fault(&mut Sink::new(io::writer(errors)), fault)
 }
 
+/// The status of what came of a task. A fault is told.
+fn finish<E: Print>(errors: &E, outcome: Result<u8, Fault>) -> u8
+    ensures done { IfOk outcome (λ status. result ≡ status) }
+    ensures failed { IfErr outcome (λ fault. result ≡ status_of fault) }
+{
+    match outcome {
+        Ok(status) => status,
+        Err(fault) => tell(errors, &fault),
+    }
+}
+
 /// Prints why the words ask for nothing; help is asked for, and no mistake.
-#[tactic(auto, using(crate::proofs::Statuses::played_is_status, crate::proofs::Statuses::refused_is_status))]
+#[tactic(auto, using(crate::proofs::Statuses::done_is_status, crate::proofs::Statuses::mistake_is_status))]
 fn refuse<R: Print + Eprint, E: Print>(rt: &R, errors: &E, error: &Error) -> u8
     ensures memory { kind_of error.now ≡ ErrorKind.OutOfMemory → result ≡ 5 }
     ensures shown { (kind_of error.now ≡ ErrorKind.DisplayHelp)
@@ -84,7 +99,7 @@ fn refuse<R: Print + Eprint, E: Print>(rt: &R, errors: &E, error: &Error) -> u8
 
 /// Does what the command line asks, and gives the status. `errors` prints to standard error, for which the runtime
 /// has no writer of its own.
-#[tactic(auto, using(crate::proofs::Statuses::played_is_status))]
+#[tactic(auto, using(crate::proofs::Statuses::outcome_has_status))]
 pub fn run<R: Files + Env + Input + Print + Eprint + AllocGlobal, E: Print>(
     rt: &R,
     errors: &E,
@@ -99,8 +114,5 @@ pub fn run<R: Files + Env + Input + Print + Eprint + AllocGlobal, E: Print>(
         Ok(task) => task,
         Err(error) => return refuse(rt, errors, &error),
     };
-    match perform(rt, task) {
-        Ok(()) => 0,
-        Err(fault) => tell(errors, &fault),
-    }
+    finish(errors, perform(rt, task))
 }

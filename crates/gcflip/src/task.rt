@@ -1,8 +1,8 @@
 ghost use Rattle.std.specs.Prelude.{◌≡◌, ◌⊎◌, ℕ, List, [], ◌∷◌, codes, drop, map, string_bytes, false};
-ghost use Rattle.std.specs.Prelude.{Some, None, IfOk, IfErr, IsSomeAnd, MatchResult};
-ghost use Rattle.clap.specs.Words.{Row, app_of, fault_of, first_of, kind_of, subcommand_rows_of};
+ghost use Rattle.std.specs.Prelude.{Some, None, IfSome, IfOk, IfErr, IsSomeAnd, MatchResult};
+ghost use Rattle.clap.specs.Words.{Row, app_of, fault_of, first_of, kind_of, subcommand_of, subcommand_rows_of};
 ghost use Rattle.clap.specs.declared.builder.Command.TheViews.{out-Command};
-ghost use Rattle.gcflip.specs.CommandLine.{IsPlainWord, PlaysFile, command_line, file_command};
+ghost use Rattle.gcflip.specs.CommandLine.{IsAskedBy, IsPlainWord, PlaysFile, ChecksFile, command_line, file_command};
 
 use clap::error::ErrorKind;
 use clap::{Arg, ArgMatches, Command, Error};
@@ -15,6 +15,8 @@ pub enum Task<'a> {
     PlayInput,
     /// To play the trace of this file.
     Play(&'a str),
+    /// To check the pair of heaps of this file.
+    Check(&'a str),
 }
 
 /// A subcommand that reads a file.
@@ -35,10 +37,16 @@ fn command<'a>(alloc: Global) -> Result<Command<'a>, Error>
     ensures memory { IfErr result (λ e. kind_of e ≡ ErrorKind.OutOfMemory) }
 {
     let play = on_file(alloc, "play", "Plays a trace: writes a line for each reply")?;
+    let check = on_file(
+        alloc,
+        "check",
+        "Checks a pair of heaps: writes the line of the verdict",
+    )?;
     Ok(
         Command::new(alloc, "gcflip")
             .about("Plays the trace on standard input, or does what a subcommand says")
-            .subcommand(play)?,
+            .subcommand(play)?
+            .subcommand(check)?,
     )
 }
 
@@ -48,6 +56,10 @@ fn found_task<'a>(matches: &ArgMatches<'a>) -> Option<Task<'a>>
     ensures play { (rows : List Row) (path : List ℕ)
         → subcommand_rows_of matches.now ≡ Some (codes "play", rows)
         → first_of (codes "FILE") rows ≡ Some path → IsSomeAnd result (λ task. PlaysFile task path) }
+    ensures check { (rows : List Row) (path : List ℕ)
+        → subcommand_rows_of matches.now ≡ Some (codes "check", rows)
+        → first_of (codes "FILE") rows ≡ Some path → IsSomeAnd result (λ task. ChecksFile task path) }
+    ensures asked { IfSome result (IsAskedBy (subcommand_rows_of matches.now)) }
 {
     let Some((name, matches)) = matches.subcommand() else {
         return Some(Task::PlayInput);
@@ -55,6 +67,7 @@ fn found_task<'a>(matches: &ArgMatches<'a>) -> Option<Task<'a>>
     let file = matches.get_str("FILE")?;
     match name {
         "play" => Some(Task::Play(file)),
+        "check" => Some(Task::Check(file)),
         _ => None,
     }
 }
@@ -67,6 +80,11 @@ pub fn task_of<'a>(alloc: Global, words: &'a [String]) -> Result<Task<'a>, Error
     ensures play { (path : List ℕ) → IsPlainWord path
         → drop 1 (map string_bytes words.now) ≡ codes "play" ∷ path ∷ [] →
         MatchResult result (λ task. PlaysFile task path) (λ e. kind_of e ≡ ErrorKind.OutOfMemory) }
+    ensures check { (path : List ℕ) → IsPlainWord path
+        → drop 1 (map string_bytes words.now) ≡ codes "check" ∷ path ∷ [] →
+        MatchResult result (λ task. ChecksFile task path) (λ e. kind_of e ≡ ErrorKind.OutOfMemory) }
+    // A task is what clap's definitions find in the words.
+    ensures asked { IfOk result (IsAskedBy (subcommand_of command_line (map string_bytes words.now))) }
     // Words in which clap finds a fault, or a call for help, ask for no task.
     ensures faultless { IfOk result (λ _. fault_of command_line (map string_bytes words.now) ≡ []) }
 {

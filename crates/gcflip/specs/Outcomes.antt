@@ -1,0 +1,39 @@
+-- What may come of a task: its status where it is done, else its fault.
+use Rattle.std.specs.Prelude.{◌≡◌, ◌⊎◌, ℕ, ⊤}
+use Rattle.gcflip.specs.declared.fault.Fault.{Fault}
+use Rattle.gcflip.specs.declared.fault.Fault.TheVariants as fault
+use Rattle.gcflip.specs.declared.task.Task.{Task}
+use Rattle.gcflip.specs.declared.task.Task.TheVariants as task
+
+-- 1 is a refusal's alone
+abbrev pub IsStatusOf : Task → ℕ → Type 0
+IsStatusOf task.PlayInput status = status ≡ 0
+IsStatusOf (task.Play file) status = status ≡ 0
+IsStatusOf (task.Check file) status = (status ≡ 0) ⊎ (status ≡ 1)
+
+-- the file could not be opened
+abbrev pub IsOfOpening : Fault → Type 0
+IsOfOpening fault.Open = ⊤
+IsOfOpening fault.NoMemory = ⊤
+IsOfOpening (fault.Play play) = ⊥
+IsOfOpening (fault.Check check) = ⊥
+
+-- the fault is the player's
+abbrev pub IsOfPlay : Fault → Type 0
+IsOfPlay fault.Open = ⊥
+IsOfPlay fault.NoMemory = ⊥
+IsOfPlay (fault.Play play) = ⊤
+IsOfPlay (fault.Check check) = ⊥
+
+-- the fault is the checker's
+abbrev pub IsOfCheck : Fault → Type 0
+IsOfCheck fault.Open = ⊥
+IsOfCheck fault.NoMemory = ⊥
+IsOfCheck (fault.Play play) = ⊥
+IsOfCheck (fault.Check check) = ⊤
+
+-- standard input is open already
+abbrev pub IsFaultOf : Task → Fault → Type 0
+IsFaultOf task.PlayInput f = IsOfPlay f
+IsFaultOf (task.Play file) f = IsOfOpening f ⊎ IsOfPlay f
+IsFaultOf (task.Check file) f = IsOfOpening f ⊎ IsOfCheck f

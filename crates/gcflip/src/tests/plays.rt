@@ -1,0 +1,29 @@
+use crate::fault::Fault;
+use crate::play::play_from;
+use gc_graph::{Sink, Source};
+use gc_trace::{PlayFault, TraceFault};
+use std::test::Fail;
+
+const FULL: &[u8] =
+    b"heaptrace 1\nspace 7 mutators 1\nm 0 new r0 3 4\nm 0 new r1 0 0\nm 0 look r1\n";
+
+#[test]
+fn traces_have_their_replies_and_status(rt: HostRuntime) -> Result<(), Fail> {
+    let mut sink = Sink::new(Vec::new(rt.alloc()));
+    let found = play_from(rt.alloc(), &mut Source::new(FULL), &mut sink);
+    assert_eq!(rt; found, Ok(0));
+    assert_eq!(rt;
+        sink.into_inner().as_slice(),
+        b"made\nfull\nsaw nil\n".as_slice()
+    );
+    Ok(())
+}
+
+#[test]
+fn bad_traces_have_no_status(rt: HostRuntime) {
+    let mut sink = Sink::new(Vec::new(rt.alloc()));
+    let found = play_from(rt.alloc(), &mut Source::new(&FULL[..20]), &mut sink);
+    let header = Fault::Play(PlayFault::Trace(TraceFault::BadHeader));
+    assert_eq!(rt; found, Err(header));
+    assert!(rt; sink.into_inner().is_empty());
+}

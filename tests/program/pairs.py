@@ -1,0 +1,190 @@
+"""Pair texts with their verdicts, and texts that are no pair.
+
+Verdicts and faults stand as the formats and the checker's rules give them (docs/FORMATS.md); none was taken from a run.
+"""
+
+
+def text_of(lines):
+    """The text of a pair, from the lines between its first and its last, parted by slashes."""
+    return ("heappair 1/%s/end/" % lines).replace("/", "\n").encode()
+
+
+# The name, the lines between the first and the last, and the verdict.
+CHECKED = {
+    "no_objects": ("old 1 1/0/roots 1/0/new 1 1/0/roots 1/0/pairs 0", "yes 0"),
+    "root_lists_of_two_lengths": ("old 1 1/0/roots 1/0/new 1 1/0/roots 2/0/0/pairs 0", "refused 3 RootCount"),
+    "two_originals_share_a_replica": (
+        "old 8 5/0/16777216/0/16777216/0/roots 2/2/6/new 8 3/0/16777216/0/roots 2/2/2/pairs 2/1 1/3 1",
+        "refused 6 NotRising 1",
+    ),
+    "an_original_has_two_replicas": (
+        "old 8 3/0/16777216/0/roots 2/2/2/new 8 5/0/16777216/0/16777216/0/roots 2/2/6/pairs 2/1 1/1 3",
+        "refused 7 Twice 1",
+    ),
+    "new_object_runs_past_the_end": (
+        "old 8 3/0/16777216/0/roots 1/2/new 8 3/0/16777217/0/roots 1/2/pairs 1/1 1",
+        "refused 2 NewShape 1",
+    ),
+    "word_0_is_not_0": ("old 8 1/7/roots 0/new 8 1/0/roots 0/pairs 0", "refused 1 OldShape 0"),
+    "a_field_is_paired_as_an_object": (
+        "old 8 4/0/16777217/0/1/roots 1/6/new 8 4/0/16777217/0/1/roots 1/6/pairs 2/1 1/3 3",
+        "refused 4 OldNotStart 1",
+    ),
+    "a_root_refers_to_a_field": (
+        "old 8 4/0/16777217/0/1/roots 1/6/new 8 4/0/16777217/0/1/roots 1/6/pairs 1/1 1",
+        "refused 10 RootDiffers 0",
+    ),
+    "second_field_refers_to_an_object_without_a_pair": (
+        "old 8 7/0/16777218/0/1/10/16777216/0/roots 1/2/new 8 5/0/16777218/0/1/2/roots 1/2/pairs 1/1 1",
+        "refused 9 FieldDiffers 0 1",
+    ),
+    "garbage_without_a_pair": (
+        "old 8 5/0/16777216/0/16777216/0/roots 1/2/new 8 3/0/16777216/0/roots 1/2/pairs 1/1 1",
+        "yes 1",
+    ),
+    "a_number_and_a_reference": (
+        "old 9 4/0/16777217/0/9/roots 1/2/new 9 4/0/16777217/0/8/roots 1/2/pairs 1/1 1",
+        "refused 9 FieldDiffers 0 0",
+    ),
+    "kinds_differ": (
+        "old 8 3/0/16777216/0/roots 1/2/new 8 3/0/16842752/0/roots 1/2/pairs 1/1 1",
+        "refused 8 HeaderDiffers 0",
+    ),
+    "a_link_is_paired_as_a_replica": (
+        "old 8 3/0/16777216/0/roots 1/2/new 8 3/0/16777216/0/roots 1/2/pairs 1/1 2",
+        "refused 5 NewNotStart 0",
+    ),
+    "end_above_the_size": ("old 1 3/0/16777216/0/roots 0/new 1 1/0/roots 0/pairs 0", "refused 1 OldShape 0"),
+    "links_differ": (
+        "old 8 3/0/16777216/77/roots 1/2/new 8 3/0/16777216/99/roots 1/2/pairs 1/1 1",
+        "yes 1",
+    ),
+    "fields_of_no_value": (
+        "old 8 4/0/16777217/0/2097152/roots 1/2/new 8 4/0/16777217/0/2097152/roots 1/2/pairs 1/1 1",
+        "refused 9 FieldDiffers 0 0",
+    ),
+    "old_addresses_may_fall": (
+        "old 8 5/0/16777216/0/16842752/0/roots 2/2/6/new 8 5/0/16842752/0/16777216/0/roots 2/6/2/pairs 2/3 1/1 3",
+        "yes 2",
+    ),
+    "no_room_for_the_last_link": (
+        "old 8 4/0/16777216/0/5/roots 0/new 8 1/0/roots 0/pairs 0",
+        "refused 1 OldShape 3",
+    ),
+}
+
+
+def texts_and_verdicts():
+    """Each pair text: its name, its bytes, the line of its verdict."""
+    for name, (lines, verdict) in CHECKED.items():
+        yield name, text_of(lines), verdict
+
+
+def status_of(verdict):
+    return 0 if verdict.startswith("yes ") else 1
+
+
+LEAST = text_of(CHECKED["no_objects"][0])
+
+ENDS_EARLY = "pair: ends early"
+
+
+def bad_line(number):
+    return "pair: bad line %d" % number
+
+
+# A line of the least text, by its number, and what stands in its place.
+WRONG_LINES = {
+    "unknown_version": (1, b"heappair 9"),
+    "version_with_leading_zero": (1, b"heappair 01"),
+    "another_text": (1, b"heaptrace 1"),
+    "empty_first_line": (1, b""),
+    "size_0": (2, b"old 0 1"),
+    "size_too_great": (2, b"old 1048577 1"),
+    "end_0": (2, b"old 1 0"),
+    "end_too_great": (2, b"old 1 1048577"),
+    "size_with_leading_zero": (2, b"old 01 1"),
+    "size_with_a_sign": (2, b"old +1 1"),
+    "two_spaces": (2, b"old  1 1"),
+    "space_before": (2, b" old 1 1"),
+    "space_behind": (2, b"old 1 1 "),
+    "tab_between": (2, b"old\t1 1"),
+    "capital_letters": (2, b"Old 1 1"),
+    "end_is_missing": (2, b"old 1"),
+    "new_before_old": (2, b"new 1 1"),
+    "word_with_leading_zero": (3, b"00"),
+    "word_with_a_sign": (3, b"-1"),
+    "word_beyond_64_bits": (3, b"18446744073709551616"),
+    "word_of_many_digits": (3, b"1" * 1000),
+    "two_words": (3, b"0 0"),
+    "no_word": (3, b""),
+    "a_word_too_few": (3, b"roots 1"),
+    "carriage_return": (3, b"0\r"),
+    "zero_byte_behind": (3, b"0\0"),
+    "byte_of_no_text": (3, b"\xff"),
+    "comment_behind": (3, b"0 # word 0"),
+    "a_word_too_many": (4, b"0"),
+    "roots_too_many": (4, b"roots 273"),
+    "roots_without_number": (4, b"roots"),
+    "a_root_too_few": (4, b"roots 2"),
+    "a_root_too_many": (4, b"roots 0"),
+    "old_twice": (6, b"old 1 1"),
+    "pairs_too_many": (10, b"pairs 524288"),
+    "pair_for_pairs": (10, b"pair 0"),
+    "a_pair_too_few": (10, b"pairs 1"),
+    "end_in_capitals": (11, b"END"),
+    "space_behind_the_end": (11, b"end "),
+    "pair_too_many": (11, b"1 1"),
+}
+
+# In which line a wrong number in an earlier line is noticed.
+NOTICED_IN = {"a_root_too_few": 6, "a_root_too_many": 5, "a_pair_too_few": 11}
+
+# The pair of a text with one pair.
+WRONG_PAIRS = {
+    "old_address_beyond_32_bits": b"4294967296 1",
+    "new_address_beyond_32_bits": b"1 4294967296",
+    "address_with_leading_zero": b"01 1",
+    "one_address": b"1",
+    "three_addresses": b"1 1 1",
+    "pair_parted_by_two_spaces": b"1  1",
+}
+
+
+def with_line(text, number, line):
+    lines = text.split(b"\n")
+    lines[number - 1] = line
+    return b"\n".join(lines)
+
+
+def refused_texts():
+    """Each text that is no pair: its name, its bytes, the line on standard error."""
+    for name, (number, line) in WRONG_LINES.items():
+        yield name, with_line(LEAST, number, line), bad_line(NOTICED_IN.get(name, number))
+    one_pair = text_of(CHECKED["links_differ"][0])
+    place = one_pair.split(b"\n").index(b"1 1") + 1
+    for name, line in WRONG_PAIRS.items():
+        yield name, with_line(one_pair, place, line), bad_line(place)
+    yield "nothing_at_all", b"", ENDS_EARLY
+    yield "without_its_last_line", LEAST[: -len(b"end\n")], ENDS_EARLY
+    yield "last_line_without_its_end", LEAST[:-1], ENDS_EARLY
+    yield "unfinished_line_of_anything", b"heappair 1\nx", ENDS_EARLY
+    yield "line_behind_the_end", LEAST + b"x\n", bad_line(12)
+    yield "byte_behind_the_end", LEAST + b"x", bad_line(12)
+    yield "empty_line_behind_the_end", LEAST + b"\n", bad_line(12)
+    yield "two_texts", LEAST + LEAST, bad_line(12)
+    yield "first_of_two_bad_lines", with_line(with_line(LEAST, 9, b"x"), 3, b"x"), bad_line(3)
+    yield "bad_line_before_the_early_end", LEAST[: LEAST.index(b"roots")] + b"x\n", bad_line(4)
+
+
+def all_paired(count, roots):
+    """The text of so many objects without fields, each paired with the one in its place, and its verdict."""
+    image = "1048576 %d\n0\n" % (1 + 2 * count) + "16777216\n0\n" * count + "roots %d\n" % roots + "2\n" * roots
+    pairs = "".join("%d %d\n" % (place, place) for place in range(1, 1 + 2 * count, 2))
+    text = "heappair 1\nold %snew %spairs %d\n%send\n" % (image, image, count, pairs)
+    return text.encode(), "yes %d" % count
+
+
+def greatest_text():
+    """The text with the most pairs and roots that there may be, and its verdict."""
+    return all_paired(524287, 272)
