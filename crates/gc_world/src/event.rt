@@ -25,3 +25,15 @@ pub struct Entry {
     pub event: Event,
     pub answer: Answer,
 }
+
+impl Answer {
+    ghost use Rattle.std.specs.Prelude.{◌≡◌};
+    ghost use Rattle.gc_world.specs.declared.event.Answer.{Answer};
+
+    /// A mutator's reply as an answer.
+    pub(crate) fn of_mutator(reply: &Reply) -> Answer
+        ensures { result ≡ Answer.Mutator reply.now }
+    {
+        Answer::Mutator(*reply)
+    }
+}

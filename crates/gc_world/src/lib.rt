@@ -5,6 +5,9 @@ mod event;
 mod flip;
 mod laws;
 mod live;
+mod range;
+mod world;
 
 pub use event::{Answer, Entry, Event};
 pub use laws::{histories_grow, runs_are_legal, runs_keep_states};
+pub use world::World;

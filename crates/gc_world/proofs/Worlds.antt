@@ -1,0 +1,42 @@
+-- A world after one event more.
+use Rattle.std.proofs.Common.{◌≡◌, ℕ, ◌<◌, List, [], ◌∷◌, ◌++◌, Option, refl, ap, sym, ◌∙◌, subst}
+use Rattle.gc_graph.specs.declared.command.Op.{Op}
+use Rattle.gc_graph.specs.declared.reply.Reply.{Reply}
+use Rattle.gc_copy.specs.State.{State, opening_state}
+use Rattle.gc_copy.specs.Steps.{mutate, collect}
+use Rattle.gc_copy.specs.Runs.{IsEvent, IsStep, after, answer, Replied, Stepped}
+use Rattle.gc_copy.specs.declared.step.Step.{Step}
+use Rattle.gc_copy.specs.declared.step.StepReply.{StepReply}
+use Rattle.gc_graph.specs.Range.{IsCommand}
+use Rattle.gc_cert.specs.Grammar.{CertifiedPair}
+use Rattle.gc_world.specs.History.{IsHistory, IsUseful, run_event, run_answer, state_after}
+use Rattle.gc_world.specs.Live.{state_in, IsLive}
+use Rattle.gc_world.specs.World.{Past, IsKept, IsWorld, entry_of}
+use Rattle.gc_world.specs.declared.live.Live.{Live}
+use Rattle.gc_world.specs.declared.event.Event.TheVariants.{Mutate, Collect}
+use Rattle.gc_world.specs.declared.event.Answer.TheVariants.{Mutator, Collector}
+use Rattle.gc_world.specs.declared.event.Entry.{Entry}
+use Rattle.gc_world.proofs.Growing.{history_more, state_more}
+
+pub grows : (old new : Live) (size mutators : ℕ) (entries : List Entry) (kept later : Option CertifiedPair) (entry : Entry)
+    → IsWorld old (record { size = size; mutators = mutators; entries = entries; kept = kept }) → IsEvent mutators (run_event entry.event)
+    → run_answer entry.answer ≡ answer (state_in old) (run_event entry.event) → IsUseful (state_in old) entry.event entry.answer
+    → state_in new ≡ after (state_in old) (run_event entry.event) → IsLive new → IsKept later
+    → IsWorld new (record { size = size; mutators = mutators; entries = entries ++ entry ∷ []; kept = later })
+grows old new size mutators entries kept later entry w event told useful next live fine = record {
+  history = history_more entry size mutators entries w.history event
+      (subst (λ s. run_answer entry.answer ≡ answer s (run_event entry.event)) w.state told)
+      (subst (λ s. IsUseful s entry.event entry.answer) w.state useful);
+  state = next ∙ ap (λ s. after s (run_event entry.event)) w.state ∙ sym (state_more entry (opening_state size mutators) entries);
+  live = live;
+  kept = fine;
+}
+
+-- after a command
+pub commanded : (old new : Live) (size before after_it m : ℕ) (op : Op) (reply : Reply) (entries items : List Entry) (kept : Option CertifiedPair)
+    → IsWorld old (record { size = size; mutators = before; entries = entries; kept = kept }) → m < before → IsCommand op → mutate (state_in old) m op ≡ (reply, state_in new) → IsLive new → after_it ≡ before
+    → items ≡ entries ++ entry_of (Mutate m op) (Mutator reply) ∷ [] → IsWorld new (record { size = size; mutators = after_it; entries = items; kept = kept })
+commanded old new size before after_it m op reply entries items kept w less command step live same more =
+    let done = grows old new size before entries kept kept (entry_of (Mutate m op) (Mutator reply)) w (less, command) (ap (λ (x : Reply × State). Replied x.0) (sym step)) tt (sym (ap (λ (x : Reply × State). x.1) step)) live w.kept in
+    subst (λ n. IsWorld new (record { size = size; mutators = n; entries = items; kept = kept })) (sym same)
+    (subst (λ es. IsWorld new (record { size = size; mutators = before; entries = es; kept = kept })) (sym more) done)

@@ -1,0 +1,117 @@
+use crate::event::{Answer, Entry, Event};
+use crate::flip::Flip;
+use crate::laws::histories_grow;
+use crate::live::Live;
+use crate::range::command_is_in_range;
+use gc_cert::PairFile;
+use gc_copy::{Step, StepReply};
+use gc_graph::{NoMemory, Op, Reply};
+use gc_heap::Heap;
+use std::alloc::Global;
+use std::marker::Model;
+
+/// A heap with its mutators and its collector, and the history of all that happened to it. A flip keeps the pair that
+/// the checker accepted, until it is taken.
+#[derive(Debug, Drop)]
+pub struct World {
+    alloc: Global,
+    size: u32,
+    live: Live,
+    history: Vec<Entry>,
+    kept: Option<PairFile>,
+}
+
+impl Model for World {
+    ghost use Rattle.std.specs.Option.{option_map};
+    ghost use Rattle.gc_cert.specs.Views.{pair_in};
+    ghost use Rattle.gc_world.specs.World.{Past, IsWorld};
+
+    ghost Value = { Past };
+
+    ghost view = { λ w. record {
+      size = w.size;
+      mutators = w.live.heap.mutators;
+      entries = w.history.items;
+      kept = option_map pair_in w.kept;
+    } };
+
+    ghost invariant = { λ w. IsWorld w.live (record {
+      size = w.size;
+      mutators = w.live.heap.mutators;
+      entries = w.history.items;
+      kept = option_map pair_in w.kept;
+    }) };
+}
+
+impl World {
+    ghost use Rattle.std.specs.Prelude.{◌≡◌, ◌<◌, ◌≤◌, [], None, IfOk, OnErr};
+    ghost use Rattle.gc_copy.specs.Steps.{mutate};
+    ghost use Rattle.gc_world.specs.History.{IsHistory};
+    ghost use Rattle.gc_world.specs.World.{present, with_entry};
+    ghost use Rattle.gc_world.specs.declared.event.Event.{Event};
+    ghost use Rattle.gc_world.specs.declared.event.Answer.{Answer};
+
+    /// An empty heap of `size` words, 1 to 1048576, for 1 to 16 mutators, to which nothing has happened.
+    pub fn open(alloc: Global, size: u32, mutators: u8) -> Result<World, NoMemory>
+        requires low { 1 ≤ size }
+        requires high { size ≤ 1048576 }
+        requires some { 1 ≤ mutators }
+        requires few { mutators ≤ 16 }
+        ensures { IfOk result (λ world. world ≡ record {
+          size = size;
+          mutators = mutators;
+          entries = [];
+          kept = None;
+        }) }
+    {
+        histories_grow();
+        let live = Live::open(alloc, size, mutators)?;
+        Ok(World {
+            alloc,
+            size,
+            live,
+            history: Vec::new(alloc),
+            kept: None,
+        })
+    }
+
+    /// Makes mutator m's command. Where memory is wanting, it did not happen.
+    pub fn mutate(&mut self, m: u8, op: &Op) -> Result<Reply, NoMemory>
+        requires { m < self.old.mutators }
+        ensures answered { IfOk result (λ reply.
+            self.new ≡ with_entry self.old (Event.Mutate m op.now) (Answer.Mutator reply)) }
+        ensures step { IfOk result (λ reply.
+            mutate (present self.old) m op.now ≡ (reply, present self.new)) }
+        ensures refused { OnErr result (self.new ≡ self.old) }
+    {
+        histories_grow();
+        command_is_in_range(op);
+        make_room(&mut self.history)?;
+        let reply = self.live.mutate(m, op)?;
+        let event = Event::Mutate { m, op: *op };
+        let answer = Answer::of_mutator(&reply);
+        self.history.push_reserved(Entry { event, answer });
+        Ok(reply)
+    }
+
+    /// All that happened, in order.
+    pub fn history(&self) -> &[Entry]
+        ensures entries { result.now ≡ self.now.entries }
+        ensures history { IsHistory self.now.size self.now.mutators self.now.entries }
+    {
+        &self.history
+    }
+}
+
+ghost use Rattle.std.specs.Prelude.{◌≡◌, ◌<◌, OnOk, vec_len, vec_capacity};
+
+// Makes room for one entry more.
+fn make_room(history: &mut Vec<Entry>) -> Result<(), NoMemory>
+    ensures items { history.new.items ≡ history.old.items }
+    ensures room { OnOk result (vec_len history.new < vec_capacity history.new) }
+{
+    match history.reserve(1) {
+        Ok(()) => Ok(()),
+        Err(_) => Err(NoMemory),
+    }
+}
