@@ -1,13 +1,13 @@
 -- What is made ready of a flip before anything changes.
-use Rattle.std.specs.Prelude.{◌≡◌, ℕ, List, length, map, Option, Some, None, ⊤}
+use Rattle.std.specs.Prelude.{◌≡◌, ℕ, List, length, map, Option, Some, None}
 use Rattle.gc_words.specs.Views.{addresses}
 use Rattle.gc_heap.specs.Heap.{HeapWords, graph_in}
 use Rattle.gc_copy.specs.State.{pairs_of}
 use Rattle.gc_copy.specs.Words.{CollectionWords, collection_in, new_root_words}
 use Rattle.gc_world.specs.declared.flip.Draft.{Draft}
 use Rattle.gc_world.specs.declared.flip.Plan.{Plan}
-use Rattle.gc_world.specs.declared.flip.Flip.{Flip}
-use Rattle.gc_world.specs.declared.flip.Flip.TheVariants.{Unchanged, Flipped}
+use Rattle.gc_world.specs.declared.flip.Stepped.{Stepped}
+use Rattle.gc_world.specs.declared.flip.Stepped.TheVariants.{Answered, Flipped}
 use Rattle.gc_copy.specs.declared.step.StepReply.{StepReply}
 use Rattle.gc_copy.specs.declared.step.StepReply.TheVariants as replies
 use Rattle.gc_cert.specs.Grammar.{CertifiedPair}
@@ -28,8 +28,8 @@ pub record IsPlan (c : CollectionWords) (drafted : Draft) (plan : Plan) : Type 0
 
 -- ---- what came of it
 
-abbrev pub reply_of : Flip → StepReply
-reply_of (Unchanged reply) = reply
+abbrev pub reply_of : Stepped → StepReply
+reply_of (Answered reply) = reply
 reply_of (Flipped file) = replies.Flipped (length file.pairs.items)
 
 -- the images and the pairs of a flip, links included
@@ -41,7 +41,23 @@ abbrev pub kept_of : State → Option Collection → Option CertifiedPair
 kept_of s None = None
 kept_of s (Some c) = Some (flip_pair s c)
 
--- a flip that is carried out keeps the pair of its state
-abbrev pub KeepsPair : State → Flip → Type 0
-KeepsPair s (Unchanged reply) = ⊤
+-- what is kept after an answer to a step in this state
+abbrev pub kept_after : Option CertifiedPair → State → StepReply → Option CertifiedPair
+kept_after kept s replies.Busy = kept
+kept_after kept s replies.Begun = kept
+kept_after kept s replies.Idle = kept
+kept_after kept s replies.Clean = kept
+kept_after kept s replies.NoRoom = kept
+kept_after kept s replies.Copied = kept
+kept_after kept s replies.Passed = kept
+kept_after kept s replies.Scanned = kept
+kept_after kept s replies.Applied = kept
+kept_after kept s replies.NotReady = kept
+kept_after kept s replies.Refused = kept
+kept_after kept s (replies.Flipped pairs) = kept_of s s.collection
+kept_after kept s replies.Dropped = kept
+
+-- a step that is answered keeps nothing new, and a flip the pair of its state
+abbrev pub KeepsPair : State → Stepped → Type 0
+KeepsPair s (Answered reply) = (kept : Option CertifiedPair) → kept_after kept s reply ≡ kept
 KeepsPair s (Flipped file) = kept_of s s.collection ≡ Some (pair_in file)

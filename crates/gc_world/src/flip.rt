@@ -14,10 +14,10 @@ use gc_heap::Heap;
 use gc_words::{Pair, no_fault_where_certified};
 use std::alloc::Global;
 
-/// What came of a flip: an answer that changed nothing, or the pair that the checker accepted.
+/// What came of a step: an answer, or of a flip the pair that the checker accepted.
 #[derive(Debug, Drop)]
-pub(crate) enum Flip {
-    Unchanged(StepReply),
+pub(crate) enum Stepped {
+    Answered(StepReply),
     Flipped(PairFile),
 }
 

@@ -4,14 +4,15 @@ ghost use Rattle.gc_cert.specs.Views.{pair_in};
 ghost use Rattle.gc_copy.specs.State.{opening_state, pairs_of};
 ghost use Rattle.gc_copy.specs.Steps.{mutate, collect, is_ready};
 ghost use Rattle.gc_copy.specs.Words.{collection_in};
+ghost use Rattle.gc_copy.specs.Runs.{IsStep};
 ghost use Rattle.gc_copy.specs.declared.step.StepReply.{StepReply};
 ghost use Rattle.gc_world.specs.Flip.{IsDraft, IsPlan, flip_pair, reply_of, KeepsPair};
 ghost use Rattle.gc_world.specs.Live.{state_in, IsLive};
 ghost use Rattle.gc_copy.specs.declared.step.Step.{Step};
 
-use crate::flip::{Draft, Flip, Plan, is_accepted};
+use crate::flip::{Draft, Plan, Stepped, is_accepted};
 use gc_cert::{Image, PairFile};
-use gc_copy::{Collection, StepReply, images_show_links};
+use gc_copy::{Collection, Step, StepReply, images_show_links};
 use gc_graph::{NoMemory, Op, Reply};
 use gc_heap::Heap;
 use std::alloc::Global;
@@ -65,6 +66,7 @@ impl Live {
         ensures step { IfOk result (λ reply. collect (state_in self.old) (Step.BeginSized size) ≡ (reply, state_in self.new)) }
         ensures refused { OnErr result (self.new ≡ self.old) }
         ensures live { IsLive self.new }
+        ensures mutators { self.new.heap.mutators ≡ self.old.heap.mutators }
     {
         if self.collection.is_some() {
             return Ok(StepReply::Busy);
@@ -78,6 +80,7 @@ impl Live {
         requires { IsLive self.old }
         ensures step { collect (state_in self.old) Step.Roots ≡ (result, state_in self.new) }
         ensures live { IsLive self.new }
+        ensures mutators { self.new.heap.mutators ≡ self.old.heap.mutators }
     {
         match &mut self.collection {
             None => StepReply::Idle,
@@ -90,6 +93,7 @@ impl Live {
         requires { IsLive self.old }
         ensures step { collect (state_in self.old) Step.Scan ≡ (result, state_in self.new) }
         ensures live { IsLive self.new }
+        ensures mutators { self.new.heap.mutators ≡ self.old.heap.mutators }
     {
         match &mut self.collection {
             None => StepReply::Idle,
@@ -103,6 +107,7 @@ impl Live {
         requires mutator { m < self.old.heap.mutators }
         ensures step { collect (state_in self.old) (Step.Apply m) ≡ (result, state_in self.new) }
         ensures live { IsLive self.new }
+        ensures mutators { self.new.heap.mutators ≡ self.old.heap.mutators }
     {
         match &mut self.collection {
             None => StepReply::Idle,
@@ -115,6 +120,7 @@ impl Live {
         requires { IsLive self.old }
         ensures step { collect (state_in self.old) Step.Drop ≡ (result, state_in self.new) }
         ensures live { IsLive self.new }
+        ensures mutators { self.new.heap.mutators ≡ self.old.heap.mutators }
     {
         let Some(collection) = self.collection.take() else {
             return StepReply::Idle;
@@ -123,27 +129,53 @@ impl Live {
         StepReply::Dropped
     }
 
+    /// Makes a step of the collector.
+    pub(crate) fn step(&mut self, alloc: Global, step: Step) -> Result<Stepped, NoMemory>
+        requires live { IsLive self.old }
+        requires step { IsStep self.old.heap.mutators step }
+        ensures step { IfOk result (λ stepped. collect (state_in self.old) step ≡ (reply_of stepped, state_in self.new)) }
+        ensures kept { IfOk result (KeepsPair (state_in self.old)) }
+        ensures refused { OnErr result (self.new ≡ self.old) }
+        ensures live { IsLive self.new }
+        ensures mutators { self.new.heap.mutators ≡ self.old.heap.mutators }
+    {
+        let reply = match step {
+            Step::Begin => {
+                let size = self.heap.space().size();
+                self.begin(alloc, size)?
+            }
+            Step::BeginSized(size) => self.begin(alloc, size)?,
+            Step::Roots => self.roots(),
+            Step::Scan => self.scan(),
+            Step::Apply(m) => self.apply_log(m),
+            Step::Flip => return self.flip(alloc),
+            Step::Drop => self.give_up(),
+        };
+        Ok(Stepped::Answered(reply))
+    }
+
     /// Flips where the collection is ready and the checker accepts its pairs. All growths come before the first
     /// change.
-    pub(crate) fn flip(&mut self, alloc: Global) -> Result<Flip, NoMemory>
+    pub(crate) fn flip(&mut self, alloc: Global) -> Result<Stepped, NoMemory>
         requires { IsLive self.old }
         ensures step { IfOk result (λ flip. collect (state_in self.old) Step.Flip ≡ (reply_of flip, state_in self.new)) }
         ensures kept { IfOk result (KeepsPair (state_in self.old)) }
         ensures refused { OnErr result (self.new ≡ self.old) }
         ensures live { IsLive self.new }
+        ensures mutators { self.new.heap.mutators ≡ self.old.heap.mutators }
     {
         let Some(collection) = &self.collection else {
-            return Ok(Flip::Unchanged(StepReply::Idle));
+            return Ok(Stepped::Answered(StepReply::Idle));
         };
         if !collection.ready(&self.heap) {
-            return Ok(Flip::Unchanged(StepReply::NotReady));
+            return Ok(Stepped::Answered(StepReply::NotReady));
         }
         let draft = Draft::new(alloc, collection, &self.heap)?;
         if !is_accepted(alloc, &self.heap, collection, &draft)? {
-            return Ok(Flip::Unchanged(StepReply::Refused));
+            return Ok(Stepped::Answered(StepReply::Refused));
         }
         let plan = Plan::new(alloc, collection, draft)?;
-        Ok(Flip::Flipped(self.carry_out(plan)))
+        Ok(Stepped::Flipped(self.carry_out(plan)))
     }
 
     /// Carries out a flip for which all is ready, and hands out the pair that the checker saw.
@@ -154,6 +186,7 @@ impl Live {
         ensures step { IfSome self.old.collection (λ c. collect (state_in self.old) Step.Flip ≡ (StepReply.Flipped (length (pairs_of (collection_in c))), state_in self.new)) }
         ensures kept { IfSome self.old.collection (λ c. pair_in result ≡ flip_pair (state_in self.old) (collection_in c)) }
         ensures live { IsLive self.new }
+        ensures mutators { self.new.heap.mutators ≡ self.old.heap.mutators }
     {
         images_show_links();
         // Here the prover learns that the heap is sound.

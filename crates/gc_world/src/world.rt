@@ -1,5 +1,4 @@
 use crate::event::{Answer, Entry, Event};
-use crate::flip::Flip;
 use crate::laws::histories_grow;
 use crate::live::Live;
 use crate::range::command_is_in_range;
