@@ -1,14 +1,17 @@
 -- The pair that a flip keeps, put together from what its parts are.
-use Rattle.std.proofs.Common.{◌≡◌, ℕ, List, Option, Some, None, refl, ap, sym, ◌∙◌, subst}
-use Rattle.std.specs.Prelude.{IfSome, IsSomeAnd}
+use Rattle.std.proofs.Common.{◌≡◌, ℕ, true, List, Option, Some, None, refl, ap, sym, ◌∙◌, subst}
+use Rattle.std.specs.Prelude.{IfSome, IsSomeAnd, IsTrue}
 use Rattle.std.specs.Option.{option_map}
 use Rattle.gc_words.specs.Space.{end_of}
-use Rattle.gc_heap.specs.Heap.{HeapWords, IsHeap}
+use Rattle.gc_heap.specs.Heap.{HeapWords, IsHeap, image_of, graph_in}
+use Rattle.gc_words.specs.Certificate.{Certified}
+use Rattle.gc_copy.specs.Linked.{new_image}
+use Rattle.gc_copy.specs.Steps.{is_ready}
 use Rattle.gc_cert.specs.Grammar.{CertifiedPair}
 use Rattle.gc_copy.specs.State.{pairs_of}
 use Rattle.gc_copy.specs.Words.{CollectionWords, IsCollection, collection_in, state_of, open_state, BelongsTo, new_root_words}
-use Rattle.gc_copy.proofs.Shown.{old_shown, new_shown}
-use Rattle.gc_world.specs.Flip.{IsDraft, IsPlan, flip_pair}
+use Rattle.gc_copy.proofs.Shown.{old_shown, new_shown, shown_certified}
+use Rattle.gc_world.specs.Flip.{IsDraft, IsPlan, flip_pair, IsCertified}
 use Rattle.gc_world.specs.declared.flip.Draft.{Draft}
 use Rattle.gc_world.specs.declared.flip.Plan.{Plan}
 
@@ -29,3 +32,12 @@ of_open heap o c file is e = subst (λ x. IfSome x (λ d. file ≡ flip_pair (st
 
 pub planned_for : (heap : HeapWords) (o : Option CollectionWords) (c : CollectionWords) (plan : Plan) → o ≡ Some c → IsSomeAnd o (λ d. IsDraft heap d plan.draft × IsPlan d plan.draft plan) → IsDraft heap c plan.draft × IsPlan c plan.draft plan
 planned_for heap o c plan is h = subst (λ x. IsSomeAnd x (λ d. IsDraft heap d plan.draft × IsPlan d plan.draft plan)) is h
+
+-- it is certified where the collection is ready
+pub open_certified : (heap : HeapWords) (c : CollectionWords) → IsHeap heap → IsCollection c → BelongsTo heap c → is_ready (collection_in c) (graph_in heap) ≡ true → IsCertified (flip_pair (open_state heap c) (collection_in c))
+open_certified heap c heap_is is k ready =
+    subst (λ x. Certified x (new_image (open_state heap c) (collection_in c)) (pairs_of (collection_in c))) (old_shown heap c heap_is k)
+    (subst (λ x. Certified (image_of heap) x (pairs_of (collection_in c))) (new_shown heap c is k) (shown_certified heap c heap_is is k ready))
+
+pub ready_of : (heap : HeapWords) (o : Option CollectionWords) (c : CollectionWords) → o ≡ Some c → IsSomeAnd o (λ d. IsTrue (is_ready (collection_in d) (graph_in heap))) → is_ready (collection_in c) (graph_in heap) ≡ true
+ready_of heap o c is h = subst (λ x. IsSomeAnd x (λ d. IsTrue (is_ready (collection_in d) (graph_in heap)))) is h

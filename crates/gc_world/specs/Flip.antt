@@ -1,6 +1,7 @@
 -- What is made ready of a flip before anything changes.
-use Rattle.std.specs.Prelude.{◌≡◌, ℕ, List, length, map, Option, Some, None}
+use Rattle.std.specs.Prelude.{◌≡◌, ℕ, ◌<◌, ◌^◌, ⊤, List, length, map, Option, Some, None}
 use Rattle.gc_words.specs.Views.{addresses}
+use Rattle.gc_words.specs.Certificate.{Certified}
 use Rattle.gc_heap.specs.Heap.{HeapWords, graph_in}
 use Rattle.gc_copy.specs.State.{pairs_of}
 use Rattle.gc_copy.specs.Words.{CollectionWords, collection_in, new_root_words}
@@ -36,6 +37,9 @@ reply_of (Flipped file) = replies.Flipped (length file.pairs.items)
 abbrev pub flip_pair : State → Collection → CertifiedPair
 flip_pair s c = record { old = old_image s c; new = new_image s c; pairs = pairs_of c }
 
+abbrev pub IsCertified : CertifiedPair → Type 0
+IsCertified pair = Certified pair.old pair.new pair.pairs
+
 -- the pair that is kept then, if one is open
 abbrev pub kept_of : State → Option Collection → Option CertifiedPair
 kept_of s None = None
@@ -60,4 +64,9 @@ kept_after kept s replies.Dropped = kept
 -- a step that is answered keeps nothing new, and a flip the pair of its state
 abbrev pub KeepsPair : State → Stepped → Type 0
 KeepsPair s (Answered reply) = (kept : Option CertifiedPair) → kept_after kept s reply ≡ kept
-KeepsPair s (Flipped file) = kept_of s s.collection ≡ Some (pair_in file)
+KeepsPair s (Flipped file) = (kept_of s s.collection ≡ Some (pair_in file)) × IsCertified (pair_in file)
+
+-- as many pairs as a `u32` can count
+abbrev pub HasFew : Stepped → Type 0
+HasFew (Answered reply) = ⊤
+HasFew (Flipped file) = length file.pairs.items < 2 ^ 32

@@ -1,7 +1,7 @@
 -- A world as contracts see it: what it was opened with, its history, and the pair that its last flip kept.
 use Rattle.std.specs.Prelude.{◌≡◌, ℕ, List, [], ◌∷◌, ◌++◌, length, map, Option, Some, None, ⊤}
 use Rattle.gc_words.specs.Image.{Image}
-use Rattle.gc_words.specs.Certificate.{Certified}
+use Rattle.gc_world.specs.Flip.{IsCertified}
 use Rattle.gc_copy.specs.State.{State, Collection, pairs_of}
 use Rattle.gc_copy.specs.Linked.{old_image, new_image}
 use Rattle.gc_cert.specs.Grammar.{CertifiedPair}
@@ -35,7 +35,7 @@ with_entry past event answer = record past { entries = past.entries ++ entry_of 
 -- a kept pair is certified
 abbrev pub IsKept : Option CertifiedPair → Type 0
 IsKept None = ⊤
-IsKept (Some pair) = Certified pair.old pair.new pair.pairs
+IsKept (Some pair) = IsCertified pair
 
 -- what is there is what the history led to
 pub record IsWorld (now : Live) (past : Past) : Type 0 where

@@ -1,4 +1,4 @@
-ghost use Rattle.std.specs.Prelude.{◌≡◌, ◌<◌, ◌≤◌, IfOk, OnErr, IfSome, IsSomeAnd, IsTrue, length};
+ghost use Rattle.std.specs.Prelude.{◌≡◌, ◌<◌, ◌≤◌, ◌^◌, IfOk, OnErr, IfSome, IsSomeAnd, IsTrue, length};
 ghost use Rattle.gc_heap.specs.Heap.{graph_in};
 ghost use Rattle.gc_cert.specs.Views.{pair_in};
 ghost use Rattle.gc_copy.specs.State.{opening_state, pairs_of};
@@ -6,7 +6,7 @@ ghost use Rattle.gc_copy.specs.Steps.{mutate, collect, is_ready};
 ghost use Rattle.gc_copy.specs.Words.{collection_in};
 ghost use Rattle.gc_copy.specs.Runs.{IsStep};
 ghost use Rattle.gc_copy.specs.declared.step.StepReply.{StepReply};
-ghost use Rattle.gc_world.specs.Flip.{IsDraft, IsPlan, flip_pair, reply_of, KeepsPair};
+ghost use Rattle.gc_world.specs.Flip.{IsDraft, IsPlan, flip_pair, reply_of, KeepsPair, IsCertified, HasFew};
 ghost use Rattle.gc_world.specs.Live.{state_in, IsLive};
 ghost use Rattle.gc_copy.specs.declared.step.Step.{Step};
 
@@ -135,6 +135,7 @@ impl Live {
         requires step { IsStep self.old.heap.mutators step }
         ensures step { IfOk result (λ stepped. collect (state_in self.old) step ≡ (reply_of stepped, state_in self.new)) }
         ensures kept { IfOk result (KeepsPair (state_in self.old)) }
+        ensures few { IfOk result HasFew }
         ensures refused { OnErr result (self.new ≡ self.old) }
         ensures live { IsLive self.new }
         ensures mutators { self.new.heap.mutators ≡ self.old.heap.mutators }
@@ -160,6 +161,7 @@ impl Live {
         requires { IsLive self.old }
         ensures step { IfOk result (λ flip. collect (state_in self.old) Step.Flip ≡ (reply_of flip, state_in self.new)) }
         ensures kept { IfOk result (KeepsPair (state_in self.old)) }
+        ensures few { IfOk result HasFew }
         ensures refused { OnErr result (self.new ≡ self.old) }
         ensures live { IsLive self.new }
         ensures mutators { self.new.heap.mutators ≡ self.old.heap.mutators }
@@ -183,6 +185,9 @@ impl Live {
         requires live { IsLive self.old }
         requires ready { IsSomeAnd self.old.collection (λ c. IsTrue (is_ready (collection_in c) (graph_in self.old.heap))) }
         requires planned { IsSomeAnd self.old.collection (λ c. IsDraft self.old.heap c plan.draft × IsPlan c plan.draft plan) }
+        requires few { length plan.draft.pairs.items < 2 ^ 32 }
+        ensures certified { IsCertified (pair_in result) }
+        ensures few { length result.pairs.items < 2 ^ 32 }
         ensures step { IfSome self.old.collection (λ c. collect (state_in self.old) Step.Flip ≡ (StepReply.Flipped (length (pairs_of (collection_in c))), state_in self.new)) }
         ensures kept { IfSome self.old.collection (λ c. pair_in result ≡ flip_pair (state_in self.old) (collection_in c)) }
         ensures live { IsLive self.new }
