@@ -13,6 +13,7 @@ use Rattle.gc_copy.specs.declared.step.StepReply.{StepReply}
 use Rattle.gc_copy.specs.declared.step.StepReply.TheVariants as replies
 use Rattle.gc_cert.specs.Grammar.{CertifiedPair}
 use Rattle.gc_cert.specs.Views.{pair_in}
+use Rattle.gc_cert.specs.declared.image.PairFile.{PairFile}
 use Rattle.gc_copy.specs.State.{State, Collection}
 use Rattle.gc_copy.specs.Linked.{old_image, new_image}
 
@@ -70,3 +71,8 @@ KeepsPair s (Flipped file) = (kept_of s s.collection ≡ Some (pair_in file)) ×
 abbrev pub HasFew : Stepped → Type 0
 HasFew (Answered reply) = ⊤
 HasFew (Flipped file) = length file.pairs.items < 2 ^ 32
+
+-- the file that is kept after a step
+abbrev pub kept_from : Option PairFile → Stepped → Option PairFile
+kept_from kept (Answered reply) = kept
+kept_from kept (Flipped file) = Some file

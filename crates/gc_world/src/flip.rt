@@ -21,6 +21,34 @@ pub(crate) enum Stepped {
     Flipped(PairFile),
 }
 
+impl Stepped {
+    ghost use Rattle.std.specs.Prelude.{◌≡◌};
+    ghost use Rattle.gc_world.specs.Flip.{reply_of, HasFew, kept_from};
+
+    /// The collector's answer.
+    pub(crate) fn reply(&self) -> StepReply
+        requires { HasFew self.now }
+        ensures { result ≡ reply_of self.now }
+    {
+        match self {
+            Stepped::Answered(reply) => *reply,
+            Stepped::Flipped(file) => StepReply::Flipped {
+                pairs: file.pairs.len() as u32,
+            },
+        }
+    }
+
+    /// What is kept after it.
+    pub(crate) fn into_kept(self, kept: Option<PairFile>) -> Option<PairFile>
+        ensures { result ≡ kept_from kept self }
+    {
+        match self {
+            Stepped::Answered(_) => kept,
+            Stepped::Flipped(file) => Some(file),
+        }
+    }
+}
+
 /// What the checker is shown of a flip beside the two spaces: the certificate, and the moved roots.
 #[derive(Debug, Drop)]
 pub(crate) struct Draft {

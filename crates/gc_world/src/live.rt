@@ -2,7 +2,7 @@ ghost use Rattle.std.specs.Prelude.{◌≡◌, ◌<◌, ◌≤◌, ◌^◌, IfOk
 ghost use Rattle.gc_heap.specs.Heap.{graph_in};
 ghost use Rattle.gc_cert.specs.Views.{pair_in};
 ghost use Rattle.gc_copy.specs.State.{opening_state, pairs_of};
-ghost use Rattle.gc_copy.specs.Steps.{mutate, collect, is_ready};
+ghost use Rattle.gc_copy.specs.Steps.{mutate, collect, is_ready, useful_step};
 ghost use Rattle.gc_copy.specs.Words.{collection_in};
 ghost use Rattle.gc_copy.specs.Runs.{IsStep};
 ghost use Rattle.gc_copy.specs.declared.step.StepReply.{StepReply};
@@ -127,6 +127,26 @@ impl Live {
         };
         collection.drop_into(&mut self.heap);
         StepReply::Dropped
+    }
+
+    /// The step that brings the collection on, or opens one.
+    pub(crate) fn useful_step(&self) -> Step
+        requires { IsLive self.now }
+        ensures { result ≡ useful_step (state_in self.now) }
+    {
+        let Some(collection) = &self.collection else {
+            return Step::Begin;
+        };
+        if !collection.roots_done(&self.heap) {
+            return Step::Roots;
+        }
+        if !collection.scan_done() {
+            return Step::Scan;
+        }
+        match collection.next_log() {
+            Some(m) => Step::Apply(m),
+            None => Step::Flip,
+        }
     }
 
     /// Makes a step of the collector.

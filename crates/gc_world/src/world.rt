@@ -44,7 +44,13 @@ impl Model for World {
 
 impl World {
     ghost use Rattle.std.specs.Prelude.{◌≡◌, ◌<◌, ◌≤◌, [], None, IfOk, OnErr};
-    ghost use Rattle.gc_copy.specs.Steps.{mutate};
+    ghost use Rattle.std.specs.Prelude.{is_some, IfSome};
+    ghost use Rattle.std.specs.Option.{option_map};
+    ghost use Rattle.gc_heap.specs.Heap.{roomy_in};
+    ghost use Rattle.gc_cert.specs.Views.{pair_in};
+    ghost use Rattle.gc_copy.specs.Steps.{mutate, collect, useful_step};
+    ghost use Rattle.gc_copy.specs.Runs.{IsStep};
+    ghost use Rattle.gc_world.specs.Flip.{kept_after, IsCertified};
     ghost use Rattle.gc_world.specs.History.{IsHistory};
     ghost use Rattle.gc_world.specs.World.{present, with_entry};
     ghost use Rattle.gc_world.specs.declared.event.Event.{Event};
@@ -91,6 +97,71 @@ impl World {
         let answer = Answer::of_mutator(&reply);
         self.history.push_reserved(Entry { event, answer });
         Ok(reply)
+    }
+
+    /// Makes a step of the collector. A flip is made only of what the checker accepts, and keeps the pair that it
+    /// accepted. Where memory is wanting, the step did not happen.
+    pub fn collect(&mut self, step: Step) -> Result<StepReply, NoMemory>
+        requires { IsStep self.old.mutators step }
+        ensures answered { IfOk result (λ reply.
+            self.new ≡ record (with_entry self.old (Event.Collect step) (Answer.Collector reply)) {
+              kept = kept_after self.old.kept (present self.old) reply;
+            }) }
+        ensures step { IfOk result (λ reply. collect (present self.old) step ≡ (reply, present self.new)) }
+        ensures refused { OnErr result (self.new ≡ self.old) }
+    {
+        make_room(&mut self.history)?;
+        let stepped = self.live.step(self.alloc, step)?;
+        let reply = stepped.reply();
+        let event = Event::Collect(step);
+        let answer = Answer::Collector(reply);
+        self.history.push_reserved(Entry { event, answer });
+        self.kept = stepped.into_kept(self.kept.take());
+        Ok(reply)
+    }
+
+    /// The step that brings the collection on, or opens one.
+    pub fn useful_step(&self) -> Step
+        ensures { result ≡ useful_step (present self.now) }
+    {
+        self.live.useful_step()
+    }
+
+    /// Whether a collection is open.
+    pub fn is_open(&self) -> bool
+        ensures { result ≡ is_some (present self.now).collection }
+    {
+        self.live.collection.is_some()
+    }
+
+    /// How many words the space had when the world was opened.
+    pub fn size(&self) -> u32
+        ensures { result ≡ self.now.size }
+    {
+        self.size
+    }
+
+    /// How many mutators there are.
+    pub fn mutators(&self) -> u8
+        ensures { result ≡ self.now.mutators }
+    {
+        self.live.heap.mutators()
+    }
+
+    /// The mutators' heap.
+    pub fn heap(&self) -> &Heap
+        ensures { roomy_in result.now ≡ (present self.now).heap }
+    {
+        &self.live.heap
+    }
+
+    /// Hands the pair of the last flip out, and keeps none then.
+    pub fn take_flip(&mut self) -> Option<PairFile>
+        ensures taken { option_map pair_in result ≡ self.old.kept }
+        ensures certified { IfSome result (λ file. IsCertified (pair_in file)) }
+        ensures rest { self.new ≡ record self.old { kept = None } }
+    {
+        self.kept.take()
     }
 
     /// All that happened, in order.
