@@ -12,6 +12,12 @@ use Rattle.gc_cert.specs.Grammar.{CertifiedPair}
 use Rattle.gc_world.specs.History.{IsHistory, IsUseful, run_event, run_answer, state_after}
 use Rattle.gc_world.specs.Live.{state_in, IsLive}
 use Rattle.gc_world.specs.World.{Past, IsKept, IsWorld, entry_of}
+use Rattle.std.specs.Option.{option_map}
+use Rattle.gc_cert.specs.Views.{pair_in}
+use Rattle.gc_cert.specs.declared.image.PairFile.{PairFile}
+use Rattle.gc_world.specs.Flip.{KeepsPair, kept_from}
+use Rattle.gc_world.specs.declared.flip.Stepped as flips
+use Rattle.gc_world.specs.declared.flip.Stepped.TheVariants.{Answered, Flipped}
 use Rattle.gc_world.specs.declared.live.Live.{Live}
 use Rattle.gc_world.specs.declared.event.Event.TheVariants.{Mutate, Collect}
 use Rattle.gc_world.specs.declared.event.Answer.TheVariants.{Mutator, Collector}
@@ -40,3 +46,17 @@ commanded old new size before after_it m op reply entries items kept w less comm
     let done = grows old new size before entries kept kept (entry_of (Mutate m op) (Mutator reply)) w (less, command) (ap (λ (x : Reply × State). Replied x.0) (sym step)) tt (sym (ap (λ (x : Reply × State). x.1) step)) live w.kept in
     subst (λ n. IsWorld new (record { size = size; mutators = n; entries = items; kept = kept })) (sym same)
     (subst (λ es. IsWorld new (record { size = size; mutators = before; entries = es; kept = kept })) (sym more) done)
+
+-- after a step
+pub stepped : (old new : Live) (size before after_it : ℕ) (step : Step) (reply : StepReply) (entries items : List Entry) (kept later : Option CertifiedPair)
+    → IsWorld old (record { size = size; mutators = before; entries = entries; kept = kept }) → IsStep before step → collect (state_in old) step ≡ (reply, state_in new) → IsLive new → after_it ≡ before
+    → items ≡ entries ++ entry_of (Collect step) (Collector reply) ∷ [] → IsKept later → IsWorld new (record { size = size; mutators = after_it; entries = items; kept = later })
+stepped old new size before after_it step reply entries items kept later w range step_is live same more fine =
+    let done = grows old new size before entries kept later (entry_of (Collect step) (Collector reply)) w range (ap (λ (x : StepReply × State). Stepped x.0) (sym step_is)) tt (sym (ap (λ (x : StepReply × State). x.1) step_is)) live fine in
+    subst (λ n. IsWorld new (record { size = size; mutators = n; entries = items; kept = later })) (sym same)
+    (subst (λ es. IsWorld new (record { size = size; mutators = before; entries = es; kept = later })) (sym more) done)
+
+-- what is kept is certified
+pub kept_fine : (came : flips.Stepped) (s : State) (kept : Option PairFile) → IsKept (option_map pair_in kept) → KeepsPair s came → IsKept (option_map pair_in (kept_from kept came))
+kept_fine (Answered reply) s kept fine keeps = fine
+kept_fine (Flipped file) s kept fine keeps = keeps.1
