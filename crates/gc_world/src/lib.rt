@@ -11,3 +11,6 @@ mod world;
 pub use event::{Answer, Entry, Event};
 pub use laws::{histories_grow, runs_are_legal, runs_keep_states};
 pub use world::World;
+
+#[cfg(test)]
+mod tests;
