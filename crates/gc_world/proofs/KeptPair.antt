@@ -1,5 +1,5 @@
 -- The pair that a flip keeps, put together from what its parts are.
-use Rattle.std.proofs.Common.{◌≡◌, ℕ, true, List, Option, Some, None, refl, ap, sym, ◌∙◌, subst}
+use Rattle.std.proofs.Common.{◌≡◌, ℕ, true, List, Option, Some, sym, ◌∙◌, subst}
 use Rattle.std.specs.Prelude.{IfSome, IsSomeAnd, IsTrue}
 use Rattle.std.specs.Option.{option_map}
 use Rattle.gc_words.specs.Space.{end_of}
@@ -12,7 +12,6 @@ use Rattle.gc_copy.specs.State.{pairs_of}
 use Rattle.gc_copy.specs.Words.{CollectionWords, IsCollection, collection_in, state_of, open_state, BelongsTo, new_root_words}
 use Rattle.gc_copy.proofs.Shown.{old_shown, new_shown, shown_certified}
 use Rattle.gc_world.specs.Flip.{IsDraft, IsPlan, flip_pair, IsCertified}
-use Rattle.gc_world.specs.declared.flip.Draft.{Draft}
 use Rattle.gc_world.specs.declared.flip.Plan.{Plan}
 
 pub parts_kept : (heap : HeapWords) (c : CollectionWords) (old_size old_end new_size new_end : ℕ) (old_words old_roots new_words new_roots : List ℕ) (pairs : List (ℕ × ℕ)) → IsHeap heap → IsCollection c → BelongsTo heap c

@@ -1,5 +1,5 @@
 -- A world after one event more.
-use Rattle.std.proofs.Common.{◌≡◌, ℕ, ◌<◌, List, [], ◌∷◌, ◌++◌, Option, refl, ap, sym, ◌∙◌, subst}
+use Rattle.std.proofs.Common.{◌≡◌, ℕ, ◌<◌, List, [], ◌∷◌, ◌++◌, Option, ap, sym, ◌∙◌, subst}
 use Rattle.gc_graph.specs.declared.command.Op.{Op}
 use Rattle.gc_graph.specs.declared.reply.Reply.{Reply}
 use Rattle.gc_copy.specs.State.{State, opening_state}
@@ -9,9 +9,9 @@ use Rattle.gc_copy.specs.declared.step.Step.{Step}
 use Rattle.gc_copy.specs.declared.step.StepReply.{StepReply}
 use Rattle.gc_graph.specs.Range.{IsCommand}
 use Rattle.gc_cert.specs.Grammar.{CertifiedPair}
-use Rattle.gc_world.specs.History.{IsHistory, IsUseful, run_event, run_answer, state_after}
+use Rattle.gc_world.specs.History.{IsUseful, run_event, run_answer}
 use Rattle.gc_world.specs.Live.{state_in, IsLive}
-use Rattle.gc_world.specs.World.{Past, IsKept, IsWorld, entry_of}
+use Rattle.gc_world.specs.World.{IsKept, IsWorld, entry_of}
 use Rattle.std.specs.Option.{option_map}
 use Rattle.gc_cert.specs.Views.{pair_in}
 use Rattle.gc_cert.specs.declared.image.PairFile.{PairFile}

@@ -1,8 +1,8 @@
 -- What is made ready of a flip before anything changes.
-use Rattle.std.specs.Prelude.{◌≡◌, ℕ, ◌<◌, ◌^◌, ⊤, List, length, map, Option, Some, None}
+use Rattle.std.specs.Prelude.{◌≡◌, ◌<◌, ◌^◌, ⊤, length, map, Option, Some, None}
 use Rattle.gc_words.specs.Views.{addresses}
 use Rattle.gc_words.specs.Certificate.{Certified}
-use Rattle.gc_heap.specs.Heap.{HeapWords, graph_in}
+use Rattle.gc_heap.specs.Heap.{HeapWords}
 use Rattle.gc_copy.specs.State.{pairs_of}
 use Rattle.gc_copy.specs.Words.{CollectionWords, collection_in, new_root_words}
 use Rattle.gc_world.specs.declared.flip.Draft.{Draft}

@@ -1,7 +1,7 @@
 -- What is there at one moment: the heap, and the collection that is open.
-use Rattle.std.specs.Prelude.{◌≡◌, ℕ, Option, Some, None}
+use Rattle.std.specs.Prelude.{Option, Some, None}
 use Rattle.std.specs.Option.{option_map}
-use Rattle.gc_heap.specs.Heap.{HeapWords, IsHeap}
+use Rattle.gc_heap.specs.Heap.{HeapWords}
 use Rattle.gc_copy.specs.State.{State}
 use Rattle.gc_copy.specs.Words.{CollectionWords, collection_in, state_of, HasNoLinks, BelongsTo}
 use Rattle.gc_world.specs.declared.live.Live.{Live}

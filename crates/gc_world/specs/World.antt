@@ -1,9 +1,7 @@
 -- A world as contracts see it: what it was opened with, its history, and the pair that its last flip kept.
-use Rattle.std.specs.Prelude.{◌≡◌, ℕ, List, [], ◌∷◌, ◌++◌, length, map, Option, Some, None, ⊤}
-use Rattle.gc_words.specs.Image.{Image}
+use Rattle.std.specs.Prelude.{◌≡◌, ℕ, List, [], ◌∷◌, ◌++◌, Option, Some, None, ⊤}
 use Rattle.gc_world.specs.Flip.{IsCertified}
-use Rattle.gc_copy.specs.State.{State, Collection, pairs_of}
-use Rattle.gc_copy.specs.Linked.{old_image, new_image}
+use Rattle.gc_copy.specs.State.{State}
 use Rattle.gc_cert.specs.Grammar.{CertifiedPair}
 use Rattle.gc_world.specs.Live.{state_in, IsLive}
 use Rattle.gc_world.specs.declared.live.Live.{Live}

@@ -1,13 +1,11 @@
-use Rattle.std.proofs.Common.{◌≡◌, List, [], ◌∷◌, ◌++◌, sym, ap, ◌∙◌, subst}
+use Rattle.std.proofs.Common.{◌≡◌, [], ◌∷◌, ◌++◌, sym, ap, ◌∙◌, subst}
 use Rattle.std.specs.Option.{option_map}
 use Rattle.gc_cert.specs.Views.{pair_in}
-use Rattle.gc_cert.specs.declared.image.PairFile.{PairFile}
 use Rattle.gc_copy.specs.Steps.{collect}
 use Rattle.gc_copy.specs.Runs.{IsStep}
 use Rattle.gc_world.specs.Flip.{reply_of}
 use Rattle.gc_world.specs.Live.{state_in}
-use Rattle.gc_world.specs.World.{Past, present, entry_of, IsKept, IsWorld}
-use Rattle.gc_world.specs.declared.event.Entry.{Entry}
+use Rattle.gc_world.specs.World.{Past, present, entry_of, IsKept}
 use Rattle.gc_world.specs.declared.event.Answer.TheVariants.{Collector}
 use Rattle.gc_world.specs.declared.event.Event.TheVariants.{Collect}
 use Rattle.gc_world.proofs.Worlds.{stepped, kept_fine}

@@ -1,9 +1,7 @@
-use Rattle.std.proofs.Common.{◌≡◌, ◌<◌, List, [], ◌∷◌, ◌++◌, sym, ap, ◌∙◌, subst}
+use Rattle.std.proofs.Common.{◌≡◌, ◌<◌, [], ◌∷◌, ◌++◌, sym, ◌∙◌, subst}
 use Rattle.std.specs.Option.{option_map}
 use Rattle.gc_cert.specs.Views.{pair_in}
 use Rattle.gc_world.specs.World.{Past, entry_of}
-use Rattle.gc_world.specs.declared.event.Entry.{Entry}
-use Rattle.gc_world.specs.declared.event.Answer.{Answer}
 use Rattle.gc_world.specs.declared.event.Answer.TheVariants.{Mutator}
 use Rattle.gc_world.specs.declared.event.Event.TheVariants.{Mutate}
 use Rattle.gc_world.proofs.Worlds.{commanded}
