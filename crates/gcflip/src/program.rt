@@ -29,7 +29,10 @@ fn open<R: Files>(rt: &R, path: &str) -> Result<R::File, Fault>
 }
 
 /// Does the task, and gives the status that tells what came out.
-fn perform<R: Files + Input + Print + AllocGlobal + Threads + Sync>(rt: &R, task: Task<'_>) -> Result<u8, Fault>
+fn perform<R: Files + Input + Print + AllocGlobal + Threads + Sync>(
+    rt: &R,
+    task: Task<'_>,
+) -> Result<u8, Fault>
     ensures done { IfOk result (IsStatusOf task.entry) }
     ensures failed { IfErr result (IsFaultOf task.entry) }
 {
