@@ -84,7 +84,7 @@ class Refusing:
             why = difference(found, usual)
             if why is not None:
                 return spared, "request %d and all later ones refused: %s" % (first, why)
-        return spared, TOO_MANY
+        return spared or MOST_REQUESTS, TOO_MANY
 
     def spared_alone(self, words, text, usual, spared):
         """Why an answer is not the one that is wanted where one request is refused, or None."""
@@ -122,8 +122,10 @@ def growths(program, folder):
     # Whichever piece has no thread of its own, the first fault is told.
     altered_text, altered_verdict = all_paired(20000, 100, (9000, 19999))
     altered = file_of(folder, "altered", altered_text)
-    few_text, few_verdict = all_paired(2047, 100)
-    few = file_of(folder, "few", few_text)
+    most_for_one_text, most_for_one_verdict = all_paired(2047, 1)
+    most_for_one = file_of(folder, "most for one thread", most_for_one_text)
+    least_for_two_text, least_for_two_verdict = all_paired(2048, 1)
+    least_for_two = file_of(folder, "least for two threads", least_for_two_text)
     refused = file_of(folder, "refusal", text_of(CHECKED["an_original_has_two_replicas"][0]))
     bad_pair = file_of(folder, "bad pair", LEAST + b"x\n")
     runs = [
@@ -132,7 +134,7 @@ def growths(program, folder):
         ("bad_line", [], text + b"x\n", refusal("trace: bad line 16", 3)),
         ("missing_file", ["play", missing], b"", refusal("cannot read", 4)),
         ("check_of_a_yes", ["check", yes], b"", Outcome(stdout=b"yes 2\n")),
-        ("check_of_a_text_for_one_thread", ["check", few], b"", Outcome(few_verdict.encode() + b"\n")),
+        ("check_of_2047_pairs", ["check", most_for_one], b"", Outcome(most_for_one_verdict.encode() + b"\n")),
         ("check_of_a_refusal", ["check", refused], b"", Outcome(b"refused 7 Twice 1\n", b"", 1)),
         ("bad_line_of_a_pair", ["check", bad_pair], b"", refusal("pair: bad line 12", 3)),
         ("missing_file_to_check", ["check", missing], b"", refusal("cannot read", 4)),
@@ -140,6 +142,7 @@ def growths(program, folder):
         ("help", ["--help"], b"", run(program, ["--help"])),
     ]
     runs_in_threads = [
+        ("check_of_2048_pairs", ["check", least_for_two], b"", Outcome(least_for_two_verdict.encode() + b"\n")),
         ("check_of_a_longer_text", ["check", long_yes], b"", Outcome(long_verdict.encode() + b"\n")),
         ("check_of_a_longer_refusal", ["check", altered], b"", Outcome(altered_verdict.encode() + b"\n", b"", 1)),
     ]
