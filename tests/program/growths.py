@@ -1,9 +1,18 @@
-"""Each request for memory refused in turn.
+"""Each request for memory or for a thread refused in turn.
 
 No contract can say that memory is left, nor what the system does when it is not. So a small C library stands in front
-of the C library's allocator and refuses the n-th request of a run, for n from 1 on until a run meets no refusal; and
-again with all requests from the n-th on. Each refused run has to say `no memory`, with status 5, and nothing else. The
-one other answer that a run may give, where a single request is refused, is the usual one: what asked may do without.
+of the C library's allocator and of its start of threads, and refuses the n-th request of a run, for n from 1 on until a
+run meets no refusal; and again with all requests from the n-th on.
+
+Threads are asked for by a check of 2048 pairs or more alone, when all else has its memory, and such a check goes on
+without them. So of such a check there is a first request for threads:
+
+- where it, or a request behind it, is refused, alone or with all later ones, the answer is the usual one;
+- where a request before it is refused with all later ones, the answer is `no memory`, with status 5, and nothing else;
+- where a request before it is refused alone, the answer is `no memory` as well, or the usual one: what asked may do
+  without.
+
+Of all other runs each request is one before it.
 """
 import os
 import shutil
@@ -17,6 +26,8 @@ SOURCE = os.path.join(os.path.dirname(os.path.abspath(__file__)), "refusing_allo
 NO_MEMORY = refusal("no memory", 5)
 # Far more than the program asks for; a run that never stops asking is a failure.
 MOST_REQUESTS = 20000
+TOO_MANY = "a run makes more than %d requests" % MOST_REQUESTS
+LAST = 1 << 62
 
 
 def compiler():
@@ -58,19 +69,45 @@ class Refusing:
             os.remove(self.mark)
         return found, refused
 
-    def in_turn(self, words, text, usual, last_of):
-        """Why an answer is not the one that is wanted, or None. `last_of` gives the last request that is refused,
-        from the first."""
-        told = 0
+    def spared_behind(self, words, text, usual):
+        """The first request that is spared: where all from it on are refused, the answer is the usual one. It is one
+        more than the requests of a run that can spare none. And why an answer is not the one that is wanted, or None.
+        """
+        spared = None
         for first in range(1, MOST_REQUESTS):
-            found, refused = self.run(words, text, first, last_of(first))
+            found, refused = self.run(words, text, first, LAST)
             if not refused:
-                return difference(found, usual) or (None if told else "no refusal was told")
-            why = difference(found, NO_MEMORY)
-            told += why is None
-            if why is not None and (last_of(first) != first or difference(found, usual) is not None):
-                return "request %d refused: %s" % (first, why)
-        return "a run makes more than %d requests" % MOST_REQUESTS
+                return spared or first, difference(found, usual)
+            if spared is None and difference(found, NO_MEMORY) is None:
+                continue
+            spared = spared or first
+            why = difference(found, usual)
+            if why is not None:
+                return spared, "request %d and all later ones refused: %s" % (first, why)
+        return spared or MOST_REQUESTS, TOO_MANY
+
+    def spared_alone(self, words, text, usual, spared):
+        """Why an answer is not the one that is wanted where one request is refused, or None."""
+        for request in range(1, MOST_REQUESTS):
+            found, refused = self.run(words, text, request, request)
+            if not refused:
+                return difference(found, usual)
+            if request < spared and difference(found, NO_MEMORY) is None:
+                continue
+            why = difference(found, usual)
+            if why is not None:
+                return "request %d refused: %s" % (request, why)
+        return TOO_MANY
+
+    def in_turn(self, words, text, usual, in_threads):
+        """Why an answer is not the one that is wanted, or None: with all requests from one on refused, and with one."""
+        spared, behind = self.spared_behind(words, text, usual)
+        _, refused = self.run(words, text, spared, LAST)
+        if behind is None and spared == 1:
+            behind = "no refusal was told"
+        if behind is None and refused != in_threads:
+            behind = "requests from %d on are spared" % spared if refused else "no thread was asked for"
+        return behind, self.spared_alone(words, text, usual, spared)
 
 
 def growths(program, folder):
@@ -79,9 +116,16 @@ def growths(program, folder):
     path = file_of(folder, "played", text)
     missing = os.path.join(folder, "nothing", "here")
     yes = file_of(folder, "yes", text_of(CHECKED["old_addresses_may_fall"][0]))
-    # So long that the bytes which are read need more room several times.
+    # So long that the bytes which are read need more room several times, and that threads share the pairs.
     long_text, long_verdict = all_paired(20000, 100)
     long_yes = file_of(folder, "long yes", long_text)
+    # Whichever piece has no thread of its own, the first fault is told.
+    altered_text, altered_verdict = all_paired(20000, 100, (9000, 19999))
+    altered = file_of(folder, "altered", altered_text)
+    most_for_one_text, most_for_one_verdict = all_paired(2047, 1)
+    most_for_one = file_of(folder, "most for one thread", most_for_one_text)
+    least_for_two_text, least_for_two_verdict = all_paired(2048, 1)
+    least_for_two = file_of(folder, "least for two threads", least_for_two_text)
     refused = file_of(folder, "refusal", text_of(CHECKED["an_original_has_two_replicas"][0]))
     bad_pair = file_of(folder, "bad pair", LEAST + b"x\n")
     runs = [
@@ -90,17 +134,22 @@ def growths(program, folder):
         ("bad_line", [], text + b"x\n", refusal("trace: bad line 16", 3)),
         ("missing_file", ["play", missing], b"", refusal("cannot read", 4)),
         ("check_of_a_yes", ["check", yes], b"", Outcome(stdout=b"yes 2\n")),
-        ("check_of_a_longer_text", ["check", long_yes], b"", Outcome(stdout=long_verdict.encode() + b"\n")),
+        ("check_of_2047_pairs", ["check", most_for_one], b"", Outcome(most_for_one_verdict.encode() + b"\n")),
         ("check_of_a_refusal", ["check", refused], b"", Outcome(b"refused 7 Twice 1\n", b"", 1)),
         ("bad_line_of_a_pair", ["check", bad_pair], b"", refusal("pair: bad line 12", 3)),
         ("missing_file_to_check", ["check", missing], b"", refusal("cannot read", 4)),
         ("unknown_word", ["nothing"], b"", run(program, ["nothing"])),
         ("help", ["--help"], b"", run(program, ["--help"])),
     ]
-    for name, words, text, usual in runs:
-        one = refusing.in_turn(words, text, usual, lambda first: first)
+    runs_in_threads = [
+        ("check_of_2048_pairs", ["check", least_for_two], b"", Outcome(least_for_two_verdict.encode() + b"\n")),
+        ("check_of_a_longer_text", ["check", long_yes], b"", Outcome(long_verdict.encode() + b"\n")),
+        ("check_of_a_longer_refusal", ["check", altered], b"", Outcome(altered_verdict.encode() + b"\n", b"", 1)),
+    ]
+    for name, words, text, usual in runs + runs_in_threads:
+        in_threads = (name, words, text, usual) in runs_in_threads
+        rest, one = refusing.in_turn(words, text, usual, in_threads)
         yield "each_growth_refused, %s" % name, one
-        rest = refusing.in_turn(words, text, usual, lambda first: 1 << 62)
         yield "each_growth_and_all_later_ones_refused, %s" % name, rest
 
 

@@ -177,12 +177,23 @@ def refused_texts():
     yield "bad_line_before_the_early_end", LEAST[: LEAST.index(b"roots")] + b"x\n", bad_line(4)
 
 
-def all_paired(count, roots):
-    """The text of so many objects without fields, each paired with the one in its place, and its verdict."""
-    image = "1048576 %d\n0\n" % (1 + 2 * count) + "16777216\n0\n" * count + "roots %d\n" % roots + "2\n" * roots
+def image_without_fields(headers, roots):
+    """The lines of an image of objects without fields, behind the word that names the image."""
+    objects = "".join("%d\n0\n" % header for header in headers)
+    return "1048576 %d\n0\n%sroots %d\n%s" % (1 + 2 * len(headers), objects, roots, "2\n" * roots)
+
+
+def all_paired(count, roots, altered=()):
+    """The text of so many objects without fields, each paired with the one in its place, and its verdict. The altered
+    pairs, least first, have a replica of another kind."""
+    headers = [16777216] * count
+    old = image_without_fields(headers, roots)
+    for number in altered:
+        headers[number] = 16842752
+    new = image_without_fields(headers, roots)
     pairs = "".join("%d %d\n" % (place, place) for place in range(1, 1 + 2 * count, 2))
-    text = "heappair 1\nold %snew %spairs %d\n%send\n" % (image, image, count, pairs)
-    return text.encode(), "yes %d" % count
+    text = "heappair 1\nold %snew %spairs %d\n%send\n" % (old, new, count, pairs)
+    return text.encode(), "refused 8 HeaderDiffers %d" % altered[0] if altered else "yes %d" % count
 
 
 def greatest_text():

@@ -1,6 +1,6 @@
-/* Refuses the requests for memory whose numbers, counted from 1, lie from REFUSED_FIRST to REFUSED_LAST, and makes the
-   file that REFUSED_MARK names when it refuses one. It stands in front of the C library by LD_PRELOAD. It is written
-   without headers, so that a compiler alone can build it. */
+/* Refuses the requests for memory or for a thread whose numbers, counted from 1 over all threads, lie from
+   REFUSED_FIRST to REFUSED_LAST, and makes the file that REFUSED_MARK names when it refuses one. It stands in front of
+   the C library by LD_PRELOAD. It is written without headers, so that a compiler alone can build it. */
 
 typedef unsigned long size_type;
 
@@ -13,8 +13,9 @@ extern long strtol(const char *text, char **end, int base);
 extern int open(const char *path, int flags, ...);
 extern int close(int descriptor);
 extern int *__errno_location(void);
+extern void *dlsym(void *library, const char *name);
 
-enum { OUT_OF_MEMORY = 12, WRITE_ONLY = 1, CREATE = 64, OWNER_MAY_READ_AND_WRITE = 384 };
+enum { TRY_AGAIN = 11, OUT_OF_MEMORY = 12, WRITE_ONLY = 1, CREATE = 64, OWNER_MAY_READ_AND_WRITE = 384 };
 
 static long requests;
 
@@ -26,8 +27,8 @@ static long number_from(const char *name)
 
 static int is_refused(void)
 {
-    requests++;
-    if (requests < number_from("REFUSED_FIRST") || number_from("REFUSED_LAST") < requests)
+    long request = __atomic_add_fetch(&requests, 1, __ATOMIC_SEQ_CST);
+    if (request < number_from("REFUSED_FIRST") || number_from("REFUSED_LAST") < request)
         return 0;
     close(open(getenv("REFUSED_MARK"), WRITE_ONLY | CREATE, OWNER_MAY_READ_AND_WRITE));
     *__errno_location() = OUT_OF_MEMORY;
@@ -66,4 +67,14 @@ int posix_memalign(void **place, size_type alignment, size_type size)
         return OUT_OF_MEMORY;
     *place = found;
     return 0;
+}
+
+typedef int starting(void *thread, const void *attributes, void *(*body)(void *), void *argument);
+
+int pthread_create(void *thread, const void *attributes, void *(*body)(void *), void *argument)
+{
+    void *const next_library = (void *)-1;
+    if (is_refused())
+        return TRY_AGAIN;
+    return ((starting *)dlsym(next_library, "pthread_create"))(thread, attributes, body, argument);
 }

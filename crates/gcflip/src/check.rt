@@ -13,6 +13,7 @@ use gc_check::Verdict;
 use gc_graph::{Sink, Source};
 use std::alloc::Global;
 use std::io::{Read, Write};
+use std::thread::Threads;
 
 /// The status that tells the verdict.
 fn status(verdict: &Verdict) -> u8
@@ -24,8 +25,10 @@ fn status(verdict: &Verdict) -> u8
     }
 }
 
-/// Checks the pair of heaps whose text the reader gives: writes the line of the verdict, and gives its status.
+/// Checks the pair of heaps whose text the reader gives: writes the line of the verdict, and gives its status. Threads
+/// may share the work.
 pub fn check_from<R: Read, W: Write>(
+    rt: &(impl Threads + Sync),
     alloc: Global,
     reader: &mut Source<R>,
     writer: &mut Sink<W>,
@@ -50,7 +53,7 @@ pub fn check_from<R: Read, W: Write>(
     ensures front { result ≡ Err (Fault.Check RunFault.Write) → IfSome (bytes_left R.remaining reader.old) (λ text.
         TellsFront text (bytes_written W.contents writer.old) (bytes_written W.contents writer.new)) }
 {
-    match gc_check::check_text(alloc, reader, writer) {
+    match gc_par::check_text_par(rt, alloc, reader, writer) {
         Ok(verdict) => Ok(status(&verdict)),
         Err(fault) => Err(Fault::Check(fault)),
     }

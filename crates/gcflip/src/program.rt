@@ -15,6 +15,7 @@ use gc_trace::PlayFault;
 use std::alloc::AllocError;
 use std::env::Env;
 use std::rt::Files;
+use std::thread::Threads;
 use std::{env, fs, io};
 
 fn open<R: Files>(rt: &R, path: &str) -> Result<R::File, Fault>
@@ -28,7 +29,10 @@ fn open<R: Files>(rt: &R, path: &str) -> Result<R::File, Fault>
 }
 
 /// Does the task, and gives the status that tells what came out.
-fn perform<R: Files + Input + Print + AllocGlobal>(rt: &R, task: Task<'_>) -> Result<u8, Fault>
+fn perform<R: Files + Input + Print + AllocGlobal + Threads + Sync>(
+    rt: &R,
+    task: Task<'_>,
+) -> Result<u8, Fault>
     ensures done { IfOk result (IsStatusOf task.entry) }
     ensures failed { IfErr result (IsFaultOf task.entry) }
 {
@@ -38,7 +42,7 @@ fn perform<R: Files + Input + Print + AllocGlobal>(rt: &R, task: Task<'_>) -> Re
     match task {
         Task::PlayInput => play_from(alloc, &mut Source::new(rt.reader()), &mut sink),
         Task::Play(path) => play_from(alloc, &mut Source::new(open(rt, path)?), &mut sink),
-        Task::Check(path) => check_from(alloc, &mut Source::new(open(rt, path)?), &mut sink),
+        Task::Check(path) => check_from(rt, alloc, &mut Source::new(open(rt, path)?), &mut sink),
     }
 }
 
@@ -100,7 +104,7 @@ fn refuse<R: Print + Eprint, E: Print>(rt: &R, errors: &E, error: &Error) -> u8
 /// Does what the command line asks, and gives the status. `errors` prints to standard error, for which the runtime
 /// has no writer of its own.
 #[tactic(auto, using(crate::proofs::Statuses::outcome_has_status))]
-pub fn run<R: Files + Env + Input + Print + Eprint + AllocGlobal, E: Print>(
+pub fn run<R: Files + Env + Input + Print + Eprint + AllocGlobal + Threads + Sync, E: Print>(
     rt: &R,
     errors: &E,
 ) -> u8

@@ -18,7 +18,7 @@ fn verdicts_have_their_lines_and_statuses(rt: HostRuntime) -> Result<(), Fail> {
     let refused: &[u8] = b"refused 8 HeaderDiffers 0\n";
     for (text, line, status) in [(YES, b"yes 1\n".as_slice(), 0), (REFUSED, refused, 1)] {
         let mut sink = Sink::new(Vec::new(rt.alloc()));
-        let found = check_from(rt.alloc(), &mut Source::new(text), &mut sink);
+        let found = check_from(&rt, rt.alloc(), &mut Source::new(text), &mut sink);
         assert_eq!(rt; found, Ok(status));
         assert_eq!(rt; sink.into_inner().as_slice(), line);
     }
@@ -28,7 +28,7 @@ fn verdicts_have_their_lines_and_statuses(rt: HostRuntime) -> Result<(), Fail> {
 #[test]
 fn bad_texts_have_no_status(rt: HostRuntime) {
     let mut sink = Sink::new(Vec::new(rt.alloc()));
-    let found = check_from(rt.alloc(), &mut Source::new(&YES[..9]), &mut sink);
+    let found = check_from(&rt, rt.alloc(), &mut Source::new(&YES[..9]), &mut sink);
     let early = Fault::Check(RunFault::Pair(PairFault::EndsEarly));
     assert_eq!(rt; found, Err(early));
     assert!(rt; sink.into_inner().is_empty());
@@ -39,7 +39,7 @@ fn verdicts_without_room_have_no_status(rt: HostRuntime) {
     for (text, front) in [(YES, b"yes"), (REFUSED, b"ref")] {
         let mut room = [0u8; 3];
         let mut sink = Sink::new(room.as_mut_slice());
-        let found = check_from(rt.alloc(), &mut Source::new(text), &mut sink);
+        let found = check_from(&rt, rt.alloc(), &mut Source::new(text), &mut sink);
         assert_eq!(rt; found, Err(Fault::Check(RunFault::Write)));
         assert!(rt; sink.failed());
         assert_eq!(rt; room, *front);
