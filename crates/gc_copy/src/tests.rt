@@ -1,4 +1,4 @@
-ghost use Rattle.std.specs.Prelude.{◌≡◌, ◌<◌, ◌≤◌, length, IfOk};
+ghost use Rattle.std.specs.Prelude.{◌≡◌, ◌<◌, ◌≤◌, IfOk};
 ghost use Rattle.gc_copy.specs.Words.{BelongsTo, HasNoLinks};
 
 use crate::{Collection, StepReply, commands_keep_collections};
