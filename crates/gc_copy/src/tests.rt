@@ -1,3 +1,5 @@
+mod growths;
+
 ghost use Rattle.std.specs.Prelude.{◌≡◌, ◌<◌, ◌≤◌, IfOk};
 ghost use Rattle.gc_copy.specs.Words.{BelongsTo, HasNoLinks};
 
