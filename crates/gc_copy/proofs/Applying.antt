@@ -1,16 +1,15 @@
 -- The oldest entry of a log applied, as the code does it; and when a collection is ready.
-use Rattle.std.proofs.Common.{◌≡◌, ◌≢◌, ⊎_elim, inl, inr, ℕ, zero, suc, ◌+◌, ◌<◌, Bool, true, false, cond, ◌&&◌, not, List, [], ◌∷◌, ◌++◌, map, drop, length, Option, Some, None, is_some, is_none, refl, ap, sym, ◌∙◌, subst, arith, length-set}
+use Rattle.std.proofs.Common.{◌≡◌, inl, ℕ, suc, ◌+◌, Bool, true, false, cond, ◌&&◌, not, List, [], ◌∷◌, ◌++◌, map, drop, length, Option, Some, None, is_some, refl, ap, sym, ◌∙◌, subst, length-set}
 use Rattle.std.specs.Prelude.{IsSome, nat_lt, slice_get, slice_set}
 use Rattle.std.specs.List.{list_all}
 use Rattle.std.specs.Option.{option_map}
-use Rattle.std.proofs.lemmas.Bool.{cond-true, cond-false, cases_Bool}
+use Rattle.std.proofs.lemmas.Bool.{cond-true, cond-false}
 use Rattle.gc_graph.specs.Graph.{Value, Nil, Num, Ref, Object, Graph, lookup, field_of}
 use Rattle.gc_words.specs.Image.{is_start, field_at, block_at, field_in, Block}
 use Rattle.gc_heap.specs.Heap.{HeapWords, graph_in}
-use Rattle.gc_copy.specs.State.{Replica, Collection, State, new_end, new_free, replica_of, moved}
+use Rattle.gc_copy.specs.State.{Replica, Collection, new_end, new_free, replica_of, moved}
 use Rattle.gc_copy.specs.Steps.{log_at, with_log, is_empty, first_log, fresh_replica, place_replica, with_replica, write_replica, copy_value, bring_value, bring_up_to_date, apply_entry, apply_log, if_room, scan_done, roots_done, is_ready}
 use Rattle.gc_copy.specs.Entries.{oldest}
-use Rattle.gc_copy.specs.Belonging.{HasField, IsLogged, Belongs}
 use Rattle.gc_copy.specs.Words.{Log, CollectionWords, IsCollection, entries_of, collection_in, open_state, BelongsTo, KeepsGraph, KeepsRest}
 use Rattle.gc_copy.specs.declared.step.Step.TheVariants as steps
 use Rattle.gc_copy.specs.declared.step.StepReply.TheVariants.{Clean, Applied, NoRoom}
@@ -130,8 +129,9 @@ module _ (heap : HeapWords) (x : CollectionWords) (m : ℕ) (log : Log) (there :
         let dropped : collection_in (record after { logs = slice_set after.logs m later }) ≡ with_log (collection_in after) m (drop 1 log.entries) = entry_dropped after m last later has less ∙ ap (with_log (collection_in after) m) log_is in
         steps_are
         ∙ ap (λ o. if_room (open_state heap x) Applied (relogged m (drop 1 log.entries) o)) done
-        ∙ ap (λ (c : Collection). (Applied, Rattle.gc_copy.specs.Words.state_of heap (Some c))) (sym dropped)
-        ∙ ap (λ s. (Applied, s)) (sym (state_kept heap new (Some (collection_in (record after { logs = slice_set after.logs m later }))) graph))
+        ∙ ◌∙◌ {b = (Applied, Rattle.gc_copy.specs.Words.state_of heap (Some (collection_in (record after { logs = slice_set after.logs m later }))))}
+        (ap (λ (c : Collection). (Applied, Rattle.gc_copy.specs.Words.state_of heap (Some c))) (sym dropped))
+        (ap (λ s. (Applied, s)) (sym (state_kept heap new (Some (collection_in (record after { logs = slice_set after.logs m later }))) graph)))
 
     pub applied_belongs : (new : HeapWords) (after : CollectionWords) (last later : Log) → IsCollection x → BelongsTo heap x → KeepsGraph heap new → KeepsRest x after → BelongsTo new after → apply_entry (collection_in x) (graph_in heap) entry ≡ Some (collection_in after)
         → slice_get after.logs m ≡ Some last → later.entries ≡ drop 1 last.entries → BelongsTo new (record after { logs = slice_set after.logs m later })

@@ -1,23 +1,23 @@
 -- The end of a collection, as the code makes it.
 use Rattle.std.proofs.Common.{◌≡◌, ⊎_elim, inl, inr, ℕ, suc, zero, ◌+◌, ◌-◌, ◌*◌, ◌/◌, ◌%◌, ◌<◌, ◌≤◌, ◌==◌, ◌||◌, nat_lt, Bool, true, false, cond, List, [], ◌∷◌, map, length, Option, Some, None, All, refl, ap, sym, ◌∙◌, subst, arith}
-use Rattle.std.proofs.lemmas.Bool.{cond-true, eqb-true, eqb-false, lt-ltb}
+use Rattle.std.proofs.lemmas.Bool.{eqb-true, eqb-false, lt-ltb}
 use Rattle.std.proofs.lemmas.List.{length-map}
-use Rattle.gc_graph.specs.Graph.{Value, Nil, Num, Ref, Object, Graph}
-use Rattle.gc_words.specs.Word.{value_of, word_of, is_value, field_value, HasAddress}
-use Rattle.gc_words.specs.Image.{Block, blocks, block_in, is_start, object_entry, object_of_block, objects_of, graph_of}
+use Rattle.gc_graph.specs.Graph.{Value, Nil, Num, Ref, Object}
+use Rattle.gc_words.specs.Word.{value_of, word_of, field_value, HasAddress}
+use Rattle.gc_words.specs.Image.{Block, blocks, block_in, is_start, object_entry, object_of_block, objects_of}
 use Rattle.gc_words.specs.Spelling.{link_at}
-use Rattle.gc_words.specs.Space.{SpaceWords, IsSpace, end_of, free_in, without_links, image_with}
-use Rattle.gc_words.specs.Closed.{RefersToStart, IsRootWord, IsFieldWord, HasFieldWords, IsClosed}
+use Rattle.gc_words.specs.Space.{SpaceWords, IsSpace, end_of, free_in, without_links}
+use Rattle.gc_words.specs.Closed.{RefersToStart, IsRootWord, IsFieldWord, HasFieldWords}
 use Rattle.gc_words.proofs.Graphs.{graph_cleared, meaning_back}
 use Rattle.gc_words.proofs.Spelled.{cleared}
 use Rattle.gc_words.proofs.Links.{link_cleared}
 use Rattle.gc_words.proofs.Ends.{end_cleared}
 use Rattle.gc_words.proofs.References.{closed_objects}
-use Rattle.gc_heap.specs.Heap.{HeapWords, IsHeap, graph_in, roomy_in}
+use Rattle.gc_heap.specs.Heap.{HeapWords, IsHeap, graph_in}
 use Rattle.gc_copy.specs.State.{Collection, State, new_objects, new_end, new_free, new_graph, moved, pairs_of}
 use Rattle.gc_copy.specs.Steps.{is_ready, flip, flipped, with_collection}
 use Rattle.gc_copy.specs.Members.{In}
-use Rattle.gc_copy.specs.Belonging.{IsNamed, RefersTo, IsObject, IsSpaceGraph}
+use Rattle.gc_copy.specs.Belonging.{IsNamed, RefersTo, IsSpaceGraph}
 use Rattle.gc_copy.specs.Words.{CollectionWords, IsCollection, collection_in, idle_state, open_state, BelongsTo, HasNoLinks, new_root_words}
 use Rattle.gc_copy.specs.declared.step.StepReply.{StepReply}
 use Rattle.gc_copy.specs.declared.step.StepReply.TheVariants.{Flipped, Dropped}

@@ -1,15 +1,14 @@
 -- Mutation logs in their list.
-use Rattle.std.proofs.Common.{◌≡◌, ℕ, suc, zero, ◌+◌, ◌<◌, ◌≤◌, Bool, true, false, cond, List, [], ◌∷◌, ◌++◌, map, drop, length, get_or, set, replicate, Option, Some, None, refl, ap, sym, ◌∙◌, subst, arith, length-set, inl, inr}
+use Rattle.std.proofs.Common.{◌≡◌, ℕ, suc, zero, ◌+◌, ◌<◌, ◌≤◌, true, false, List, [], ◌∷◌, ◌++◌, map, drop, length, get_or, replicate, Option, Some, None, refl, ap, sym, ◌∙◌, subst, arith, inl, inr}
 use Rattle.std.specs.Prelude.{slice_get, slice_set}
 use Rattle.std.proofs.lemmas.Option.{slice_get-get_or}
 use Rattle.std.specs.Option.{option_map}
 use Rattle.std.proofs.lemmas.Bool.{cond-true, cond-false}
 use Rattle.std.proofs.lemmas.List.{drop_all, length-map}
 use Rattle.gc_heap.specs.Heap.{HeapWords, graph_in}
-use Rattle.gc_copy.specs.State.{Collection}
 use Rattle.gc_copy.specs.Steps.{log_or_nil, log_at, with_log, is_empty, first_log}
 use Rattle.gc_copy.specs.Belonging.{HasField, Belongs}
-use Rattle.gc_copy.specs.Words.{Log, CollectionWords, entries_of, collection_in, LinksReplicas, BelongsTo, BelongsToBut}
+use Rattle.gc_copy.specs.Words.{Log, CollectionWords, entries_of, collection_in, spare_in, spare_of, LinksReplicas, BelongsTo, BelongsToBut}
 use Rattle.gc_graph.specs.Graph.{Object}
 use Rattle.gc_copy.specs.Members.{In}
 use Rattle.gc_copy.proofs.Steps.{belongs_noted}
@@ -36,6 +35,17 @@ pub room_made : (c : CollectionWords) (m : ℕ) (log later : Log) → slice_get 
 room_made c m log later there same =
     let logs = entries_set c.logs m later ∙ ap (slice_set (map entries_of c.logs) m) same ∙ set_same c.logs m log there in
     λ i. record (collection_in c) { logs = logs i }
+
+spares_set : (logs : List Log) (m : ℕ) (log later : Log) → slice_get logs m ≡ Some log → log.spare ≤ later.spare → (k : ℕ) → spare_in (slice_get logs k) ≤ spare_in (slice_get (slice_set logs m later) k)
+spares_set [] m log later e more k = omega arith
+spares_set (l ∷ logs) zero log later e more zero = let same : log ≡ l = (let f : Some l ≡ Some log = e in cc) in subst (λ (x : Log). x.spare ≤ later.spare) same more
+spares_set (l ∷ logs) zero log later e more (suc k) = omega arith
+spares_set (l ∷ logs) (suc m) log later e more zero = omega arith
+spares_set (l ∷ logs) (suc m) log later e more (suc k) = spares_set logs m log later e more k
+
+-- where one log gains room, none loses any
+pub room_kept : (c : CollectionWords) (m : ℕ) (log later : Log) → slice_get c.logs m ≡ Some log → log.spare ≤ later.spare → (k : ℕ) → spare_of c k ≤ spare_of (record c { logs = slice_set c.logs m later }) k
+room_kept c m log later there more k = spares_set c.logs m log later there more k
 
 pub entry_noted : (c : CollectionWords) (m a f : ℕ) (log later : Log) → slice_get c.logs m ≡ Some log → later.entries ≡ log.entries ++ (a, f) ∷ []
     → collection_in (record c { logs = slice_set c.logs m later }) ≡ with_log (collection_in c) m (log_at (collection_in c) m ++ (a, f) ∷ [])

@@ -1,16 +1,14 @@
 -- A mutator's command with its write barrier, as the code makes it.
-use Rattle.std.proofs.Common.{◌≡◌, ◌≢◌, ⊎_elim, inl, inr, ℕ, zero, suc, ◌+◌, ◌-◌, ◌<◌, ◌≤◌, Bool, true, false, List, [], ◌∷◌, ◌++◌, map, length, Option, Some, None, refl, ap, sym, ◌∙◌, subst, arith, append-nil}
+use Rattle.std.proofs.Common.{◌≡◌, ◌≢◌, inl, ℕ, zero, suc, ◌-◌, List, [], ◌∷◌, ◌++◌, Option, Some, refl, ap, sym, ◌∙◌, subst, arith, append-nil}
 use Rattle.std.specs.Prelude.{slice_get, slice_set}
-use Rattle.std.specs.Option.{option_map, option_to_list}
-use Rattle.std.proofs.lemmas.List.{length-map}
+use Rattle.std.specs.Option.{option_to_list}
 use Rattle.gc_graph.specs.Machine.{Roomy, roomy_step}
-use Rattle.gc_graph.specs.Graph.{Graph, names_of, root}
-use Rattle.gc_graph.specs.Slots.{place}
+use Rattle.gc_graph.specs.Graph.{Graph}
 use Rattle.gc_graph.specs.declared.command.Op.{Op}
 use Rattle.gc_graph.specs.declared.command.Op.TheVariants as ops
 use Rattle.gc_graph.specs.declared.reply.Reply.{Reply}
 use Rattle.gc_graph.specs.declared.reply.Reply.TheVariants as replies
-use Rattle.gc_words.specs.Space.{IsSpace, end_of}
+use Rattle.gc_words.specs.Space.{end_of}
 use Rattle.gc_heap.specs.Heap.{HeapWords, IsHeap, KeepsLinks, graph_in, roomy_in}
 use Rattle.gc_copy.specs.State.{Collection, State}
 use Rattle.gc_copy.specs.Steps.{log_or_nil, log_at, with_log, written, mutate}
@@ -18,7 +16,7 @@ use Rattle.gc_graph.specs.Slots.{SlotName}
 use Rattle.gc_copy.specs.Entries.{if_done}
 use Rattle.gc_copy.specs.Members.{In}
 use Rattle.gc_copy.specs.Belonging.{HasField}
-use Rattle.gc_copy.specs.Words.{Log, CollectionWords, entries_of, collection_in, open_state, BelongsTo, BelongsToBut}
+use Rattle.gc_copy.specs.Words.{CollectionWords, collection_in, open_state, BelongsTo, BelongsToBut}
 use Rattle.gc_copy.proofs.Kept.{field_there}
 use Rattle.gc_copy.proofs.Shown.{command_leaves, nothing_left}
 

@@ -1,9 +1,9 @@
 -- A walk over the objects of a space, as loops make it.
-use Rattle.std.proofs.Common.{◌≡◌, ℕ, suc, zero, ◌+◌, ◌-◌, ◌<◌, ◌≤◌, Bool, true, false, cond, List, [], ◌∷◌, ◌++◌, map, length, Option, Some, None, Ok, is_some, refl, ap, sym, ◌∙◌, subst, arith, append_assoc, append-nil, length-append, inl, inr}
-use Rattle.std.specs.Prelude.{◌^◌, IsOk, IsSome, slice_index, nat_le}
+use Rattle.std.proofs.Common.{◌≡◌, ℕ, ◌+◌, ◌-◌, ◌<◌, ◌≤◌, true, List, [], ◌∷◌, ◌++◌, map, length, Some, None, refl, ap, sym, ◌∙◌, subst, arith, append_assoc, append-nil, length-append, inl}
+use Rattle.std.specs.Prelude.{◌^◌, IsOk, nat_le}
 use Rattle.std.proofs.lemmas.Bool.{cond-true, le-leb}
 use Rattle.std.proofs.lemmas.List.{map-append, length-map}
-use Rattle.gc_words.specs.Image.{Block, walk_words, blocks, block_in, block_at, is_start, header_at, ok_or_nil}
+use Rattle.gc_words.specs.Image.{Block, walk_words, blocks, is_start, header_at, ok_or_nil}
 use Rattle.gc_words.specs.Spelling.{link_at}
 use Rattle.gc_words.specs.Space.{SpaceWords, IsSpace}
 use Rattle.gc_words.specs.Views.{addresses}
@@ -17,7 +17,7 @@ use Rattle.gc_words.proofs.Fields.{block_of_header}
 use Rattle.gc_copy.specs.State.{Replica}
 use Rattle.gc_copy.specs.Members.{In}
 use Rattle.gc_copy.specs.Words.{replica_entry, replicas_in}
-use Rattle.gc_copy.proofs.Lists.{in_left, in_right, in_map}
+use Rattle.gc_copy.proofs.Lists.{in_right, in_map}
 use Rattle.gc_copy.proofs.Spaces.{in_start}
 
 -- ---- one step

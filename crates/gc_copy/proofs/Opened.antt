@@ -1,5 +1,5 @@
 -- A heap of words with a collection of words, as a state, and what keeps them together.
-use Rattle.std.proofs.Common.{◌≡◌, ◌≢◌, ⊎_elim, inl, inr, ℕ, ◌+◌, ◌-◌, ◌<◌, ◌≤◌, ◌==◌, nat_lt, Bool, true, false, cond, List, [], ◌∷◌, ◌++◌, map, length, Option, Some, None, Result, Ok, Err, is_some, refl, ap, sym, ◌∙◌, subst, arith}
+use Rattle.std.proofs.Common.{◌≡◌, ◌≢◌, ⊎_elim, inl, ℕ, ◌+◌, ◌-◌, ◌<◌, ◌≤◌, ◌==◌, nat_lt, Bool, true, false, cond, List, [], ◌∷◌, ◌++◌, map, length, Option, Some, None, Result, Ok, Err, is_some, refl, ap, sym, ◌∙◌, subst, arith}
 use Rattle.std.specs.List.{find}
 use Rattle.std.proofs.lemmas.Bool.{cases_Bool, cases_lt, cond-true, cond-false, eqb-true, eqb-false, eq-eqb, ne_eqb, le-ltb, lt-ltb}
 use Rattle.std.proofs.lemmas.List.{length-map}
@@ -10,9 +10,9 @@ use Rattle.gc_heap.proofs.Commands.{named}
 use Rattle.gc_graph.specs.Graph.{Value, Nil, Num, Ref, Object, Graph, lookup, field_of, new_object}
 use Rattle.gc_words.specs.Word.{IsHeader, HasAddress, word_of, field_value}
 use Rattle.gc_words.specs.Word.{value_of}
-use Rattle.gc_words.specs.Image.{Block, blocks, block_in, block_at, is_start, header_at, field_in, field_at, object_of_block, objects_of}
+use Rattle.gc_words.specs.Image.{Block, block_in, block_at, is_start, header_at, field_in, field_at, object_of_block, objects_of}
 use Rattle.gc_words.specs.Spelling.{link_at}
-use Rattle.gc_words.specs.Space.{SpaceWords, IsSpace, CanPlace, HasRoom, end_of, free_in, with_object, with_word, link_place, field_place}
+use Rattle.gc_words.specs.Space.{SpaceWords, IsSpace, HasRoom, end_of, free_in, with_object, with_word, link_place, field_place}
 use Rattle.gc_words.specs.Closed.{RefersToStart, IsRootWord}
 use Rattle.gc_words.specs.declared.header.Header.{Header}
 use Rattle.gc_words.specs.Walking.{StandsIn}
@@ -22,16 +22,16 @@ use Rattle.gc_words.proofs.Links.{link_written_there, link_written_beside}
 use Rattle.gc_words.proofs.Graphs.{object_found, field_found, graph_link, meaning_back}
 use Rattle.gc_words.proofs.Fields.{block_of_header}
 use Rattle.gc_words.proofs.Ends.{fields_counted, end_written}
-use Rattle.gc_heap.specs.Heap.{HeapWords, IsHeap, graph_in, roomy_in, name_of}
+use Rattle.gc_heap.specs.Heap.{HeapWords, IsHeap, graph_in, name_of}
 use Rattle.gc_copy.specs.State.{Replica, Collection, State, new_objects, new_end, new_free, replica_of, moved, moved_name}
 use Rattle.gc_copy.specs.Linked.{place_or_zero, old_links}
-use Rattle.gc_copy.specs.Steps.{fresh_replica, place_replica, with_replica, with_written, write_replica, copy_value, bring_value, bring_up_to_date, collect, step_in}
+use Rattle.gc_copy.specs.Steps.{fresh_replica, place_replica, with_replica, with_written, write_replica, copy_value, bring_value, bring_up_to_date, collect}
 use Rattle.gc_copy.specs.Members.{In}
 use Rattle.gc_copy.proofs.Lists.{in_push, in_right, in_map, in_map_from, find_exists, get_within, get_past}
 use Rattle.gc_copy.proofs.Heap.{laid_range, lookup_laid}
 use Rattle.gc_copy.specs.Belonging.{IsDue, Belongs, IsOpen, IsOpened}
 use Rattle.gc_copy.proofs.Replicas.{placed, with_written_pair, replica_in}
-use Rattle.gc_copy.specs.Words.{Log, CollectionWords, IsCollection, entries_of, replicas_in, collection_in, state_of, open_state, LinksReplicas, BelongsTo, HasReplicaOf, KeepsGraph, KeepsRest}
+use Rattle.gc_copy.specs.Words.{CollectionWords, IsCollection, entries_of, replicas_in, collection_in, state_of, open_state, LinksReplicas, BelongsTo, HasReplicaOf, KeepsGraph, KeepsRest}
 use Rattle.gc_copy.specs.declared.step.Step.{Step}
 use Rattle.gc_copy.specs.declared.step.Step.TheVariants as steps
 use Rattle.gc_copy.specs.declared.step.StepReply.{StepReply}

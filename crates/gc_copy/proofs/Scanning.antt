@@ -1,23 +1,22 @@
 -- The scan, as the code makes it.
-use Rattle.std.proofs.Common.{◌≡◌, ◌≢◌, ⊎_elim, inl, inr, ℕ, suc, ◌+◌, ◌-◌, ◌<◌, ◌≤◌, ◌==◌, Bool, true, false, cond, List, [], ◌∷◌, length, Option, Some, None, is_some, refl, ap, sym, ◌∙◌, subst, arith}
+use Rattle.std.proofs.Common.{◌≡◌, ⊎_elim, ℕ, suc, ◌+◌, ◌<◌, ◌≤◌, ◌==◌, true, false, length, Some, None, refl, ap, sym, ◌∙◌, subst, arith}
 use Rattle.std.specs.Prelude.{◌^◌, IsSome}
 use Rattle.std.specs.Option.{option_map}
 use Rattle.std.proofs.lemmas.Bool.{cond-true, cond-false, eq-eqb, ne_eqb, eqb-false}
 use Rattle.gc_graph.specs.Graph.{Object, lookup}
-use Rattle.gc_words.specs.Image.{Block, blocks, is_start, header_at, field_at, block_at, object_of_block, objects_of}
+use Rattle.gc_words.specs.Image.{is_start, header_at, field_at, object_of_block, objects_of}
 use Rattle.gc_words.specs.Spelling.{link_at}
 use Rattle.gc_words.specs.declared.header.Header.{Header}
 use Rattle.gc_words.proofs.Fields.{block_of_header}
 use Rattle.gc_words.proofs.Ends.{fields_counted}
 use Rattle.gc_words.proofs.Graphs.{object_found}
-use Rattle.gc_heap.specs.Heap.{HeapWords, IsHeap, graph_in}
-use Rattle.gc_copy.specs.State.{Replica, Collection, State, new_objects, new_end, replica_of, replica_at}
+use Rattle.gc_heap.specs.Heap.{HeapWords, graph_in}
+use Rattle.gc_copy.specs.State.{Replica, new_objects, new_end, replica_of, replica_at}
 use Rattle.gc_copy.specs.Steps.{scan_done, scan, scan_replica, next_object, next_field, if_room, bring_up_to_date, with_collection}
 use Rattle.gc_copy.specs.Members.{In}
-use Rattle.gc_copy.specs.Belonging.{IsDue, Belongs}
-use Rattle.gc_copy.specs.Words.{CollectionWords, IsCollection, replica_entry, replicas_in, collection_in, state_of, open_state, LinksReplicas, BelongsTo, KeepsGraph, KeepsRest}
+use Rattle.gc_copy.specs.Belonging.{IsDue}
+use Rattle.gc_copy.specs.Words.{CollectionWords, IsCollection, replicas_in, collection_in, open_state, BelongsTo, KeepsGraph, KeepsRest}
 use Rattle.gc_copy.specs.declared.step.Step.TheVariants as steps
-use Rattle.gc_copy.specs.declared.step.StepReply.{StepReply}
 use Rattle.gc_copy.specs.declared.step.StepReply.TheVariants.{Clean, Passed, Scanned, NoRoom}
 use Rattle.gc_copy.proofs.Lists.{in_map}
 use Rattle.gc_copy.proofs.Heap.{laid_range}

@@ -1,32 +1,30 @@
 -- What a heap and its collection show to the checker, and what commands leave of them.
-use Rattle.std.proofs.Common.{◌≡◌, ◌⊎◌, ⊎_elim, inl, inr, ℕ, ◌+◌, ◌-◌, ◌<◌, ◌≤◌, Bool, true, false, List, [], ◌∷◌, ◌++◌, map, flat_map, length, Option, Some, None, is_some, refl, ap, sym, ◌∙◌, subst, arith}
-use Rattle.std.specs.Prelude.{IsTrue, IsFalse}
+use Rattle.std.proofs.Common.{◌≡◌, ⊎_elim, inl, inr, ℕ, true, false, List, [], ◌∷◌, ◌++◌, map, flat_map, length, Option, Some, None, is_some, refl, ap, sym, ◌∙◌, subst}
 use Rattle.std.specs.Option.{option_map}
-use Rattle.std.proofs.lemmas.Bool.{cases_Bool, cases_eq}
-use Rattle.gc_graph.specs.Graph.{Value, Nil, Num, Ref, Object, Graph, lookup}
+use Rattle.std.proofs.lemmas.Bool.{cases_Bool}
+use Rattle.gc_graph.specs.Graph.{lookup}
 use Rattle.gc_graph.specs.Machine.{Roomy, roomy_step}
 use Rattle.gc_graph.specs.declared.command.Op.{Op}
 use Rattle.gc_graph.specs.declared.reply.Reply.{Reply}
-use Rattle.gc_words.specs.Word.{word_of, value_of}
-use Rattle.gc_words.specs.Image.{Block, Image, blocks, block_at, is_start, objects_of, object_of_block}
+use Rattle.gc_words.specs.Image.{Block, blocks, block_at, is_start, objects_of, object_of_block}
 use Rattle.gc_words.specs.Spelling.{block_words, spelled, link_at}
 use Rattle.gc_words.specs.Space.{SpaceWords, IsSpace, end_of, free_in, image_with}
 use Rattle.gc_words.specs.Certificate.{Certified}
 use Rattle.gc_words.proofs.Graphs.{object_found}
 use Rattle.gc_heap.specs.Heap.{HeapWords, IsHeap, KeepsLinks, image_of, graph_in, roomy_in}
-use Rattle.gc_copy.specs.State.{Replica, Collection, new_objects, new_graph, pairs_of, replica_of, replica_at}
-use Rattle.gc_copy.specs.Linked.{block_entry, place_or_zero, original_or_zero, old_links, new_links, linked_image, old_image, new_image}
+use Rattle.gc_copy.specs.State.{Replica, pairs_of, replica_of}
+use Rattle.gc_copy.specs.Linked.{block_entry, place_or_zero, original_or_zero, old_links, new_links, old_image, new_image}
 use Rattle.gc_copy.specs.Steps.{written, is_ready}
 use Rattle.gc_copy.specs.Members.{In}
 use Rattle.gc_copy.specs.Belonging.{IsDue, Belongs, BelongsBut}
-use Rattle.gc_copy.specs.Words.{CollectionWords, IsCollection, replica_entry, replicas_in, collection_in, open_state, LinksReplicas, BelongsTo, BelongsToBut, HasNoLinks, new_root_words}
+use Rattle.gc_copy.specs.Words.{CollectionWords, IsCollection, replica_entry, collection_in, open_state, LinksReplicas, BelongsTo, BelongsToBut, HasNoLinks, new_root_words}
 use Rattle.gc_copy.proofs.Lists.{in_map}
 use Rattle.gc_copy.proofs.Replicas.{replica_in, replicas_due}
 use Rattle.gc_copy.proofs.Steps.{its_replicas, belongs_from, ready_parts}
 use Rattle.gc_copy.proofs.Links.{found_by_place}
 use Rattle.gc_copy.proofs.Kept.{command_kept}
 use Rattle.gc_copy.proofs.Flips.{certified}
-use Rattle.gc_copy.proofs.Words.{heap_graph, heap_image, space_blocks, space_spelled, words_back}
+use Rattle.gc_copy.proofs.Words.{heap_graph, space_blocks, space_spelled, words_back}
 use Rattle.gc_copy.proofs.Spaces.{in_start, new_objects_are}
 
 -- ---- links

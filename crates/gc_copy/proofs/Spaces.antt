@@ -1,16 +1,16 @@
 -- The replicas that the words of a space are, and what writes do to them.
-use Rattle.std.proofs.Common.{◌≡◌, ⊎_elim, inl, inr, ℕ, zero, suc, ◌+◌, ◌-◌, ◌*◌, ◌/◌, ◌%◌, ◌<◌, ◌≤◌, ◌==◌, Bool, true, false, cond, List, [], ◌∷◌, ◌++◌, map, length, Option, Some, None, is_some, refl, ap, sym, ◌∙◌, subst, arith}
+use Rattle.std.proofs.Common.{◌≡◌, ⊎_elim, inl, inr, ℕ, ◌-◌, ◌==◌, true, false, List, [], ◌∷◌, ◌++◌, map, Option, Some, None, is_some, refl, ap, sym, ◌∙◌, subst, arith}
 use Rattle.std.specs.Prelude.{IsSome}
-use Rattle.std.proofs.lemmas.Bool.{cases_Bool, cond-true, cond-false, eqb-true, eqb-false, eq-eqb}
+use Rattle.std.proofs.lemmas.Bool.{cases_Bool, cond-true, cond-false, eq-eqb}
 use Rattle.std.proofs.lemmas.List.{map-append}
-use Rattle.gc_graph.specs.Graph.{Value, Nil, Num, Ref, Object, set_field, new_object}
-use Rattle.gc_words.specs.Word.{value_of, word_of, field_value}
+use Rattle.gc_graph.specs.Graph.{Object, set_field, new_object}
+use Rattle.gc_words.specs.Word.{value_of}
 use Rattle.gc_words.specs.Image.{Block, blocks, block_in, block_at, is_start, field_at, fresh_block, set_block, object_of_block, object_entry, objects_of}
 use Rattle.gc_words.specs.Spelling.{link_at}
 use Rattle.gc_words.specs.Space.{SpaceWords, IsSpace, CanPlace, end_of, free_in, with_object, with_word, link_place, field_place}
 use Rattle.gc_words.specs.declared.header.Header.{Header}
 use Rattle.gc_words.proofs.Walks.{objects_set}
-use Rattle.gc_words.proofs.Writes.{some_of, placed, field_written, link_written}
+use Rattle.gc_words.proofs.Writes.{placed, field_written, link_written}
 use Rattle.gc_words.proofs.Blocks.{none_at_end, placed_block}
 use Rattle.gc_words.proofs.Links.{link_placed_beside, link_beside_field, link_written_there, link_written_beside}
 use Rattle.gc_words.proofs.Graphs.{fresh_object}

@@ -1,5 +1,5 @@
 -- A collection as contracts see it: a new space whose links are originals, logs with their room, and the scan pointer.
-use Rattle.std.specs.Prelude.{◌≡◌, ℕ, ◌+◌, ◌-◌, ◌<◌, ◌≤◌, ◌^◌, List, [], ◌∷◌, ◌++◌, length, map, replicate, slice_get, IsTrue, IsSome, Option, Some, None, ⊤}
+use Rattle.std.specs.Prelude.{◌≡◌, ℕ, ◌<◌, ◌^◌, List, length, map, slice_get, IsTrue, IsSome, Option, Some, None, ⊤}
 use Rattle.gc_graph.specs.Graph.{Value, Nil, Num, Ref}
 use Rattle.gc_words.specs.Word.{word_of, value_of}
 use Rattle.gc_words.specs.Image.{Block, blocks, is_start, object_of_block}

@@ -1,4 +1,6 @@
-ghost use Rattle.std.specs.Prelude.{◌≡◌, ◌<◌, ◌≤◌, length, IfOk};
+mod growths;
+
+ghost use Rattle.std.specs.Prelude.{◌≡◌, ◌<◌, ◌≤◌, IfOk};
 ghost use Rattle.gc_copy.specs.Words.{BelongsTo, HasNoLinks};
 
 use crate::{Collection, StepReply, commands_keep_collections};

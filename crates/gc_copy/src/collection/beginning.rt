@@ -1,7 +1,6 @@
 ghost use Rattle.std.specs.Prelude.{◌≡◌, ◌≤◌, [], IfOk, map, replicate};
-ghost use Rattle.gc_copy.specs.State.{Collection as Core};
 ghost use Rattle.gc_copy.specs.Steps.{collect};
-ghost use Rattle.gc_copy.specs.Words.{Log, entries_of, idle_state, open_state, HasNoLinks, BelongsTo};
+ghost use Rattle.gc_copy.specs.Words.{entries_of, idle_state, open_state, HasNoLinks, BelongsTo};
 ghost use Rattle.gc_copy.specs.declared.step.Step.{Step};
 ghost use Rattle.gc_copy.specs.declared.step.StepReply.{StepReply};
 

@@ -1,12 +1,13 @@
-ghost use Rattle.std.specs.Prelude.{◌≤◌, ◌<◌, IfSome, ◌≡◌, OnOk, OnErr, IfOk, Some, None, IsTrue, IsSome, is_none};
+ghost use Rattle.std.specs.Prelude.{◌≤◌, ◌<◌, IfSome, ◌≡◌, OnOk, OnErr, Some, None, IsTrue, IsSome};
 ghost use Rattle.std.specs.Option.{option_map};
 ghost use Rattle.gc_graph.specs.Graph.{lookup};
 ghost use Rattle.gc_words.specs.Word.{value_of, word_of};
 ghost use Rattle.gc_words.specs.Image.{is_start, field_at};
 ghost use Rattle.gc_words.specs.Closed.{IsRootWord};
-ghost use Rattle.gc_heap.specs.Heap.{IsHeap, graph_in};
+ghost use Rattle.gc_heap.specs.Heap.{graph_in};
 ghost use Rattle.gc_copy.specs.State.{replica_of as replica_in, moved};
-ghost use Rattle.gc_copy.specs.Steps.{place_replica as placed_in, with_replica as with_replica_in, bring_up_to_date as brought_in, apply_entry as applied_in};
+ghost use Rattle.gc_copy.specs.Steps.{place_replica as placed_in, with_replica as with_replica_in};
+ghost use Rattle.gc_copy.specs.Steps.{bring_up_to_date as brought_in, apply_entry as applied_in};
 ghost use Rattle.gc_copy.specs.Entries.{entry_in};
 ghost use Rattle.gc_copy.specs.Words.{collection_in, BelongsTo, HasReplicaWord, KeepsGraph, KeepsRest};
 
@@ -59,8 +60,10 @@ impl Collection {
         requires belongs { BelongsTo heap.old self.old }
         requires start { IsTrue (is_start heap.old.space.words original.0) }
         requires missing { replica_in (collection_in self.old) original.0 ≡ None }
-        ensures placed { OnOk result (placed_in (collection_in self.old) original.0 (lookup (graph_in heap.old).objects original.0) ≡ Some (collection_in self.new)) }
-        ensures full { OnErr result ((placed_in (collection_in self.old) original.0 (lookup (graph_in heap.old).objects original.0) ≡ None) × (self.new ≡ self.old) × (heap.new ≡ heap.old)) }
+        ensures placed { OnOk result (placed_in (collection_in self.old) original.0 (lookup (graph_in heap.old).objects original.0)
+            ≡ Some (collection_in self.new)) }
+        ensures full { OnErr result ((placed_in (collection_in self.old) original.0 (lookup (graph_in heap.old).objects original.0) ≡ None)
+            × (self.new ≡ self.old) × (heap.new ≡ heap.old)) }
         ensures belongs { BelongsTo heap.new self.new }
         ensures graph { KeepsGraph heap.old heap.new }
         ensures rest { KeepsRest self.old self.new }
@@ -79,8 +82,10 @@ impl Collection {
     pub(super) fn replicate_target(&mut self, heap: &mut Heap, word: u64) -> Result<(), NoRoom>
         requires belongs { BelongsTo heap.old self.old }
         requires word { IsRootWord heap.old.space.words word }
-        ensures placed { OnOk result (with_replica_in (collection_in self.old) (graph_in heap.old) (value_of word) ≡ Some (collection_in self.new)) }
-        ensures full { OnErr result ((with_replica_in (collection_in self.old) (graph_in heap.old) (value_of word) ≡ None) × (self.new ≡ self.old) × (heap.new ≡ heap.old)) }
+        ensures placed { OnOk result (with_replica_in (collection_in self.old) (graph_in heap.old) (value_of word)
+            ≡ Some (collection_in self.new)) }
+        ensures full { OnErr result ((with_replica_in (collection_in self.old) (graph_in heap.old) (value_of word) ≡ None)
+            × (self.new ≡ self.old) × (heap.new ≡ heap.old)) }
         ensures replica { OnOk result (HasReplicaWord (collection_in self.new) word) }
         ensures belongs { BelongsTo heap.new self.new }
         ensures graph { KeepsGraph heap.old heap.new }
@@ -107,8 +112,10 @@ impl Collection {
         requires belongs { BelongsTo heap.old self.old }
         requires field { IsSome (field_at heap.old.space.words original.0 field) }
         requires replica { option_map (λ r. r.place) (replica_in (collection_in self.old) original.0) ≡ Some replica.0 }
-        ensures brought { OnOk result (brought_in (collection_in self.old) (graph_in heap.old) original.0 field ≡ Some (collection_in self.new)) }
-        ensures full { OnErr result ((brought_in (collection_in self.old) (graph_in heap.old) original.0 field ≡ None) × (self.new ≡ self.old) × (heap.new ≡ heap.old)) }
+        ensures brought { OnOk result (brought_in (collection_in self.old) (graph_in heap.old) original.0 field
+            ≡ Some (collection_in self.new)) }
+        ensures full { OnErr result ((brought_in (collection_in self.old) (graph_in heap.old) original.0 field ≡ None)
+            × (self.new ≡ self.old) × (heap.new ≡ heap.old)) }
         ensures belongs { BelongsTo heap.new self.new }
         ensures graph { KeepsGraph heap.old heap.new }
         ensures rest { KeepsRest self.old self.new }
@@ -124,8 +131,10 @@ impl Collection {
     pub(super) fn apply_entry(&mut self, heap: &mut Heap, entry: LogEntry) -> Result<(), NoRoom>
         requires belongs { BelongsTo heap.old self.old }
         requires field { IsSome (field_at heap.old.space.words entry.object.0 entry.field) }
-        ensures applied { OnOk result (applied_in (collection_in self.old) (graph_in heap.old) (entry_in entry) ≡ Some (collection_in self.new)) }
-        ensures full { OnErr result ((applied_in (collection_in self.old) (graph_in heap.old) (entry_in entry) ≡ None) × (self.new ≡ self.old) × (heap.new ≡ heap.old)) }
+        ensures applied { OnOk result (applied_in (collection_in self.old) (graph_in heap.old) (entry_in entry)
+            ≡ Some (collection_in self.new)) }
+        ensures full { OnErr result ((applied_in (collection_in self.old) (graph_in heap.old) (entry_in entry) ≡ None)
+            × (self.new ≡ self.old) × (heap.new ≡ heap.old)) }
         ensures belongs { BelongsTo heap.new self.new }
         ensures graph { KeepsGraph heap.old heap.new }
         ensures rest { KeepsRest self.old self.new }

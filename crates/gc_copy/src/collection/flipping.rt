@@ -43,7 +43,8 @@ impl Collection {
         requires belongs { BelongsTo heap.old self }
         requires ready { IsTrue (is_ready (collection_in self) (graph_in heap.old)) }
         requires roots { roots.items ≡ new_root_words heap.old (collection_in self) }
-        ensures step { collect (open_state heap.old self) Step.Flip ≡ (StepReply.Flipped (length (pairs_of (collection_in self))), idle_state heap.new) }
+        ensures step { collect (open_state heap.old self) Step.Flip
+            ≡ (StepReply.Flipped (length (pairs_of (collection_in self))), idle_state heap.new) }
         ensures heap { heap.new ≡ record heap.old { space = without_links self.space; roots = roots.items } }
         ensures links { HasNoLinks heap.new }
         ensures space { result.0 ≡ heap.old.space }

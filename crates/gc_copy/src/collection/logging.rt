@@ -1,9 +1,8 @@
-ghost use Rattle.std.specs.Prelude.{◌≡◌, ◌<◌, ◌≤◌, ◌-◌, ◌++◌, ◌∷◌, [], ℕ, length, map, slice_index_or, OnOk, IsTrue};
-ghost use Rattle.gc_graph.specs.Graph.{Object};
+ghost use Rattle.std.specs.Prelude.{◌≡◌, ◌<◌, ◌≤◌, ◌++◌, ◌∷◌, [], ℕ, length, OnOk};
 ghost use Rattle.gc_heap.specs.Heap.{HeapWords, graph_in};
 ghost use Rattle.gc_copy.specs.Steps.{log_at, with_log, first_log};
 ghost use Rattle.gc_copy.specs.Belonging.{HasField};
-ghost use Rattle.gc_copy.specs.Words.{Log, CollectionWords, entries_of, collection_in, BelongsTo, BelongsToBut, spare_of};
+ghost use Rattle.gc_copy.specs.Words.{collection_in, BelongsTo, BelongsToBut, spare_of};
 
 use super::Collection;
 use crate::log::LogEntry;
@@ -11,10 +10,11 @@ use gc_graph::NoMemory;
 use gc_words::OldAddr;
 
 impl Collection {
-    /// Makes room in mutator m's log for one entry more; nothing else changes.
+    /// Makes room in mutator m's log for one entry more. No entry changes, and no log loses room.
     pub fn reserve(&mut self, m: u8) -> Result<(), NoMemory>
         requires { m < length self.old.logs }
         ensures room { OnOk result (1 ≤ spare_of self.new m) }
+        ensures kept { (k : ℕ) → spare_of self.old k ≤ spare_of self.new k }
         ensures collection { collection_in self.new ≡ collection_in self.old }
         ensures space { self.new.space ≡ self.old.space }
         ensures belongs { (heap : HeapWords) → BelongsTo heap self.old → BelongsTo heap self.new }
@@ -26,7 +26,8 @@ impl Collection {
     pub fn note(&mut self, m: u8, object: OldAddr, field: u16)
         requires log { m < length self.old.logs }
         requires room { 1 ≤ spare_of self.old m }
-        ensures collection { collection_in self.new ≡ with_log (collection_in self.old) m (log_at (collection_in self.old) m ++ (object.0, field) ∷ []) }
+        ensures collection { collection_in self.new
+            ≡ with_log (collection_in self.old) m (log_at (collection_in self.old) m ++ (object.0, field) ∷ []) }
         ensures space { self.new.space ≡ self.old.space }
         // What is noted may differ from then on.
         ensures belongs { (heap : HeapWords) → HasField (graph_in heap).objects object.0 field

@@ -1,10 +1,10 @@
-ghost use Rattle.std.specs.Prelude.{IfSome, ◌≡◌, IfOk, map, is_none, IsTrue};
+ghost use Rattle.std.specs.Prelude.{IfSome, ◌≡◌, IfOk, is_none, IsTrue};
 ghost use Rattle.std.specs.Option.{option_map};
 ghost use Rattle.gc_words.specs.Word.{value_of, is_value};
 ghost use Rattle.gc_graph.specs.Graph.{names_of};
 ghost use Rattle.gc_words.specs.Image.{is_start};
 ghost use Rattle.gc_words.specs.Closed.{IsRootWord};
-ghost use Rattle.gc_heap.specs.Heap.{IsHeap, graph_in, name_of};
+ghost use Rattle.gc_heap.specs.Heap.{graph_in, name_of};
 ghost use Rattle.gc_copy.specs.Steps.{first_unreplicated, root_target, roots_done as roots_done_in};
 ghost use Rattle.gc_copy.specs.Words.{collection_in, BelongsTo, new_root_words};
 

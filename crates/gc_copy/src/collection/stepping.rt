@@ -1,4 +1,4 @@
-ghost use Rattle.std.specs.Prelude.{IsTrue, ◌≡◌, ◌<◌, length};
+ghost use Rattle.std.specs.Prelude.{IsTrue, ◌≡◌, ◌<◌};
 ghost use Rattle.gc_words.specs.Space.{image_with};
 ghost use Rattle.gc_words.specs.Certificate.{Certified};
 ghost use Rattle.gc_heap.specs.Heap.{image_of, graph_in};

@@ -1,4 +1,4 @@
-use Rattle.std.proofs.Common.{ℕ, ◌-◌, length}
+use Rattle.std.proofs.Common.{◌-◌, length}
 use Rattle.gc_copy.proofs.ObjectWalks.{Lists}
 use Rattle.gc_copy.proofs.walk.linked_pairs.Given as goal
 

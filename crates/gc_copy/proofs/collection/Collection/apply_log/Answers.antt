@@ -1,11 +1,11 @@
-use Rattle.std.proofs.Common.{◌≡◌, ℕ, ◌<◌, length, Option, Some, None, refl, ap, sym, ◌∙◌, subst, arith}
+use Rattle.std.proofs.Common.{◌≡◌, ◌<◌, length, Some, None, refl, ap, sym, ◌∙◌, subst, arith}
 use Rattle.std.specs.Prelude.{slice_get, slice_set}
 use Rattle.gc_heap.specs.Heap.{graph_in}
 use Rattle.gc_copy.specs.Steps.{log_at, apply_entry, apply_log}
 use Rattle.gc_copy.specs.Words.{CollectionWords, collection_in, open_state, BelongsTo, KeepsRest}
-use Rattle.gc_copy.specs.declared.step.StepReply.TheVariants.{Clean, Applied, NoRoom}
+use Rattle.gc_copy.specs.declared.step.StepReply.TheVariants.{Applied, NoRoom}
 use Rattle.gc_copy.proofs.Logs.{there_in}
-use Rattle.gc_copy.proofs.Applying.{clean, field_there, stays, applied, applied_belongs}
+use Rattle.gc_copy.proofs.Applying.{field_there, stays, applied, applied_belongs}
 use Rattle.gc_copy.proofs.collection.Collection.apply_log.Goals as goal
 
 pub apply_entry-requires-clause-field : goal.apply_entry-requires-clause-field

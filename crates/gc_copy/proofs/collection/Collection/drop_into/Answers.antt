@@ -1,4 +1,4 @@
-use Rattle.std.proofs.Common.{◌≡◌, sym, ap, ◌∙◌, subst}
+use Rattle.std.proofs.Common.{sym, ap, ◌∙◌, subst}
 use Rattle.gc_heap.specs.Heap.{HeapWords}
 use Rattle.gc_copy.specs.Words.{idle_state, HasNoLinks}
 use Rattle.gc_copy.specs.declared.step.StepReply.TheVariants.{Dropped}

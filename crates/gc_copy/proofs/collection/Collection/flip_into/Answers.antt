@@ -2,7 +2,7 @@ use Rattle.std.proofs.Common.{◌≡◌, length, sym, ap, ◌∙◌, subst}
 use Rattle.gc_words.specs.Space.{SpaceWords, without_links}
 use Rattle.gc_heap.specs.Heap.{HeapWords, IsHeap}
 use Rattle.gc_copy.specs.State.{pairs_of}
-use Rattle.gc_copy.specs.Words.{CollectionWords, IsCollection, collection_in, idle_state, HasNoLinks, new_root_words}
+use Rattle.gc_copy.specs.Words.{CollectionWords, IsCollection, collection_in, idle_state, HasNoLinks}
 use Rattle.gc_copy.specs.declared.step.StepReply.TheVariants.{Flipped}
 use Rattle.gc_copy.proofs.Flipping.{flipped_sound, flip_is, cleared_links}
 use Rattle.gc_copy.proofs.collection.Collection.flip_into.Goals as goal

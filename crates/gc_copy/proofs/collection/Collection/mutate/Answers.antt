@@ -1,4 +1,4 @@
-use Rattle.std.proofs.Common.{◌≡◌, ℕ, List, [], ◌∷◌, Option, Some, None, sym, ap, ◌∙◌}
+use Rattle.std.proofs.Common.{◌≡◌, [], ◌∷◌, Some, None, sym}
 use Rattle.std.specs.Option.{option_map}
 use Rattle.gc_heap.specs.Heap.{graph_in}
 use Rattle.gc_copy.specs.Steps.{written}

@@ -1,8 +1,8 @@
-use Rattle.std.proofs.Common.{◌≡◌, ℕ, List, ◌∷◌, [], ◌++◌, length, Some, refl, ap, sym, ◌∙◌, subst, length-set}
-use Rattle.std.specs.Prelude.{slice_get, slice_set}
+use Rattle.std.proofs.Common.{◌≡◌, ◌∷◌, [], ◌++◌, length, ap, ◌∙◌, length-set}
+use Rattle.std.specs.Prelude.{slice_set}
 use Rattle.gc_copy.specs.Steps.{with_log, log_at}
-use Rattle.gc_copy.specs.Words.{Log, CollectionWords, collection_in}
-use Rattle.gc_copy.proofs.Logs.{there_in, room_made, entry_noted, same_belongs, noted_belongs}
+use Rattle.gc_copy.specs.Words.{CollectionWords, collection_in}
+use Rattle.gc_copy.proofs.Logs.{there_in, entry_noted, noted_belongs}
 use Rattle.gc_copy.proofs.collection.Collection.note.Goals as goal
 
 made : (c : goal.After-self-1) → collection_in (record (record { space = c.self.inside.space; logs = c.self.inside.logs.items; scan_place = c.self.inside.scan_place.0; scan_field = c.self.inside.scan_field }) { logs = slice_set c.self.inside.logs.items c.args.m c.note.new.self }) ≡ with_log (collection_in c.args.self.now) c.args.m (log_at (collection_in c.args.self.now) c.args.m ++ (c.args.object.0, c.args.field) ∷ [])

@@ -1,14 +1,12 @@
-use Rattle.std.proofs.Common.{◌≡◌, ◌==◌, ℕ, ◌<◌, Bool, true, false, length, Option, Some, None, is_some, refl, ap, sym, ◌∙◌, subst, arith}
-use Rattle.std.specs.Option.{option_map}
-use Rattle.gc_graph.specs.Graph.{Value, Ref, lookup}
-use Rattle.gc_words.specs.Word.{value_of, word_of}
-use Rattle.gc_words.specs.Image.{is_start, field_at, header_at}
+use Rattle.std.proofs.Common.{◌≡◌, true, false, Some, None, refl, ap, sym, ◌∙◌, subst}
+use Rattle.gc_graph.specs.Graph.{lookup}
+use Rattle.gc_words.specs.Image.{header_at}
 use Rattle.gc_words.specs.Space.{HasRoom}
-use Rattle.gc_heap.specs.Heap.{HeapWords, IsHeap, graph_in}
-use Rattle.gc_copy.specs.State.{Replica, replica_of, moved}
-use Rattle.gc_copy.specs.Steps.{place_replica, with_replica, bring_up_to_date}
-use Rattle.gc_copy.specs.Words.{CollectionWords, IsCollection, collection_in, BelongsTo, HasReplicaWord, KeepsGraph, KeepsRest}
-use Rattle.gc_copy.proofs.Opened.{Tells, link_tells, Placing, placing_done, full}
+use Rattle.gc_heap.specs.Heap.{graph_in}
+use Rattle.gc_copy.specs.State.{replica_of}
+use Rattle.gc_copy.specs.Steps.{place_replica}
+use Rattle.gc_copy.specs.Words.{CollectionWords, collection_in, BelongsTo, KeepsRest}
+use Rattle.gc_copy.proofs.Opened.{Placing, placing_done, full}
 use Rattle.gc_copy.proofs.collection.Collection.place_replica.Goals as goal
 
 pub returns-then-not-has_room-clause-full : goal.returns-then-not-has_room-clause-full

@@ -1,17 +1,12 @@
-use Rattle.std.proofs.Common.{◌≡◌, ◌==◌, ℕ, ◌<◌, Bool, true, false, length, Option, Some, None, is_some, refl, ap, sym, ◌∙◌, subst, arith}
+use Rattle.std.proofs.Common.{◌≡◌, ℕ, ◌<◌, true, ap, sym, ◌∙◌, subst}
 use Rattle.std.proofs.Common.{rules}
 use Rattle.std.specs.Prelude.{◌^◌}
-use Rattle.std.specs.Option.{option_map}
-use Rattle.gc_graph.specs.Graph.{Value, Ref, lookup}
-use Rattle.gc_words.specs.Word.{value_of, word_of}
-use Rattle.gc_words.specs.Image.{is_start, field_at, header_at}
+use Rattle.gc_words.specs.Image.{is_start}
 use Rattle.gc_words.specs.Spelling.{link_at}
 use Rattle.gc_words.specs.Space.{SpaceWords}
-use Rattle.gc_heap.specs.Heap.{HeapWords, IsHeap, graph_in}
-use Rattle.gc_copy.specs.State.{Replica, replica_of, moved}
-use Rattle.gc_copy.specs.Steps.{place_replica, with_replica, bring_up_to_date}
-use Rattle.gc_copy.specs.Words.{CollectionWords, IsCollection, collection_in, BelongsTo, HasReplicaWord, KeepsGraph, KeepsRest}
-use Rattle.gc_copy.proofs.Opened.{Tells, link_tells, Placing, placing_done, full}
+use Rattle.gc_heap.specs.Heap.{HeapWords}
+use Rattle.gc_copy.specs.Words.{CollectionWords, IsCollection, BelongsTo}
+use Rattle.gc_copy.proofs.Opened.{Tells, link_tells}
 use Rattle.gc_copy.proofs.collection.Collection.replica_of.Goals as goal
 use Rattle.gc_copy.proofs.collection.Collection.replica_of.Goals.{Then-link-eq0, Else-link-eq0}
 

@@ -1,8 +1,7 @@
-use Rattle.std.proofs.Common.{◌≡◌, ◌==◌, ap, sym, ◌∙◌}
+use Rattle.std.proofs.Common.{◌==◌, ap, sym, ◌∙◌}
 use Rattle.gc_copy.specs.Steps.{scan_done}
 use Rattle.gc_copy.specs.Words.{CollectionWords, collection_in}
 use Rattle.gc_copy.proofs.Spaces.{new_end_is}
-use Rattle.gc_copy.proofs.Opened.{opened}
 use Rattle.gc_copy.proofs.collection.Collection.scan_done.Goals as goal
 
 pub returns : goal.returns

@@ -1,0 +1,98 @@
+//! A refused growth, as `rt try --test --fail-alloc N` refuses the N-th, changes nothing: the same call made again
+//! is answered as where none was refused.
+
+ghost use Rattle.std.specs.Prelude.{◌≡◌, ◌≤◌, IfOk, IsTrue};
+ghost use Rattle.gc_heap.specs.Heap.{graph_in};
+ghost use Rattle.gc_copy.specs.Steps.{roots_done};
+ghost use Rattle.gc_copy.specs.Words.{collection_in, new_root_words, BelongsTo, HasNoLinks};
+
+use super::empty;
+use crate::Collection;
+use gc_graph::NoMemory;
+use gc_heap::Heap;
+use gc_words::Pair;
+use std::alloc::Global;
+use std::test::Fail;
+
+/// A heap of 32 words without objects and with one mutator.
+fn empty_again(alloc: Global) -> Result<Heap, NoMemory>
+    ensures idle { IfOk result HasNoLinks }
+    ensures mutators { IfOk result (λ heap. heap.mutators ≡ 1) }
+{
+    match empty(alloc, 32, 1) {
+        Ok(heap) => Ok(heap),
+        Err(NoMemory) => empty(alloc, 32, 1),
+    }
+}
+
+fn begin_again(alloc: Global, heap: &Heap) -> Result<Collection, NoMemory>
+    requires { HasNoLinks heap.now }
+    ensures { IfOk result (BelongsTo heap.now) }
+{
+    match Collection::begin(alloc, heap) {
+        Ok(collection) => Ok(collection),
+        Err(NoMemory) => Collection::begin(alloc, heap),
+    }
+}
+
+fn begin_sized_again(alloc: Global, heap: &Heap, size: u32) -> Result<Collection, NoMemory>
+    requires links { HasNoLinks heap.now }
+    requires low { 1 ≤ size }
+    requires high { size ≤ 1048576 }
+    ensures { IfOk result (BelongsTo heap.now) }
+{
+    match Collection::begin_sized(alloc, heap, size) {
+        Ok(collection) => Ok(collection),
+        Err(NoMemory) => Collection::begin_sized(alloc, heap, size),
+    }
+}
+
+fn pairs_again(alloc: Global, collection: &Collection) -> Result<Vec<Pair>, NoMemory> {
+    match collection.pairs(alloc) {
+        Ok(pairs) => Ok(pairs),
+        Err(NoMemory) => collection.pairs(alloc),
+    }
+}
+
+fn new_roots_again(
+    alloc: Global,
+    collection: &Collection,
+    heap: &Heap,
+) -> Result<Vec<u64>, NoMemory>
+    requires belongs { BelongsTo heap.now collection.now }
+    requires done { IsTrue (roots_done (collection_in collection.now) (graph_in heap.now)) }
+    ensures { IfOk result (λ words. words.items ≡ new_root_words heap.now (collection_in collection.now)) }
+{
+    match collection.new_roots(alloc, heap) {
+        Ok(roots) => Ok(roots),
+        Err(NoMemory) => collection.new_roots(alloc, heap),
+    }
+}
+
+#[test]
+fn collections_begin_again(rt: HostRuntime) -> Result<(), Fail> {
+    let heap = empty_again(rt.alloc())?;
+    let collection = begin_again(rt.alloc(), &heap)?;
+    assert_eq!(rt; collection.new_image(&[]).size, 32);
+    assert_eq!(rt; collection.new_image(&[]).end, 1);
+    assert_eq!(rt; collection.next_log(), None);
+    let sized = begin_sized_again(rt.alloc(), &heap, 9)?;
+    assert_eq!(rt; sized.new_image(&[]).size, 9);
+    assert_eq!(rt; sized.new_image(&[]).end, 1);
+    assert_eq!(rt; sized.next_log(), None);
+    Ok(())
+}
+
+#[test]
+fn calls_are_made_again(rt: HostRuntime) -> Result<(), Fail> {
+    let heap = empty_again(rt.alloc())?;
+    let collection = begin_again(rt.alloc(), &heap)?;
+    let pairs = pairs_again(rt.alloc(), &collection)?;
+    assert_eq!(rt; pairs.len(), 0);
+    if !collection.roots_done(&heap) {
+        return Err("roots".into());
+    }
+    let roots = new_roots_again(rt.alloc(), &collection, &heap)?;
+    assert_eq!(rt; roots.len(), 32);
+    Ok(())
+}
