@@ -1,14 +1,14 @@
 //! A refused growth, as `rt try --test --fail-alloc N` refuses the N-th, changes nothing: the same call made again
 //! is answered as where none was refused.
 
-ghost use Rattle.std.specs.Prelude.{◌≡◌, ◌≤◌, IfOk, IsTrue};
+ghost use Rattle.std.specs.Prelude.{◌≡◌, ◌<◌, ◌≤◌, IfOk, IsTrue};
 ghost use Rattle.gc_heap.specs.Heap.{graph_in};
 ghost use Rattle.gc_copy.specs.Steps.{roots_done};
 ghost use Rattle.gc_copy.specs.Words.{collection_in, new_root_words, BelongsTo, HasNoLinks};
 
 use super::empty;
 use crate::Collection;
-use gc_graph::NoMemory;
+use gc_graph::{NoMemory, Op, Reply, Slot, View};
 use gc_heap::Heap;
 use gc_words::Pair;
 use std::alloc::Global;
@@ -44,6 +44,24 @@ fn begin_sized_again(alloc: Global, heap: &Heap, size: u32) -> Result<Collection
     match Collection::begin_sized(alloc, heap, size) {
         Ok(collection) => Ok(collection),
         Err(NoMemory) => Collection::begin_sized(alloc, heap, size),
+    }
+}
+
+/// Makes mutator m's command while the collection is open.
+fn mutate_again(
+    collection: &mut Collection,
+    heap: &mut Heap,
+    m: u8,
+    op: &Op,
+) -> Result<Reply, NoMemory>
+    requires belongs { BelongsTo heap.old collection.old }
+    requires mutator { m < heap.old.mutators }
+    ensures belongs { BelongsTo heap.new collection.new }
+    ensures mutators { heap.new.mutators ≡ heap.old.mutators }
+{
+    match collection.reserve(m) {
+        Ok(()) => Ok(collection.mutate(heap, m, op)),
+        Err(NoMemory) => super::mutate(collection, heap, m, op),
     }
 }
 
@@ -94,5 +112,17 @@ fn calls_are_made_again(rt: HostRuntime) -> Result<(), Fail> {
     }
     let roots = new_roots_again(rt.alloc(), &collection, &heap)?;
     assert_eq!(rt; roots.len(), 32);
+    Ok(())
+}
+
+#[test]
+fn room_is_reserved_again(rt: HostRuntime) -> Result<(), Fail> {
+    let r0 = Slot::own(0).ok_or("slot")?;
+    let mut heap = empty_again(rt.alloc())?;
+    let mut collection = begin_again(rt.alloc(), &heap)?;
+    let look = Op::Look { s: r0 };
+    let reply = mutate_again(&mut collection, &mut heap, 0, &look)?;
+    assert_eq!(rt; reply, Reply::Saw(View::Nil));
+    assert_eq!(rt; collection.next_log(), None);
     Ok(())
 }
