@@ -3,7 +3,7 @@ use Rattle.std.proofs.Common.{◌≡◌, ℕ, ◌<◌, List, [], ◌∷◌, ◌+
 use Rattle.gc_graph.specs.declared.command.Op.{Op}
 use Rattle.gc_graph.specs.declared.reply.Reply.{Reply}
 use Rattle.gc_copy.specs.State.{State, opening_state}
-use Rattle.gc_copy.specs.Steps.{mutate, collect}
+use Rattle.gc_copy.specs.Steps.{mutate, collect, useful_step}
 use Rattle.gc_copy.specs.Runs.{IsEvent, IsStep, after, answer, Replied, Stepped}
 use Rattle.gc_copy.specs.declared.step.Step.{Step}
 use Rattle.gc_copy.specs.declared.step.StepReply.{StepReply}
@@ -20,7 +20,7 @@ use Rattle.gc_world.specs.declared.flip.Stepped as flips
 use Rattle.gc_world.specs.declared.flip.Stepped.TheVariants.{Answered, Flipped}
 use Rattle.gc_world.specs.declared.live.Live.{Live}
 use Rattle.gc_world.specs.declared.event.Event.TheVariants.{Mutate, Collect}
-use Rattle.gc_world.specs.declared.event.Answer.TheVariants.{Mutator, Collector}
+use Rattle.gc_world.specs.declared.event.Answer.TheVariants.{Mutator, Collector, Useful}
 use Rattle.gc_world.specs.declared.event.Entry.{Entry}
 use Rattle.gc_world.proofs.Growing.{history_more, state_more}
 
@@ -53,6 +53,15 @@ pub stepped : (old new : Live) (size before after_it : ℕ) (step : Step) (reply
     → items ≡ entries ++ entry_of (Collect step) (Collector reply) ∷ [] → IsKept later → IsWorld new (record { size = size; mutators = after_it; entries = items; kept = later })
 stepped old new size before after_it step reply entries items kept later w range step_is live same more fine =
     let done = grows old new size before entries kept later (entry_of (Collect step) (Collector reply)) w range (ap (λ (x : StepReply × State). Stepped x.0) (sym step_is)) tt (sym (ap (λ (x : StepReply × State). x.1) step_is)) live fine in
+    subst (λ n. IsWorld new (record { size = size; mutators = n; entries = items; kept = later })) (sym same)
+    (subst (λ es. IsWorld new (record { size = size; mutators = before; entries = es; kept = later })) (sym more) done)
+
+-- after the useful step
+pub usefully_stepped : (old new : Live) (size before after_it : ℕ) (step : Step) (reply : StepReply) (entries items : List Entry) (kept later : Option CertifiedPair)
+    → IsWorld old (record { size = size; mutators = before; entries = entries; kept = kept }) → IsStep before step → step ≡ useful_step (state_in old) → collect (state_in old) step ≡ (reply, state_in new) → IsLive new → after_it ≡ before
+    → items ≡ entries ++ entry_of (Collect step) (Useful reply) ∷ [] → IsKept later → IsWorld new (record { size = size; mutators = after_it; entries = items; kept = later })
+usefully_stepped old new size before after_it step reply entries items kept later w range useful step_is live same more fine =
+    let done = grows old new size before entries kept later (entry_of (Collect step) (Useful reply)) w range (ap (λ (x : StepReply × State). Stepped x.0) (sym step_is)) useful (sym (ap (λ (x : StepReply × State). x.1) step_is)) live fine in
     subst (λ n. IsWorld new (record { size = size; mutators = n; entries = items; kept = later })) (sym same)
     (subst (λ es. IsWorld new (record { size = size; mutators = before; entries = es; kept = later })) (sym more) done)
 

@@ -11,8 +11,10 @@ use gc_check::{CheckFault, check};
 use gc_copy::{Collection, StepReply, images_show_links};
 use gc_graph::NoMemory;
 use gc_heap::Heap;
+use gc_par::check_par;
 use gc_words::{Pair, no_fault_where_certified};
 use std::alloc::Global;
+use std::thread::Threads;
 
 /// What came of a step: an answer, or of a flip the pair that the checker accepted.
 #[derive(Debug, Drop)]
@@ -123,6 +125,31 @@ pub(crate) fn is_accepted(
     let old = heap.image();
     let new = collection.new_image(&draft.roots);
     match check(alloc, old, new, &draft.pairs) {
+        Ok(_) => Ok(true),
+        Err(CheckFault::Refused(_)) => Ok(false),
+        Err(CheckFault::NoMemory) => Err(NoMemory),
+    }
+}
+
+/// The same answer, by several threads where there are many pairs.
+pub(crate) fn is_accepted_par(
+    rt: &(impl Threads + Sync),
+    alloc: Global,
+    heap: &Heap,
+    collection: &Collection,
+    draft: &Draft,
+) -> Result<bool, NoMemory>
+    requires belongs { BelongsTo heap.now collection.now }
+    requires ready { IsTrue (is_ready (collection_in collection.now) (graph_in heap.now)) }
+    requires draft { IsDraft heap.now collection.now draft.now }
+    requires few { length draft.now.pairs.items < 2 ^ 32 }
+    ensures { IfOk result (λ yes. IsTrue yes) }
+{
+    images_show_links();
+    no_fault_where_certified();
+    let old = heap.image();
+    let new = collection.new_image(&draft.roots);
+    match check_par(rt, alloc, old, new, &draft.pairs) {
         Ok(_) => Ok(true),
         Err(CheckFault::Refused(_)) => Ok(false),
         Err(CheckFault::NoMemory) => Err(NoMemory),

@@ -10,12 +10,13 @@ ghost use Rattle.gc_world.specs.Flip.{IsDraft, IsPlan, flip_pair, reply_of, Keep
 ghost use Rattle.gc_world.specs.Live.{state_in, IsLive};
 ghost use Rattle.gc_copy.specs.declared.step.Step.{Step};
 
-use crate::flip::{Draft, Plan, Stepped, is_accepted};
+use crate::flip::{Draft, Plan, Stepped, is_accepted, is_accepted_par};
 use gc_cert::{Image, PairFile};
 use gc_copy::{Collection, Step, StepReply, images_show_links};
 use gc_graph::{NoMemory, Op, Reply};
 use gc_heap::Heap;
 use std::alloc::Global;
+use std::thread::Threads;
 
 /// The heap that mutators work on, and the collection that is open.
 #[derive(Debug, Drop)]
@@ -132,7 +133,8 @@ impl Live {
     /// The step that brings the collection on, or opens one.
     pub(crate) fn useful_step(&self) -> Step
         requires { IsLive self.now }
-        ensures { result ≡ useful_step (state_in self.now) }
+        ensures useful { result ≡ useful_step (state_in self.now) }
+        ensures step { IsStep self.now.heap.mutators result }
     {
         let Some(collection) = &self.collection else {
             return Step::Begin;
@@ -194,6 +196,56 @@ impl Live {
         }
         let draft = Draft::new(alloc, collection, &self.heap)?;
         if !is_accepted(alloc, &self.heap, collection, &draft)? {
+            return Ok(Stepped::Answered(StepReply::Refused));
+        }
+        let plan = Plan::new(alloc, collection, draft)?;
+        Ok(Stepped::Flipped(self.carry_out(plan)))
+    }
+
+    /// The same step, in which a flip is checked by several threads.
+    pub(crate) fn step_par(
+        &mut self,
+        rt: &(impl Threads + Sync),
+        alloc: Global,
+        step: Step,
+    ) -> Result<Stepped, NoMemory>
+        requires live { IsLive self.old }
+        requires step { IsStep self.old.heap.mutators step }
+        ensures step { IfOk result (λ stepped. collect (state_in self.old) step ≡ (reply_of stepped, state_in self.new)) }
+        ensures kept { IfOk result (KeepsPair (state_in self.old)) }
+        ensures few { IfOk result HasFew }
+        ensures refused { OnErr result (self.new ≡ self.old) }
+        ensures live { IsLive self.new }
+        ensures mutators { self.new.heap.mutators ≡ self.old.heap.mutators }
+    {
+        match step {
+            Step::Flip => self.flip_par(rt, alloc),
+            _ => self.step(alloc, step),
+        }
+    }
+
+    /// The same flip, checked by several threads.
+    pub(crate) fn flip_par(
+        &mut self,
+        rt: &(impl Threads + Sync),
+        alloc: Global,
+    ) -> Result<Stepped, NoMemory>
+        requires { IsLive self.old }
+        ensures step { IfOk result (λ flip. collect (state_in self.old) Step.Flip ≡ (reply_of flip, state_in self.new)) }
+        ensures kept { IfOk result (KeepsPair (state_in self.old)) }
+        ensures few { IfOk result HasFew }
+        ensures refused { OnErr result (self.new ≡ self.old) }
+        ensures live { IsLive self.new }
+        ensures mutators { self.new.heap.mutators ≡ self.old.heap.mutators }
+    {
+        let Some(collection) = &self.collection else {
+            return Ok(Stepped::Answered(StepReply::Idle));
+        };
+        if !collection.ready(&self.heap) {
+            return Ok(Stepped::Answered(StepReply::NotReady));
+        }
+        let draft = Draft::new(alloc, collection, &self.heap)?;
+        if !is_accepted_par(rt, alloc, &self.heap, collection, &draft)? {
             return Ok(Stepped::Answered(StepReply::Refused));
         }
         let plan = Plan::new(alloc, collection, draft)?;

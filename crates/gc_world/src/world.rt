@@ -8,6 +8,7 @@ use gc_graph::{NoMemory, Op, Reply};
 use gc_heap::Heap;
 use std::alloc::Global;
 use std::marker::Model;
+use std::thread::Threads;
 
 /// A heap with its mutators and its collector, and the history of all that happened to it. A flip keeps the pair that
 /// the checker accepted, until it is taken.
@@ -118,6 +119,47 @@ impl World {
         self.history.push_reserved(Entry { event, answer });
         self.kept = stepped.into_kept(self.kept.take());
         Ok(reply)
+    }
+
+    /// The same step, in which a flip is checked by several threads where it has many pairs.
+    pub fn collect_par(&mut self, rt: &(impl Threads + Sync), step: Step) -> Result<StepReply, NoMemory>
+        requires { IsStep self.old.mutators step }
+        ensures answered { IfOk result (λ reply.
+            self.new ≡ record (with_entry self.old (Event.Collect step) (Answer.Collector reply)) {
+              kept = kept_after self.old.kept (present self.old) reply;
+            }) }
+        ensures step { IfOk result (λ reply. collect (present self.old) step ≡ (reply, present self.new)) }
+        ensures refused { OnErr result (self.new ≡ self.old) }
+    {
+        make_room(&mut self.history)?;
+        let stepped = self.live.step_par(rt, self.alloc, step)?;
+        let reply = stepped.reply();
+        let event = Event::Collect(step);
+        let answer = Answer::Collector(reply);
+        self.history.push_reserved(Entry { event, answer });
+        self.kept = stepped.into_kept(self.kept.take());
+        Ok(reply)
+    }
+
+    /// Makes the useful step, as `collect_par` does, and tells which it was. Its answer is recorded as `Useful`.
+    pub fn collect_useful(&mut self, rt: &(impl Threads + Sync)) -> Result<(Step, StepReply), NoMemory>
+        ensures useful { IfOk result (λ made. made.0 ≡ useful_step (present self.old)) }
+        ensures answered { IfOk result (λ made.
+            self.new ≡ record (with_entry self.old (Event.Collect made.0) (Answer.Useful made.1)) {
+              kept = kept_after self.old.kept (present self.old) made.1;
+            }) }
+        ensures step { IfOk result (λ made. collect (present self.old) made.0 ≡ (made.1, present self.new)) }
+        ensures refused { OnErr result (self.new ≡ self.old) }
+    {
+        make_room(&mut self.history)?;
+        let step = self.live.useful_step();
+        let stepped = self.live.step_par(rt, self.alloc, step)?;
+        let reply = stepped.reply();
+        let event = Event::Collect(step);
+        let answer = Answer::Useful(reply);
+        self.history.push_reserved(Entry { event, answer });
+        self.kept = stepped.into_kept(self.kept.take());
+        Ok((step, reply))
     }
 
     /// The step that brings the collection on, or opens one.
