@@ -1,4 +1,5 @@
 use crate::event::{Answer, Entry, Event};
+use crate::flip::Stepped;
 use crate::laws::histories_grow;
 use crate::live::Live;
 use crate::range::command_is_in_range;
@@ -114,10 +115,8 @@ impl World {
         make_room(&mut self.history)?;
         let stepped = self.live.step(self.alloc, step)?;
         let reply = stepped.reply();
-        let event = Event::Collect(step);
         let answer = Answer::Collector(reply);
-        self.history.push_reserved(Entry { event, answer });
-        self.kept = stepped.into_kept(self.kept.take());
+        record_step(&mut self.history, &mut self.kept, step, answer, stepped);
         Ok(reply)
     }
 
@@ -134,10 +133,8 @@ impl World {
         make_room(&mut self.history)?;
         let stepped = self.live.step_par(rt, self.alloc, step)?;
         let reply = stepped.reply();
-        let event = Event::Collect(step);
         let answer = Answer::Collector(reply);
-        self.history.push_reserved(Entry { event, answer });
-        self.kept = stepped.into_kept(self.kept.take());
+        record_step(&mut self.history, &mut self.kept, step, answer, stepped);
         Ok(reply)
     }
 
@@ -155,10 +152,8 @@ impl World {
         let step = self.live.useful_step();
         let stepped = self.live.step_par(rt, self.alloc, step)?;
         let reply = stepped.reply();
-        let event = Event::Collect(step);
         let answer = Answer::Useful(reply);
-        self.history.push_reserved(Entry { event, answer });
-        self.kept = stepped.into_kept(self.kept.take());
+        record_step(&mut self.history, &mut self.kept, step, answer, stepped);
         Ok((step, reply))
     }
 
@@ -215,7 +210,10 @@ impl World {
     }
 }
 
-ghost use Rattle.std.specs.Prelude.{◌≡◌, ◌<◌, OnOk, vec_len, vec_capacity};
+ghost use Rattle.std.specs.Prelude.{◌≡◌, ◌<◌, ◌++◌, ◌∷◌, [], OnOk, vec_len, vec_capacity};
+ghost use Rattle.gc_world.specs.Flip.{kept_from};
+ghost use Rattle.gc_world.specs.World.{entry_of};
+ghost use Rattle.gc_world.specs.declared.event.Event.{Event};
 
 // Makes room for one entry more.
 fn make_room(history: &mut Vec<Entry>) -> Result<(), NoMemory>
@@ -226,4 +224,21 @@ fn make_room(history: &mut Vec<Entry>) -> Result<(), NoMemory>
         Ok(()) => Ok(()),
         Err(_) => Err(NoMemory),
     }
+}
+
+// Writes a step into the history, for which there is room, and keeps the pair where it was a flip.
+fn record_step(
+    history: &mut Vec<Entry>,
+    kept: &mut Option<PairFile>,
+    step: Step,
+    answer: Answer,
+    stepped: Stepped,
+)
+    requires { vec_len history.old < vec_capacity history.old }
+    ensures entries { history.new.items ≡ history.old.items ++ entry_of (Event.Collect step) answer ∷ [] }
+    ensures kept { kept.new ≡ kept_from kept.old stepped }
+{
+    let event = Event::Collect(step);
+    history.push_reserved(Entry { event, answer });
+    *kept = stepped.into_kept(kept.take());
 }
