@@ -1,4 +1,4 @@
-ghost use Rattle.std.specs.Prelude.{◌≡◌, ◌<◌, ◌≤◌, ◌^◌, IfOk, OnErr, IfSome, IsSomeAnd, IsTrue, length};
+ghost use Rattle.std.specs.Prelude.{◌≡◌, ◌<◌, ◌≤◌, ◌^◌, IfOk, OnErr, IfSome, IsSomeAnd, IsTrue, None, length};
 ghost use Rattle.gc_heap.specs.Heap.{graph_in};
 ghost use Rattle.gc_cert.specs.Views.{pair_in};
 ghost use Rattle.gc_copy.specs.State.{opening_state, pairs_of};
@@ -7,7 +7,8 @@ ghost use Rattle.gc_copy.specs.Words.{collection_in};
 ghost use Rattle.gc_copy.specs.Runs.{IsStep};
 ghost use Rattle.gc_copy.specs.declared.step.StepReply.{StepReply};
 ghost use Rattle.gc_world.specs.Flip.{IsDraft, IsPlan, flip_pair, reply_of, KeepsPair, IsCertified, HasFew};
-ghost use Rattle.gc_world.specs.Live.{state_in, IsLive};
+ghost use Rattle.gc_world.specs.Live.{state_in, IsLive, CanFlip, IsDrafted};
+ghost use Rattle.gc_world.specs.declared.flip.Stepped.{Stepped};
 ghost use Rattle.gc_copy.specs.declared.step.Step.{Step};
 
 use crate::flip::{Draft, Plan, Stepped, is_accepted, is_accepted_par};
@@ -188,18 +189,14 @@ impl Live {
         ensures live { IsLive self.new }
         ensures mutators { self.new.heap.mutators ≡ self.old.heap.mutators }
     {
-        let Some(collection) = &self.collection else {
-            return Ok(Stepped::Answered(StepReply::Idle));
-        };
-        if !collection.ready(&self.heap) {
-            return Ok(Stepped::Answered(StepReply::NotReady));
+        if let Some(reply) = self.waits() {
+            return Ok(Stepped::Answered(reply));
         }
-        let draft = Draft::new(alloc, collection, &self.heap)?;
-        if !is_accepted(alloc, &self.heap, collection, &draft)? {
+        let draft = self.draft(alloc)?;
+        if !self.accepts(alloc, &draft)? {
             return Ok(Stepped::Answered(StepReply::Refused));
         }
-        let plan = Plan::new(alloc, collection, draft)?;
-        Ok(Stepped::Flipped(self.carry_out(plan)))
+        self.flip_drafted(alloc, draft)
     }
 
     /// The same step, in which a flip is checked by several threads.
@@ -238,16 +235,86 @@ impl Live {
         ensures live { IsLive self.new }
         ensures mutators { self.new.heap.mutators ≡ self.old.heap.mutators }
     {
-        let Some(collection) = &self.collection else {
-            return Ok(Stepped::Answered(StepReply::Idle));
-        };
-        if !collection.ready(&self.heap) {
-            return Ok(Stepped::Answered(StepReply::NotReady));
+        if let Some(reply) = self.waits() {
+            return Ok(Stepped::Answered(reply));
         }
-        let draft = Draft::new(alloc, collection, &self.heap)?;
-        if !is_accepted_par(rt, alloc, &self.heap, collection, &draft)? {
+        let draft = self.draft(alloc)?;
+        if !self.accepts_par(rt, alloc, &draft)? {
             return Ok(Stepped::Answered(StepReply::Refused));
         }
+        self.flip_drafted(alloc, draft)
+    }
+
+    /// What a flip is answered without a look at the certificate: there is no collection, or it is not ready.
+    fn waits(&self) -> Option<StepReply>
+        requires { IsLive self.now }
+        ensures waits { IfSome result (λ reply. collect (state_in self.now) Step.Flip ≡ (reply, state_in self.now)) }
+        ensures kept { IfSome result (λ reply. KeepsPair (state_in self.now) (Stepped.Answered reply)) }
+        ensures ready { result ≡ None → CanFlip self.now }
+    {
+        let Some(collection) = &self.collection else {
+            return Some(StepReply::Idle);
+        };
+        if !collection.ready(&self.heap) {
+            return Some(StepReply::NotReady);
+        }
+        None
+    }
+
+    /// What the checker is to be shown of a flip that is ready.
+    fn draft(&self, alloc: Global) -> Result<Draft, NoMemory>
+        requires live { IsLive self.now }
+        requires ready { CanFlip self.now }
+        ensures draft { IfOk result (IsDrafted self.now) }
+        ensures few { IfOk result (λ draft. length draft.pairs.items < 2 ^ 32) }
+    {
+        let collection = self.collection.as_ref().unwrap();
+        Draft::new(alloc, collection, &self.heap)
+    }
+
+    /// Whether the checker accepts it.
+    fn accepts(&self, alloc: Global, draft: &Draft) -> Result<bool, NoMemory>
+        requires live { IsLive self.now }
+        requires ready { CanFlip self.now }
+        requires draft { IsDrafted self.now draft.now }
+        requires few { length draft.now.pairs.items < 2 ^ 32 }
+        ensures { IfOk result (λ yes. IsTrue yes) }
+    {
+        let collection = self.collection.as_ref().unwrap();
+        is_accepted(alloc, &self.heap, collection, draft)
+    }
+
+    /// Whether the checker accepts it, which several threads find out.
+    fn accepts_par(
+        &self,
+        rt: &(impl Threads + Sync),
+        alloc: Global,
+        draft: &Draft,
+    ) -> Result<bool, NoMemory>
+        requires live { IsLive self.now }
+        requires ready { CanFlip self.now }
+        requires draft { IsDrafted self.now draft.now }
+        requires few { length draft.now.pairs.items < 2 ^ 32 }
+        ensures { IfOk result (λ yes. IsTrue yes) }
+    {
+        let collection = self.collection.as_ref().unwrap();
+        is_accepted_par(rt, alloc, &self.heap, collection, draft)
+    }
+
+    /// Makes the accepted flip. All growths come before the first change.
+    fn flip_drafted(&mut self, alloc: Global, draft: Draft) -> Result<Stepped, NoMemory>
+        requires live { IsLive self.old }
+        requires ready { CanFlip self.old }
+        requires draft { IsDrafted self.old draft }
+        requires few { length draft.pairs.items < 2 ^ 32 }
+        ensures step { IfOk result (λ flip. collect (state_in self.old) Step.Flip ≡ (reply_of flip, state_in self.new)) }
+        ensures kept { IfOk result (KeepsPair (state_in self.old)) }
+        ensures few { IfOk result HasFew }
+        ensures refused { OnErr result (self.new ≡ self.old) }
+        ensures live { IsLive self.new }
+        ensures mutators { self.new.heap.mutators ≡ self.old.heap.mutators }
+    {
+        let collection = self.collection.as_ref().unwrap();
         let plan = Plan::new(alloc, collection, draft)?;
         Ok(Stepped::Flipped(self.carry_out(plan)))
     }
