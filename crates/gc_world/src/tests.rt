@@ -1,3 +1,5 @@
+mod growths;
+
 ghost use Rattle.std.specs.Prelude.{◌≡◌, ◌<◌};
 ghost use Rattle.gc_copy.specs.Runs.{IsStep};
 
@@ -6,6 +8,7 @@ use gc_copy::{Step, StepReply};
 use gc_graph::{NoMemory, Number, Op, Reply, Slot, View};
 use gc_words::{NewAddr, OldAddr, Pair};
 use std::test::Fail;
+use std::thread::Threads;
 
 /// Makes a command of the first mutator.
 fn command(world: &mut World, op: Op) -> Result<Reply, NoMemory>
@@ -21,6 +24,25 @@ fn step(world: &mut World, step: Step) -> Result<StepReply, NoMemory>
     ensures { world.new.mutators ≡ world.old.mutators }
 {
     world.collect(step)
+}
+
+/// Makes a step of the collector, whose flips several threads check.
+fn step_par(
+    rt: &(impl Threads + Sync),
+    world: &mut World,
+    step: Step,
+) -> Result<StepReply, NoMemory>
+    requires { IsStep world.old.mutators step }
+    ensures { world.new.mutators ≡ world.old.mutators }
+{
+    world.collect_par(rt, step)
+}
+
+/// Makes the step that is useful.
+fn useful(rt: &(impl Threads + Sync), world: &mut World) -> Result<(Step, StepReply), NoMemory>
+    ensures { world.new.mutators ≡ world.old.mutators }
+{
+    world.collect_useful(rt)
 }
 
 #[test]
@@ -207,5 +229,154 @@ fn steps_without_a_collection(rt: HostRuntime) -> Result<(), Fail> {
     assert_eq!(rt; world.size(), 16);
     assert_eq!(rt; world.heap().space().size(), 8);
     assert_eq!(rt; world.mutators(), 1);
+    Ok(())
+}
+
+#[test]
+fn collect_when_full_in_threads(rt: HostRuntime) -> Result<(), Fail> {
+    let _named = View::Nil;
+    let r0 = Slot::own(0).ok_or("slot")?;
+    let r1 = Slot::own(1).ok_or("slot")?;
+    let mut world = World::open(rt.alloc(), 9, 1)?;
+    assert_eq!(rt; world.useful_step(), Step::Begin);
+    assert_eq!(rt;
+        command(
+            &mut world,
+            Op::New {
+                d: r0,
+                kind: 1,
+                len: 2
+            }
+        )?,
+        Reply::Made
+    );
+    assert_eq!(rt;
+        command(
+            &mut world,
+            Op::New {
+                d: r0,
+                kind: 1,
+                len: 2
+            }
+        )?,
+        Reply::Made
+    );
+    assert_eq!(rt;
+        command(
+            &mut world,
+            Op::New {
+                d: r1,
+                kind: 0,
+                len: 0
+            }
+        )?,
+        Reply::Full
+    );
+    assert_eq!(rt; step_par(&rt, &mut world, Step::Begin)?, StepReply::Begun);
+    assert!(rt; world.is_open());
+    assert_eq!(rt; step_par(&rt, &mut world, Step::Roots)?, StepReply::Copied);
+    assert_eq!(rt; world.useful_step(), Step::Scan);
+    assert_eq!(rt; step_par(&rt, &mut world, Step::Scan)?, StepReply::Scanned);
+    assert_eq!(rt; step_par(&rt, &mut world, Step::Scan)?, StepReply::Scanned);
+    assert_eq!(rt; step_par(&rt, &mut world, Step::Scan)?, StepReply::Passed);
+    assert_eq!(rt; step_par(&rt, &mut world, Step::Scan)?, StepReply::Clean);
+    assert_eq!(rt; step_par(&rt, &mut world, Step::Roots)?, StepReply::Clean);
+    assert_eq!(rt;
+        step_par(&rt, &mut world, Step::Flip)?,
+        StepReply::Flipped { pairs: 1 }
+    );
+    assert!(rt; !world.is_open());
+    assert_eq!(rt;
+        command(
+            &mut world,
+            Op::New {
+                d: r1,
+                kind: 0,
+                len: 0
+            }
+        )?,
+        Reply::Made
+    );
+    assert_eq!(rt; world.history().len(), 12);
+    assert_eq!(rt; world.heap().space().free(), 2);
+    Ok(())
+}
+
+#[test]
+fn write_while_scanning_in_threads(rt: HostRuntime) -> Result<(), Fail> {
+    let _named = View::Nil;
+    let r0 = Slot::own(0).ok_or("slot")?;
+    let r1 = Slot::own(1).ok_or("slot")?;
+    let r2 = Slot::own(2).ok_or("slot")?;
+    let nine = Number::new(9).ok_or("number")?;
+    let mut world = World::open(rt.alloc(), 32, 1)?;
+    assert_eq!(rt;
+        command(
+            &mut world,
+            Op::New {
+                d: r0,
+                kind: 1,
+                len: 1
+            }
+        )?,
+        Reply::Made
+    );
+    assert_eq!(rt;
+        command(&mut world, Op::Num { d: r1, n: nine })?,
+        Reply::Done
+    );
+    assert_eq!(rt; step_par(&rt, &mut world, Step::Begin)?, StepReply::Begun);
+    assert_eq!(rt; step_par(&rt, &mut world, Step::Roots)?, StepReply::Copied);
+    assert_eq!(rt; step_par(&rt, &mut world, Step::Scan)?, StepReply::Scanned);
+    assert_eq!(rt;
+        command(&mut world, Op::Put { s: r0, i: 0, t: r1 })?,
+        Reply::Done
+    );
+    assert_eq!(rt; step_par(&rt, &mut world, Step::Scan)?, StepReply::Passed);
+    assert_eq!(rt; step_par(&rt, &mut world, Step::Flip)?, StepReply::NotReady);
+    assert_eq!(rt; world.useful_step(), Step::Apply(0));
+    assert_eq!(rt;
+        step_par(&rt, &mut world, Step::Apply(0))?,
+        StepReply::Applied
+    );
+    assert_eq!(rt; world.useful_step(), Step::Flip);
+    assert_eq!(rt;
+        step_par(&rt, &mut world, Step::Flip)?,
+        StepReply::Flipped { pairs: 1 }
+    );
+    let got = command(&mut world, Op::Get { d: r2, s: r0, i: 0 })?;
+    assert_eq!(rt; got, Reply::Saw(View::Num(nine)));
+    Ok(())
+}
+
+#[test]
+fn useful_steps(rt: HostRuntime) -> Result<(), Fail> {
+    let _named = View::Nil;
+    let r0 = Slot::own(0).ok_or("slot")?;
+    let mut world = World::open(rt.alloc(), 8, 1)?;
+    assert_eq!(rt;
+        command(
+            &mut world,
+            Op::New {
+                d: r0,
+                kind: 0,
+                len: 1
+            }
+        )?,
+        Reply::Made
+    );
+    assert_eq!(rt; step_par(&rt, &mut world, Step::Scan)?, StepReply::Idle);
+    assert_eq!(rt; step_par(&rt, &mut world, Step::Apply(0))?, StepReply::Idle);
+    assert!(rt; useful(&rt, &mut world)? == (Step::Begin, StepReply::Begun));
+    assert!(rt; useful(&rt, &mut world)? == (Step::Roots, StepReply::Copied));
+    assert!(rt; useful(&rt, &mut world)? == (Step::Scan, StepReply::Scanned));
+    assert!(rt; useful(&rt, &mut world)? == (Step::Scan, StepReply::Passed));
+    assert_eq!(rt;
+        command(&mut world, Op::Put { s: r0, i: 0, t: r0 })?,
+        Reply::Done
+    );
+    assert!(rt; useful(&rt, &mut world)? == (Step::Apply(0), StepReply::Applied));
+    assert!(rt; useful(&rt, &mut world)? == (Step::Flip, StepReply::Flipped { pairs: 1 }));
+    assert_eq!(rt; world.history().len(), 10);
     Ok(())
 }

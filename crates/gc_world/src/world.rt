@@ -121,7 +121,11 @@ impl World {
     }
 
     /// The same step, in which a flip is checked by several threads where it has many pairs.
-    pub fn collect_par(&mut self, rt: &(impl Threads + Sync), step: Step) -> Result<StepReply, NoMemory>
+    pub fn collect_par(
+        &mut self,
+        rt: &(impl Threads + Sync),
+        step: Step,
+    ) -> Result<StepReply, NoMemory>
         requires { IsStep self.old.mutators step }
         ensures answered { IfOk result (λ reply.
             self.new ≡ record (with_entry self.old (Event.Collect step) (Answer.Collector reply)) {
@@ -139,7 +143,10 @@ impl World {
     }
 
     /// Makes the useful step, as `collect_par` does, and tells which it was. Its answer is recorded as `Useful`.
-    pub fn collect_useful(&mut self, rt: &(impl Threads + Sync)) -> Result<(Step, StepReply), NoMemory>
+    pub fn collect_useful(
+        &mut self,
+        rt: &(impl Threads + Sync),
+    ) -> Result<(Step, StepReply), NoMemory>
         ensures useful { IfOk result (λ made. made.0 ≡ useful_step (present self.old)) }
         ensures answered { IfOk result (λ made.
             self.new ≡ record (with_entry self.old (Event.Collect made.0) (Answer.Useful made.1)) {
