@@ -7,10 +7,13 @@ use Rattle.gc_graph.specs.Slots.{SlotName}
 use Rattle.gc_graph.specs.Range.{IsSlot, IsCommand}
 use Rattle.gc_graph.specs.declared.command.Op.{Op}
 use Rattle.gc_graph.specs.declared.command.Op.TheVariants as ops
+use Rattle.gc_copy.specs.Runs.{IsStep}
 use Rattle.gc_graph.proofs.LineLemmas.{HasNo-name, HasNo-decimal, AllHaveNo, HasNo-joined, words_of-joined}
-use Rattle.gc_trace.specs.declared.event.Event.{Event}
-use Rattle.gc_trace.specs.declared.event.Event.TheVariants.{Mutate}
-use Rattle.gc_trace.specs.Grammar.{slot, op_words, event_words, version_words, size_words, IsEvent, IsHeading}
+use Rattle.gc_copy.specs.declared.step.Step.{Step}
+use Rattle.gc_copy.specs.declared.step.Step.TheVariants as steps
+use Rattle.gc_world.specs.declared.event.Event.{Event}
+use Rattle.gc_world.specs.declared.event.Event.TheVariants.{Mutate, Collect}
+use Rattle.gc_trace.specs.Grammar.{slot, op_words, step_words, event_words, version_words, size_words, IsEvent, IsHeading}
 
 HasNo-slot : (c : ℕ) (s : SlotName) → c < 48 → IsSlot s → HasNo c (slot s)
 unfolding slot
@@ -27,16 +30,28 @@ AllHaveNo-op c (ops.Put s i t) low fits = (HasNo-name c (codes "put") low refl, 
 AllHaveNo-op c (ops.Same s t) low fits = (HasNo-name c (codes "same") low refl, (HasNo-slot c s low fits.0, (HasNo-slot c t low fits.1, tt)))
 AllHaveNo-op c (ops.Look s) low fits = (HasNo-name c (codes "look") low refl, (HasNo-slot c s low fits, tt))
 
-AllHaveNo-event : (c : ℕ) (event : Event) → c < 48 → IsEvent event → AllHaveNo c (event_words event)
-unfolding event_words
-AllHaveNo-event c (Mutate m op) low fits = (HasNo-name c (codes "m") low refl, (HasNo-decimal c m low (omega (arith, fits.0)), AllHaveNo-op c op low fits.1))
+AllHaveNo-step : (c : ℕ) (step : Step) → c < 48 → IsStep 16 step → AllHaveNo c (step_words step)
+unfolding step_words
+AllHaveNo-step c steps.Begin low fits = (HasNo-name c (codes "begin") low refl, tt)
+AllHaveNo-step c (steps.BeginSized size) low fits = (HasNo-name c (codes "begin") low refl, (HasNo-decimal c size low (omega (arith, fits.1)), tt))
+AllHaveNo-step c steps.Roots low fits = (HasNo-name c (codes "roots") low refl, tt)
+AllHaveNo-step c steps.Scan low fits = (HasNo-name c (codes "scan") low refl, tt)
+AllHaveNo-step c (steps.Apply k) low fits = (HasNo-name c (codes "apply") low refl, (HasNo-decimal c k low (omega (arith, fits)), tt))
+AllHaveNo-step c steps.Flip low fits = (HasNo-name c (codes "flip") low refl, tt)
+AllHaveNo-step c steps.Drop low fits = (HasNo-name c (codes "drop") low refl, tt)
 
-pub words_of-event : (event : Event) → IsEvent event → words_of (joined (event_words event)) ≡ event_words event
+AllHaveNo-event : (c version : ℕ) (event : Event) → c < 48 → IsEvent version event → AllHaveNo c (event_words event)
 unfolding event_words
-words_of-event (Mutate m op) fits = words_of-joined (codes "m") (decimal m ∷ op_words op) (AllHaveNo-event space (Mutate m op) (omega arith) fits)
+AllHaveNo-event c version (Mutate m op) low fits = (HasNo-name c (codes "m") low refl, (HasNo-decimal c m low (omega (arith, fits.range.0)), AllHaveNo-op c op low fits.range.1))
+AllHaveNo-event c version (Collect step) low fits = (HasNo-name c (codes "c") low refl, AllHaveNo-step c step low fits.range)
 
-pub HasNo-event : (event : Event) → IsEvent event → HasNo newline (joined (event_words event))
-HasNo-event event fits = HasNo-joined (event_words event) (AllHaveNo-event newline event (omega arith) fits)
+pub words_of-event : (version : ℕ) (event : Event) → IsEvent version event → words_of (joined (event_words event)) ≡ event_words event
+unfolding event_words
+words_of-event version (Mutate m op) fits = words_of-joined (codes "m") (decimal m ∷ op_words op) (AllHaveNo-event space version (Mutate m op) (omega arith) fits)
+words_of-event version (Collect step) fits = words_of-joined (codes "c") (step_words step) (AllHaveNo-event space version (Collect step) (omega arith) fits)
+
+pub HasNo-event : (version : ℕ) (event : Event) → IsEvent version event → HasNo newline (joined (event_words event))
+HasNo-event version event fits = HasNo-joined (event_words event) (AllHaveNo-event newline version event (omega arith) fits)
 
 AllHaveNo-version : (c version size mutators : ℕ) → c < 48 → IsHeading version size mutators → AllHaveNo c (version_words version)
 unfolding version_words

@@ -1,20 +1,23 @@
 -- What is read of words is what the grammar says.
-use Rattle.std.proofs.Common.{◌≡◌, ℕ, ◌≤◌, Bool, true, false, cond, eqb, List, [], ◌∷◌, refl, ap, ◌∙◌, arith, Some, None, subst, inl, inr, ◌⊎◌}
+use Rattle.std.proofs.Common.{◌≡◌, ℕ, ◌≤◌, Bool, true, false, cond, eqb, ltb, sym, List, [], ◌∷◌, refl, ap, ◌∙◌, arith, Some, None, subst, inl, inr, ◌⊎◌}
 use Rattle.std.specs.Prelude.{codes}
 use Rattle.std.specs.Fmt.{decimal}
-use Rattle.std.proofs.lemmas.Bool.{eqb-true}
+use Rattle.std.proofs.lemmas.Bool.{eqb-true, ltb-false}
 use Rattle.std.proofs.lemmas.Option.{cond_some}
 use Rattle.gc_graph.specs.Slots.{SlotName}
 use Rattle.gc_graph.specs.Range.{IsSlot, IsCommand}
 use Rattle.gc_graph.specs.Words.{◌>>=◌, Words, number_of, number_at, word_at, end_of}
 use Rattle.gc_graph.specs.declared.command.Op.{Op}
 use Rattle.gc_graph.specs.declared.command.Op.TheVariants as ops
+use Rattle.gc_copy.specs.Runs.{IsStep}
 use Rattle.gc_graph.proofs.Decimals.{number_found}
 use Rattle.gc_graph.proofs.WordReading.{bind_some, some, some_is, onto, number_at_found, word_at_found, end_found, name_case, positive}
-use Rattle.gc_trace.specs.declared.event.Event.{Event}
-use Rattle.gc_trace.specs.declared.event.Event.TheVariants.{Mutate}
-use Rattle.gc_trace.specs.Reading.{slot_of, slot_at, new_of, num_of, nil_of, move_of, get_of, put_of, same_of, look_of, op_of, command_of, event_of, version_at, sizes_of}
-use Rattle.gc_trace.specs.Grammar.{newest, slot, op_words, event_words, version_words, size_words, IsEvent}
+use Rattle.gc_copy.specs.declared.step.Step.{Step}
+use Rattle.gc_copy.specs.declared.step.Step.TheVariants as steps
+use Rattle.gc_world.specs.declared.event.Event.{Event}
+use Rattle.gc_world.specs.declared.event.Event.TheVariants.{Mutate, Collect}
+use Rattle.gc_trace.specs.Reading.{slot_of, slot_at, new_of, num_of, nil_of, move_of, get_of, put_of, same_of, look_of, op_of, begin_of, apply_of, step_of, command_of, collect_of, event_of, version_at, sizes_of}
+use Rattle.gc_trace.specs.Grammar.{newest, slot, op_words, step_words, event_words, version_words, size_words, version_of, IsEvent}
 
 own_or_shared : Bool → ℕ → SlotName
 own_or_shared b i = record { shared = b; index = i }
@@ -133,22 +136,73 @@ op_found [] op e = absurd cc
 op_found (name ∷ words) op e =
     name_case (λ (w : List ℕ). IsRead op (w ∷ words)) name (codes "new") (new_of words) _ op e (new_found words op) (λ e1. name_case (λ (w : List ℕ). IsRead op (w ∷ words)) name (codes "num") (num_of words) _ op e1 (num_found words op) (λ e2. name_case (λ (w : List ℕ). IsRead op (w ∷ words)) name (codes "nil") (nil_of words) _ op e2 (nil_found words op) (λ e3. name_case (λ (w : List ℕ). IsRead op (w ∷ words)) name (codes "move") (move_of words) _ op e3 (move_found words op) (λ e4. name_case (λ (w : List ℕ). IsRead op (w ∷ words)) name (codes "get") (get_of words) _ op e4 (get_found words op) (λ e5. name_case (λ (w : List ℕ). IsRead op (w ∷ words)) name (codes "put") (put_of words) _ op e5 (put_found words op) (λ e6. name_case (λ (w : List ℕ). IsRead op (w ∷ words)) name (codes "same") (same_of words) _ op e6 (same_found words op) (λ e7. name_case (λ (w : List ℕ). IsRead op (w ∷ words)) name (codes "look") (look_of words) _ op e7 (look_found words op) (λ e9. absurd cc))))))))
 
-abbrev IsReadEvent : Event → Words → Type 0
-IsReadEvent event words = (words ≡ event_words event) × IsEvent event
+abbrev IsReadEvent : ℕ → Event → Words → Type 0
+IsReadEvent version event words = (words ≡ event_words event) × IsEvent version event
 
-command_found : (words : Words) (event : Event) → command_of words ≡ Some event → IsReadEvent event (codes "m" ∷ words)
+command_found : (version : ℕ) (words : Words) (event : Event) → 1 ≤ version → command_of words ≡ Some event → IsReadEvent version event (codes "m" ∷ words)
 unfolding command_of event_words
-command_found words event e =
+command_found version words event known e =
     let a = bind_some (number_at 15 words) (λ m. op_of m.1 >>= λ op. Some (Mutate m.0 op)) event e in
     let b = bind_some (op_of a.0.1) (λ op. Some (Mutate a.0.0 op)) event a.2 in
     let w = number_at_found 15 words a.0 a.1 in
     let op = op_found a.0.1 b.0 b.1 in
-    subst (λ (x : Event). IsReadEvent x (codes "m" ∷ words)) (some_is (Mutate a.0.0 b.0) event b.2) (onto (codes "m") (w.0 ∙ onto (decimal a.0.0) op.0), (omega (arith, w.1), op.1))
+    subst (λ (x : Event). IsReadEvent version x (codes "m" ∷ words)) (some_is (Mutate a.0.0 b.0) event b.2) (onto (codes "m") (w.0 ∙ onto (decimal a.0.0) op.0), record { range = (omega (arith, w.1), op.1); known = known })
 
-pub event_found : (words : Words) (event : Event) → event_of words ≡ Some event → IsReadEvent event words
+abbrev IsReadStep : ℕ → Step → Words → Type 0
+IsReadStep version step words = (words ≡ step_words step) × IsStep 16 step × (version_of (Collect step) ≤ version)
+
+sized_found : (version : ℕ) (words : Words) (step : Step) → 2 ≤ version → (number_at 1048576 words >>= λ size. cond (eqb size.0 0) None (end_of (steps.BeginSized size.0) size.1)) ≡ Some step → IsReadStep version step (codes "begin" ∷ words)
+unfolding step_words
+sized_found version words step sized e =
+    let a = bind_some (number_at 1048576 words) (λ size. cond (eqb size.0 0) None (end_of (steps.BeginSized size.0) size.1)) step e in
+    let c = positive a.0.0 (eqb a.0.0 0) (end_of (steps.BeginSized a.0.0) a.0.1) step refl a.2 in
+    let z = end_found (steps.BeginSized a.0.0) a.0.1 step c.1 in
+    let w = number_at_found 1048576 words a.0 a.1 in
+    subst (λ (s : Step). IsReadStep version s (codes "begin" ∷ words)) z.1 (onto (codes "begin") (w.0 ∙ onto (decimal a.0.0) z.0), (c.0, w.1), sized)
+
+begin_found : (version : ℕ) (words : Words) (step : Step) → 1 ≤ version → begin_of version words ≡ Some step → IsReadStep version step (codes "begin" ∷ words)
+unfolding begin_of step_words
+begin_found version [] step known e = subst (λ (s : Step). IsReadStep version s (codes "begin" ∷ [])) (some_is steps.Begin step e) (refl, tt, known)
+begin_found version (word ∷ words) step known e = by_version (ltb version 2) refl e
+  where
+    by_version : (b : Bool) → ltb version 2 ≡ b → cond b None (number_at 1048576 (word ∷ words) >>= λ size. cond (eqb size.0 0) None (end_of (steps.BeginSized size.0) size.1)) ≡ Some step → IsReadStep version step (codes "begin" ∷ word ∷ words)
+    by_version true is e = absurd cc
+    by_version false is e = sized_found version (word ∷ words) step (ltb-false version 2 is) e
+
+apply_found : (version : ℕ) (words : Words) (step : Step) → 1 ≤ version → apply_of words ≡ Some step → IsReadStep version step (codes "apply" ∷ words)
+unfolding apply_of step_words
+apply_found version words step known e =
+    let a = bind_some (number_at 15 words) (λ k. end_of (steps.Apply k.0) k.1) step e in
+    let z = end_found (steps.Apply a.0.0) a.0.1 step a.2 in
+    let w = number_at_found 15 words a.0 a.1 in
+    subst (λ (s : Step). IsReadStep version s (codes "apply" ∷ words)) z.1 (onto (codes "apply") (w.0 ∙ onto (decimal a.0.0) z.0), omega (arith, w.1), known)
+
+-- a step of one word
+alone_found : (version : ℕ) (name : List ℕ) (words : Words) (wanted step : Step) → step_words wanted ≡ name ∷ [] → IsStep 16 wanted → version_of (Collect wanted) ≤ version → end_of wanted words ≡ Some step → IsReadStep version step (name ∷ words)
+alone_found version name words wanted step alone fits known e =
+    let z = end_found wanted words step e in
+    subst (λ (s : Step). IsReadStep version s (name ∷ words)) z.1 (onto name z.0 ∙ sym alone, fits, known)
+
+step_found : (version : ℕ) (words : Words) (step : Step) → 1 ≤ version → step_of version words ≡ Some step → IsReadStep version step words
+unfolding step_of step_words
+step_found version [] step known e = absurd cc
+step_found version (name ∷ words) step known e =
+    let P = λ (w : List ℕ). IsReadStep version step (w ∷ words) in
+    name_case P name (codes "begin") (begin_of version words) _ step e (begin_found version words step known) (λ e1. name_case P name (codes "roots") (end_of steps.Roots words) _ step e1 (alone_found version (codes "roots") words steps.Roots step refl tt known) (λ e2. name_case P name (codes "scan") (end_of steps.Scan words) _ step e2 (alone_found version (codes "scan") words steps.Scan step refl tt known) (λ e3. name_case P name (codes "apply") (apply_of words) _ step e3 (apply_found version words step known) (λ e4. name_case P name (codes "flip") (end_of steps.Flip words) _ step e4 (alone_found version (codes "flip") words steps.Flip step refl tt known) (λ e5. name_case P name (codes "drop") (end_of steps.Drop words) _ step e5 (alone_found version (codes "drop") words steps.Drop step refl tt known) (λ e6. absurd cc))))))
+
+collect_found : (version : ℕ) (words : Words) (event : Event) → 1 ≤ version → collect_of version words ≡ Some event → IsReadEvent version event (codes "c" ∷ words)
+unfolding collect_of event_words
+collect_found version words event known e =
+    let a = bind_some (step_of version words) (λ step. Some (Collect step)) event e in
+    let s = step_found version words a.0 known a.1 in
+    subst (λ (x : Event). IsReadEvent version x (codes "c" ∷ words)) (some_is (Collect a.0) event a.2) (onto (codes "c") s.0, record { range = s.1; known = s.2 })
+
+pub event_found : (version : ℕ) (words : Words) (event : Event) → 1 ≤ version → event_of version words ≡ Some event → IsReadEvent version event words
 unfolding event_of
-event_found [] event e = absurd cc
-event_found (letter ∷ words) event e = name_case (λ (w : List ℕ). IsReadEvent event (w ∷ words)) letter (codes "m") (command_of words) None event e (command_found words event) (λ e1. absurd cc)
+event_found version [] event known e = absurd cc
+event_found version (letter ∷ words) event known e =
+    let P = λ (w : List ℕ). IsReadEvent version event (w ∷ words) in
+    name_case P letter (codes "m") (command_of words) _ event e (command_found version words event known) (λ e1. name_case P letter (codes "c") (collect_of version words) None event e1 (collect_found version words event known) (λ e2. absurd cc))
 
 pub version_found : (words : Words) (v : ℕ) → version_at words ≡ Some v → (words ≡ version_words v) × (1 ≤ v) × (v ≤ newest)
 unfolding version_at version_words

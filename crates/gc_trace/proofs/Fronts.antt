@@ -9,13 +9,13 @@ use Rattle.gc_trace.proofs.EventLines.{words_of-event, HasNo-event, heading_line
 use Rattle.gc_graph.proofs.LineLemmas.{one_cut, not_cut}
 use Rattle.gc_trace.proofs.OneReading.{event_line-more, heading-more}
 
-pub no_line : (rest : List ℕ) → HasNo newline rest → BeginsWithNoEvent rest
-no_line rest h e more fits is = not_cut newline rest (joined (event_words e)) more h (is ∙ event_line-more e more)
+pub no_line : (version : ℕ) (rest : List ℕ) → HasNo newline rest → BeginsWithNoEvent version rest
+no_line version rest h e more fits is = not_cut newline rest (joined (event_words e)) more h (is ∙ event_line-more e more)
 
-pub no_event : (rest line after : List ℕ) → rest ≡ line ++ newline ∷ after → HasNo newline line → event_of (words_of line) ≡ None → BeginsWithNoEvent rest
-no_event rest line after parts h none e more fits is =
-    let same = one_cut newline line after (joined (event_words e)) more h (HasNo-event e fits) (sym parts ∙ is ∙ event_line-more e more) in
-    let read : event_of (words_of line) ≡ Some e = ap (λ (l : List ℕ). event_of (words_of l)) same.0 ∙ ap event_of (words_of-event e fits) ∙ event_again e fits in
+pub no_event : (version : ℕ) (rest line after : List ℕ) → rest ≡ line ++ newline ∷ after → HasNo newline line → event_of version (words_of line) ≡ None → BeginsWithNoEvent version rest
+no_event version rest line after parts h none e more fits is =
+    let same = one_cut newline line after (joined (event_words e)) more h (HasNo-event version e fits) (sym parts ∙ is ∙ event_line-more e more) in
+    let read : event_of version (words_of line) ≡ Some e = ap (λ (l : List ℕ). event_of version (words_of l)) same.0 ∙ ap (event_of version) (words_of-event version e fits) ∙ event_again version e fits in
     absurd cc
 
 -- ---- headings

@@ -5,5 +5,3 @@ pub mod OneReading
 pub mod Fronts
 pub mod Total
 pub mod RowProofs
-pub mod Printed
-pub mod Played

@@ -5,7 +5,7 @@ use Rattle.std.proofs.lemmas.List.{append-nil}
 use Rattle.std.proofs.lemmas.List.Concat.{flat_map-cons}
 use Rattle.std.proofs.lemmas.Option.{same_Some}
 use Rattle.gc_graph.specs.Lines.{newline, joined, line, words_of}
-use Rattle.gc_trace.specs.declared.event.Event.{Event}
+use Rattle.gc_world.specs.declared.event.Event.{Event}
 use Rattle.gc_trace.specs.Reading.{event_of, version_at, sizes_of}
 use Rattle.gc_trace.specs.Grammar.{Recording, event_words, event_line, version_words, size_words, heading, spelling, IsEvent, IsOf, IsHeading, IsRecording, IsTextOf}
 use Rattle.gc_trace.specs.Faults.{HasNoHeading, GoodBefore, BeginsWithNoEvent, HasBadLine, HasStranger, IsFaultOf, IsReadAs}
@@ -20,11 +20,11 @@ unfolding event_line
 event_line-more event more = append_assoc (joined (event_words event)) (newline ∷ []) more
 
 -- no line of an event begins another
-pub event_line_injective : (e d : Event) (x y : List ℕ) → IsEvent e → IsEvent d → event_line e ++ x ≡ event_line d ++ y → (e ≡ d) × (x ≡ y)
-event_line_injective e d x y p q same =
-    let cut = one_cut newline (joined (event_words e)) x (joined (event_words d)) y (HasNo-event e p) (HasNo-event d q) (sym (event_line-more e x) ∙ same ∙ event_line-more d y) in
-    let words : event_words e ≡ event_words d = sym (words_of-event e p) ∙ ap words_of cut.0 ∙ words_of-event d q in
-    (same_Some e d (sym (event_again e p) ∙ ap event_of words ∙ event_again d q), cut.1)
+pub event_line_injective : (version : ℕ) (e d : Event) (x y : List ℕ) → IsEvent version e → IsEvent version d → event_line e ++ x ≡ event_line d ++ y → (e ≡ d) × (x ≡ y)
+event_line_injective version e d x y p q same =
+    let cut = one_cut newline (joined (event_words e)) x (joined (event_words d)) y (HasNo-event version e p) (HasNo-event version d q) (sym (event_line-more e x) ∙ same ∙ event_line-more d y) in
+    let words : event_words e ≡ event_words d = sym (words_of-event version e p) ∙ ap words_of cut.0 ∙ words_of-event version d q in
+    (same_Some e d (sym (event_again version e p) ∙ ap (event_of version) words ∙ event_again version d q), cut.1)
 
 pub heading-more : (version size mutators : ℕ) (more : List ℕ) → heading version size mutators ++ more ≡ joined (version_words version) ++ newline ∷ (joined (size_words size mutators) ++ newline ∷ more)
 unfolding heading
@@ -59,11 +59,11 @@ heading_injective v s m w t n x y p q same =
 -- ---- where the good lines stop
 
 -- no event of such a trace stands at the front
-abbrev pub Stops : ℕ → List ℕ → Type 0
-Stops mutators rest = (event : Event) (more : List ℕ) → IsEvent event → IsOf mutators event → rest ≢ event_line event ++ more
+abbrev pub Stops : ℕ → ℕ → List ℕ → Type 0
+Stops version mutators rest = (event : Event) (more : List ℕ) → IsEvent version event → IsOf mutators event → rest ≢ event_line event ++ more
 
-abbrev Fit : ℕ → List Event → Type 0
-Fit mutators events = AllByRecursion (λ event. IsEvent event × IsOf mutators event) events
+abbrev Fit : ℕ → ℕ → List Event → Type 0
+Fit version mutators events = AllByRecursion (λ event. IsEvent version event × IsOf mutators event) events
 
 abbrev lines : List Event → List ℕ
 lines events = flat_map event_line events
@@ -71,18 +71,18 @@ lines events = flat_map event_line events
 lines_more : (e : Event) (es : List Event) (x : List ℕ) → lines (e ∷ es) ++ x ≡ event_line e ++ (lines es ++ x)
 lines_more e es x = ap (λ (t : List ℕ). t ++ x) (flat_map-cons event_line e es) ∙ append_assoc (event_line e) (lines es) x
 
-same_stop : (m : ℕ) (es ds : List Event) (x y : List ℕ) → Fit m es → Fit m ds → Stops m x → Stops m y → lines es ++ x ≡ lines ds ++ y → (es ≡ ds) × (x ≡ y)
-same_stop m [] [] x y p q stop stop' same = (refl, same)
-same_stop m [] (d ∷ ds) x y p q stop stop' same = absurd (stop d (lines ds ++ y) q.0.0 q.0.1 (same ∙ lines_more d ds y))
-same_stop m (e ∷ es) [] x y p q stop stop' same = absurd (stop' e (lines es ++ x) p.0.0 p.0.1 (sym same ∙ lines_more e es x))
-same_stop m (e ∷ es) (d ∷ ds) x y p q stop stop' same =
-    let one = event_line_injective e d (lines es ++ x) (lines ds ++ y) p.0.0 q.0.0 (sym (lines_more e es x) ∙ same ∙ lines_more d ds y) in
-    let rest = same_stop m es ds x y p.1 q.1 stop stop' one.1 in
+same_stop : (v m : ℕ) (es ds : List Event) (x y : List ℕ) → Fit v m es → Fit v m ds → Stops v m x → Stops v m y → lines es ++ x ≡ lines ds ++ y → (es ≡ ds) × (x ≡ y)
+same_stop v m [] [] x y p q stop stop' same = (refl, same)
+same_stop v m [] (d ∷ ds) x y p q stop stop' same = absurd (stop d (lines ds ++ y) q.0.0 q.0.1 (same ∙ lines_more d ds y))
+same_stop v m (e ∷ es) [] x y p q stop stop' same = absurd (stop' e (lines es ++ x) p.0.0 p.0.1 (sym same ∙ lines_more e es x))
+same_stop v m (e ∷ es) (d ∷ ds) x y p q stop stop' same =
+    let one = event_line_injective v e d (lines es ++ x) (lines ds ++ y) p.0.0 q.0.0 (sym (lines_more e es x) ∙ same ∙ lines_more d ds y) in
+    let rest = same_stop v m es ds x y p.1 q.1 stop stop' one.1 in
     (rw (one.0, rest.0) refl, rest.1)
 
 -- good lines, and what stands behind them
 abbrev pub StopsAt : Recording → List ℕ → List ℕ → Type 0
-StopsAt t rest text = IsRecording t × (text ≡ spelling t ++ rest) × Stops t.mutators rest
+StopsAt t rest text = IsRecording t × (text ≡ spelling t ++ rest) × Stops t.version t.mutators rest
 
 abbrev together : ℕ → ℕ → ℕ → List Event → Recording
 together v s m events = record { version = v; size = s; mutators = m; events = events }
@@ -93,9 +93,9 @@ one_stop t u x y text p q =
     let l : text ≡ heading t.version t.size t.mutators ++ (lines t.events ++ x) = p.1 ∙ append_assoc (heading t.version t.size t.mutators) (lines t.events) x in
     let r : text ≡ heading u.version u.size u.mutators ++ (lines u.events ++ y) = q.1 ∙ append_assoc (heading u.version u.size u.mutators) (lines u.events) y in
     let head = heading_injective t.version t.size t.mutators u.version u.size u.mutators (lines t.events ++ x) (lines u.events ++ y) p.0.heading q.0.heading (sym l ∙ r) in
-    let fit : Fit u.mutators t.events = subst (λ (m : ℕ). Fit m t.events) head.0.mutators p.0.events in
-    let stop : Stops u.mutators x = subst (λ (m : ℕ). Stops m x) head.0.mutators p.2 in
-    let rest = same_stop u.mutators t.events u.events x y fit q.0.events stop q.2 head.1 in (
+    let fit : Fit u.version u.mutators t.events = subst (λ (v : ℕ). Fit v u.mutators t.events) head.0.version (subst (λ (m : ℕ). Fit t.version m t.events) head.0.mutators p.0.events) in
+    let stop : Stops u.version u.mutators x = subst (λ (v : ℕ). Stops v u.mutators x) head.0.version (subst (λ (m : ℕ). Stops t.version m x) head.0.mutators p.2) in
+    let rest = same_stop u.version u.mutators t.events u.events x y fit q.0.events stop q.2 head.1 in (
       ap (λ (v : ℕ). together v t.size t.mutators t.events) head.0.version ∙ ap (λ (s : ℕ). together u.version s t.mutators t.events) head.0.size
           ∙ ap (λ (m : ℕ). together u.version u.size m t.events) head.0.mutators ∙ ap (together u.version u.size u.mutators) rest.0,
       rest.1,
@@ -115,14 +115,14 @@ before_parts : (text : List ℕ) (n : ℕ) (t : Recording) (rest : List ℕ) →
 before_parts text n t rest b = b.parts ∙ ap (λ (l : List ℕ). l ++ rest) b.good.spelled
 
 abbrev BadStop : List ℕ → ℕ → Type 0
-BadStop text n = (t : Recording) × (rest : List ℕ) × StopsAt t rest text × (n ≡ 3 + length t.events) × (rest ≢ []) × BeginsWithNoEvent rest
+BadStop text n = (t : Recording) × (rest : List ℕ) × StopsAt t rest text × (n ≡ 3 + length t.events) × (rest ≢ []) × BeginsWithNoEvent t.version rest
 
 bad_stop : (text : List ℕ) (n : ℕ) → HasBadLine text n → BadStop text n
 bad_stop text n (t, rest, before, some, none) =
     (t, rest, (before.good.recording, before_parts text n t rest before, λ e more p _ is. none e more p is), before.number, some, none)
 
 abbrev StrangeStop : List ℕ → ℕ → Type 0
-StrangeStop text n = (t : Recording) × (e : Event) × (more : List ℕ) × StopsAt t (event_line e ++ more) text × (n ≡ 3 + length t.events) × IsEvent e
+StrangeStop text n = (t : Recording) × (e : Event) × (more : List ℕ) × StopsAt t (event_line e ++ more) text × (n ≡ 3 + length t.events) × IsEvent t.version e
 
 strange_stop : (text : List ℕ) (n : ℕ) → HasStranger text n → StrangeStop text n
 strange_stop text n (t, e, more, before, fits, strange) = (
@@ -133,7 +133,7 @@ strange_stop text n (t, e, more, before, fits, strange) = (
     before.good.recording,
     before_parts text n t (event_line e ++ more) before,
     λ d rest p of is.
-        let same = event_line_injective e d more rest fits p is in
+        let same = event_line_injective t.version e d more rest fits p is in
         strange (subst (λ (c : Event). IsOf t.mutators c) (sym same.0) of),
   ),
   before.number,
@@ -186,7 +186,7 @@ bad_strange text n m h k =
     let a = bad_stop text n h in
     let b = strange_stop text m k in
     let same = one_stop a.0 b.0 a.1 (event_line b.1 ++ b.2) text a.2 b.3 in
-    a.5 b.1 b.2 b.5 same.1
+    a.5 b.1 b.2 (subst (λ (t : Recording). IsEvent t.version b.1) (sym same.0) b.5) same.1
 
 bad_headed : (text : List ℕ) (n : ℕ) → HasBadLine text n → HasNoHeading text → ⊥
 bad_headed text n h none = let a = bad_stop text n h in headed a.0 a.1 text a.2 none

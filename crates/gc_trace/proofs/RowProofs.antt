@@ -1,54 +1,57 @@
 -- The worked rows.
-use Rattle.std.proofs.Common.{◌≡◌, ◌≢◌, ℕ, ◌≤◌, List, [], ◌∷◌, ◌++◌, length, leb, refl, arith, true, None}
+use Rattle.std.proofs.Common.{◌≡◌, ◌≢◌, ℕ, ◌≤◌, List, [], ◌∷◌, ◌++◌, length, leb, refl, sym, arith, true, None}
 use Rattle.std.proofs.lemmas.Bool.{leb-true}
+use Rattle.std.proofs.lemmas.List.{append-nil}
 use Rattle.std.specs.Prelude.{codes}
 use Rattle.std.specs.Fmt.{digits}
 use Rattle.gc_graph.specs.Lines.{newline, ended, words_of}
 use Rattle.gc_graph.specs.Slots.{own_slot, shared_slot}
 use Rattle.gc_graph.specs.Words.{number_of, number_at, word_at, end_of}
 use Rattle.gc_graph.specs.declared.command.Op.TheVariants as ops
+use Rattle.gc_copy.specs.declared.step.Step.TheVariants as steps
 use Rattle.gc_graph.proofs.LineLemmas.{lacks, HasNo-lacks}
-use Rattle.gc_trace.specs.declared.event.Event.TheVariants.{Mutate}
-use Rattle.gc_trace.specs.Grammar.{Recording, slot, op_words, event_words, event_line, version_words, size_words, heading, spelling, IsTextOf}
+use Rattle.gc_world.specs.declared.event.Event.TheVariants.{Mutate, Collect}
+use Rattle.gc_trace.specs.Grammar.{Recording, slot, op_words, step_words, event_words, event_line, version_words, size_words, heading, spelling, IsTextOf}
 use Rattle.gc_trace.specs.Faults.{limit, BeginsWithNoEvent, IsFaultOf}
-use Rattle.gc_trace.specs.Reading.{slot_of, slot_at, new_of, num_of, look_of, op_of, command_of, event_of, sizes_of}
-use Rattle.gc_trace.specs.Replies.{view_words, reply_words}
-use Rattle.gc_trace.specs.Rows.{small, TextRows, LineRows}
+use Rattle.gc_trace.specs.Reading.{slot_of, slot_at, new_of, num_of, look_of, op_of, begin_of, apply_of, step_of, command_of, collect_of, event_of, version_at, sizes_of}
+use Rattle.gc_trace.specs.Replies.{view_words, reply_words, step_reply_words, answer_words}
+use Rattle.gc_trace.specs.Rows.{small, TextRows, SizedRows, LineRows}
 use Rattle.gc_trace.specs.declared.fault.TraceFault.TheVariants.{BadHeader, BadLine}
-use Rattle.gc_trace.proofs.Fronts.{no_line, no_event, no_first, no_second, no_sizes}
+use Rattle.gc_trace.proofs.Fronts.{no_line, no_event, no_first, no_version, no_second, no_sizes}
 
 pub line_rows : LineRows
-unfolding digits slot op_words event_words event_line version_words size_words heading spelling view_words reply_words
-line_rows = record { events = refl; replies = refl }
+unfolding digits slot op_words step_words event_words event_line version_words size_words heading spelling view_words reply_words step_reply_words answer_words
+line_rows = record { events = refl; replies = refl; step_replies = refl }
 
 short : (text : List ℕ) → leb (length text) limit ≡ true → length text ≤ limit
 short text e = leb-true (length text) limit e
 
-abbrev first : List ℕ
-first = codes "heaptrace 1\nspace 8 mutators 1\n"
+-- lines 1 and 2 of a trace of this version
+abbrev first : ℕ → List ℕ
+first version = heading version 8 1
 
-opening_text : IsTextOf (small []) first
-unfolding digits version_words size_words heading spelling
-opening_text = record { recording = record { heading = (omega arith, omega arith, omega arith, omega arith, omega arith, omega arith); events = tt }; spelled = refl }
+opening_text : (version : ℕ) → 1 ≤ version → version ≤ 2 → IsTextOf (small version []) (first version)
+unfolding spelling
+opening_text version low high = record { recording = record { heading = (low, high, omega arith, omega arith, omega arith, omega arith); events = tt }; spelled = sym (append-nil (first version)) }
 
 abbrev one_nil : Recording
-one_nil = small (Mutate 0 (ops.Nil (shared_slot 0)) ∷ [])
+one_nil = small 1 (Mutate 0 (ops.Nil (shared_slot 0)) ∷ [])
 
 nil_text : IsTextOf one_nil (codes "heaptrace 1\nspace 8 mutators 1\nm 0 nil g0\n")
 unfolding digits slot op_words event_words event_line version_words size_words heading spelling
-nil_text = record { recording = record { heading = (omega arith, omega arith, omega arith, omega arith, omega arith, omega arith); events = (((omega arith, omega arith), omega arith), tt) }; spelled = refl }
+nil_text = record { recording = record { heading = (omega arith, omega arith, omega arith, omega arith, omega arith, omega arith); events = ((record { range = (omega arith, omega arith); known = omega arith }, (omega arith, omega arith)), tt) }; spelled = refl }
 
 -- line 3 is bad
-third : (rest : List ℕ) → rest ≢ [] → BeginsWithNoEvent rest → leb (length (first ++ rest)) limit ≡ true → IsFaultOf (BadLine 3) (first ++ rest)
-third rest some none small-enough = (short (first ++ rest) small-enough, (small [], rest, record { lines = first; good = opening_text; parts = refl; number = refl }, some, none))
+third : (version : ℕ) (rest : List ℕ) → 1 ≤ version → version ≤ 2 → rest ≢ [] → BeginsWithNoEvent version rest → leb (length (first version ++ rest)) limit ≡ true → IsFaultOf (BadLine 3) (first version ++ rest)
+third version rest low high some none small-enough = (short (first version ++ rest) small-enough, (small version [], rest, record { lines = first version; good = opening_text version low high; parts = refl; number = refl }, some, none))
 
 some_line : (line : List ℕ) → ended line ≢ []
 some_line [] e = cc
 some_line (b ∷ line) e = cc
 
 -- the whole of line 3 is bad
-third_line : (line : List ℕ) → lacks newline line ≡ true → event_of (words_of line) ≡ None → leb (length (first ++ ended line)) limit ≡ true → IsFaultOf (BadLine 3) (first ++ ended line)
-third_line line h none small-enough = third (ended line) (some_line line) (no_event (ended line) line [] refl (HasNo-lacks newline line h) none) small-enough
+third_line : (version : ℕ) (line : List ℕ) → 1 ≤ version → version ≤ 2 → lacks newline line ≡ true → event_of version (words_of line) ≡ None → leb (length (first version ++ ended line)) limit ≡ true → IsFaultOf (BadLine 3) (first version ++ ended line)
+third_line version line low high h none small-enough = third version (ended line) low high (some_line line) (no_event version (ended line) line [] refl (HasNo-lacks newline line h) none) small-enough
 
 -- line 2 is bad
 second_line : (line : List ℕ) → lacks newline line ≡ true → sizes_of (words_of line) ≡ None → leb (length (codes "heaptrace 1\n" ++ ended line)) limit ≡ true → IsFaultOf BadHeader (codes "heaptrace 1\n" ++ ended line)
@@ -58,7 +61,7 @@ second_line line h none small-enough = (
 )
 
 pub text_rows : TextRows
-unfolding digits slot op_words event_words event_line number_of slot_of number_at slot_at word_at end_of new_of num_of look_of op_of command_of event_of sizes_of
+unfolding digits slot op_words step_words event_words event_line version_words size_words heading number_of slot_of number_at slot_at word_at end_of new_of num_of look_of op_of apply_of step_of command_of collect_of event_of sizes_of
 text_rows = record {
   nothing = (short [] refl, no_first [] tt);
   no_size = second_line (codes "space 0 mutators 1") refl refl refl;
@@ -67,19 +70,48 @@ text_rows = record {
     short (codes "heaptrace 1\nspace 8 mutators 1") refl,
     no_second (codes "heaptrace 1\nspace 8 mutators 1") (codes "heaptrace 1") (codes "space 8 mutators 1") refl (HasNo-lacks newline (codes "heaptrace 1") refl) (HasNo-lacks newline (codes "space 8 mutators 1") refl),
   );
-  no_events = (opening_text, short first refl);
-  cut_line = third (codes "m 0 look r0") (λ e. cc) (no_line (codes "m 0 look r0") (HasNo-lacks newline (codes "m 0 look r0") refl)) refl;
-  no_slot = third_line (codes "m 0 look r16") refl refl refl;
-  two_spaces = third_line (codes "m 0  look r0") refl refl refl;
-  no_kind = third_line (codes "m 0 new r0 256 0") refl refl refl;
-  leading_zero = third_line (codes "m 0 num r0 01") refl refl refl;
-  no_mutator = third_line (codes "m 16 look r0") refl refl refl;
+  no_events = (opening_text 1 (omega arith) (omega arith), short (first 1) refl);
+  cut_line = third 1 (codes "m 0 look r0") (omega arith) (omega arith) (λ e. cc) (no_line 1 (codes "m 0 look r0") (HasNo-lacks newline (codes "m 0 look r0") refl)) refl;
+  no_slot = third_line 1 (codes "m 0 look r16") (omega arith) (omega arith) refl refl refl;
+  two_spaces = third_line 1 (codes "m 0  look r0") (omega arith) (omega arith) refl refl refl;
+  no_kind = third_line 1 (codes "m 0 new r0 256 0") (omega arith) (omega arith) refl refl refl;
+  leading_zero = third_line 1 (codes "m 0 num r0 01") (omega arith) (omega arith) refl refl refl;
+  no_mutator = third_line 1 (codes "m 16 look r0") (omega arith) (omega arith) refl refl refl;
   strange_mutator = (
     short (codes "heaptrace 1\nspace 8 mutators 1\nm 1 look r0\n") refl,
-    (small [], Mutate 1 (ops.Look (own_slot 0)), [], record { lines = first; good = opening_text; parts = refl; number = refl }, (omega arith, omega arith), λ of. omega (arith, of)),
+    (small 1 [], Mutate 1 (ops.Look (own_slot 0)), [], record { lines = first 1; good = opening_text 1 (omega arith) (omega arith); parts = refl; number = refl }, record { range = (omega arith, omega arith); known = omega arith }, λ of. omega (arith, of.0)),
+  );
+  strange_log = (
+    short (codes "heaptrace 1\nspace 8 mutators 1\nc apply 1\nx\n") refl,
+    (small 1 [], Collect (steps.Apply 1), codes "x\n", record { lines = first 1; good = opening_text 1 (omega arith) (omega arith); parts = refl; number = refl }, record { range = omega arith; known = omega arith }, λ of. omega (arith, of)),
   );
   empty_line = (
     short (codes "heaptrace 1\nspace 8 mutators 1\nm 0 nil g0\n\n") refl,
-    (one_nil, newline ∷ [], record { lines = codes "heaptrace 1\nspace 8 mutators 1\nm 0 nil g0\n"; good = nil_text; parts = refl; number = refl }, (λ e. cc), no_event (newline ∷ []) [] [] refl tt refl),
+    (one_nil, newline ∷ [], record { lines = codes "heaptrace 1\nspace 8 mutators 1\nm 0 nil g0\n"; good = nil_text; parts = refl; number = refl }, (λ e. cc), no_event 1 (newline ∷ []) [] [] refl tt refl),
   );
+}
+
+sized_text : IsTextOf (small 2 (Collect steps.Begin ∷ Collect (steps.BeginSized 12) ∷ [])) (codes "heaptrace 2\nspace 8 mutators 1\nc begin\nc begin 12\n")
+unfolding digits step_words event_words event_line version_words size_words heading spelling
+sized_text = record {
+  recording = record {
+    heading = (omega arith, omega arith, omega arith, omega arith, omega arith, omega arith);
+    events = ((record { range = tt; known = omega arith }, tt), ((record { range = (omega arith, omega arith); known = omega arith }, (omega arith, omega arith)), tt));
+  };
+  spelled = refl;
+}
+
+pub sized_rows : SizedRows
+unfolding digits step_words event_words event_line version_words size_words heading spelling number_of number_at word_at end_of begin_of step_of collect_of event_of version_at
+sized_rows = record {
+  read = (sized_text, short (codes "heaptrace 2\nspace 8 mutators 1\nc begin\nc begin 12\n") refl);
+  low = third_line 2 (codes "c begin 0") (omega arith) (omega arith) refl refl refl;
+  high = third_line 2 (codes "c begin 1048577") (omega arith) (omega arith) refl refl refl;
+  not_in_first = third_line 1 (codes "c begin 12") (omega arith) (omega arith) refl refl refl;
+  no_third = (
+    short (codes "heaptrace 3\nspace 8 mutators 1\n") refl,
+    no_version (codes "heaptrace 3\nspace 8 mutators 1\n") (codes "heaptrace 3") (codes "space 8 mutators 1\n") refl (HasNo-lacks newline (codes "heaptrace 3") refl) refl,
+  );
+  least = refl;
+  lower = refl;
 }

@@ -5,12 +5,14 @@ use Rattle.std.proofs.lemmas.Bool.{eqb-false, leb-true}
 use Rattle.std.proofs.lemmas.List.{append-nil, length-append}
 use Rattle.std.proofs.lemmas.List.Concat.{flat_map-append, flat_map-cons}
 use Rattle.gc_graph.specs.Lines.{newline, joined, words_of}
-use Rattle.gc_graph.specs.declared.command.Op.{Op}
+use Rattle.gc_copy.specs.Runs.{IsStep}
 use Rattle.gc_graph.proofs.LineLemmas.{Cut, cut, joined-words_of}
-use Rattle.gc_trace.specs.declared.event.Event.{Event}
-use Rattle.gc_trace.specs.declared.event.Event.TheVariants.{Mutate}
+use Rattle.gc_copy.specs.declared.step.Step.{Step}
+use Rattle.gc_copy.specs.declared.step.Step.TheVariants as steps
+use Rattle.gc_world.specs.declared.event.Event.{Event}
+use Rattle.gc_world.specs.declared.event.Event.TheVariants.{Mutate, Collect}
 use Rattle.gc_trace.specs.Reading.{event_of, version_at, sizes_of}
-use Rattle.gc_trace.specs.Grammar.{Recording, event_words, event_line, version_words, size_words, heading, spelling, IsHeading, IsEvent, IsOf, IsTextOf}
+use Rattle.gc_trace.specs.Grammar.{Recording, newest, event_words, event_line, version_words, size_words, heading, spelling, IsHeading, IsEvent, IsOf, IsTextOf}
 use Rattle.gc_trace.specs.Faults.{limit, GoodBefore, HasNoHeading, HasBadLine, HasStranger, BeginsWithNoEvent, IsFaultOf, IsReadAs}
 use Rattle.gc_trace.specs.declared.fault.TraceFault.{TraceFault}
 use Rattle.gc_trace.specs.declared.fault.TraceFault.TheVariants.{TooLarge, BadHeader, BadLine, NoSuchMutator}
@@ -25,13 +27,27 @@ dec_le m n = at (leb m n) refl
     at true e = inl (leb-true m n e)
     at false e = inr (λ le. grind (arith, e, le))
 
-dec_of : (mutators : ℕ) (event : Event) → IsOf mutators event ⊎ (IsOf mutators event → ⊥)
-dec_of mutators (Mutate m op) = dec_le (suc m) mutators
+dec_step : (mutators : ℕ) (step : Step) → IsStep 16 step → IsStep mutators step ⊎ (IsStep mutators step → ⊥)
+dec_step mutators steps.Begin fits = inl tt
+dec_step mutators (steps.BeginSized size) fits = inl fits
+dec_step mutators steps.Roots fits = inl tt
+dec_step mutators steps.Scan fits = inl tt
+dec_step mutators (steps.Apply k) fits = dec_le (suc k) mutators
+dec_step mutators steps.Flip fits = inl tt
+dec_step mutators steps.Drop fits = inl tt
+
+dec_of : (version mutators : ℕ) (event : Event) → IsEvent version event → IsOf mutators event ⊎ (IsOf mutators event → ⊥)
+dec_of version mutators (Mutate m op) fits =
+    elim (dec_le (suc m) mutators) [
+      | inl le ↦ inl (le, fits.range.1)
+      | inr above ↦ inr (λ of. above of.0)
+    ]
+dec_of version mutators (Collect step) fits = dec_step mutators step fits.range
 
 -- the event that stands at the front
-pub one_event : (rest line after : List ℕ) (e : Event) → rest ≡ line ++ newline ∷ after → event_of (words_of line) ≡ Some e → IsEvent e × (rest ≡ event_line e ++ after)
-one_event rest line after e parts read =
-    let found = event_found (words_of line) e read in
+pub one_event : (version : ℕ) (rest line after : List ℕ) (e : Event) → 1 ≤ version → rest ≡ line ++ newline ∷ after → event_of version (words_of line) ≡ Some e → IsEvent version e × (rest ≡ event_line e ++ after)
+one_event version rest line after e known parts read =
+    let found = event_found version (words_of line) e known read in
     let whole : joined (event_words e) ≡ line = ap joined (sym found.0) ∙ joined-words_of line in
     (found.1, parts ∙ ap (λ (t : List ℕ). t ++ newline ∷ after) (sym whole) ∙ sym (event_line-more e after))
 
@@ -66,7 +82,7 @@ good_start text rest v s m fits is = record {
 }
 
 -- one more line was read
-pub good_more : (text : List ℕ) (n v s m : ℕ) (events : List Event) (rest : List ℕ) (e : Event) (after : List ℕ) → GoodBefore text n (made_of v s m events) rest → IsEvent e → IsOf m e → rest ≡ event_line e ++ after
+pub good_more : (text : List ℕ) (n v s m : ℕ) (events : List Event) (rest : List ℕ) (e : Event) (after : List ℕ) → GoodBefore text n (made_of v s m events) rest → IsEvent v e → IsOf m e → rest ≡ event_line e ++ after
     → GoodBefore text (n + 1) (made_of v s m (events ++ e ∷ [])) after
 unfolding spelling
 good_more text n v s m events rest e after so_far fits of is =
@@ -74,7 +90,7 @@ good_more text n v s m events rest e after so_far fits of is =
     record {
       lines = so_far.lines ++ event_line e;
       good = record {
-        recording = record { heading = so_far.good.recording.heading; events = All-push (λ event. IsEvent event × IsOf m event) events e so_far.good.recording.events (fits, of) };
+        recording = record { heading = so_far.good.recording.heading; events = All-push (λ event. IsEvent v event × IsOf m event) events e so_far.good.recording.events (fits, of) };
         spelled = ap (λ (l : List ℕ). l ++ event_line e) so_far.good.spelled ∙ append_assoc (heading v s m) (flat_map event_line events) (event_line e) ∙ ap (λ (l : List ℕ). heading v s m ++ l) (sym more);
       };
       parts = so_far.parts ∙ ap (λ (l : List ℕ). so_far.lines ++ l) is ∙ sym (append_assoc so_far.lines (event_line e) after);
@@ -96,15 +112,15 @@ reading zero text n v s m events rest lt good = absurd (omega (arith, lt))
 reading (suc fuel) text n v s m events [] lt good = inl (made_of v s m events, good_end text n (made_of v s m events) [] good refl)
 reading (suc fuel) text n v s m events (b ∷ rest) lt good =
     elim (cut (b ∷ rest)) [
-      | inl h ↦ inr (inl (n, (made_of v s m events, b ∷ rest, good, (λ e. cc), no_line (b ∷ rest) h)))
-      | inr c ↦ on (λ k more after less so_far. reading fuel text k v s m more after less so_far) c (event_of (words_of c.line)) refl
+      | inl h ↦ inr (inl (n, (made_of v s m events, b ∷ rest, good, (λ e. cc), no_line v (b ∷ rest) h)))
+      | inr c ↦ on (λ k more after less so_far. reading fuel text k v s m more after less so_far) c (event_of v (words_of c.line)) refl
     ]
   where
-    on : ((k : ℕ) (more : List Event) (after : List ℕ) → length after < fuel → GoodBefore text k (made_of v s m more) after → Reading text) → (c : Cut (b ∷ rest)) → (o : Option Event) → event_of (words_of c.line) ≡ o → Reading text
-    on further c None none = inr (inl (n, (made_of v s m events, b ∷ rest, good, (λ e. cc), no_event (b ∷ rest) c.line c.rest c.parts c.whole none)))
+    on : ((k : ℕ) (more : List Event) (after : List ℕ) → length after < fuel → GoodBefore text k (made_of v s m more) after → Reading text) → (c : Cut (b ∷ rest)) → (o : Option Event) → event_of v (words_of c.line) ≡ o → Reading text
+    on further c None none = inr (inl (n, (made_of v s m events, b ∷ rest, good, (λ e. cc), no_event v (b ∷ rest) c.line c.rest c.parts c.whole none)))
     on further c (Some e) is =
-        let one = one_event (b ∷ rest) c.line c.rest e c.parts is in
-        elim (dec_of m e) [
+        let one = one_event v (b ∷ rest) c.line c.rest e good.good.recording.heading.0 c.parts is in
+        elim (dec_of v m e one.0) [
           | inl of ↦ further (n + 1) (events ++ e ∷ []) c.rest (omega (arith, lt, ap length c.parts, length-append c.line (newline ∷ c.rest))) (good_more text n v s m events (b ∷ rest) e c.rest good one.0 of one.1)
           | inr strange ↦ inr (inr (n, (made_of v s m events, e, c.rest, subst (GoodBefore text n (made_of v s m events)) one.1 good, one.0, strange)))
         ]
@@ -163,12 +179,12 @@ each_is_answered text =
 pub not_nil : (b : Bool) (rest : List ℕ) → b ≡ eqb (length rest) 0 → b ≡ false → rest ≢ []
 not_nil b rest e never is = absurd (eqb-false (length rest) 0 (sym e ∙ never) (ap length is))
 
-pub bad_line : (text : List ℕ) (n v s m : ℕ) (events : List Event) (rest : List ℕ) → GoodBefore text n (made_of v s m events) rest → rest ≢ [] → BeginsWithNoEvent rest → HasBadLine text n
+pub bad_line : (text : List ℕ) (n v s m : ℕ) (events : List Event) (rest : List ℕ) → GoodBefore text n (made_of v s m events) rest → rest ≢ [] → BeginsWithNoEvent v rest → HasBadLine text n
 bad_line text n v s m events rest good some none = (made_of v s m events, rest, good, some, none)
 
-pub stranger : (text : List ℕ) (n v s m : ℕ) (events : List Event) (rest : List ℕ) (e : Event) (after : List ℕ) → GoodBefore text n (made_of v s m events) rest → IsEvent e × (rest ≡ event_line e ++ after) → ¬ IsOf m e → HasStranger text n
+pub stranger : (text : List ℕ) (n v s m : ℕ) (events : List Event) (rest : List ℕ) (e : Event) (after : List ℕ) → GoodBefore text n (made_of v s m events) rest → IsEvent v e × (rest ≡ event_line e ++ after) → ¬ IsOf m e → HasStranger text n
 stranger text n v s m events rest e after good one strange = (made_of v s m events, e, after, subst (GoodBefore text n (made_of v s m events)) one.1 good, one.0, strange)
 
--- each event is some mutator's command
-pub event_parts : (e : Event) → (m : ℕ) × (op : Op) × (e ≡ Mutate m op)
-event_parts (Mutate m op) = (m, op, refl)
+-- what a version has its successors have
+pub later : (version : ℕ) (event : Event) → version ≤ newest → IsEvent version event → IsEvent newest event
+later version event le fits = record { range = fits.range; known = omega (arith, le, fits.known) }

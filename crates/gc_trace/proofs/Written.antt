@@ -1,19 +1,22 @@
 -- Reading the words of an event gives the event.
-use Rattle.std.proofs.Common.{◌≡◌, ℕ, Bool, true, false, cond, eqb, [], ◌∷◌, refl, arith, Some}
+use Rattle.std.proofs.Common.{◌≡◌, ℕ, ◌≤◌, Bool, true, false, cond, eqb, ltb, [], ◌∷◌, refl, arith, Some}
 use Rattle.std.specs.Prelude.{codes}
 use Rattle.std.specs.Fmt.{decimal}
-use Rattle.std.proofs.lemmas.Bool.{ne_eqb}
+use Rattle.std.proofs.lemmas.Bool.{ne_eqb, le-ltb}
 use Rattle.gc_graph.specs.Slots.{SlotName}
 use Rattle.gc_graph.specs.Range.{IsSlot, IsCommand}
 use Rattle.gc_graph.specs.Words.{Words}
 use Rattle.gc_graph.specs.declared.command.Op.{Op}
 use Rattle.gc_graph.specs.declared.command.Op.TheVariants as ops
+use Rattle.gc_copy.specs.Runs.{IsStep}
 use Rattle.gc_graph.proofs.Decimals.{number_again}
 use Rattle.gc_graph.proofs.WordReading.{number_at_again, word_at_again, end_again}
-use Rattle.gc_trace.specs.declared.event.Event.{Event}
-use Rattle.gc_trace.specs.declared.event.Event.TheVariants.{Mutate}
-use Rattle.gc_trace.specs.Reading.{slot_of, slot_at, new_of, num_of, nil_of, move_of, get_of, put_of, same_of, look_of, op_of, command_of, event_of, version_at, sizes_of}
-use Rattle.gc_trace.specs.Grammar.{newest, slot, op_words, event_words, version_words, size_words, IsEvent, IsHeading}
+use Rattle.gc_copy.specs.declared.step.Step.{Step}
+use Rattle.gc_copy.specs.declared.step.Step.TheVariants as steps
+use Rattle.gc_world.specs.declared.event.Event.{Event}
+use Rattle.gc_world.specs.declared.event.Event.TheVariants.{Mutate, Collect}
+use Rattle.gc_trace.specs.Reading.{slot_of, slot_at, new_of, num_of, nil_of, move_of, get_of, put_of, same_of, look_of, op_of, begin_of, apply_of, step_of, command_of, collect_of, event_of, version_at, sizes_of}
+use Rattle.gc_trace.specs.Grammar.{newest, slot, op_words, step_words, event_words, version_words, size_words, version_of, IsEvent, IsHeading}
 
 slot_again : (s : SlotName) → IsSlot s → slot_of (slot s) ≡ Some s
 unfolding slot_of slot
@@ -42,9 +45,27 @@ op_again (ops.Put s i t) fits =
 op_again (ops.Same s t) fits = rw (slot_at_again s (slot t ∷ []) fits.0, slot_at_again t [] fits.1, end_again (ops.Same s t)) refl
 op_again (ops.Look s) fits = rw (slot_at_again s [] fits, end_again (ops.Look s)) refl
 
-pub event_again : (event : Event) → IsEvent event → event_of (event_words event) ≡ Some event
-unfolding event_of event_words command_of
-event_again (Mutate m op) fits = rw (number_at_again 15 m (op_words op) (omega (arith, fits.0)) (omega (arith, fits.0)), op_again op fits.1) refl
+sized_again : (version size : ℕ) → 2 ≤ version → 1 ≤ size → size ≤ 1048576 → begin_of version (decimal size ∷ []) ≡ Some (steps.BeginSized size)
+unfolding begin_of
+sized_again version size sized some few =
+    let known : ltb version 2 ≡ false = le-ltb version 2 sized in
+    let positive : eqb size 0 ≡ false = ne_eqb size 0 (omega (arith, some)) in
+    rw (known, number_at_again 1048576 size [] few (omega (arith, few)), positive, end_again (steps.BeginSized size)) refl
+
+step_again : (version : ℕ) (step : Step) → IsStep 16 step → version_of (Collect step) ≤ version → step_of version (step_words step) ≡ Some step
+unfolding step_of step_words apply_of begin_of
+step_again version steps.Begin fits known = refl
+step_again version (steps.BeginSized size) fits known = sized_again version size known fits.0 fits.1
+step_again version steps.Roots fits known = rw (end_again steps.Roots) refl
+step_again version steps.Scan fits known = rw (end_again steps.Scan) refl
+step_again version (steps.Apply k) fits known = rw (number_at_again 15 k [] (omega (arith, fits)) (omega (arith, fits)), end_again (steps.Apply k)) refl
+step_again version steps.Flip fits known = rw (end_again steps.Flip) refl
+step_again version steps.Drop fits known = rw (end_again steps.Drop) refl
+
+pub event_again : (version : ℕ) (event : Event) → IsEvent version event → event_of version (event_words event) ≡ Some event
+unfolding event_of event_words command_of collect_of
+event_again version (Mutate m op) fits = rw (number_at_again 15 m (op_words op) (omega (arith, fits.range.0)) (omega (arith, fits.range.0)), op_again op fits.range.1) refl
+event_again version (Collect step) fits = rw (step_again version step fits.range fits.known) refl
 
 pub version_again : (version size mutators : ℕ) → IsHeading version size mutators → version_at (version_words version) ≡ Some version
 unfolding version_at version_words

@@ -2,7 +2,7 @@
 use Rattle.std.specs.Prelude.{◌≡◌, ◌≢◌, ℕ, ◌+◌, ◌<◌, ◌≤◌, ⊤, List, [], ◌++◌, length}
 use Rattle.gc_graph.specs.declared.text.whole.ReadFault.{ReadFault}
 use Rattle.gc_graph.specs.declared.text.whole.ReadFault.TheVariants as reading
-use Rattle.gc_trace.specs.declared.event.Event.{Event}
+use Rattle.gc_world.specs.declared.event.Event.{Event}
 use Rattle.gc_trace.specs.Grammar.{Recording, IsTextOf, IsEvent, IsOf, IsHeading, heading, event_line}
 use Rattle.gc_trace.specs.declared.fault.TraceFault.{TraceFault}
 use Rattle.gc_trace.specs.declared.fault.TraceFault.TheVariants.{Read, TooLarge, BadHeader, BadLine, NoSuchMutator, NoMemory}
@@ -21,18 +21,18 @@ pub record GoodBefore (text : List ℕ) (n : ℕ) (front : Recording) (rest : Li
   pub parts : text ≡ lines ++ rest
   pub number : n ≡ 3 + length front.events
 
--- no line of the grammar stands at the front
-abbrev pub BeginsWithNoEvent : List ℕ → Type 0
-BeginsWithNoEvent text = (event : Event) (more : List ℕ) → IsEvent event → text ≢ event_line event ++ more
+-- no line of the version's grammar stands at the front
+abbrev pub BeginsWithNoEvent : ℕ → List ℕ → Type 0
+BeginsWithNoEvent version text = (event : Event) (more : List ℕ) → IsEvent version event → text ≢ event_line event ++ more
 
 -- something stands at line n, and it is no line of the grammar with its line feed
 abbrev pub HasBadLine : List ℕ → ℕ → Type 0
-HasBadLine text n = (front : Recording) × (rest : List ℕ) × GoodBefore text n front rest × (rest ≢ []) × BeginsWithNoEvent rest
+HasBadLine text n = (front : Recording) × (rest : List ℕ) × GoodBefore text n front rest × (rest ≢ []) × BeginsWithNoEvent front.version rest
 
--- line n is of the grammar, but of a mutator that there isn't
+-- line n is of the grammar, but of a mutator, or of a log, that there isn't
 abbrev pub HasStranger : List ℕ → ℕ → Type 0
 HasStranger text n =
-    (front : Recording) × (event : Event) × (more : List ℕ) × GoodBefore text n front (event_line event ++ more) × IsEvent event × ¬ IsOf front.mutators event
+    (front : Recording) × (event : Event) × (more : List ℕ) × GoodBefore text n front (event_line event ++ more) × IsEvent front.version event × ¬ IsOf front.mutators event
 
 -- this is the text's first fault; `Read` and `NoMemory` are none of the text's
 abbrev pub IsFaultOf : TraceFault → List ℕ → Type 0

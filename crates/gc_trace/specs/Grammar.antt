@@ -1,14 +1,17 @@
 -- Traces, and the one text of each: a heading, and then one line for each event.
-use Rattle.std.specs.Prelude.{◌≡◌, ℕ, ◌<◌, ◌≤◌, List, [], ◌∷◌, ◌++◌, codes, if◌then◌else◌}
+use Rattle.std.specs.Prelude.{◌≡◌, ℕ, ◌<◌, ◌≤◌, max, List, [], ◌∷◌, ◌++◌, codes, if◌then◌else◌}
 use Rattle.std.specs.List.{flat_map, AllByRecursion}
 use Rattle.std.specs.Fmt.{decimal}
 use Rattle.gc_graph.specs.Slots.{SlotName}
-use Rattle.gc_graph.specs.Range.{IsCommand}
 use Rattle.gc_graph.specs.Lines.{line}
 use Rattle.gc_graph.specs.declared.command.Op.{Op}
 use Rattle.gc_graph.specs.declared.command.Op.TheVariants as ops
-use Rattle.gc_trace.specs.declared.event.Event.{Event}
-use Rattle.gc_trace.specs.declared.event.Event.TheVariants.{Mutate}
+use Rattle.gc_copy.specs.Runs as runs
+use Rattle.gc_copy.specs.declared.step.Step.{Step}
+use Rattle.gc_copy.specs.declared.step.Step.TheVariants as steps
+use Rattle.gc_world.specs.History.{run_event}
+use Rattle.gc_world.specs.declared.event.Event.{Event}
+use Rattle.gc_world.specs.declared.event.Event.TheVariants.{Mutate, Collect}
 
 -- what contracts see of a trace
 pub record Recording : Type 0 where
@@ -32,8 +35,18 @@ op_words (ops.Put s i t) = codes "put" ∷ slot s ∷ decimal i ∷ slot t ∷ [
 op_words (ops.Same s t) = codes "same" ∷ slot s ∷ slot t ∷ []
 op_words (ops.Look s) = codes "look" ∷ slot s ∷ []
 
+unfoldable pub step_words : Step → List (List ℕ)
+step_words steps.Begin = codes "begin" ∷ []
+step_words (steps.BeginSized size) = codes "begin" ∷ decimal size ∷ []
+step_words steps.Roots = codes "roots" ∷ []
+step_words steps.Scan = codes "scan" ∷ []
+step_words (steps.Apply k) = codes "apply" ∷ decimal k ∷ []
+step_words steps.Flip = codes "flip" ∷ []
+step_words steps.Drop = codes "drop" ∷ []
+
 unfoldable pub event_words : Event → List (List ℕ)
 event_words (Mutate m op) = codes "m" ∷ decimal m ∷ op_words op
+event_words (Collect step) = codes "c" ∷ step_words step
 
 unfoldable pub event_line : Event → List ℕ
 event_line event = line (event_words event)
@@ -55,24 +68,46 @@ spelling t = heading t.version t.size t.mutators ++ flat_map event_line t.events
 
 -- the newest version that is read
 abbrev pub newest : ℕ
-newest = 1
+newest = 2
 
 abbrev pub IsHeading : ℕ → ℕ → ℕ → Type 0
 IsHeading version size mutators = (1 ≤ version) × (version ≤ newest) × (1 ≤ size) × (size ≤ 1048576) × (1 ≤ mutators) × (mutators ≤ 16)
 
--- an event of the grammar, whoever the mutators are
-abbrev pub IsEvent : Event → Type 0
-IsEvent (Mutate m op) = (m < 16) × IsCommand op
+-- the version that brought the event's line: a collection's own size came with the second
+abbrev pub version_of : Event → ℕ
+version_of (Mutate m op) = 1
+version_of (Collect steps.Begin) = 1
+version_of (Collect (steps.BeginSized size)) = 2
+version_of (Collect steps.Roots) = 1
+version_of (Collect steps.Scan) = 1
+version_of (Collect (steps.Apply k)) = 1
+version_of (Collect steps.Flip) = 1
+version_of (Collect steps.Drop) = 1
 
--- the mutator is one of so many
+-- an event of the version's grammar, whoever the mutators are
+pub record IsEvent (version : ℕ) (event : Event) : Type 0 where
+  pub range : runs.IsEvent 16 (run_event event)
+  pub known : version_of event ≤ version
+
+-- it can happen where there are so many mutators: its own, or that of its log, is one of them
 abbrev pub IsOf : ℕ → Event → Type 0
-IsOf mutators (Mutate m op) = m < mutators
+IsOf mutators event = runs.IsEvent mutators (run_event event)
 
 pub record IsRecording (t : Recording) : Type 0 where
   pub heading : IsHeading t.version t.size t.mutators
-  pub events : AllByRecursion (λ event. IsEvent event × IsOf t.mutators event) t.events
+  pub events : AllByRecursion (λ event. IsEvent t.version event × IsOf t.mutators event) t.events
 
 -- the text of the trace
 pub record IsTextOf (t : Recording) (text : List ℕ) : Type 0 where
   pub recording : IsRecording t
   pub spelled : text ≡ spelling t
+
+-- ---- what is written of events
+
+-- the least version that has all their lines
+abbrev pub least_version : List Event → ℕ
+least_version [] = 1
+least_version (event ∷ events) = max (version_of event) (least_version events)
+
+abbrev pub written : ℕ → ℕ → List Event → Recording
+written size mutators events = record { version = least_version events; size = size; mutators = mutators; events = events }

@@ -3,5 +3,4 @@ pub mod Views
 pub mod Faults
 pub mod Replies
 pub mod Reading
-pub mod Playing
 pub mod Rows

@@ -1,13 +1,15 @@
 -- Reading the words of a line from left to right.
-use Rattle.std.specs.Prelude.{ℕ, ◌==◌, true, false, List, [], ◌∷◌, Option, Some, None, if◌then◌else◌, codes}
+use Rattle.std.specs.Prelude.{ℕ, ◌==◌, nat_lt, true, false, List, [], ◌∷◌, Option, Some, None, if◌then◌else◌, codes}
 use Rattle.std.specs.Str.{bytes_eq}
 use Rattle.gc_graph.specs.Slots.{SlotName}
 use Rattle.gc_graph.specs.Words.{◌>>=◌, Words, number_of, number_at, word_at, end_of}
 use Rattle.gc_graph.specs.declared.command.Op.{Op}
 use Rattle.gc_graph.specs.declared.command.Op.TheVariants as ops
 use Rattle.gc_trace.specs.Grammar.{newest}
-use Rattle.gc_trace.specs.declared.event.Event.{Event}
-use Rattle.gc_trace.specs.declared.event.Event.TheVariants.{Mutate}
+use Rattle.gc_copy.specs.declared.step.Step.{Step}
+use Rattle.gc_copy.specs.declared.step.Step.TheVariants as steps
+use Rattle.gc_world.specs.declared.event.Event.{Event}
+use Rattle.gc_world.specs.declared.event.Event.TheVariants.{Mutate, Collect}
 
 -- a slot: its letter, and its number
 unfoldable pub slot_of : List ℕ → Option SlotName
@@ -90,10 +92,41 @@ command_of words = do
   op ← op_of mutator.1
   Some (Mutate mutator.0 op)
 
--- an event's line
-unfoldable pub event_of : Words → Option Event
-event_of [] = None
-event_of (letter ∷ words) = if bytes_eq letter (codes "m") then command_of words else None
+-- a collection takes the size of the mutators' space, or, from the second version on, this one
+unfoldable pub begin_of : ℕ → Words → Option Step
+begin_of version [] = Some steps.Begin
+begin_of version (word ∷ words) = if nat_lt version 2 then None else (do
+  size ← number_at 1048576 (word ∷ words)
+  if size.0 == 0 then None else end_of (steps.BeginSized size.0) size.1)
+
+unfoldable pub apply_of : Words → Option Step
+apply_of words = do
+  k ← number_at 15 words
+  end_of (steps.Apply k.0) k.1
+
+unfoldable pub step_of : ℕ → Words → Option Step
+step_of version [] = None
+step_of version (name ∷ words) =
+    if bytes_eq name (codes "begin") then begin_of version words
+    else if bytes_eq name (codes "roots") then end_of steps.Roots words
+    else if bytes_eq name (codes "scan") then end_of steps.Scan words
+    else if bytes_eq name (codes "apply") then apply_of words
+    else if bytes_eq name (codes "flip") then end_of steps.Flip words
+    else if bytes_eq name (codes "drop") then end_of steps.Drop words
+    else None
+
+unfoldable pub collect_of : ℕ → Words → Option Event
+collect_of version words = do
+  step ← step_of version words
+  Some (Collect step)
+
+-- an event's line, of this version
+unfoldable pub event_of : ℕ → Words → Option Event
+event_of version [] = None
+event_of version (letter ∷ words) =
+    if bytes_eq letter (codes "m") then command_of words
+    else if bytes_eq letter (codes "c") then collect_of version words
+    else None
 
 -- the first line: the version
 unfoldable pub version_at : Words → Option ℕ

@@ -1,26 +1,29 @@
 -- Worked rows: whole texts with their answers, event lines and reply lines.
-use Rattle.std.specs.Prelude.{◌≡◌, List, [], ◌∷◌, codes}
+use Rattle.std.specs.Prelude.{◌≡◌, ℕ, List, [], ◌∷◌, codes}
 use Rattle.gc_graph.specs.Slots.{own_slot, shared_slot}
 use Rattle.gc_graph.specs.declared.command.Op.TheVariants as ops
 use Rattle.gc_graph.specs.declared.reply.Reply.TheVariants as replies
 use Rattle.gc_graph.specs.declared.reply.View.TheVariants as views
-use Rattle.gc_trace.specs.declared.event.Event.{Event}
-use Rattle.gc_trace.specs.declared.event.Event.TheVariants.{Mutate}
-use Rattle.gc_trace.specs.Grammar.{Recording, spelling}
+use Rattle.gc_copy.specs.Runs.{Replied, Stepped}
+use Rattle.gc_copy.specs.declared.step.Step.TheVariants as steps
+use Rattle.gc_copy.specs.declared.step.StepReply.TheVariants as step_replies
+use Rattle.gc_world.specs.declared.event.Event.{Event}
+use Rattle.gc_world.specs.declared.event.Event.TheVariants.{Mutate, Collect}
+use Rattle.gc_trace.specs.Grammar.{Recording, spelling, written}
 use Rattle.gc_trace.specs.Faults.{IsReadAs, IsFaultOf}
 use Rattle.gc_trace.specs.Replies.{reply_text}
 use Rattle.gc_trace.specs.declared.fault.TraceFault.TheVariants.{BadHeader, BadLine, NoSuchMutator}
 
 -- a trace of one mutator in a space of eight words
-abbrev pub small : List Event → Recording
-small events = record { version = 1; size = 8; mutators = 1; events = events }
+abbrev pub small : ℕ → List Event → Recording
+small version events = record { version = version; size = 8; mutators = 1; events = events }
 
 pub record TextRows : Type 0 where
   pub nothing : IsFaultOf BadHeader []
   pub no_size : IsFaultOf BadHeader (codes "heaptrace 1\nspace 0 mutators 1\n")
   pub many_mutators : IsFaultOf BadHeader (codes "heaptrace 1\nspace 8 mutators 17\n")
   pub no_line_feed : IsFaultOf BadHeader (codes "heaptrace 1\nspace 8 mutators 1")
-  pub no_events : IsReadAs (small []) (codes "heaptrace 1\nspace 8 mutators 1\n")
+  pub no_events : IsReadAs (small 1 []) (codes "heaptrace 1\nspace 8 mutators 1\n")
   pub cut_line : IsFaultOf (BadLine 3) (codes "heaptrace 1\nspace 8 mutators 1\nm 0 look r0")
   pub no_slot : IsFaultOf (BadLine 3) (codes "heaptrace 1\nspace 8 mutators 1\nm 0 look r16\n")
   pub two_spaces : IsFaultOf (BadLine 3) (codes "heaptrace 1\nspace 8 mutators 1\nm 0  look r0\n")
@@ -28,16 +31,32 @@ pub record TextRows : Type 0 where
   pub leading_zero : IsFaultOf (BadLine 3) (codes "heaptrace 1\nspace 8 mutators 1\nm 0 num r0 01\n")
   pub no_mutator : IsFaultOf (BadLine 3) (codes "heaptrace 1\nspace 8 mutators 1\nm 16 look r0\n")
   pub strange_mutator : IsFaultOf (NoSuchMutator 3) (codes "heaptrace 1\nspace 8 mutators 1\nm 1 look r0\n")
+  pub strange_log : IsFaultOf (NoSuchMutator 3) (codes "heaptrace 1\nspace 8 mutators 1\nc apply 1\nx\n")
   pub empty_line : IsFaultOf (BadLine 4) (codes "heaptrace 1\nspace 8 mutators 1\nm 0 nil g0\n\n")
+
+-- what the second version adds
+pub record SizedRows : Type 0 where
+  pub read : IsReadAs (small 2 (Collect steps.Begin ∷ Collect (steps.BeginSized 12) ∷ [])) (codes "heaptrace 2\nspace 8 mutators 1\nc begin\nc begin 12\n")
+  pub low : IsFaultOf (BadLine 3) (codes "heaptrace 2\nspace 8 mutators 1\nc begin 0\n")
+  pub high : IsFaultOf (BadLine 3) (codes "heaptrace 2\nspace 8 mutators 1\nc begin 1048577\n")
+  pub not_in_first : IsFaultOf (BadLine 3) (codes "heaptrace 1\nspace 8 mutators 1\nc begin 12\n")
+  pub no_third : IsFaultOf BadHeader (codes "heaptrace 3\nspace 8 mutators 1\n")
+  pub least : spelling (written 8 1 (Collect (steps.BeginSized 12) ∷ [])) ≡ codes "heaptrace 2\nspace 8 mutators 1\nc begin 12\n"
+  pub lower : spelling (written 8 1 (Collect steps.Begin ∷ [])) ≡ codes "heaptrace 1\nspace 8 mutators 1\nc begin\n"
 
 -- each form of line once
 abbrev pub all_lines : List Event
 all_lines =
     Mutate 0 (ops.New (own_slot 0) 255 65535) ∷ Mutate 1 (ops.Num (own_slot 1) 9223372036854775807) ∷ Mutate 0 (ops.Nil (shared_slot 15)) ∷ Mutate 0 (ops.Move (shared_slot 0) (own_slot 0))
-    ∷ Mutate 0 (ops.Get (own_slot 1) (own_slot 0) 0) ∷ Mutate 0 (ops.Put (own_slot 0) 7 (own_slot 1)) ∷ Mutate 0 (ops.Same (own_slot 0) (shared_slot 1)) ∷ Mutate 0 (ops.Look (own_slot 9)) ∷ []
+    ∷ Mutate 0 (ops.Get (own_slot 1) (own_slot 0) 0) ∷ Mutate 0 (ops.Put (own_slot 0) 7 (own_slot 1)) ∷ Mutate 0 (ops.Same (own_slot 0) (shared_slot 1)) ∷ Mutate 0 (ops.Look (own_slot 9))
+    ∷ Collect steps.Begin ∷ Collect steps.Roots ∷ Collect steps.Scan ∷ Collect (steps.Apply 1) ∷ Collect steps.Flip ∷ Collect steps.Drop ∷ []
 
 pub record LineRows : Type 0 where
-  pub events : spelling (record { version = 1; size = 9; mutators = 2; events = all_lines })
-      ≡ codes "heaptrace 1\nspace 9 mutators 2\nm 0 new r0 255 65535\nm 1 num r1 9223372036854775807\nm 0 nil g15\nm 0 move g0 r0\nm 0 get r1 r0 0\nm 0 put r0 7 r1\nm 0 same r0 g1\nm 0 look r9\n"
-  pub replies : reply_text (replies.Full ∷ replies.Made ∷ replies.Done ∷ replies.NoObject ∷ replies.NoField ∷ replies.Yes ∷ replies.No ∷ replies.Saw views.Nil ∷ replies.Saw (views.Num 9) ∷ replies.Saw (views.Obj 1 2) ∷ [])
+  pub events : spelling (written 9 2 all_lines)
+      ≡ codes "heaptrace 1\nspace 9 mutators 2\nm 0 new r0 255 65535\nm 1 num r1 9223372036854775807\nm 0 nil g15\nm 0 move g0 r0\nm 0 get r1 r0 0\nm 0 put r0 7 r1\nm 0 same r0 g1\nm 0 look r9\nc begin\nc roots\nc scan\nc apply 1\nc flip\nc drop\n"
+  pub replies : reply_text (Replied replies.Full ∷ Replied replies.Made ∷ Replied replies.Done ∷ Replied replies.NoObject ∷ Replied replies.NoField ∷ Replied replies.Yes ∷ Replied replies.No
+      ∷ Replied (replies.Saw views.Nil) ∷ Replied (replies.Saw (views.Num 9)) ∷ Replied (replies.Saw (views.Obj 1 2)) ∷ [])
       ≡ codes "full\nmade\ndone\nno object\nno field\nyes\nno\nsaw nil\nsaw num 9\nsaw obj 1 2\n"
+  pub step_replies : reply_text (Stepped step_replies.Busy ∷ Stepped step_replies.Begun ∷ Stepped step_replies.Idle ∷ Stepped step_replies.Clean ∷ Stepped step_replies.NoRoom ∷ Stepped step_replies.Copied
+      ∷ Stepped step_replies.Passed ∷ Stepped step_replies.Scanned ∷ Stepped step_replies.Applied ∷ Stepped step_replies.NotReady ∷ Stepped step_replies.Refused ∷ Stepped (step_replies.Flipped 3) ∷ Stepped step_replies.Dropped ∷ [])
+      ≡ codes "busy\nbegun\nidle\nclean\nno room\ncopied\npassed\nscanned\napplied\nnot ready\nrefused\nflipped 3\ndropped\n"

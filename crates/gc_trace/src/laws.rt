@@ -1,7 +1,7 @@
 ghost use Rattle.std.specs.Prelude.{◌≡◌, ℕ, List, ◌⊎◌};
 ghost use Rattle.gc_trace.specs.Grammar.{Recording, IsTextOf};
 ghost use Rattle.gc_trace.specs.Faults.{IsFaultOf, IsReadAs};
-ghost use Rattle.gc_trace.specs.Rows.{TextRows, LineRows};
+ghost use Rattle.gc_trace.specs.Rows.{TextRows, SizedRows, LineRows};
 ghost use Rattle.gc_trace.specs.declared.fault.TraceFault.{TraceFault};
 
 /// A text is read in one way: as one trace, or with one first fault.
@@ -15,5 +15,6 @@ pub fn texts_have_one_reading()
 /// The worked rows hold of the definitions.
 pub fn worked_rows()
     ensures texts { TextRows }
+    ensures sized { SizedRows }
     ensures lines { LineRows }
 {}

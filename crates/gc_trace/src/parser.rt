@@ -1,15 +1,19 @@
 ghost use Rattle.std.specs.Prelude.{◌≡◌, None, Some, MatchOption};
 ghost use Rattle.gc_graph.specs.Lines.{words_of};
 ghost use Rattle.gc_graph.specs.Words.{end_of};
-ghost use Rattle.gc_trace.specs.Reading.{slot_of, slot_at, new_of, num_of, nil_of, move_of, get_of, put_of, same_of, look_of, op_of, command_of, event_of, version_at, sizes_of};
+ghost use Rattle.gc_trace.specs.Reading.{slot_of, slot_at, new_of, num_of, nil_of, move_of, get_of, put_of, same_of, look_of, op_of, begin_of, apply_of, step_of, command_of, collect_of, event_of, version_at, sizes_of};
 
-use crate::event::Event;
+use gc_copy::Step;
 use gc_graph::text::{Words, number};
 use gc_graph::{Number, Op, Slot};
 use gc_words::MOST_WORDS;
+use gc_world::Event;
 
 /// The newest version of the text.
-const NEWEST: u64 = 1;
+const NEWEST: u64 = 2;
+
+/// The version from which on a collection may have a size of its own.
+const SIZED: u8 = 2;
 
 /// The slot that the word names.
 #[tactic(auto, unfolding(crate::specs::Reading::slot_of))]
@@ -37,6 +41,14 @@ fn whole(words: &Words<'_>, op: Op) -> Option<Op>
     ensures { result ≡ end_of op words.now }
 {
     if words.is_empty() { Some(op) } else { None }
+}
+
+/// The step, if these were all of its words.
+#[tactic(auto, unfolding(gc_graph::specs::Words::end_of))]
+fn whole_step(words: &Words<'_>, step: Step) -> Option<Step>
+    ensures { result ≡ end_of step words.now }
+{
+    if words.is_empty() { Some(step) } else { None }
 }
 
 #[tactic(auto, unfolding(crate::specs::Reading::new_of))]
@@ -149,15 +161,75 @@ fn command(mut words: Words<'_>) -> Option<Event>
     Some(Event::Mutate { m, op })
 }
 
-/// The event of a line, which is given without its line feed.
+/// The beginning of a collection: of the size of the mutators' space, or of one of its own.
+#[tactic(auto, unfolding(crate::specs::Reading::begin_of))]
+fn begin(version: u8, mut words: Words<'_>) -> Option<Step>
+    ensures { result ≡ begin_of version words.entry }
+{
+    if words.is_empty() {
+        return Some(Step::Begin);
+    }
+    if version < SIZED {
+        return None;
+    }
+    let size = words.number(u64::from(MOST_WORDS))? as u32;
+    if size == 0 {
+        return None;
+    }
+    whole_step(&words, Step::BeginSized(size))
+}
+
+#[tactic(auto, unfolding(crate::specs::Reading::apply_of))]
+fn apply(mut words: Words<'_>) -> Option<Step>
+    ensures { result ≡ apply_of words.entry }
+{
+    let k = words.number(15)? as u8;
+    whole_step(&words, Step::Apply(k))
+}
+
+/// The step of these words.
+#[tactic(auto, unfolding(crate::specs::Reading::step_of))]
+fn step(version: u8, mut words: Words<'_>) -> Option<Step>
+    ensures { result ≡ step_of version words.entry }
+{
+    let name = words.next_word()?;
+    if name == b"begin".as_slice() {
+        begin(version, words)
+    } else if name == b"roots".as_slice() {
+        whole_step(&words, Step::Roots)
+    } else if name == b"scan".as_slice() {
+        whole_step(&words, Step::Scan)
+    } else if name == b"apply".as_slice() {
+        apply(words)
+    } else if name == b"flip".as_slice() {
+        whole_step(&words, Step::Flip)
+    } else if name == b"drop".as_slice() {
+        whole_step(&words, Step::Drop)
+    } else {
+        None
+    }
+}
+
+/// The step of these words, as an event.
+#[tactic(auto, unfolding(crate::specs::Reading::collect_of))]
+fn collect(version: u8, words: Words<'_>) -> Option<Event>
+    ensures { result ≡ collect_of version words.entry }
+{
+    let step = step(version, words)?;
+    Some(Event::Collect(step))
+}
+
+/// The event of a line of such a version, which is given without its line feed.
 #[tactic(auto, unfolding(crate::specs::Reading::event_of))]
-pub fn event(line: &[u8]) -> Option<Event>
-    ensures { result ≡ event_of (words_of line.now) }
+pub fn event(version: u8, line: &[u8]) -> Option<Event>
+    ensures { result ≡ event_of version (words_of line.now) }
 {
     let mut words = Words::new(line);
     let letter = words.next_word()?;
     if letter == b"m".as_slice() {
         command(words)
+    } else if letter == b"c".as_slice() {
+        collect(version, words)
     } else {
         None
     }

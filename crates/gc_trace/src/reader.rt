@@ -1,15 +1,16 @@
-ghost use Rattle.std.specs.Prelude.{◌≡◌, ◌≢◌, ◌≤◌, ◌∷◌, ◌++◌, ◌↔◌, length, true, IfSome, IfOk, MatchOption, MatchResult, Err};
+ghost use Rattle.std.specs.Prelude.{◌≡◌, ◌≢◌, ◌≤◌, ◌∷◌, ◌++◌, ◌↔◌, length, true, false, IfSome, IfOk, MatchOption, MatchResult, Err};
 ghost use Rattle.gc_graph.specs.Lines.{HasNo, newline};
 ghost use Rattle.gc_graph.specs.Streams.{bytes_left, source_failed};
-ghost use Rattle.gc_trace.specs.Grammar.{IsTextOf, IsRecording, IsHeading, heading};
+ghost use Rattle.gc_trace.specs.Grammar.{IsTextOf, IsRecording, IsHeading, IsEvent, IsOf, newest, heading};
 ghost use Rattle.gc_trace.specs.Faults.{limit, IsFaultOf, IsReadAs, MayFail, HasNoHeading};
 ghost use Rattle.gc_trace.specs.Views.{recording};
 
-use crate::event::Event;
+use gc_world::Event;
 use crate::fault::TraceFault;
 use crate::parser::{event, sizes, version};
 use crate::trace::Trace;
-use gc_graph::Source;
+use gc_copy::Step;
+use gc_graph::{Op, Source};
 use gc_graph::text::{cut, read_all};
 use std::alloc::Global;
 use std::io::Read;
@@ -61,6 +62,19 @@ fn split_heading(text: &[u8]) -> Option<(Heading, &[u8])>
     ))
 }
 
+/// Whether the event's mutator, or that of its log, is one of so many.
+fn is_of(mutators: u8, event: &Event) -> bool
+    requires { IsEvent newest event.now }
+    ensures yes { result ≡ true → IsOf mutators event.now }
+    ensures no { result ≡ false → ¬ IsOf mutators event.now }
+{
+    match event {
+        Event::Mutate { m, .. } => *m < mutators,
+        Event::Collect(Step::Apply(k)) => *k < mutators,
+        Event::Collect(_) => true,
+    }
+}
+
 /// The trace that the text spells.
 fn spelled_trace(alloc: Global, text: &[u8]) -> Result<Trace, TraceFault>
     requires { length text.now ≤ limit }
@@ -72,19 +86,20 @@ fn spelled_trace(alloc: Global, text: &[u8]) -> Result<Trace, TraceFault>
         return Err(TraceFault::BadHeader);
     };
     let mut events = Vec::new(alloc);
+    let _named: Option<Op> = None;
     let mut rest = body;
     let mut number = 3u64;
     while !rest.is_empty() {
         let Some((line, after)) = split_line(rest) else {
             return Err(TraceFault::BadLine(number));
         };
-        let Some(Event::Mutate { m, op }) = event(line) else {
+        let Some(event) = event(heading.version, line) else {
             return Err(TraceFault::BadLine(number));
         };
-        if m >= heading.mutators {
+        if !is_of(heading.mutators, &event) {
             return Err(TraceFault::NoSuchMutator(number));
         }
-        if events.push(Event::Mutate { m, op }).is_err() {
+        if events.push(event).is_err() {
             return Err(TraceFault::NoMemory);
         }
         rest = after;

@@ -1,10 +1,10 @@
 use Rattle.std.proofs.Common.{◌≡◌, true, sym, ap, arith, length, subst, List, ℕ, rules, ◌+◌}
 use Rattle.std.specs.Result.{is_ok}
 use Rattle.std.proofs.lemmas.List.{length-append}
-use Rattle.gc_trace.specs.declared.event.Event.{Event}
+use Rattle.gc_world.specs.declared.event.Event.{Event}
 use Rattle.gc_trace.specs.Faults.{GoodBefore}
 use Rattle.gc_trace.proofs.Fronts.{no_line, no_event}
-use Rattle.gc_trace.proofs.Total.{made_of, one_event, good_start, good_more, bad_line, stranger, not_nil, event_parts}
+use Rattle.gc_trace.proofs.Total.{made_of, one_event, good_start, good_more, bad_line, stranger, not_nil, later}
 use Rattle.gc_trace.proofs.reader.spelled_trace.Goals as goal
 
 pub loop-rest-init : goal.loop-rest-init
@@ -18,34 +18,36 @@ pub returns-in_default-split_line-clause-exact : goal.returns-in_default-split_l
 returns-in_default-split_line-clause-exact c = (
   c.requires,
   bad_line c.args.text.now c.loop-rest.number c.in-Some.heading.version c.in-Some.heading.size c.in-Some.heading.mutators c.loop-rest.events.items c.loop-rest.rest.now c.loop-rest.invariant.good
-      (not_nil c.is_empty.result c.loop-rest.rest.now c.is_empty.ensures (search rules)) (no_line c.loop-rest.rest.now c.in_default-split_line.ensures),
+      (not_nil c.is_empty.result c.loop-rest.rest.now c.is_empty.ensures (search rules)) (no_line c.in-Some.heading.version c.loop-rest.rest.now c.in_default-split_line.ensures),
 )
 
 pub returns-in_default-event-clause-exact : goal.returns-in_default-event-clause-exact
 returns-in_default-event-clause-exact c = (
   c.requires,
   bad_line c.args.text.now c.loop-rest.number c.in-Some.heading.version c.in-Some.heading.size c.in-Some.heading.mutators c.loop-rest.events.items c.loop-rest.rest.now c.loop-rest.invariant.good
-      (not_nil c.is_empty.result c.loop-rest.rest.now c.is_empty.ensures (search rules)) (no_event c.loop-rest.rest.now c.in-Some-split_line.line.now c.in-Some-split_line.after.now c.in-Some-split_line.ensures.0 c.in-Some-split_line.ensures.1 (sym c.in_default-event.ensures)),
+      (not_nil c.is_empty.result c.loop-rest.rest.now c.is_empty.ensures (search rules)) (no_event c.in-Some.heading.version c.loop-rest.rest.now c.in-Some-split_line.line.now c.in-Some-split_line.after.now c.in-Some-split_line.ensures.0 c.in-Some-split_line.ensures.1 (sym c.in_default-event.ensures)),
 )
 
-pub returns-then-m-heading-clause-exact : goal.returns-then-m-heading-clause-exact
-returns-then-m-heading-clause-exact c =
-    let parts = event_parts c.in-Some-Mutate.field-0 in
-    let high = rw parts.2 at c.if-m-heading.true in (
-      c.requires,
-      stranger c.args.text.now c.loop-rest.number c.in-Some.heading.version c.in-Some.heading.size c.in-Some.heading.mutators c.loop-rest.events.items c.loop-rest.rest.now c.in-Some-Mutate.field-0 c.in-Some-split_line.after.now c.loop-rest.invariant.good
-          (one_event c.loop-rest.rest.now c.in-Some-split_line.line.now c.in-Some-split_line.after.now c.in-Some-Mutate.field-0 c.in-Some-split_line.ensures.0 (sym c.in-Some-Mutate.ensures)) (rw parts.2 (λ low. omega (arith, low, high))),
-    )
+
+pub is_of-requires : goal.is_of-requires
+is_of-requires c =
+    let some = c.loop-rest.invariant.good.good.recording.heading in
+    later _ _ some.1 (one_event c.in-Some.heading.version c.loop-rest.rest.now c.in-Some-split_line.line.now c.in-Some-split_line.after.now c.in-Some-event.event some.0 c.in-Some-split_line.ensures.0 (sym c.in-Some-event.ensures)).0
+
+pub returns-then-not-is_of-clause-exact : goal.returns-then-not-is_of-clause-exact
+returns-then-not-is_of-clause-exact c = (
+  c.requires,
+  stranger c.args.text.now c.loop-rest.number c.in-Some.heading.version c.in-Some.heading.size c.in-Some.heading.mutators c.loop-rest.events.items c.loop-rest.rest.now c.in-Some-event.event c.in-Some-split_line.after.now c.loop-rest.invariant.good
+      (one_event c.in-Some.heading.version c.loop-rest.rest.now c.in-Some-split_line.line.now c.in-Some-split_line.after.now c.in-Some-event.event c.loop-rest.invariant.good.good.recording.heading.0 c.in-Some-split_line.ensures.0 (sym c.in-Some-event.ensures))
+      (c.is_of.ensures.no (search rules)),
+)
 
 pub loop-rest-preserved : goal.loop-rest-preserved
 loop-rest-preserved c =
-    let parts = event_parts c.in-Some-Mutate.field-0 in
-    let low = rw parts.2 at c.if-m-heading.false in
-    let one = one_event c.loop-rest.rest.now c.in-Some-split_line.line.now c.in-Some-split_line.after.now c.in-Some-Mutate.field-0 c.in-Some-split_line.ensures.0 (sym c.in-Some-Mutate.ensures) in
-    let pushed = rw parts.2 at c.push.ensures.items in
+    let one = one_event c.in-Some.heading.version c.loop-rest.rest.now c.in-Some-split_line.line.now c.in-Some-split_line.after.now c.in-Some-event.event c.loop-rest.invariant.good.good.recording.heading.0 c.in-Some-split_line.ensures.0 (sym c.in-Some-event.ensures) in
     let ok : is_ok c.push.result ≡ true = search rules in
     record {
-      good = subst (λ (events : List Event). GoodBefore c.args.text.now (c.loop-rest.number + 1) (made_of c.in-Some.heading.version c.in-Some.heading.size c.in-Some.heading.mutators events) c.in-Some-split_line.after.now) (rw parts.2 (sym (rw ok at pushed)))
-          (good_more c.args.text.now c.loop-rest.number c.in-Some.heading.version c.in-Some.heading.size c.in-Some.heading.mutators c.loop-rest.events.items c.loop-rest.rest.now c.in-Some-Mutate.field-0 c.in-Some-split_line.after.now c.loop-rest.invariant.good one.0 (rw parts.2 low) one.1);
+      good = subst (λ (events : List Event). GoodBefore c.args.text.now (c.loop-rest.number + 1) (made_of c.in-Some.heading.version c.in-Some.heading.size c.in-Some.heading.mutators events) c.in-Some-split_line.after.now) (sym (rw ok at c.push.ensures.items))
+          (good_more c.args.text.now c.loop-rest.number c.in-Some.heading.version c.in-Some.heading.size c.in-Some.heading.mutators c.loop-rest.events.items c.loop-rest.rest.now c.in-Some-event.event c.in-Some-split_line.after.now c.loop-rest.invariant.good one.0 (c.is_of.ensures.yes (search rules)) one.1);
       short = omega (arith, ap length c.in-Some-split_line.ensures.0, length-append {A = ℕ});
     }
