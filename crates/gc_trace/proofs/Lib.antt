@@ -5,3 +5,5 @@ pub mod OneReading
 pub mod Fronts
 pub mod Total
 pub mod RowProofs
+pub mod Printed
+pub mod Versions

@@ -3,4 +3,6 @@ pub mod Views
 pub mod Faults
 pub mod Replies
 pub mod Reading
+pub mod Playing
+pub mod Running
 pub mod Rows

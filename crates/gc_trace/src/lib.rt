@@ -5,10 +5,15 @@ mod fault;
 mod laws;
 mod parser;
 mod reader;
+mod replies;
+mod run;
 mod trace;
+mod writer;
 
 pub use fault::{PlayFault, TraceFault};
 pub use laws::{texts_have_one_reading, worked_rows};
 pub use reader::read_trace;
+pub use run::run_trace;
 pub use trace::Trace;
+pub use writer::write_trace;
 

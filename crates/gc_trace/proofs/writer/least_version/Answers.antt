@@ -1,0 +1,7 @@
+use Rattle.std.proofs.Common.{arith}
+use Rattle.gc_trace.proofs.Versions.{least_range, least_all, least_more}
+use Rattle.gc_trace.specs.Playing.{happened}
+use Rattle.gc_trace.proofs.writer.least_version.Goals as goal
+
+pub loop-entry-init : goal.loop-entry-init
+loop-entry-init c = record { some = omega arith; whole = least_all c.args.history.now }

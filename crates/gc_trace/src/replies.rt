@@ -1,0 +1,116 @@
+ghost use Rattle.std.specs.Prelude.{◌≡◌, ◌∷◌, ◌++◌, ◌+◌, ◌≤◌, true, length, codes, OnOk, OnErr};
+ghost use Rattle.std.specs.Io.KnownBytes.{Appends};
+ghost use Rattle.gc_graph.specs.Streams.{bytes_written, sink_failed, SendsFront, HasSent};
+ghost use Rattle.gc_graph.specs.Lines.{line};
+ghost use Rattle.gc_world.specs.History.{run_answer, answers_of};
+ghost use Rattle.gc_trace.specs.Replies.{reply_line, reply_text, view_words, reply_words, step_reply_words};
+
+use gc_copy::StepReply;
+use gc_graph::text::Printer;
+use gc_graph::{Failed, Reply, Sink, View};
+use gc_world::{Answer, Entry};
+use std::io::Write;
+
+/// More bytes than the line of any answer has.
+const LINE: usize = 64;
+
+/// The line of a `saw`.
+#[tactic(auto, unfolding(crate::specs::Replies::view_words))]
+fn print_view(printer: &mut Printer, view: &View)
+    requires { length printer.old + 64 ≤ 16384 }
+    ensures { printer.new ≡ printer.old ++ line (codes "saw" ∷ view_words view.now) }
+{
+    match view {
+        View::Nil => printer.bytes(b"saw nil\n"),
+        View::Num(n) => {
+            printer.bytes(b"saw num ");
+            printer.number(n.get());
+            printer.bytes(b"\n");
+        }
+        View::Obj { kind, len } => {
+            printer.bytes(b"saw obj ");
+            printer.number(u64::from(*kind));
+            printer.bytes(b" ");
+            printer.number(u64::from(*len));
+            printer.bytes(b"\n");
+        }
+    }
+}
+
+/// The line of a mutator's reply.
+#[tactic(auto, unfolding(crate::specs::Replies::reply_words))]
+fn print_reply(printer: &mut Printer, reply: &Reply)
+    requires { length printer.old + 64 ≤ 16384 }
+    ensures { printer.new ≡ printer.old ++ line (reply_words reply.now) }
+{
+    match reply {
+        Reply::Full => printer.bytes(b"full\n"),
+        Reply::Made => printer.bytes(b"made\n"),
+        Reply::Done => printer.bytes(b"done\n"),
+        Reply::NoObject => printer.bytes(b"no object\n"),
+        Reply::NoField => printer.bytes(b"no field\n"),
+        Reply::Saw(view) => print_view(printer, view),
+        Reply::Yes => printer.bytes(b"yes\n"),
+        Reply::No => printer.bytes(b"no\n"),
+    }
+}
+
+/// The line of an answer to a step.
+#[tactic(auto, unfolding(crate::specs::Replies::step_reply_words))]
+fn print_step_reply(printer: &mut Printer, reply: StepReply)
+    requires { length printer.old + 64 ≤ 16384 }
+    ensures { printer.new ≡ printer.old ++ line (step_reply_words reply) }
+{
+    match reply {
+        StepReply::Busy => printer.bytes(b"busy\n"),
+        StepReply::Begun => printer.bytes(b"begun\n"),
+        StepReply::Idle => printer.bytes(b"idle\n"),
+        StepReply::Clean => printer.bytes(b"clean\n"),
+        StepReply::NoRoom => printer.bytes(b"no room\n"),
+        StepReply::Copied => printer.bytes(b"copied\n"),
+        StepReply::Passed => printer.bytes(b"passed\n"),
+        StepReply::Scanned => printer.bytes(b"scanned\n"),
+        StepReply::Applied => printer.bytes(b"applied\n"),
+        StepReply::NotReady => printer.bytes(b"not ready\n"),
+        StepReply::Refused => printer.bytes(b"refused\n"),
+        StepReply::Flipped { pairs } => {
+            printer.bytes(b"flipped ");
+            printer.number(u64::from(pairs));
+            printer.bytes(b"\n");
+        }
+        StepReply::Dropped => printer.bytes(b"dropped\n"),
+    }
+}
+
+/// The line of an answer.
+#[tactic(auto, unfolding(crate::specs::Replies::answer_words))]
+fn print_answer(printer: &mut Printer, answer: &Answer)
+    requires { length printer.old + 64 ≤ 16384 }
+    ensures { printer.new ≡ printer.old ++ reply_line (run_answer answer.now) }
+{
+    match answer {
+        Answer::Mutator(reply) => print_reply(printer, reply),
+        Answer::Collector(reply) => print_step_reply(printer, *reply),
+        Answer::Useful(reply) => print_step_reply(printer, *reply),
+    }
+}
+
+/// Writes the line of each answer, or a front of these lines before the writer fails.
+pub fn write_replies<W: Write>(writer: &mut Sink<W>, history: &[Entry]) -> Result<(), Failed>
+    ensures ok { OnOk result (Appends
+        (bytes_written W.contents writer.old) (bytes_written W.contents writer.new)
+        (reply_text (answers_of history.now))) }
+    ensures err { OnErr result (SendsFront
+        (bytes_written W.contents writer.old) (bytes_written W.contents writer.new)
+        (reply_text (answers_of history.now))) }
+    ensures failed { OnErr result (sink_failed writer.new ≡ true) }
+{
+    let mut printer = Printer::new();
+    for entry in history {
+        match printer.make_room(writer, LINE) {
+            Ok(()) => print_answer(&mut printer, &entry.answer),
+            Err(failed) => return Err(failed),
+        }
+    }
+    printer.flush(writer)
+}

@@ -1,0 +1,42 @@
+ghost use Rattle.std.specs.Prelude.{◌≡◌, IfOk, OnOk, OnErr};
+ghost use Rattle.gc_copy.specs.Runs.{IsEvent};
+ghost use Rattle.gc_world.specs.History.{run_event};
+ghost use Rattle.gc_trace.specs.Grammar.{IsRecording};
+ghost use Rattle.gc_trace.specs.Running.{Happens, HasRun};
+ghost use Rattle.gc_trace.specs.Views.{recording};
+
+use crate::trace::Trace;
+use gc_graph::NoMemory;
+use gc_world::{Event, World, histories_grow};
+use std::alloc::Global;
+
+/// Lets the event happen in the world. Where memory is wanting, it did not.
+pub fn happen(world: &mut World, event: &Event) -> Result<(), NoMemory>
+    requires { IsEvent world.old.mutators (run_event event.now) }
+    ensures happened { OnOk result (Happens world.old event.now world.new) }
+    ensures refused { OnErr result (world.new ≡ world.old) }
+{
+    histories_grow();
+    match event {
+        Event::Mutate { m, op } => match world.mutate(*m, op) {
+            Ok(_) => Ok(()),
+            Err(fault) => Err(fault),
+        },
+        Event::Collect(step) => match world.collect(*step) {
+            Ok(_) => Ok(()),
+            Err(fault) => Err(fault),
+        },
+    }
+}
+
+/// The world in which all events of the trace have happened, in order.
+pub fn run_trace(alloc: Global, trace: &Trace) -> Result<World, NoMemory>
+    requires { IsRecording (recording trace.now) }
+    ensures { IfOk result (λ world. HasRun (recording trace.now) world) }
+{
+    let mut world = World::open(alloc, trace.size, trace.mutators)?;
+    for event in &trace.events {
+        happen(&mut world, event)?;
+    }
+    Ok(world)
+}

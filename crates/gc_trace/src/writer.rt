@@ -1,0 +1,216 @@
+ghost use Rattle.std.specs.Prelude.{◌≡◌, ◌∷◌, ◌++◌, ◌+◌, ◌≤◌, [], true, map, length, codes, decimal, OnOk, OnErr};
+ghost use Rattle.std.specs.Io.KnownBytes.{Appends};
+ghost use Rattle.gc_graph.specs.Streams.{bytes_written, sink_failed, SendsFront, HasSent};
+ghost use Rattle.gc_graph.specs.Lines.{space};
+ghost use Rattle.gc_trace.specs.Grammar.{slot, event_line, heading, spelling, version_of, least_version, written};
+ghost use Rattle.gc_trace.specs.Playing.{happened};
+ghost use Rattle.gc_world.specs.declared.event.Event.TheVariants.{Mutate, Collect};
+
+use gc_cert::WriteFault;
+use gc_copy::Step;
+use gc_graph::text::Printer;
+use gc_graph::{Failed, Op, Sink, Slot};
+use gc_world::{Entry, Event};
+use std::io::Write;
+
+/// More bytes than any line of a trace has.
+const LINE: usize = 128;
+
+/// A number, behind a space.
+fn number_word(printer: &mut Printer, n: u64)
+    requires { length printer.old + 21 ≤ 16384 }
+    ensures text { printer.new ≡ printer.old ++ space ∷ decimal n }
+    ensures room { length printer.new ≤ length printer.old + 21 }
+{
+    printer.bytes(b" ");
+    printer.number(n);
+}
+
+/// A slot, behind a space.
+#[tactic(auto, unfolding(crate::specs::Grammar::slot))]
+fn slot_word(printer: &mut Printer, word: Slot)
+    requires { length printer.old + 22 ≤ 16384 }
+    ensures text { printer.new ≡ printer.old ++ space ∷ slot word }
+    ensures room { length printer.new ≤ length printer.old + 22 }
+{
+    if word.is_shared() {
+        printer.bytes(b" g");
+    } else {
+        printer.bytes(b" r");
+    }
+    printer.number(u64::from(word.index()));
+}
+
+/// The line of mutator m's command.
+#[tactic(auto, unfolding(crate::specs::Grammar::op_words, crate::specs::Grammar::event_words, crate::specs::Grammar::event_line))]
+fn print_command(printer: &mut Printer, m: u8, op: &Op)
+    requires { length printer.old + 128 ≤ 16384 }
+    ensures { printer.new ≡ printer.old ++ event_line (Mutate m op.now) }
+{
+    printer.bytes(b"m");
+    number_word(printer, u64::from(m));
+    match *op {
+        Op::New { d, kind, len } => {
+            printer.bytes(b" new");
+            slot_word(printer, d);
+            number_word(printer, u64::from(kind));
+            number_word(printer, u64::from(len));
+        }
+        Op::Num { d, n } => {
+            printer.bytes(b" num");
+            slot_word(printer, d);
+            number_word(printer, n.get());
+        }
+        Op::Nil { d } => {
+            printer.bytes(b" nil");
+            slot_word(printer, d);
+        }
+        Op::Move { d, s } => {
+            printer.bytes(b" move");
+            slot_word(printer, d);
+            slot_word(printer, s);
+        }
+        Op::Get { d, s, i } => {
+            printer.bytes(b" get");
+            slot_word(printer, d);
+            slot_word(printer, s);
+            number_word(printer, u64::from(i));
+        }
+        Op::Put { s, i, t } => {
+            printer.bytes(b" put");
+            slot_word(printer, s);
+            number_word(printer, u64::from(i));
+            slot_word(printer, t);
+        }
+        Op::Same { s, t } => {
+            printer.bytes(b" same");
+            slot_word(printer, s);
+            slot_word(printer, t);
+        }
+        Op::Look { s } => {
+            printer.bytes(b" look");
+            slot_word(printer, s);
+        }
+    }
+    printer.bytes(b"\n");
+}
+
+/// The line of a step.
+#[tactic(auto, unfolding(crate::specs::Grammar::step_words, crate::specs::Grammar::event_words, crate::specs::Grammar::event_line))]
+fn print_step(printer: &mut Printer, step: Step)
+    requires { length printer.old + 128 ≤ 16384 }
+    ensures { printer.new ≡ printer.old ++ event_line (Collect step) }
+{
+    match step {
+        Step::Begin => printer.bytes(b"c begin\n"),
+        Step::BeginSized(size) => {
+            printer.bytes(b"c begin");
+            number_word(printer, u64::from(size));
+            printer.bytes(b"\n");
+        }
+        Step::Roots => printer.bytes(b"c roots\n"),
+        Step::Scan => printer.bytes(b"c scan\n"),
+        Step::Apply(k) => {
+            printer.bytes(b"c apply");
+            number_word(printer, u64::from(k));
+            printer.bytes(b"\n");
+        }
+        Step::Flip => printer.bytes(b"c flip\n"),
+        Step::Drop => printer.bytes(b"c drop\n"),
+    }
+}
+
+/// The line of an event.
+fn print_event(printer: &mut Printer, event: &Event)
+    requires { length printer.old + 128 ≤ 16384 }
+    ensures { printer.new ≡ printer.old ++ event_line event.now }
+{
+    match event {
+        Event::Mutate { m, op } => print_command(printer, *m, op),
+        Event::Collect(step) => print_step(printer, *step),
+    }
+}
+
+/// Lines 1 and 2.
+#[tactic(auto, unfolding(crate::specs::Grammar::version_words, crate::specs::Grammar::size_words, crate::specs::Grammar::heading))]
+fn print_heading(printer: &mut Printer, version: u8, size: u32, mutators: u8)
+    requires { printer.old ≡ [] }
+    ensures { printer.new ≡ heading version size mutators }
+{
+    printer.bytes(b"heaptrace");
+    number_word(printer, u64::from(version));
+    printer.bytes(b"\nspace");
+    number_word(printer, u64::from(size));
+    printer.bytes(b" mutators");
+    number_word(printer, u64::from(mutators));
+    printer.bytes(b"\n");
+}
+
+/// The version that brought the event's line.
+fn version_of(event: &Event) -> u8
+    ensures { result ≡ version_of event.now }
+{
+    match event {
+        Event::Collect(Step::BeginSized(_)) => 2,
+        _ => 1,
+    }
+}
+
+/// The least version that has the lines of all events.
+fn least_version(history: &[Entry]) -> u8
+    ensures { result ≡ least_version (happened history.now) }
+{
+    let mut version = 1;
+    for entry in history {
+        version = version.max(version_of(&entry.event));
+    }
+    version
+}
+
+/// Writes the heading and the line of each event, or a front of them before the writer fails.
+fn write_events<W: Write>(
+    writer: &mut Sink<W>,
+    size: u32,
+    mutators: u8,
+    history: &[Entry],
+) -> Result<(), Failed>
+    ensures ok { OnOk result (Appends
+        (bytes_written W.contents writer.old) (bytes_written W.contents writer.new)
+        (spelling (written size mutators (happened history.now)))) }
+    ensures err { OnErr result (SendsFront
+        (bytes_written W.contents writer.old) (bytes_written W.contents writer.new)
+        (spelling (written size mutators (happened history.now)))) }
+    ensures failed { OnErr result (sink_failed writer.new ≡ true) }
+{
+    let mut printer = Printer::new();
+    print_heading(&mut printer, least_version(history), size, mutators);
+    for entry in history {
+        match printer.make_room(writer, LINE) {
+            Ok(()) => print_event(&mut printer, &entry.event),
+            Err(failed) => return Err(failed),
+        }
+    }
+    printer.flush(writer)
+}
+
+/// Writes the trace of a history's events, or a front of it before the writer fails: the text, of the least version
+/// that has all its lines, for a space of `size` words and so many mutators. It takes no memory.
+pub fn write_trace<W: Write>(
+    writer: &mut Sink<W>,
+    size: u32,
+    mutators: u8,
+    history: &[Entry],
+) -> Result<(), WriteFault>
+    ensures ok { OnOk result (Appends
+        (bytes_written W.contents writer.old) (bytes_written W.contents writer.new)
+        (spelling (written size mutators (happened history.now)))) }
+    ensures err { OnErr result (SendsFront
+        (bytes_written W.contents writer.old) (bytes_written W.contents writer.new)
+        (spelling (written size mutators (happened history.now)))) }
+    ensures failed { OnErr result (sink_failed writer.new ≡ true) }
+{
+    match write_events(writer, size, mutators, history) {
+        Ok(()) => Ok(()),
+        Err(_) => Err(WriteFault::Write),
+    }
+}
