@@ -7,3 +7,5 @@ pub mod Total
 pub mod RowProofs
 pub mod Printed
 pub mod Versions
+pub mod ReadAgain
+pub mod Flipping

@@ -5,4 +5,5 @@ pub mod Replies
 pub mod Reading
 pub mod Playing
 pub mod Running
+pub mod Flips
 pub mod Rows

@@ -1,5 +1,5 @@
 -- What the events of a trace do to a world.
-use Rattle.std.specs.Prelude.{◌≡◌, List, [], ◌∷◌, ◌++◌, Option}
+use Rattle.std.specs.Prelude.{◌≡◌, List, [], ◌∷◌, ◌++◌, Option, None}
 use Rattle.gc_cert.specs.Grammar.{CertifiedPair}
 use Rattle.gc_copy.specs.State.{State}
 use Rattle.gc_copy.specs.Steps.{collect}
@@ -24,6 +24,13 @@ pub record Happens (old : Past) (event : Event) (new : Past) : Type 0 where
   pub events : happened new.entries ≡ happened old.entries ++ event ∷ []
   pub state : present new ≡ after (present old) (run_event event)
   pub kept : new.kept ≡ kept_with old.kept (present old) event
+
+-- the same, in a world that keeps no pair then
+pub record KeepsNone (old : Past) (event : Event) (new : Past) : Type 0 where
+  pub size : new.size ≡ old.size
+  pub mutators : new.mutators ≡ old.mutators
+  pub state : present new ≡ after (present old) (run_event event)
+  pub kept : new.kept ≡ None
 
 -- all events of the trace happened in a world of its size and mutators, each once, in order
 pub record HasRun (t : Recording) (past : Past) : Type 0 where

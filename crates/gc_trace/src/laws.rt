@@ -1,6 +1,9 @@
-ghost use Rattle.std.specs.Prelude.{◌≡◌, ℕ, List, ◌⊎◌};
-ghost use Rattle.gc_trace.specs.Grammar.{Recording, IsTextOf};
-ghost use Rattle.gc_trace.specs.Faults.{IsFaultOf, IsReadAs};
+ghost use Rattle.std.specs.Prelude.{◌≡◌, ◌≤◌, ℕ, List, length, ◌⊎◌};
+ghost use Rattle.gc_world.specs.History.{IsHistory, answers_of};
+ghost use Rattle.gc_world.specs.declared.event.Entry.{Entry};
+ghost use Rattle.gc_trace.specs.Grammar.{Recording, IsTextOf, spelling, written};
+ghost use Rattle.gc_trace.specs.Faults.{limit, IsFaultOf, IsReadAs};
+ghost use Rattle.gc_trace.specs.Playing.{happened, answers};
 ghost use Rattle.gc_trace.specs.Rows.{TextRows, SizedRows, LineRows};
 ghost use Rattle.gc_trace.specs.declared.fault.TraceFault.{TraceFault};
 
@@ -10,6 +13,17 @@ pub fn texts_have_one_reading()
     ensures good { (t : Recording) (fault : TraceFault) (text : List ℕ) → IsReadAs t text → IsFaultOf fault text → ⊥ }
     ensures some { (text : List ℕ) → ((t : Recording) × IsReadAs t text) ⊎ ((f : TraceFault) × IsFaultOf f text) }
     ensures fault { (f g : TraceFault) (text : List ℕ) → IsFaultOf f text → IsFaultOf g text → f ≡ g }
+{}
+
+/// What is written of a world's history is read as its events, where the text is within the limit; and these get
+/// the answers that the history has.
+pub fn written_is_read()
+    ensures read { (size mutators : ℕ) (entries : List Entry) → 1 ≤ mutators → mutators ≤ 16
+        → IsHistory size mutators entries
+        → length (spelling (written size mutators (happened entries))) ≤ limit
+        → IsReadAs (written size mutators (happened entries)) (spelling (written size mutators (happened entries))) }
+    ensures answers { (size mutators : ℕ) (entries : List Entry) → IsHistory size mutators entries
+        → answers (written size mutators (happened entries)) ≡ answers_of entries }
 {}
 
 /// The worked rows hold of the definitions.

@@ -2,6 +2,7 @@
 #![tactic(auto)]
 
 mod fault;
+mod flips;
 mod laws;
 mod parser;
 mod reader;
@@ -11,7 +12,7 @@ mod trace;
 mod writer;
 
 pub use fault::{PlayFault, TraceFault};
-pub use laws::{texts_have_one_reading, worked_rows};
+pub use laws::{texts_have_one_reading, worked_rows, written_is_read};
 pub use reader::read_trace;
 pub use run::run_trace;
 pub use trace::Trace;

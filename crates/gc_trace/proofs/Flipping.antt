@@ -1,0 +1,93 @@
+-- The pairs of a run's flips.
+use Rattle.std.proofs.Common.{◌≡◌, ℕ, suc, ◌+◌, ◌-◌, ◌<◌, ◌≤◌, List, [], ◌∷◌, drop, length, map, get_or, refl, sym, ap, ◌∙◌, arith, subst, Option, Some, None, inl, inr, ◌⊎◌}
+use Rattle.std.specs.Prelude.{slice_get}
+use Rattle.std.proofs.lemmas.List.{drop_more, length-map}
+use Rattle.gc_graph.specs.Slots.{roots_of}
+use Rattle.gc_cert.specs.Grammar.{CertifiedPair}
+use Rattle.gc_words.specs.Word.{word_of}
+use Rattle.gc_copy.specs.State.{State, Collection, moved}
+use Rattle.gc_copy.specs.Steps.{collect}
+use Rattle.gc_copy.specs.Runs.{after}
+use Rattle.gc_copy.specs.Belonging.{IsState}
+use Rattle.gc_copy.specs.Passing.{HasFewPairs}
+use Rattle.gc_copy.specs.declared.step.StepReply.{StepReply}
+use Rattle.gc_copy.specs.declared.step.StepReply.TheVariants.{Busy, Begun, Idle, Clean, NoRoom, Copied, Passed, Scanned, Applied, NotReady, Refused, Flipped, Dropped}
+use Rattle.gc_world.specs.Flip.{flip_pair, kept_of, kept_after, IsCertified}
+use Rattle.gc_world.specs.History.{run_event}
+use Rattle.gc_world.specs.declared.event.Event.{Event}
+use Rattle.gc_world.specs.declared.event.Event.TheVariants.{Mutate, Collect}
+use Rattle.gc_trace.specs.Running.{kept_with}
+use Rattle.gc_trace.specs.Flips.{flip_at, with_flip, flips, HasCounts}
+
+-- ---- what is kept
+
+-- what was kept before makes no difference where a pair is kept now
+kept_by_reply : (s : State) (reply : StepReply) (pair : CertifiedPair) → kept_after None s reply ≡ Some pair → kept_of s s.collection ≡ Some pair
+kept_by_reply s Busy pair is = absurd cc
+kept_by_reply s Begun pair is = absurd cc
+kept_by_reply s Idle pair is = absurd cc
+kept_by_reply s Clean pair is = absurd cc
+kept_by_reply s NoRoom pair is = absurd cc
+kept_by_reply s Copied pair is = absurd cc
+kept_by_reply s Passed pair is = absurd cc
+kept_by_reply s Scanned pair is = absurd cc
+kept_by_reply s Applied pair is = absurd cc
+kept_by_reply s NotReady pair is = absurd cc
+kept_by_reply s Refused pair is = absurd cc
+kept_by_reply s (Flipped pairs) pair is = is
+kept_by_reply s Dropped pair is = absurd cc
+
+counts_of : (s : State) (c : Collection) → IsState s → HasFewPairs s → s.mutators ≤ 16 → s.collection ≡ Some c → IsCertified (flip_pair s c) → HasCounts (flip_pair s c)
+counts_of s c ok small few is certified = record {
+  old = certified.old_shaped;
+  new = certified.new_shaped;
+  old_roots = omega (arith, length-map s.heap.graph.roots word_of, ok.roots, few);
+  new_roots = omega (arith, length-map (map (moved c) s.heap.graph.roots) word_of, length-map s.heap.graph.roots (moved c), ok.roots, few);
+  pairs = small c is;
+}
+
+kept_counts : (s : State) (kept : Option Collection) (pair : CertifiedPair) → IsState s → HasFewPairs s → s.mutators ≤ 16 → s.collection ≡ kept → IsCertified pair → kept_of s kept ≡ Some pair → HasCounts pair
+kept_counts s None pair ok small few is certified same = absurd cc
+kept_counts s (Some c) pair ok small few is certified found =
+    let same : flip_pair s c ≡ pair = cc in
+    subst HasCounts same (counts_of s c ok small few is (subst IsCertified (sym same) certified))
+
+-- a pair that is kept has few enough roots and pairs
+pub flip_counts : (s : State) (event : Event) (pair : CertifiedPair) → IsState s → HasFewPairs s → s.mutators ≤ 16 → IsCertified pair → flip_at s event ≡ Some pair → HasCounts pair
+flip_counts s (Mutate m op) pair ok small few certified is = absurd cc
+flip_counts s (Collect step) pair ok small few certified is = kept_counts s s.collection pair ok small few refl certified (kept_by_reply s (collect s step).0 pair is)
+
+-- ---- the n-th flip
+
+-- the flips from the i-th event on, where so many before the wanted one are still to come
+abbrev pub flips_from : State → List Event → ℕ → ℕ → Option CertifiedPair
+flips_from s events i before = slice_get (flips s (drop i events)) before
+
+flips_more : (s : State) (events : List Event) (i : ℕ) (event : Event) → i < length events → event ≡ get_or events i event → flips s (drop i events) ≡ with_flip (flip_at s event) (flips (after s (run_event event)) (drop (i + 1) events))
+flips_more s events i event lt is = ap (flips s) (drop_more events i event lt ∙ ap (λ (e : Event). e ∷ drop (i + 1) events) (sym is))
+
+-- the event is no flip
+pub no_flip : (s : State) (events : List Event) (i before : ℕ) (event : Event) → i < length events → event ≡ get_or events i event → flip_at s event ≡ None → flips_from (after s (run_event event)) events (i + 1) before ≡ flips_from s events i before
+no_flip s events i before event lt is none =
+    sym (ap (λ (ps : List CertifiedPair). slice_get ps before) (flips_more s events i event lt is ∙ ap (λ (o : Option CertifiedPair). with_flip o (flips (after s (run_event event)) (drop (i + 1) events))) none))
+
+-- it is the wanted one
+pub this_flip : (s : State) (events : List Event) (i : ℕ) (event : Event) (pair : CertifiedPair) → i < length events → event ≡ get_or events i event → flip_at s event ≡ Some pair → Some pair ≡ flips_from s events i 0
+this_flip s events i event pair lt is some =
+    sym (ap (λ (ps : List CertifiedPair). slice_get ps 0) (flips_more s events i event lt is ∙ ap (λ (o : Option CertifiedPair). with_flip o (flips (after s (run_event event)) (drop (i + 1) events))) some))
+
+-- it is one before that
+pub other_flip : (s : State) (events : List Event) (i before : ℕ) (event : Event) (pair : CertifiedPair) → i < length events → event ≡ get_or events i event → flip_at s event ≡ Some pair → flips_from (after s (run_event event)) events (i + 1) before ≡ flips_from s events i (suc before)
+other_flip s events i before event pair lt is some =
+    sym (ap (λ (ps : List CertifiedPair). slice_get ps (suc before)) (flips_more s events i event lt is ∙ ap (λ (o : Option CertifiedPair). with_flip o (flips (after s (run_event event)) (drop (i + 1) events))) some))
+
+-- no flip, with as many still to come, or a flip before the wanted one, with one fewer
+abbrev pub Counted : Option CertifiedPair → ℕ → ℕ → Type 0
+Counted kept before left = ((kept ≡ None) × (left ≡ before)) ⊎ ((pair : CertifiedPair) × (kept ≡ Some pair) × (before ≡ suc left))
+
+pub next_flip : (s next : State) (events : List Event) (i before left : ℕ) (event : Event) (kept wanted : Option CertifiedPair) → i < length events → event ≡ get_or events i event → next ≡ after s (run_event event) → kept ≡ flip_at s event
+    → flips_from s events i before ≡ wanted → Counted kept before left → flips_from next events (i + 1) left ≡ wanted
+next_flip s next events i before left event kept wanted lt is at same so_far (inl (none, all)) =
+    ap (λ (t : State). flips_from t events (i + 1) left) at ∙ no_flip s events i left event lt is (sym same ∙ none) ∙ ap (flips_from s events i) all ∙ so_far
+next_flip s next events i before left event kept wanted lt is at same so_far (inr (pair, some, one)) =
+    ap (λ (t : State). flips_from t events (i + 1) left) at ∙ other_flip s events i left event pair lt is (sym same ∙ some) ∙ ap (flips_from s events i) (sym one) ∙ so_far

@@ -1,0 +1,8 @@
+use Rattle.gc_trace.proofs.ReadAgain.{history_has_text, same_answers}
+use Rattle.gc_trace.proofs.laws.written_is_read.Goals as goal
+
+pub returns : goal.returns
+returns c = record {
+  read = λ size mutators entries some few history short. (history_has_text size mutators entries some few history, short);
+  answers = λ size mutators entries history. same_answers size mutators entries history;
+}

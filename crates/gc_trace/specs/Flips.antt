@@ -1,0 +1,56 @@
+-- The flips of a trace's run, and the pairs that they keep.
+use Rattle.std.specs.Prelude.{◌≡◌, ℕ, ◌-◌, ◌≤◌, List, [], ◌∷◌, length, Option, Some, None, slice_get}
+use Rattle.std.specs.Io.KnownBytes.{Appends}
+use Rattle.gc_graph.specs.Streams.{SendsFront}
+use Rattle.gc_words.specs.Image.{IsShaped}
+use Rattle.gc_cert.specs.Grammar as pairs
+use Rattle.gc_cert.specs.Grammar.{CertifiedPair}
+use Rattle.gc_copy.specs.State.{State}
+use Rattle.gc_copy.specs.Runs.{after}
+use Rattle.gc_world.specs.History.{run_event}
+use Rattle.gc_world.specs.declared.event.Event.{Event}
+use Rattle.gc_trace.specs.Grammar.{Recording}
+use Rattle.gc_trace.specs.Faults.{IsReadAs}
+use Rattle.gc_trace.specs.Playing.{opening}
+use Rattle.gc_trace.specs.Running.{kept_with}
+
+-- the pair of the flip that the event is in this state, if it is one
+abbrev pub flip_at : State → Event → Option CertifiedPair
+flip_at s event = kept_with None s event
+
+abbrev pub with_flip : Option CertifiedPair → List CertifiedPair → List CertifiedPair
+with_flip None more = more
+with_flip (Some pair) more = pair ∷ more
+
+-- the pairs of all flips from this state on, in order
+abbrev pub flips : State → List Event → List CertifiedPair
+flips s [] = []
+flips s (event ∷ events) = with_flip (flip_at s event) (flips (after s (run_event event)) events)
+
+-- the pair of the trace's n-th flip, counted from 1
+abbrev pub nth_flip : ℕ → Recording → Option CertifiedPair
+nth_flip n t = slice_get (flips (opening t) t.events) (n - 1)
+
+-- ---- what a play of it writes
+
+-- the text is of a trace with so many flips, and the text of the n-th flip's pair went out
+abbrev pub PlaysPair : ℕ → List ℕ → Option (List ℕ) → Option (List ℕ) → Type 0
+PlaysPair n text old new = (t : Recording) × (pair : CertifiedPair) × IsReadAs t text × (nth_flip n t ≡ Some pair) × Appends old new (pairs.spelling pair)
+
+-- the same with a front of the pair's text
+abbrev pub PlaysPairFront : ℕ → List ℕ → Option (List ℕ) → Option (List ℕ) → Type 0
+PlaysPairFront n text old new = (t : Recording) × (pair : CertifiedPair) × IsReadAs t text × (nth_flip n t ≡ Some pair) × SendsFront old new (pairs.spelling pair)
+
+-- the text is of a trace with fewer flips
+abbrev pub HasNoFlip : ℕ → List ℕ → Type 0
+HasNoFlip n text = (t : Recording) × IsReadAs t text × (nth_flip n t ≡ None)
+
+-- ---- what such a pair is
+
+-- both images are those of spaces, and there are few enough roots and pairs for a pair text
+pub record HasCounts (pair : CertifiedPair) : Type 0 where
+  pub old : IsShaped pair.old
+  pub new : IsShaped pair.new
+  pub old_roots : length pair.old.roots ≤ 272
+  pub new_roots : length pair.new.roots ≤ 272
+  pub pairs : length pair.pairs ≤ 524287
