@@ -6,6 +6,9 @@ use Rattle.gc_world.specs.declared.event.Event.{Event}
 use Rattle.gc_trace.specs.Grammar.{Recording, IsTextOf, IsEvent, IsOf, IsHeading, heading, event_line}
 use Rattle.gc_trace.specs.declared.fault.TraceFault.{TraceFault}
 use Rattle.gc_trace.specs.declared.fault.TraceFault.TheVariants.{Read, TooLarge, BadHeader, BadLine, NoSuchMutator, NoMemory}
+use Rattle.gc_trace.specs.declared.fault.PlayFault.{PlayFault}
+use Rattle.gc_trace.specs.declared.fault.PlayFault.TheVariants as plays
+use Rattle.gc_trace.specs.declared.fault.PlayFault.TheVariants.{Trace}
 
 abbrev pub limit : ℕ
 limit = 16777216
@@ -61,3 +64,12 @@ abbrev pub fault_of_reading : ReadFault → TraceFault
 fault_of_reading reading.Read = Read
 fault_of_reading reading.TooLarge = TooLarge
 fault_of_reading reading.NoMemory = NoMemory
+
+-- what a trace's fault is called where it is played: want of memory is the player's own
+abbrev pub fault_of_trace : TraceFault → PlayFault
+fault_of_trace Read = Trace Read
+fault_of_trace TooLarge = Trace TooLarge
+fault_of_trace BadHeader = Trace BadHeader
+fault_of_trace (BadLine n) = Trace (BadLine n)
+fault_of_trace (NoSuchMutator n) = Trace (NoSuchMutator n)
+fault_of_trace NoMemory = plays.NoMemory

@@ -1,3 +1,4 @@
+use gc_graph::NoMemory;
 use gc_graph::text::ReadFault;
 use thiserror::Error;
 
@@ -44,10 +45,38 @@ pub enum PlayFault {
     /// It is not read; never `NoMemory`.
     #[error(transparent)]
     Trace(TraceFault),
+    /// It has fewer flips.
+    #[error("trace: no such flip")]
+    NoSuchFlip,
     /// Memory was short, in reading too.
     #[error("no memory")]
     NoMemory,
     /// The writer failed.
     #[error("cannot write")]
     Write,
+}
+
+impl From<TraceFault> for PlayFault {
+    ghost use Rattle.std.specs.Prelude.{◌≡◌};
+    ghost use Rattle.gc_trace.specs.Faults.{fault_of_trace};
+
+    ghost from_gives = { λ fault made. made ≡ fault_of_trace fault };
+
+    fn from(fault: TraceFault) -> PlayFault {
+        match fault {
+            TraceFault::NoMemory => PlayFault::NoMemory,
+            fault => PlayFault::Trace(fault),
+        }
+    }
+}
+
+impl From<NoMemory> for PlayFault {
+    ghost use Rattle.std.specs.Prelude.{◌≡◌};
+    ghost use Rattle.gc_trace.specs.declared.fault.PlayFault.TheVariants as faults;
+
+    ghost from_gives = { λ fault made. made ≡ faults.NoMemory };
+
+    fn from(_fault: NoMemory) -> PlayFault {
+        PlayFault::NoMemory
+    }
 }

@@ -5,6 +5,7 @@ mod fault;
 mod flips;
 mod laws;
 mod parser;
+mod player;
 mod reader;
 mod replies;
 mod run;
@@ -13,6 +14,7 @@ mod writer;
 
 pub use fault::{PlayFault, TraceFault};
 pub use laws::{texts_have_one_reading, worked_rows, written_is_read};
+pub use player::play_pair;
 pub use reader::read_trace;
 pub use run::run_trace;
 pub use trace::Trace;

@@ -1,0 +1,50 @@
+ghost use Rattle.std.specs.Prelude.{◌≡◌, ◌≢◌, ◌≤◌, ◌↔◌, true, IfSome, OnOk, OnErr, Err};
+ghost use Rattle.gc_graph.specs.Streams.{bytes_left, bytes_written, source_failed, sink_failed};
+ghost use Rattle.gc_trace.specs.Faults.{MayFail};
+ghost use Rattle.gc_trace.specs.Flips.{PlaysPair, PlaysPairFront, HasNoFlip};
+ghost use Rattle.gc_trace.specs.declared.fault.TraceFault.{TraceFault};
+
+use crate::fault::{PlayFault, TraceFault};
+use crate::flips::nth_flip;
+use crate::reader::read_trace;
+use gc_cert::write_pair;
+use gc_graph::{Sink, Source};
+use std::alloc::Global;
+use std::io::{Read, Write};
+
+/// Runs the trace whose text the reader gives up to its n-th flip, counted from 1, and writes the text of that flip's
+/// pair: both images as the checker saw them, and the certificate.
+pub fn play_pair<R: Read, W: Write>(
+    alloc: Global,
+    n: u32,
+    reader: &mut Source<R>,
+    writer: &mut Sink<W>,
+) -> Result<(), PlayFault>
+    requires { 1 ≤ n }
+    // All of the pair's text, and nothing else.
+    ensures played { OnOk result (IfSome (bytes_left R.remaining reader.old) (λ text.
+        PlaysPair n text (bytes_written W.contents writer.old) (bytes_written W.contents writer.new))) }
+    // The trace has fewer flips.
+    ensures none { result ≡ Err PlayFault.NoSuchFlip →
+        IfSome (bytes_left R.remaining reader.old) (λ text. HasNoFlip n text) }
+    // The first fault of a bad text.
+    ensures fault { (fault : TraceFault) → result ≡ Err (PlayFault.Trace fault) →
+        IfSome (bytes_left R.remaining reader.old) (λ text. MayFail fault text) }
+    ensures memory { result ≢ Err (PlayFault.Trace TraceFault.NoMemory) }
+    ensures unread { (result ≡ Err (PlayFault.Trace TraceFault.Read)) ↔ (source_failed reader.new ≡ true) }
+    ensures unwritten { result ≡ Err PlayFault.Write → sink_failed writer.new ≡ true }
+    // Nothing goes out before the flip was found.
+    ensures silent { OnErr result (result ≢ Err PlayFault.Write → writer.new ≡ writer.old) }
+    // What went out is a front of the pair's text.
+    ensures front { result ≡ Err PlayFault.Write → IfSome (bytes_left R.remaining reader.old) (λ text.
+        PlaysPairFront n text (bytes_written W.contents writer.old) (bytes_written W.contents writer.new)) }
+{
+    let trace = read_trace(alloc, reader)?;
+    let Some(file) = nth_flip(alloc, &trace, n)? else {
+        return Err(PlayFault::NoSuchFlip);
+    };
+    match write_pair(writer, file.old.as_ref(), file.new.as_ref(), &file.pairs) {
+        Ok(()) => Ok(()),
+        Err(_) => Err(PlayFault::Write),
+    }
+}
