@@ -5,3 +5,7 @@ pub mod OneReading
 pub mod Fronts
 pub mod Total
 pub mod RowProofs
+pub mod PairsPlaced
+pub mod Ends
+pub mod Counted
+pub mod Printed

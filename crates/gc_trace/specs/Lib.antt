@@ -4,3 +4,6 @@ pub mod Faults
 pub mod Replies
 pub mod Reading
 pub mod Rows
+pub mod Report
+pub mod ReportRows
+pub mod Scripts

@@ -5,10 +5,13 @@ mod fault;
 mod laws;
 mod parser;
 mod reader;
+mod report;
+mod scripts;
 mod trace;
 
 pub use fault::{PlayFault, TraceFault};
 pub use laws::{texts_have_one_reading, worked_rows};
 pub use reader::read_trace;
+pub use report::{Report, report_of, write_report};
+pub use scripts::scripts_of;
 pub use trace::Trace;
-
