@@ -9,3 +9,8 @@ pub mod Printed
 pub mod Versions
 pub mod ReadAgain
 pub mod Flipping
+pub mod Played
+pub mod PairsPlaced
+pub mod Ends
+pub mod Counted
+pub mod Grown

@@ -7,3 +7,6 @@ pub mod Playing
 pub mod Running
 pub mod Flips
 pub mod Rows
+pub mod Report
+pub mod ReportRows
+pub mod Scripts

@@ -1,5 +1,5 @@
 -- What a play writes.
-use Rattle.std.specs.Prelude.{ℕ, List, Option, map}
+use Rattle.std.specs.Prelude.{◌≡◌, ℕ, List, Option, map}
 use Rattle.std.specs.Io.KnownBytes.{Appends}
 use Rattle.gc_graph.specs.Streams.{SendsFront}
 use Rattle.gc_copy.specs.State.{State, opening_state}
@@ -10,6 +10,8 @@ use Rattle.gc_world.specs.declared.event.Entry.{Entry}
 use Rattle.gc_trace.specs.Grammar.{Recording}
 use Rattle.gc_trace.specs.Faults.{IsReadAs}
 use Rattle.gc_trace.specs.Replies.{reply_text}
+use Rattle.gc_trace.specs.Report.{report_of, report_text}
+use Rattle.gc_trace.specs.declared.report.Report.{Report}
 
 -- what happened, without the answers
 abbrev pub happened : List Entry → List Event
@@ -30,10 +32,24 @@ answers t = runs.answers (opening t) (run_events t.events)
 abbrev pub last_state : Recording → State
 last_state t = runs.state_after (opening t) (run_events t.events)
 
--- the text is of a trace, and its reply lines went out
-abbrev pub Plays : List ℕ → Option (List ℕ) → Option (List ℕ) → Type 0
-Plays text old new = (t : Recording) × IsReadAs t text × Appends old new (reply_text (answers t))
+-- the report of the trace's run
+abbrev pub report_in : Recording → Report
+report_in t = report_of (answers t) (last_state t)
+
+-- ---- what goes out
+
+-- the text is of a trace, its reply lines went out, and this is its report
+abbrev pub Plays : List ℕ → Report → Option (List ℕ) → Option (List ℕ) → Type 0
+Plays text report old new = (t : Recording) × IsReadAs t text × (report ≡ report_in t) × Appends old new (reply_text (answers t))
 
 -- the text is of a trace, and a front of its reply lines went out
 abbrev pub PlaysFront : List ℕ → Option (List ℕ) → Option (List ℕ) → Type 0
 PlaysFront text old new = (t : Recording) × IsReadAs t text × SendsFront old new (reply_text (answers t))
+
+-- the text is of a trace, this is its report, and its text went out
+abbrev pub Reports : List ℕ → Report → Option (List ℕ) → Option (List ℕ) → Type 0
+Reports text report old new = (t : Recording) × IsReadAs t text × (report ≡ report_in t) × Appends old new (report_text (report_in t))
+
+-- the text is of a trace, and a front of its report's text went out
+abbrev pub ReportsFront : List ℕ → Option (List ℕ) → Option (List ℕ) → Type 0
+ReportsFront text old new = (t : Recording) × IsReadAs t text × SendsFront old new (report_text (report_in t))

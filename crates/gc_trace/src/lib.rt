@@ -1,4 +1,5 @@
-//! Traces as text: what mutators do, read line by line, and played to the lines of their replies.
+//! Traces as text: what mutators and the collector do, read and written line by line; and plays of them, to the lines
+//! of their answers, to a report, or to the pair of one of their flips.
 #![tactic(auto)]
 
 mod fault;
@@ -8,15 +9,18 @@ mod parser;
 mod player;
 mod reader;
 mod replies;
+mod report;
 mod run;
+mod scripts;
 mod trace;
 mod writer;
 
 pub use fault::{PlayFault, TraceFault};
 pub use laws::{texts_have_one_reading, worked_rows, written_is_read};
-pub use player::play_pair;
+pub use player::{play, play_pair, play_report};
 pub use reader::read_trace;
+pub use report::{Report, report_of, write_report};
 pub use run::run_trace;
+pub use scripts::scripts_of;
 pub use trace::Trace;
 pub use writer::write_trace;
-

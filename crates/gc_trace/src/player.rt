@@ -1,16 +1,82 @@
-ghost use Rattle.std.specs.Prelude.{◌≡◌, ◌≢◌, ◌≤◌, ◌↔◌, true, IfSome, OnOk, OnErr, Err};
+ghost use Rattle.std.specs.Prelude.{◌≡◌, ◌≢◌, ◌≤◌, ◌↔◌, true, IfSome, IfOk, OnOk, OnErr, Err};
 ghost use Rattle.gc_graph.specs.Streams.{bytes_left, bytes_written, source_failed, sink_failed};
 ghost use Rattle.gc_trace.specs.Faults.{MayFail};
+ghost use Rattle.gc_trace.specs.Playing.{Plays, PlaysFront, Reports, ReportsFront};
 ghost use Rattle.gc_trace.specs.Flips.{PlaysPair, PlaysPairFront, HasNoFlip};
 ghost use Rattle.gc_trace.specs.declared.fault.TraceFault.{TraceFault};
 
 use crate::fault::{PlayFault, TraceFault};
 use crate::flips::nth_flip;
 use crate::reader::read_trace;
+use crate::replies::write_replies;
+use crate::report::{Report, report_of, write_report};
+use crate::run::run_trace;
 use gc_cert::write_pair;
 use gc_graph::{Sink, Source};
 use std::alloc::Global;
 use std::io::{Read, Write};
+
+/// Plays the trace whose text the reader gives: writes the line of each answer, once the last event has run, and
+/// reports the run.
+pub fn play<R: Read, W: Write>(
+    alloc: Global,
+    reader: &mut Source<R>,
+    writer: &mut Sink<W>,
+) -> Result<Report, PlayFault>
+    // All of the reply lines, and nothing else.
+    ensures played { IfOk result (λ report. IfSome (bytes_left R.remaining reader.old) (λ text.
+        Plays text report (bytes_written W.contents writer.old) (bytes_written W.contents writer.new))) }
+    // The first fault of a bad text.
+    ensures fault { (fault : TraceFault) → result ≡ Err (PlayFault.Trace fault) →
+        IfSome (bytes_left R.remaining reader.old) (λ text. MayFail fault text) }
+    ensures memory { result ≢ Err (PlayFault.Trace TraceFault.NoMemory) }
+    ensures runs { result ≢ Err PlayFault.NoSuchFlip }
+    ensures unread { (result ≡ Err (PlayFault.Trace TraceFault.Read)) ↔ (source_failed reader.new ≡ true) }
+    ensures unwritten { result ≡ Err PlayFault.Write → sink_failed writer.new ≡ true }
+    // Nothing goes out before the last event has run.
+    ensures silent { OnErr result (result ≢ Err PlayFault.Write → writer.new ≡ writer.old) }
+    // What went out is a front of the reply lines.
+    ensures front { result ≡ Err PlayFault.Write → IfSome (bytes_left R.remaining reader.old) (λ text.
+        PlaysFront text (bytes_written W.contents writer.old) (bytes_written W.contents writer.new)) }
+{
+    let trace = read_trace(alloc, reader)?;
+    let world = run_trace(alloc, &trace)?;
+    match write_replies(writer, world.history()) {
+        Ok(()) => Ok(report_of(&world)),
+        Err(_) => Err(PlayFault::Write),
+    }
+}
+
+/// Plays the trace whose text the reader gives, and writes the text of its report alone.
+pub fn play_report<R: Read, W: Write>(
+    alloc: Global,
+    reader: &mut Source<R>,
+    writer: &mut Sink<W>,
+) -> Result<Report, PlayFault>
+    // All of the report's text, and nothing else.
+    ensures played { IfOk result (λ report. IfSome (bytes_left R.remaining reader.old) (λ text.
+        Reports text report (bytes_written W.contents writer.old) (bytes_written W.contents writer.new))) }
+    // The first fault of a bad text.
+    ensures fault { (fault : TraceFault) → result ≡ Err (PlayFault.Trace fault) →
+        IfSome (bytes_left R.remaining reader.old) (λ text. MayFail fault text) }
+    ensures memory { result ≢ Err (PlayFault.Trace TraceFault.NoMemory) }
+    ensures runs { result ≢ Err PlayFault.NoSuchFlip }
+    ensures unread { (result ≡ Err (PlayFault.Trace TraceFault.Read)) ↔ (source_failed reader.new ≡ true) }
+    ensures unwritten { result ≡ Err PlayFault.Write → sink_failed writer.new ≡ true }
+    // Nothing goes out before the last event has run.
+    ensures silent { OnErr result (result ≢ Err PlayFault.Write → writer.new ≡ writer.old) }
+    // What went out is a front of the report's text.
+    ensures front { result ≡ Err PlayFault.Write → IfSome (bytes_left R.remaining reader.old) (λ text.
+        ReportsFront text (bytes_written W.contents writer.old) (bytes_written W.contents writer.new)) }
+{
+    let trace = read_trace(alloc, reader)?;
+    let world = run_trace(alloc, &trace)?;
+    let report = report_of(&world);
+    match write_report(writer, &report) {
+        Ok(()) => Ok(report),
+        Err(_) => Err(PlayFault::Write),
+    }
+}
 
 /// Runs the trace whose text the reader gives up to its n-th flip, counted from 1, and writes the text of that flip's
 /// pair: both images as the checker saw them, and the certificate.

@@ -1,7 +1,9 @@
 ghost use Rattle.std.specs.Prelude.{◌≡◌, IfOk, OnOk, OnErr};
 ghost use Rattle.gc_copy.specs.Runs.{IsEvent};
-ghost use Rattle.gc_world.specs.History.{run_event};
+ghost use Rattle.gc_world.specs.History.{run_event, answers_of};
+ghost use Rattle.gc_world.specs.World.{present};
 ghost use Rattle.gc_trace.specs.Grammar.{IsRecording};
+ghost use Rattle.gc_trace.specs.Playing.{answers, last_state};
 ghost use Rattle.gc_trace.specs.Running.{Happens, HasRun};
 ghost use Rattle.gc_trace.specs.Views.{recording};
 
@@ -32,11 +34,16 @@ pub fn happen(world: &mut World, event: &Event) -> Result<(), NoMemory>
 /// The world in which all events of the trace have happened, in order.
 pub fn run_trace(alloc: Global, trace: &Trace) -> Result<World, NoMemory>
     requires { IsRecording (recording trace.now) }
-    ensures { IfOk result (λ world. HasRun (recording trace.now) world) }
+    ensures run { IfOk result (λ world. HasRun (recording trace.now) world) }
+    // Its answers and its state are the core's.
+    ensures answers { IfOk result (λ world. answers_of world.entries ≡ answers (recording trace.now)) }
+    ensures state { IfOk result (λ world. present world ≡ last_state (recording trace.now)) }
 {
     let mut world = World::open(alloc, trace.size, trace.mutators)?;
     for event in &trace.events {
         happen(&mut world, event)?;
     }
+    // What happened is a history.
+    let _ = world.history();
     Ok(world)
 }

@@ -1,0 +1,74 @@
+-- Reports of one answer more, and how large their numbers are.
+use Rattle.std.proofs.Common.{◌≡◌, ℕ, ◌+◌, ◌<◌, ◌≤◌, ◌^◌, Bool, true, false, cond, List, [], ◌∷◌, ◌++◌, length, map, take, get_or, refl, sym, ◌∙◌, ap, subst, arith, length-append}
+use Rattle.std.specs.List.{count_by, sum_by}
+use Rattle.std.proofs.lemmas.List.{length-map, map_more, take-map, length-take}
+use Rattle.std.proofs.lemmas.List.Sums.{sum_by_push, sum_by-take-le, count_by-le-length}
+use Rattle.gc_copy.specs.Runs.{Answer}
+use Rattle.gc_copy.specs.State.{State, heap_end}
+use Rattle.gc_world.specs.History.{run_answer, answers_of, IsHistory}
+use Rattle.gc_world.specs.declared.event.Entry.{Entry}
+use Rattle.gc_trace.specs.declared.report.Report.{Report}
+use Rattle.gc_trace.specs.Report.{is_made, is_full, is_begun, is_copied, is_scanned, is_applied, is_flip, is_dropped, is_refused, pairs_in, report_of, one_more_if, with_answer, IsInRange}
+use Rattle.gc_trace.proofs.PairsPlaced.{few_pairs}
+
+abbrev answer_of : Entry → Answer
+answer_of entry = run_answer entry.answer
+
+one_more_is : (is : Bool) (n : ℕ) → n + cond is 1 0 ≡ one_more_if is n
+one_more_is true n = refl
+one_more_is false n = omega arith
+
+count_push : (is : Answer → Bool) (answers : List Answer) (answer : Answer) → count_by is (answers ++ answer ∷ []) ≡ one_more_if (is answer) (count_by is answers)
+count_push is answers answer = sum_by_push (λ a. cond (is a) 1 0) answers answer ∙ one_more_is (is answer) (count_by is answers)
+
+report_push : (answers : List Answer) (answer : Answer) (s : State) → with_answer (report_of answers s) answer ≡ report_of (answers ++ answer ∷ []) s
+report_push answers answer s =
+    let events : length (answers ++ answer ∷ []) ≡ length answers + 1 = length-append answers (answer ∷ []) in
+    let made = count_push is_made answers answer in
+    let full = count_push is_full answers answer in
+    let begun = count_push is_begun answers answer in
+    let copied = count_push is_copied answers answer in
+    let scanned = count_push is_scanned answers answer in
+    let applied = count_push is_applied answers answer in
+    let flips = count_push is_flip answers answer in
+    let pairs = sum_by_push pairs_in answers answer in
+    let dropped = count_push is_dropped answers answer in
+    let refused = count_push is_refused answers answer in
+    cc
+
+-- before the first
+pub none_counted : (r : Report) (end free : ℕ) (s : State) → r ≡ record { events = 0; made = 0; full = 0; begun = 0; copied = 0; scanned = 0; applied = 0; flips = 0; pairs = 0; dropped = 0; refused = 0; end = end; free = free }
+    → end ≡ heap_end s → free ≡ s.heap.free → r ≡ report_of [] s
+none_counted r end free s is same_end same_free = is ∙ cc
+
+-- the entry behind those that are counted
+pub next_counted : (items : List Entry) (i : ℕ) (entry : Entry) (r : Report) (s : State) → i < length items → entry ≡ get_or items i entry → r ≡ report_of (answers_of (take i items)) s → with_answer r (answer_of entry) ≡ report_of (answers_of (take (i + 1) items)) s
+next_counted items i entry r s lt is so_far =
+    ap (λ (r : Report). with_answer r (answer_of entry)) so_far
+    ∙ report_push (answers_of (take i items)) (answer_of entry) s
+    ∙ ap (λ (e : Entry). report_of (answers_of (take i items) ++ answer_of e ∷ []) s) is
+    ∙ ap (λ (answers : List Answer). report_of answers s) (sym (map_more answer_of items i entry lt))
+
+in_range : (answers : List Answer) (s : State) → length answers < 2 ^ 64 → sum_by pairs_in answers < 2 ^ 64 → IsInRange (report_of answers s)
+in_range answers s few few_pairs = record {
+  events = few;
+  made = omega (arith, few, count_by-le-length is_made answers);
+  full = omega (arith, few, count_by-le-length is_full answers);
+  begun = omega (arith, few, count_by-le-length is_begun answers);
+  copied = omega (arith, few, count_by-le-length is_copied answers);
+  scanned = omega (arith, few, count_by-le-length is_scanned answers);
+  applied = omega (arith, few, count_by-le-length is_applied answers);
+  flips = omega (arith, few, count_by-le-length is_flip answers);
+  pairs = few_pairs;
+  dropped = omega (arith, few, count_by-le-length is_dropped answers);
+  refused = omega (arith, few, count_by-le-length is_refused answers);
+}
+
+-- a front of a history has no more answers and pairs
+pub front_in_range : (size mutators : ℕ) (items : List Entry) (i : ℕ) (s : State) → IsHistory size mutators items → length items < 2 ^ 64 → IsInRange (report_of (answers_of (take i items)) s)
+front_in_range size mutators items i s h few =
+    let answers = answers_of items in
+    let front : take i answers ≡ answers_of (take i items) = take-map answer_of i items in
+    let short : length (take i answers) < 2 ^ 64 = omega (arith, few, length-take i answers, length-map items answer_of) in
+    let pairs : sum_by pairs_in (take i answers) < 2 ^ 64 = omega (arith, few, sum_by-take-le pairs_in answers i, few_pairs size mutators items h, length-map items answer_of) in
+    subst (λ (answers : List Answer). IsInRange (report_of answers s)) front (in_range (take i answers) s short pairs)

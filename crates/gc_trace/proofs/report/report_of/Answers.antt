@@ -1,0 +1,37 @@
+use Rattle.std.proofs.Common.{◌≡◌, ◌+◌, ◌<◌, ◌^◌, length, sym, ap, ◌∙◌, subst, arith, rules}
+use Rattle.gc_copy.specs.State.{heap_end}
+use Rattle.gc_words.specs.Space.{free_in, end_of}
+use Rattle.gc_graph.specs.Machine.{Roomy}
+use Rattle.gc_heap.specs.Heap.{HeapWords}
+use Rattle.gc_world.specs.World.{present}
+use Rattle.gc_world.specs.History.{run_answer, IsHistory}
+use Rattle.gc_trace.specs.declared.report.Report.{Report}
+use Rattle.gc_trace.specs.Report.{IsInRange, with_answer}
+use Rattle.gc_trace.proofs.Counted.{none_counted, next_counted, front_in_range}
+use Rattle.gc_trace.proofs.Ends.{same_end}
+use Rattle.gc_trace.proofs.report.report_of.Goals as goal
+
+pub loop-entry-init : goal.loop-entry-init
+loop-entry-init c =
+    let world = c.args.world.now in
+    let heap = c.heap.result.now in
+    let sound = c.space.ensures.sound in
+    let state = c.runs_keep_states.ensures.states world.size world.mutators world.entries c.history-entry-items.ensures.history in
+    let end : end_of heap.space ≡ heap_end (present world) = same_end heap (present world) sound (c.heaps_have_addresses_as_names.ensures.graph heap sound) state c.heap.ensures in
+    let free : free_in heap.space ≡ (present world).heap.free = ap (λ (r : Roomy). r.free) c.heap.ensures in
+    let space : c.space.result.now ≡ heap.space = c.space.ensures.value in
+    none_counted c.of_space-report.result (end_of c.space.result.now) (free_in c.space.result.now) (present world) c.of_space-report.ensures (ap end_of space ∙ end) (ap free_in space ∙ free)
+
+pub count-requires : goal.count-requires
+count-requires c =
+    let world = c.args.world.now in
+    let items = c.history-entry-items.result.now in
+    let i = c.loop-entry.entry-index in
+    let history = subst (IsHistory world.size world.mutators) (sym c.history-entry-items.ensures.entries) c.history-entry-items.ensures.history in
+    let small : length items < 2 ^ 64 = search rules in
+    subst IsInRange (sym (next_counted items i c.entry-item.result c.loop-entry.report (present world) c.loop-entry-test.true c.entry-item.is c.loop-entry.invariant)) (front_in_range world.size world.mutators items (i + 1) (present world) history small)
+
+pub loop-entry-preserved : goal.loop-entry-preserved
+loop-entry-preserved c =
+    c.count.ensures
+    ∙ next_counted c.history-entry-items.result.now c.loop-entry.entry-index c.entry-item.result c.loop-entry.report (present c.args.world.now) c.loop-entry-test.true c.entry-item.is c.loop-entry.invariant

@@ -1,0 +1,130 @@
+-- What a run is reported by.
+use Rattle.std.specs.Prelude.{ℕ, ◌+◌, ◌<◌, ◌^◌, Bool, true, false, if◌then◌else◌, List, [], ◌∷◌, length, codes, count_by, sum_by}
+use Rattle.std.specs.List.{flat_map}
+use Rattle.std.specs.Fmt.{decimal}
+use Rattle.gc_graph.specs.Lines.{line}
+use Rattle.gc_graph.specs.declared.reply.Reply.TheVariants as replies
+use Rattle.gc_copy.specs.Runs.{Answer, Replied, Stepped}
+use Rattle.gc_copy.specs.State.{State, heap_end}
+use Rattle.gc_copy.specs.declared.step.StepReply.TheVariants as steps
+use Rattle.gc_trace.specs.declared.report.Report.{Report}
+
+-- ---- answers that are counted
+
+abbrev pub is_made : Answer → Bool
+is_made (Replied replies.Made) = true
+is_made answer = false
+
+abbrev pub is_full : Answer → Bool
+is_full (Replied replies.Full) = true
+is_full answer = false
+
+abbrev pub is_begun : Answer → Bool
+is_begun (Stepped steps.Begun) = true
+is_begun answer = false
+
+abbrev pub is_copied : Answer → Bool
+is_copied (Stepped steps.Copied) = true
+is_copied answer = false
+
+abbrev pub is_scanned : Answer → Bool
+is_scanned (Stepped steps.Scanned) = true
+is_scanned answer = false
+
+abbrev pub is_applied : Answer → Bool
+is_applied (Stepped steps.Applied) = true
+is_applied answer = false
+
+abbrev pub is_flip : Answer → Bool
+is_flip (Stepped (steps.Flipped pairs)) = true
+is_flip answer = false
+
+abbrev pub is_dropped : Answer → Bool
+is_dropped (Stepped steps.Dropped) = true
+is_dropped answer = false
+
+abbrev pub is_refused : Answer → Bool
+is_refused (Stepped steps.Refused) = true
+is_refused answer = false
+
+-- the pairs of a flip
+abbrev pub pairs_in : Answer → ℕ
+pairs_in (Stepped (steps.Flipped pairs)) = pairs
+pairs_in answer = 0
+
+-- ---- the report
+
+-- the answers of a run and its last state, as numbers
+abbrev pub report_of : List Answer → State → Report
+report_of answers s = record {
+  events = length answers;
+  made = count_by is_made answers;
+  full = count_by is_full answers;
+  begun = count_by is_begun answers;
+  copied = count_by is_copied answers;
+  scanned = count_by is_scanned answers;
+  applied = count_by is_applied answers;
+  flips = count_by is_flip answers;
+  pairs = sum_by pairs_in answers;
+  dropped = count_by is_dropped answers;
+  refused = count_by is_refused answers;
+  end = heap_end s;
+  free = s.heap.free;
+}
+
+-- ---- its text
+
+abbrev pub report_lines : Report → List (List (List ℕ))
+report_lines r =
+    (codes "events" ∷ decimal r.events ∷ [])
+    ∷ (codes "made" ∷ decimal r.made ∷ [])
+    ∷ (codes "full" ∷ decimal r.full ∷ [])
+    ∷ (codes "begun" ∷ decimal r.begun ∷ [])
+    ∷ (codes "copied" ∷ decimal r.copied ∷ [])
+    ∷ (codes "scanned" ∷ decimal r.scanned ∷ [])
+    ∷ (codes "applied" ∷ decimal r.applied ∷ [])
+    ∷ (codes "flips" ∷ decimal r.flips ∷ [])
+    ∷ (codes "pairs" ∷ decimal r.pairs ∷ [])
+    ∷ (codes "dropped" ∷ decimal r.dropped ∷ [])
+    ∷ (codes "refused" ∷ decimal r.refused ∷ [])
+    ∷ (codes "end" ∷ decimal r.end ∷ [])
+    ∷ (codes "free" ∷ decimal r.free ∷ [])
+    ∷ []
+
+-- thirteen lines, each of a name and a number
+abbrev pub report_text : Report → List ℕ
+report_text r = flat_map line (report_lines r)
+
+-- ---- one answer more
+
+abbrev pub one_more_if : Bool → ℕ → ℕ
+one_more_if is n = if is then n + 1 else n
+
+abbrev pub with_answer : Report → Answer → Report
+with_answer r answer = record r {
+  events = r.events + 1;
+  made = one_more_if (is_made answer) r.made;
+  full = one_more_if (is_full answer) r.full;
+  begun = one_more_if (is_begun answer) r.begun;
+  copied = one_more_if (is_copied answer) r.copied;
+  scanned = one_more_if (is_scanned answer) r.scanned;
+  applied = one_more_if (is_applied answer) r.applied;
+  flips = one_more_if (is_flip answer) r.flips;
+  pairs = r.pairs + pairs_in answer;
+  dropped = one_more_if (is_dropped answer) r.dropped;
+  refused = one_more_if (is_refused answer) r.refused;
+}
+
+-- each number fits 64 bits
+pub record IsInRange (r : Report) : Type 0 where
+  pub events : r.events < 2 ^ 64
+  pub made : r.made < 2 ^ 64
+  pub full : r.full < 2 ^ 64
+  pub begun : r.begun < 2 ^ 64
+  pub copied : r.copied < 2 ^ 64
+  pub scanned : r.scanned < 2 ^ 64
+  pub applied : r.applied < 2 ^ 64
+  pub flips : r.flips < 2 ^ 64
+  pub pairs : r.pairs < 2 ^ 64
+  pub dropped : r.dropped < 2 ^ 64
+  pub refused : r.refused < 2 ^ 64

@@ -1,0 +1,194 @@
+use gc_cert::WriteFault;
+use gc_copy::{StepReply, heaps_have_addresses_as_names};
+use gc_graph::text::Printer;
+use gc_graph::{Reply, Sink, View};
+use gc_words::Space;
+use gc_world::{Answer, World, runs_keep_states};
+use std::io::Write;
+
+/// What happened to a world, as numbers.
+#[derive(Clone, Copy, Debug, PartialEq, Eq)]
+pub struct Report {
+    /// All events.
+    pub events: u64,
+    /// How many objects mutators made.
+    pub made: u64,
+    /// How many had no room.
+    pub full: u64,
+    /// How many collections began.
+    pub begun: u64,
+    /// How many targets of roots were replicated.
+    pub copied: u64,
+    /// How many fields were scanned.
+    pub scanned: u64,
+    /// How many entries of mutation logs were applied.
+    pub applied: u64,
+    /// How many collections came to their flip.
+    pub flips: u64,
+    /// How many pairs of an original and its replica these flips had.
+    pub pairs: u64,
+    /// How many collections were given up.
+    pub dropped: u64,
+    /// How many flips the checker refused.
+    pub refused: u64,
+    /// The first word of the mutators' space that no object takes, after the last event.
+    pub end: u64,
+    /// How many words of that space no object takes.
+    pub free: u64,
+}
+
+impl Report {
+    ghost use Rattle.std.specs.Prelude.{◌≡◌};
+    ghost use Rattle.gc_words.specs.Space.{free_in, end_of};
+    ghost use Rattle.gc_copy.specs.Runs.{Replied, Stepped};
+    ghost use Rattle.gc_world.specs.History.{run_answer};
+    ghost use Rattle.gc_trace.specs.Report.{with_answer, IsInRange};
+
+    /// Nothing happened yet, and this is the mutators' space.
+    fn of_space(space: &Space) -> Report
+        ensures { result ≡ record {
+          events = 0;
+          made = 0;
+          full = 0;
+          begun = 0;
+          copied = 0;
+          scanned = 0;
+          applied = 0;
+          flips = 0;
+          pairs = 0;
+          dropped = 0;
+          refused = 0;
+          end = end_of space.now;
+          free = free_in space.now;
+        } }
+    {
+        Report {
+            events: 0,
+            made: 0,
+            full: 0,
+            begun: 0,
+            copied: 0,
+            scanned: 0,
+            applied: 0,
+            flips: 0,
+            pairs: 0,
+            dropped: 0,
+            refused: 0,
+            end: u64::from(space.end()),
+            free: u64::from(space.free()),
+        }
+    }
+
+    /// Counts an event by its answer.
+    fn count(&mut self, answer: &Answer)
+        requires { IsInRange (with_answer self.old (run_answer answer.now)) }
+        ensures { self.new ≡ with_answer self.old (run_answer answer.now) }
+    {
+        match answer {
+            Answer::Mutator(reply) => self.count_reply(reply),
+            Answer::Collector(reply) | Answer::Useful(reply) => self.count_step(reply),
+        }
+        self.events += 1;
+    }
+
+    /// Counts a mutator's reply, beside the event.
+    fn count_reply(&mut self, reply: &Reply)
+        requires { IsInRange (with_answer self.old (Replied reply.now)) }
+        ensures { self.new ≡ record (with_answer self.old (Replied reply.now)) { events = self.old.events } }
+    {
+        let _named = View::Nil;
+        match reply {
+            Reply::Made => self.made += 1,
+            Reply::Full => self.full += 1,
+            _ => {}
+        }
+    }
+
+    /// Counts the answer to a step, beside the event.
+    fn count_step(&mut self, reply: &StepReply)
+        requires { IsInRange (with_answer self.old (Stepped reply.now)) }
+        ensures { self.new ≡ record (with_answer self.old (Stepped reply.now)) { events = self.old.events } }
+    {
+        match reply {
+            StepReply::Begun => self.begun += 1,
+            StepReply::Copied => self.copied += 1,
+            StepReply::Scanned => self.scanned += 1,
+            StepReply::Applied => self.applied += 1,
+            StepReply::Flipped { pairs } => {
+                self.flips += 1;
+                self.pairs += u64::from(*pairs);
+            }
+            StepReply::Dropped => self.dropped += 1,
+            StepReply::Refused => self.refused += 1,
+            _ => {}
+        }
+    }
+}
+
+ghost use Rattle.std.specs.Prelude.{◌≡◌, ◌+◌, ◌++◌, ◌∷◌, ◌≤◌, [], true, length, decimal, OnOk, OnErr};
+ghost use Rattle.std.specs.Io.KnownBytes.{Appends};
+ghost use Rattle.gc_graph.specs.Lines.{line};
+ghost use Rattle.gc_graph.specs.Streams.{bytes_written, sink_failed, SendsFront};
+ghost use Rattle.gc_world.specs.History.{answers_of};
+ghost use Rattle.gc_world.specs.World.{present};
+ghost use Rattle.gc_trace.specs.Report.{report_of as report_in, report_text};
+
+/// What happened to the world, and how much room its mutators have.
+pub fn report_of(world: &World) -> Report
+    ensures { result ≡ report_in (answers_of world.now.entries) (present world.now) }
+{
+    runs_keep_states();
+    heaps_have_addresses_as_names();
+    let mut report = Report::of_space(world.heap().space());
+    for entry in world.history() {
+        report.count(&entry.answer);
+    }
+    report
+}
+
+/// Writes the report's lines, or a front of them before the writer fails.
+pub fn write_report<W: Write>(writer: &mut Sink<W>, report: &Report) -> Result<(), WriteFault>
+    ensures ok { OnOk result (Appends
+        (bytes_written W.contents writer.old) (bytes_written W.contents writer.new) (report_text report.now)) }
+    ensures err { OnErr result (SendsFront
+        (bytes_written W.contents writer.old) (bytes_written W.contents writer.new) (report_text report.now)) }
+    ensures failed { OnErr result (sink_failed writer.new ≡ true) }
+{
+    let mut printer = Printer::new();
+    print_report(&mut printer, report);
+    match printer.flush(writer) {
+        Ok(()) => Ok(()),
+        Err(_) => Err(WriteFault::Write),
+    }
+}
+
+fn print_report(printer: &mut Printer, report: &Report)
+    requires { printer.old ≡ [] }
+    ensures { printer.new ≡ report_text report.now }
+{
+    print_count(printer, b"events", report.events);
+    print_count(printer, b"made", report.made);
+    print_count(printer, b"full", report.full);
+    print_count(printer, b"begun", report.begun);
+    print_count(printer, b"copied", report.copied);
+    print_count(printer, b"scanned", report.scanned);
+    print_count(printer, b"applied", report.applied);
+    print_count(printer, b"flips", report.flips);
+    print_count(printer, b"pairs", report.pairs);
+    print_count(printer, b"dropped", report.dropped);
+    print_count(printer, b"refused", report.refused);
+    print_count(printer, b"end", report.end);
+    print_count(printer, b"free", report.free);
+}
+
+// A name, and how many there are of it.
+fn print_count(printer: &mut Printer, name: &[u8], count: u64)
+    requires room { length printer.old + length name.now + 22 ≤ 16384 }
+    ensures text { printer.new ≡ printer.old ++ line (name.now ∷ decimal count ∷ []) }
+    ensures room { length printer.new ≤ length printer.old + length name.now + 22 }
+{
+    printer.bytes(name);
+    printer.bytes(b" ");
+    printer.number(count);
+    printer.bytes(b"\n");
+}

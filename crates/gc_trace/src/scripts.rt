@@ -1,0 +1,37 @@
+ghost use Rattle.std.specs.Prelude.{◌≡◌, map, IfOk};
+ghost use Rattle.gc_trace.specs.Scripts.{script_of as script_in, scripts};
+
+use crate::trace::Trace;
+use gc_graph::{NoMemory, Op};
+use gc_world::Event;
+use std::alloc::Global;
+
+/// What each mutator does of the trace, in order, the collector's events passed over: a script for each mutator.
+pub fn scripts_of(alloc: Global, trace: &Trace) -> Result<Vec<Vec<Op>>, NoMemory>
+    ensures { IfOk result (λ made. map (λ script. script.items) made.items ≡ scripts trace.now.mutators trace.now.events.items) }
+{
+    let mut scripts = Vec::new(alloc);
+    for m in 0..trace.mutators {
+        let script = script_of(alloc, m, &trace.events)?;
+        if scripts.push(script).is_err() {
+            return Err(NoMemory);
+        }
+    }
+    Ok(scripts)
+}
+
+// The commands of mutator m.
+fn script_of(alloc: Global, m: u8, events: &[Event]) -> Result<Vec<Op>, NoMemory>
+    ensures { IfOk result (λ script. script.items ≡ script_in m events.now) }
+{
+    let mut script = Vec::new(alloc);
+    let _named: Option<Op> = None;
+    for event in events {
+        if let Event::Mutate { m: other, op } = event {
+            if *other == m && script.push(*op).is_err() {
+                return Err(NoMemory);
+            }
+        }
+    }
+    Ok(script)
+}
