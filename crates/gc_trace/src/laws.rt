@@ -1,10 +1,16 @@
 ghost use Rattle.std.specs.Prelude.{◌≡◌, ◌≤◌, ℕ, List, length, ◌⊎◌};
-ghost use Rattle.gc_world.specs.History.{IsHistory, answers_of};
+ghost use Rattle.std.specs.List.{AllByRecursion};
+ghost use Rattle.gc_graph.specs.Range.{IsCommand};
+ghost use Rattle.gc_world.specs.History.{IsHistory, answers_of, state_after};
 ghost use Rattle.gc_world.specs.declared.event.Entry.{Entry};
-ghost use Rattle.gc_trace.specs.Grammar.{Recording, IsTextOf, spelling, written};
+ghost use Rattle.gc_world.specs.declared.event.Event.{Event};
+ghost use Rattle.gc_trace.specs.Grammar.{Recording, IsTextOf, IsOf, spelling, written};
 ghost use Rattle.gc_trace.specs.Faults.{limit, IsFaultOf, IsReadAs};
 ghost use Rattle.gc_trace.specs.Playing.{happened, answers};
 ghost use Rattle.gc_trace.specs.Rows.{TextRows, SizedRows, LineRows};
+ghost use Rattle.gc_trace.specs.Report.{report_of as report_in};
+ghost use Rattle.gc_trace.specs.ReportRows.{ReportRows};
+ghost use Rattle.gc_trace.specs.Scripts.{script_of as script_in, scripts};
 ghost use Rattle.gc_trace.specs.declared.fault.TraceFault.{TraceFault};
 
 /// A text is read in one way: as one trace, or with one first fault.
@@ -31,4 +37,24 @@ pub fn worked_rows()
     ensures texts { TextRows }
     ensures sized { SizedRows }
     ensures lines { LineRows }
+{}
+
+/// The worked row of a report holds of the definitions.
+pub fn worked_report()
+    ensures { ReportRows }
+{}
+
+/// Each pair of a flip was placed by a step of its own: a report has no more pairs than events.
+pub fn pairs_are_placed_by_steps()
+    ensures { (size mutators : ℕ) (entries : List Entry) → IsHistory size mutators entries
+        → (let report = report_in (answers_of entries) (state_after size mutators entries) in
+        report.pairs ≤ report.events) }
+{}
+
+/// There is a script for each mutator, and its commands have numbers as a program's have them, where the events
+/// have.
+pub fn scripts_are_commands()
+    ensures count { (mutators : ℕ) (events : List Event) → length (scripts mutators events) ≡ mutators }
+    ensures commands { (m mutators : ℕ) (events : List Event)
+        → AllByRecursion (IsOf mutators) events → AllByRecursion IsCommand (script_in m events) }
 {}

@@ -16,7 +16,10 @@ mod trace;
 mod writer;
 
 pub use fault::{PlayFault, TraceFault};
-pub use laws::{texts_have_one_reading, worked_rows, written_is_read};
+pub use laws::{
+    pairs_are_placed_by_steps, scripts_are_commands, texts_have_one_reading, worked_report,
+    worked_rows, written_is_read,
+};
 pub use player::{play, play_pair, play_report};
 pub use reader::read_trace;
 pub use report::{Report, report_of, write_report};
@@ -24,3 +27,6 @@ pub use run::run_trace;
 pub use scripts::scripts_of;
 pub use trace::Trace;
 pub use writer::write_trace;
+
+#[cfg(test)]
+mod tests;

@@ -1,0 +1,5 @@
+use Rattle.gc_trace.proofs.PairsPlaced.{few_pairs}
+use Rattle.gc_trace.proofs.laws.pairs_are_placed_by_steps.Goals as goal
+
+pub returns : goal.returns
+returns c = few_pairs
