@@ -68,8 +68,7 @@ fn print_count<W: Write>(
 {
     printer.make_room(writer, LINE)?;
     printer.bytes(name);
-    printer.bytes(b" ");
-    printer.number(count as u64);
+    printer.numbered(b" ", count as u64);
     printer.bytes(b"\n");
     Ok(())
 }
@@ -91,10 +90,8 @@ fn print_sizes<W: Write>(
 {
     printer.make_room(writer, LINE)?;
     printer.bytes(name);
-    printer.bytes(b" ");
-    printer.number(u64::from(size));
-    printer.bytes(b" ");
-    printer.number(u64::from(end));
+    printer.numbered(b" ", u64::from(size));
+    printer.numbered(b" ", u64::from(end));
     printer.bytes(b"\n");
     Ok(())
 }
@@ -113,8 +110,7 @@ fn print_pair<W: Write>(
 {
     printer.make_room(writer, LINE)?;
     printer.number(u64::from(pair.old.0));
-    printer.bytes(b" ");
-    printer.number(u64::from(pair.new.0));
+    printer.numbered(b" ", u64::from(pair.new.0));
     printer.bytes(b"\n");
     Ok(())
 }

@@ -53,20 +53,18 @@ fn print_refusal(printer: &mut Printer, refusal: &Refusal)
         Refusal::Twice { k } => print_place(printer, b"refused 7 Twice ", *k),
         Refusal::HeaderDiffers { k } => print_place(printer, b"refused 8 HeaderDiffers ", *k),
         Refusal::FieldDiffers { k, i } => {
-            printer.bytes(b"refused 9 FieldDiffers ");
-            printer.number(*k);
+            printer.numbered(b"refused 9 FieldDiffers ", *k);
             print_place(printer, b" ", *i);
         }
         Refusal::RootDiffers { slot } => print_place(printer, b"refused 10 RootDiffers ", *slot),
     }
 }
 
-// What ends in a number.
+// A line that ends in a number.
 fn print_place(printer: &mut Printer, words: &[u8], place: u64)
     requires { length printer.old + length words.now + 21 ≤ 16384 }
     ensures { printer.new ≡ printer.old ++ (words.now ++ (decimal place ++ codes "\n")) }
 {
-    printer.bytes(words);
-    printer.number(place);
+    printer.numbered(words, place);
     printer.bytes(b"\n");
 }

@@ -1,20 +1,11 @@
-ghost use Rattle.std.specs.Prelude.{◌≡◌, ◌<◌, ◌^◌, IfOk, IsTrue, OnOk, length, map};
-ghost use Rattle.gc_words.specs.Views.{addresses};
-ghost use Rattle.gc_heap.specs.Heap.{graph_in};
-ghost use Rattle.gc_copy.specs.State.{pairs_of};
-ghost use Rattle.gc_copy.specs.Steps.{is_ready};
-ghost use Rattle.gc_copy.specs.Words.{collection_in, BelongsTo};
-ghost use Rattle.gc_world.specs.Flip.{IsDraft, IsPlan};
+ghost use Rattle.std.specs.Prelude.{IfOk};
+ghost use Rattle.gc_world.specs.Flip.{IsPlan};
 
 use gc_cert::PairFile;
-use gc_check::{CheckFault, check};
-use gc_copy::{Collection, StepReply, images_show_links};
+use gc_copy::{Collection, StepReply};
 use gc_graph::NoMemory;
-use gc_heap::Heap;
-use gc_par::check_par;
-use gc_words::{Pair, no_fault_where_certified};
+use gc_words::Pair;
 use std::alloc::Global;
-use std::thread::Threads;
 
 /// What came of a step: an answer, or of a flip the pair that the checker accepted.
 #[derive(Debug, Drop)]
@@ -66,24 +57,6 @@ pub(crate) struct Plan {
     pub(crate) roots: Vec<u64>,
 }
 
-impl Draft {
-    /// The draft of a ready collection's flip. Two growths.
-    pub(crate) fn new(
-        alloc: Global,
-        collection: &Collection,
-        heap: &Heap,
-    ) -> Result<Draft, NoMemory>
-        requires belongs { BelongsTo heap.now collection.now }
-        requires ready { IsTrue (is_ready (collection_in collection.now) (graph_in heap.now)) }
-        ensures draft { IfOk result (IsDraft heap.now collection.now) }
-        ensures few { IfOk result (λ draft. length draft.pairs.items < 2 ^ 32) }
-    {
-        let pairs = collection.pairs(alloc)?;
-        let roots = collection.new_roots(alloc, heap)?;
-        Ok(Draft { pairs, roots })
-    }
-}
-
 impl Plan {
     /// The flip of this draft with what is to be kept of it. Two growths.
     pub(crate) fn new(
@@ -104,54 +77,5 @@ impl Plan {
             words,
             roots,
         })
-    }
-}
-
-/// Whether the checker accepts the draft; of a ready collection's it always does.
-pub(crate) fn is_accepted(
-    alloc: Global,
-    heap: &Heap,
-    collection: &Collection,
-    draft: &Draft,
-) -> Result<bool, NoMemory>
-    requires belongs { BelongsTo heap.now collection.now }
-    requires ready { IsTrue (is_ready (collection_in collection.now) (graph_in heap.now)) }
-    requires draft { IsDraft heap.now collection.now draft.now }
-    requires few { length draft.now.pairs.items < 2 ^ 32 }
-    ensures { IfOk result (λ yes. IsTrue yes) }
-{
-    images_show_links();
-    no_fault_where_certified();
-    let old = heap.image();
-    let new = collection.new_image(&draft.roots);
-    match check(alloc, old, new, &draft.pairs) {
-        Ok(_) => Ok(true),
-        Err(CheckFault::Refused(_)) => Ok(false),
-        Err(CheckFault::NoMemory) => Err(NoMemory),
-    }
-}
-
-/// The same answer, by several threads where there are many pairs.
-pub(crate) fn is_accepted_par(
-    rt: &(impl Threads + Sync),
-    alloc: Global,
-    heap: &Heap,
-    collection: &Collection,
-    draft: &Draft,
-) -> Result<bool, NoMemory>
-    requires belongs { BelongsTo heap.now collection.now }
-    requires ready { IsTrue (is_ready (collection_in collection.now) (graph_in heap.now)) }
-    requires draft { IsDraft heap.now collection.now draft.now }
-    requires few { length draft.now.pairs.items < 2 ^ 32 }
-    ensures { IfOk result (λ yes. IsTrue yes) }
-{
-    images_show_links();
-    no_fault_where_certified();
-    let old = heap.image();
-    let new = collection.new_image(&draft.roots);
-    match check_par(rt, alloc, old, new, &draft.pairs) {
-        Ok(_) => Ok(true),
-        Err(CheckFault::Refused(_)) => Ok(false),
-        Err(CheckFault::NoMemory) => Err(NoMemory),
     }
 }

@@ -9,7 +9,8 @@ ghost use Rattle.gc_copy.specs.Belonging.{IsState};
 ghost use Rattle.gc_copy.specs.Passing.{PassesWhereReady, AlwaysHasRoom};
 ghost use Rattle.gc_copy.specs.Carried.{OnlyKeptIsPaired, base_of_run};
 ghost use Rattle.gc_copy.specs.declared.step.StepReply.TheVariants.{Refused};
-ghost use Rattle.gc_world.specs.History.{run_event, run_answer, events_of, state_after, IsUseful, IsHistory, told_of};
+ghost use Rattle.gc_world.specs.History.{run_event, run_answer, events_of, state_after, told_of};
+ghost use Rattle.gc_world.specs.History.{IsUseful, IsHistory};
 ghost use Rattle.gc_world.specs.declared.event.Entry.{Entry};
 
 /// A world that was just opened has an empty history. An event with the answer that it gets, which is
@@ -37,8 +38,8 @@ pub fn runs_are_legal()
 {}
 
 /// The state that a history leads to is as it has to be, with as many mutators as the world was opened with.
-/// A flip of a ready collection is answered `Flipped` there, with the number of its pairs; where the new space
-/// is at least as large as the old one, no step lacks room; and each original of an open collection was
+/// A flip of a ready collection is answered `Flipped` there, with the number of its pairs; where the new
+/// space is at least as large as the old one, no step lacks room; and each original of an open collection was
 /// reachable when the collection began, or was made later. No answer of a history is `Refused`.
 pub fn runs_keep_states()
     ensures states { (size mutators : ℕ) (entries : List Entry)

@@ -1,8 +1,7 @@
 ghost use Rattle.std.specs.Prelude.{◌≡◌, ◌<◌, ◌≤◌, ◌^◌, IfOk, OnErr, IfSome, IsSomeAnd, IsTrue, None, length};
-ghost use Rattle.gc_heap.specs.Heap.{graph_in};
 ghost use Rattle.gc_cert.specs.Views.{pair_in};
 ghost use Rattle.gc_copy.specs.State.{opening_state, pairs_of};
-ghost use Rattle.gc_copy.specs.Steps.{mutate, collect, is_ready, useful_step};
+ghost use Rattle.gc_copy.specs.Steps.{mutate, collect, useful_step};
 ghost use Rattle.gc_copy.specs.Words.{collection_in};
 ghost use Rattle.gc_copy.specs.Runs.{IsStep};
 ghost use Rattle.gc_copy.specs.declared.step.StepReply.{StepReply};
@@ -11,11 +10,14 @@ ghost use Rattle.gc_world.specs.Live.{state_in, IsLive, CanFlip, IsDrafted};
 ghost use Rattle.gc_world.specs.declared.flip.Stepped.{Stepped};
 ghost use Rattle.gc_copy.specs.declared.step.Step.{Step};
 
-use crate::flip::{Draft, Plan, Stepped, is_accepted, is_accepted_par};
+use crate::flip::{Draft, Plan, Stepped};
 use gc_cert::{Image, PairFile};
+use gc_check::{CheckFault, check};
 use gc_copy::{Collection, Step, StepReply, images_show_links};
 use gc_graph::{NoMemory, Op, Reply};
 use gc_heap::Heap;
+use gc_par::check_par;
+use gc_words::no_fault_where_certified;
 use std::alloc::Global;
 use std::thread::Threads;
 
@@ -46,7 +48,8 @@ impl Live {
     pub(crate) fn mutate(&mut self, m: u8, op: &Op) -> Result<Reply, NoMemory>
         requires live { IsLive self.old }
         requires mutator { m < self.old.heap.mutators }
-        ensures step { IfOk result (λ reply. mutate (state_in self.old) m op.now ≡ (reply, state_in self.new)) }
+        ensures step { IfOk result (λ reply.
+            mutate (state_in self.old) m op.now ≡ (reply, state_in self.new)) }
         ensures refused { OnErr result (state_in self.new ≡ state_in self.old) }
         ensures live { IsLive self.new }
         ensures mutators { self.new.heap.mutators ≡ self.old.heap.mutators }
@@ -65,7 +68,8 @@ impl Live {
         requires live { IsLive self.old }
         requires low { 1 ≤ size }
         requires high { size ≤ 1048576 }
-        ensures step { IfOk result (λ reply. collect (state_in self.old) (Step.BeginSized size) ≡ (reply, state_in self.new)) }
+        ensures step { IfOk result (λ reply.
+            collect (state_in self.old) (Step.BeginSized size) ≡ (reply, state_in self.new)) }
         ensures refused { OnErr result (self.new ≡ self.old) }
         ensures live { IsLive self.new }
         ensures mutators { self.new.heap.mutators ≡ self.old.heap.mutators }
@@ -156,7 +160,8 @@ impl Live {
     pub(crate) fn step(&mut self, alloc: Global, step: Step) -> Result<Stepped, NoMemory>
         requires live { IsLive self.old }
         requires step { IsStep self.old.heap.mutators step }
-        ensures step { IfOk result (λ stepped. collect (state_in self.old) step ≡ (reply_of stepped, state_in self.new)) }
+        ensures step { IfOk result (λ stepped.
+            collect (state_in self.old) step ≡ (reply_of stepped, state_in self.new)) }
         ensures kept { IfOk result (KeepsPair (state_in self.old)) }
         ensures few { IfOk result HasFew }
         ensures refused { OnErr result (self.new ≡ self.old) }
@@ -178,11 +183,12 @@ impl Live {
         Ok(Stepped::Answered(reply))
     }
 
-    /// Flips where the collection is ready and the checker accepts its pairs. All growths come before the first
-    /// change.
+    /// Flips where the collection is ready and the checker accepts its pairs. All growths come before the
+    /// first change.
     pub(crate) fn flip(&mut self, alloc: Global) -> Result<Stepped, NoMemory>
         requires { IsLive self.old }
-        ensures step { IfOk result (λ flip. collect (state_in self.old) Step.Flip ≡ (reply_of flip, state_in self.new)) }
+        ensures step { IfOk result (λ flip.
+            collect (state_in self.old) Step.Flip ≡ (reply_of flip, state_in self.new)) }
         ensures kept { IfOk result (KeepsPair (state_in self.old)) }
         ensures few { IfOk result HasFew }
         ensures refused { OnErr result (self.new ≡ self.old) }
@@ -208,7 +214,8 @@ impl Live {
     ) -> Result<Stepped, NoMemory>
         requires live { IsLive self.old }
         requires step { IsStep self.old.heap.mutators step }
-        ensures step { IfOk result (λ stepped. collect (state_in self.old) step ≡ (reply_of stepped, state_in self.new)) }
+        ensures step { IfOk result (λ stepped.
+            collect (state_in self.old) step ≡ (reply_of stepped, state_in self.new)) }
         ensures kept { IfOk result (KeepsPair (state_in self.old)) }
         ensures few { IfOk result HasFew }
         ensures refused { OnErr result (self.new ≡ self.old) }
@@ -228,7 +235,8 @@ impl Live {
         alloc: Global,
     ) -> Result<Stepped, NoMemory>
         requires { IsLive self.old }
-        ensures step { IfOk result (λ flip. collect (state_in self.old) Step.Flip ≡ (reply_of flip, state_in self.new)) }
+        ensures step { IfOk result (λ flip.
+            collect (state_in self.old) Step.Flip ≡ (reply_of flip, state_in self.new)) }
         ensures kept { IfOk result (KeepsPair (state_in self.old)) }
         ensures few { IfOk result HasFew }
         ensures refused { OnErr result (self.new ≡ self.old) }
@@ -248,7 +256,8 @@ impl Live {
     /// What a flip is answered without a look at the certificate: there is no collection, or it is not ready.
     fn waits(&self) -> Option<StepReply>
         requires { IsLive self.now }
-        ensures waits { IfSome result (λ reply. collect (state_in self.now) Step.Flip ≡ (reply, state_in self.now)) }
+        ensures waits { IfSome result (λ reply.
+            collect (state_in self.now) Step.Flip ≡ (reply, state_in self.now)) }
         ensures kept { IfSome result (λ reply. KeepsPair (state_in self.now) (Stepped.Answered reply)) }
         ensures ready { result ≡ None → CanFlip self.now }
     {
@@ -261,7 +270,7 @@ impl Live {
         None
     }
 
-    /// What the checker is to be shown of a flip that is ready.
+    /// What the checker is to be shown of a flip that is ready. Two growths.
     fn draft(&self, alloc: Global) -> Result<Draft, NoMemory>
         requires live { IsLive self.now }
         requires ready { CanFlip self.now }
@@ -269,10 +278,12 @@ impl Live {
         ensures few { IfOk result (λ draft. length draft.pairs.items < 2 ^ 32) }
     {
         let collection = self.collection.as_ref().unwrap();
-        Draft::new(alloc, collection, &self.heap)
+        let pairs = collection.pairs(alloc)?;
+        let roots = collection.new_roots(alloc, &self.heap)?;
+        Ok(Draft { pairs, roots })
     }
 
-    /// Whether the checker accepts it.
+    /// Whether the checker accepts it; of a ready collection's it always does.
     fn accepts(&self, alloc: Global, draft: &Draft) -> Result<bool, NoMemory>
         requires live { IsLive self.now }
         requires ready { CanFlip self.now }
@@ -280,8 +291,16 @@ impl Live {
         requires few { length draft.now.pairs.items < 2 ^ 32 }
         ensures { IfOk result (λ yes. IsTrue yes) }
     {
+        images_show_links();
+        no_fault_where_certified();
         let collection = self.collection.as_ref().unwrap();
-        is_accepted(alloc, &self.heap, collection, draft)
+        let old = self.heap.image();
+        let new = collection.new_image(&draft.roots);
+        match check(alloc, old, new, &draft.pairs) {
+            Ok(_) => Ok(true),
+            Err(CheckFault::Refused(_)) => Ok(false),
+            Err(CheckFault::NoMemory) => Err(NoMemory),
+        }
     }
 
     /// Whether the checker accepts it, which several threads find out.
@@ -297,8 +316,16 @@ impl Live {
         requires few { length draft.now.pairs.items < 2 ^ 32 }
         ensures { IfOk result (λ yes. IsTrue yes) }
     {
+        images_show_links();
+        no_fault_where_certified();
         let collection = self.collection.as_ref().unwrap();
-        is_accepted_par(rt, alloc, &self.heap, collection, draft)
+        let old = self.heap.image();
+        let new = collection.new_image(&draft.roots);
+        match check_par(rt, alloc, old, new, &draft.pairs) {
+            Ok(_) => Ok(true),
+            Err(CheckFault::Refused(_)) => Ok(false),
+            Err(CheckFault::NoMemory) => Err(NoMemory),
+        }
     }
 
     /// Makes the accepted flip. All growths come before the first change.
@@ -307,7 +334,8 @@ impl Live {
         requires ready { CanFlip self.old }
         requires draft { IsDrafted self.old draft }
         requires few { length draft.pairs.items < 2 ^ 32 }
-        ensures step { IfOk result (λ flip. collect (state_in self.old) Step.Flip ≡ (reply_of flip, state_in self.new)) }
+        ensures step { IfOk result (λ flip.
+            collect (state_in self.old) Step.Flip ≡ (reply_of flip, state_in self.new)) }
         ensures kept { IfOk result (KeepsPair (state_in self.old)) }
         ensures few { IfOk result HasFew }
         ensures refused { OnErr result (self.new ≡ self.old) }
@@ -322,13 +350,17 @@ impl Live {
     /// Carries out a flip for which all is ready, and hands out the pair that the checker saw.
     pub(crate) fn carry_out(&mut self, plan: Plan) -> PairFile
         requires live { IsLive self.old }
-        requires ready { IsSomeAnd self.old.collection (λ c. IsTrue (is_ready (collection_in c) (graph_in self.old.heap))) }
-        requires planned { IsSomeAnd self.old.collection (λ c. IsDraft self.old.heap c plan.draft × IsPlan c plan.draft plan) }
+        requires ready { CanFlip self.old }
+        requires planned { IsSomeAnd self.old.collection (λ c.
+            IsDraft self.old.heap c plan.draft × IsPlan c plan.draft plan) }
         requires few { length plan.draft.pairs.items < 2 ^ 32 }
         ensures certified { IsCertified (pair_in result) }
         ensures few { length result.pairs.items < 2 ^ 32 }
-        ensures step { IfSome self.old.collection (λ c. collect (state_in self.old) Step.Flip ≡ (StepReply.Flipped (length (pairs_of (collection_in c))), state_in self.new)) }
-        ensures kept { IfSome self.old.collection (λ c. pair_in result ≡ flip_pair (state_in self.old) (collection_in c)) }
+        ensures step { IfSome self.old.collection (λ c.
+            collect (state_in self.old) Step.Flip
+            ≡ (StepReply.Flipped (length (pairs_of (collection_in c))), state_in self.new)) }
+        ensures kept { IfSome self.old.collection (λ c.
+            pair_in result ≡ flip_pair (state_in self.old) (collection_in c)) }
         ensures live { IsLive self.new }
         ensures mutators { self.new.heap.mutators ≡ self.old.heap.mutators }
     {

@@ -7,6 +7,8 @@ use crate::World;
 use gc_copy::{Step, StepReply};
 use gc_graph::{NoMemory, Number, Op, Reply, Slot, View};
 use gc_words::{NewAddr, OldAddr, Pair};
+use std::alloc::Global;
+use std::process::Abort;
 use std::test::Fail;
 use std::thread::Threads;
 
@@ -18,6 +20,14 @@ fn command(world: &mut World, op: Op) -> Result<Reply, NoMemory>
     world.mutate(0, &op)
 }
 
+/// Makes an object, which the root then refers to.
+fn make(world: &mut World, d: Slot, kind: u8, len: u16) -> Result<Reply, NoMemory>
+    requires { 0 < world.old.mutators }
+    ensures { world.new.mutators ≡ world.old.mutators }
+{
+    world.mutate(0, &Op::New { d, kind, len })
+}
+
 /// Makes a step of the collector.
 fn step(world: &mut World, step: Step) -> Result<StepReply, NoMemory>
     requires { IsStep world.old.mutators step }
@@ -26,16 +36,21 @@ fn step(world: &mut World, step: Step) -> Result<StepReply, NoMemory>
     world.collect(step)
 }
 
-/// Makes a step of the collector, whose flips several threads check.
-fn step_par(
+/// Makes a step of the collector, whose flips several threads check where `in_threads` says so.
+fn step_by(
     rt: &(impl Threads + Sync),
     world: &mut World,
+    in_threads: bool,
     step: Step,
 ) -> Result<StepReply, NoMemory>
     requires { IsStep world.old.mutators step }
     ensures { world.new.mutators ≡ world.old.mutators }
 {
-    world.collect_par(rt, step)
+    if in_threads {
+        world.collect_par(rt, step)
+    } else {
+        world.collect(step)
+    }
 }
 
 /// Makes the step that is useful.
@@ -45,74 +60,69 @@ fn useful(rt: &(impl Threads + Sync), world: &mut World) -> Result<(Step, StepRe
     world.collect_useful(rt)
 }
 
-#[test]
-fn collect_when_full(rt: HostRuntime) -> Result<(), Fail> {
+/// A collection makes room where there was none.
+fn collect_when_full(
+    rt: &(impl Threads + Sync + Abort),
+    alloc: Global,
+    in_threads: bool,
+) -> Result<(), Fail> {
     let _named = View::Nil;
     let r0 = Slot::own(0).ok_or("slot")?;
     let r1 = Slot::own(1).ok_or("slot")?;
-    let mut world = World::open(rt.alloc(), 9, 1)?;
+    let mut world = World::open(alloc, 9, 1)?;
     assert_eq!(rt; world.useful_step(), Step::Begin);
+    assert_eq!(rt; make(&mut world, r0, 1, 2)?, Reply::Made);
+    assert_eq!(rt; make(&mut world, r0, 1, 2)?, Reply::Made);
+    assert_eq!(rt; make(&mut world, r1, 0, 0)?, Reply::Full);
     assert_eq!(rt;
-        command(
-            &mut world,
-            Op::New {
-                d: r0,
-                kind: 1,
-                len: 2
-            }
-        )?,
-        Reply::Made
+        step_by(rt, &mut world, in_threads, Step::Begin)?,
+        StepReply::Begun
     );
-    assert_eq!(rt;
-        command(
-            &mut world,
-            Op::New {
-                d: r0,
-                kind: 1,
-                len: 2
-            }
-        )?,
-        Reply::Made
-    );
-    assert_eq!(rt;
-        command(
-            &mut world,
-            Op::New {
-                d: r1,
-                kind: 0,
-                len: 0
-            }
-        )?,
-        Reply::Full
-    );
-    assert_eq!(rt; step(&mut world, Step::Begin)?, StepReply::Begun);
     assert!(rt; world.is_open());
-    assert_eq!(rt; step(&mut world, Step::Roots)?, StepReply::Copied);
-    assert_eq!(rt; world.useful_step(), Step::Scan);
-    assert_eq!(rt; step(&mut world, Step::Scan)?, StepReply::Scanned);
-    assert_eq!(rt; step(&mut world, Step::Scan)?, StepReply::Scanned);
-    assert_eq!(rt; step(&mut world, Step::Scan)?, StepReply::Passed);
-    assert_eq!(rt; step(&mut world, Step::Scan)?, StepReply::Clean);
-    assert_eq!(rt; step(&mut world, Step::Roots)?, StepReply::Clean);
     assert_eq!(rt;
-        step(&mut world, Step::Flip)?,
+        step_by(rt, &mut world, in_threads, Step::Roots)?,
+        StepReply::Copied
+    );
+    assert_eq!(rt; world.useful_step(), Step::Scan);
+    assert_eq!(rt;
+        step_by(rt, &mut world, in_threads, Step::Scan)?,
+        StepReply::Scanned
+    );
+    assert_eq!(rt;
+        step_by(rt, &mut world, in_threads, Step::Scan)?,
+        StepReply::Scanned
+    );
+    assert_eq!(rt;
+        step_by(rt, &mut world, in_threads, Step::Scan)?,
+        StepReply::Passed
+    );
+    assert_eq!(rt;
+        step_by(rt, &mut world, in_threads, Step::Scan)?,
+        StepReply::Clean
+    );
+    assert_eq!(rt;
+        step_by(rt, &mut world, in_threads, Step::Roots)?,
+        StepReply::Clean
+    );
+    assert_eq!(rt;
+        step_by(rt, &mut world, in_threads, Step::Flip)?,
         StepReply::Flipped { pairs: 1 }
     );
     assert!(rt; !world.is_open());
-    assert_eq!(rt;
-        command(
-            &mut world,
-            Op::New {
-                d: r1,
-                kind: 0,
-                len: 0
-            }
-        )?,
-        Reply::Made
-    );
+    assert_eq!(rt; make(&mut world, r1, 0, 0)?, Reply::Made);
     assert_eq!(rt; world.history().len(), 12);
     assert_eq!(rt; world.heap().space().free(), 2);
     Ok(())
+}
+
+#[test]
+fn collect_when_full_by_one_thread(rt: HostRuntime) -> Result<(), Fail> {
+    collect_when_full(&rt, rt.alloc(), false)
+}
+
+#[test]
+fn collect_when_full_in_threads(rt: HostRuntime) -> Result<(), Fail> {
+    collect_when_full(&rt, rt.alloc(), true)
 }
 
 #[test]
@@ -121,28 +131,8 @@ fn a_flip_keeps_its_pair(rt: HostRuntime) -> Result<(), Fail> {
     let r0 = Slot::own(0).ok_or("slot")?;
     let mut world = World::open(rt.alloc(), 9, 1)?;
     assert!(rt; world.take_flip().is_none());
-    assert_eq!(rt;
-        command(
-            &mut world,
-            Op::New {
-                d: r0,
-                kind: 1,
-                len: 2
-            }
-        )?,
-        Reply::Made
-    );
-    assert_eq!(rt;
-        command(
-            &mut world,
-            Op::New {
-                d: r0,
-                kind: 1,
-                len: 2
-            }
-        )?,
-        Reply::Made
-    );
+    assert_eq!(rt; make(&mut world, r0, 1, 2)?, Reply::Made);
+    assert_eq!(rt; make(&mut world, r0, 1, 2)?, Reply::Made);
     assert_eq!(rt; step(&mut world, Step::Begin)?, StepReply::Begun);
     assert_eq!(rt; step(&mut world, Step::Roots)?, StepReply::Copied);
     assert_eq!(rt; step(&mut world, Step::Scan)?, StepReply::Scanned);
@@ -168,48 +158,70 @@ fn a_flip_keeps_its_pair(rt: HostRuntime) -> Result<(), Fail> {
     Ok(())
 }
 
-#[test]
-fn write_while_scanning(rt: HostRuntime) -> Result<(), Fail> {
+/// A field that is written behind the scan pointer is brought up to date before the flip.
+fn write_while_scanning(
+    rt: &(impl Threads + Sync + Abort),
+    alloc: Global,
+    in_threads: bool,
+) -> Result<(), Fail> {
     let _named = View::Nil;
     let r0 = Slot::own(0).ok_or("slot")?;
     let r1 = Slot::own(1).ok_or("slot")?;
     let r2 = Slot::own(2).ok_or("slot")?;
     let nine = Number::new(9).ok_or("number")?;
-    let mut world = World::open(rt.alloc(), 32, 1)?;
-    assert_eq!(rt;
-        command(
-            &mut world,
-            Op::New {
-                d: r0,
-                kind: 1,
-                len: 1
-            }
-        )?,
-        Reply::Made
-    );
+    let mut world = World::open(alloc, 32, 1)?;
+    assert_eq!(rt; make(&mut world, r0, 1, 1)?, Reply::Made);
     assert_eq!(rt;
         command(&mut world, Op::Num { d: r1, n: nine })?,
         Reply::Done
     );
-    assert_eq!(rt; step(&mut world, Step::Begin)?, StepReply::Begun);
-    assert_eq!(rt; step(&mut world, Step::Roots)?, StepReply::Copied);
-    assert_eq!(rt; step(&mut world, Step::Scan)?, StepReply::Scanned);
+    assert_eq!(rt;
+        step_by(rt, &mut world, in_threads, Step::Begin)?,
+        StepReply::Begun
+    );
+    assert_eq!(rt;
+        step_by(rt, &mut world, in_threads, Step::Roots)?,
+        StepReply::Copied
+    );
+    assert_eq!(rt;
+        step_by(rt, &mut world, in_threads, Step::Scan)?,
+        StepReply::Scanned
+    );
     assert_eq!(rt;
         command(&mut world, Op::Put { s: r0, i: 0, t: r1 })?,
         Reply::Done
     );
-    assert_eq!(rt; step(&mut world, Step::Scan)?, StepReply::Passed);
-    assert_eq!(rt; step(&mut world, Step::Flip)?, StepReply::NotReady);
+    assert_eq!(rt;
+        step_by(rt, &mut world, in_threads, Step::Scan)?,
+        StepReply::Passed
+    );
+    assert_eq!(rt;
+        step_by(rt, &mut world, in_threads, Step::Flip)?,
+        StepReply::NotReady
+    );
     assert_eq!(rt; world.useful_step(), Step::Apply(0));
-    assert_eq!(rt; step(&mut world, Step::Apply(0))?, StepReply::Applied);
+    assert_eq!(rt;
+        step_by(rt, &mut world, in_threads, Step::Apply(0))?,
+        StepReply::Applied
+    );
     assert_eq!(rt; world.useful_step(), Step::Flip);
     assert_eq!(rt;
-        step(&mut world, Step::Flip)?,
+        step_by(rt, &mut world, in_threads, Step::Flip)?,
         StepReply::Flipped { pairs: 1 }
     );
     let got = command(&mut world, Op::Get { d: r2, s: r0, i: 0 })?;
     assert_eq!(rt; got, Reply::Saw(View::Num(nine)));
     Ok(())
+}
+
+#[test]
+fn write_while_scanning_by_one_thread(rt: HostRuntime) -> Result<(), Fail> {
+    write_while_scanning(&rt, rt.alloc(), false)
+}
+
+#[test]
+fn write_while_scanning_in_threads(rt: HostRuntime) -> Result<(), Fail> {
+    write_while_scanning(&rt, rt.alloc(), true)
 }
 
 #[test]
@@ -233,140 +245,19 @@ fn steps_without_a_collection(rt: HostRuntime) -> Result<(), Fail> {
 }
 
 #[test]
-fn collect_when_full_in_threads(rt: HostRuntime) -> Result<(), Fail> {
-    let _named = View::Nil;
-    let r0 = Slot::own(0).ok_or("slot")?;
-    let r1 = Slot::own(1).ok_or("slot")?;
-    let mut world = World::open(rt.alloc(), 9, 1)?;
-    assert_eq!(rt; world.useful_step(), Step::Begin);
-    assert_eq!(rt;
-        command(
-            &mut world,
-            Op::New {
-                d: r0,
-                kind: 1,
-                len: 2
-            }
-        )?,
-        Reply::Made
-    );
-    assert_eq!(rt;
-        command(
-            &mut world,
-            Op::New {
-                d: r0,
-                kind: 1,
-                len: 2
-            }
-        )?,
-        Reply::Made
-    );
-    assert_eq!(rt;
-        command(
-            &mut world,
-            Op::New {
-                d: r1,
-                kind: 0,
-                len: 0
-            }
-        )?,
-        Reply::Full
-    );
-    assert_eq!(rt; step_par(&rt, &mut world, Step::Begin)?, StepReply::Begun);
-    assert!(rt; world.is_open());
-    assert_eq!(rt; step_par(&rt, &mut world, Step::Roots)?, StepReply::Copied);
-    assert_eq!(rt; world.useful_step(), Step::Scan);
-    assert_eq!(rt; step_par(&rt, &mut world, Step::Scan)?, StepReply::Scanned);
-    assert_eq!(rt; step_par(&rt, &mut world, Step::Scan)?, StepReply::Scanned);
-    assert_eq!(rt; step_par(&rt, &mut world, Step::Scan)?, StepReply::Passed);
-    assert_eq!(rt; step_par(&rt, &mut world, Step::Scan)?, StepReply::Clean);
-    assert_eq!(rt; step_par(&rt, &mut world, Step::Roots)?, StepReply::Clean);
-    assert_eq!(rt;
-        step_par(&rt, &mut world, Step::Flip)?,
-        StepReply::Flipped { pairs: 1 }
-    );
-    assert!(rt; !world.is_open());
-    assert_eq!(rt;
-        command(
-            &mut world,
-            Op::New {
-                d: r1,
-                kind: 0,
-                len: 0
-            }
-        )?,
-        Reply::Made
-    );
-    assert_eq!(rt; world.history().len(), 12);
-    assert_eq!(rt; world.heap().space().free(), 2);
-    Ok(())
-}
-
-#[test]
-fn write_while_scanning_in_threads(rt: HostRuntime) -> Result<(), Fail> {
-    let _named = View::Nil;
-    let r0 = Slot::own(0).ok_or("slot")?;
-    let r1 = Slot::own(1).ok_or("slot")?;
-    let r2 = Slot::own(2).ok_or("slot")?;
-    let nine = Number::new(9).ok_or("number")?;
-    let mut world = World::open(rt.alloc(), 32, 1)?;
-    assert_eq!(rt;
-        command(
-            &mut world,
-            Op::New {
-                d: r0,
-                kind: 1,
-                len: 1
-            }
-        )?,
-        Reply::Made
-    );
-    assert_eq!(rt;
-        command(&mut world, Op::Num { d: r1, n: nine })?,
-        Reply::Done
-    );
-    assert_eq!(rt; step_par(&rt, &mut world, Step::Begin)?, StepReply::Begun);
-    assert_eq!(rt; step_par(&rt, &mut world, Step::Roots)?, StepReply::Copied);
-    assert_eq!(rt; step_par(&rt, &mut world, Step::Scan)?, StepReply::Scanned);
-    assert_eq!(rt;
-        command(&mut world, Op::Put { s: r0, i: 0, t: r1 })?,
-        Reply::Done
-    );
-    assert_eq!(rt; step_par(&rt, &mut world, Step::Scan)?, StepReply::Passed);
-    assert_eq!(rt; step_par(&rt, &mut world, Step::Flip)?, StepReply::NotReady);
-    assert_eq!(rt; world.useful_step(), Step::Apply(0));
-    assert_eq!(rt;
-        step_par(&rt, &mut world, Step::Apply(0))?,
-        StepReply::Applied
-    );
-    assert_eq!(rt; world.useful_step(), Step::Flip);
-    assert_eq!(rt;
-        step_par(&rt, &mut world, Step::Flip)?,
-        StepReply::Flipped { pairs: 1 }
-    );
-    let got = command(&mut world, Op::Get { d: r2, s: r0, i: 0 })?;
-    assert_eq!(rt; got, Reply::Saw(View::Num(nine)));
-    Ok(())
-}
-
-#[test]
 fn useful_steps(rt: HostRuntime) -> Result<(), Fail> {
     let _named = View::Nil;
     let r0 = Slot::own(0).ok_or("slot")?;
     let mut world = World::open(rt.alloc(), 8, 1)?;
+    assert_eq!(rt; make(&mut world, r0, 0, 1)?, Reply::Made);
     assert_eq!(rt;
-        command(
-            &mut world,
-            Op::New {
-                d: r0,
-                kind: 0,
-                len: 1
-            }
-        )?,
-        Reply::Made
+        step_by(&rt, &mut world, true, Step::Scan)?,
+        StepReply::Idle
     );
-    assert_eq!(rt; step_par(&rt, &mut world, Step::Scan)?, StepReply::Idle);
-    assert_eq!(rt; step_par(&rt, &mut world, Step::Apply(0))?, StepReply::Idle);
+    assert_eq!(rt;
+        step_by(&rt, &mut world, true, Step::Apply(0))?,
+        StepReply::Idle
+    );
     assert!(rt; useful(&rt, &mut world)? == (Step::Begin, StepReply::Begun));
     assert!(rt; useful(&rt, &mut world)? == (Step::Roots, StepReply::Copied));
     assert!(rt; useful(&rt, &mut world)? == (Step::Scan, StepReply::Scanned));

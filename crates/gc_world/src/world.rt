@@ -11,8 +11,8 @@ use std::alloc::Global;
 use std::marker::Model;
 use std::thread::Threads;
 
-/// A heap with its mutators and its collector, and the history of all that happened to it. A flip keeps the pair that
-/// the checker accepted, until it is taken.
+/// A heap with its mutators and its collector, and the history of all that happened to it. A flip keeps the
+/// pair that the checker accepted, until it is taken.
 #[derive(Debug, Drop)]
 pub struct World {
     alloc: Global,
@@ -101,8 +101,8 @@ impl World {
         Ok(reply)
     }
 
-    /// Makes a step of the collector. A flip is made only of what the checker accepts, and keeps the pair that it
-    /// accepted. Where memory is wanting, the step did not happen.
+    /// Makes a step of the collector. A flip is made only of what the checker accepts, and keeps the pair that
+    /// it accepted. Where memory is wanting, the step did not happen.
     pub fn collect(&mut self, step: Step) -> Result<StepReply, NoMemory>
         requires { IsStep self.old.mutators step }
         ensures answered { IfOk result (λ reply.
@@ -142,7 +142,8 @@ impl World {
         Ok(reply)
     }
 
-    /// Makes the useful step, as `collect_par` does, and tells which it was. Its answer is recorded as `Useful`.
+    /// Makes the useful step, as `collect_par` does, and tells which it was. Its answer is recorded as
+    /// `Useful`.
     pub fn collect_useful(
         &mut self,
         rt: &(impl Threads + Sync),

@@ -3,7 +3,6 @@
 
 mod check;
 mod fault;
-mod numbered;
 mod pair_faults;
 mod play;
 mod program;

@@ -2,7 +2,6 @@ ghost use Rattle.std.specs.Prelude.{◌≡◌, ◌+◌, ◌≤◌, ◌++◌, len
 ghost use Rattle.gcflip.specs.PairFaults.{pair_fault_text, check_fault_text};
 ghost use Rattle.gcflip.specs.PairFaults.{pair_fault_status, check_fault_status};
 
-use crate::numbered::print_numbered;
 use gc_cert::PairFault;
 use gc_check::RunFault;
 use gc_graph::text::Printer;
@@ -16,7 +15,7 @@ fn print_pair_fault(printer: &mut Printer, fault: &PairFault)
     match fault {
         PairFault::Read => printer.bytes(b"cannot read"),
         PairFault::TooLarge => printer.bytes(b"pair: too large"),
-        PairFault::BadLine(n) => print_numbered(printer, b"pair: bad line ", *n),
+        PairFault::BadLine(n) => printer.numbered(b"pair: bad line ", *n),
         PairFault::EndsEarly => printer.bytes(b"pair: ends early"),
         PairFault::NoMemory => printer.bytes(b"no memory"),
     }

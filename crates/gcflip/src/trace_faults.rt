@@ -2,7 +2,6 @@ ghost use Rattle.std.specs.Prelude.{◌≡◌, ◌+◌, ◌≤◌, ◌++◌, len
 ghost use Rattle.gcflip.specs.TraceFaults.{trace_fault_text, play_fault_text};
 ghost use Rattle.gcflip.specs.TraceFaults.{trace_fault_status, play_fault_status};
 
-use crate::numbered::print_numbered;
 use gc_graph::text::Printer;
 use gc_trace::{PlayFault, TraceFault};
 
@@ -16,10 +15,8 @@ fn print_trace_fault(printer: &mut Printer, fault: &TraceFault)
         TraceFault::Read => printer.bytes(b"cannot read"),
         TraceFault::TooLarge => printer.bytes(b"trace: too large"),
         TraceFault::BadHeader => printer.bytes(b"trace: bad header"),
-        TraceFault::BadLine(n) => print_numbered(printer, b"trace: bad line ", *n),
-        TraceFault::NoSuchMutator(n) => {
-            print_numbered(printer, b"trace: no such mutator at line ", *n);
-        }
+        TraceFault::BadLine(n) => printer.numbered(b"trace: bad line ", *n),
+        TraceFault::NoSuchMutator(n) => printer.numbered(b"trace: no such mutator at line ", *n),
         TraceFault::NoMemory => printer.bytes(b"no memory"),
     }
 }

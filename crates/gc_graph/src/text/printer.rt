@@ -67,6 +67,16 @@ impl Printer {
         self.bytes(digits.format(n).as_bytes());
     }
 
+    /// Words and the decimal of the number that they end in wait, behind what waits already.
+    pub fn numbered(&mut self, words: &[u8], n: u64)
+        requires { length self.old + length words.now + 20 ≤ 16384 }
+        ensures text { self.new ≡ self.old ++ (words.now ++ decimal n) }
+        ensures room { length self.new ≤ length self.old + length words.now + 20 }
+    {
+        self.bytes(words);
+        self.number(n);
+    }
+
     /// What waits goes out.
     pub fn flush<W: Write>(&mut self, writer: &mut Sink<W>) -> Result<(), Failed>
         ensures empty { OnOk result (self.new ≡ []) }

@@ -1,5 +1,5 @@
-//! A refused growth, as `rt try --test --fail-alloc N` refuses the N-th, changes nothing: the same event made again
-//! is answered as where none was refused, and stands once in the history.
+//! A refused growth, as `rt try --test --fail-alloc N` refuses the N-th, changes nothing: the same event made
+//! again is answered as where none was refused, and stands once in the history.
 
 ghost use Rattle.std.specs.Prelude.{◌≡◌, ◌<◌, IfOk};
 ghost use Rattle.gc_copy.specs.Runs.{IsStep};
