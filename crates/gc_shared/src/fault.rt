@@ -66,3 +66,20 @@ pub struct CloseFault {
     pub world: World,
     pub kind: CloseKind,
 }
+
+/// Why scripts were not run to their end. The scripts and the world are given up.
+#[derive(Clone, Copy, Debug, PartialEq, Eq, Error)]
+pub enum ThreadsFault {
+    /// A thread could not be started. This goes before all others.
+    #[error("threads: not started")]
+    NotStarted,
+    /// The gate ended this seat's thread before its call `n`, both counted from 0.
+    #[error("threads: gate at seat {seat} call {n}")]
+    Gate { seat: u32, n: u64 },
+    /// A growth was refused.
+    #[error("no memory")]
+    NoMemory,
+    /// The seats were not closed; a thread whose seat was refused gives `Seats`.
+    #[error(transparent)]
+    Close(CloseKind),
+}

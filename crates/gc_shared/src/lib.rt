@@ -3,9 +3,14 @@
 
 mod closing;
 mod fault;
+mod gate;
+mod playing;
 mod seat;
 mod shared;
+mod threads;
 
-pub use fault::{CallFault, CloseFault, CloseKind};
+pub use fault::{CallFault, CloseFault, CloseKind, ThreadsFault};
+pub use gate::Gate;
 pub use seat::{Receipt, Seat};
 pub use shared::Shared;
+pub use threads::run_threads;
