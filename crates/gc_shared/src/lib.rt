@@ -14,3 +14,6 @@ pub use gate::Gate;
 pub use seat::{Receipt, Seat};
 pub use shared::Shared;
 pub use threads::run_threads;
+
+#[cfg(test)]
+mod tests;
