@@ -1,0 +1,162 @@
+-- Lemmas on receipts that stand, and on the marks of their places.
+use Rattle.std.proofs.Common.{◌≡◌, ◌≢◌, ℕ, zero, suc, ◌+◌, ◌<◌, ◌≤◌, ◌==◌, Bool, true, false, cond, List, [], ◌∷◌, ◌++◌, length, take, map, get_or, set, replicate, refl, sym, ap, ◌∙◌, arith, count_by, Some, All, length-append, length-set, get_or-set_same, get_or-set_other, add-one, append_assoc, below_more, ⊎_elim}
+use Rattle.std.proofs.lemmas.List.{get_or-replicate, length-replicate, take_more}
+use Rattle.std.proofs.lemmas.List.Folds.{sum_by-replicate}
+use Rattle.std.specs.List.Sorted.{IsStrictlyIncreasing}
+use Rattle.std.proofs.lemmas.Bool.{cases_eq, cases_Bool}
+use Rattle.std.proofs.lemmas.Option.{slice_get_within, slice_get-get_or}
+use Rattle.std.proofs.lemmas.Bool.Decides.{nat_tests}
+use Rattle.std.proofs.lemmas.List.Sums.{sum_by-append, sum_by-cons, sum_by-set, count_by-le-length}
+use Rattle.gc_world.specs.declared.event.Entry.{Entry}
+use Rattle.gc_shared.specs.declared.seat.Receipt.{Receipt}
+use Rattle.gc_shared.specs.Seats.{Held}
+use Rattle.gc_shared.specs.Receipts.{IsTold, times_at}
+use Rattle.gc_shared.specs.Closing.{floor_of, Stands, AllStand, IsFirstTorn, SeatsStand, receipts_of, receipts_below}
+use Rattle.gc_shared.specs.Marks.{IsMarked, IsFree, AgreeByNumber}
+
+pub floor_of-snoc : (low : ℕ) (rs : List Receipt) (r : Receipt) → floor_of low (rs ++ r ∷ []) ≡ r.place + 1
+floor_of-snoc low [] r = refl
+floor_of-snoc low (q ∷ rs) r = floor_of-snoc (q.place + 1) rs r
+
+-- one receipt more stands
+pub AllStand-snoc : (history : List Entry) (earlier : List Receipt) (low : ℕ) (rs : List Receipt) (r : Receipt) → AllStand history earlier low rs → Stands history earlier (floor_of low rs) r → AllStand history earlier low (rs ++ r ∷ [])
+AllStand-snoc history earlier low [] r all one = (one, tt)
+AllStand-snoc history earlier low (q ∷ rs) r all one = (all.0, AllStand-snoc history earlier (q.place + 1) rs r all.1 one)
+
+pub floor_above : (history : List Entry) (earlier : List Receipt) (low : ℕ) (rs : List Receipt) → AllStand history earlier low rs → low ≤ floor_of low rs
+floor_above history earlier low [] all = omega arith
+floor_above history earlier low (q ∷ rs) all = omega (arith, all.0.above, floor_above history earlier (q.place + 1) rs all.1)
+
+pub times_at-append : (p : ℕ) (xs ys : List Receipt) → times_at p (xs ++ ys) ≡ times_at p xs + times_at p ys
+times_at-append p xs ys = sum_by-append (λ r. cond (r.place == p) 1 0) xs ys
+
+pub times_at-one : (p : ℕ) (r : Receipt) → r.place ≡ p → times_at p (r ∷ []) ≡ 1
+times_at-one p r e = grind (arith, nat_tests)
+
+pub times_at-other : (p : ℕ) (r : Receipt) → r.place ≢ p → times_at p (r ∷ []) ≡ 0
+times_at-other p r e = grind (arith, nat_tests)
+
+-- a place above all of a seat's is on none of its receipts
+pub none_at : (history : List Entry) (earlier : List Receipt) (low : ℕ) (rs : List Receipt) (p : ℕ) → AllStand history earlier low rs → floor_of low rs ≤ p → times_at p rs ≡ 0
+none_at history earlier low [] p all above = refl
+none_at history earlier low (q ∷ rs) p all above =
+    let up = floor_above history earlier (q.place + 1) rs all.1 in
+    let ne : q.place ≢ p = omega (arith, up, above) in
+    omega (arith, times_at-append p (q ∷ []) rs, times_at-other p q ne, none_at history earlier (q.place + 1) rs p all.1 above)
+
+-- the first place of a seat is at or above `low`, and its places rise
+pub rising : (history : List Entry) (earlier : List Receipt) (low : ℕ) (rs : List Receipt) → AllStand history earlier low rs → IsStrictlyIncreasing (map (λ r. r.place) rs)
+rising history earlier low [] all k lt = absurd (omega arith)
+rising history earlier low (q ∷ []) all k lt = absurd (omega arith)
+rising history earlier low (q ∷ (r ∷ rs)) all zero lt = omega (arith, all.1.0.above)
+rising history earlier low (q ∷ (r ∷ rs)) all (suc k) lt = let rest = rising history earlier (q.place + 1) (r ∷ rs) all.1 k (omega arith) in rw add-one (rw add-one at rest)
+
+pub all_told : (history : List Entry) (earlier : List Receipt) (low : ℕ) (rs : List Receipt) → AllStand history earlier low rs → All (IsTold history) rs
+all_told history earlier low [] all k d lt = absurd (omega arith)
+all_told history earlier low (q ∷ rs) all zero d lt = all.0.told
+all_told history earlier low (q ∷ rs) all (suc k) d lt = all_told history earlier (q.place + 1) rs all.1 k d (omega arith)
+
+pub no_marks : (n : ℕ) → IsMarked (replicate n false) []
+no_marks n = record {
+  once = λ p lt. let e = get_or-replicate n p false false (omega (arith, lt, length-replicate n false)) in rw e refl;
+  all = sum_by-replicate (λ b. cond b 1 0) n false ∙ omega arith;
+}
+
+-- a mark more
+pub marked_more : (marks : List Bool) (rs : List Receipt) (r : Receipt) → r.place < length marks → get_or marks r.place false ≡ false → IsMarked marks rs → IsMarked (set marks r.place true) (rs ++ r ∷ [])
+marked_more marks rs r lt free is = record {
+  once = λ p below.
+      ⊎_elim
+      (λ (e : p ≡ r.place).
+      let was = is.once p (omega (arith, below, length-set marks r.place true)) in
+      let free' : get_or marks p false ≡ false = ap (λ i. get_or marks i false) e ∙ free in
+      let now : get_or (set marks r.place true) p false ≡ true = ap (λ i. get_or (set marks r.place true) i false) e ∙ get_or-set_same marks r.place true false lt in
+      rw (now, times_at-append p rs (r ∷ []), times_at-one p r (sym e), was, free') refl)
+      (λ (ne : p ≢ r.place).
+      let was = is.once p (omega (arith, below, length-set marks r.place true)) in
+      let other : r.place ≢ p = λ e. ne (sym e) in
+      rw (get_or-set_other marks r.place p true false ne, times_at-append p rs (r ∷ []), times_at-other p r other, was) (omega arith))
+      (cases_eq p r.place);
+  all = omega (arith, sum_by-set (λ b. cond b 1 0) marks r.place true false lt, ap (λ (b : Bool). let n : ℕ = cond b 1 0 in n) free, is.all, length-append rs (r ∷ []));
+}
+
+here_or_behind : {X : Type 0} (p : X → Bool) (x : X) (xs : List X) (k : ℕ) (d : X) → p x ≡ true → ((i : ℕ) (e : X) → i < length xs → p (get_or xs i e) ≡ true) → k < length (x ∷ xs) → p (get_or (x ∷ xs) k d) ≡ true
+here_or_behind p x xs zero d first others lt = first
+here_or_behind p x xs (suc k) d first others lt = others k d (omega arith)
+
+-- where as many elements pass a test as there are, each does
+pub every_counted : {X : Type 0} (p : X → Bool) (xs : List X) → count_by p xs ≡ length xs → (k : ℕ) (d : X) → k < length xs → p (get_or xs k d) ≡ true
+every_counted p [] all k d lt = absurd (omega arith)
+every_counted p (x ∷ xs) all k d lt =
+    let most = count_by-le-length p xs in
+    let sum = sum_by-cons (λ x. cond (p x) 1 0) x xs in
+    ⊎_elim
+    (λ (yes : p x ≡ true).
+    let one : ◌≡◌ {A = ℕ} (cond (p x) 1 0) 1 = ap (λ (b : Bool). let n : ℕ = cond b 1 0 in n) yes in
+    here_or_behind p x xs k d yes (λ i e inside. every_counted p xs (omega (arith, all, one, sum)) i e inside) lt)
+    (λ (no : p x ≡ false).
+    let none : ◌≡◌ {A = ℕ} (cond (p x) 1 0) 0 = ap (λ (b : Bool). let n : ℕ = cond b 1 0 in n) no in
+    absurd (omega (arith, all, none, sum, most)))
+    (cases_Bool (p x))
+
+-- a receipt at a free place stands, where the marks are those of the earlier seats and of the seat's receipts before it
+pub stands_if_free : (history : List Entry) (earlier before : List Receipt) (marks : List Bool) (r : Receipt) → IsMarked marks (earlier ++ before) → r.place < length marks → IsFree history marks (floor_of 0 before) r → Stands history earlier (floor_of 0 before) r
+stands_if_free history earlier before marks r is lt free = record {
+  told = free.told;
+  above = free.above;
+  apart = omega (arith, is.once r.place lt, ap (λ (b : Bool). let n : ℕ = cond b 1 0 in n) free.free, times_at-append r.place earlier before);
+}
+
+zero_false : (b : Bool) → ◌≡◌ {A = ℕ} (cond b 1 0) 0 → b ≡ false
+zero_false true e = absurd (omega (arith, e))
+zero_false false e = refl
+
+pub free_if_stands : (history : List Entry) (earlier before : List Receipt) (marks : List Bool) (r : Receipt) → AllStand history earlier 0 before → IsMarked marks (earlier ++ before) → length marks ≡ length history → Stands history earlier (floor_of 0 before) r → IsFree history marks (floor_of 0 before) r
+free_if_stands history earlier before marks r all is len stands = record {
+  told = stands.told;
+  above = stands.above;
+  free =
+      let lt : r.place < length marks = omega (arith, len, slice_get_within history r.place _ stands.told) in
+      zero_false _ (omega (arith, is.once r.place lt, times_at-append r.place earlier before, stands.apart, none_at history earlier 0 before r.place all stands.above));
+}
+
+-- a loop's step: the receipt at n is free
+pub record Step (history : List Entry) (earlier rs : List Receipt) (marks : List Bool) (n place : ℕ) : Type 0 where
+  pub low : place + 1 ≡ floor_of 0 (take (n + 1) rs)
+  pub stand : AllStand history earlier 0 (take (n + 1) rs)
+  pub marked : IsMarked (set marks place true) (earlier ++ take (n + 1) rs)
+
+pub step : (history : List Entry) (earlier rs : List Receipt) (marks : List Bool) (low n : ℕ) (r : Receipt) → n < length rs → r ≡ get_or rs n r → low ≡ floor_of 0 (take n rs) → AllStand history earlier 0 (take n rs) → IsMarked marks (earlier ++ take n rs) → r.place < length marks → IsFree history marks low r → Step history earlier rs marks n r.place
+step history earlier rs marks low n r lt at is all marked within free =
+    let before = take n rs in
+    let more : take (n + 1) rs ≡ before ++ r ∷ [] = take_more rs n r lt ∙ ap (λ (x : Receipt). before ++ x ∷ []) (sym at) in
+    let free' : IsFree history marks (floor_of 0 before) r = rw (← is) free in
+    record {
+      low = rw more (sym (floor_of-snoc 0 before r));
+      stand = rw more (AllStand-snoc history earlier 0 before r all (stands_if_free history earlier before marks r marked within free'));
+      marked = rw (more, ← append_assoc) (marked_more marks (earlier ++ before) r within free.free marked);
+    }
+
+-- the receipt at n is the first that does not stand
+pub torn_here : (history : List Entry) (earlier rs : List Receipt) (marks : List Bool) (low n : ℕ) (r : Receipt) → n < length rs → r ≡ get_or rs n r → length marks ≡ length history → low ≡ floor_of 0 (take n rs) → AllStand history earlier 0 (take n rs) → IsMarked marks (earlier ++ take n rs) → (IsFree history marks low r → ⊥) → IsFirstTorn history earlier rs n
+torn_here history earlier rs marks low n r lt at len is all marked taken = record {
+  which = r;
+  here = slice_get-get_or rs n r lt ∙ ap Some (sym at);
+  before = all;
+  torn = λ stands. taken (rw is (free_if_stands history earlier (take n rs) marks r all marked len stands));
+}
+
+-- one seat more stands
+pub SeatsStand-more : (history : List Entry) (seats : List Held) (s : ℕ) → SeatsStand history seats s → AllStand history (receipts_below seats s) 0 (receipts_of seats s) → SeatsStand history seats (s + 1)
+SeatsStand-more history seats s below here = below_more _ _ below here
+
+-- where all stand and each place is marked, the receipts agree
+pub agrees : (history : List Entry) (seats : List Held) (count : ℕ) (marks : List Bool) → SeatsStand history seats count → IsMarked marks (receipts_below seats count) → length marks ≡ length history → length history ≤ count_by (λ b. b) marks → AgreeByNumber history seats count
+agrees history seats count marks stand marked len full = record {
+  told = λ s lt. all_told history (receipts_below seats s) 0 (receipts_of seats s) (stand s lt);
+  rising = λ s lt. rising history (receipts_below seats s) 0 (receipts_of seats s) (stand s lt);
+  once = λ p lt.
+      let whole : count_by (λ b. b) marks ≡ length marks = omega (arith, count_by-le-length (λ b. b) marks) in
+      let lt' : p < length marks = omega arith in
+      marked.once p lt' ∙ ap (λ (b : Bool). let n : ℕ = cond b 1 0 in n) (every_counted (λ (b : Bool). b) marks whole p false lt');
+}

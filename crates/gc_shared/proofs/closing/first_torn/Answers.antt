@@ -1,0 +1,21 @@
+use Rattle.std.proofs.Common.{length-set, ◌∙◌, take_all}
+use Rattle.gc_shared.specs.Closing.{receipts_below}
+use Rattle.gc_shared.proofs.Standing.{step, torn_here}
+use Rattle.gc_shared.proofs.closing.first_torn.Goals as goal
+
+pub returns-then-not-is_free : goal.returns-then-not-is_free
+returns-then-not-is_free c =
+    let inv = c.loop-n.invariant in
+    rw (← inv.is) (torn_here c.args.history.now (receipts_below c.args.seats.now c.args.seat) c.receipts_with-receipts.result.now c.loop-n.marks c.loop-n.low c.loop-n.n c.index-receipts-n.result c.loop-n-test.true c.index-receipts-n.is inv.len inv.low inv.stand inv.marked (λ f. let e = c.is_free.ensures.free.1 f in cc))
+
+pub loop-n-preserved : goal.loop-n-preserved
+loop-n-preserved c =
+    let inv = c.loop-n.invariant in
+    let s = step c.args.history.now (receipts_below c.args.seats.now c.args.seat) c.receipts_with-receipts.result.now c.loop-n.marks c.loop-n.low c.loop-n.n c.index-receipts-n.result c.loop-n-test.true c.index-receipts-n.is inv.low inv.stand inv.marked (c.is_free.ensures.within c.if-not-is_free.false) (c.is_free.ensures.free.0 c.if-not-is_free.false) in
+    record { is = inv.is; len = length-set _ _ _ ∙ inv.len; low = s.low; stand = s.stand; marked = s.marked }
+
+pub returns : goal.returns
+returns c =
+    let inv = c.loop-n.invariant in
+    let whole = take_all c.loop-n.n c.receipts_with-receipts.result.now c.loop-n-test.false in
+    rw (← inv.is) (rw whole at inv.stand, rw whole at inv.marked)

@@ -1,0 +1,6 @@
+use Rattle.std.proofs.Common.{◌≡◌, length}
+use Rattle.gc_shared.specs.Closing.{HasEachOnce}
+use Rattle.gc_shared.proofs.closing.has_each_once.Given as goal
+
+abbrev pub invariant-loop-number : goal.invariant-loop-number
+invariant-loop-number l = (length l.seats ≡ l.count) × HasEachOnce l.seats l.number

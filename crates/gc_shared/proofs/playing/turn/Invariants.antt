@@ -1,0 +1,10 @@
+use Rattle.std.proofs.Common.{◌≡◌, length, All}
+use Rattle.gc_shared.specs.Scripts.{IsUsefulStep}
+use Rattle.gc_shared.proofs.playing.turn.Given as goal
+
+abbrev pub invariant-loop-n : goal.invariant-loop-n
+invariant-loop-n g l = record {
+  same : l.seat.number ≡ l.fn.seat.number;
+  count : length l.seat.receipts ≡ l.n;
+  useful : All (λ r. IsUsefulStep r.event r.answer) l.seat.receipts;
+}

@@ -1,0 +1,5 @@
+use Rattle.std.proofs.Common.{length, refl}
+use Rattle.gc_shared.proofs.shared.Shared.step.Goals as goal
+
+pub returns-clause-answered : goal.returns-clause-answered
+returns-clause-answered g c = (length c.history-place.result.now, rw (c.push_reserved.ensures.items, c.in_ok-reserve.ensures.items, ← c.seat.view_is) refl)

@@ -1,0 +1,17 @@
+use Rattle.std.proofs.Common.{◌≡◌, List, length, ap, ◌∙◌, subst, vec_len}
+use Rattle.std.specs.declared.vec.Vec.{Vec}
+use Rattle.std.specs.declared.alloc.Global.{Global}
+use Rattle.gc_graph.specs.declared.command.Op.{Op}
+use Rattle.gc_shared.specs.Seats.{Opening}
+use Rattle.gc_shared.specs.Scripts.{HaveEnded}
+use Rattle.gc_shared.proofs.Running.{has_run}
+use Rattle.gc_shared.proofs.threads.run_threads.Goals as goal
+
+pub returns-in-Ok-close : goal.returns-in-Ok-close
+returns-in-Ok-close g c =
+    let scripts = c.args.scripts in
+    let seats = c.in_ok-ended.field-0.items in
+    let ended : HaveEnded scripts.items c.args.turns seats = subst (λ (l : List (Vec Op Global)). HaveEnded l c.args.turns seats) c.as_slice.ensures.value c.in_ok-ended.ensures in
+    let count : vec_len scripts ≡ length scripts.items = scripts.ok.0 in
+    let is = c.in-Ok.ensures.opening ∙ ap (λ n. let o : Opening = record { size = c.args.size; mutators = n; collectors = 1 } in o) (c.len-mutators.ensures ∙ count) in
+    has_run c.args.size scripts.items c.args.turns seats c.in-Ok.shared c.in-Ok-close.world is ended c.in-Ok-close.ensures.ok

@@ -1,0 +1,87 @@
+-- What closing a world answers: its seats are compared by number, and the receipts of each in order.
+use Rattle.std.specs.Prelude.{◌≡◌, ℕ, zero, suc, ◌+◌, ◌<◌, ◌≤◌, ◌==◌, ⊤, List, [], ◌∷◌, ◌++◌, length, take, Some, slice_get, count_by}
+use Rattle.std.specs.List.{find}
+use Rattle.std.specs.Option.{option_map_or}
+use Rattle.gc_world.specs.declared.event.Entry.{Entry}
+use Rattle.gc_world.specs.World.{Past}
+use Rattle.gc_shared.specs.declared.seat.Receipt.{Receipt}
+use Rattle.gc_shared.specs.declared.fault.CloseKind.{CloseKind}
+use Rattle.gc_shared.specs.declared.fault.CloseKind.TheVariants.{Seats, Torn, Extra, NoMemory}
+use Rattle.gc_shared.specs.Seats.{Held, Opening, count_of_seats}
+use Rattle.gc_shared.specs.Receipts.{IsTold, times_at, ReceiptsAgree}
+
+-- ---- seats by number
+
+-- the receipts of the seat with this number
+abbrev pub receipts_of : List Held → ℕ → List Receipt
+receipts_of seats n = option_map_or (λ seat. seat.receipts) (find (λ seat. seat.number == n) seats) []
+
+-- the receipts of all seats with lower numbers, seat by seat
+abbrev pub receipts_below : List Held → ℕ → List Receipt
+receipts_below seats zero = []
+receipts_below seats (suc n) = receipts_below seats n ++ receipts_of seats n
+
+-- each number below `count` stands on one seat
+abbrev pub HasEachOnce : List Held → ℕ → Type 0
+HasEachOnce seats count = (n : ℕ) → n < count → count_by (λ seat. seat.number == n) seats ≡ 1
+
+-- the seats have each number of the opening once, and the world is of its size and mutators
+pub record IsSeated (o : Opening) (w : Past) (seats : List Held) : Type 0 where
+  pub size : w.size ≡ o.size
+  pub mutators : w.mutators ≡ o.mutators
+  pub count : length seats ≡ count_of_seats o
+  pub once : HasEachOnce seats (count_of_seats o)
+
+-- ---- receipts in order
+
+-- the receipt's place has its event and answer, is at least `low`, and is no place of the earlier seats
+pub record Stands (history : List Entry) (earlier : List Receipt) (low : ℕ) (r : Receipt) : Type 0 where
+  pub told : IsTold history r
+  pub above : low ≤ r.place
+  pub apart : times_at r.place earlier ≡ 0
+
+-- each receipt of a seat stands, above the one before
+abbrev pub AllStand : List Entry → List Receipt → ℕ → List Receipt → Type 0
+AllStand history earlier low [] = ⊤
+AllStand history earlier low (r ∷ rs) = Stands history earlier low r × AllStand history earlier (r.place + 1) rs
+
+-- all receipts of the seats below `count` stand
+abbrev pub SeatsStand : List Entry → List Held → ℕ → Type 0
+SeatsStand history seats count = (n : ℕ) → n < count → AllStand history (receipts_below seats n) 0 (receipts_of seats n)
+
+-- one above the place of the last receipt, and `low` where there is none
+abbrev pub floor_of : ℕ → List Receipt → ℕ
+floor_of low [] = low
+floor_of low (r ∷ rs) = floor_of (r.place + 1) rs
+
+-- receipt n is the first of these that does not stand
+pub record IsFirstTorn (history : List Entry) (earlier rs : List Receipt) (n : ℕ) : Type 0 where
+  pub which : Receipt
+  pub here : slice_get rs n ≡ Some which
+  pub before : AllStand history earlier 0 (take n rs)
+  pub torn : Stands history earlier (floor_of 0 (take n rs)) which → ⊥
+
+-- ---- answers
+
+-- what Ok says
+pub record IsWhole (o : Opening) (w : Past) (seats : List Held) : Type 0 where
+  pub seated : IsSeated o w seats
+  pub agree : ReceiptsAgree w.entries seats
+
+-- receipt n of this seat is the first that does not stand
+pub record IsTorn (history : List Entry) (seats : List Held) (count seat n : ℕ) : Type 0 where
+  pub within : seat < count
+  pub before : SeatsStand history seats seat
+  pub first : IsFirstTorn history (receipts_below seats seat) (receipts_of seats seat) n
+
+-- all receipts stand, and the history has more events
+pub record IsExtra (history : List Entry) (seats : List Held) (count : ℕ) : Type 0 where
+  pub all : SeatsStand history seats count
+  pub fewer : length (receipts_below seats count) < length history
+
+-- the first fault of the seats handed in against the world handed back
+abbrev pub IsFirstFault : Opening → Past → List Held → CloseKind → Type 0
+IsFirstFault o w seats Seats = IsSeated o w seats → ⊥
+IsFirstFault o w seats (Torn seat n) = IsSeated o w seats × IsTorn w.entries seats (count_of_seats o) seat n
+IsFirstFault o w seats Extra = IsSeated o w seats × IsExtra w.entries seats (count_of_seats o)
+IsFirstFault o w seats NoMemory = IsSeated o w seats

@@ -1,0 +1,6 @@
+pub mod Seats
+pub mod Receipts
+pub mod Closing
+pub mod Marks
+pub mod Scripts
+pub mod Players

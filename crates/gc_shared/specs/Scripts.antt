@@ -1,0 +1,80 @@
+-- Scripts that threads run: what their seats have on their receipts then, and what the world's history has.
+use Rattle.std.specs.Prelude.{◌≡◌, ℕ, ◌+◌, ◌<◌, ◌==◌, ⊤, Bool, true, false, if◌then◌else◌, List, [], ◌∷◌, length, map, filter, All, slice_index_or}
+use Rattle.std.specs.declared.vec.Vec.{Vec}
+use Rattle.std.specs.declared.alloc.Global.{Global}
+use Rattle.gc_graph.specs.declared.command.Op.{Op}
+use Rattle.gc_world.specs.declared.event.Entry.{Entry}
+use Rattle.gc_world.specs.declared.event.Event.{Event}
+use Rattle.gc_world.specs.declared.event.Event.TheVariants.{Mutate, Collect}
+use Rattle.gc_world.specs.declared.event.Answer.{Answer}
+use Rattle.gc_world.specs.declared.event.Answer.TheVariants.{Mutator, Collector, Useful}
+use Rattle.gc_world.specs.World.{Past}
+use Rattle.gc_shared.specs.Seats.{Held}
+
+-- script m
+abbrev pub script_at : List (Vec Op Global) → ℕ → List Op
+script_at scripts m = slice_index_or (map (λ script. script.items) scripts) m []
+
+-- ---- on receipts
+
+-- the events on a seat's receipts, in order
+abbrev pub events_of : Held → List Event
+events_of seat = map (λ r. r.event) seat.receipts
+
+-- the seat with this number has made the commands of the script, in order, and nothing else
+pub record HasPlayed (number : ℕ) (script : List Op) (seat : Held) : Type 0 where
+  pub same : seat.number ≡ number
+  pub events : events_of seat ≡ map (Mutate number) script
+
+-- a step of the collector that was answered `Useful`
+abbrev pub IsUsefulStep : Event → Answer → Type 0
+IsUsefulStep (Mutate m op) answer = ⊥
+IsUsefulStep (Collect step) (Mutator reply) = ⊥
+IsUsefulStep (Collect step) (Collector reply) = ⊥
+IsUsefulStep (Collect step) (Useful reply) = ⊤
+
+-- the seat with this number has made so many useful steps, and nothing else
+pub record HasTurned (number turns : ℕ) (seat : Held) : Type 0 where
+  pub same : seat.number ≡ number
+  pub count : length seat.receipts ≡ turns
+  pub useful : All (λ r. IsUsefulStep r.event r.answer) seat.receipts
+
+-- the first n seats have played their scripts
+pub record HavePlayed (scripts : List (Vec Op Global)) (n : ℕ) (seats : List Held) : Type 0 where
+  pub count : length seats ≡ n
+  pub each : (m : ℕ) (d : Held) → m < n → HasPlayed m (script_at scripts m) (slice_index_or seats m d)
+
+-- each mutator's seat has played its script, and the last one has made so many useful steps
+pub record HaveEnded (scripts : List (Vec Op Global)) (turns : ℕ) (seats : List Held) : Type 0 where
+  pub count : length seats ≡ length scripts + 1
+  pub each : (m : ℕ) (d : Held) → m < length scripts → HasPlayed m (script_at scripts m) (slice_index_or seats m d)
+  pub last : (d : Held) → HasTurned (length scripts) turns (slice_index_or seats (length scripts) d)
+
+-- ---- in a history
+
+-- the command before others, where it is this mutator's
+abbrev pub command_before : ℕ → Event → List Op → List Op
+command_before m (Mutate k op) ops = if k == m then op ∷ ops else ops
+command_before m (Collect step) ops = ops
+
+-- the commands of a mutator, in order
+abbrev pub commands_of : ℕ → List Entry → List Op
+commands_of m [] = []
+commands_of m (entry ∷ rest) = command_before m entry.event (commands_of m rest)
+
+abbrev pub is_step : Event → Bool
+is_step (Mutate m op) = false
+is_step (Collect step) = true
+
+-- the entries of the collector, in order
+abbrev pub steps_of : List Entry → List Entry
+steps_of entries = filter (λ entry. is_step entry.event) entries
+
+-- The world has this size and a mutator for each script. The commands of mutator m are script m, in order, and the
+-- collector made so many steps, all as useful ones.
+pub record HasRun (size : ℕ) (scripts : List (Vec Op Global)) (turns : ℕ) (w : Past) : Type 0 where
+  pub opened : w.size ≡ size
+  pub mutators : w.mutators ≡ length scripts
+  pub commands : (m : ℕ) → m < length scripts → commands_of m w.entries ≡ script_at scripts m
+  pub steps : length (steps_of w.entries) ≡ turns
+  pub useful : All (λ entry. IsUsefulStep entry.event entry.answer) (steps_of w.entries)

@@ -1,0 +1,58 @@
+-- Openings, their seats, and what a call adds to one.
+use Rattle.std.specs.Prelude.{◌≡◌, ℕ, ◌+◌, ◌≤◌, Bool, nat_lt, List, [], ◌∷◌, ◌++◌, ⊤}
+use Rattle.gc_copy.specs.declared.step.Step.{Step}
+use Rattle.gc_copy.specs.declared.step.Step.TheVariants.{Begin, BeginSized, Roots, Scan, Apply, Flip, Drop}
+use Rattle.gc_world.specs.declared.event.Event.{Event}
+use Rattle.gc_world.specs.declared.event.Answer.{Answer}
+use Rattle.gc_shared.specs.declared.seat.Receipt.{Receipt}
+
+-- what a Shared was opened with
+pub record Opening : Type 0 where
+  pub size : ℕ
+  pub mutators : ℕ
+  pub collectors : ℕ
+
+abbrev pub opening : ℕ → ℕ → ℕ → Opening
+opening size mutators collectors = record { size = size; mutators = mutators; collectors = collectors }
+
+abbrev pub count_of_seats : Opening → ℕ
+count_of_seats o = o.mutators + o.collectors
+
+-- a Seat as contracts see it
+pub record Held : Type 0 where
+  pub number : ℕ
+  pub is_mutator : Bool
+  pub receipts : List Receipt
+
+-- the seat with this number, as an opening with so many mutators gives it
+abbrev pub fresh : ℕ → ℕ → Held
+fresh mutators n = record { number = n; is_mutator = nat_lt n mutators; receipts = [] }
+
+abbrev pub receipt : ℕ → Event → Answer → Receipt
+receipt place event answer = record { place = place; event = event; answer = answer }
+
+-- the seat has got one receipt, at some place, with this event and answer
+abbrev pub AddsReceipt : Held → Held → Event → Answer → Type 0
+AddsReceipt before after event answer =
+    (place : ℕ) × (after ≡ record before { receipts = before.receipts ++ receipt place event answer ∷ [] })
+
+-- ---- steps
+
+-- where a step has a size, it is that of a space
+abbrev pub HasSize : Step → Type 0
+HasSize Begin = ⊤
+HasSize (BeginSized size) = (1 ≤ size) × (size ≤ 1048576)
+HasSize Roots = ⊤
+HasSize Scan = ⊤
+HasSize (Apply k) = ⊤
+HasSize Flip = ⊤
+HasSize Drop = ⊤
+
+abbrev pub IsApply : Step → Type 0
+IsApply Begin = ⊥
+IsApply (BeginSized size) = ⊥
+IsApply Roots = ⊥
+IsApply Scan = ⊥
+IsApply (Apply k) = ⊤
+IsApply Flip = ⊥
+IsApply Drop = ⊥

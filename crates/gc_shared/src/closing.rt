@@ -1,0 +1,165 @@
+ghost use Rattle.std.specs.Prelude.{◌≡◌, ◌↔◌, ◌<◌, ◌≤◌, ◌+◌, ◌==◌, suc, length, IsTrue, MatchOption, count_by, []};
+ghost use Rattle.std.specs.List.{find};
+ghost use Rattle.std.specs.Option.{option_copied};
+ghost use Rattle.gc_world.specs.World.{entry_of};
+ghost use Rattle.gc_shared.specs.Seats.{opening};
+ghost use Rattle.gc_shared.specs.Receipts.{IsTold};
+ghost use Rattle.gc_shared.specs.Closing.{IsSeated, IsWhole, IsFirstFault, IsFirstTorn, AllStand, HasEachOnce, receipts_of, receipts_below};
+ghost use Rattle.gc_shared.specs.Marks.{IsMarked, IsFree, IsFault, AgreeByNumber};
+
+use crate::fault::CloseKind;
+use crate::seat::{Receipt, Seat};
+use gc_world::{Entry, World};
+use std::alloc::Global;
+
+/// The first fault of the seats against the world. Each place of the history gets a mark, in memory that is taken
+/// before any receipt is looked at.
+pub(crate) fn fault(
+    alloc: Global,
+    size: u32,
+    mutators: u8,
+    collectors: u8,
+    world: &World,
+    seats: &[Seat],
+) -> Option<CloseKind>
+    requires { mutators + collectors ≤ 32 }
+    ensures { MatchOption result
+        (IsWhole (opening size mutators collectors) world.now seats.now)
+        (IsFirstFault (opening size mutators collectors) world.now seats.now) }
+{
+    if !is_seated(size, mutators, collectors, world, seats) {
+        return Some(CloseKind::Seats);
+    }
+    let history = world.history();
+    let Ok(mut marks) = vec![in alloc; false; history.len()] else {
+        return Some(CloseKind::NoMemory);
+    };
+    first_fault(history, seats, mutators + collectors, marks.as_mut_slice())
+}
+
+// Whether the seats have each number of the opening once, and the world its size and mutators.
+fn is_seated(size: u32, mutators: u8, collectors: u8, world: &World, seats: &[Seat]) -> bool
+    requires { mutators + collectors ≤ 32 }
+    ensures { IsTrue result ↔ IsSeated (opening size mutators collectors) world.now seats.now }
+{
+    if world.size() != size {
+        return false;
+    }
+    if world.mutators() != mutators {
+        return false;
+    }
+    has_each_once(seats, mutators + collectors)
+}
+
+// The first receipt that does not stand, seats by number and receipts in order, or an event without a receipt.
+fn first_fault(
+    history: &[Entry],
+    seats: &[Seat],
+    count: u8,
+    marks: &mut [bool],
+) -> Option<CloseKind>
+    requires len { length marks.old ≡ length history.now }
+    requires marked { IsMarked marks.old [] }
+    ensures { MatchOption result
+        (AgreeByNumber history.now seats.now count)
+        (IsFault history.now seats.now count) }
+{
+    for seat in 0..count {
+        if let Some(n) = first_torn(history, seats, seat, marks) {
+            return Some(CloseKind::Torn { seat, n });
+        }
+    }
+    if count_marked(marks) < history.len() {
+        return Some(CloseKind::Extra);
+    }
+    None
+}
+
+// Whether the seats have each number below `count` once, and no other.
+fn has_each_once(seats: &[Seat], count: u8) -> bool
+    ensures { IsTrue result ↔ ((length seats.now ≡ count) × HasEachOnce seats.now count) }
+{
+    if seats.len() != usize::from(count) {
+        return false;
+    }
+    for number in 0..count {
+        if count_with(seats, number) != 1 {
+            return false;
+        }
+    }
+    true
+}
+
+fn count_with(seats: &[Seat], number: u8) -> usize
+    ensures { result ≡ count_by (λ seat. seat.number == number) seats.now }
+{
+    seats.iter().filter(|seat| seat.number() == number).count()
+}
+
+fn seat_with(seats: &[Seat], number: u8) -> Option<&Seat>
+    ensures { option_copied result ≡ find (λ seat. seat.number == number) seats.now }
+{
+    seats.iter().find(|seat| seat.number() == number)
+}
+
+// The receipts of the first seat with this number.
+fn receipts_with(seats: &[Seat], number: u8) -> &[Receipt]
+    ensures { result.now ≡ receipts_of seats.now number }
+{
+    match seat_with(seats, number) {
+        Some(seat) => seat.receipts(),
+        None => &[],
+    }
+}
+
+// Marks the places of a seat's receipts, up to the first that does not stand.
+fn first_torn(history: &[Entry], seats: &[Seat], seat: u8, marks: &mut [bool]) -> Option<usize>
+    requires len { length marks.old ≡ length history.now }
+    requires marked { IsMarked marks.old (receipts_below seats.now seat) }
+    ensures { MatchOption result
+        (AllStand history.now (receipts_below seats.now seat) 0 (receipts_of seats.now seat)
+        × IsMarked marks.new (receipts_below seats.now (suc seat)))
+        (IsFirstTorn history.now (receipts_below seats.now seat) (receipts_of seats.now seat)) }
+{
+    let receipts = receipts_with(seats, seat);
+    let mut low = 0;
+    for n in 0..receipts.len() {
+        let receipt = receipts[n];
+        let place = receipt.place;
+        if !is_free(history, marks, low, &receipt) {
+            return Some(n);
+        }
+        marks[place] = true;
+        low = place + 1;
+    }
+    None
+}
+
+// Whether the receipt's place has its event and answer, is at or above `low`, and is not marked.
+fn is_free(history: &[Entry], marks: &[bool], low: usize, receipt: &Receipt) -> bool
+    requires { length marks.now ≡ length history.now }
+    ensures free { IsTrue result ↔ IsFree history.now marks.now low receipt.now }
+    ensures within { IsTrue result → receipt.now.place < length marks.now }
+{
+    low <= receipt.place && is_told(history, receipt) && !marks[receipt.place]
+}
+
+// Whether the receipt's place has its event and answer.
+fn is_told(history: &[Entry], receipt: &Receipt) -> bool
+    ensures told { IsTrue result ↔ IsTold history.now receipt.now }
+    ensures within { IsTrue result → receipt.now.place < length history.now }
+{
+    receipt.place < history.len() && is_of(&history[receipt.place], receipt)
+}
+
+fn is_of(entry: &Entry, receipt: &Receipt) -> bool
+    ensures { IsTrue result ↔ (entry.now ≡ entry_of receipt.now.event receipt.now.answer) }
+{
+    entry.event == receipt.event && entry.answer == receipt.answer
+}
+
+fn count_marked(marks: &[bool]) -> usize
+    ensures { result ≡ count_by (λ mark. mark) marks.now }
+{
+    marks.iter().filter(|mark| **mark).count()
+}

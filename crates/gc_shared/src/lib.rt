@@ -1,0 +1,19 @@
+//! One world for several threads: a lock round it, and seats whose receipts tell what each thread was answered.
+#![tactic(auto)]
+
+mod closing;
+mod fault;
+mod gate;
+mod playing;
+mod seat;
+mod shared;
+mod threads;
+
+pub use fault::{CallFault, CloseFault, CloseKind, ThreadsFault};
+pub use gate::Gate;
+pub use seat::{Receipt, Seat};
+pub use shared::Shared;
+pub use threads::run_threads;
+
+#[cfg(test)]
+mod tests;

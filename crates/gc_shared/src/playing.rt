@@ -1,0 +1,73 @@
+ghost use Rattle.std.specs.Prelude.{◌≡◌, [], IfOk};
+ghost use Rattle.gc_shared.specs.Scripts.{HasPlayed, HasTurned};
+
+use crate::fault::{CallFault, CloseKind, ThreadsFault};
+use crate::gate::Gate;
+use crate::seat::Seat;
+use crate::shared::Shared;
+use gc_graph::Op;
+use std::sync::Wait;
+use std::thread::Threads;
+
+// What the thread ends with whose call was refused.
+fn refused(fault: CallFault) -> ThreadsFault {
+    match fault {
+        CallFault::NoMemory => ThreadsFault::NoMemory,
+        CallFault::NotAMutator | CallFault::NotACollector | CallFault::NoSuchMutator => {
+            ThreadsFault::Close(CloseKind::Seats)
+        }
+    }
+}
+
+/// Makes the commands of a script with a seat, in order.
+pub(crate) fn play<R: Wait, G: Gate>(
+    rt: &R,
+    shared: &Shared,
+    mut seat: Seat,
+    script: &[Op],
+    gate: &G,
+) -> Result<Seat, ThreadsFault>
+    requires { seat.receipts ≡ [] }
+    ensures { IfOk result (HasPlayed seat.number script.now) }
+{
+    let number = u32::from(seat.number());
+    for n in 0..script.len() {
+        let call = n as u64;
+        if !gate.before(number, call) {
+            return Err(ThreadsFault::Gate {
+                seat: number,
+                n: call,
+            });
+        }
+        match shared.call(rt, &mut seat, &script[n]) {
+            Ok(_) => (),
+            Err(fault) => return Err(refused(fault)),
+        }
+        gate.after(number, call);
+    }
+    Ok(seat)
+}
+
+/// Makes so many useful steps with a seat.
+pub(crate) fn turn<R: Threads + Wait + Sync, G: Gate>(
+    rt: &R,
+    shared: &Shared,
+    mut seat: Seat,
+    turns: u64,
+    gate: &G,
+) -> Result<Seat, ThreadsFault>
+    requires { seat.receipts ≡ [] }
+    ensures { IfOk result (HasTurned seat.number turns) }
+{
+    let number = u32::from(seat.number());
+    for n in 0..turns {
+        if !gate.before(number, n) {
+            return Err(ThreadsFault::Gate { seat: number, n });
+        }
+        if let Err(fault) = shared.useful(rt, &mut seat) {
+            return Err(refused(fault));
+        }
+        gate.after(number, n);
+    }
+    Ok(seat)
+}

@@ -1,0 +1,234 @@
+use crate::closing;
+use crate::fault::{CallFault, CloseFault};
+use crate::seat::{Receipt, Seat, seats_of};
+use gc_copy::{Step, StepReply};
+use gc_graph::{NoMemory, Op, Reply};
+use gc_world::{Answer, Event, World};
+use std::alloc::Global;
+use std::marker::Model;
+use std::sync::{Mutex, Wait};
+use std::thread::Threads;
+
+/// A world behind one lock, and what it was opened with. Nothing else is shared.
+#[derive(Drop)]
+pub struct Shared {
+    alloc: Global,
+    size: u32,
+    mutators: u8,
+    collectors: u8,
+    world: Mutex<World>,
+}
+
+impl Model for Shared {
+    ghost use Rattle.std.specs.Prelude.{◌≤◌};
+    ghost use Rattle.gc_shared.specs.Seats.{Opening};
+
+    ghost Value = { Opening };
+
+    ghost view = { λ s. record {
+      size = s.size;
+      mutators = s.mutators;
+      collectors = s.collectors;
+    } };
+
+    ghost invariant = { λ s. (s.mutators ≤ 16) × (s.collectors ≤ 16) };
+}
+
+impl Shared {
+    ghost use Rattle.std.specs.Prelude.{◌≡◌, ◌≢◌, ◌≤◌, ◌+◌, ◌⊎◌, ◌↔◌, map, true, false};
+    ghost use Rattle.std.specs.Prelude.{IfOk, IfErr, OnErr, Err};
+    ghost use Rattle.std.specs.List.{range_with_len};
+    ghost use Rattle.gc_copy.specs.Runs.{IsStep};
+    ghost use Rattle.gc_world.specs.declared.event.Event.{Event};
+    ghost use Rattle.gc_world.specs.declared.event.Answer.{Answer};
+    ghost use Rattle.gc_shared.specs.Seats.{opening, fresh, AddsReceipt, HasSize, IsApply};
+    ghost use Rattle.gc_shared.specs.Closing.{IsWhole, IsFirstFault};
+
+    /// A world of `size` words, 1 to 1048576, behind a lock, with the seats of its 1 to 16 mutators and, after them,
+    /// those of its 0 to 16 collectors.
+    pub fn open(
+        alloc: Global,
+        size: u32,
+        mutators: u8,
+        collectors: u8,
+    ) -> Result<(Shared, Vec<Seat>), NoMemory>
+        requires low { 1 ≤ size }
+        requires high { size ≤ 1048576 }
+        requires some { 1 ≤ mutators }
+        requires few { mutators ≤ 16 }
+        requires few_collectors { collectors ≤ 16 }
+        ensures opening { IfOk result (λ opened. opened.0 ≡ opening size mutators collectors) }
+        ensures seats { IfOk result (λ opened.
+            opened.1.items ≡ map (fresh mutators) (range_with_len 0 (mutators + collectors))) }
+    {
+        let Ok(seats) = seats_of(alloc, mutators, collectors) else {
+            return Err(NoMemory);
+        };
+        let world = World::open(alloc, size, mutators)?;
+        let shared = Shared {
+            alloc,
+            size,
+            mutators,
+            collectors,
+            world: Mutex::new(world),
+        };
+        Ok((shared, seats))
+    }
+
+    /// How many mutators the world was opened with.
+    pub fn mutators(&self) -> u8
+        ensures { result ≡ self.now.mutators }
+    {
+        self.mutators
+    }
+
+    /// Makes a command of the seat's mutator under the lock, and adds its receipt to the seat.
+    pub fn call<R: Wait>(&self, rt: &R, seat: &mut Seat, op: &Op) -> Result<Reply, CallFault>
+        ensures answered { IfOk result (λ reply.
+            AddsReceipt seat.old seat.new (Event.Mutate seat.old.number op.now) (Answer.Mutator reply)) }
+        ensures refused { OnErr result (seat.new ≡ seat.old) }
+
+        // A wrong kind of seat is found before any growth.
+        ensures collector { seat.old.is_mutator ≡ false → result ≡ Err CallFault.NotAMutator }
+        ensures beyond { self.now.mutators ≤ seat.old.number → result ≡ Err CallFault.NotAMutator }
+        ensures faults { IfErr result (λ fault.
+            (fault ≡ CallFault.NoMemory) ⊎ (fault ≡ CallFault.NotAMutator)) }
+    {
+        if !seat.is_mutator || seat.number >= self.mutators {
+            return Err(CallFault::NotAMutator);
+        }
+        seat.receipts.reserve(1)?;
+        let m = seat.number;
+        let mut world = self.world.lock(rt);
+        if m >= world.mutators() {
+            return Err(CallFault::NotAMutator);
+        }
+        let place = world.history().len();
+        let reply = world.mutate(m, op)?;
+        drop(world);
+        let event = Event::Mutate { m, op: *op };
+        let answer = mutator_answer(&reply);
+        seat.receipts.push_reserved(Receipt {
+            place,
+            event,
+            answer,
+        });
+        Ok(reply)
+    }
+
+    /// Makes a step of the collector under the lock, and adds its receipt to the seat.
+    pub fn step<R: Threads + Wait + Sync>(
+        &self,
+        rt: &R,
+        seat: &mut Seat,
+        step: Step,
+    ) -> Result<StepReply, CallFault>
+        requires { HasSize step }
+        ensures answered { IfOk result (λ reply.
+            AddsReceipt seat.old seat.new (Event.Collect step) (Answer.Collector reply)) }
+        ensures refused { OnErr result (seat.new ≡ seat.old) }
+
+        // A wrong kind of seat is found first, and then a mutator that there isn't, both before any growth.
+        ensures mutator { (result ≡ Err CallFault.NotACollector) ↔ (seat.old.is_mutator ≡ true) }
+        ensures beyond { seat.old.is_mutator ≡ false → (IsStep self.now.mutators step → ⊥)
+            → result ≡ Err CallFault.NoSuchMutator }
+        ensures log { result ≡ Err CallFault.NoSuchMutator → IsApply step }
+        ensures faults { result ≢ Err CallFault.NotAMutator }
+    {
+        if seat.is_mutator {
+            return Err(CallFault::NotACollector);
+        }
+        if !is_step(step, self.mutators) {
+            return Err(CallFault::NoSuchMutator);
+        }
+        seat.receipts.reserve(1)?;
+        let mut world = self.world.lock(rt);
+        if !is_step(step, world.mutators()) {
+            return Err(CallFault::NoSuchMutator);
+        }
+        let place = world.history().len();
+        let reply = world.collect_par(rt, step)?;
+        drop(world);
+        let event = Event::Collect(step);
+        let answer = Answer::Collector(reply);
+        seat.receipts.push_reserved(Receipt {
+            place,
+            event,
+            answer,
+        });
+        Ok(reply)
+    }
+
+    /// Finds the useful step and makes it, under one taking of the lock, and adds its receipt to the seat.
+    pub fn useful<R: Threads + Wait + Sync>(
+        &self,
+        rt: &R,
+        seat: &mut Seat,
+    ) -> Result<(Step, StepReply), CallFault>
+        ensures answered { IfOk result (λ made.
+            AddsReceipt seat.old seat.new (Event.Collect made.0) (Answer.Useful made.1)) }
+        ensures refused { OnErr result (seat.new ≡ seat.old) }
+        ensures mutator { (result ≡ Err CallFault.NotACollector) ↔ (seat.old.is_mutator ≡ true) }
+        ensures faults { IfErr result (λ fault.
+            (fault ≡ CallFault.NoMemory) ⊎ (fault ≡ CallFault.NotACollector)) }
+    {
+        if seat.is_mutator {
+            return Err(CallFault::NotACollector);
+        }
+        seat.receipts.reserve(1)?;
+        let mut world = self.world.lock(rt);
+        let place = world.history().len();
+        let (step, reply) = world.collect_useful(rt)?;
+        drop(world);
+        let event = Event::Collect(step);
+        let answer = Answer::Useful(reply);
+        seat.receipts.push_reserved(Receipt {
+            place,
+            event,
+            answer,
+        });
+        Ok((step, reply))
+    }
+
+    /// Takes the world out of the lock, and compares its history with the seats' receipts. It waits for nobody.
+    pub fn close(self, seats: Vec<Seat>) -> Result<World, CloseFault>
+        ensures ok { IfOk result (λ world. IsWhole self world seats.items) }
+        ensures err { IfErr result (λ fault. IsFirstFault self fault.world seats.items fault.kind) }
+    {
+        let Shared {
+            alloc,
+            size,
+            mutators,
+            collectors,
+            world,
+        } = self;
+        let world = world.into_inner();
+        match closing::fault(alloc, size, mutators, collectors, &world, seats.as_slice()) {
+            None => Ok(world),
+            Some(kind) => Err(CloseFault { world, kind }),
+        }
+    }
+}
+
+ghost use Rattle.std.specs.Prelude.{◌≡◌, ◌↔◌, IsTrue};
+ghost use Rattle.gc_copy.specs.Runs.{IsStep};
+ghost use Rattle.gc_world.specs.declared.event.Answer.TheVariants.{Mutator};
+ghost use Rattle.gc_shared.specs.Seats.{HasSize};
+
+fn mutator_answer(reply: &Reply) -> Answer
+    ensures { result ≡ Mutator reply.now }
+{
+    Answer::Mutator(*reply)
+}
+
+// Whether a world of so many mutators can make the step: an `Apply` names one of their logs.
+fn is_step(step: Step, mutators: u8) -> bool
+    requires { HasSize step }
+    ensures { IsTrue result ↔ IsStep mutators step }
+{
+    match step {
+        Step::Apply(m) => m < mutators,
+        Step::Begin | Step::BeginSized(_) | Step::Roots | Step::Scan | Step::Flip | Step::Drop =>
+            true,
+    }
+}

@@ -1,0 +1,271 @@
+//! Scripts in threads: whichever way they meet, the history has them in order, and gates can say how they meet.
+
+ghost use Rattle.std.specs.Prelude.{◌≡◌, IfOk, vec_len};
+
+use crate::{Gate, ThreadsFault, run_threads};
+use gc_graph::{Number, Op, Reply, Slot, View};
+use gc_world::{Answer, Event, World};
+use std::alloc::{AllocError, Global};
+use std::sync::atomic::{AtomicBool, Ordering};
+use std::test::Fail;
+use std::thread;
+use std::time::{Clock, Duration};
+
+/// How many milliseconds a gate waits at most.
+const TURNS: u32 = 5000;
+
+/// Waits until the flag is set. False where it is not set in time.
+fn waited<R: Clock>(rt: &R, flag: &AtomicBool) -> bool {
+    for _ in 0..TURNS {
+        if flag.load(Ordering::SeqCst) {
+            return true;
+        }
+        thread::sleep(rt, Duration::from_millis(1));
+    }
+    flag.load(Ordering::SeqCst)
+}
+
+fn one(alloc: Global, first: &[Op]) -> Result<Vec<Vec<Op>>, AllocError>
+    ensures { IfOk result (λ scripts. vec_len scripts ≡ 1) }
+{
+    let mut scripts = Vec::new(alloc);
+    scripts.push(Vec::from_slice(alloc, first)?)?;
+    Ok(scripts)
+}
+
+pub(super) fn two(alloc: Global, first: &[Op], second: &[Op]) -> Result<Vec<Vec<Op>>, AllocError>
+    ensures { IfOk result (λ scripts. vec_len scripts ≡ 2) }
+{
+    let mut scripts = Vec::new(alloc);
+    scripts.push(Vec::from_slice(alloc, first)?)?;
+    scripts.push(Vec::from_slice(alloc, second)?)?;
+    Ok(scripts)
+}
+
+/// One command for each of two mutators: `g0` takes 1, and `g1` takes 2.
+fn two_numbers(alloc: Global) -> Result<Vec<Vec<Op>>, Fail>
+    ensures { IfOk result (λ scripts. vec_len scripts ≡ 2) }
+{
+    let first = Op::Num {
+        d: Slot::shared(0).ok_or("slot")?,
+        n: Number::new(1).ok_or("number")?,
+    };
+    let second = Op::Num {
+        d: Slot::shared(1).ok_or("slot")?,
+        n: Number::new(2).ok_or("number")?,
+    };
+    Ok(two(alloc, &[first], &[second])?)
+}
+
+/// The second mutator's first command waits for the first one's third.
+#[derive(Drop)]
+struct WaitsForWrite<'a, R> {
+    rt: &'a R,
+    written: AtomicBool,
+}
+
+impl<'a, R: Clock> Gate for WaitsForWrite<'a, R> {
+    fn before(&self, seat: u32, n: u64) -> bool {
+        if seat == 1 && n == 0 {
+            waited(self.rt, &self.written)
+        } else {
+            true
+        }
+    }
+
+    fn after(&self, seat: u32, n: u64) {
+        if seat == 0 && n == 2 {
+            self.written.store(true, Ordering::SeqCst);
+        }
+    }
+}
+
+#[test]
+fn a_write_is_seen(rt: HostRuntime) -> Result<(), Fail> {
+    let _named = View::Nil;
+    let g0 = Slot::shared(0).ok_or("slot")?;
+    let r0 = Slot::own(0).ok_or("slot")?;
+    let r1 = Slot::own(1).ok_or("slot")?;
+    let five = Number::new(5).ok_or("number")?;
+    let writes = [
+        Op::New {
+            d: g0,
+            kind: 1,
+            len: 1,
+        },
+        Op::Num { d: r0, n: five },
+        Op::Put { s: g0, i: 0, t: r0 },
+    ];
+    let reads = [Op::Get { d: r1, s: g0, i: 0 }];
+    let scripts = two(rt.alloc(), &writes, &reads)?;
+    let gate = WaitsForWrite {
+        rt: &rt,
+        written: AtomicBool::new(false),
+    };
+    let world = run_threads(&rt, rt.alloc(), 64, scripts, 40, &gate)?;
+    assert_eq!(rt; world.history().len(), 44);
+    assert!(rt; answers_of(&world, 0, Answer::Mutator(Reply::Made)) == 1);
+    assert!(rt; answers_of(&world, 0, Answer::Mutator(Reply::Done)) == 2);
+    let saw_five = Answer::Mutator(Reply::Saw(View::Num(five)));
+    assert!(rt; answers_of(&world, 1, saw_five) == 1);
+    Ok(())
+}
+
+/// How often this answer was given to a command of mutator m.
+fn answers_of(world: &World, m: u8, answer: Answer) -> u32 {
+    let mut count: u32 = 0;
+    for entry in world.history() {
+        if let Event::Mutate { m: by, op: _ } = entry.event {
+            if by == m && entry.answer == answer {
+                count = count.saturating_add(1);
+            }
+        }
+    }
+    count
+}
+
+/// The first commands of both mutators wait for each other.
+#[derive(Drop)]
+struct Meet<'a, R> {
+    rt: &'a R,
+    first: AtomicBool,
+    second: AtomicBool,
+}
+
+impl<'a, R: Clock> Gate for Meet<'a, R> {
+    fn before(&self, seat: u32, n: u64) -> bool {
+        if n != 0 || seat > 1 {
+            return true;
+        }
+        if seat == 0 {
+            self.first.store(true, Ordering::SeqCst);
+            waited(self.rt, &self.second)
+        } else {
+            self.second.store(true, Ordering::SeqCst);
+            waited(self.rt, &self.first)
+        }
+    }
+
+    fn after(&self, seat: u32, n: u64) {}
+}
+
+/// One thread alone would wait here in vain.
+#[test]
+fn two_threads_meet(rt: HostRuntime) -> Result<(), Fail> {
+    let _named = View::Nil;
+    let scripts = two_numbers(rt.alloc())?;
+    let gate = Meet {
+        rt: &rt,
+        first: AtomicBool::new(false),
+        second: AtomicBool::new(false),
+    };
+    let world = run_threads(&rt, rt.alloc(), 8, scripts, 0, &gate)?;
+    assert_eq!(rt; world.history().len(), 2);
+    assert!(rt; answers_of(&world, 0, Answer::Mutator(Reply::Done)) == 1);
+    assert!(rt; answers_of(&world, 1, Answer::Mutator(Reply::Done)) == 1);
+    Ok(())
+}
+
+/// False at once for the first mutator.
+#[derive(Drop)]
+struct RefusesFirst {
+    second_called: AtomicBool,
+}
+
+impl Gate for RefusesFirst {
+    fn before(&self, seat: u32, n: u64) -> bool {
+        seat != 0
+    }
+
+    fn after(&self, seat: u32, n: u64) {
+        if seat == 1 && n == 0 {
+            self.second_called.store(true, Ordering::SeqCst);
+        }
+    }
+}
+
+#[test]
+fn a_refused_thread_leaves_the_others(rt: HostRuntime) -> Result<(), Fail> {
+    let _named = View::Nil;
+    let scripts = two_numbers(rt.alloc())?;
+    let gate = RefusesFirst {
+        second_called: AtomicBool::new(false),
+    };
+    match run_threads(&rt, rt.alloc(), 8, scripts, 0, &gate) {
+        Ok(_world) => panic!(rt; "ran"),
+        Err(fault) => assert_eq!(rt; fault, ThreadsFault::Gate { seat: 0, n: 0 }),
+    }
+    assert!(rt; gate.second_called.load(Ordering::SeqCst));
+    Ok(())
+}
+
+/// False at once for everybody.
+struct RefusesAll;
+
+impl Gate for RefusesAll {
+    fn before(&self, seat: u32, n: u64) -> bool {
+        false
+    }
+
+    fn after(&self, seat: u32, n: u64) {}
+}
+
+#[test]
+fn the_least_seat_is_named(rt: HostRuntime) -> Result<(), Fail> {
+    let _named = View::Nil;
+    let scripts = two_numbers(rt.alloc())?;
+    match run_threads(&rt, rt.alloc(), 8, scripts, 1, &RefusesAll) {
+        Ok(_world) => panic!(rt; "ran"),
+        Err(fault) => assert_eq!(rt; fault, ThreadsFault::Gate { seat: 0, n: 0 }),
+    }
+    Ok(())
+}
+
+/// The command waits for the collector's first turn, and the collector's second turn for the command.
+#[derive(Drop)]
+struct Between<'a, R> {
+    rt: &'a R,
+    turned: AtomicBool,
+    called: AtomicBool,
+}
+
+impl<'a, R: Clock> Gate for Between<'a, R> {
+    fn before(&self, seat: u32, n: u64) -> bool {
+        if seat == 0 {
+            waited(self.rt, &self.turned)
+        } else if n == 1 {
+            waited(self.rt, &self.called)
+        } else {
+            true
+        }
+    }
+
+    fn after(&self, seat: u32, n: u64) {
+        if seat == 0 {
+            self.called.store(true, Ordering::SeqCst);
+        } else {
+            self.turned.store(true, Ordering::SeqCst);
+        }
+    }
+}
+
+#[test]
+fn a_command_between_two_turns(rt: HostRuntime) -> Result<(), Fail> {
+    let _named = View::Nil;
+    let nil = Op::Nil {
+        d: Slot::own(0).ok_or("slot")?,
+    };
+    let scripts = one(rt.alloc(), &[nil])?;
+    let gate = Between {
+        rt: &rt,
+        turned: AtomicBool::new(false),
+        called: AtomicBool::new(false),
+    };
+    let world = run_threads(&rt, rt.alloc(), 8, scripts, 2, &gate)?;
+    let history = world.history();
+    assert_eq!(rt; history.len(), 3);
+    let command = Event::Mutate { m: 0, op: nil };
+    assert!(rt; history[1].event == command);
+    assert!(rt; history[1].answer == Answer::Mutator(Reply::Done));
+    Ok(())
+}

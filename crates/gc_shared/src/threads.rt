@@ -1,0 +1,235 @@
+ghost use Rattle.std.specs.Prelude.{◌≡◌, ◌≤◌, ◌<◌, ◌+◌, ◌^◌, ℕ, [], IfOk, IfSome, OnOk, length, map, All, true, false, vec_len, vec_capacity, slice_index_or};
+ghost use Rattle.gc_shared.specs.Scripts.{HasPlayed, HasTurned, HavePlayed, HaveEnded, HasRun};
+ghost use Rattle.gc_shared.specs.Players.{AreToPlay};
+ghost use Rattle.gc_shared.specs.Seats.{fresh};
+ghost use Rattle.std.specs.List.{range_with_len};
+
+use crate::fault::ThreadsFault;
+use crate::gate::Gate;
+use crate::playing::{play, turn};
+use crate::seat::Seat;
+use crate::shared::Shared;
+use gc_graph::Op;
+use gc_world::World;
+use std::alloc::Global;
+use std::sync::Wait;
+use std::thread;
+use std::thread::{Promise, PromisedHandle, Scope, Threads};
+
+/// A mutator's thread: its seat comes back with the script's commands.
+#[derive(Clone, Copy)]
+struct Plays<'a> {
+    number: u8,
+    script: &'a [Op],
+}
+
+impl<'a> Promise<Result<Seat, ThreadsFault>> for Plays<'a> {
+    ghost kept_by = { λ p r. IfOk r (HasPlayed p.number p.script.now) };
+}
+
+/// The collector's thread: its seat comes back with so many useful steps.
+#[derive(Clone, Copy)]
+struct Turns {
+    number: u8,
+    turns: u64,
+}
+
+impl Promise<Result<Seat, ThreadsFault>> for Turns {
+    ghost kept_by = { λ p r. IfOk r (HasTurned p.number p.turns) };
+}
+
+/// Makes each of 1 to 16 scripts by a thread of its own, mutator m's being script m, in a world of `size` words, 1 to
+/// 1048576. One thread more, with the collector's seat, makes so many useful steps. All are started before any is
+/// joined, and all that were started are joined, whatever happens.
+///
+/// Of the faults of several threads that of the least seat is given; a thread that ends leaves the others to go on.
+pub fn run_threads<R: Threads + Wait + Sync, G: Gate + Sync>(
+    rt: &R,
+    alloc: Global,
+    size: u32,
+    scripts: Vec<Vec<Op>>,
+    turns: u64,
+    gate: &G,
+) -> Result<World, ThreadsFault>
+    requires low { 1 ≤ size }
+    requires high { size ≤ 1048576 }
+    requires some { 1 ≤ vec_len scripts }
+    requires few { vec_len scripts ≤ 16 }
+    ensures { IfOk result (HasRun size scripts.items turns) }
+{
+    let mutators = scripts.len() as u8;
+    let Ok((shared, seats)) = Shared::open(alloc, size, mutators, 1) else {
+        return Err(ThreadsFault::NoMemory);
+    };
+    let ended = in_threads(rt, alloc, &shared, seats, scripts.as_slice(), turns, gate);
+    match shared.close(ended?) {
+        Ok(world) => Ok(world),
+        Err(fault) => Err(ThreadsFault::Close(fault.kind)),
+    }
+}
+
+// Runs the scripts and the collector in threads, and gives the seats back.
+fn in_threads<R: Threads + Wait + Sync, G: Gate + Sync>(
+    rt: &R,
+    alloc: Global,
+    shared: &Shared,
+    seats: Vec<Seat>,
+    scripts: &[Vec<Op>],
+    turns: u64,
+    gate: &G,
+) -> Result<Vec<Seat>, ThreadsFault>
+    requires { seats.items ≡ map (fresh (length scripts.now)) (range_with_len 0 (length scripts.now + 1)) }
+    ensures { IfOk result (λ v. HaveEnded scripts.now turns v.items) }
+{
+    thread::scope(
+        thread::scope_env(),
+        rt,
+        |scope| -> Result<Vec<Seat>, ThreadsFault>
+            requires { seats.items ≡ map (fresh (length scripts.now)) (range_with_len 0 (length scripts.now + 1)) }
+            ensures { IfOk result (λ v. HaveEnded scripts.entry.now turns v.items) }
+        { run_all(scope, rt, alloc, shared, seats, scripts, turns, gate) },
+    )
+}
+
+type Player<'e> = PromisedHandle<Result<Seat, ThreadsFault>, Plays<'e>>;
+
+type Turner = PromisedHandle<Result<Seat, ThreadsFault>, Turns>;
+
+// Starts all threads, and then joins them.
+fn run_all<'s, 'e, R: Threads + Wait + Sync, G: Gate + Sync>(
+    scope: &'s Scope<'s, &'e ()>,
+    rt: &'e R,
+    alloc: Global,
+    shared: &'e Shared,
+    mut seats: Vec<Seat>,
+    scripts: &'e [Vec<Op>],
+    turns: u64,
+    gate: &'e G,
+) -> Result<Vec<Seat>, ThreadsFault>
+    requires { seats.items ≡ map (fresh (length scripts.now)) (range_with_len 0 (length scripts.now + 1)) }
+    ensures { IfOk result (λ v. HaveEnded scripts.now turns v.items) }
+{
+    let Ok(mut back) = Vec::with_capacity(alloc, scripts.len() + 1) else {
+        return Err(ThreadsFault::NoMemory);
+    };
+    let Ok(mut players) = Vec::with_capacity(alloc, scripts.len()) else {
+        return Err(ThreadsFault::NoMemory);
+    };
+    let Some(last) = seats.pop() else {
+        unreachable!()
+    };
+    let all_started = start_players(scope, rt, shared, seats, scripts, gate, &mut players);
+    if !all_started {
+        let _ = join_players(rt, players, scripts, &mut back);
+        return Err(ThreadsFault::NotStarted);
+    }
+    let Some(collector) = start_collector(scope, rt, shared, last, turns, gate) else {
+        let _ = join_players(rt, players, scripts, &mut back);
+        return Err(ThreadsFault::NotStarted);
+    };
+    let played = join_players(rt, players, scripts, &mut back);
+    let turned = collector.join(rt);
+    played?;
+    back.push_reserved(turned?);
+    Ok(back)
+}
+
+// Starts a thread for each script. False where one could not be made.
+fn start_players<'s, 'e, R: Threads + Wait + Sync, G: Gate + Sync>(
+    scope: &'s Scope<'s, &'e ()>,
+    rt: &'e R,
+    shared: &'e Shared,
+    seats: Vec<Seat>,
+    scripts: &'e [Vec<Op>],
+    gate: &'e G,
+    players: &mut Vec<Player<'e>>,
+) -> bool
+    requires seats { seats.items ≡ map (fresh (length scripts.now)) (range_with_len 0 (length scripts.now)) }
+    requires none { vec_len players.old ≡ 0 }
+    requires room { length scripts.now ≤ vec_capacity players.old }
+    ensures all { result ≡ true → vec_len players.new ≡ length scripts.now }
+    ensures some { vec_len players.new ≤ length scripts.now }
+    ensures each { AreToPlay scripts.now players.new.items }
+{
+    for seat in seats {
+        let script = scripts[players.len()].as_slice();
+        match start_player(scope, rt, shared, seat, script, gate) {
+            Some(player) => players.push_reserved(player),
+            None => return false,
+        }
+    }
+    true
+}
+
+fn start_player<'s, 'e, R: Threads + Wait + Sync, G: Gate + Sync>(
+    scope: &'s Scope<'s, &'e ()>,
+    rt: &'e R,
+    shared: &'e Shared,
+    seat: Seat,
+    script: &'e [Op],
+    gate: &'e G,
+) -> Option<Player<'e>>
+    requires { seat.receipts ≡ [] }
+    ensures { IfSome result (λ h. (h.promise.number ≡ seat.number) × (h.promise.script.now ≡ script.now)) }
+{
+    let plays = Plays {
+        number: seat.number(),
+        script,
+    };
+    scope
+        .spawn_with(plays, move || play(rt, shared, seat, script, gate))
+        .ok()
+}
+
+fn start_collector<'s, 'e, R: Threads + Wait + Sync, G: Gate + Sync>(
+    scope: &'s Scope<'s, &'e ()>,
+    rt: &'e R,
+    shared: &'e Shared,
+    seat: Seat,
+    turns: u64,
+    gate: &'e G,
+) -> Option<Turner>
+    requires { seat.receipts ≡ [] }
+    ensures { IfSome result (λ h. (h.promise.number ≡ seat.number) × (h.promise.turns ≡ turns)) }
+{
+    let promise = Turns {
+        number: seat.number(),
+        turns,
+    };
+    scope
+        .spawn_with(
+            promise,
+            move || -> Result<Seat, ThreadsFault>
+                requires { seat.receipts ≡ [] }
+                ensures { IfOk result (HasTurned seat.number turns) }
+            { turn(rt, shared, seat, turns, gate) },
+        )
+        .ok()
+}
+
+// Joins all, and keeps their seats. The fault is that of the least seat.
+fn join_players<'e, R: Threads>(
+    rt: &R,
+    players: Vec<Player<'e>>,
+    scripts: &[Vec<Op>],
+    back: &mut Vec<Seat>,
+) -> Result<(), ThreadsFault>
+    requires each { AreToPlay scripts.now players.items }
+    requires none { vec_len back.old ≡ 0 }
+    requires room { vec_len players < vec_capacity back.old }
+    ensures ok { OnOk result (HavePlayed scripts.now (vec_len players.entry) back.new.items) }
+    ensures room { vec_len back.new < vec_capacity back.new }
+{
+    let mut fault = Ok(());
+    for player in players {
+        match player.join(rt) {
+            Ok(seat) => back.push_reserved(seat),
+            Err(found) => {
+                if fault.is_ok() {
+                    fault = Err(found);
+                }
+            }
+        }
+    }
+    fault
+}
