@@ -40,6 +40,7 @@ fault_has_status (program.Play (play.Trace trace.BadHeader)) = text_fault_is_sta
 fault_has_status (program.Play (play.Trace (trace.BadLine n))) = text_fault_is_status
 fault_has_status (program.Play (play.Trace (trace.NoSuchMutator n))) = text_fault_is_status
 fault_has_status (program.Play (play.Trace trace.NoMemory)) = memory_fault_is_status
+fault_has_status (program.Play play.NoSuchFlip) = text_fault_is_status
 fault_has_status (program.Play play.NoMemory) = memory_fault_is_status
 fault_has_status (program.Play play.Write) = stream_fault_is_status
 fault_has_status (program.Check (check.Pair pair.Read)) = stream_fault_is_status

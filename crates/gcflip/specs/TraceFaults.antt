@@ -17,6 +17,7 @@ trace_fault_text trace.NoMemory = codes "no memory"
 
 unfoldable pub play_fault_text : PlayFault → List ℕ
 play_fault_text (play.Trace fault) = trace_fault_text fault
+play_fault_text play.NoSuchFlip = codes "trace: no such flip"
 play_fault_text play.NoMemory = codes "no memory"
 play_fault_text play.Write = codes "cannot write"
 
@@ -32,5 +33,6 @@ trace_fault_status trace.NoMemory = 5
 
 abbrev pub play_fault_status : PlayFault → ℕ
 play_fault_status (play.Trace fault) = trace_fault_status fault
+play_fault_status play.NoSuchFlip = 3
 play_fault_status play.NoMemory = 5
 play_fault_status play.Write = 4

@@ -3,9 +3,11 @@
 
 mod check;
 mod fault;
+mod pair;
 mod pair_faults;
 mod play;
 mod program;
+mod report;
 mod task;
 mod trace_faults;
 

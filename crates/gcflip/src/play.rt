@@ -1,10 +1,11 @@
 ghost use Rattle.std.specs.Prelude.{◌≡◌, ◌≢◌, ◌↔◌, true, IfSome, IfOk, IfErr, OnOk, OnErr, Err};
 ghost use Rattle.gc_graph.specs.Streams.{bytes_left, bytes_written, source_failed, sink_failed};
 ghost use Rattle.gc_trace.specs.Faults.{MayFail};
-ghost use Rattle.gc_trace.specs.Playing.{Plays, PlaysFront};
+ghost use Rattle.gc_trace.specs.Playing.{PlaysFront};
 ghost use Rattle.gc_trace.specs.declared.fault.PlayFault.{PlayFault};
 ghost use Rattle.gc_trace.specs.declared.fault.TraceFault.{TraceFault};
 ghost use Rattle.gcflip.specs.Outcomes.{IsOfPlay};
+ghost use Rattle.gcflip.specs.Playing.{WritesReplies};
 
 use crate::fault::Fault;
 use gc_graph::{Sink, Source};
@@ -19,7 +20,7 @@ pub fn play_from<R: Read, W: Write>(
 ) -> Result<u8, Fault>
     // All of the reply lines, and nothing else.
     ensures played { OnOk result (IfSome (bytes_left R.remaining reader.old) (λ text.
-        Plays text (bytes_written W.contents writer.old) (bytes_written W.contents writer.new))) }
+        WritesReplies text (bytes_written W.contents writer.old) (bytes_written W.contents writer.new))) }
     ensures statuses { IfOk result (λ status. status ≡ 0) }
 
     // The first fault of a bad text.
@@ -36,7 +37,7 @@ pub fn play_from<R: Read, W: Write>(
         PlaysFront text (bytes_written W.contents writer.old) (bytes_written W.contents writer.new)) }
 {
     match gc_trace::play(alloc, reader, writer) {
-        Ok(()) => Ok(0),
+        Ok(_) => Ok(0),
         Err(fault) => Err(Fault::Play(fault)),
     }
 }

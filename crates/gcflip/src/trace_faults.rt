@@ -5,8 +5,9 @@ ghost use Rattle.gcflip.specs.TraceFaults.{trace_fault_status, play_fault_status
 use gc_graph::text::Printer;
 use gc_trace::{PlayFault, TraceFault};
 
+/// What the line of a trace's fault says, without its end.
 #[tactic(auto, unfolding(crate::specs::TraceFaults::trace_fault_text))]
-fn print_trace_fault(printer: &mut Printer, fault: &TraceFault)
+pub fn print_trace_fault(printer: &mut Printer, fault: &TraceFault)
     requires { length printer.old + 51 ≤ 16384 }
     ensures text { printer.new ≡ printer.old ++ trace_fault_text fault.now }
     ensures room { length printer.new ≤ length printer.old + 51 }
@@ -30,12 +31,13 @@ pub fn print_play_fault(printer: &mut Printer, fault: &PlayFault)
 {
     match fault {
         PlayFault::Trace(fault) => print_trace_fault(printer, fault),
+        PlayFault::NoSuchFlip => printer.bytes(b"trace: no such flip"),
         PlayFault::NoMemory => printer.bytes(b"no memory"),
         PlayFault::Write => printer.bytes(b"cannot write"),
     }
 }
 
-fn trace_status(fault: &TraceFault) -> u8
+pub fn trace_status(fault: &TraceFault) -> u8
     ensures { result ≡ trace_fault_status fault.now }
 {
     match fault {
@@ -53,6 +55,7 @@ pub fn play_status(fault: &PlayFault) -> u8
 {
     match fault {
         PlayFault::Trace(fault) => trace_status(fault),
+        PlayFault::NoSuchFlip => 3,
         PlayFault::NoMemory => 5,
         PlayFault::Write => 4,
     }

@@ -1,0 +1,12 @@
+-- What the program makes of a trace: its status is told beside it, and its report is not.
+use Rattle.std.specs.Prelude.{ℕ, List, Option}
+use Rattle.gc_trace.specs.Playing as trace
+use Rattle.gc_trace.specs.declared.report.Report.{Report}
+
+-- the text is of a trace, and its reply lines went out
+abbrev pub WritesReplies : List ℕ → Option (List ℕ) → Option (List ℕ) → Type 0
+WritesReplies text old new = (report : Report) × trace.Plays text report old new
+
+-- the text is of a trace, and the text of its report went out
+abbrev pub WritesReport : List ℕ → Option (List ℕ) → Option (List ℕ) → Type 0
+WritesReport text old new = (report : Report) × trace.Reports text report old new
