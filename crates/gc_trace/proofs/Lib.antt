@@ -8,4 +8,4 @@ pub mod RowProofs
 pub mod PairsPlaced
 pub mod Ends
 pub mod Counted
-pub mod Printed
+pub mod ReportLines

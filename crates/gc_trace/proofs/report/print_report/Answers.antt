@@ -2,7 +2,7 @@ use Rattle.std.proofs.Common.{refl, ◌++◌, ◌∙◌, ap, List, ℕ}
 use Rattle.std.specs.List.{flat_map}
 use Rattle.gc_graph.specs.Lines.{line}
 use Rattle.gc_trace.specs.Report.{report_lines}
-use Rattle.gc_trace.proofs.Printed.{◌⨾◌, Grows, grown}
+use Rattle.gc_trace.proofs.ReportLines.{◌⨾◌, Grows, grown}
 use Rattle.gc_trace.proofs.report.print_report.Goals as goal
 
 pub returns : goal.returns
