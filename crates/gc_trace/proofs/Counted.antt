@@ -1,5 +1,5 @@
 -- Reports of one answer more, and how large their numbers are.
-use Rattle.std.proofs.Common.{◌≡◌, ℕ, ◌+◌, ◌<◌, ◌≤◌, ◌^◌, Bool, true, false, cond, List, [], ◌∷◌, ◌++◌, length, map, take, get_or, refl, sym, ◌∙◌, ap, subst, arith, length-append}
+use Rattle.std.proofs.Common.{◌≡◌, ℕ, ◌+◌, ◌<◌, ◌^◌, Bool, true, false, cond, List, [], ◌∷◌, ◌++◌, length, take, get_or, refl, sym, ◌∙◌, ap, subst, arith, length-append}
 use Rattle.std.specs.List.{count_by, sum_by}
 use Rattle.std.proofs.lemmas.List.{length-map, map_more, take-map, length-take}
 use Rattle.std.proofs.lemmas.List.Sums.{sum_by_push, sum_by-take-le, count_by-le-length}
@@ -8,7 +8,7 @@ use Rattle.gc_copy.specs.State.{State, heap_end}
 use Rattle.gc_world.specs.History.{run_answer, answers_of, IsHistory}
 use Rattle.gc_world.specs.declared.event.Entry.{Entry}
 use Rattle.gc_trace.specs.declared.report.Report.{Report}
-use Rattle.gc_trace.specs.Report.{is_made, is_full, is_begun, is_copied, is_scanned, is_applied, is_flip, is_dropped, is_refused, pairs_in, report_of, one_more_if, with_answer, IsInRange}
+use Rattle.gc_trace.specs.Report.{is_made, is_full, is_begun, is_copied, is_scanned, is_applied, is_flip, is_dropped, is_refused, pairs_in, report_of, one_more_if, with_answer, FitsU64}
 use Rattle.gc_trace.proofs.PairsPlaced.{few_pairs}
 
 abbrev answer_of : Entry → Answer
@@ -49,8 +49,8 @@ next_counted items i entry r s lt is so_far =
     ∙ ap (λ (e : Entry). report_of (answers_of (take i items) ++ answer_of e ∷ []) s) is
     ∙ ap (λ (answers : List Answer). report_of answers s) (sym (map_more answer_of items i entry lt))
 
-in_range : (answers : List Answer) (s : State) → length answers < 2 ^ 64 → sum_by pairs_in answers < 2 ^ 64 → IsInRange (report_of answers s)
-in_range answers s few few_pairs = record {
+report_fits : (answers : List Answer) (s : State) → length answers < 2 ^ 64 → sum_by pairs_in answers < 2 ^ 64 → FitsU64 (report_of answers s)
+report_fits answers s few few_pairs = record {
   events = few;
   made = omega (arith, few, count_by-le-length is_made answers);
   full = omega (arith, few, count_by-le-length is_full answers);
@@ -65,10 +65,10 @@ in_range answers s few few_pairs = record {
 }
 
 -- a front of a history has no more answers and pairs
-pub front_in_range : (size mutators : ℕ) (items : List Entry) (i : ℕ) (s : State) → IsHistory size mutators items → length items < 2 ^ 64 → IsInRange (report_of (answers_of (take i items)) s)
-front_in_range size mutators items i s h few =
+pub front_fits : (size mutators : ℕ) (items : List Entry) (i : ℕ) (s : State) → IsHistory size mutators items → length items < 2 ^ 64 → FitsU64 (report_of (answers_of (take i items)) s)
+front_fits size mutators items i s h few =
     let answers = answers_of items in
     let front : take i answers ≡ answers_of (take i items) = take-map answer_of i items in
     let short : length (take i answers) < 2 ^ 64 = omega (arith, few, length-take i answers, length-map items answer_of) in
     let pairs : sum_by pairs_in (take i answers) < 2 ^ 64 = omega (arith, few, sum_by-take-le pairs_in answers i, few_pairs size mutators items h, length-map items answer_of) in
-    subst (λ (answers : List Answer). IsInRange (report_of answers s)) front (in_range (take i answers) s short pairs)
+    subst (λ (answers : List Answer). FitsU64 (report_of answers s)) front (report_fits (take i answers) s short pairs)

@@ -13,4 +13,4 @@ pub mod Played
 pub mod PairsPlaced
 pub mod Ends
 pub mod Counted
-pub mod Grown
+pub mod ReportLines

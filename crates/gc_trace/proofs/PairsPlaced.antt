@@ -1,5 +1,5 @@
 -- Each pair of a flip was placed by a step of its own, so that a history has no more pairs than events.
-use Rattle.std.proofs.Common.{◌≡◌, ℕ, suc, ◌+◌, ◌≤◌, ◌==◌, List, [], ◌∷◌, ◌++◌, length, map, Option, Some, None, is_some, nat_lt, refl, sym, ◌∙◌, ap, subst, arith, length-append}
+use Rattle.std.proofs.Common.{◌≡◌, ℕ, ◌+◌, ◌≤◌, ◌==◌, List, [], ◌∷◌, length, Option, Some, None, is_some, nat_lt, refl, ap, arith, length-append}
 use Rattle.std.specs.List.{sum_by}
 use Rattle.std.proofs.lemmas.Bool.{cond_both}
 use Rattle.std.proofs.lemmas.List.{length-map}
@@ -7,12 +7,12 @@ use Rattle.std.proofs.lemmas.List.Sums.{sum_by-cons}
 use Rattle.gc_graph.specs.Graph.{Value, Nil, Num, Ref, Object, Graph, lookup, field_of}
 use Rattle.gc_graph.specs.Machine.{roomy_step}
 use Rattle.gc_copy.specs.State.{Replica, Collection, State, opening_state, heap_end, new_end, new_free, replica_of, replica_at, moved}
-use Rattle.gc_copy.specs.Steps.{written, log_at, logged, mutate, fresh_replica, place_replica, with_replica, with_written, write_replica, copy_value, bring_value, bring_up_to_date, with_log, if_room, root_target, copy_root, scan_done, scan, next_object, next_field, scan_replica, apply_entry, apply_log, is_ready, passes_check, flip, collect_with, collect}
-use Rattle.gc_copy.specs.Runs.{Event, Mutate, Collect, Answer, Stepped, after, answer, answers}
+use Rattle.gc_copy.specs.Steps.{written, log_at, logged, fresh_replica, place_replica, with_replica, with_written, copy_value, bring_value, bring_up_to_date, with_log, if_room, root_target, copy_root, scan_done, scan, next_field, scan_replica, apply_entry, apply_log, is_ready, passes_check, flip, collect_with}
+use Rattle.gc_copy.specs.Runs.{Event, Mutate, Collect, Stepped, after, answer, answers}
 use Rattle.gc_copy.specs.declared.step.Step.{Step}
 use Rattle.gc_copy.specs.declared.step.Step.TheVariants as steps
 use Rattle.gc_copy.specs.declared.step.StepReply.{StepReply}
-use Rattle.gc_copy.specs.declared.step.StepReply.TheVariants.{Copied, Scanned, Applied}
+use Rattle.gc_copy.specs.declared.step.StepReply.TheVariants.{Busy, Idle, Clean, Copied, Scanned, Applied, NotReady, Refused}
 use Rattle.gc_world.specs.History.{IsHistory, events_of, answers_of, run_event, run_answer}
 use Rattle.gc_world.specs.declared.event.Entry.{Entry}
 use Rattle.gc_trace.specs.Report.{pairs_in}
@@ -50,13 +50,17 @@ brought_up c g name i = brought c g name i (field_of (lookup g.objects name) i)
 
 -- ---- steps
 
+-- a step that leaves the state as it was
+unchanged : (s : State) (o : Option Collection) (reply : StepReply) → s.collection ≡ o → pairs_in (Stepped reply) ≡ 0 → PlacesOne (replicas_in o) (reply, s)
+unchanged s o reply e none = let same : replicas_in s.collection ≡ replicas_in o = ap replicas_in e in omega arith
+
 -- where there is room, and where there is not
 room_places : (n : ℕ) (s : State) (reply : StepReply) (o : Option Collection) → pairs_in (Stepped reply) ≡ 0 → replicas_in s.collection ≡ n → replicas_in o ≤ n + 1 → PlacesOne n (if_room s reply o)
 room_places n s reply None none same few = omega arith
 room_places n s reply (Some c) none same few = omega arith
 
 roots_place : (s : State) (c : Collection) (target : Option ℕ) → s.collection ≡ Some c → PlacesOne (length c.replicas) (copy_root s c target)
-roots_place s c None e = let same : replicas_in s.collection ≡ length c.replicas = ap replicas_in e in omega arith
+roots_place s c None e = unchanged s (Some c) Clean e refl
 roots_place s c (Some name) e = room_places (length c.replicas) s Copied (place_replica c name (lookup s.heap.graph.objects name)) refl (ap replicas_in e) (placed c name (lookup s.heap.graph.objects name))
 
 field_goes_on : (o : Option Collection) → replicas_in (next_field o) ≡ replicas_in o
@@ -64,41 +68,40 @@ field_goes_on None = refl
 field_goes_on (Some c) = refl
 
 object_scanned : (s : State) (c : Collection) (r : Option Replica) → s.collection ≡ Some c → PlacesOne (length c.replicas) (scan_replica s c r)
-object_scanned s c None e = let same : replicas_in s.collection ≡ length c.replicas = ap replicas_in e in omega arith
+object_scanned s c None e = unchanged s (Some c) Clean e refl
 object_scanned s c (Some r) e = cond_both (c.scan_field == length r.object.fields) _ _ (PlacesOne (length c.replicas)) (λ t. omega arith)
     (λ t. let o = bring_up_to_date c s.heap.graph r.original c.scan_field in
     room_places (length c.replicas) s Scanned (next_field o) refl (ap replicas_in e) (omega (arith, field_goes_on o, brought_up c s.heap.graph r.original c.scan_field)))
 
 scan_places : (s : State) (c : Collection) → s.collection ≡ Some c → PlacesOne (length c.replicas) (scan s c)
 scan_places s c e = cond_both (scan_done c) _ _ (PlacesOne (length c.replicas))
-    (λ t. let same : replicas_in s.collection ≡ length c.replicas = ap replicas_in e in omega arith)
+    (λ t. unchanged s (Some c) Clean e refl)
     (λ t. object_scanned s c (replica_at c c.scan_place) e)
 
 entry_applied : (c : Collection) (g : Graph) (entry : ℕ × ℕ) → replicas_in (apply_entry c g entry) ≤ length c.replicas + 1
 entry_applied c g entry = cond_both (is_some (replica_of c entry.0)) _ _ (λ (o : Option Collection). replicas_in o ≤ length c.replicas + 1) (λ t. brought_up c g entry.0 entry.1) (λ t. omega arith)
 
 log_applied : (s : State) (c : Collection) (m : ℕ) (log : List (ℕ × ℕ)) → s.collection ≡ Some c → PlacesOne (length c.replicas) (apply_log s c m log)
-log_applied s c m [] e = let same : replicas_in s.collection ≡ length c.replicas = ap replicas_in e in omega arith
+log_applied s c m [] e = unchanged s (Some c) Clean e refl
 log_applied s c m (entry ∷ rest) e = room_places (length c.replicas) s Applied (apply_entry (with_log c m rest) s.heap.graph entry) refl (ap replicas_in e) (entry_applied (with_log c m rest) s.heap.graph entry)
 
 -- a flip has as many pairs as there were replicas, and leaves none
 flip_places : (s : State) (c : Collection) → s.collection ≡ Some c → PlacesOne (length c.replicas) (flip s c)
 flip_places s c e =
-    let same : replicas_in s.collection ≡ length c.replicas = ap replicas_in e in
     cond_both (is_ready c s.heap.graph) _ _ (PlacesOne (length c.replicas))
-    (λ t. cond_both (passes_check s c) _ _ (PlacesOne (length c.replicas)) (λ u. omega arith) (λ u. omega arith))
-    (λ t. omega arith)
+    (λ t. cond_both (passes_check s c) _ _ (PlacesOne (length c.replicas)) (λ u. omega arith) (λ u. unchanged s (Some c) Refused e refl))
+    (λ t. unchanged s (Some c) NotReady e refl)
 
 step_places : (s : State) (o : Option Collection) (step : Step) → s.collection ≡ o → PlacesOne (replicas_in o) (collect_with s o step)
 step_places s None steps.Begin e = omega arith
 step_places s None (steps.BeginSized size) e = omega arith
-step_places s None steps.Roots e = let same : replicas_in s.collection ≡ 0 = ap replicas_in e in omega arith
-step_places s None steps.Scan e = let same : replicas_in s.collection ≡ 0 = ap replicas_in e in omega arith
-step_places s None (steps.Apply m) e = let same : replicas_in s.collection ≡ 0 = ap replicas_in e in omega arith
-step_places s None steps.Flip e = let same : replicas_in s.collection ≡ 0 = ap replicas_in e in omega arith
-step_places s None steps.Drop e = let same : replicas_in s.collection ≡ 0 = ap replicas_in e in omega arith
-step_places s (Some c) steps.Begin e = let same : replicas_in s.collection ≡ length c.replicas = ap replicas_in e in omega arith
-step_places s (Some c) (steps.BeginSized size) e = let same : replicas_in s.collection ≡ length c.replicas = ap replicas_in e in omega arith
+step_places s None steps.Roots e = unchanged s None Idle e refl
+step_places s None steps.Scan e = unchanged s None Idle e refl
+step_places s None (steps.Apply m) e = unchanged s None Idle e refl
+step_places s None steps.Flip e = unchanged s None Idle e refl
+step_places s None steps.Drop e = unchanged s None Idle e refl
+step_places s (Some c) steps.Begin e = unchanged s (Some c) Busy e refl
+step_places s (Some c) (steps.BeginSized size) e = unchanged s (Some c) Busy e refl
 step_places s (Some c) steps.Roots e = roots_place s c (root_target c s.heap.graph) e
 step_places s (Some c) steps.Scan e = scan_places s c e
 step_places s (Some c) (steps.Apply m) e = log_applied s c m (log_at c m) e

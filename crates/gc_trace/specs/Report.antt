@@ -115,8 +115,8 @@ with_answer r answer = record r {
   refused = one_more_if (is_refused answer) r.refused;
 }
 
--- each number fits 64 bits
-pub record IsInRange (r : Report) : Type 0 where
+-- each number that counts is one of 64 bits
+pub record FitsU64 (r : Report) : Type 0 where
   pub events : r.events < 2 ^ 64
   pub made : r.made < 2 ^ 64
   pub full : r.full < 2 ^ 64

@@ -8,9 +8,9 @@ ghost use Rattle.gc_trace.specs.Grammar.{Recording, IsTextOf, IsOf, spelling, wr
 ghost use Rattle.gc_trace.specs.Faults.{limit, IsFaultOf, IsReadAs};
 ghost use Rattle.gc_trace.specs.Playing.{happened, answers};
 ghost use Rattle.gc_trace.specs.Rows.{TextRows, SizedRows, LineRows};
-ghost use Rattle.gc_trace.specs.Report.{report_of as report_in};
+ghost use Rattle.gc_trace.specs.Report.{report_of};
 ghost use Rattle.gc_trace.specs.ReportRows.{ReportRows};
-ghost use Rattle.gc_trace.specs.Scripts.{script_of as script_in, scripts};
+ghost use Rattle.gc_trace.specs.Scripts.{script_of, scripts};
 ghost use Rattle.gc_trace.specs.declared.fault.TraceFault.{TraceFault};
 
 /// A text is read in one way: as one trace, or with one first fault.
@@ -47,7 +47,7 @@ pub fn worked_report()
 /// Each pair of a flip was placed by a step of its own: a report has no more pairs than events.
 pub fn pairs_are_placed_by_steps()
     ensures { (size mutators : ℕ) (entries : List Entry) → IsHistory size mutators entries
-        → (let report = report_in (answers_of entries) (state_after size mutators entries) in
+        → (let report = report_of (answers_of entries) (state_after size mutators entries) in
         report.pairs ≤ report.events) }
 {}
 
@@ -56,5 +56,5 @@ pub fn pairs_are_placed_by_steps()
 pub fn scripts_are_commands()
     ensures count { (mutators : ℕ) (events : List Event) → length (scripts mutators events) ≡ mutators }
     ensures commands { (m mutators : ℕ) (events : List Event)
-        → AllByRecursion (IsOf mutators) events → AllByRecursion IsCommand (script_in m events) }
+        → AllByRecursion (IsOf mutators) events → AllByRecursion IsCommand (script_of m events) }
 {}

@@ -13,7 +13,7 @@ pub struct Report {
     pub events: u64,
     /// How many objects mutators made.
     pub made: u64,
-    /// How many had no room.
+    /// How many new objects had no room.
     pub full: u64,
     /// How many collections began.
     pub begun: u64,
@@ -42,7 +42,7 @@ impl Report {
     ghost use Rattle.gc_words.specs.Space.{free_in, end_of};
     ghost use Rattle.gc_copy.specs.Runs.{Replied, Stepped};
     ghost use Rattle.gc_world.specs.History.{run_answer};
-    ghost use Rattle.gc_trace.specs.Report.{with_answer, IsInRange};
+    ghost use Rattle.gc_trace.specs.Report.{with_answer, FitsU64};
 
     /// Nothing happened yet, and this is the mutators' space.
     fn of_space(space: &Space) -> Report
@@ -81,7 +81,7 @@ impl Report {
 
     /// Counts an event by its answer.
     fn count(&mut self, answer: &Answer)
-        requires { IsInRange (with_answer self.old (run_answer answer.now)) }
+        requires { FitsU64 (with_answer self.old (run_answer answer.now)) }
         ensures { self.new ≡ with_answer self.old (run_answer answer.now) }
     {
         match answer {
@@ -93,7 +93,7 @@ impl Report {
 
     /// Counts a mutator's reply, beside the event.
     fn count_reply(&mut self, reply: &Reply)
-        requires { IsInRange (with_answer self.old (Replied reply.now)) }
+        requires { FitsU64 (with_answer self.old (Replied reply.now)) }
         ensures { self.new ≡ record (with_answer self.old (Replied reply.now)) { events = self.old.events } }
     {
         let _named = View::Nil;
@@ -106,7 +106,7 @@ impl Report {
 
     /// Counts the answer to a step, beside the event.
     fn count_step(&mut self, reply: &StepReply)
-        requires { IsInRange (with_answer self.old (Stepped reply.now)) }
+        requires { FitsU64 (with_answer self.old (Stepped reply.now)) }
         ensures { self.new ≡ record (with_answer self.old (Stepped reply.now)) { events = self.old.events } }
     {
         match reply {
@@ -131,11 +131,11 @@ ghost use Rattle.gc_graph.specs.Lines.{line};
 ghost use Rattle.gc_graph.specs.Streams.{bytes_written, sink_failed, SendsFront};
 ghost use Rattle.gc_world.specs.History.{answers_of};
 ghost use Rattle.gc_world.specs.World.{present};
-ghost use Rattle.gc_trace.specs.Report.{report_of as report_in, report_text};
+ghost use Rattle.gc_trace.specs.Report.{report_of, report_text};
 
 /// What happened to the world, and how much room its mutators have.
 pub fn report_of(world: &World) -> Report
-    ensures { result ≡ report_in (answers_of world.now.entries) (present world.now) }
+    ensures { result ≡ report_of (answers_of world.now.entries) (present world.now) }
 {
     runs_keep_states();
     heaps_have_addresses_as_names();

@@ -1,5 +1,5 @@
 ghost use Rattle.std.specs.Prelude.{◌≡◌, map, IfOk};
-ghost use Rattle.gc_trace.specs.Scripts.{script_of as script_in, scripts};
+ghost use Rattle.gc_trace.specs.Scripts.{script_of, scripts};
 
 use crate::trace::Trace;
 use gc_graph::{NoMemory, Op};
@@ -8,7 +8,8 @@ use std::alloc::Global;
 
 /// What each mutator does of the trace, in order, the collector's events passed over: a script for each mutator.
 pub fn scripts_of(alloc: Global, trace: &Trace) -> Result<Vec<Vec<Op>>, NoMemory>
-    ensures { IfOk result (λ made. map (λ script. script.items) made.items ≡ scripts trace.now.mutators trace.now.events.items) }
+    ensures { IfOk result (λ made.
+        map (λ script. script.items) made.items ≡ scripts trace.now.mutators trace.now.events.items) }
 {
     let mut scripts = Vec::new(alloc);
     for m in 0..trace.mutators {
@@ -22,7 +23,7 @@ pub fn scripts_of(alloc: Global, trace: &Trace) -> Result<Vec<Vec<Op>>, NoMemory
 
 // The commands of mutator m.
 fn script_of(alloc: Global, m: u8, events: &[Event]) -> Result<Vec<Op>, NoMemory>
-    ensures { IfOk result (λ script. script.items ≡ script_in m events.now) }
+    ensures { IfOk result (λ script. script.items ≡ script_of m events.now) }
 {
     let mut script = Vec::new(alloc);
     let _named: Option<Op> = None;

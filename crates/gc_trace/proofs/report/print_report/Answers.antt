@@ -1,60 +1,15 @@
-use Rattle.std.proofs.Common.{[], refl, ◌≡◌, ◌++◌, ◌∙◌, ap, List, ℕ}
+use Rattle.std.proofs.Common.{refl, ◌++◌, ◌∙◌, ap, List, ℕ}
 use Rattle.std.specs.List.{flat_map}
 use Rattle.gc_graph.specs.Lines.{line}
 use Rattle.gc_trace.specs.Report.{report_lines}
-use Rattle.gc_trace.proofs.Grown.{grown}
+use Rattle.gc_trace.proofs.ReportLines.{◌⨾◌, Grows, grown}
 use Rattle.gc_trace.proofs.report.print_report.Goals as goal
 
 pub returns : goal.returns
 returns c =
     let lines = report_lines c.args.report.now in
-    grown c.args.printer.now lines c.print_count-13.new.printer (
-      c.print_count.new.printer,
-      c.print_count.ensures.text,
-      (
-        c.print_count-2.new.printer,
-        c.print_count-2.ensures.text,
-        (
-          c.print_count-3.new.printer,
-          c.print_count-3.ensures.text,
-          (
-            c.print_count-4.new.printer,
-            c.print_count-4.ensures.text,
-            (
-              c.print_count-5.new.printer,
-              c.print_count-5.ensures.text,
-              (
-                c.print_count-6.new.printer,
-                c.print_count-6.ensures.text,
-                (
-                  c.print_count-7.new.printer,
-                  c.print_count-7.ensures.text,
-                  (
-                    c.print_count-8.new.printer,
-                    c.print_count-8.ensures.text,
-                    (
-                      c.print_count-9.new.printer,
-                      c.print_count-9.ensures.text,
-                      (
-                        c.print_count-10.new.printer,
-                        c.print_count-10.ensures.text,
-                        (
-                          c.print_count-11.new.printer,
-                          c.print_count-11.ensures.text,
-                          (
-                            c.print_count-12.new.printer,
-                            c.print_count-12.ensures.text,
-                            (c.print_count-13.new.printer, c.print_count-13.ensures.text, refl),
-                          ),
-                        ),
-                      ),
-                    ),
-                  ),
-                ),
-              ),
-            ),
-          ),
-        ),
-      ),
-    )
-    ∙ ap (λ (t : List ℕ). t ++ flat_map line lines) c.requires
+    let grows : Grows c.args.printer.now lines c.print_count-13.new.printer =
+    c.print_count.ensures.text ⨾ c.print_count-2.ensures.text ⨾ c.print_count-3.ensures.text ⨾ c.print_count-4.ensures.text ⨾ c.print_count-5.ensures.text
+    ⨾ c.print_count-6.ensures.text ⨾ c.print_count-7.ensures.text ⨾ c.print_count-8.ensures.text ⨾ c.print_count-9.ensures.text ⨾ c.print_count-10.ensures.text
+    ⨾ c.print_count-11.ensures.text ⨾ c.print_count-12.ensures.text ⨾ c.print_count-13.ensures.text ⨾ refl in
+    grown c.args.printer.now lines c.print_count-13.new.printer grows ∙ ap (λ (t : List ℕ). t ++ flat_map line lines) c.requires

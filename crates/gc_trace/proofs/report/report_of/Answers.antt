@@ -1,13 +1,11 @@
-use Rattle.std.proofs.Common.{◌≡◌, ◌+◌, ◌<◌, ◌^◌, length, sym, ap, ◌∙◌, subst, arith, rules}
+use Rattle.std.proofs.Common.{◌≡◌, ◌+◌, ◌<◌, ◌^◌, length, sym, ap, ◌∙◌, subst, rules}
 use Rattle.gc_copy.specs.State.{heap_end}
 use Rattle.gc_words.specs.Space.{free_in, end_of}
 use Rattle.gc_graph.specs.Machine.{Roomy}
-use Rattle.gc_heap.specs.Heap.{HeapWords}
 use Rattle.gc_world.specs.World.{present}
-use Rattle.gc_world.specs.History.{run_answer, IsHistory}
-use Rattle.gc_trace.specs.declared.report.Report.{Report}
-use Rattle.gc_trace.specs.Report.{IsInRange, with_answer}
-use Rattle.gc_trace.proofs.Counted.{none_counted, next_counted, front_in_range}
+use Rattle.gc_world.specs.History.{IsHistory}
+use Rattle.gc_trace.specs.Report.{FitsU64}
+use Rattle.gc_trace.proofs.Counted.{none_counted, next_counted, front_fits}
 use Rattle.gc_trace.proofs.Ends.{same_end}
 use Rattle.gc_trace.proofs.report.report_of.Goals as goal
 
@@ -29,7 +27,7 @@ count-requires c =
     let i = c.loop-entry.entry-index in
     let history = subst (IsHistory world.size world.mutators) (sym c.history-entry-items.ensures.entries) c.history-entry-items.ensures.history in
     let small : length items < 2 ^ 64 = search rules in
-    subst IsInRange (sym (next_counted items i c.entry-item.result c.loop-entry.report (present world) c.loop-entry-test.true c.entry-item.is c.loop-entry.invariant)) (front_in_range world.size world.mutators items (i + 1) (present world) history small)
+    subst FitsU64 (sym (next_counted items i c.entry-item.result c.loop-entry.report (present world) c.loop-entry-test.true c.entry-item.is c.loop-entry.invariant)) (front_fits world.size world.mutators items (i + 1) (present world) history small)
 
 pub loop-entry-preserved : goal.loop-entry-preserved
 loop-entry-preserved c =
