@@ -1,16 +1,20 @@
 -- What clap's definitions find in the words that the program takes.
-use Rattle.std.proofs.Common.{◌≡◌, ◌==◌, ◌∙◌, List, [], ◌∷◌, refl, sym, ap, codes, drop, Bool, true, false, Option, Some, None, option_map}
+use Rattle.std.proofs.Common.{◌≡◌, ◌==◌, ◌∙◌, List, [], ◌∷◌, refl, sym, ap, codes, drop, Bool, true, false, Option, Some, None, option_map, subst, IfSome}
 use Rattle.std.specs.Borrow.{Bor}
 use Rattle.std.specs.Box.{box_value}
 use Rattle.std.specs.Prelude.{Box}
 use Rattle.std.specs.Str.{bytes_eq}
-use Rattle.clap.specs.Words.{App, HasMatchesOf, Row, Text, fault_of, first_of, first_value, found_of, is_simple, is_simple_and_free, rows_of, subcommand_name_of, subcommand_of, subcommand_rows, subcommand_rows_of, takes}
+use Rattle.clap.specs.Words.{AddsArg, AddsSubcommand, App, HasMatchesOf, Row, Rule, Text, app_of, rule_of, shape_of, with_rule, with_subcommand, fault_of, first_of, first_value, found_of, is_simple, is_simple_and_free, rows_of, subcommand_name_of, subcommand_of, subcommand_rows, subcommand_rows_of, takes}
 use Rattle.clap.specs.declared.parser.ArgMatches.{ArgMatches}
 use Rattle.clap.specs.declared.parser.matches.ArgMatches.TheViews.{out-ArgMatches, out-SubCommand}
 use Rattle.clap.specs.declared.parser.matches.SubCommand.{SubCommand}
 use Rattle.clap.proofs.OnLiterals.{clap_on_literals}
 use Rattle.clap.proofs.WalkLemmas.{first_value-rows}
-use Rattle.gcflip.specs.CommandLine.{command_line, FindsFile, IsPlainWord}
+use Rattle.clap.specs.declared.builder.arg.Arg.{Arg}
+use Rattle.clap.specs.declared.builder.command.Command.{Command}
+use Rattle.clap.specs.declared.builder.command.Command.TheViews.{out-Command}
+use Rattle.gcflip.specs.CommandLine.{command_line, Finds, FindsFile, IsAskedBy, IsFor, IsInRange, IsPlainWord}
+use Rattle.gcflip.specs.declared.task.Task.{Task}
 
 -- ---- no words behind the program's name
 
@@ -68,6 +72,17 @@ check_found path plain = simp (plain, not_two_hyphens path plain)
 
 pub check_takes_file : (path : Text) → IsPlainWord path → TakesFile (codes "check") path
 check_takes_file path plain = record { taken = check_taken path plain; found = check_found path plain }
+
+report_taken : (path : Text) → IsPlainWord path → takes command_line ([] ∷ codes "report" ∷ path ∷ []) ≡ true
+unfolding clap_on_literals
+report_taken path plain = simp (plain, not_two_hyphens path plain)
+
+report_found : (path : Text) → IsPlainWord path → file_of (subcommand_of command_line ([] ∷ codes "report" ∷ path ∷ [])) ≡ Some (codes "report", Some path)
+unfolding clap_on_literals
+report_found path plain = simp (plain, not_two_hyphens path plain)
+
+pub report_takes_file : (path : Text) → IsPlainWord path → TakesFile (codes "report") path
+report_takes_file path plain = record { taken = report_taken path plain; found = report_found path plain }
 
 pub file_words_taken : (words : List Text) (name path : Text) → TakesFile name path → drop 1 words ≡ name ∷ path ∷ [] → takes command_line words ≡ true
 file_words_taken words name path takes_file e = ap (λ (rest : List Text). takes command_line ([] ∷ rest)) e ∙ takes_file.taken
@@ -150,3 +165,18 @@ absent_has_no_text (Some s) v text is same found = cc
 pub present_has_text : (o : Option (Bor Text)) (s : Bor Text) (v : Option Text) (text : Text) → o ≡ Some s → option_map (λ s. s.now) o ≡ v → v ≡ Some text → s.now ≡ text
 present_has_text None s v text is same found = cc
 present_has_text (Some r) s v text is same found = let both : r ≡ s = cc in cc
+
+-- ---- a subcommand with a number
+
+-- a task for this subcommand and file is what its rows ask for
+pub number_task_asked : (o : Option Task) (name file : Text) (found : Option (Text × List Row)) → IfSome o (λ task. IsFor name file task × IsInRange task) → FindsFile name file found → IfSome o (IsAskedBy found)
+number_task_asked None name file found is finds = tt
+number_task_asked (Some task) name file found is finds = let P = λ (wanted : Option (Text × Text)). Finds wanted found in subst P (sym is.0) finds
+
+-- ---- how the command line is put together
+
+pub adds_rule : (old new : Command) (number : Arg) (a : App) (r : Rule) → AddsArg old number new → number.global ≡ false → app_of old ≡ a → rule_of number ≡ r → app_of new ≡ with_rule a r
+adds_rule old new number a r adds local is same = adds.shape local ∙ ap (λ (b : App). with_rule b (rule_of number)) is ∙ ap (with_rule a) same
+
+pub adds_command : (old sub new : Command) (a s : App) → AddsSubcommand old sub new → (out-Command sub).has_globals ≡ false → app_of old ≡ a → app_of sub ≡ s → app_of new ≡ with_subcommand a s.top
+adds_command old sub new a s adds local is same = adds.shape local ∙ ap (λ (b : App). with_subcommand b (shape_of sub)) is ∙ ap (λ (b : App). with_subcommand a b.top) same

@@ -1,2 +1,3 @@
 pub mod CommandLines
 pub mod Statuses
+pub mod Threaded

@@ -1,49 +1,83 @@
 -- The command line, as clap's definitions see it, and what words ask for.
-use Rattle.std.specs.Prelude.{◌≡◌, ℕ, true, List, Option, Some, None, codes}
+use Rattle.std.specs.Prelude.{◌≡◌, ℕ, ◌≤◌, ⊤, pos, true, List, Option, Some, None, codes}
 use Rattle.clap.specs.Lexer.{strip_byte}
 use Rattle.clap.specs.Words.{App, Row, Rule, first_of, new_app, new_rule, with_rule, with_subcommand}
+use Rattle.clap.specs.declared.builder.value_parser.ValueParser.{ValueParser}
+use Rattle.clap.specs.declared.builder.value_parser.ValueParser.TheVariants.{Signed, Unsigned}
 use Rattle.gcflip.specs.declared.task.Task.{Task}
-use Rattle.gcflip.specs.declared.task.Task.TheVariants.{PlayInput, Play, Check}
+use Rattle.gcflip.specs.declared.task.Task.TheVariants.{PlayInput, Play, Check, Report, Pair, Threads}
+
+-- ---- the command line
 
 -- a required FILE
 abbrev pub file_rule : Rule
 file_rule = record (new_rule (codes "FILE")) { required = true }
 
+-- a required number
+abbrev pub number_rule : List ℕ → ValueParser → Rule
+number_rule name parser = record (new_rule name) { required = true; parser = Some parser }
+
 -- a subcommand that takes a FILE and nothing else
 abbrev pub file_command : List ℕ → App
 file_command name = with_rule (new_app name) file_rule
 
--- `gcflip`, with `gcflip play FILE`
-abbrev pub play_line : App
-play_line = with_subcommand (new_app (codes "gcflip")) (file_command (codes "play")).top
+-- a subcommand that takes a FILE and a number
+abbrev pub number_command : List ℕ → Rule → App
+number_command name number = with_rule (file_command name) number
 
--- `gcflip`, `gcflip play FILE`, `gcflip check FILE`
+-- the number of a flip, and how many turns the collector has
+abbrev pub flip_rule : Rule
+flip_rule = number_rule (codes "N") (Signed (pos 1) (pos 4294967295))
+
+abbrev pub turns_rule : Rule
+turns_rule = number_rule (codes "TURNS") (Unsigned 0 1000000)
+
+-- `gcflip`, with `play FILE`, `check FILE` and `report FILE`
+abbrev pub files_line : App
+files_line =
+    with_subcommand (with_subcommand (with_subcommand (new_app (codes "gcflip")) (file_command (codes "play")).top) (file_command (codes "check")).top) (file_command (codes "report")).top
+
+-- and with `pair FILE N` and `threads FILE TURNS`
 abbrev pub command_line : App
-command_line = with_subcommand play_line (file_command (codes "check")).top
+command_line = with_subcommand (with_subcommand files_line (number_command (codes "pair") flip_rule).top) (number_command (codes "threads") turns_rule).top
 
 -- no hyphen stands first, so that clap takes the word for a value and no option
 abbrev pub IsPlainWord : List ℕ → Type 0
 IsPlainWord word = strip_byte 45 word ≡ None
 
--- the task is to play this file
-abbrev pub PlaysFile : Task → List ℕ → Type 0
-PlaysFile PlayInput path = ⊥
-PlaysFile (Play file) path = file.now ≡ path
-PlaysFile (Check file) path = ⊥
+-- ---- tasks
 
--- the task is to check this file
-abbrev pub ChecksFile : Task → List ℕ → Type 0
-ChecksFile PlayInput path = ⊥
-ChecksFile (Play file) path = ⊥
-ChecksFile (Check file) path = file.now ≡ path
+-- the subcommand of a task, and its FILE
+abbrev pub asked : Task → Option (List ℕ × List ℕ)
+asked PlayInput = None
+asked (Play file) = Some (codes "play", file.now)
+asked (Check file) = Some (codes "check", file.now)
+asked (Report file) = Some (codes "report", file.now)
+asked (Pair file n) = Some (codes "pair", file.now)
+asked (Threads file turns) = Some (codes "threads", file.now)
+
+-- the task is this subcommand's, on this file
+abbrev pub IsFor : List ℕ → List ℕ → Task → Type 0
+IsFor name path task = asked task ≡ Some (name, path)
+
+-- its number is in range: flips are counted from 1
+abbrev pub IsInRange : Task → Type 0
+IsInRange PlayInput = ⊤
+IsInRange (Play file) = ⊤
+IsInRange (Check file) = ⊤
+IsInRange (Report file) = ⊤
+IsInRange (Pair file n) = 1 ≤ n
+IsInRange (Threads file turns) = turns ≤ 1000000
 
 -- the subcommand of this name was found, and the path as its FILE
 abbrev pub FindsFile : List ℕ → List ℕ → Option (List ℕ × List Row) → Type 0
 FindsFile name path None = ⊥
 FindsFile name path (Some found) = (found.0 ≡ name) × (first_of (codes "FILE") found.1 ≡ Some path)
 
+abbrev pub Finds : Option (List ℕ × List ℕ) → Option (List ℕ × List Row) → Type 0
+Finds None found = found ≡ None
+Finds (Some wanted) found = FindsFile wanted.0 wanted.1 found
+
 -- where this was found for a subcommand, the task is what it asks for
 abbrev pub IsAskedBy : Option (List ℕ × List Row) → Task → Type 0
-IsAskedBy found PlayInput = found ≡ None
-IsAskedBy found (Play file) = FindsFile (codes "play") file.now found
-IsAskedBy found (Check file) = FindsFile (codes "check") file.now found
+IsAskedBy found task = Finds (asked task) found

@@ -5,4 +5,6 @@ pub mod Outcomes
 pub mod PairFaults
 pub mod Playing
 pub mod Statuses
+pub mod Threading
+pub mod ThreadsFaults
 pub mod TraceFaults

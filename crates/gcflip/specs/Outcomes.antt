@@ -10,6 +10,9 @@ abbrev pub IsStatusOf : Task → ℕ → Type 0
 IsStatusOf task.PlayInput status = status ≡ 0
 IsStatusOf (task.Play file) status = status ≡ 0
 IsStatusOf (task.Check file) status = (status ≡ 0) ⊎ (status ≡ 1)
+IsStatusOf (task.Report file) status = status ≡ 0
+IsStatusOf (task.Pair file n) status = status ≡ 0
+IsStatusOf (task.Threads file turns) status = status ≡ 0
 
 -- the file could not be opened
 abbrev pub IsOfOpening : Fault → Type 0
@@ -17,6 +20,7 @@ IsOfOpening fault.Open = ⊤
 IsOfOpening fault.NoMemory = ⊤
 IsOfOpening (fault.Play play) = ⊥
 IsOfOpening (fault.Check check) = ⊥
+IsOfOpening (fault.Threads threads) = ⊥
 
 -- the fault is the player's
 abbrev pub IsOfPlay : Fault → Type 0
@@ -24,6 +28,7 @@ IsOfPlay fault.Open = ⊥
 IsOfPlay fault.NoMemory = ⊥
 IsOfPlay (fault.Play play) = ⊤
 IsOfPlay (fault.Check check) = ⊥
+IsOfPlay (fault.Threads threads) = ⊥
 
 -- the fault is the checker's
 abbrev pub IsOfCheck : Fault → Type 0
@@ -31,9 +36,21 @@ IsOfCheck fault.Open = ⊥
 IsOfCheck fault.NoMemory = ⊥
 IsOfCheck (fault.Play play) = ⊥
 IsOfCheck (fault.Check check) = ⊤
+IsOfCheck (fault.Threads threads) = ⊥
+
+-- the fault is that of a run in threads
+abbrev pub IsOfThreads : Fault → Type 0
+IsOfThreads fault.Open = ⊥
+IsOfThreads fault.NoMemory = ⊥
+IsOfThreads (fault.Play play) = ⊥
+IsOfThreads (fault.Check check) = ⊥
+IsOfThreads (fault.Threads threads) = ⊤
 
 -- standard input is open already
 abbrev pub IsFaultOf : Task → Fault → Type 0
 IsFaultOf task.PlayInput f = IsOfPlay f
 IsFaultOf (task.Play file) f = IsOfOpening f ⊎ IsOfPlay f
 IsFaultOf (task.Check file) f = IsOfOpening f ⊎ IsOfCheck f
+IsFaultOf (task.Report file) f = IsOfOpening f ⊎ IsOfPlay f
+IsFaultOf (task.Pair file n) f = IsOfOpening f ⊎ IsOfPlay f
+IsFaultOf (task.Threads file turns) f = IsOfOpening f ⊎ IsOfThreads f

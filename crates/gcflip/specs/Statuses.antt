@@ -8,6 +8,6 @@ abbrev pub verdict_status : Verdict → ℕ
 verdict_status (verdict.Yes pairs) = 0
 verdict_status (verdict.Refused refusal) = 1
 
--- in all: 0 where it did what it was asked, 1 for a refusal, 2 where the command line asks for nothing, 3 to 5 for faults
+-- in all: 0 where it did what it was asked, 1 for a refusal, 2 where the command line asks for nothing, 3 to 6 for faults
 abbrev pub statuses : List ℕ
-statuses = 0 ∷ 1 ∷ 2 ∷ 3 ∷ 4 ∷ 5 ∷ []
+statuses = 0 ∷ 1 ∷ 2 ∷ 3 ∷ 4 ∷ 5 ∷ 6 ∷ []

@@ -4,6 +4,8 @@ ghost use Rattle.gc_graph.specs.Streams.{bytes_written, sink_failed, SendsFront}
 ghost use Rattle.gcflip.specs.Faults.{fault_text, line_of, status_of};
 
 use crate::pair_faults::{check_status, print_check_fault};
+use crate::threads::ThreadsRunFault;
+use crate::threads_faults::{print_threads_run_fault, threads_run_status};
 use crate::trace_faults::{play_status, print_play_fault};
 use gc_check::RunFault;
 use gc_graph::Sink;
@@ -27,19 +29,23 @@ pub enum Fault {
     /// A pair of heaps was not checked.
     #[error(transparent)]
     Check(RunFault),
+    /// The scripts of a trace were not run in threads.
+    #[error(transparent)]
+    Threads(ThreadsRunFault),
 }
 
 #[tactic(auto, unfolding(crate::specs::Faults::fault_text))]
 fn print_fault(printer: &mut Printer, fault: &Fault)
-    requires { length printer.old + 51 ≤ 16384 }
+    requires { length printer.old + 70 ≤ 16384 }
     ensures text { printer.new ≡ printer.old ++ fault_text fault.now }
-    ensures room { length printer.new ≤ length printer.old + 51 }
+    ensures room { length printer.new ≤ length printer.old + 70 }
 {
     match fault {
         Fault::Open => printer.bytes(b"cannot read"),
         Fault::NoMemory => printer.bytes(b"no memory"),
         Fault::Play(fault) => print_play_fault(printer, fault),
         Fault::Check(fault) => print_check_fault(printer, fault),
+        Fault::Threads(fault) => print_threads_run_fault(printer, fault),
     }
 }
 
@@ -51,6 +57,7 @@ fn status(fault: &Fault) -> u8
         Fault::NoMemory => 5,
         Fault::Play(fault) => play_status(fault),
         Fault::Check(fault) => check_status(fault),
+        Fault::Threads(fault) => threads_run_status(fault),
     }
 }
 

@@ -1,4 +1,5 @@
-//! The program: plays traces of a collector and its mutators, and checks pairs of heaps.
+//! The program: plays traces of a collector and its mutators, in threads too, reports them, writes the pairs of their
+//! flips, and checks pairs of heaps.
 #![tactic(auto)]
 
 mod check;
@@ -9,6 +10,8 @@ mod play;
 mod program;
 mod report;
 mod task;
+mod threads;
+mod threads_faults;
 mod trace_faults;
 
 use program::run;

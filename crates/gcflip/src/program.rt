@@ -1,13 +1,17 @@
 ghost use Rattle.std.specs.Prelude.{◌≡◌, ◌≢◌, ◌⊎◌, Contains, IfOk, IfErr};
 ghost use Rattle.clap.specs.Values.{kind_of};
+ghost use Rattle.gcflip.specs.CommandLine.{IsInRange};
 ghost use Rattle.gcflip.specs.Faults.{status_of};
 ghost use Rattle.gcflip.specs.Outcomes.{IsFaultOf, IsOfOpening, IsStatusOf};
 ghost use Rattle.gcflip.specs.Statuses.{statuses};
 
 use crate::check::check_from;
 use crate::fault::{Fault, write_fault};
+use crate::pair::pair_from;
 use crate::play::play_from;
+use crate::report::report_from;
 use crate::task::{Task, refusal_of_no_text, task_of};
+use crate::threads::threads_from;
 use clap::Error;
 use clap::error::ErrorKind;
 use gc_graph::{Sink, Source};
@@ -15,6 +19,7 @@ use gc_trace::PlayFault;
 use std::alloc::AllocError;
 use std::env::Env;
 use std::rt::Files;
+use std::sync::Wait;
 use std::thread::Threads;
 use std::{env, fs, io};
 
@@ -29,10 +34,11 @@ fn open<R: Files>(rt: &R, path: &str) -> Result<R::File, Fault>
 }
 
 /// Does the task, and gives the status that tells what came out.
-fn perform<R: Files + Input + Print + AllocGlobal + Threads + Sync>(
+fn perform<R: Files + Input + Print + AllocGlobal + Threads + Wait + Sync>(
     rt: &R,
     task: Task<'_>,
 ) -> Result<u8, Fault>
+    requires { IsInRange task }
     ensures done { IfOk result (IsStatusOf task.entry) }
     ensures failed { IfErr result (IsFaultOf task.entry) }
 {
@@ -43,6 +49,11 @@ fn perform<R: Files + Input + Print + AllocGlobal + Threads + Sync>(
         Task::PlayInput => play_from(alloc, &mut Source::new(rt.reader()), &mut sink),
         Task::Play(path) => play_from(alloc, &mut Source::new(open(rt, path)?), &mut sink),
         Task::Check(path) => check_from(rt, alloc, &mut Source::new(open(rt, path)?), &mut sink),
+        Task::Report(path) => report_from(alloc, &mut Source::new(open(rt, path)?), &mut sink),
+        Task::Pair { file, n } => pair_from(alloc, n, &mut Source::new(open(rt, file)?), &mut sink),
+        Task::Threads { file, turns } => {
+            threads_from(rt, alloc, turns, &mut Source::new(open(rt, file)?), &mut sink)
+        }
     }
 }
 
@@ -104,7 +115,7 @@ fn refuse<R: Print + Eprint, E: Print>(rt: &R, errors: &E, error: &Error) -> u8
 /// Does what the command line asks, and gives the status. `errors` prints to standard error, for which the runtime
 /// has no writer of its own.
 #[tactic(auto, using(crate::proofs::Statuses::outcome_has_status))]
-pub fn run<R: Files + Env + Input + Print + Eprint + AllocGlobal + Threads + Sync, E: Print>(
+pub fn run<R: Files + Env + Input + Print + Eprint + AllocGlobal + Threads + Wait + Sync, E: Print>(
     rt: &R,
     errors: &E,
 ) -> u8

@@ -1,11 +1,11 @@
 ghost use Rattle.std.specs.Prelude.{◌≡◌, ◌⊎◌, ℕ, List, [], ◌∷◌, codes, drop, map, string_bytes, false};
 ghost use Rattle.std.specs.Prelude.{Some, None, IfSome, IfOk, IfErr, IsSomeAnd, MatchResult};
-ghost use Rattle.clap.specs.Words.{Row, app_of, fault_of, first_of, kind_of, subcommand_of, subcommand_rows_of};
+ghost use Rattle.clap.specs.Words.{Row, app_of, fault_of, first_of, kind_of, rule_of, subcommand_of, subcommand_rows_of};
 ghost use Rattle.clap.specs.declared.builder.Command.TheViews.{out-Command};
-ghost use Rattle.gcflip.specs.CommandLine.{IsAskedBy, IsPlainWord, PlaysFile, ChecksFile, command_line, file_command};
+ghost use Rattle.gcflip.specs.CommandLine.{IsAskedBy, IsFor, IsInRange, IsPlainWord, command_line, file_command, number_command, flip_rule, turns_rule};
 
 use clap::error::ErrorKind;
-use clap::{Arg, ArgMatches, Command, Error};
+use clap::{Arg, ArgMatches, Command, Error, value_parser};
 use std::alloc::Global;
 
 /// What the program is asked to do.
@@ -17,6 +17,12 @@ pub enum Task<'a> {
     Play(&'a str),
     /// To check the pair of heaps of this file.
     Check(&'a str),
+    /// To report the run of this file's trace.
+    Report(&'a str),
+    /// To write the pair of the n-th flip of this file's trace, counted from 1.
+    Pair { file: &'a str, n: u32 },
+    /// To run the scripts of this file's trace in threads, beside so many useful steps, 1000000 at most.
+    Threads { file: &'a str, turns: u64 },
 }
 
 /// A subcommand that reads a file.
@@ -31,6 +37,52 @@ fn on_file<'a>(alloc: Global, name: &'a str, about: &'a str) -> Result<Command<'
     Ok(Command::new(alloc, name).about(about).arg(file)?)
 }
 
+/// The number of a flip, 1 or more.
+fn flip_number<'a>(alloc: Global) -> Arg<'a>
+    ensures rule { rule_of result ≡ flip_rule }
+    ensures local { result.global ≡ false }
+{
+    Arg::new(alloc, "N")
+        .required(true)
+        .value_parser(value_parser!(u32).range(1..=4294967295))
+        .help("Which flip, counted from 1")
+}
+
+/// How many steps the collector makes.
+fn turns<'a>(alloc: Global) -> Arg<'a>
+    ensures rule { rule_of result ≡ turns_rule }
+    ensures local { result.global ≡ false }
+{
+    Arg::new(alloc, "TURNS")
+        .required(true)
+        .value_parser(value_parser!(u64).range(0..=1000000))
+        .help("How many steps the collector makes")
+}
+
+/// The subcommand `pair FILE N`.
+fn pair<'a>(alloc: Global) -> Result<Command<'a>, Error>
+    ensures shape { IfOk result (λ c. app_of c ≡ number_command (codes "pair") flip_rule) }
+    ensures local { IfOk result (λ c. (out-Command c).has_globals ≡ false) }
+    ensures memory { IfErr result (λ e. kind_of e ≡ ErrorKind.OutOfMemory) }
+{
+    let pair = on_file(alloc, "pair", "Plays a trace: writes the pair of its N-th flip")?;
+    Ok(pair.arg(flip_number(alloc))?)
+}
+
+/// The subcommand `threads FILE TURNS`.
+fn threads<'a>(alloc: Global) -> Result<Command<'a>, Error>
+    ensures shape { IfOk result (λ c. app_of c ≡ number_command (codes "threads") turns_rule) }
+    ensures local { IfOk result (λ c. (out-Command c).has_globals ≡ false) }
+    ensures memory { IfErr result (λ e. kind_of e ≡ ErrorKind.OutOfMemory) }
+{
+    let threads = on_file(
+        alloc,
+        "threads",
+        "Runs a trace's mutators in threads, beside a collector: writes the trace of what happened",
+    )?;
+    Ok(threads.arg(turns(alloc))?)
+}
+
 /// The command line that the program takes.
 fn command<'a>(alloc: Global) -> Result<Command<'a>, Error>
     ensures shape { IfOk result (λ c. app_of c ≡ command_line) }
@@ -42,12 +94,38 @@ fn command<'a>(alloc: Global) -> Result<Command<'a>, Error>
         "check",
         "Checks a pair of heaps: writes the line of the verdict",
     )?;
+    let report = on_file(alloc, "report", "Plays a trace: writes a report of its run")?;
     Ok(
         Command::new(alloc, "gcflip")
             .about("Plays the trace on standard input, or does what a subcommand says")
             .subcommand(play)?
-            .subcommand(check)?,
+            .subcommand(check)?
+            .subcommand(report)?
+            .subcommand(pair(alloc)?)?
+            .subcommand(threads(alloc)?)?,
     )
+}
+
+/// The task of `pair FILE N`. Clap has seen to the number's range; what it let through is tested once more.
+fn pair_task<'a>(matches: &ArgMatches<'_>, file: &'a str) -> Option<Task<'a>>
+    ensures { IfSome result (λ task. IsFor (codes "pair") file.entry.now task × IsInRange task) }
+{
+    let n = matches.get_one::<u32>("N")?;
+    if n == 0 {
+        return None;
+    }
+    Some(Task::Pair { file, n })
+}
+
+/// The task of `threads FILE TURNS`.
+fn threads_task<'a>(matches: &ArgMatches<'_>, file: &'a str) -> Option<Task<'a>>
+    ensures { IfSome result (λ task. IsFor (codes "threads") file.entry.now task × IsInRange task) }
+{
+    let turns = matches.get_one::<u64>("TURNS")?;
+    if turns > 1000000 {
+        return None;
+    }
+    Some(Task::Threads { file, turns })
 }
 
 /// What the matches ask for; None where it is no task of the program.
@@ -55,11 +133,15 @@ fn found_task<'a>(matches: &ArgMatches<'a>) -> Option<Task<'a>>
     ensures input { subcommand_rows_of matches.now ≡ None → result ≡ Some Task.PlayInput }
     ensures play { (rows : List Row) (path : List ℕ)
         → subcommand_rows_of matches.now ≡ Some (codes "play", rows)
-        → first_of (codes "FILE") rows ≡ Some path → IsSomeAnd result (λ task. PlaysFile task path) }
+        → first_of (codes "FILE") rows ≡ Some path → IsSomeAnd result (IsFor (codes "play") path) }
     ensures check { (rows : List Row) (path : List ℕ)
         → subcommand_rows_of matches.now ≡ Some (codes "check", rows)
-        → first_of (codes "FILE") rows ≡ Some path → IsSomeAnd result (λ task. ChecksFile task path) }
+        → first_of (codes "FILE") rows ≡ Some path → IsSomeAnd result (IsFor (codes "check") path) }
+    ensures report { (rows : List Row) (path : List ℕ)
+        → subcommand_rows_of matches.now ≡ Some (codes "report", rows)
+        → first_of (codes "FILE") rows ≡ Some path → IsSomeAnd result (IsFor (codes "report") path) }
     ensures asked { IfSome result (IsAskedBy (subcommand_rows_of matches.now)) }
+    ensures range { IfSome result IsInRange }
 {
     let Some((name, matches)) = matches.subcommand() else {
         return Some(Task::PlayInput);
@@ -68,6 +150,9 @@ fn found_task<'a>(matches: &ArgMatches<'a>) -> Option<Task<'a>>
     match name {
         "play" => Some(Task::Play(file)),
         "check" => Some(Task::Check(file)),
+        "report" => Some(Task::Report(file)),
+        "pair" => pair_task(matches, file),
+        "threads" => threads_task(matches, file),
         _ => None,
     }
 }
@@ -79,12 +164,16 @@ pub fn task_of<'a>(alloc: Global, words: &'a [String]) -> Result<Task<'a>, Error
         MatchResult result (λ task. task ≡ Task.PlayInput) (λ e. kind_of e ≡ ErrorKind.OutOfMemory) }
     ensures play { (path : List ℕ) → IsPlainWord path
         → drop 1 (map string_bytes words.now) ≡ codes "play" ∷ path ∷ [] →
-        MatchResult result (λ task. PlaysFile task path) (λ e. kind_of e ≡ ErrorKind.OutOfMemory) }
+        MatchResult result (IsFor (codes "play") path) (λ e. kind_of e ≡ ErrorKind.OutOfMemory) }
     ensures check { (path : List ℕ) → IsPlainWord path
         → drop 1 (map string_bytes words.now) ≡ codes "check" ∷ path ∷ [] →
-        MatchResult result (λ task. ChecksFile task path) (λ e. kind_of e ≡ ErrorKind.OutOfMemory) }
+        MatchResult result (IsFor (codes "check") path) (λ e. kind_of e ≡ ErrorKind.OutOfMemory) }
+    ensures report { (path : List ℕ) → IsPlainWord path
+        → drop 1 (map string_bytes words.now) ≡ codes "report" ∷ path ∷ [] →
+        MatchResult result (IsFor (codes "report") path) (λ e. kind_of e ≡ ErrorKind.OutOfMemory) }
     // A task is what clap's definitions find in the words.
     ensures asked { IfOk result (IsAskedBy (subcommand_of command_line (map string_bytes words.now))) }
+    ensures range { IfOk result IsInRange }
     // Words in which clap finds a fault, or a call for help, ask for no task.
     ensures faultless { IfOk result (λ _. fault_of command_line (map string_bytes words.now) ≡ []) }
 {

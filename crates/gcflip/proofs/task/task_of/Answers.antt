@@ -1,6 +1,6 @@
 use Rattle.std.proofs.Common.{◌∙◌, ap, map, rules, string_bytes}
 use Rattle.clap.specs.Words.{App, takes}
-use Rattle.gcflip.proofs.CommandLines.{check_takes_file, file_words_taken, matches_of_file_words, no_fault, no_words_taken, play_takes_file}
+use Rattle.gcflip.proofs.CommandLines.{check_takes_file, file_words_taken, matches_of_file_words, no_fault, no_words_taken, play_takes_file, report_takes_file}
 use Rattle.gcflip.proofs.task.task_of.Goals as goal
 
 pub returns-in_err-matches-clause-input : goal.returns-in_err-matches-clause-input
@@ -47,3 +47,20 @@ returns-clause-check c path plain e =
 pub returns-in-Some-clause-faultless : goal.returns-in-Some-clause-faultless
 returns-in-Some-clause-faultless c =
     no_fault _ (map string_bytes c.args.words.now) c.in_ok-command.ensures.shape c.in_ok-matches.ensures.kinds
+
+pub returns-in_err-matches-clause-report : goal.returns-in_err-matches-clause-report
+returns-in_err-matches-clause-report c path plain e =
+    let words = map string_bytes c.args.words.now in
+    let taken = ap (λ (a : App). takes a words) c.in_ok-command.ensures.shape ∙ file_words_taken words _ path (report_takes_file path plain) e in
+    let memory = c.in_err-matches.ensures.passes taken in
+    search rules
+
+pub returns-in-Some-clause-report : goal.returns-in-Some-clause-report
+returns-in-Some-clause-report c path plain e =
+    let found = matches_of_file_words _ (map string_bytes c.args.words.now) c.in_ok-matches.matches _ path c.in_ok-command.ensures.shape c.in_ok-matches.ensures.ok.2 (report_takes_file path plain) e in
+    c.in-Some.ensures.report found.rows path found.are found.first
+
+pub returns-clause-report : goal.returns-clause-report
+returns-clause-report c path plain e =
+    let found = matches_of_file_words _ (map string_bytes c.args.words.now) c.in_ok-matches.matches _ path c.in_ok-command.ensures.shape c.in_ok-matches.ensures.ok.2 (report_takes_file path plain) e in
+    absurd (c.in-None.ensures.report found.rows path found.are found.first)
