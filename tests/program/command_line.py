@@ -1,7 +1,7 @@
 """What the words on the command line ask for, and in which order faults are found."""
 import os
 
-from .harness import Outcome, difference, refusal, run
+from .harness import Outcome, difference, file_of, refusal, run
 from .pairs import LEAST
 from .traces import PLAYED, trace_and_replies
 
@@ -10,9 +10,12 @@ HELP = b"""Plays the trace on standard input, or does what a subcommand says
 Usage: gcflip [COMMAND]
 
 Commands:
-  play   Plays a trace: writes a line for each reply
-  check  Checks a pair of heaps: writes the line of the verdict
-  help   Print this message or the help of the given subcommand(s)
+  play     Plays a trace: writes a line for each reply
+  check    Checks a pair of heaps: writes the line of the verdict
+  report   Plays a trace: writes a report of its run
+  pair     Plays a trace: writes the pair of its N-th flip
+  threads  Runs a trace's mutators in threads, beside a collector: writes the trace of what happened
+  help     Print this message or the help of the given subcommand(s)
 
 Options:
   -h, --help  Print help
@@ -40,6 +43,41 @@ Options:
   -h, --help  Print help
 """
 
+REPORT_HELP = b"""Plays a trace: writes a report of its run
+
+Usage: gcflip report <FILE>
+
+Arguments:
+  <FILE>  The path of the file to read
+
+Options:
+  -h, --help  Print help
+"""
+
+PAIR_HELP = b"""Plays a trace: writes the pair of its N-th flip
+
+Usage: gcflip pair <FILE> <N>
+
+Arguments:
+  <FILE>  The path of the file to read
+  <N>     Which flip, counted from 1
+
+Options:
+  -h, --help  Print help
+"""
+
+THREADS_HELP = b"""Runs a trace's mutators in threads, beside a collector: writes the trace of what happened
+
+Usage: gcflip threads <FILE> <TURNS>
+
+Arguments:
+  <FILE>   The path of the file to read
+  <TURNS>  How many steps the collector makes
+
+Options:
+  -h, --help  Print help
+"""
+
 HELP_WORDS = {
     ("--help",): HELP,
     ("-h",): HELP,
@@ -50,6 +88,15 @@ HELP_WORDS = {
     ("check", "--help"): CHECK_HELP,
     ("check", "-h"): CHECK_HELP,
     ("help", "check"): CHECK_HELP,
+    ("report", "--help"): REPORT_HELP,
+    ("report", "-h"): REPORT_HELP,
+    ("help", "report"): REPORT_HELP,
+    ("pair", "--help"): PAIR_HELP,
+    ("pair", "-h"): PAIR_HELP,
+    ("help", "pair"): PAIR_HELP,
+    ("threads", "--help"): THREADS_HELP,
+    ("threads", "-h"): THREADS_HELP,
+    ("help", "threads"): THREADS_HELP,
     ("--help", "nothing"): HELP,
 }
 
@@ -68,6 +115,20 @@ REFUSED_WORDS = {
     ("check", "a", "b"): "error: unexpected argument 'b' found",
     ("check", "--nothing", "a"): "error: unexpected argument '--nothing' found",
     ("play", "check", "a"): "error: unexpected argument 'a' found",
+    ("report",): "error: the following required arguments were not provided:",
+    ("report", "a", "b"): "error: unexpected argument 'b' found",
+    ("pair",): "error: the following required arguments were not provided:",
+    ("pair", "a"): "error: the following required arguments were not provided:",
+    ("pair", "a", "1", "1"): "error: unexpected argument '1' found",
+    ("pair", "a", "0"): "error: invalid value '0' for '<N>': 0 is not in 1..=4294967295",
+    ("pair", "a", "4294967296"): "error: invalid value '4294967296' for '<N>': 4294967296 is not in 1..=4294967295",
+    ("pair", "a", "b"): "error: invalid value 'b' for '<N>': invalid digit found in string",
+    ("pair", "a", ""): "error: invalid value '' for '<N>': cannot parse integer from empty string",
+    ("pair", "a", "-1"): "error: unexpected argument '-1' found",
+    ("threads", "a"): "error: the following required arguments were not provided:",
+    ("threads", "a", "1", "1"): "error: unexpected argument '1' found",
+    ("threads", "a", "1000001"): "error: invalid value '1000001' for '<TURNS>': 1000001 is not in 0..=1000000",
+    ("threads", "a", "x"): "error: invalid value 'x' for '<TURNS>': invalid digit found in string",
     ("help", "nothing"): "error: unrecognized subcommand 'nothing'",
     (b"\xff",): "error: invalid UTF-8 was detected in one or more arguments",
     ("play", b"\xff"): "error: invalid UTF-8 was detected in one or more arguments",
@@ -92,10 +153,10 @@ def refused_words(program, _folder):
 
 def order_of_faults(program, folder):
     missing = os.path.join(folder, "nothing", "here")
-    for command in ["play", "check"]:
-        found = run(program, [command, missing, "one more"])
+    for command, number in [("play", []), ("check", []), ("report", []), ("pair", ["1"]), ("threads", ["1"])]:
+        found = run(program, [command, missing] + number + ["one more"])
         yield "%s: words_before_opening" % command, None if found.status == 2 else "status %s, wanted 2" % found.status
-        found = run(program, [command, missing], text=b"x")
+        found = run(program, [command, missing] + number, text=b"x")
         yield "%s: opening_before_reading" % command, difference(found, refusal("cannot read", 4))
 
 
@@ -128,4 +189,17 @@ def paths_of_pairs(program, folder):
     yield "path_to_check_behind_two_dashes", difference(run(program, ["check", "--", "--"], cwd=folder), checked)
 
 
-GROUPS = [help_words, refused_words, order_of_faults, paths, paths_of_pairs]
+def numbers(program, folder):
+    """Both ends of the ranges of N and TURNS, and numbers as clap reads them."""
+    text, _ = trace_and_replies(PLAYED["nothing_to_copy"])
+    path = file_of(folder, "trace", text)
+    for number in ["4294967295", "2", "002", "+2"]:
+        found = run(program, ["pair", path, number])
+        yield "flip %s" % number, difference(found, refusal("trace: no such flip", 3))
+    for number in ["0", "1000000", "00", "+0"]:
+        found = run(program, ["threads", path, number])
+        why = None if found.status == 0 and found.stdout.startswith(b"heaptrace 1\n") else "status %s" % found.status
+        yield "%s turns" % number, why
+
+
+GROUPS = [help_words, refused_words, order_of_faults, paths, paths_of_pairs, numbers]

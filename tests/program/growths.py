@@ -18,6 +18,7 @@ import os
 import shutil
 import subprocess
 
+from .collecting import PAIR_OF_COLLECT_WHEN_FULL, REPORT_OF_COLLECT_WHEN_FULL, wrong_run
 from .harness import Outcome, difference, file_of, refusal, run
 from .pairs import CHECKED, LEAST, all_paired, text_of
 from .traces import PLAYED, trace_and_replies
@@ -128,6 +129,8 @@ def growths(program, folder):
     least_for_two = file_of(folder, "least for two threads", least_for_two_text)
     refused = file_of(folder, "refusal", text_of(CHECKED["an_original_has_two_replicas"][0]))
     bad_pair = file_of(folder, "bad pair", LEAST + b"x\n")
+    collected_text, collected_replies = trace_and_replies(PLAYED["collect_when_full"])
+    collected = file_of(folder, "collected", collected_text)
     runs = [
         ("play_of_standard_input", [], text, Outcome(stdout=replies)),
         ("play_of_a_file", ["play", path], b"", Outcome(stdout=replies)),
@@ -138,6 +141,10 @@ def growths(program, folder):
         ("check_of_a_refusal", ["check", refused], b"", Outcome(b"refused 7 Twice 1\n", b"", 1)),
         ("bad_line_of_a_pair", ["check", bad_pair], b"", refusal("pair: bad line 12", 3)),
         ("missing_file_to_check", ["check", missing], b"", refusal("cannot read", 4)),
+        ("report_of_a_trace", ["report", collected], b"", Outcome(stdout=REPORT_OF_COLLECT_WHEN_FULL)),
+        ("pair_of_a_flip", ["pair", collected, "1"], b"", Outcome(stdout=PAIR_OF_COLLECT_WHEN_FULL)),
+        ("flip_that_is_not_there", ["pair", collected, "2"], b"", refusal("trace: no such flip", 3)),
+        ("play_of_collections", ["play", collected], b"", Outcome(stdout=collected_replies)),
         ("unknown_word", ["nothing"], b"", run(program, ["nothing"])),
         ("help", ["--help"], b"", run(program, ["--help"])),
     ]
@@ -153,4 +160,38 @@ def growths(program, folder):
         yield "each_growth_and_all_later_ones_refused, %s" % name, rest
 
 
-GROUPS = [growths]
+# What a run of scripts in threads may come to where requests are refused, but for the run itself.
+THREADS_FAULTS = [NO_MEMORY, refusal("threads: not started", 6)]
+
+
+def wrong_end(program, folder, text, found, turns):
+    """Why a run of scripts with refused requests did not come to an end that it may have, or None."""
+    if any(difference(found, fault) is None for fault in THREADS_FAULTS):
+        return None
+    return wrong_run(program, folder, text, found, turns)
+
+
+def growths_in_threads(program, folder):
+    """Scripts in threads: which request is whose depends on the threads, so any of the allowed ends will do, and each of
+    them is met. A run that meets no refusal is right."""
+    refusing = Refusing(program, folder)
+    text = b"heaptrace 1\nspace 64 mutators 2\nm 0 new g0 1 1\nm 0 num r0 5\nm 0 put g0 0 r0\nm 1 get r1 g0 0\n"
+    words = ["threads", file_of(folder, "scripts", text), "40"]
+    for kind, last in [("growth_refused", lambda request: request), ("growth_and_all_later_ones_refused", lambda _: LAST)]:
+        ends = []
+        for request in range(1, MOST_REQUESTS):
+            found, refused = refusing.run(words, b"", request, last(request))
+            why = wrong_end(program, folder, text, found, 40)
+            if why is not None:
+                yield "each_%s, scripts" % kind, "request %d refused: %s" % (request, why)
+                break
+            if not refused:
+                yield "each_%s, scripts" % kind, None
+                break
+            ends.append(found.stderr)
+        for fault in THREADS_FAULTS:
+            met = None if fault.stderr in ends else "it was not met in %d runs" % len(ends)
+            yield "each_%s, scripts: %s" % (kind, fault.stderr.decode().strip()), met
+
+
+GROUPS = [growths, growths_in_threads]

@@ -156,12 +156,266 @@ PLAYED = {
     """,
 }
 
+# Traces in which the collector works. Each begins with `heaptrace 1`, or `heaptrace 2` where a collection has a size.
+COLLECTED = {
+    "collect_when_full": """
+        space 9 mutators 1
+        m 0 new r0 1 2 -> made
+        m 0 new r0 1 2 -> made
+        m 0 new r1 0 0 -> full
+        c begin -> begun
+        c roots -> copied
+        c scan -> scanned
+        c scan -> scanned
+        c scan -> passed
+        c scan -> clean
+        c roots -> clean
+        c flip -> flipped 1
+        m 0 new r1 0 0 -> made
+    """,
+    "second_collection": """
+        space 9 mutators 1
+        m 0 new r0 1 2 -> made
+        m 0 new r0 1 2 -> made
+        m 0 new r1 0 0 -> full
+        c begin -> begun
+        c roots -> copied
+        c scan -> scanned
+        c scan -> scanned
+        c scan -> passed
+        c scan -> clean
+        c roots -> clean
+        c flip -> flipped 1
+        m 0 new r1 0 0 -> made
+        c begin -> begun
+        c roots -> copied
+        c roots -> copied
+        c scan -> scanned
+        c scan -> scanned
+        c scan -> passed
+        c scan -> passed
+        c flip -> flipped 2
+    """,
+    "write_while_scanning": """
+        space 32 mutators 1
+        m 0 new r0 1 1 -> made
+        m 0 num r1 9 -> done
+        c begin -> begun
+        c roots -> copied
+        c scan -> scanned
+        m 0 put r0 0 r1 -> done
+        c scan -> passed
+        c flip -> not ready
+        c apply 0 -> applied
+        c flip -> flipped 1
+        m 0 get r2 r0 0 -> saw num 9
+    """,
+    "log_across_two_mutators": """
+        space 32 mutators 2
+        m 0 new g0 1 1 -> made
+        c begin -> begun
+        c roots -> copied
+        c scan -> scanned
+        c scan -> passed
+        m 0 num r0 7 -> done
+        m 0 put g0 0 r0 -> done
+        m 1 look r0 -> saw nil
+        m 1 num r0 8 -> done
+        m 1 put g0 0 r0 -> done
+        c apply 1 -> applied
+        c apply 0 -> applied
+        c apply 0 -> clean
+        c flip -> flipped 1
+        m 0 get r1 g0 0 -> saw num 8
+    """,
+    "root_made_after_the_scan": """
+        space 32 mutators 1
+        m 0 new r0 1 1 -> made
+        m 0 new r1 2 0 -> made
+        m 0 put r0 0 r1 -> done
+        m 0 nil r1 -> done
+        c begin -> begun
+        c roots -> copied
+        c scan -> scanned
+        c scan -> passed
+        c scan -> passed
+        c scan -> clean
+        c roots -> clean
+        m 0 get r1 r0 0 -> saw obj 2 0
+        m 0 nil r0 -> done
+        m 0 new r2 5 0 -> made
+        c flip -> not ready
+        c roots -> copied
+        c scan -> passed
+        c flip -> flipped 3
+        m 0 look r1 -> saw obj 2 0
+        m 0 look r2 -> saw obj 5 0
+    """,
+    "cycle_of_two_is_carried_over": """
+        space 32 mutators 1
+        m 0 new r0 1 2 -> made
+        m 0 new r1 2 1 -> made
+        m 0 put r0 0 r1 -> done
+        m 0 put r1 0 r0 -> done
+        m 0 put r0 1 r0 -> done
+        m 0 get r2 r0 0 -> saw obj 2 1
+        m 0 get r2 r2 0 -> saw obj 1 2
+        m 0 same r2 r0 -> yes
+        m 0 get r3 r0 1 -> saw obj 1 2
+        m 0 same r3 r2 -> yes
+        c begin -> begun
+        c roots -> copied
+        c roots -> copied
+        c roots -> clean
+        c scan -> scanned
+        c scan -> scanned
+        c scan -> passed
+        c scan -> scanned
+        c scan -> passed
+        c scan -> clean
+        c flip -> flipped 2
+        m 0 get r4 r0 0 -> saw obj 2 1
+        m 0 get r4 r4 0 -> saw obj 1 2
+        m 0 same r4 r0 -> yes
+        m 0 same r4 r3 -> yes
+        m 0 same r4 r1 -> no
+    """,
+    "log_entry_without_a_replica": """
+        space 32 mutators 1
+        m 0 new r0 1 1 -> made
+        c begin -> begun
+        m 0 put r0 0 r0 -> done
+        c apply 0 -> applied
+        c apply 0 -> clean
+        c roots -> copied
+        c scan -> scanned
+        c scan -> passed
+        c flip -> flipped 1
+        m 0 get r1 r0 0 -> saw obj 1 1
+        m 0 same r0 r1 -> yes
+    """,
+    "link_left_over": """
+        space 16 mutators 1
+        c scan -> idle
+        c apply 0 -> idle
+        c roots -> idle
+        c flip -> idle
+        c drop -> idle
+        m 0 new r0 2 1 -> made
+        c begin -> begun
+        c begin -> busy
+        c roots -> copied
+        m 0 put r0 0 r0 -> done
+        c drop -> dropped
+        c begin -> begun
+        c apply 0 -> clean
+        c roots -> copied
+        c scan -> scanned
+        c scan -> passed
+        c flip -> flipped 1
+    """,
+    "nothing_to_copy": """
+        space 8 mutators 1
+        c begin -> begun
+        c flip -> flipped 0
+    """,
+    "what_is_reachable_fills_the_space": """
+        space 7 mutators 1
+        m 0 new r0 3 4 -> made
+        c begin -> begun
+        c roots -> copied
+        c scan -> scanned
+        c scan -> scanned
+        c scan -> scanned
+        c scan -> scanned
+        c scan -> passed
+        c flip -> flipped 1
+        m 0 new r1 0 0 -> full
+    """,
+    "too_small_and_then_larger": """
+        space 7 mutators 1
+        m 0 new r0 3 4 -> made
+        c begin 6 -> begun
+        c roots -> no room
+        c roots -> no room
+        c flip -> not ready
+        c begin 7 -> busy
+        c drop -> dropped
+        c begin 12 -> begun
+        c roots -> copied
+        c scan -> scanned
+        c scan -> scanned
+        c scan -> scanned
+        c scan -> scanned
+        c scan -> passed
+        c flip -> flipped 1
+        m 0 new r1 0 3 -> made
+        m 0 new r1 0 0 -> full
+    """,
+    "smaller_space": """
+        space 9 mutators 1
+        m 0 new r0 1 2 -> made
+        m 0 new r0 1 2 -> made
+        c begin 5 -> begun
+        c roots -> copied
+        c scan -> scanned
+        c scan -> scanned
+        c scan -> passed
+        c flip -> flipped 1
+        m 0 new r1 0 0 -> full
+        c begin -> begun
+        c roots -> copied
+    """,
+    "no_room_until_the_field_is_a_number": """
+        space 16 mutators 1
+        m 0 new r0 1 1 -> made
+        m 0 new r1 2 0 -> made
+        m 0 put r0 0 r1 -> done
+        m 0 nil r1 -> done
+        c begin 5 -> begun
+        c roots -> copied
+        c scan -> no room
+        m 0 num r2 4 -> done
+        m 0 put r0 0 r2 -> done
+        c scan -> scanned
+        c apply 0 -> applied
+        c scan -> passed
+        c flip -> flipped 1
+        m 0 get r3 r0 0 -> saw num 4
+    """,
+    "log_entry_waits_for_room": """
+        space 16 mutators 1
+        m 0 new r0 1 1 -> made
+        c begin 5 -> begun
+        c roots -> copied
+        c scan -> scanned
+        c scan -> passed
+        m 0 new r1 2 0 -> made
+        m 0 put r0 0 r1 -> done
+        c apply 0 -> no room
+        c apply 0 -> no room
+        m 0 nil r1 -> done
+        m 0 put r0 0 r1 -> done
+        c apply 0 -> applied
+        c apply 0 -> applied
+        c apply 0 -> clean
+        c flip -> flipped 1
+    """,
+}
+
+PLAYED.update(COLLECTED)
+
+
+def version_of(events):
+    """The least version that has all these lines: the second brought a collection's own size."""
+    return 2 if any(event.startswith("c begin ") for event, _ in events) else 1
+
 
 def trace_and_replies(conversation):
     """The text of a trace, and the text of its replies."""
     lines = [line.strip() for line in textwrap.dedent(conversation).split("\n") if line.strip()]
     events = [line.split(" -> ") for line in lines[1:]]
-    trace = ["heaptrace 1", lines[0]] + [event for event, _ in events]
+    trace = ["heaptrace %d" % version_of(events), lines[0]] + [event for event, _ in events]
     return "".join(line + "\n" for line in trace).encode(), "".join(reply + "\n" for _, reply in events).encode()
 
 
@@ -188,6 +442,7 @@ HEADERS = {
     "size_with_leading_zero": b"heaptrace 1\nspace 08 mutators 1\n",
     "size_beyond_64_bits": b"heaptrace 1\nspace 18446744073709551624 mutators 1\n",
     "mutators_with_a_sign": b"heaptrace 1\nspace 8 mutators +1\n",
+    "next_version": b"heaptrace 3\nspace 8 mutators 1\n",
     "unknown_version": b"heaptrace 9\nspace 8 mutators 1\n",
     "version_with_leading_zero": b"heaptrace 01\nspace 8 mutators 1\n",
     "another_text": b"heappair 1\nspace 8 mutators 1\n",
@@ -233,6 +488,24 @@ BAD_LINES = {
     "mutator_16": b"m 16 look r0",
     "mutator_with_leading_zero": b"m 00 look r0",
     "no_such_mutator_in_a_bad_line": b"m 1 look r16",
+    "letter_of_the_collector_alone": b"c",
+    "unknown_step": b"c sweep",
+    "step_in_capitals": b"c Flip",
+    "size_in_the_first_version": b"c begin 12",
+    "word_behind_a_step": b"c flip 1",
+    "log_without_number": b"c apply",
+    "log_16": b"c apply 16",
+    "log_with_leading_zero": b"c apply 00",
+    "two_spaces_in_a_step": b"c  flip",
+    "no_such_log_in_a_bad_line": b"c apply 1 ",
+}
+
+# The line behind `heaptrace 2` and `space 8 mutators 1`, without its end.
+BAD_LINES_OF_THE_SECOND = {
+    "size_0": b"c begin 0",
+    "size_too_great": b"c begin 1048577",
+    "size_with_leading_zero": b"c begin 012",
+    "two_sizes": b"c begin 12 12",
 }
 
 
@@ -243,6 +516,9 @@ def refused_texts():
         yield name, text, BAD_HEADER
     for name, line in BAD_LINES.items():
         yield name, start + line + b"\n", bad_line(3)
+    for name, line in BAD_LINES_OF_THE_SECOND.items():
+        yield name, b"heaptrace 2\nspace 8 mutators 1\n" + line + b"\n", bad_line(3)
+    yield "no_such_log", start + b"c apply 1\nx\n", no_such_mutator(3)
     yield "no_such_mutator", start + b"m 1 look r0\n", no_such_mutator(3)
     yield "last_line_without_its_end", start + b"m 0 look r0", bad_line(3)
     yield "no_such_mutator_without_its_end", start + b"m 1 look r0", bad_line(3)
