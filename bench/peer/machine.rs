@@ -1,4 +1,4 @@
-//! The machine without a collector: objects are never freed.
+//! Mutators on a heap of words: the commands, without a collector.
 
 #[derive(Clone, Copy)]
 pub struct Slot {
@@ -35,28 +35,50 @@ pub enum Reply {
     No,
 }
 
-#[derive(Clone, Copy, PartialEq)]
-enum Value {
-    Nil,
-    Num(u64),
-    Ref(usize),
+/// The words of a space up to its end: word 0, and then objects back to back, each a header, a link and its fields.
+pub struct Space {
+    pub size: usize,
+    pub words: Vec<u64>,
 }
 
-struct Object {
-    kind: u8,
-    fields: Vec<Value>,
+impl Space {
+    pub fn new(size: usize) -> Space {
+        let mut words = Vec::with_capacity(size);
+        words.push(0);
+        Space { size, words }
+    }
+
+    /// How many fields the object at an address has.
+    pub fn len(&self, at: usize) -> usize {
+        (self.words[at] & 0xffff) as usize
+    }
+
+    /// Places an object with nil fields at the end, where it has room, and gives its address.
+    pub fn place(&mut self, header: u64, link: u64) -> Option<usize> {
+        let (at, len) = (self.words.len(), (header & 0xffff) as usize);
+        if len + 2 > self.size - at {
+            return None;
+        }
+        self.words.push(header);
+        self.words.push(link);
+        self.words.resize(at + 2 + len, 0);
+        Some(at)
+    }
 }
 
-pub struct Machine {
-    objects: Vec<Object>,
-    roots: Vec<Value>,
-    free: u32,
+/// The address that a word refers to.
+pub fn target(word: u64) -> Option<usize> {
+    (word != 0 && word % 2 == 0).then_some((word / 2) as usize)
 }
 
-impl Machine {
-    pub fn new(size: u32, mutators: u8) -> Machine {
-        let roots = vec![Value::Nil; 16 + 16 * mutators as usize];
-        Machine { objects: Vec::new(), roots, free: size - 1 }
+pub struct Heap {
+    pub space: Space,
+    pub roots: Vec<u64>,
+}
+
+impl Heap {
+    pub fn new(size: u32, mutators: u8) -> Heap {
+        Heap { space: Space::new(size as usize), roots: vec![0; 16 + 16 * mutators as usize] }
     }
 
     fn place(mutator: u8, slot: Slot) -> usize {
@@ -64,75 +86,66 @@ impl Machine {
         if slot.shared { index } else { 16 + 16 * mutator as usize + index }
     }
 
-    fn root(&self, mutator: u8, slot: Slot) -> Value {
-        self.roots[Machine::place(mutator, slot)]
+    fn root(&self, mutator: u8, slot: Slot) -> u64 {
+        self.roots[Heap::place(mutator, slot)]
     }
 
-    fn set(&mut self, mutator: u8, slot: Slot, value: Value) {
-        self.roots[Machine::place(mutator, slot)] = value;
+    fn take(&mut self, mutator: u8, slot: Slot, word: u64) -> Reply {
+        self.roots[Heap::place(mutator, slot)] = word;
+        Reply::Done
     }
 
-    fn view(&self, value: Value) -> View {
-        match value {
-            Value::Nil => View::Nil,
-            Value::Num(n) => View::Num(n),
-            Value::Ref(name) => {
-                let object = &self.objects[name];
-                View::Obj { kind: object.kind, len: object.fields.len() as u16 }
-            }
+    fn view(&self, word: u64) -> View {
+        match target(word) {
+            Some(at) => View::Obj { kind: (self.space.words[at] >> 16) as u8, len: self.space.len(at) as u16 },
+            None if word == 0 => View::Nil,
+            None => View::Num(word / 2),
         }
     }
 
     fn make(&mut self, m: u8, d: Slot, kind: u8, len: u16) -> Reply {
-        let words = u32::from(len) + 2;
-        if words > self.free {
+        let header = (1 << 24) + (u64::from(kind) << 16) + u64::from(len);
+        let Some(at) = self.space.place(header, 0) else {
             return Reply::Full;
-        }
-        self.free -= words;
-        self.objects.push(Object { kind, fields: vec![Value::Nil; len as usize] });
-        self.set(m, d, Value::Ref(self.objects.len() - 1));
+        };
+        self.take(m, d, 2 * at as u64);
         Reply::Made
     }
 
-    fn get(&mut self, m: u8, d: Slot, s: Slot, i: u16) -> Reply {
-        let Value::Ref(name) = self.root(m, s) else {
-            return Reply::NoObject;
-        };
-        let Some(&value) = self.objects[name].fields.get(i as usize) else {
-            return Reply::NoField;
-        };
-        self.set(m, d, value);
-        Reply::Saw(self.view(value))
+    /// The address of a field of what the slot refers to.
+    fn field(&self, m: u8, s: Slot, i: u16) -> Result<usize, Reply> {
+        let at = target(self.root(m, s)).ok_or(Reply::NoObject)?;
+        if (i as usize) < self.space.len(at) { Ok(at + 2 + i as usize) } else { Err(Reply::NoField) }
     }
 
-    fn put(&mut self, m: u8, s: Slot, i: u16, t: Slot) -> Reply {
-        let value = self.root(m, t);
-        let Value::Ref(name) = self.root(m, s) else {
-            return Reply::NoObject;
-        };
-        let Some(field) = self.objects[name].fields.get_mut(i as usize) else {
-            return Reply::NoField;
-        };
-        *field = value;
-        Reply::Done
+    fn get(&mut self, m: u8, d: Slot, s: Slot, i: u16) -> Result<Reply, Reply> {
+        let word = self.space.words[self.field(m, s, i)?];
+        self.take(m, d, word);
+        Ok(Reply::Saw(self.view(word)))
     }
 
-    fn take(&mut self, m: u8, d: Slot, value: Value) -> Reply {
-        self.set(m, d, value);
-        Reply::Done
+    fn put(&mut self, m: u8, s: Slot, i: u16, t: Slot) -> Result<Reply, Reply> {
+        let field = self.field(m, s, i)?;
+        self.space.words[field] = self.root(m, t);
+        Ok(Reply::Done)
     }
 
     pub fn apply(&mut self, m: u8, op: Op) -> Reply {
         match op {
             Op::New { d, kind, len } => self.make(m, d, kind, len),
-            Op::Num { d, n } => self.take(m, d, Value::Num(n)),
-            Op::Nil { d } => self.take(m, d, Value::Nil),
+            Op::Num { d, n } => self.take(m, d, 2 * n + 1),
+            Op::Nil { d } => self.take(m, d, 0),
             Op::Move { d, s } => self.take(m, d, self.root(m, s)),
-            Op::Get { d, s, i } => self.get(m, d, s, i),
-            Op::Put { s, i, t } => self.put(m, s, i, t),
+            Op::Get { d, s, i } => self.get(m, d, s, i).unwrap_or_else(|refused| refused),
+            Op::Put { s, i, t } => self.put(m, s, i, t).unwrap_or_else(|refused| refused),
             Op::Same { s, t } if self.root(m, s) == self.root(m, t) => Reply::Yes,
             Op::Same { .. } => Reply::No,
             Op::Look { s } => Reply::Saw(self.view(self.root(m, s))),
         }
+    }
+
+    /// The object and the field that a `put` of mutator m writes.
+    pub fn written(&self, m: u8, s: Slot, i: u16) -> Option<(usize, usize)> {
+        Some((target(self.root(m, s))?, i as usize))
     }
 }

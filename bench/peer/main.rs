@@ -2,13 +2,16 @@
 //! what gcflip does, with the panics, checks and unproved steps of ordinary Rust. Nothing else of the repository stands
 //! on them.
 
+mod collector;
 mod machine;
 mod pair;
 mod text;
 
+use collector::World;
 use std::fs::File;
 use std::io::{self, Read, Write};
 use std::process::ExitCode;
+use text::{Answer, Event};
 
 /// The most bytes of a trace.
 const LIMIT: u64 = 16_777_216;
@@ -22,17 +25,24 @@ fn read(path: Option<String>, limit: u64) -> io::Result<Vec<u8>> {
     Ok(bytes)
 }
 
+fn happen(world: &mut World, event: Event) -> Answer {
+    match event {
+        Event::Mutate(m, op) => Answer::Mutator(world.mutate(m, op)),
+        Event::Collect(step) => Answer::Collector(world.collect(step)),
+    }
+}
+
 /// Plays a text, and gives the reply lines or the line of the text's first fault.
 fn played(bytes: &[u8]) -> Result<Vec<u8>, String> {
     if bytes.len() as u64 > LIMIT {
         return Err("trace: too large".to_string());
     }
     let trace = text::trace(bytes)?;
-    let mut machine = machine::Machine::new(trace.size, trace.mutators);
-    let replies: Vec<_> = trace.events.iter().map(|event| machine.apply(event.mutator, event.op)).collect();
+    let mut world = World::new(trace.size, trace.mutators);
+    let history: Vec<_> = trace.events.iter().map(|event| (*event, happen(&mut world, *event))).collect();
     let mut lines = Vec::new();
-    for reply in replies {
-        text::push_reply(&mut lines, reply);
+    for (_, answer) in &history {
+        text::push_answer(&mut lines, answer);
     }
     Ok(lines)
 }

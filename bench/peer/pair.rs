@@ -5,11 +5,17 @@ use crate::text::{cut, decimal};
 /// The most bytes of a pair text.
 pub const LIMIT: u64 = 67_108_864;
 
-struct Image {
+pub struct Image {
     size: u64,
     words: Vec<u64>,
     end: u64,
     roots: Vec<u64>,
+}
+
+impl Image {
+    pub fn new(size: usize, words: Vec<u64>, roots: Vec<u64>) -> Image {
+        Image { size: size as u64, end: words.len() as u64, words, roots }
+    }
 }
 
 struct Lines<'a> {
@@ -108,7 +114,8 @@ fn correspond(partners: &[u64], old: u64, new: u64) -> bool {
     partner != 0 && new == 2 * partner
 }
 
-fn check(old: &Image, new: &Image, pairs: &[(u64, u64)]) -> Result<(), String> {
+/// The first refusal, if there is one.
+pub fn check(old: &Image, new: &Image, pairs: &[(u64, u64)]) -> Result<(), String> {
     let partners = partners(old, new, pairs)?;
     for (k, (a, b)) in pairs.iter().enumerate() {
         let (a, b) = (*a as usize, *b as usize);

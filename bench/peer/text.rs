@@ -1,11 +1,18 @@
 //! Traces and replies as text.
 
+use crate::collector::{Step, StepReply};
 use crate::machine::{Op, Reply, Slot, View};
 use std::io::Write;
 
-pub struct Event {
-    pub mutator: u8,
-    pub op: Op,
+#[derive(Clone, Copy)]
+pub enum Event {
+    Mutate(u8, Op),
+    Collect(Step),
+}
+
+pub enum Answer {
+    Mutator(Reply),
+    Collector(StepReply),
 }
 
 pub struct Trace {
@@ -74,13 +81,44 @@ fn op(words: &mut Words<'_>) -> Option<Op> {
     }
 }
 
-fn event(line: &[u8]) -> Option<Event> {
+/// The size of a collection's own, which the second version brought.
+fn begin(version: u8, words: &mut Words<'_>) -> Option<Step> {
+    let Some(size) = words.0.next() else {
+        return Some(Step::Begin(None));
+    };
+    let size = decimal(size).filter(|size| (1..=1_048_576).contains(size))?;
+    (version > 1).then_some(Step::Begin(Some(size as u32)))
+}
+
+fn step(version: u8, words: &mut Words<'_>) -> Option<Step> {
+    match words.0.next()? {
+        b"begin" => begin(version, words),
+        b"roots" => Some(Step::Roots),
+        b"scan" => Some(Step::Scan),
+        b"apply" => Some(Step::Apply(words.number(15)? as u8)),
+        b"flip" => Some(Step::Flip),
+        b"drop" => Some(Step::Drop),
+        _ => None,
+    }
+}
+
+fn event(version: u8, line: &[u8]) -> Option<Event> {
     let mut words = Words::new(line);
-    words.word(b"m")?;
-    let mutator = words.number(15)? as u8;
-    let op = op(&mut words)?;
+    let event = match words.0.next()? {
+        b"m" => Event::Mutate(words.number(15)? as u8, op(&mut words)?),
+        b"c" => Event::Collect(step(version, &mut words)?),
+        _ => return None,
+    };
     words.end()?;
-    Some(Event { mutator, op })
+    Some(event)
+}
+
+/// The mutator, or that of the log.
+fn mutator_of(event: &Event) -> u8 {
+    match event {
+        Event::Mutate(m, _) | Event::Collect(Step::Apply(m)) => *m,
+        Event::Collect(_) => 0,
+    }
 }
 
 fn sizes(line: &[u8]) -> Option<(u32, u8)> {
@@ -99,22 +137,27 @@ pub fn cut(text: &[u8]) -> Option<(&[u8], &[u8])> {
     Some((&text[..end], &text[end + 1..]))
 }
 
-fn header(text: &[u8]) -> Option<(u32, u8, &[u8])> {
+fn header(text: &[u8]) -> Option<(u8, u32, u8, &[u8])> {
     let (first, rest) = cut(text)?;
+    let version = match first {
+        b"heaptrace 1" => 1,
+        b"heaptrace 2" => 2,
+        _ => return None,
+    };
     let (second, rest) = cut(rest)?;
     let (size, mutators) = sizes(second)?;
-    (first == b"heaptrace 1").then_some((size, mutators, rest))
+    Some((version, size, mutators, rest))
 }
 
 /// The trace that the text spells, or the line of its first fault.
 pub fn trace(text: &[u8]) -> Result<Trace, String> {
-    let (size, mutators, mut rest) = header(text).ok_or("trace: bad header")?;
+    let (version, size, mutators, mut rest) = header(text).ok_or("trace: bad header")?;
     let mut events = Vec::new();
     let mut number = 3;
     while !rest.is_empty() {
-        let found = cut(rest).and_then(|(line, after)| Some((event(line)?, after)));
+        let found = cut(rest).and_then(|(line, after)| Some((event(version, line)?, after)));
         let (event, after) = found.ok_or_else(|| format!("trace: bad line {number}"))?;
-        if event.mutator >= mutators {
+        if mutator_of(&event) >= mutators {
             return Err(format!("trace: no such mutator at line {number}"));
         }
         events.push(event);
@@ -124,7 +167,32 @@ pub fn trace(text: &[u8]) -> Result<Trace, String> {
     Ok(Trace { size, mutators, events })
 }
 
-pub fn push_reply(lines: &mut Vec<u8>, reply: Reply) {
+pub fn push_answer(lines: &mut Vec<u8>, answer: &Answer) {
+    match answer {
+        Answer::Mutator(reply) => push_reply(lines, reply),
+        Answer::Collector(reply) => push_step_reply(lines, reply),
+    }
+}
+
+fn push_step_reply(lines: &mut Vec<u8>, reply: &StepReply) {
+    let written = match reply {
+        StepReply::Busy => writeln!(lines, "busy"),
+        StepReply::Begun => writeln!(lines, "begun"),
+        StepReply::Idle => writeln!(lines, "idle"),
+        StepReply::Clean => writeln!(lines, "clean"),
+        StepReply::NoRoom => writeln!(lines, "no room"),
+        StepReply::Copied => writeln!(lines, "copied"),
+        StepReply::Passed => writeln!(lines, "passed"),
+        StepReply::Scanned => writeln!(lines, "scanned"),
+        StepReply::Applied => writeln!(lines, "applied"),
+        StepReply::NotReady => writeln!(lines, "not ready"),
+        StepReply::Flipped(pairs) => writeln!(lines, "flipped {pairs}"),
+        StepReply::Dropped => writeln!(lines, "dropped"),
+    };
+    written.expect("a vector takes every byte");
+}
+
+fn push_reply(lines: &mut Vec<u8>, reply: &Reply) {
     let written = match reply {
         Reply::Full => writeln!(lines, "full"),
         Reply::Made => writeln!(lines, "made"),
