@@ -34,13 +34,13 @@ all_fit version mutators [] few known all = tt
 all_fit version mutators (e ∷ es) few known all =
     ((record { range = wider mutators e.event few all.0; known = omega (arith, known) }, all.0), all_fit version mutators es few (omega (arith, known)) all.1)
 
-pub history_has_text : (size mutators : ℕ) (entries : List Entry) → 1 ≤ mutators → mutators ≤ 16 → IsHistory size mutators entries → IsTextOf (written size mutators (happened entries)) (spelling (written size mutators (happened entries)))
-history_has_text size mutators entries some few history =
+pub history_has_text : (size mutators : ℕ) (entries : List Entry) → IsHistory size mutators entries → IsTextOf (written size mutators (happened entries)) (spelling (written size mutators (happened entries)))
+history_has_text size mutators entries history =
     let versions = least_range (happened entries) in
     record {
       recording = record {
-        heading = (versions.0, versions.1, history.low, history.high, some, few);
-        events = all_fit (least_version (happened entries)) mutators entries few (omega arith) history.events;
+        heading = (versions.0, versions.1, history.low, history.high, history.some, history.few);
+        events = all_fit (least_version (happened entries)) mutators entries history.few (omega arith) history.events;
       };
       spelled = refl;
     }

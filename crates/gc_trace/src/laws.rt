@@ -24,7 +24,7 @@ pub fn texts_have_one_reading()
 /// What is written of a world's history is read as its events, where the text is within the limit; and these get
 /// the answers that the history has.
 pub fn written_is_read()
-    ensures read { (size mutators : ℕ) (entries : List Entry) → 1 ≤ mutators → mutators ≤ 16
+    ensures read { (size mutators : ℕ) (entries : List Entry)
         → IsHistory size mutators entries
         → length (spelling (written size mutators (happened entries))) ≤ limit
         → IsReadAs (written size mutators (happened entries)) (spelling (written size mutators (happened entries))) }

@@ -34,10 +34,12 @@ module _ (last : Entry) where
   history_more size mutators entries h r a u = record {
     low = h.low;
     high = h.high;
+    some = h.some;
+    few = h.few;
     events = events_more mutators entries h.events r;
     run = run_more (opening_state size mutators) entries h.run a;
     useful = useful_more (opening_state size mutators) entries h.useful u;
   }
 
-pub history_opens : (size mutators : ℕ) → 1 ≤ size → size ≤ 1048576 → IsHistory size mutators []
-history_opens size mutators low high = record { low = low; high = high; events = tt; run = refl; useful = tt }
+pub history_opens : (size mutators : ℕ) → 1 ≤ size → size ≤ 1048576 → 1 ≤ mutators → mutators ≤ 16 → IsHistory size mutators []
+history_opens size mutators low high some few = record { low = low; high = high; some = some; few = few; events = tt; run = refl; useful = tt }

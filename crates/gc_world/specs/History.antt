@@ -61,6 +61,8 @@ UsefulFrom s (entry ∷ rest) = IsUseful s entry.event entry.answer × UsefulFro
 pub record IsHistory (size mutators : ℕ) (entries : List Entry) : Type 0 where
   pub low : 1 ≤ size
   pub high : size ≤ 1048576
+  pub some : 1 ≤ mutators
+  pub few : mutators ≤ 16
   pub events : runs.AreEvents mutators (events_of entries)
   pub run : IsCoreRun size mutators entries
   pub useful : UsefulFrom (opening_state size mutators) entries

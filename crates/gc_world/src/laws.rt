@@ -18,7 +18,7 @@ ghost use Rattle.gc_world.specs.declared.event.Entry.{Entry};
 /// that the event leaves.
 pub fn histories_grow()
     ensures opening { (size mutators : ℕ)
-        → 1 ≤ size → size ≤ 1048576 → IsHistory size mutators [] }
+        → 1 ≤ size → size ≤ 1048576 → 1 ≤ mutators → mutators ≤ 16 → IsHistory size mutators [] }
     ensures event { (size mutators : ℕ) (entries : List Entry) (entry : Entry)
         → IsHistory size mutators entries
         → IsEvent mutators (run_event entry.event)

@@ -3,6 +3,6 @@ use Rattle.gc_trace.proofs.laws.written_is_read.Goals as goal
 
 pub returns : goal.returns
 returns c = record {
-  read = λ size mutators entries some few history short. (history_has_text size mutators entries some few history, short);
+  read = λ size mutators entries history short. (history_has_text size mutators entries history, short);
   answers = λ size mutators entries history. same_answers size mutators entries history;
 }
