@@ -1,4 +1,4 @@
-ghost use Rattle.std.specs.Prelude.{◌≡◌, ◌≢◌, ◌≤◌, ◌∷◌, ◌++◌, ◌↔◌, length, true, false, IfSome, IfOk, MatchOption, MatchResult, Err};
+ghost use Rattle.std.specs.Prelude.{◌≡◌, ◌≢◌, ◌≤◌, ◌∷◌, ◌++◌, ◌↔◌, ◌+◌, length, drop, Some, true, false, IfSome, IfOk, MatchOption, MatchResult, Err};
 ghost use Rattle.gc_graph.specs.Lines.{HasNo, newline};
 ghost use Rattle.gc_graph.specs.Streams.{bytes_left, source_failed};
 ghost use Rattle.gc_trace.specs.Grammar.{IsTextOf, IsRecording, IsHeading, IsEvent, IsOf, newest, heading};
@@ -86,6 +86,7 @@ fn spelled_trace(alloc: Global, text: &[u8]) -> Result<Trace, TraceFault>
         return Err(TraceFault::BadHeader);
     };
     let mut events = Vec::new(alloc);
+    // An event's parts have to be named where one is pushed.
     let _named: Option<Op> = None;
     let mut rest = body;
     let mut number = 3u64;
@@ -119,6 +120,8 @@ pub fn read_trace<R: Read>(alloc: Global, reader: &mut Source<R>) -> Result<Trac
     ensures exact { IfSome (bytes_left R.remaining reader.old) (λ text.
         MatchResult result (λ t. IsReadAs (recording t) text) (λ fault. MayFail fault text)) }
     ensures sound { IfOk result (λ t. IsRecording (recording t)) }
+    ensures stops { result ≡ Err TraceFault.TooLarge → IfSome (bytes_left R.remaining reader.old)
+        (λ text. bytes_left R.remaining reader.new ≡ Some (drop (limit + 1) text)) }
     ensures read { (result ≡ Err TraceFault.Read) ↔ (source_failed reader.new ≡ true) }
 {
     let bytes = read_all(alloc, reader, LIMIT)?;
