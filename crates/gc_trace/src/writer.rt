@@ -9,7 +9,7 @@ ghost use Rattle.gc_world.specs.declared.event.Event.TheVariants.{Mutate, Collec
 use gc_cert::WriteFault;
 use gc_copy::Step;
 use gc_graph::text::Printer;
-use gc_graph::{Failed, Op, Sink, Slot};
+use gc_graph::{Op, Sink, Slot};
 use gc_world::{Entry, Event};
 use std::io::Write;
 
@@ -167,32 +167,6 @@ fn least_version(history: &[Entry]) -> u8
     version
 }
 
-/// Writes the heading and the line of each event, or a front of them before the writer fails.
-fn write_events<W: Write>(
-    writer: &mut Sink<W>,
-    size: u32,
-    mutators: u8,
-    history: &[Entry],
-) -> Result<(), Failed>
-    ensures ok { OnOk result (Appends
-        (bytes_written W.contents writer.old) (bytes_written W.contents writer.new)
-        (spelling (written size mutators (happened history.now)))) }
-    ensures err { OnErr result (SendsFront
-        (bytes_written W.contents writer.old) (bytes_written W.contents writer.new)
-        (spelling (written size mutators (happened history.now)))) }
-    ensures failed { OnErr result (sink_failed writer.new ≡ true) }
-{
-    let mut printer = Printer::new();
-    print_heading(&mut printer, least_version(history), size, mutators);
-    for entry in history {
-        match printer.make_room(writer, LINE) {
-            Ok(()) => print_event(&mut printer, &entry.event),
-            Err(failed) => return Err(failed),
-        }
-    }
-    printer.flush(writer)
-}
-
 /// Writes the trace of a history's events, or a front of it before the writer fails: the text, of the least version
 /// that has all its lines, for a space of `size` words and so many mutators. It takes no memory.
 pub fn write_trace<W: Write>(
@@ -209,7 +183,15 @@ pub fn write_trace<W: Write>(
         (spelling (written size mutators (happened history.now)))) }
     ensures failed { OnErr result (sink_failed writer.new ≡ true) }
 {
-    match write_events(writer, size, mutators, history) {
+    let mut printer = Printer::new();
+    print_heading(&mut printer, least_version(history), size, mutators);
+    for entry in history {
+        match printer.make_room(writer, LINE) {
+            Ok(()) => print_event(&mut printer, &entry.event),
+            Err(_) => return Err(WriteFault::Write),
+        }
+    }
+    match printer.flush(writer) {
         Ok(()) => Ok(()),
         Err(_) => Err(WriteFault::Write),
     }

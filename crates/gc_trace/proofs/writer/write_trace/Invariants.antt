@@ -2,7 +2,7 @@ use Rattle.gc_graph.specs.Streams.{bytes_written, HasSent}
 use Rattle.gc_trace.specs.Grammar.{heading, least_version}
 use Rattle.gc_trace.specs.Playing.{happened}
 use Rattle.gc_trace.proofs.Printed.{lines_to, entry_line}
-use Rattle.gc_trace.proofs.writer.write_events.Given as goal
+use Rattle.gc_trace.proofs.writer.write_trace.Given as goal
 
 abbrev pub invariant-loop-entry : goal.invariant-loop-entry
 invariant-loop-entry g l = HasSent (bytes_written g.W.Write.contents l.initial.writer) (bytes_written g.W.Write.contents l.writer) (lines_to (heading (least_version (happened l.history)) l.size l.mutators) entry_line l.history l.entry-index) l.printer

@@ -1,10 +1,9 @@
 use Rattle.std.proofs.Common.{ℕ, List}
-use Rattle.std.proofs.lemmas.Result.{on_ok_weaker, on_err_weaker}
 use Rattle.gc_world.specs.declared.event.Entry.{Entry}
 use Rattle.gc_trace.specs.Grammar.{heading, least_version}
 use Rattle.gc_trace.specs.Playing.{happened}
 use Rattle.gc_trace.proofs.Printed.{line_sent, line_failed, lines_sent, entry_line, whole_text}
-use Rattle.gc_trace.proofs.writer.write_events.Goals as goal
+use Rattle.gc_trace.proofs.writer.write_trace.Goals as goal
 
 abbrev first_lines : ℕ → ℕ → List Entry → List ℕ
 first_lines size mutators history = heading (least_version (happened history)) size mutators
@@ -17,10 +16,10 @@ pub loop-entry-preserved : goal.loop-entry-preserved
 loop-entry-preserved g c =
     line_sent (first_lines c.args.size c.args.mutators c.args.history.now) entry_line _ _ _ c.args.history.now c.loop-entry.entry-index c.entry-item.result c.loop-entry.printer c.make_room.new.self _ c.loop-entry-test.true c.entry-item.is c.loop-entry.invariant c.in-Ok.ensures.ok c.print_event.ensures
 
-pub returns-clause-ok : goal.returns-clause-ok
-returns-clause-ok g c =
-    on_ok_weaker c.flush.result (lines_sent (first_lines c.args.size c.args.mutators c.args.history.now) entry_line _ _ _ c.args.history.now c.loop-entry.entry-index c.loop-entry.printer _ (whole_text c.args.size c.args.mutators c.args.history.now) c.loop-entry-test.false c.loop-entry.invariant) c.flush.ensures.ok
+pub returns-in-Ok-flush-clause-ok : goal.returns-in-Ok-flush-clause-ok
+returns-in-Ok-flush-clause-ok g c =
+    lines_sent (first_lines c.args.size c.args.mutators c.args.history.now) entry_line _ _ _ c.args.history.now c.loop-entry.entry-index c.loop-entry.printer _ (whole_text c.args.size c.args.mutators c.args.history.now) c.loop-entry-test.false c.loop-entry.invariant c.in-Ok-flush.ensures.ok
 
-pub returns-clause-err : goal.returns-clause-err
-returns-clause-err g c =
-    on_err_weaker c.flush.result (line_failed (first_lines c.args.size c.args.mutators c.args.history.now) entry_line _ _ _ c.args.history.now c.loop-entry.entry-index c.loop-entry.printer _ (whole_text c.args.size c.args.mutators c.args.history.now) c.loop-entry.invariant) c.flush.ensures.err
+pub returns-in-Err-flush-clause-err : goal.returns-in-Err-flush-clause-err
+returns-in-Err-flush-clause-err g c =
+    line_failed (first_lines c.args.size c.args.mutators c.args.history.now) entry_line _ _ _ c.args.history.now c.loop-entry.entry-index c.loop-entry.printer _ (whole_text c.args.size c.args.mutators c.args.history.now) c.loop-entry.invariant c.in-Err-flush.ensures.err
