@@ -1,5 +1,5 @@
 -- Each pair of a flip was placed by a step of its own, so that a history has no more pairs than events.
-use Rattle.std.proofs.Common.{◌≡◌, ℕ, suc, ◌+◌, ◌≤◌, ◌==◌, List, [], ◌∷◌, ◌++◌, length, map, Option, Some, None, is_some, nat_lt, refl, sym, ◌∙◌, ap, subst, arith, length-append}
+use Rattle.std.proofs.Common.{◌≡◌, ℕ, ◌+◌, ◌≤◌, ◌==◌, List, [], ◌∷◌, length, Option, Some, None, is_some, nat_lt, refl, ap, arith, length-append}
 use Rattle.std.specs.List.{sum_by}
 use Rattle.std.proofs.lemmas.Bool.{cond_both}
 use Rattle.std.proofs.lemmas.List.{length-map}
@@ -7,8 +7,8 @@ use Rattle.std.proofs.lemmas.List.Sums.{sum_by-cons}
 use Rattle.gc_graph.specs.Graph.{Value, Nil, Num, Ref, Object, Graph, lookup, field_of}
 use Rattle.gc_graph.specs.Machine.{roomy_step}
 use Rattle.gc_copy.specs.State.{Replica, Collection, State, opening_state, heap_end, new_end, new_free, replica_of, replica_at, moved}
-use Rattle.gc_copy.specs.Steps.{written, log_at, logged, mutate, fresh_replica, place_replica, with_replica, with_written, write_replica, copy_value, bring_value, bring_up_to_date, with_log, if_room, root_target, copy_root, scan_done, scan, next_object, next_field, scan_replica, apply_entry, apply_log, is_ready, passes_check, flip, collect_with, collect}
-use Rattle.gc_copy.specs.Runs.{Event, Mutate, Collect, Answer, Stepped, after, answer, answers}
+use Rattle.gc_copy.specs.Steps.{written, log_at, logged, fresh_replica, place_replica, with_replica, with_written, copy_value, bring_value, bring_up_to_date, with_log, if_room, root_target, copy_root, scan_done, scan, next_field, scan_replica, apply_entry, apply_log, is_ready, passes_check, flip, collect_with}
+use Rattle.gc_copy.specs.Runs.{Event, Mutate, Collect, Stepped, after, answer, answers}
 use Rattle.gc_copy.specs.declared.step.Step.{Step}
 use Rattle.gc_copy.specs.declared.step.Step.TheVariants as steps
 use Rattle.gc_copy.specs.declared.step.StepReply.{StepReply}

@@ -44,13 +44,6 @@ fn no_events_no_replies(rt: HostRuntime) -> Result<(), Fail> {
 }
 
 #[test]
-fn too_great_a_number_is_a_bad_line(rt: HostRuntime) {
-    let text = b"heaptrace 1\nspace 7 mutators 1\nm 0 num r0 9223372036854775808\nm 0 look r0\n";
-    let want = PlayFault::Trace(TraceFault::BadLine(3));
-    assert_eq!(rt; played(rt.alloc(), text).err(), Some(want));
-}
-
-#[test]
 fn more_replies_than_wait_at_once(rt: HostRuntime) -> Result<(), Fail> {
     let mut text = Vec::from_slice(rt.alloc(), b"heaptrace 1\nspace 8 mutators 16\n")?;
     let mut want = Vec::new(rt.alloc());

@@ -1,5 +1,5 @@
 use crate::tests::rows::ONE_OBJECT_FILLS_THE_SPACE;
-use crate::tests::streams::{End, Slow, count_of};
+use crate::tests::streams::{End, Same, Slow, count_of};
 use crate::{PlayFault, TraceFault, play, read_trace};
 use gc_copy::Step;
 use gc_graph::{Op, Sink, Slot, Source};
@@ -140,18 +140,16 @@ fn each_front_of_a_text_has_its_answer(rt: HostRuntime) {
 }
 
 #[test]
-fn the_limit_comes_first(rt: HostRuntime) -> Result<(), Fail> {
-    let mut text = vec![in rt.alloc(); b'x'; 16777216]?;
-    assert_eq!(rt;
-        count_of(rt.alloc(), text.as_slice()),
-        Err(TraceFault::BadHeader)
-    );
-    text.push(b'x')?;
-    assert_eq!(rt;
-        count_of(rt.alloc(), text.as_slice()),
-        Err(TraceFault::TooLarge)
-    );
-    Ok(())
+fn the_limit_comes_first(rt: HostRuntime) {
+    for (left, end, want) in [
+        (16777216, End::Silent, TraceFault::BadHeader),
+        (16777216, End::Broken, TraceFault::Read),
+        (16777217, End::Silent, TraceFault::TooLarge),
+        (16777217, End::Broken, TraceFault::TooLarge),
+    ] {
+        let long = Same { left, end };
+        assert_eq!(rt; count_of(rt.alloc(), long), Err(want), "of {left} bytes");
+    }
 }
 
 #[test]

@@ -52,6 +52,25 @@ impl Read for Slow<'_> {
     }
 }
 
+/// Gives so many bytes `x`.
+#[derive(Drop)]
+pub struct Same {
+    pub left: usize,
+    pub end: End,
+}
+
+impl Read for Same {
+    fn read(&mut self, buf: &mut [u8]) -> io::Result<usize> {
+        if self.left == 0 {
+            return self.end.answer();
+        }
+        let count = self.left.min(buf.len());
+        buf[..count].fill(b'x');
+        self.left -= count;
+        Ok(count)
+    }
+}
+
 /// The most bytes that a narrow writer takes.
 const MOST: usize = 512;
 

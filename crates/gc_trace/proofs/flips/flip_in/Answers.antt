@@ -1,5 +1,4 @@
-use Rattle.std.proofs.Common.{◌≡◌, Option, Some, None, arith, ap, sym, ◌∙◌}
-use Rattle.std.specs.Option.{option_map}
+use Rattle.std.proofs.Common.{◌≡◌, Option, Some, arith, ap, sym, ◌∙◌}
 use Rattle.gc_cert.specs.Grammar.{CertifiedPair}
 use Rattle.gc_cert.specs.Views.{pair_in}
 use Rattle.gc_world.specs.World.{present}

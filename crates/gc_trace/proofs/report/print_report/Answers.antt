@@ -1,4 +1,4 @@
-use Rattle.std.proofs.Common.{[], refl, ◌≡◌, ◌++◌, ◌∙◌, ap, List, ℕ}
+use Rattle.std.proofs.Common.{refl, ◌++◌, ◌∙◌, ap, List, ℕ}
 use Rattle.std.specs.List.{flat_map}
 use Rattle.gc_graph.specs.Lines.{line}
 use Rattle.gc_trace.specs.Report.{report_lines}

@@ -1,12 +1,10 @@
-use Rattle.std.proofs.Common.{◌≡◌, ◌+◌, ◌<◌, ◌^◌, length, sym, ap, ◌∙◌, subst, arith, rules}
+use Rattle.std.proofs.Common.{◌≡◌, ◌+◌, ◌<◌, ◌^◌, length, sym, ap, ◌∙◌, subst, rules}
 use Rattle.gc_copy.specs.State.{heap_end}
 use Rattle.gc_words.specs.Space.{free_in, end_of}
 use Rattle.gc_graph.specs.Machine.{Roomy}
-use Rattle.gc_heap.specs.Heap.{HeapWords}
 use Rattle.gc_world.specs.World.{present}
-use Rattle.gc_world.specs.History.{run_answer, IsHistory}
-use Rattle.gc_trace.specs.declared.report.Report.{Report}
-use Rattle.gc_trace.specs.Report.{IsInRange, with_answer}
+use Rattle.gc_world.specs.History.{IsHistory}
+use Rattle.gc_trace.specs.Report.{IsInRange}
 use Rattle.gc_trace.proofs.Counted.{none_counted, next_counted, front_in_range}
 use Rattle.gc_trace.proofs.Ends.{same_end}
 use Rattle.gc_trace.proofs.report.report_of.Goals as goal
