@@ -1,8 +1,7 @@
 -- The pairs of a run's flips.
-use Rattle.std.proofs.Common.{◌≡◌, ℕ, suc, ◌+◌, ◌-◌, ◌<◌, ◌≤◌, List, [], ◌∷◌, drop, length, map, get_or, refl, sym, ap, ◌∙◌, arith, subst, Option, Some, None, inl, inr, ◌⊎◌}
+use Rattle.std.proofs.Common.{◌≡◌, ℕ, suc, ◌+◌, ◌<◌, ◌≤◌, List, ◌∷◌, drop, length, map, get_or, refl, sym, ap, ◌∙◌, arith, subst, Option, Some, None, inl, inr, ◌⊎◌}
 use Rattle.std.specs.Prelude.{slice_get}
 use Rattle.std.proofs.lemmas.List.{drop_more, length-map}
-use Rattle.gc_graph.specs.Slots.{roots_of}
 use Rattle.gc_cert.specs.Grammar.{CertifiedPair}
 use Rattle.gc_words.specs.Word.{word_of}
 use Rattle.gc_copy.specs.State.{State, Collection, moved}
@@ -16,7 +15,6 @@ use Rattle.gc_world.specs.Flip.{flip_pair, kept_of, kept_after, IsCertified}
 use Rattle.gc_world.specs.History.{run_event}
 use Rattle.gc_world.specs.declared.event.Event.{Event}
 use Rattle.gc_world.specs.declared.event.Event.TheVariants.{Mutate, Collect}
-use Rattle.gc_trace.specs.Running.{kept_with}
 use Rattle.gc_trace.specs.Flips.{flip_at, with_flip, flips, HasCounts}
 
 -- ---- what is kept

@@ -1,5 +1,5 @@
 -- What went out of a play, put together from its parts.
-use Rattle.std.proofs.Common.{◌≡◌, ℕ, List, ap, sym, ◌∙◌, subst, Option, Some, None, IfSome}
+use Rattle.std.proofs.Common.{◌≡◌, ℕ, List, ap, ◌∙◌, subst, Option, Some, None, IfSome}
 use Rattle.std.specs.Io.KnownBytes.{Appends}
 use Rattle.gc_graph.specs.Streams.{SendsFront}
 use Rattle.gc_copy.specs.State.{State}

@@ -10,7 +10,7 @@ use Rattle.gc_world.specs.World.{Past, present}
 use Rattle.gc_world.specs.declared.event.Event.{Event}
 use Rattle.gc_world.specs.declared.event.Event.TheVariants.{Mutate, Collect}
 use Rattle.gc_world.specs.declared.event.Entry.{Entry}
-use Rattle.gc_trace.specs.Grammar.{Recording, version_of, least_version, written, spelling, IsEvent, IsOf, IsTextOf}
+use Rattle.gc_trace.specs.Grammar.{Recording, least_version, written, spelling, IsEvent, IsOf, IsTextOf}
 use Rattle.gc_trace.specs.Playing.{happened, run_events, opening, answers, last_state}
 use Rattle.gc_trace.specs.Running.{HasRun}
 use Rattle.gc_trace.proofs.Versions.{least_range}

@@ -5,13 +5,13 @@ ghost use Rattle.gc_trace.specs.Grammar.{IsTextOf, IsRecording, IsHeading, IsEve
 ghost use Rattle.gc_trace.specs.Faults.{limit, IsFaultOf, IsReadAs, MayFail, HasNoHeading};
 ghost use Rattle.gc_trace.specs.Views.{recording};
 
-use gc_world::Event;
 use crate::fault::TraceFault;
 use crate::parser::{event, sizes, version};
 use crate::trace::Trace;
 use gc_copy::Step;
-use gc_graph::{Op, Source};
 use gc_graph::text::{cut, read_all};
+use gc_graph::{Op, Source};
+use gc_world::Event;
 use std::alloc::Global;
 use std::io::Read;
 

@@ -1,2 +1,10 @@
+mod growths;
+mod pairs;
+mod playing;
+mod reading;
 mod report;
+mod rows;
 mod scripts;
+mod streams;
+mod worlds;
+mod writing;

@@ -1,16 +1,19 @@
-ghost use Rattle.std.specs.Prelude.{◌≡◌, ◌<◌, IfOk};
-ghost use Rattle.gc_copy.specs.Runs.{IsStep};
+ghost use Rattle.std.specs.Prelude.{◌≡◌, IfOk};
 
-use crate::{Report, report_of, write_report};
+use crate::tests::rows::{COLLECT_WHEN_FULL, NO_EVENTS, ROWS};
+use crate::tests::streams::{End, Narrow, Slow};
+use crate::tests::worlds::{command, step, useful};
+use crate::{PlayFault, Report, TraceFault, play, play_report, report_of, write_report};
 use gc_cert::WriteFault;
 use gc_copy::{Step, StepReply};
-use gc_graph::{NoMemory, Op, Reply, Sink, Slot, View};
+use gc_graph::{NoMemory, Op, Reply, Sink, Slot, Source, View};
 use gc_world::World;
 use std::alloc::Global;
-use std::io;
-use std::io::Write;
 use std::test::Fail;
-use std::thread::Threads;
+
+/// The report of a collection when the space was full.
+pub const COLLECTED: &[u8] = b"events 12\nmade 3\nfull 1\nbegun 1\ncopied 1\nscanned 2\napplied 0\n\
+    flips 1\npairs 1\ndropped 0\nrefused 0\nend 7\nfree 2\n";
 
 /// A report of nothing.
 const NOTHING: Report = Report {
@@ -28,52 +31,6 @@ const NOTHING: Report = Report {
     end: 0,
     free: 0,
 };
-
-/// Takes as many bytes as it has room, and then fails.
-#[derive(Drop)]
-struct Narrow {
-    taken: Vec<u8>,
-    room: usize,
-}
-
-impl Write for Narrow {
-    fn write(&mut self, buf: &[u8]) -> io::Result<usize> {
-        if self.room == 0 {
-            return Err(io::Error::from(io::ErrorKind::Interrupted));
-        }
-        let count = self.room.min(buf.len());
-        self.taken.extend_from_slice(&buf[..count])?;
-        self.room -= count;
-        Ok(count)
-    }
-
-    fn flush(&mut self) -> io::Result<()> {
-        Ok(())
-    }
-}
-
-/// Makes a command of the first mutator.
-fn command(world: &mut World, op: &Op) -> Result<Reply, NoMemory>
-    requires { 0 < world.old.mutators }
-    ensures { world.new.mutators ≡ world.old.mutators }
-{
-    world.mutate(0, op)
-}
-
-/// Makes a step of the collector.
-fn step(world: &mut World, step: Step) -> Result<StepReply, NoMemory>
-    requires { IsStep world.old.mutators step }
-    ensures { world.new.mutators ≡ world.old.mutators }
-{
-    world.collect(step)
-}
-
-/// Makes the step that is useful.
-fn useful(rt: &(impl Threads + Sync), world: &mut World) -> Result<(Step, StepReply), NoMemory>
-    ensures { world.new.mutators ≡ world.old.mutators }
-{
-    world.collect_useful(rt)
-}
 
 /// A world of nine words, all of which two objects take. One of them is a root.
 fn full_world(alloc: Global) -> Result<World, Fail>
@@ -128,9 +85,7 @@ fn each_answer_is_counted(rt: HostRuntime) -> Result<(), Fail> {
     assert_eq!(rt; report, want);
     let mut sink = Sink::new(Vec::new(rt.alloc()));
     assert_eq!(rt; write_report(&mut sink, &report), Ok(()));
-    let text =
-        b"events 12\nmade 3\nfull 1\nbegun 1\ncopied 1\nscanned 2\napplied 0\nflips 1\npairs 1\ndropped 0\nrefused 0\nend 7\nfree 2\n";
-    assert_eq!(rt; sink.into_inner().as_slice(), text.as_slice());
+    assert_eq!(rt; sink.into_inner().as_slice(), COLLECTED);
     Ok(())
 }
 
@@ -187,12 +142,72 @@ fn useful_steps_count_as_the_collectors(rt: HostRuntime) -> Result<(), Fail> {
 
 #[test]
 fn a_failed_writer_has_a_front(rt: HostRuntime) {
-    let mut sink = Sink::new(Narrow {
-        taken: Vec::new(rt.alloc()),
-        room: 7,
-    });
-    assert_eq!(rt; write_report(&mut sink, &NOTHING), Err(WriteFault::Write));
-    assert!(rt; sink.failed());
-    assert_eq!(rt; write_report(&mut sink, &NOTHING), Err(WriteFault::Write));
-    assert_eq!(rt; sink.into_inner().taken.as_slice(), b"events ".as_slice());
+    for end in [End::Silent, End::Broken, End::Interrupted] {
+        let mut sink = Sink::new(Narrow::new(7, end));
+        assert_eq!(rt; write_report(&mut sink, &NOTHING), Err(WriteFault::Write));
+        assert!(rt; sink.failed());
+        assert_eq!(rt; write_report(&mut sink, &NOTHING), Err(WriteFault::Write));
+        assert_eq!(rt; sink.into_inner().taken(), b"events ".as_slice());
+    }
+}
+
+/// What is written where the text's report is asked for.
+fn reported(alloc: Global, text: &[u8]) -> Result<Vec<u8>, PlayFault> {
+    let mut sink = Sink::new(Vec::new(alloc));
+    play_report(alloc, &mut Source::new(text), &mut sink)?;
+    Ok(sink.into_inner())
+}
+
+#[test]
+fn the_report_of_a_play_is_written_alone(rt: HostRuntime) -> Result<(), Fail> {
+    let found = reported(rt.alloc(), COLLECT_WHEN_FULL.trace)?;
+    assert_eq!(rt; found.as_slice(), COLLECTED);
+    let nothing = b"events 0\nmade 0\nfull 0\nbegun 0\ncopied 0\nscanned 0\napplied 0\n\
+        flips 0\npairs 0\ndropped 0\nrefused 0\nend 1\nfree 7\n";
+    let found = reported(rt.alloc(), NO_EVENTS.trace)?;
+    assert_eq!(rt; found.as_slice(), nothing.as_slice());
+    Ok(())
+}
+
+#[test]
+fn both_plays_report_alike(rt: HostRuntime) -> Result<(), Fail> {
+    let alloc = rt.alloc();
+    for row in ROWS {
+        let mut replies = Sink::new(Vec::new(alloc));
+        let played = play(alloc, &mut Source::new(row.trace), &mut replies)?;
+        let mut text = Sink::new(Vec::new(alloc));
+        let reported = play_report(alloc, &mut Source::new(row.trace), &mut text)?;
+        assert_eq!(rt; played, reported, "of {}", row.name);
+    }
+    Ok(())
+}
+
+#[test]
+fn a_text_that_is_not_read_has_no_report(rt: HostRuntime) {
+    for end in [End::Broken, End::Interrupted] {
+        let broken = Slow {
+            bytes: COLLECT_WHEN_FULL.trace,
+            step: 20,
+            end,
+        };
+        let mut sink = Sink::new(Vec::new(rt.alloc()));
+        let found = play_report(rt.alloc(), &mut Source::new(broken), &mut sink);
+        assert_eq!(rt; found, Err(PlayFault::Trace(TraceFault::Read)));
+        assert!(rt; sink.into_inner().is_empty());
+    }
+    let bad = b"heaptrace 1\nspace 8 mutators 1\nc flip";
+    let found = reported(rt.alloc(), bad);
+    assert_eq!(rt; found.err(), Some(PlayFault::Trace(TraceFault::BadLine(3))));
+}
+
+#[test]
+fn a_front_of_the_report_goes_out_before_the_writer_fails(rt: HostRuntime) {
+    for end in [End::Silent, End::Broken, End::Interrupted] {
+        let mut sink = Sink::new(Narrow::new(7, end));
+        let mut source = Source::new(COLLECT_WHEN_FULL.trace);
+        let found = play_report(rt.alloc(), &mut source, &mut sink);
+        assert_eq!(rt; found, Err(PlayFault::Write));
+        assert!(rt; sink.failed());
+        assert_eq!(rt; sink.into_inner().taken(), b"events ".as_slice());
+    }
 }

@@ -1,5 +1,4 @@
-use Rattle.std.proofs.Common.{◌≡◌, Option, Some, None, arith, ap, sym, ◌∙◌}
-use Rattle.std.specs.Option.{option_map}
+use Rattle.std.proofs.Common.{◌≡◌, Option, Some, arith, ap, sym, ◌∙◌}
 use Rattle.gc_cert.specs.Grammar.{CertifiedPair}
 use Rattle.gc_cert.specs.Views.{pair_in}
 use Rattle.gc_world.specs.World.{present}
@@ -16,5 +15,5 @@ has_text-requires c =
     let ok = c.runs_keep_states.ensures.states past.size past.mutators past.entries history in
     let count = c.runs_keep_states.ensures.mutators past.size past.mutators past.entries history in
     let kept : Some (pair_in c.in-Some.file) ≡ flip_at s c.args.event.now =
-        rw (c.in-Some.is) at c.take_flip-kept.ensures.taken ∙ c.in-Ok.ensures.happened.kept ∙ ap (λ (o : Option CertifiedPair). kept_with o s c.args.event.now) c.requires.none in
+    rw (c.in-Some.is) at c.take_flip-kept.ensures.taken ∙ c.in-Ok.ensures.happened.kept ∙ ap (λ (o : Option CertifiedPair). kept_with o s c.args.event.now) c.requires.none in
     flip_counts s c.args.event.now (pair_in c.in-Some.file) ok (c.scans_and_pairs_are_bounded.ensures.pairs s ok) (omega (arith, count, c.requires.few)) (rw (c.in-Some.is) at c.take_flip-kept.ensures.certified) (sym kept)

@@ -22,6 +22,6 @@ loop-event-preserved c =
       mutators = happened.mutators ∙ c.loop-event.invariant.mutators;
       kept = happened.kept;
       flips =
-        next_flip (present c.loop-event.world) (present c.flip_in.new.world) c.args.trace.now.events.items c.loop-event.event-index c.loop-event.before c.match-kept.before c.event-item.result _ (nth_flip c.args.n (recording c.args.trace.now))
-            (rw c.deref-event-items.ensures.value at c.loop-event-test.true) (rw c.deref-event-items.ensures.value at c.event-item.is) happened.state c.in_ok-kept.ensures.flip c.loop-event.invariant.flips (counted c);
+          next_flip (present c.loop-event.world) (present c.flip_in.new.world) c.args.trace.now.events.items c.loop-event.event-index c.loop-event.before c.match-kept.before c.event-item.result _ (nth_flip c.args.n (recording c.args.trace.now))
+          (rw c.deref-event-items.ensures.value at c.loop-event-test.true) (rw c.deref-event-items.ensures.value at c.event-item.is) happened.state c.in_ok-kept.ensures.flip c.loop-event.invariant.flips (counted c);
     }

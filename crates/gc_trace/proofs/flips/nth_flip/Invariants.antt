@@ -1,4 +1,4 @@
-use Rattle.std.proofs.Common.{◌≡◌, ◌≤◌, None}
+use Rattle.std.proofs.Common.{◌≡◌, None}
 use Rattle.gc_world.specs.World.{present}
 use Rattle.gc_trace.specs.Flips.{nth_flip}
 use Rattle.gc_trace.specs.Views.{recording}

@@ -28,7 +28,6 @@ returns-in_default-event-clause-exact c = (
       (not_nil c.is_empty.result c.loop-rest.rest.now c.is_empty.ensures (search rules)) (no_event c.in-Some.heading.version c.loop-rest.rest.now c.in-Some-split_line.line.now c.in-Some-split_line.after.now c.in-Some-split_line.ensures.0 c.in-Some-split_line.ensures.1 (sym c.in_default-event.ensures)),
 )
 
-
 pub is_of-requires : goal.is_of-requires
 is_of-requires c =
     let some = c.loop-rest.invariant.good.good.recording.heading in

@@ -1,6 +1,5 @@
 use Rattle.std.proofs.Common.{arith}
-use Rattle.gc_trace.proofs.Versions.{least_range, least_all, least_more}
-use Rattle.gc_trace.specs.Playing.{happened}
+use Rattle.gc_trace.proofs.Versions.{least_all}
 use Rattle.gc_trace.proofs.writer.least_version.Goals as goal
 
 pub loop-entry-init : goal.loop-entry-init

@@ -1,0 +1,142 @@
+//! Readers and writers with little patience, and plays of a text.
+
+use crate::{PlayFault, Report, TraceFault, play, read_trace};
+use gc_graph::{Sink, Source};
+use std::alloc::Global;
+use std::io;
+use std::io::{Read, Write};
+
+/// What a stream does once it has given all of its bytes, or taken as many as it has room for.
+#[derive(Clone, Copy)]
+pub enum End {
+    /// Gives or takes no byte more.
+    Silent,
+    /// Fails.
+    Broken,
+    /// Says that it was interrupted, each time.
+    Interrupted,
+}
+
+impl End {
+    ghost use Rattle.std.specs.Prelude.{◌≡◌, IfOk};
+
+    fn answer(self) -> io::Result<usize>
+        ensures { IfOk result (λ count. count ≡ 0) }
+    {
+        match self {
+            End::Silent => Ok(0),
+            End::Broken => Err(io::Error::from(io::ErrorKind::BrokenPipe)),
+            End::Interrupted => Err(io::Error::from(io::ErrorKind::Interrupted)),
+        }
+    }
+}
+
+/// Gives its bytes a few at a time.
+#[derive(Drop)]
+pub struct Slow<'a> {
+    pub bytes: &'a [u8],
+    pub step: usize,
+    pub end: End,
+}
+
+impl Read for Slow<'_> {
+    fn read(&mut self, buf: &mut [u8]) -> io::Result<usize> {
+        if self.bytes.is_empty() {
+            return self.end.answer();
+        }
+        let all = self.bytes;
+        let count = self.step.min(buf.len()).min(all.len());
+        buf[..count].copy_from_slice(&all[..count]);
+        self.bytes = &all[count..];
+        Ok(count)
+    }
+}
+
+/// Gives so many bytes `x`.
+#[derive(Drop)]
+pub struct Same {
+    pub left: usize,
+    pub end: End,
+}
+
+impl Read for Same {
+    fn read(&mut self, buf: &mut [u8]) -> io::Result<usize> {
+        if self.left == 0 {
+            return self.end.answer();
+        }
+        let count = self.left.min(buf.len());
+        buf[..count].fill(b'x');
+        self.left -= count;
+        Ok(count)
+    }
+}
+
+/// The most bytes that a narrow writer takes.
+const MOST: usize = 512;
+
+/// Takes as many bytes as it has room for. It needs no memory.
+#[derive(Drop)]
+pub struct Narrow {
+    bytes: [u8; 512],
+    taken: usize,
+    room: usize,
+    end: End,
+}
+
+impl Narrow {
+    pub fn new(room: usize, end: End) -> Narrow {
+        Narrow {
+            bytes: [0; 512],
+            taken: 0,
+            room: room.min(MOST),
+            end,
+        }
+    }
+
+    /// The bytes that it took.
+    pub fn taken(&self) -> &[u8] {
+        &self.bytes[..self.taken.min(MOST)]
+    }
+}
+
+impl Write for Narrow {
+    fn write(&mut self, buf: &[u8]) -> io::Result<usize> {
+        let room = self.room.min(MOST);
+        if self.taken >= room {
+            return self.end.answer();
+        }
+        let start = self.taken;
+        let count = buf.len().min(room - start);
+        self.bytes[start..start + count].copy_from_slice(&buf[..count]);
+        self.taken = start + count;
+        Ok(count)
+    }
+
+    fn flush(&mut self) -> io::Result<()> {
+        Ok(())
+    }
+}
+
+/// What is written where the text is played.
+pub fn played(alloc: Global, text: &[u8]) -> Result<Vec<u8>, PlayFault> {
+    let mut sink = Sink::new(Vec::new(alloc));
+    play(alloc, &mut Source::new(text), &mut sink)?;
+    Ok(sink.into_inner())
+}
+
+/// What is answered where the text is played to such a writer, and the writer afterwards.
+pub fn played_to(
+    alloc: Global,
+    text: &[u8],
+    writer: Narrow,
+) -> (Result<Report, PlayFault>, Narrow) {
+    let mut sink = Sink::new(writer);
+    let answer = play(alloc, &mut Source::new(text), &mut sink);
+    (answer, sink.into_inner())
+}
+
+/// How many events a text has.
+pub fn count_of<R: Read + Drop>(alloc: Global, reader: R) -> Result<usize, TraceFault> {
+    let trace = read_trace(alloc, &mut Source::new(reader))?;
+    Ok(trace.events.len())
+}

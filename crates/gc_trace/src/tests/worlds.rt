@@ -1,0 +1,32 @@
+//! Events of a world, which leave it as many mutators as it had.
+
+ghost use Rattle.std.specs.Prelude.{◌≡◌, ◌<◌};
+ghost use Rattle.gc_copy.specs.Runs.{IsStep};
+
+use gc_copy::{Step, StepReply};
+use gc_graph::{NoMemory, Op, Reply};
+use gc_world::World;
+use std::thread::Threads;
+
+/// Makes a command of the first mutator.
+pub fn command(world: &mut World, op: &Op) -> Result<Reply, NoMemory>
+    requires { 0 < world.old.mutators }
+    ensures { world.new.mutators ≡ world.old.mutators }
+{
+    world.mutate(0, op)
+}
+
+/// Makes a step of the collector.
+pub fn step(world: &mut World, step: Step) -> Result<StepReply, NoMemory>
+    requires { IsStep world.old.mutators step }
+    ensures { world.new.mutators ≡ world.old.mutators }
+{
+    world.collect(step)
+}
+
+/// Makes the step that is useful.
+pub fn useful(rt: &(impl Threads + Sync), world: &mut World) -> Result<(Step, StepReply), NoMemory>
+    ensures { world.new.mutators ≡ world.old.mutators }
+{
+    world.collect_useful(rt)
+}

@@ -1,0 +1,186 @@
+use crate::tests::rows::{ROWS, WRITE_WHILE_SCANNING};
+use crate::tests::streams::{End, Narrow, played};
+use crate::tests::worlds::{command, step, useful};
+use crate::{read_trace, run_trace, write_trace};
+use gc_cert::WriteFault;
+use gc_copy::Step;
+use gc_graph::{Number, Op, Reply, Sink, Slot, Source, View};
+use gc_world::{Answer, Entry, Event, World};
+use std::alloc::Global;
+use std::test::Fail;
+use std::thread::Threads;
+
+/// What is written of the history of the text's run.
+fn written_back(alloc: Global, text: &[u8]) -> Result<Vec<u8>, Fail> {
+    let trace = read_trace(alloc, &mut Source::new(text))?;
+    let world = run_trace(alloc, &trace)?;
+    Ok(written_of(alloc, &world)?)
+}
+
+/// What is written of the world's history.
+fn written_of(alloc: Global, world: &World) -> Result<Vec<u8>, WriteFault> {
+    let mut sink = Sink::new(Vec::new(alloc));
+    write_trace(&mut sink, world.size(), world.mutators(), world.history())?;
+    Ok(sink.into_inner())
+}
+
+/// What is written of one event. Its answer does not matter.
+fn written_alone(alloc: Global, event: Event) -> Result<Vec<u8>, WriteFault> {
+    let answer = Answer::Mutator(Reply::Done);
+    let mut sink = Sink::new(Vec::new(alloc));
+    write_trace(&mut sink, 9, 16, &[Entry { event, answer }])?;
+    Ok(sink.into_inner())
+}
+
+#[test]
+fn worked_rows_are_written_as_they_stand(rt: HostRuntime) -> Result<(), Fail> {
+    for row in ROWS {
+        let found = written_back(rt.alloc(), row.trace)?;
+        assert_eq!(rt; found.as_slice(), row.trace, "of {}", row.name);
+    }
+    Ok(())
+}
+
+#[test]
+fn each_command_has_its_line(rt: HostRuntime) -> Result<(), Fail> {
+    let alloc = rt.alloc();
+    let _named: Option<Op> = None;
+    let r0 = Slot::own(0).ok_or("slot")?;
+    let r15 = Slot::own(15).ok_or("slot")?;
+    let g0 = Slot::shared(0).ok_or("slot")?;
+    let g10 = Slot::shared(10).ok_or("slot")?;
+    let greatest = Number::new(9223372036854775807).ok_or("number")?;
+    let new = Op::New {
+        d: r0,
+        kind: 255,
+        len: 65535,
+    };
+    for (op, line) in [
+        (new, "m 15 new r0 255 65535"),
+        (
+            Op::Num {
+                d: r15,
+                n: greatest,
+            },
+            "m 15 num r15 9223372036854775807",
+        ),
+        (Op::Nil { d: g10 }, "m 15 nil g10"),
+        (Op::Move { d: g0, s: r15 }, "m 15 move g0 r15"),
+        (
+            Op::Get {
+                d: r0,
+                s: g10,
+                i: 0,
+            },
+            "m 15 get r0 g10 0",
+        ),
+        (
+            Op::Put {
+                s: g0,
+                i: 7,
+                t: r15,
+            },
+            "m 15 put g0 7 r15",
+        ),
+        (Op::Same { s: r15, t: g0 }, "m 15 same r15 g0"),
+        (Op::Look { s: g10 }, "m 15 look g10"),
+    ] {
+        let found = written_alone(alloc, Event::Mutate { m: 15, op })?;
+        let want = format!(in alloc; "heaptrace 1\nspace 9 mutators 16\n{line}\n")?;
+        assert_eq!(rt; found.as_slice(), want.as_bytes());
+    }
+    Ok(())
+}
+
+#[test]
+fn each_step_has_its_line_in_the_least_version(rt: HostRuntime) -> Result<(), Fail> {
+    let alloc = rt.alloc();
+    let _named: Option<Op> = None;
+    for (step, version, line) in [
+        (Step::Begin, 1, "c begin"),
+        (Step::BeginSized(1), 2, "c begin 1"),
+        (Step::BeginSized(1048576), 2, "c begin 1048576"),
+        (Step::Roots, 1, "c roots"),
+        (Step::Scan, 1, "c scan"),
+        (Step::Apply(15), 1, "c apply 15"),
+        (Step::Flip, 1, "c flip"),
+        (Step::Drop, 1, "c drop"),
+    ] {
+        let found = written_alone(alloc, Event::Collect(step))?;
+        let want = format!(in alloc; "heaptrace {version}\nspace 9 mutators 16\n{line}\n")?;
+        assert_eq!(rt; found.as_slice(), want.as_bytes());
+    }
+    Ok(())
+}
+
+#[test]
+fn a_version_that_no_line_needs_is_not_written(rt: HostRuntime) -> Result<(), Fail> {
+    let text = b"heaptrace 2\nspace 8 mutators 3\nc begin\nm 2 nil g3\n";
+    let want = b"heaptrace 1\nspace 8 mutators 3\nc begin\nm 2 nil g3\n";
+    assert_eq!(rt; written_back(rt.alloc(), text)?.as_slice(), want.as_slice());
+    Ok(())
+}
+
+#[test]
+fn more_lines_than_wait_at_once(rt: HostRuntime) -> Result<(), Fail> {
+    let mut text = Vec::from_slice(rt.alloc(), b"heaptrace 1\nspace 8 mutators 16\n")?;
+    for _ in 0..3000 {
+        text.extend_from_slice(b"m 15 look r15\n")?;
+    }
+    assert_eq!(rt;
+        written_back(rt.alloc(), &text)?.as_slice(),
+        text.as_slice()
+    );
+    Ok(())
+}
+
+/// A world in which the useful step was made six times.
+fn useful_world(rt: &(impl Threads + Sync), alloc: Global) -> Result<World, Fail> {
+    let _named = View::Nil;
+    let r0 = Slot::own(0).ok_or("slot")?;
+    let mut world = World::open(alloc, 8, 1)?;
+    let new = Op::New {
+        d: r0,
+        kind: 0,
+        len: 1,
+    };
+    command(&mut world, &new)?;
+    step(&mut world, Step::Scan)?;
+    step(&mut world, Step::Apply(0))?;
+    useful(rt, &mut world)?;
+    useful(rt, &mut world)?;
+    useful(rt, &mut world)?;
+    useful(rt, &mut world)?;
+    command(&mut world, &Op::Put { s: r0, i: 0, t: r0 })?;
+    useful(rt, &mut world)?;
+    useful(rt, &mut world)?;
+    Ok(world)
+}
+
+#[test]
+fn useful_steps_are_written_as_the_steps_that_they_were(rt: HostRuntime) -> Result<(), Fail> {
+    let world = useful_world(&rt, rt.alloc())?;
+    let text = written_of(rt.alloc(), &world)?;
+    let want =
+        b"heaptrace 1\nspace 8 mutators 1\nm 0 new r0 0 1\nc scan\nc apply 0\nc begin\nc roots\n\
+        c scan\nc scan\nm 0 put r0 0 r0\nc apply 0\nc flip\n";
+    assert_eq!(rt; text.as_slice(), want.as_slice());
+    let replies = b"made\nidle\nidle\nbegun\ncopied\nscanned\npassed\ndone\napplied\nflipped 1\n";
+    assert_eq!(rt; played(rt.alloc(), &text)?.as_slice(), replies.as_slice());
+    Ok(())
+}
+
+#[test]
+fn a_front_of_the_trace_goes_out_before_the_writer_fails(rt: HostRuntime) -> Result<(), Fail> {
+    let mut source = Source::new(WRITE_WHILE_SCANNING.trace);
+    let trace = read_trace(rt.alloc(), &mut source)?;
+    let world = run_trace(rt.alloc(), &trace)?;
+    for end in [End::Silent, End::Broken, End::Interrupted] {
+        let mut sink = Sink::new(Narrow::new(7, end));
+        let found = write_trace(&mut sink, world.size(), world.mutators(), world.history());
+        assert_eq!(rt; found, Err(WriteFault::Write));
+        assert!(rt; sink.failed());
+        assert_eq!(rt; sink.into_inner().taken(), b"heaptra".as_slice());
+    }
+    Ok(())
+}
