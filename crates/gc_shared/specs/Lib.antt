@@ -4,3 +4,4 @@ pub mod Closing
 pub mod Marks
 pub mod Scripts
 pub mod Players
+pub mod Rows
