@@ -5,3 +5,4 @@ pub mod Marks
 pub mod Scripts
 pub mod Players
 pub mod Rows
+pub mod Faults
