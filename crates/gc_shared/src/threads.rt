@@ -61,7 +61,7 @@ pub fn run_threads<R: Threads + Wait + Sync, G: Gate + Sync>(
     let Ok((shared, seats)) = Shared::open(alloc, size, mutators, 1) else {
         return Err(ThreadsFault::NoMemory);
     };
-    let ended = in_threads(rt, alloc, &shared, seats, scripts.as_slice(), turns, gate);
+    let ended = in_threads(rt, &shared, seats, scripts.as_slice(), turns, gate);
     match shared.close(ended?) {
         Ok(world) => Ok(world),
         Err(fault) => Err(ThreadsFault::Close(fault.kind)),
@@ -71,7 +71,6 @@ pub fn run_threads<R: Threads + Wait + Sync, G: Gate + Sync>(
 // Runs the scripts and the collector in threads that end before it returns, and gives the seats back.
 fn in_threads<R: Threads + Wait + Sync, G: Gate + Sync>(
     rt: &R,
-    alloc: Global,
     shared: &Shared,
     seats: Vec<Seat>,
     scripts: &[Vec<Op>],
@@ -87,7 +86,7 @@ fn in_threads<R: Threads + Wait + Sync, G: Gate + Sync>(
         |scope| -> Result<Vec<Seat>, ThreadsFault>
             requires { seats.items ≡ map (fresh (length scripts.now)) (range_with_len 0 (length scripts.now + 1)) }
             ensures { IfOk result (λ ended. HaveEnded scripts.entry.now turns ended.items) }
-        { run_all(scope, rt, alloc, shared, seats, scripts, turns, gate) },
+        { run_all(scope, rt, shared, seats, scripts, turns, gate) },
     )
 }
 
@@ -99,7 +98,6 @@ type Turner = PromisedHandle<Result<Seat, ThreadsFault>, Turns>;
 fn run_all<'s, 'e, R: Threads + Wait + Sync, G: Gate + Sync>(
     scope: &'s Scope<'s, &'e ()>,
     rt: &'e R,
-    alloc: Global,
     shared: &'e Shared,
     mut seats: Vec<Seat>,
     scripts: &'e [Vec<Op>],
@@ -109,10 +107,10 @@ fn run_all<'s, 'e, R: Threads + Wait + Sync, G: Gate + Sync>(
     requires { seats.items ≡ map (fresh (length scripts.now)) (range_with_len 0 (length scripts.now + 1)) }
     ensures { IfOk result (λ ended. HaveEnded scripts.now turns ended.items) }
 {
-    let Ok(mut back) = Vec::with_capacity(alloc, scripts.len() + 1) else {
+    let Ok(mut back) = Vec::with_capacity(shared.alloc(), scripts.len() + 1) else {
         return Err(ThreadsFault::NoMemory);
     };
-    let Ok(mut players) = Vec::with_capacity(alloc, scripts.len()) else {
+    let Ok(mut players) = Vec::with_capacity(shared.alloc(), scripts.len()) else {
         return Err(ThreadsFault::NoMemory);
     };
     let Some(last) = seats.pop() else {
