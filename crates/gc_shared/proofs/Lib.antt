@@ -5,3 +5,4 @@ pub mod Played
 pub mod Players
 pub mod Selecting
 pub mod Running
+pub mod WorkedRows

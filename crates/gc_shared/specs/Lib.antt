@@ -4,3 +4,5 @@ pub mod Closing
 pub mod Marks
 pub mod Scripts
 pub mod Players
+pub mod Rows
+pub mod Faults

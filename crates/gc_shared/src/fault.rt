@@ -83,3 +83,19 @@ pub enum ThreadsFault {
     #[error(transparent)]
     Close(CloseKind),
 }
+
+impl From<CallFault> for ThreadsFault {
+    ghost use Rattle.std.specs.Prelude.{◌≡◌};
+    ghost use Rattle.gc_shared.specs.Faults.{fault_of_call};
+
+    ghost from_gives = { λ fault made. made ≡ fault_of_call fault };
+
+    fn from(fault: CallFault) -> ThreadsFault {
+        match fault {
+            CallFault::NoMemory => ThreadsFault::NoMemory,
+            CallFault::NotAMutator | CallFault::NotACollector | CallFault::NoSuchMutator => {
+                ThreadsFault::Close(CloseKind::Seats)
+            }
+        }
+    }
+}

@@ -4,6 +4,7 @@
 mod closing;
 mod fault;
 mod gate;
+mod laws;
 mod playing;
 mod seat;
 mod shared;
@@ -11,6 +12,7 @@ mod threads;
 
 pub use fault::{CallFault, CloseFault, CloseKind, ThreadsFault};
 pub use gate::Gate;
+pub use laws::worked_rows;
 pub use seat::{Receipt, Seat};
 pub use shared::Shared;
 pub use threads::run_threads;

@@ -1,23 +1,13 @@
 ghost use Rattle.std.specs.Prelude.{◌≡◌, [], IfOk};
 ghost use Rattle.gc_shared.specs.Scripts.{HasPlayed, HasTurned};
 
-use crate::fault::{CallFault, CloseKind, ThreadsFault};
+use crate::fault::ThreadsFault;
 use crate::gate::Gate;
 use crate::seat::Seat;
 use crate::shared::Shared;
 use gc_graph::Op;
 use std::sync::Wait;
 use std::thread::Threads;
-
-// What the thread ends with whose call was refused.
-fn refused(fault: CallFault) -> ThreadsFault {
-    match fault {
-        CallFault::NoMemory => ThreadsFault::NoMemory,
-        CallFault::NotAMutator | CallFault::NotACollector | CallFault::NoSuchMutator => {
-            ThreadsFault::Close(CloseKind::Seats)
-        }
-    }
-}
 
 /// Makes the commands of a script with a seat, in order.
 pub(crate) fn play<R: Wait, G: Gate>(
@@ -39,10 +29,7 @@ pub(crate) fn play<R: Wait, G: Gate>(
                 n: call,
             });
         }
-        match shared.call(rt, &mut seat, &script[n]) {
-            Ok(_) => (),
-            Err(fault) => return Err(refused(fault)),
-        }
+        shared.call(rt, &mut seat, &script[n])?;
         gate.after(number, call);
     }
     Ok(seat)
@@ -64,9 +51,7 @@ pub(crate) fn turn<R: Threads + Wait + Sync, G: Gate>(
         if !gate.before(number, n) {
             return Err(ThreadsFault::Gate { seat: number, n });
         }
-        if let Err(fault) = shared.useful(rt, &mut seat) {
-            return Err(refused(fault));
-        }
+        shared.useful(rt, &mut seat)?;
         gate.after(number, n);
     }
     Ok(seat)

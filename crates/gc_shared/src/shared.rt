@@ -82,6 +82,11 @@ impl Shared {
         self.mutators
     }
 
+    /// What it takes its memory from.
+    pub(crate) fn alloc(&self) -> Global {
+        self.alloc
+    }
+
     /// Makes a command of the seat's mutator under the lock, and adds its receipt to the seat.
     pub fn call<R: Wait>(&self, rt: &R, seat: &mut Seat, op: &Op) -> Result<Reply, CallFault>
         ensures answered { IfOk result (λ reply.

@@ -1,7 +1,7 @@
 mod gates;
 mod growths;
 
-use crate::{CallFault, CloseKind, Seat, Shared};
+use crate::{CallFault, CloseKind, Seat, Shared, ThreadsFault};
 use gc_copy::{Step, StepReply};
 use gc_graph::{Number, Op, Reply, Slot, View};
 use gc_world::{Answer, Entry, Event};
@@ -189,4 +189,25 @@ fn steps(rt: &(impl Threads + Wait + Abort + Sync), shared: &Shared, mut seat: S
         assert!(rt; shared.useful(rt, &mut seat).is_ok());
     }
     seat
+}
+
+#[test]
+fn faults_have_their_texts(rt: HostRuntime) -> Result<(), Fail> {
+    let alloc = rt.alloc();
+    let gate = ThreadsFault::Gate { seat: 2, n: 40 };
+    assert_eq!(rt;
+        gate.to_string(alloc)?.as_str(),
+        "threads: gate at seat 2 call 40"
+    );
+    let not_started = ThreadsFault::NotStarted.to_string(alloc)?;
+    assert_eq!(rt; not_started.as_str(), "threads: not started");
+    let torn = ThreadsFault::Close(CloseKind::Torn { seat: 1, n: 17 });
+    assert_eq!(rt;
+        torn.to_string(alloc)?.as_str(),
+        "close: torn seat 1 receipt 17"
+    );
+    assert_eq!(rt; CloseKind::Seats.to_string(alloc)?.as_str(), "close: seats");
+    assert_eq!(rt; CloseKind::Extra.to_string(alloc)?.as_str(), "close: extra");
+    assert_eq!(rt; CallFault::NoMemory.to_string(alloc)?.as_str(), "no memory");
+    Ok(())
 }

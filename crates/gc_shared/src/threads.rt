@@ -1,8 +1,8 @@
-ghost use Rattle.std.specs.Prelude.{◌≡◌, ◌≤◌, ◌<◌, ◌+◌, ◌^◌, ℕ, [], IfOk, IfSome, OnOk, length, map, All, true, false, vec_len, vec_capacity, slice_index_or};
+ghost use Rattle.std.specs.Prelude.{◌≡◌, ◌≤◌, ◌<◌, ◌+◌, [], IfOk, IfSome, OnOk, length, map, true, vec_len, vec_capacity};
+ghost use Rattle.std.specs.List.{range_with_len};
+ghost use Rattle.gc_shared.specs.Seats.{fresh};
 ghost use Rattle.gc_shared.specs.Scripts.{HasPlayed, HasTurned, HavePlayed, HaveEnded, HasRun};
 ghost use Rattle.gc_shared.specs.Players.{AreToPlay};
-ghost use Rattle.gc_shared.specs.Seats.{fresh};
-ghost use Rattle.std.specs.List.{range_with_len};
 
 use crate::fault::ThreadsFault;
 use crate::gate::Gate;
@@ -16,7 +16,7 @@ use std::sync::Wait;
 use std::thread;
 use std::thread::{Promise, PromisedHandle, Scope, Threads};
 
-/// A mutator's thread: its seat comes back with the script's commands.
+/// What a mutator's thread promises: its seat comes back with the script's commands.
 #[derive(Clone, Copy)]
 struct Plays<'a> {
     number: u8,
@@ -24,10 +24,10 @@ struct Plays<'a> {
 }
 
 impl<'a> Promise<Result<Seat, ThreadsFault>> for Plays<'a> {
-    ghost kept_by = { λ p r. IfOk r (HasPlayed p.number p.script.now) };
+    ghost kept_by = { λ plays result. IfOk result (HasPlayed plays.number plays.script.now) };
 }
 
-/// The collector's thread: its seat comes back with so many useful steps.
+/// What the collector's thread promises: its seat comes back with so many useful steps.
 #[derive(Clone, Copy)]
 struct Turns {
     number: u8,
@@ -35,7 +35,7 @@ struct Turns {
 }
 
 impl Promise<Result<Seat, ThreadsFault>> for Turns {
-    ghost kept_by = { λ p r. IfOk r (HasTurned p.number p.turns) };
+    ghost kept_by = { λ turns result. IfOk result (HasTurned turns.number turns.turns) };
 }
 
 /// Makes each of 1 to 16 scripts by a thread of its own, mutator m's being script m, in a world of `size` words, 1 to
@@ -61,17 +61,16 @@ pub fn run_threads<R: Threads + Wait + Sync, G: Gate + Sync>(
     let Ok((shared, seats)) = Shared::open(alloc, size, mutators, 1) else {
         return Err(ThreadsFault::NoMemory);
     };
-    let ended = in_threads(rt, alloc, &shared, seats, scripts.as_slice(), turns, gate);
+    let ended = in_threads(rt, &shared, seats, scripts.as_slice(), turns, gate);
     match shared.close(ended?) {
         Ok(world) => Ok(world),
         Err(fault) => Err(ThreadsFault::Close(fault.kind)),
     }
 }
 
-// Runs the scripts and the collector in threads, and gives the seats back.
+// Runs the scripts and the collector in threads that end before it returns, and gives the seats back.
 fn in_threads<R: Threads + Wait + Sync, G: Gate + Sync>(
     rt: &R,
-    alloc: Global,
     shared: &Shared,
     seats: Vec<Seat>,
     scripts: &[Vec<Op>],
@@ -79,15 +78,15 @@ fn in_threads<R: Threads + Wait + Sync, G: Gate + Sync>(
     gate: &G,
 ) -> Result<Vec<Seat>, ThreadsFault>
     requires { seats.items ≡ map (fresh (length scripts.now)) (range_with_len 0 (length scripts.now + 1)) }
-    ensures { IfOk result (λ v. HaveEnded scripts.now turns v.items) }
+    ensures { IfOk result (λ ended. HaveEnded scripts.now turns ended.items) }
 {
     thread::scope(
         thread::scope_env(),
         rt,
         |scope| -> Result<Vec<Seat>, ThreadsFault>
             requires { seats.items ≡ map (fresh (length scripts.now)) (range_with_len 0 (length scripts.now + 1)) }
-            ensures { IfOk result (λ v. HaveEnded scripts.entry.now turns v.items) }
-        { run_all(scope, rt, alloc, shared, seats, scripts, turns, gate) },
+            ensures { IfOk result (λ ended. HaveEnded scripts.entry.now turns ended.items) }
+        { run_all(scope, rt, shared, seats, scripts, turns, gate) },
     )
 }
 
@@ -95,11 +94,10 @@ type Player<'e> = PromisedHandle<Result<Seat, ThreadsFault>, Plays<'e>>;
 
 type Turner = PromisedHandle<Result<Seat, ThreadsFault>, Turns>;
 
-// Starts all threads, and then joins them.
+// Starts all threads, and then joins all that were started. What the seats come back in is made before any thread.
 fn run_all<'s, 'e, R: Threads + Wait + Sync, G: Gate + Sync>(
     scope: &'s Scope<'s, &'e ()>,
     rt: &'e R,
-    alloc: Global,
     shared: &'e Shared,
     mut seats: Vec<Seat>,
     scripts: &'e [Vec<Op>],
@@ -107,12 +105,12 @@ fn run_all<'s, 'e, R: Threads + Wait + Sync, G: Gate + Sync>(
     gate: &'e G,
 ) -> Result<Vec<Seat>, ThreadsFault>
     requires { seats.items ≡ map (fresh (length scripts.now)) (range_with_len 0 (length scripts.now + 1)) }
-    ensures { IfOk result (λ v. HaveEnded scripts.now turns v.items) }
+    ensures { IfOk result (λ ended. HaveEnded scripts.now turns ended.items) }
 {
-    let Ok(mut back) = Vec::with_capacity(alloc, scripts.len() + 1) else {
+    let Ok(mut back) = Vec::with_capacity(shared.alloc(), scripts.len() + 1) else {
         return Err(ThreadsFault::NoMemory);
     };
-    let Ok(mut players) = Vec::with_capacity(alloc, scripts.len()) else {
+    let Ok(mut players) = Vec::with_capacity(shared.alloc(), scripts.len()) else {
         return Err(ThreadsFault::NoMemory);
     };
     let Some(last) = seats.pop() else {
@@ -161,6 +159,7 @@ fn start_players<'s, 'e, R: Threads + Wait + Sync, G: Gate + Sync>(
     true
 }
 
+// The thread that plays this script with this seat.
 fn start_player<'s, 'e, R: Threads + Wait + Sync, G: Gate + Sync>(
     scope: &'s Scope<'s, &'e ()>,
     rt: &'e R,
@@ -170,17 +169,19 @@ fn start_player<'s, 'e, R: Threads + Wait + Sync, G: Gate + Sync>(
     gate: &'e G,
 ) -> Option<Player<'e>>
     requires { seat.receipts ≡ [] }
-    ensures { IfSome result (λ h. (h.promise.number ≡ seat.number) × (h.promise.script.now ≡ script.now)) }
+    ensures { IfSome result (λ player.
+        (player.promise.number ≡ seat.number) × (player.promise.script.now ≡ script.now)) }
 {
-    let plays = Plays {
+    let promised = Plays {
         number: seat.number(),
         script,
     };
     scope
-        .spawn_with(plays, move || play(rt, shared, seat, script, gate))
+        .spawn_with(promised, move || play(rt, shared, seat, script, gate))
         .ok()
 }
 
+// The thread that makes so many useful steps with the collector's seat.
 fn start_collector<'s, 'e, R: Threads + Wait + Sync, G: Gate + Sync>(
     scope: &'s Scope<'s, &'e ()>,
     rt: &'e R,
@@ -190,15 +191,16 @@ fn start_collector<'s, 'e, R: Threads + Wait + Sync, G: Gate + Sync>(
     gate: &'e G,
 ) -> Option<Turner>
     requires { seat.receipts ≡ [] }
-    ensures { IfSome result (λ h. (h.promise.number ≡ seat.number) × (h.promise.turns ≡ turns)) }
+    ensures { IfSome result (λ turner.
+        (turner.promise.number ≡ seat.number) × (turner.promise.turns ≡ turns)) }
 {
-    let promise = Turns {
+    let promised = Turns {
         number: seat.number(),
         turns,
     };
     scope
         .spawn_with(
-            promise,
+            promised,
             move || -> Result<Seat, ThreadsFault>
                 requires { seat.receipts ≡ [] }
                 ensures { IfOk result (HasTurned seat.number turns) }

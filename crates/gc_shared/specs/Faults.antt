@@ -1,0 +1,12 @@
+-- What a thread whose call was refused ends with.
+use Rattle.gc_shared.specs.declared.fault.CallFault.{CallFault}
+use Rattle.gc_shared.specs.declared.fault.CallFault.TheVariants as calls
+use Rattle.gc_shared.specs.declared.fault.CloseKind.TheVariants as kinds
+use Rattle.gc_shared.specs.declared.fault.ThreadsFault.{ThreadsFault}
+use Rattle.gc_shared.specs.declared.fault.ThreadsFault.TheVariants as threads
+
+abbrev pub fault_of_call : CallFault → ThreadsFault
+fault_of_call calls.NoMemory = threads.NoMemory
+fault_of_call calls.NotAMutator = threads.Close kinds.Seats
+fault_of_call calls.NotACollector = threads.Close kinds.Seats
+fault_of_call calls.NoSuchMutator = threads.Close kinds.Seats

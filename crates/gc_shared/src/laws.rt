@@ -1,0 +1,6 @@
+ghost use Rattle.gc_shared.specs.Rows.{Rows};
+
+/// The worked examples hold of the definitions.
+pub fn worked_rows()
+    ensures { Rows }
+{}
