@@ -74,11 +74,11 @@ fn a_slow_reader_changes_no_reply(rt: HostRuntime) -> Result<(), Fail> {
 #[test]
 fn nothing_is_played_of_a_reader_that_fails(rt: HostRuntime) {
     let text = ONE_OBJECT_FILLS_THE_SPACE.trace;
-    assert!(rt; text.len() > 46);
+    assert!(rt; text.len() > 20);
     for end in [End::Broken, End::Interrupted] {
         let broken = Slow {
-            bytes: &text[..46],
-            step: 20,
+            bytes: &text[..20],
+            step: 8,
             end,
         };
         let mut source = Source::new(broken);
