@@ -52,7 +52,13 @@ fn perform<R: Files + Input + Print + AllocGlobal + Threads + Wait + Sync>(
         Task::Report(path) => report_from(alloc, &mut Source::new(open(rt, path)?), &mut sink),
         Task::Pair { file, n } => pair_from(alloc, n, &mut Source::new(open(rt, file)?), &mut sink),
         Task::Threads { file, turns } => {
-            threads_from(rt, alloc, turns, &mut Source::new(open(rt, file)?), &mut sink)
+            threads_from(
+                rt,
+                alloc,
+                turns,
+                &mut Source::new(open(rt, file)?),
+                &mut sink,
+            )
         }
     }
 }

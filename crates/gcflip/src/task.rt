@@ -65,7 +65,11 @@ fn pair<'a>(alloc: Global) -> Result<Command<'a>, Error>
     ensures local { IfOk result (λ c. (out-Command c).has_globals ≡ false) }
     ensures memory { IfErr result (λ e. kind_of e ≡ ErrorKind.OutOfMemory) }
 {
-    let pair = on_file(alloc, "pair", "Plays a trace: writes the pair of its N-th flip")?;
+    let pair = on_file(
+        alloc,
+        "pair",
+        "Plays a trace: writes the pair of its N-th flip",
+    )?;
     Ok(pair.arg(flip_number(alloc))?)
 }
 

@@ -1,3 +1,7 @@
 mod checks;
 mod faults;
+mod pairs;
 mod plays;
+mod reports;
+mod threads;
+mod traces;

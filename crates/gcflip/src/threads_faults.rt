@@ -27,7 +27,13 @@ fn print_close(printer: &mut Printer, kind: &CloseKind)
     match kind {
         CloseKind::Seats => printer.bytes(b"close: seats"),
         CloseKind::Torn { seat, n } => {
-            print_two(printer, b"close: torn seat ", u64::from(*seat), b" receipt ", *n as u64);
+            print_two(
+                printer,
+                b"close: torn seat ",
+                u64::from(*seat),
+                b" receipt ",
+                *n as u64,
+            );
         }
         CloseKind::Extra => printer.bytes(b"close: extra"),
         CloseKind::NoMemory => printer.bytes(b"no memory"),
@@ -43,7 +49,13 @@ fn print_threads_fault(printer: &mut Printer, fault: &ThreadsFault)
     match fault {
         ThreadsFault::NotStarted => printer.bytes(b"threads: not started"),
         ThreadsFault::Gate { seat, n } => {
-            print_two(printer, b"threads: gate at seat ", u64::from(*seat), b" call ", *n);
+            print_two(
+                printer,
+                b"threads: gate at seat ",
+                u64::from(*seat),
+                b" call ",
+                *n,
+            );
         }
         ThreadsFault::NoMemory => printer.bytes(b"no memory"),
         ThreadsFault::Close(kind) => print_close(printer, kind),

@@ -1,11 +1,9 @@
+use super::traces::FULL;
 use crate::fault::Fault;
 use crate::play::play_from;
 use gc_graph::{Sink, Source};
 use gc_trace::{PlayFault, TraceFault};
 use std::test::Fail;
-
-const FULL: &[u8] =
-    b"heaptrace 1\nspace 7 mutators 1\nm 0 new r0 3 4\nm 0 new r1 0 0\nm 0 look r1\n";
 
 #[test]
 fn traces_have_their_replies_and_status(rt: HostRuntime) -> Result<(), Fail> {

@@ -1,5 +1,4 @@
 use Rattle.gc_trace.specs.Views.{recording}
-use Rattle.gcflip.specs.Threading.{IsThreadedRun}
 use Rattle.gcflip.proofs.Threaded.{threaded, writes_run, writes_run_front}
 use Rattle.gcflip.proofs.threads.threads_run.Goals as goal
 
