@@ -130,9 +130,19 @@ pub fn threads_from<R: Read, W: Write>(
     ensures ran { OnOk result (IfSome (bytes_left R.remaining reader.old) (λ text.
         WritesRun text turns (bytes_written W.contents writer.old) (bytes_written W.contents writer.new))) }
     ensures statuses { IfOk result (λ status. status ≡ 0) }
-    // Else what `threads_run` says of the same streams.
     ensures threads { IfErr result IsOfThreads }
+    // The first fault of a bad text.
+    ensures fault { (fault : TraceFault) → result ≡ Err (Fault.Threads (ThreadsRunFault.Trace fault)) →
+        IfSome (bytes_left R.remaining reader.old) (λ text. MayFail fault text) }
+    ensures memory { (result ≢ Err (Fault.Threads (ThreadsRunFault.Trace TraceFault.NoMemory)))
+        × (result ≢ Err (Fault.Threads (ThreadsRunFault.Threads ThreadsFault.NoMemory))) }
+    ensures unread { (result ≡ Err (Fault.Threads (ThreadsRunFault.Trace TraceFault.Read)))
+        ↔ (source_failed reader.new ≡ true) }
+    ensures unwritten { result ≡ Err (Fault.Threads ThreadsRunFault.Write) → sink_failed writer.new ≡ true }
     ensures silent { OnErr result (result ≢ Err (Fault.Threads ThreadsRunFault.Write) → writer.new ≡ writer.old) }
+    // What went out is a front of the recorded trace.
+    ensures front { result ≡ Err (Fault.Threads ThreadsRunFault.Write) → IfSome (bytes_left R.remaining reader.old) (λ text.
+        WritesRunFront text turns (bytes_written W.contents writer.old) (bytes_written W.contents writer.new)) }
 {
     match threads_run(rt, alloc, turns, reader, writer) {
         Ok(()) => Ok(0),
