@@ -157,12 +157,22 @@ def threads(program, folder):
         yield "%s, in threads" % name, difference(found, refusal(line, 3))
 
 
+def three_scripts(count):
+    """A trace of three mutators with so many commands."""
+    commands = ["new r%d 7 3", "put r%d 2 r5", "get r%d r5 0", "move g3 r%d", "num r%d 9", "look r%d", "nil r%d"]
+    lines = ["m %d %s\n" % (k % 3, commands[k // 3 % 7] % (k // 21 % 16)) for k in range(count)]
+    return ("heaptrace 1\nspace 1048576 mutators 3\n" + "".join(lines)).encode()
+
+
 def many_threads(program, folder):
     """Sixteen scripts of many commands beside a busy collector."""
     scripts = ["m %d new r%d 1 2\nm %d put r%d 1 r%d\n" % (m, k % 16, m, k % 16, (k + 1) % 16) for k in range(200) for m in range(16)]
     text = ("heaptrace 1\nspace 1048576 mutators 16\n" + "".join(scripts)).encode()
     found = run(program, ["threads", file_of(folder, "sixteen scripts", text), "20000"])
     yield "sixteen scripts", wrong_run(program, folder, text, found, 20000)
+    text = three_scripts(100000)
+    found = run(program, ["threads", file_of(folder, "three scripts", text), "200000"])
+    yield "three scripts of 100000 commands in all", wrong_run(program, folder, text, found, 200000)
 
 
 def writers(program, folder):

@@ -72,7 +72,7 @@ Usage: gcflip threads <FILE> <TURNS>
 
 Arguments:
   <FILE>   The path of the file to read
-  <TURNS>  How many steps the collector makes
+  <TURNS>  How many steps the collector makes, 1000000 at most
 
 Options:
   -h, --help  Print help

@@ -41,6 +41,16 @@ fn slot_word(printer: &mut Printer, word: Slot)
     printer.number(u64::from(word.index()));
 }
 
+/// Two slots, each behind a space.
+fn two_slot_words(printer: &mut Printer, first: Slot, second: Slot)
+    requires { length printer.old + 44 ≤ 16384 }
+    ensures text { printer.new ≡ (printer.old ++ space ∷ slot first) ++ space ∷ slot second }
+    ensures room { length printer.new ≤ length printer.old + 44 }
+{
+    slot_word(printer, first);
+    slot_word(printer, second);
+}
+
 /// The line of mutator m's command.
 #[tactic(auto, unfolding(crate::specs::Grammar::op_words, crate::specs::Grammar::event_words, crate::specs::Grammar::event_line))]
 fn print_command(printer: &mut Printer, m: u8, op: &Op)
@@ -67,13 +77,11 @@ fn print_command(printer: &mut Printer, m: u8, op: &Op)
         }
         Op::Move { d, s } => {
             printer.bytes(b" move");
-            slot_word(printer, d);
-            slot_word(printer, s);
+            two_slot_words(printer, d, s);
         }
         Op::Get { d, s, i } => {
             printer.bytes(b" get");
-            slot_word(printer, d);
-            slot_word(printer, s);
+            two_slot_words(printer, d, s);
             number_word(printer, u64::from(i));
         }
         Op::Put { s, i, t } => {
@@ -84,8 +92,7 @@ fn print_command(printer: &mut Printer, m: u8, op: &Op)
         }
         Op::Same { s, t } => {
             printer.bytes(b" same");
-            slot_word(printer, s);
-            slot_word(printer, t);
+            two_slot_words(printer, s, t);
         }
         Op::Look { s } => {
             printer.bytes(b" look");

@@ -27,6 +27,7 @@ pub fn play_from<R: Read, W: Write>(
     ensures fault { (fault : TraceFault) → result ≡ Err (Fault.Play (PlayFault.Trace fault)) →
         IfSome (bytes_left R.remaining reader.old) (λ text. MayFail fault text) }
     ensures player { IfErr result IsOfPlay }
+    ensures runs { result ≢ Err (Fault.Play PlayFault.NoSuchFlip) }
     ensures memory { result ≢ Err (Fault.Play (PlayFault.Trace TraceFault.NoMemory)) }
     ensures unread { (result ≡ Err (Fault.Play (PlayFault.Trace TraceFault.Read)))
         ↔ (source_failed reader.new ≡ true) }

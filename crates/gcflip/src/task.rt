@@ -56,7 +56,7 @@ fn turns<'a>(alloc: Global) -> Arg<'a>
     Arg::new(alloc, "TURNS")
         .required(true)
         .value_parser(value_parser!(u64).range(0..=1000000))
-        .help("How many steps the collector makes")
+        .help("How many steps the collector makes, 1000000 at most")
 }
 
 /// The subcommand `pair FILE N`.
