@@ -158,6 +158,20 @@ fn a_flip_keeps_its_pair(rt: HostRuntime) -> Result<(), Fail> {
     Ok(())
 }
 
+#[test]
+fn a_flip_of_nothing_keeps_an_empty_certificate(rt: HostRuntime) -> Result<(), Fail> {
+    let mut world = World::open(rt.alloc(), 8, 1)?;
+    assert_eq!(rt; step(&mut world, Step::Begin)?, StepReply::Begun);
+    assert_eq!(rt;
+        step(&mut world, Step::Flip)?,
+        StepReply::Flipped { pairs: 0 }
+    );
+    let file = world.take_flip().ok_or("no pair")?;
+    assert!(rt; file.pairs.is_empty());
+    assert!(rt; world.take_flip().is_none());
+    Ok(())
+}
+
 /// A field that is written behind the scan pointer is brought up to date before the flip.
 fn write_while_scanning(
     rt: &(impl Threads + Sync + Abort),

@@ -1,16 +1,22 @@
-//! Scripts in threads: what is recorded is a trace of the same scripts, and can be played.
+//! Scripts in threads: what is recorded is a trace of the same scripts, and plays to the same replies.
 
 use super::traces::FULL;
 use crate::fault::Fault;
 use crate::threads::{ThreadsRunFault, threads_from, threads_run};
-use gc_graph::{Sink, Source, View};
-use gc_trace::{TraceFault, play, read_trace, scripts_of};
-use gc_world::Event;
+use gc_graph::{Number, Reply, Sink, Source, View};
+use gc_shared::{Gate, run_threads};
+use gc_trace::{
+    TraceFault, play, read_trace, run_trace, scripts_are_commands, scripts_of, write_trace,
+};
+use gc_world::{Answer, Event, World};
 use std::alloc::Global;
 use std::process::Abort;
 use std::sync::Wait;
+use std::sync::atomic::{AtomicBool, Ordering};
 use std::test::Fail;
+use std::thread;
 use std::thread::Threads;
+use std::time::{Clock, Duration};
 
 /// One mutator writes what the other may see.
 const SHARED: &[u8] = b"heaptrace 1\nspace 64 mutators 2\n\
@@ -62,6 +68,95 @@ fn what_is_recorded_can_be_played(rt: HostRuntime) -> Result<(), Fail> {
     let replies = sink.into_inner();
     let lines = replies.iter().filter(|byte| **byte == b'\n').count();
     assert_eq!(rt; lines, 44);
+    Ok(())
+}
+
+/// The second mutator's first command waits for the first one's third, for five seconds at most.
+#[derive(Drop)]
+struct WaitsForWrite<'a, R> {
+    rt: &'a R,
+    written: AtomicBool,
+}
+
+impl<'a, R: Clock> Gate for WaitsForWrite<'a, R> {
+    fn before(&self, seat: u32, n: u64) -> bool {
+        if seat != 1 || n != 0 {
+            return true;
+        }
+        for _ in 0..5000 {
+            if self.written.load(Ordering::SeqCst) {
+                return true;
+            }
+            thread::sleep(self.rt, Duration::from_millis(1));
+        }
+        false
+    }
+
+    fn after(&self, seat: u32, n: u64) {
+        if seat == 0 && n == 2 {
+            self.written.store(true, Ordering::SeqCst);
+        }
+    }
+}
+
+/// The world of both scripts and forty turns, in which what is written is seen.
+fn seen_in_threads(
+    rt: &(impl Threads + Wait + Clock + Sync),
+    alloc: Global,
+) -> Result<World, Fail> {
+    scripts_are_commands();
+    let given = read_trace(alloc, &mut Source::new(SHARED))?;
+    let scripts = scripts_of(alloc, &given)?;
+    let gate = WaitsForWrite {
+        rt,
+        written: AtomicBool::new(false),
+    };
+    Ok(run_threads(rt, alloc, given.size, scripts, 40, &gate)?)
+}
+
+/// The world of a play of what is written of the other's history.
+fn played_again(alloc: Global, world: &World) -> Result<World, Fail> {
+    let mut sink = Sink::new(Vec::new(alloc));
+    write_trace(&mut sink, world.size(), world.mutators(), world.history())?;
+    let text = sink.into_inner();
+    let trace = read_trace(alloc, &mut Source::new(text.as_slice()))?;
+    Ok(run_trace(alloc, &trace)?)
+}
+
+/// The answer as a play gives it, which makes each step by its name.
+fn as_played(answer: &Answer) -> Answer {
+    match *answer {
+        Answer::Useful(reply) => Answer::Collector(reply),
+        answer => answer,
+    }
+}
+
+/// How many commands of the second mutator were answered that the field has the number 5.
+fn times_seen(world: &World) -> Result<u32, Fail> {
+    let five = Number::new(5).ok_or("number")?;
+    let seen = Answer::Mutator(Reply::Saw(View::Num(five)));
+    let mut times: u32 = 0;
+    for entry in world.history() {
+        if matches!(entry.event, Event::Mutate { m: 1, op: _ }) && entry.answer == seen {
+            times = times.saturating_add(1);
+        }
+    }
+    Ok(times)
+}
+
+#[test]
+fn what_threads_recorded_plays_to_the_same_replies(rt: HostRuntime) -> Result<(), Fail> {
+    let _named = View::Nil;
+    let world = seen_in_threads(&rt, rt.alloc())?;
+    let played = played_again(rt.alloc(), &world)?;
+    assert_eq!(rt; world.history().len(), 44);
+    assert_eq!(rt; played.history().len(), 44);
+    for (entry, again) in world.history().iter().zip(played.history()) {
+        assert!(rt; again.event == entry.event);
+        assert!(rt; again.answer == as_played(&entry.answer));
+    }
+    assert_eq!(rt; times_seen(&world)?, 1);
+    assert_eq!(rt; times_seen(&played)?, 1);
     Ok(())
 }
 
