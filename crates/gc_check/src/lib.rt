@@ -2,6 +2,7 @@
 #![tactic(auto)]
 
 mod checker;
+mod checks;
 mod images;
 mod laws;
 mod object;
@@ -13,6 +14,7 @@ mod text;
 mod verdict;
 
 pub use checker::check;
+pub use checks::{Checks, Sequential};
 pub use gc_words::Refusal;
 pub use laws::{certified_is_replicated, worked_rows};
 pub use printing::write_verdict;

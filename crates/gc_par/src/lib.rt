@@ -2,9 +2,11 @@
 #![tactic(auto)]
 
 mod checker;
+mod parallel;
 mod text;
 
 pub use checker::check_par;
+pub use parallel::Parallel;
 pub use text::check_text_par;
 
 #[cfg(test)]

@@ -1,0 +1,65 @@
+ghost use Rattle.std.specs.Prelude.{◌≡◌, ◌<◌, ◌^◌, ⊤, length, IfOk, IfErr, OnOk};
+ghost use Rattle.gc_cert.specs.Grammar.{CertifiedPair};
+ghost use Rattle.gc_cert.specs.Views.{pair_of};
+ghost use Rattle.gc_words.specs.Certificate.{Certified};
+ghost use Rattle.gc_words.specs.Fault.{first_fault};
+ghost use Rattle.gc_words.specs.Views.{image_of};
+ghost use Rattle.gc_check.specs.Headline.{Replicated};
+ghost use Rattle.gc_check.specs.Verdict.{pairs_of, IsRefusalOf};
+
+use crate::checker::check;
+use crate::verdict::{CheckFault, Yes};
+use gc_words::{ImageRef, Pair};
+use std::alloc::Global;
+
+/// A checker: decides whether a certificate holds of two heap images.
+///
+/// Code that flips is generic over its checker, so that one body serves `check` and `check_par`. Its contract
+/// then shows that the checker was really asked: `says_yes` is unknown to generic code, and only a yes of
+/// `check` gives it.
+pub trait Checks {
+    // What a caller must know of a checker before asking it. An impl of a trait loses the `Sync` of its own
+    // parameters; this member carries it.
+    ghost can_check: { Self → Type 0 } = { λ _. ⊤ };
+
+    // Holds of a checker and a pair of images with a certificate to which it says yes.
+    ghost says_yes: { Self → CertifiedPair → Type 0 };
+
+    /// Checks a certificate against two heap images. Makes no assumption about the images or who produced
+    /// them. Returns the number of pairs, or the first refusal in the fixed order, or `NoMemory` if the
+    /// tables cannot be allocated.
+    fn check(
+        &self,
+        alloc: Global,
+        old: ImageRef,
+        new: ImageRef,
+        cert: &[Pair],
+    ) -> Result<Yes, CheckFault>
+        requires can { can_check self.now }
+        requires few { length cert.now < 2 ^ 32 }
+        ensures said { OnOk result (says_yes self.now (pair_of old.entry new.entry cert.now)) }
+        ensures pairs { IfOk result (λ yes. yes.pairs ≡ length cert.now) }
+        ensures yes { OnOk result (Certified (image_of old.entry) (image_of new.entry) (pairs_of cert.now)) }
+        ensures refused { IfErr result
+            (IsRefusalOf (first_fault (image_of old.entry) (image_of new.entry) (pairs_of cert.now))) }
+        ensures replicated { OnOk result
+            (Replicated (image_of old.entry) (image_of new.entry) (pairs_of cert.now)) };
+}
+
+/// Checks in the calling thread, by `check`.
+#[derive(Debug, Drop)]
+pub struct Sequential;
+
+impl Checks for Sequential {
+    ghost says_yes = { λ _ pair. Certified pair.old pair.new pair.pairs };
+
+    fn check(
+        &self,
+        alloc: Global,
+        old: ImageRef,
+        new: ImageRef,
+        cert: &[Pair],
+    ) -> Result<Yes, CheckFault> {
+        check(alloc, old, new, cert)
+    }
+}

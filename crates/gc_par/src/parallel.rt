@@ -1,0 +1,38 @@
+ghost use Rattle.std.specs.Thread.{IsSync};
+ghost use Rattle.gc_words.specs.Certificate.{Certified};
+
+use crate::checker::check_par;
+use gc_check::{CheckFault, Checks, Yes};
+use gc_words::{ImageRef, Pair};
+use std::alloc::Global;
+use std::thread::Threads;
+
+/// Checks in the threads of a runtime, by `check_par`.
+#[derive(Debug, Drop)]
+pub struct Parallel<'a, R> {
+    rt: &'a R,
+}
+
+impl<'a, R> Parallel<'a, R> {
+    /// Returns the checker that starts its threads by `rt`.
+    pub fn new(rt: &'a R) -> Parallel<'a, R> {
+        Parallel { rt }
+    }
+}
+
+impl<R: Threads + Sync> Checks for Parallel<'_, R> {
+    // The bound alone does not tell the prover that `R` is `Sync` within an impl.
+    ghost can_check = { λ _. IsSync R.row };
+
+    ghost says_yes = { λ _ pair. Certified pair.old pair.new pair.pairs };
+
+    fn check(
+        &self,
+        alloc: Global,
+        old: ImageRef,
+        new: ImageRef,
+        cert: &[Pair],
+    ) -> Result<Yes, CheckFault> {
+        check_par(self.rt, alloc, old, new, cert)
+    }
+}
