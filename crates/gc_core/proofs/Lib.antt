@@ -1,0 +1,2 @@
+mod FirstLog
+mod KeptPair

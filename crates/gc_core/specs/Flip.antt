@@ -1,0 +1,48 @@
+-- What a flip shows its checker, and the pair of heaps that the checker accepts.
+use Rattle.std.specs.Prelude.{◌≡◌, ℕ, List, map, Option, Some, None, IfSome}
+use Rattle.gc_words.specs.Views.{addresses}
+use Rattle.gc_words.specs.Certificate.{Certified}
+use Rattle.gc_heap.specs.Heap.{HeapWords}
+use Rattle.gc_cert.specs.Grammar.{CertifiedPair}
+use Rattle.gc_copy.specs.State.{State, Collection, pairs_of}
+use Rattle.gc_copy.specs.Linked.{old_image, new_image}
+use Rattle.gc_copy.specs.Words.{CollectionWords, collection_in, new_root_words}
+use Rattle.gc_copy.specs.declared.step.StepReply.{StepReply}
+use Rattle.gc_copy.specs.declared.step.StepReply.TheVariants.{Flipped}
+use Rattle.gc_core.specs.declared.flip.Draft.{Draft}
+use Rattle.gc_core.specs.declared.flip.Copies.{Copies}
+
+-- ---- the pair of a flip
+
+-- both images, links included, and the pairs
+abbrev pub flip_pair : State → Collection → CertifiedPair
+flip_pair s c = record { old = old_image s c; new = new_image s c; pairs = pairs_of c }
+
+abbrev pub IsCertified : CertifiedPair → Type 0
+IsCertified pair = Certified pair.old pair.new pair.pairs
+
+-- that of the open collection
+abbrev pub open_pair : State → Option Collection → Option CertifiedPair
+open_pair s None = None
+open_pair s (Some c) = Some (flip_pair s c)
+
+-- the pair that is kept after a reply in this state, where `kept` was kept before
+abbrev pub kept_after : Option CertifiedPair → State → StepReply → Option CertifiedPair
+kept_after kept s (Flipped pairs) = open_pair s s.collection
+kept_after kept s reply = kept
+
+-- where the reply tells of a flip, this holds of its pair
+abbrev pub FlipsOnly : (CertifiedPair → Type 0) → State → StepReply → Type 0
+FlipsOnly says s reply = (pairs : ℕ) → reply ≡ Flipped pairs → IfSome s.collection (λ c. says (flip_pair s c))
+
+-- ---- what is made ready before anything changes
+
+-- the collection's pairs, and the moved roots
+pub record IsDraft (heap : HeapWords) (c : CollectionWords) (draft : Draft) : Type 0 where
+  pub pairs : map addresses draft.pairs.items ≡ pairs_of (collection_in c)
+  pub roots : draft.roots.items ≡ new_root_words heap (collection_in c)
+
+-- copies of the new words and of these roots
+pub record AreCopies (c : CollectionWords) (moved : List ℕ) (copies : Copies) : Type 0 where
+  pub words : copies.words.items ≡ c.space.words
+  pub roots : copies.roots.items ≡ moved

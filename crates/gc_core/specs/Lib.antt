@@ -1,0 +1,2 @@
+pub mod CollectedHeap
+pub mod Flip

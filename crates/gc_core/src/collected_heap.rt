@@ -1,0 +1,74 @@
+use gc_copy::Collection;
+use gc_graph::NoMemory;
+use gc_heap::Heap;
+use std::alloc::Global;
+use std::marker::Model;
+
+/// A heap that mutators work on, with the collection that is open, if any.
+///
+/// Contracts see the core's state: the heap's graph with addresses as names, and the replicas, logs and scan
+/// pointer of the open collection. Nothing is kept of what happened before, so a runtime can use it for days.
+#[derive(Debug, Drop)]
+pub struct CollectedHeap {
+    pub(crate) alloc: Global,
+    pub(crate) heap: Heap,
+    pub(crate) collection: Option<Collection>,
+}
+
+impl Model for CollectedHeap {
+    ghost use Rattle.std.specs.Option.{option_map};
+    ghost use Rattle.gc_copy.specs.State.{State};
+    ghost use Rattle.gc_copy.specs.Words.{collection_in, state_of};
+    ghost use Rattle.gc_core.specs.CollectedHeap.{Fits};
+
+    ghost Value = { State };
+
+    ghost view = { λ h. state_of h.heap (option_map collection_in h.collection) };
+
+    ghost invariant = { λ h. Fits h.heap h.collection };
+}
+
+impl CollectedHeap {
+    ghost use Rattle.std.specs.Prelude.{◌≡◌, ◌≤◌, IfOk, is_some};
+    ghost use Rattle.gc_copy.specs.State.{opening_state};
+    ghost use Rattle.gc_copy.specs.Steps.{useful_step};
+    ghost use Rattle.gc_copy.specs.Runs.{IsStep};
+    ghost use Rattle.gc_heap.specs.Heap.{roomy_in};
+
+    /// Returns an empty heap of `size` words, 1 to 1048576, for 1 to 16 mutators.
+    pub fn open(alloc: Global, size: u32, mutators: u8) -> Result<CollectedHeap, NoMemory>
+        requires low { 1 ≤ size }
+        requires high { size ≤ 1048576 }
+        requires some { 1 ≤ mutators }
+        requires few { mutators ≤ 16 }
+        ensures { IfOk result (λ heap. heap ≡ opening_state size mutators) }
+    {
+        let heap = Heap::new(alloc, size, mutators)?;
+        Ok(CollectedHeap {
+            alloc,
+            heap,
+            collection: None,
+        })
+    }
+
+    /// Returns the mutators' heap.
+    pub fn heap(&self) -> &Heap
+        ensures { roomy_in result.now ≡ self.now.heap }
+    {
+        &self.heap
+    }
+
+    /// Returns the number of mutators, 1 to 16.
+    pub fn mutators(&self) -> u8
+        ensures { result ≡ self.now.mutators }
+    {
+        self.heap.mutators()
+    }
+
+    /// Returns whether a collection is open.
+    pub fn is_open(&self) -> bool
+        ensures { result ≡ is_some self.now.collection }
+    {
+        self.collection.is_some()
+    }
+}

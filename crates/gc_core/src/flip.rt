@@ -1,0 +1,95 @@
+ghost use Rattle.std.specs.Prelude.{◌≡◌, ◌<◌, ◌^◌, None, IfOk, IfSome, IsSome, length};
+ghost use Rattle.gc_copy.specs.Steps.{is_ready};
+ghost use Rattle.gc_copy.specs.Words.{BelongsTo, collection_in};
+ghost use Rattle.gc_heap.specs.Heap.{graph_in};
+ghost use Rattle.std.specs.Prelude.{IsTrue};
+ghost use Rattle.gc_core.specs.Flip.{IsDraft, AreCopies};
+ghost use Rattle.gc_core.specs.declared.flip.Keep.{Keep};
+
+use gc_cert::PairFile;
+use gc_copy::{Collection, StepReply};
+use gc_graph::NoMemory;
+use gc_heap::Heap;
+use gc_words::Pair;
+use std::alloc::Global;
+
+/// Whether a flip returns the pair of heaps that its checker accepted. A runtime has no use for it; a record
+/// of flips has.
+#[derive(Clone, Copy, Debug, PartialEq, Eq)]
+pub enum Keep {
+    /// Copies nothing.
+    Nothing,
+    /// Copies the new words and roots, and returns them with the old heap and the certificate.
+    Pair,
+}
+
+/// The outcome of a flip: the collector's reply and, if it flipped and the pair was to be kept, that pair.
+#[derive(Debug, Drop)]
+pub struct Flip {
+    pub reply: StepReply,
+    pub pair: Option<PairFile>,
+}
+
+/// What the checker is shown beside the two spaces: the certificate and the moved roots.
+#[derive(Debug, Drop)]
+pub(crate) struct Draft {
+    pub(crate) pairs: Vec<Pair>,
+    pub(crate) roots: Vec<u64>,
+}
+
+impl Draft {
+    /// Returns the draft of a ready collection's flip. Two allocations.
+    pub(crate) fn new(
+        alloc: Global,
+        heap: &Heap,
+        collection: &Collection,
+    ) -> Result<Draft, NoMemory>
+        requires belongs { BelongsTo heap.now collection.now }
+        requires ready { IsTrue (is_ready (collection_in collection.now) (graph_in heap.now)) }
+        ensures draft { IfOk result (IsDraft heap.now collection.now) }
+        ensures few { IfOk result (λ draft. length draft.pairs.items < 2 ^ 32) }
+    {
+        let pairs = collection.pairs(alloc)?;
+        let roots = collection.new_roots(alloc, heap)?;
+        Ok(Draft { pairs, roots })
+    }
+}
+
+/// Copies of the new words and roots, for the pair that is kept.
+#[derive(Debug, Drop)]
+pub(crate) struct Copies {
+    pub(crate) words: Vec<u64>,
+    pub(crate) roots: Vec<u64>,
+}
+
+impl Copies {
+    /// Copies the new space's words and these roots. Two allocations.
+    fn new(alloc: Global, collection: &Collection, roots: &[u64]) -> Result<Copies, NoMemory>
+        ensures { IfOk result (AreCopies collection.now roots.now) }
+    {
+        let Ok(words) = Vec::from_slice(alloc, collection.new_image(roots).words) else {
+            return Err(NoMemory);
+        };
+        let Ok(roots) = Vec::from_slice(alloc, roots) else {
+            return Err(NoMemory);
+        };
+        Ok(Copies { words, roots })
+    }
+
+    /// Makes the copies if the pair is to be kept.
+    pub(crate) fn for_keeping(
+        alloc: Global,
+        collection: &Collection,
+        roots: &[u64],
+        keep: Keep,
+    ) -> Result<Option<Copies>, NoMemory>
+        ensures copies { IfOk result (λ copies. IfSome copies (AreCopies collection.now roots.now)) }
+        ensures pair { IfOk result (λ copies. keep ≡ Keep.Pair → IsSome copies) }
+        ensures nothing { IfOk result (λ copies. keep ≡ Keep.Nothing → copies ≡ None) }
+    {
+        match keep {
+            Keep::Nothing => Ok(None),
+            Keep::Pair => Ok(Some(Copies::new(alloc, collection, roots)?)),
+        }
+    }
+}

@@ -1,0 +1,138 @@
+ghost use Rattle.std.specs.Prelude.{◌≡◌, ◌<◌, ◌^◌, Some, None, IfOk, IfSome, IsSome, IsTrue, OnErr, length};
+ghost use Rattle.std.specs.Option.{option_map};
+ghost use Rattle.gc_cert.specs.Views.{pair_in};
+ghost use Rattle.gc_heap.specs.Heap.{graph_in};
+ghost use Rattle.gc_copy.specs.Steps.{collect, is_ready};
+ghost use Rattle.gc_copy.specs.Words.{BelongsTo, HasNoLinks, collection_in, idle_state, open_state};
+ghost use Rattle.gc_copy.specs.declared.step.Step.{Step};
+ghost use Rattle.gc_copy.specs.declared.step.StepReply.{StepReply};
+ghost use Rattle.gc_core.specs.Flip.{flip_pair, IsCertified, IsDraft, AreCopies};
+
+use crate::collected_heap::CollectedHeap;
+use crate::flip::{Copies, Draft, Flip, Keep};
+use gc_cert::{Image, PairFile};
+use gc_check::{CheckFault, Checks};
+use gc_copy::{Collection, StepReply, images_show_links};
+use gc_graph::NoMemory;
+use gc_heap::Heap;
+use gc_words::no_fault_where_certified;
+use std::alloc::Global;
+
+impl CollectedHeap {
+    ghost use Rattle.gc_core.specs.Flip.{FlipsOnly, kept_after};
+    ghost use Rattle.gc_core.specs.declared.flip.Keep.{Keep};
+
+    /// Flips if the open collection is ready and the checker accepts its certificate: `Flipped` with the number
+    /// of pairs. Otherwise `Idle`, `NotReady` or `Refused`, and nothing changes. On `NoMemory` nothing has
+    /// changed either: all allocations come before the first change.
+    ///
+    /// A ready collection is proved to pass. It is checked all the same, so that a flip rests on the checker's
+    /// theorem alone, which knows nothing of the collector.
+    pub fn flip<C: Checks>(&mut self, checker: &C, keep: Keep) -> Result<Flip, NoMemory>
+        requires { C.can_check checker.now }
+        ensures step { IfOk result (λ flip. collect self.old Step.Flip ≡ (flip.reply, self.new)) }
+        // It flips only what this checker said yes to.
+        ensures asked { IfOk result (λ flip. FlipsOnly (C.says_yes checker.now) self.old flip.reply) }
+        ensures pair { keep ≡ Keep.Pair → IfOk result (λ flip.
+            option_map pair_in flip.pair ≡ kept_after None self.old flip.reply) }
+        ensures nothing { keep ≡ Keep.Nothing → IfOk result (λ flip. flip.pair ≡ None) }
+        ensures certified { IfOk result (λ flip. IfSome flip.pair (λ file. IsCertified (pair_in file))) }
+        ensures refused { OnErr result (self.new ≡ self.old) }
+        ensures mutators { self.new.mutators ≡ self.old.mutators }
+    {
+        let Some(collection) = &self.collection else {
+            return Ok(without_pair(StepReply::Idle));
+        };
+        if !collection.ready(&self.heap) {
+            return Ok(without_pair(StepReply::NotReady));
+        }
+        let draft = Draft::new(self.alloc, &self.heap, collection)?;
+        if !accepts(checker, self.alloc, &self.heap, collection, &draft)? {
+            return Ok(without_pair(StepReply::Refused));
+        }
+        let copies = Copies::for_keeping(self.alloc, collection, &draft.roots, keep)?;
+        let collection = self.collection.take().unwrap();
+        Ok(carry_out(&mut self.heap, collection, draft, copies))
+    }
+}
+
+// A reply of no flip.
+fn without_pair(reply: StepReply) -> Flip
+    ensures { result ≡ record { reply = reply; pair = None } }
+{
+    Flip { reply, pair: None }
+}
+
+// Asks the checker whether it accepts the certificate. That of a ready collection is always accepted.
+fn accepts<C: Checks>(
+    checker: &C,
+    alloc: Global,
+    heap: &Heap,
+    collection: &Collection,
+    draft: &Draft,
+) -> Result<bool, NoMemory>
+    requires can { C.can_check checker.now }
+    requires belongs { BelongsTo heap.now collection.now }
+    requires ready { IsTrue (is_ready (collection_in collection.now) (graph_in heap.now)) }
+    requires draft { IsDraft heap.now collection.now draft.now }
+    requires few { length draft.now.pairs.items < 2 ^ 32 }
+    ensures yes { IfOk result (λ yes. IsTrue yes) }
+    ensures asked { IfOk result (λ yes. C.says_yes checker.now
+        (flip_pair (open_state heap.now collection.now) (collection_in collection.now))) }
+{
+    images_show_links();
+    no_fault_where_certified();
+    let old = heap.image();
+    let new = collection.new_image(&draft.roots);
+    match checker.check(alloc, old, new, &draft.pairs) {
+        Ok(_) => Ok(true),
+        Err(CheckFault::Refused(_)) => Ok(false),
+        Err(CheckFault::NoMemory) => Err(NoMemory),
+    }
+}
+
+// Carries out an accepted flip. With copies it returns the pair that the checker saw.
+fn carry_out(heap: &mut Heap, collection: Collection, draft: Draft, copies: Option<Copies>) -> Flip
+    requires belongs { BelongsTo heap.old collection }
+    requires ready { IsTrue (is_ready (collection_in collection) (graph_in heap.old)) }
+    requires draft { IsDraft heap.old collection draft }
+    requires copies { IfSome copies (AreCopies collection draft.roots.items) }
+    requires few { length draft.pairs.items < 2 ^ 32 }
+    ensures step { collect (open_state heap.old collection) Step.Flip ≡ (result.reply, idle_state heap.new) }
+    ensures reply { result.reply ≡ StepReply.Flipped (length draft.pairs.items) }
+    ensures links { HasNoLinks heap.new }
+    ensures pair { IsSome copies → option_map pair_in result.pair
+        ≡ Some (flip_pair (open_state heap.old collection) (collection_in collection)) }
+    ensures nothing { copies ≡ None → result.pair ≡ None }
+    ensures certified { IfSome result.pair (λ file. IsCertified (pair_in file)) }
+    ensures mutators { heap.new.mutators ≡ heap.old.mutators }
+{
+    images_show_links();
+    // Here the prover learns that the heap is sound.
+    let _ = heap.space();
+    let Draft { pairs, roots } = draft;
+    let reply = StepReply::Flipped {
+        pairs: pairs.len() as u32,
+    };
+    let new = collection.new_image(&roots);
+    let size = new.size;
+    let end = new.end;
+    let (old_space, old_roots) = collection.flip_into(heap, roots);
+    let Some(Copies { words, roots }) = copies else {
+        return without_pair(reply);
+    };
+    let old = Image {
+        size: old_space.size(),
+        end: old_space.end(),
+        words: old_space.into_words(),
+        roots: old_roots,
+    };
+    let new = Image {
+        size,
+        end,
+        words,
+        roots,
+    };
+    let pair = Some(PairFile { old, new, pairs });
+    Flip { reply, pair }
+}

@@ -1,0 +1,108 @@
+use crate::collected_heap::CollectedHeap;
+use gc_copy::{Collection, Step, StepReply};
+use gc_graph::NoMemory;
+
+impl CollectedHeap {
+    ghost use Rattle.std.specs.Prelude.{◌≡◌, ◌<◌, ◌≤◌, IfOk, OnErr};
+    ghost use Rattle.gc_copy.specs.Steps.{collect, useful_step};
+    ghost use Rattle.gc_copy.specs.Runs.{IsStep};
+    ghost use Rattle.gc_copy.specs.declared.step.Step.{Step};
+
+    /// Opens a collection whose new space has `size` words, 1 to 1048576: `Begun`, or `Busy` while one is open.
+    /// On `NoMemory` nothing has changed.
+    pub fn begin_sized(&mut self, size: u32) -> Result<StepReply, NoMemory>
+        requires low { 1 ≤ size }
+        requires high { size ≤ 1048576 }
+        ensures step { IfOk result (λ reply. collect self.old (Step.BeginSized size) ≡ (reply, self.new)) }
+        ensures refused { OnErr result (self.new ≡ self.old) }
+        ensures mutators { self.new.mutators ≡ self.old.mutators }
+    {
+        if self.collection.is_some() {
+            return Ok(StepReply::Busy);
+        }
+        self.collection = Some(Collection::begin_sized(self.alloc, &self.heap, size)?);
+        Ok(StepReply::Begun)
+    }
+
+    /// Opens a collection whose new space is as large as the heap: `Begun`, or `Busy` while one is open. On
+    /// `NoMemory` nothing has changed.
+    pub fn begin(&mut self) -> Result<StepReply, NoMemory>
+        ensures step { IfOk result (λ reply. collect self.old Step.Begin ≡ (reply, self.new)) }
+        ensures refused { OnErr result (self.new ≡ self.old) }
+        ensures mutators { self.new.mutators ≡ self.old.mutators }
+    {
+        let size = self.heap.space().size();
+        self.begin_sized(size)
+    }
+
+    /// Replicates the target of the first root whose target has no replica: `Copied`, `NoRoom`, `Clean` if there
+    /// is none, or `Idle` if no collection is open. Does not allocate.
+    pub fn roots(&mut self) -> StepReply
+        ensures step { collect self.old Step.Roots ≡ (result, self.new) }
+        ensures mutators { self.new.mutators ≡ self.old.mutators }
+    {
+        match &mut self.collection {
+            None => StepReply::Idle,
+            Some(collection) => collection.roots(&mut self.heap),
+        }
+    }
+
+    /// Brings the field at the scan pointer up to date (`Scanned` or `NoRoom`), or moves on to the next replica
+    /// (`Passed`). Returns `Clean` at the end of the new space, and `Idle` if no collection is open. Does not
+    /// allocate.
+    pub fn scan(&mut self) -> StepReply
+        ensures step { collect self.old Step.Scan ≡ (result, self.new) }
+        ensures mutators { self.new.mutators ≡ self.old.mutators }
+    {
+        match &mut self.collection {
+            None => StepReply::Idle,
+            Some(collection) => collection.scan(&mut self.heap),
+        }
+    }
+
+    /// Applies the oldest entry of mutator `m`'s log: `Applied`, `NoRoom`, `Clean` if the log is empty, or `Idle`
+    /// if no collection is open. Does not allocate.
+    pub fn apply_log(&mut self, m: u8) -> StepReply
+        requires { m < self.old.mutators }
+        ensures step { collect self.old (Step.Apply m) ≡ (result, self.new) }
+        ensures mutators { self.new.mutators ≡ self.old.mutators }
+    {
+        match &mut self.collection {
+            None => StepReply::Idle,
+            Some(collection) => collection.apply_log(m, &mut self.heap),
+        }
+    }
+
+    /// Frees the new space and the logs of the open collection: `Dropped`, or `Idle` if none is open. Does not
+    /// allocate.
+    pub fn give_up(&mut self) -> StepReply
+        ensures step { collect self.old Step.Drop ≡ (result, self.new) }
+        ensures mutators { self.new.mutators ≡ self.old.mutators }
+    {
+        let Some(collection) = self.collection.take() else {
+            return StepReply::Idle;
+        };
+        collection.drop_into(&mut self.heap);
+        StepReply::Dropped
+    }
+
+    /// Returns the useful step: the one that brings the collection on, or opens one.
+    pub fn useful_step(&self) -> Step
+        ensures useful { result ≡ useful_step self.now }
+        ensures step { IsStep self.now.mutators result }
+    {
+        let Some(collection) = &self.collection else {
+            return Step::Begin;
+        };
+        if !collection.roots_done(&self.heap) {
+            return Step::Roots;
+        }
+        if !collection.scan_done() {
+            return Step::Scan;
+        }
+        match collection.next_log() {
+            Some(m) => Step::Apply(m),
+            None => Step::Flip,
+        }
+    }
+}
