@@ -2,6 +2,7 @@
 use Rattle.std.specs.Prelude.{◌≡◌, ℕ, ◌<◌, ◌≤◌, ◌^◌, List, [], ◌∷◌, ◌++◌, length, map, codes}
 use Rattle.std.specs.List.{AllByRecursion}
 use Rattle.std.specs.Fmt.{decimal}
+use Rattle.gc_graph.specs.Limits.{most_words, most_pairs, most_roots}
 use Rattle.gc_graph.specs.Lines.{joined, text_of}
 use Rattle.gc_words.specs.Image.{Image}
 
@@ -50,16 +51,16 @@ AreAddresses p = (p.0 < 2 ^ 32) × (p.1 < 2 ^ 32)
 
 -- Size and end are each in their range; an end above the size is for the checker to refuse.
 abbrev pub AreSizes : ℕ × ℕ → Type 0
-AreSizes s = (1 ≤ s.0) × (s.0 ≤ 1048576) × (1 ≤ s.1) × (s.1 ≤ 1048576)
+AreSizes s = (1 ≤ s.0) × (s.0 ≤ most_words) × (1 ≤ s.1) × (s.1 ≤ most_words)
 
 abbrev pub IsCertificate : List (ℕ × ℕ) → Type 0
-IsCertificate pairs = (length pairs ≤ 524287) × AllByRecursion AreAddresses pairs
+IsCertificate pairs = (length pairs ≤ most_pairs) × AllByRecursion AreAddresses pairs
 
 pub record HasImageText (image : Image) : Type 0 where
   pub sizes : AreSizes (image.size, image.end)
   pub count : length image.words ≡ image.end
   pub words : AllByRecursion IsWord image.words
-  pub roots : length image.roots ≤ 272
+  pub roots : length image.roots ≤ most_roots
   pub root_words : AllByRecursion IsWord image.roots
 
 pub record HasText (f : CertifiedPair) : Type 0 where

@@ -1,6 +1,7 @@
 -- Reading the words of a line from left to right.
 use Rattle.std.specs.Prelude.{ℕ, ◌==◌, ◌&&◌, Bool, true, nat_le, List, [], ◌∷◌, Option, Some, None, if◌then◌else◌}
 use Rattle.std.specs.Str.{bytes_eq}
+use Rattle.gc_graph.specs.Limits.{most_words}
 use Rattle.gc_graph.specs.Words.{◌>>=◌, Words, number_of, number_at, word_at, end_of}
 
 -- each byte is above the digits, and so none is a space or a line feed
@@ -27,8 +28,8 @@ count_of name most words = do
 unfoldable pub sizes_of : List ℕ → Words → Option (ℕ × ℕ)
 sizes_of name words = do
   rest ← word_at name words
-  size ← number_at 1048576 rest
-  end ← number_at 1048576 size.1
+  size ← number_at most_words rest
+  end ← number_at most_words size.1
   sizes ← end_of (size.0, end.0) end.1
   if sizes.0 == 0 then None else if sizes.1 == 0 then None else Some sizes
 

@@ -1,5 +1,6 @@
 ghost use Rattle.std.specs.Prelude.{◌↔◌, ◌≤◌, length, map, IsTrue};
 ghost use Rattle.std.specs.List.{AllByRecursion};
+ghost use Rattle.gc_graph.specs.Limits.{most_words, most_roots};
 ghost use Rattle.gc_words.specs.Views.{image_of, addresses};
 ghost use Rattle.gc_cert.specs.Grammar.{IsWord, IsCertificate, HasText, HasImageText};
 ghost use Rattle.gc_cert.specs.Sections.{AreAll};
@@ -9,7 +10,7 @@ use gc_words::{ImageRef, MOST_PAIRS, MOST_ROOTS, MOST_WORDS, Pair};
 
 /// Whether a space may have so many words, or end there.
 fn is_size(n: u32) -> bool
-    ensures { IsTrue result ↔ ((1 ≤ n) × (n ≤ 1048576)) }
+    ensures { IsTrue result ↔ ((1 ≤ n) × (n ≤ most_words)) }
 {
     n >= 1 && n <= MOST_WORDS
 }
@@ -23,7 +24,7 @@ fn are_words(words: &[u64], count: u32) -> bool
 
 /// Whether these are few enough roots.
 fn are_roots(roots: &[u64]) -> bool
-    ensures { IsTrue result ↔ ((length roots.now ≤ 272) × AllByRecursion IsWord roots.now) }
+    ensures { IsTrue result ↔ ((length roots.now ≤ most_roots) × AllByRecursion IsWord roots.now) }
 {
     roots.len() <= MOST_ROOTS
 }

@@ -1,5 +1,6 @@
 -- What a heap is whose names are addresses, and when a collection belongs to it.
 use Rattle.std.specs.Prelude.{◌≡◌, ◌⊎◌, ℕ, ◌+◌, ◌-◌, ◌<◌, ◌≤◌, ◌^◌, List, [], ◌∷◌, length, map, Option, Some, None, slice_get, IsTrue, ⊤}
+use Rattle.gc_graph.specs.Limits.{most_words, kinds, lengths}
 use Rattle.gc_graph.specs.Slots.{roots_of}
 use Rattle.gc_graph.specs.Graph.{Value, Nil, Num, Ref, Object, Graph, lookup}
 use Rattle.gc_graph.specs.Correspond.{correspond}
@@ -25,13 +26,13 @@ RefersTo P (Num n) = ⊤
 RefersTo P (Ref name) = P name
 
 pub record IsObject (objects : List (ℕ × Object)) (o : Object) : Type 0 where
-  pub kind : o.kind < 256
-  pub len : length o.fields < 65536
+  pub kind : o.kind < kinds
+  pub len : length o.fields < lengths
   pub fields : (v : Value) → In v o.fields → RefersTo (IsNamed objects) v
 
 -- a graph whose names are the addresses of its objects in a space of this size with so many free words
 pub record IsSpaceGraph (size free : ℕ) (g : Graph) : Type 0 where
-  pub high : size ≤ 1048576
+  pub high : size ≤ most_words
   pub room : free < size
   pub laid : Laid 1 g.objects (size - free)
   pub objects : (a : ℕ) (o : Object) → In (a, o) g.objects → IsObject g.objects o
@@ -101,7 +102,7 @@ BelongsBut E objects c = BelongsBy (λ p a i. IsDue c p a i ⊎ E a i) objects c
 -- an open collection belongs to the heap, its space is as large as a space may be, and each mutator has a log
 pub record IsOpened (s : State) (c : Collection) : Type 0 where
   pub belongs : Belongs s.heap.graph.objects c
-  pub size : c.size ≤ 1048576
+  pub size : c.size ≤ most_words
   pub logs : length c.logs ≡ s.mutators
 
 abbrev pub IsOpen : State → Option Collection → Type 0

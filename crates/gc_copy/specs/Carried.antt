@@ -1,6 +1,7 @@
 -- What a collection can carry over: what could be reached when it began, and what was made since.
 use Rattle.std.specs.Prelude.{◌⊎◌, ℕ, ◌≤◌, Bool, true, false, if◌then◌else◌, List, [], ◌∷◌, Option, Some, None, ⊤}
 use Rattle.std.specs.List.{All}
+use Rattle.gc_graph.specs.Limits.{most_words}
 use Rattle.gc_graph.specs.Graph.{Reachable}
 use Rattle.gc_copy.specs.State.{Collection, State, opening_state, heap_end, pairs_of}
 use Rattle.gc_copy.specs.Steps.{collect}
@@ -42,5 +43,5 @@ OnlyKeptIsPaired base (Some c) = All (λ p. IsKept base p.0) (pairs_of c)
 
 -- in every run each original of an open collection is kept from the state before it began
 abbrev pub CarriesOnlyKept : Type 0
-CarriesOnlyKept = (size mutators : ℕ) (events : List Event) → 1 ≤ size → size ≤ 1048576 → AreEvents mutators events
+CarriesOnlyKept = (size mutators : ℕ) (events : List Event) → 1 ≤ size → size ≤ most_words → AreEvents mutators events
     → (let opening = opening_state size mutators in OnlyKeptIsPaired (base_of_run opening opening events) (state_after opening events).collection)

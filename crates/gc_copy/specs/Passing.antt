@@ -1,5 +1,6 @@
 -- What holds of a heap and an open collection that belongs to it.
 use Rattle.std.specs.Prelude.{◌≡◌, ◌≢◌, ◌↔◌, ◌≤◌, length, Some, IsTrue}
+use Rattle.gc_graph.specs.Limits.{most_pairs}
 use Rattle.gc_words.specs.Image.{IsShaped, roomy_of}
 use Rattle.gc_words.specs.Certificate.{Certified}
 use Rattle.gc_copy.specs.State.{Collection, State, new_graph, pairs_of}
@@ -35,4 +36,4 @@ ScansToTheEnd s = (c : Collection) → s.collection ≡ Some c → ((collect s s
 
 -- no more pairs than a space has objects
 abbrev pub HasFewPairs : State → Type 0
-HasFewPairs s = (c : Collection) → s.collection ≡ Some c → length (pairs_of c) ≤ 524287
+HasFewPairs s = (c : Collection) → s.collection ≡ Some c → length (pairs_of c) ≤ most_pairs

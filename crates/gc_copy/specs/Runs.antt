@@ -1,5 +1,6 @@
 -- Runs of a heap with its collector: the states that lists of events lead to.
 use Rattle.std.specs.Prelude.{ℕ, ◌<◌, ◌≤◌, List, [], ◌∷◌, ⊤}
+use Rattle.gc_graph.specs.Limits.{most_words}
 use Rattle.gc_graph.specs.Range.{IsCommand}
 use Rattle.gc_graph.specs.declared.command.Op.{Op}
 use Rattle.gc_copy.specs.State.{State, opening_state}
@@ -17,7 +18,7 @@ pub data Event : Type 0 where
 -- a space's size, and the number of a log
 abbrev pub IsStep : ℕ → Step → Type 0
 IsStep mutators steps.Begin = ⊤
-IsStep mutators (steps.BeginSized size) = (1 ≤ size) × (size ≤ 1048576)
+IsStep mutators (steps.BeginSized size) = (1 ≤ size) × (size ≤ most_words)
 IsStep mutators steps.Roots = ⊤
 IsStep mutators steps.Scan = ⊤
 IsStep mutators (steps.Apply k) = k < mutators
@@ -42,7 +43,7 @@ state_after s (event ∷ events) = state_after (after s event) events
 
 -- it holds of each state that events lead to from an empty heap
 abbrev pub InEveryRun : (State → Type 0) → Type 0
-InEveryRun P = (size mutators : ℕ) (events : List Event) → 1 ≤ size → size ≤ 1048576 → AreEvents mutators events → P (state_after (opening_state size mutators) events)
+InEveryRun P = (size mutators : ℕ) (events : List Event) → 1 ≤ size → size ≤ most_words → AreEvents mutators events → P (state_after (opening_state size mutators) events)
 
 -- ---- answers
 

@@ -1,5 +1,5 @@
 -- What a mutator's command and each step of the collector answer and leave.
-use Rattle.std.specs.Prelude.{ℕ, suc, ◌+◌, ◌==◌, nat_lt, Bool, true, false, ◌&&◌, not, if◌then◌else◌, List, [], ◌∷◌, ◌++◌, length, map, replicate, slice_get, slice_set, Option, Some, None, is_none, is_some}
+use Rattle.std.specs.Prelude.{ℕ, suc, ◌+◌, ◌==◌, nat_lt, Bool, true, false, ◌&&◌, not, if◌then◌else◌, List, [], ◌∷◌, ◌++◌, length, map, replicate, slice_get, slice_set, Option, Some, None, is_none, is_some, ⊤}
 use Rattle.std.specs.List.{list_all, flat_map}
 use Rattle.gc_graph.specs.Slots.{place}
 use Rattle.gc_graph.specs.Graph.{Value, Nil, Num, Ref, Object, Graph, root, names_of, lookup, field_of, with_field}
@@ -17,6 +17,11 @@ use Rattle.gc_copy.specs.declared.step.StepReply.{StepReply}
 use Rattle.gc_copy.specs.declared.step.StepReply.TheVariants.{Busy, Begun, Idle, Clean, NoRoom, Copied, Passed, Scanned, Applied, NotReady, Refused, Flipped, Dropped}
 
 -- ---- mutators
+
+-- the command writes a field, unless it is refused
+abbrev pub WritesField : Op → Type 0
+WritesField (ops.Put s i t) = ⊤
+WritesField op = ⊥
 
 -- the field that a command writes, where it is answered `Done`
 abbrev pub written : Graph → ℕ → Op → Reply → List (ℕ × ℕ)

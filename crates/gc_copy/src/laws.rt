@@ -1,6 +1,7 @@
 //! What follows from the definitions: the crates above cite these calls.
 
 ghost use Rattle.std.specs.Prelude.{◌≡◌, ◌≢◌, ◌++◌, ◌∷◌, [], ℕ, List, ◌-◌, ◌<◌, ◌≤◌, ◌==◌, length, Some, is_none, ◌⊎◌, IsTrue, IsFalse};
+ghost use Rattle.gc_graph.specs.Limits.{most_words};
 ghost use Rattle.gc_graph.specs.Graph.{Value, Ref, Object, Graph, IsUnused, set_field};
 ghost use Rattle.gc_graph.specs.Correspond.{Corresponding};
 ghost use Rattle.gc_graph.specs.Machine.{Roomy, roomy_step};
@@ -65,7 +66,7 @@ pub fn steps_keep_belonging()
 /// Whatever commands and steps come, the heap stays one, and an open collection goes on to belong to it.
 pub fn states_are_kept()
     ensures opening { (size mutators : ℕ)
-        → 1 ≤ size → size ≤ 1048576 → IsState (opening_state size mutators) }
+        → 1 ≤ size → size ≤ most_words → IsState (opening_state size mutators) }
     ensures commands { (s : State) (m : ℕ) (op : Op)
         → IsState s → m < s.mutators → IsCommand op → IsState (mutate s m op).1 }
     ensures steps { (s : State) (step : Step)
@@ -119,13 +120,13 @@ pub fn links_tell_replicas()
 /// corresponds to the old one; so its flip passes the check, and no flip is ever refused.
 pub fn ready_flips_pass()
     ensures certified { (links others : ℕ → ℕ) (size free : ℕ) (g : Graph) (c : Collection)
-        → IsSpaceGraph size free g → Belongs g.objects c → c.size ≤ 1048576 → IsTrue (is_ready c g)
+        → IsSpaceGraph size free g → Belongs g.objects c → c.size ≤ most_words → IsTrue (is_ready c g)
         → Certified (linked_image links size g) (linked_image others c.size (new_graph c g.roots)) (pairs_of c) }
     ensures heap { (size free : ℕ) (g : Graph) (c : Collection)
-        → IsSpaceGraph size free g → Belongs g.objects c → c.size ≤ 1048576 → IsTrue (is_ready c g)
+        → IsSpaceGraph size free g → Belongs g.objects c → c.size ≤ most_words → IsTrue (is_ready c g)
         → IsSpaceGraph c.size (new_free c) (new_graph c g.roots) }
     ensures corresponding { (size free : ℕ) (g : Graph) (c : Collection)
-        → IsSpaceGraph size free g → Belongs g.objects c → c.size ≤ 1048576 → IsTrue (is_ready c g)
+        → IsSpaceGraph size free g → Belongs g.objects c → c.size ≤ most_words → IsTrue (is_ready c g)
         → Corresponding (pairs_of c) g (new_graph c g.roots) }
     ensures passes { (s : State) → IsState s → PassesWhereReady s }
     ensures never_refused { (s : State) → IsState s → NeverRefused s }
@@ -155,7 +156,7 @@ pub fn room_suffices()
     ensures runs { InEveryRun AlwaysHasRoom }
 {}
 
-/// Scanning is clean at the new end alone, and a collection has at most 524287 pairs.
+/// Scanning is clean at the new end alone, and a collection has at most `MOST_PAIRS` pairs.
 pub fn scans_and_pairs_are_bounded()
     ensures scans { (s : State) → IsState s → ScansToTheEnd s }
     ensures pairs { (s : State) → IsState s → HasFewPairs s }

@@ -1,6 +1,7 @@
 mod growths;
 
 ghost use Rattle.std.specs.Prelude.{◌≡◌, ◌<◌, ◌≤◌, IfOk};
+ghost use Rattle.gc_graph.specs.Limits.{most_words, most_mutators};
 ghost use Rattle.gc_copy.specs.Words.{BelongsTo, HasNoLinks};
 
 use crate::{Collection, StepReply, commands_keep_collections};
@@ -24,9 +25,9 @@ fn command(heap: &mut Heap, m: u8, op: &Op) -> Reply
 /// A heap without objects.
 fn empty(alloc: Global, size: u32, mutators: u8) -> Result<Heap, NoMemory>
     requires low { 1 ≤ size }
-    requires high { size ≤ 1048576 }
+    requires high { size ≤ most_words }
     requires some { 1 ≤ mutators }
-    requires few { mutators ≤ 16 }
+    requires few { mutators ≤ most_mutators }
     ensures idle { IfOk result HasNoLinks }
     ensures mutators { IfOk result (λ heap. heap.mutators ≡ mutators) }
 {

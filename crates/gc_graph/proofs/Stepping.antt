@@ -6,6 +6,7 @@ use Rattle.std.proofs.lemmas.Bool.{le-ltb, lt-ltb}
 use Rattle.std.proofs.lemmas.List.{length-set}
 use Rattle.gc_graph.specs.Slots.{SlotName, place}
 use Rattle.gc_graph.specs.Graph.{Value, Nil, Num, Object, Graph, object_of, field_of, root, set_root, add_object, new_object, fresh_name, Ref}
+use Rattle.gc_graph.specs.Limits.{most_words}
 use Rattle.gc_graph.specs.Machine.{Roomy, words_taken, get_field, put_field, step, roomy_step, MakesObject, Answers, Makes}
 use Rattle.gc_graph.specs.Records.{graph_of}
 use Rattle.gc_graph.specs.PlainMachine.{roomy_of, IsPlain}
@@ -56,7 +57,7 @@ pub kept : (a b : Inside) (m : ℕ) (op : Op) (reply : Reply) → (MakesObject o
 kept a b m op reply makes_none free next done plain =
     let g : Graph = graph_of a.objects in
     let same : (step g m op (fresh_name g)).1 ≡ graph_of b.objects = sym (ap (λ x. x.1) done) in
-    let bound : a.next_name + a.free < 1048577 = plain.bound in
+    let bound : a.next_name + a.free ≤ most_words = plain.bound in
     record {
       below = subst (λ h. AreBelow b.next_name h) same (subst (λ n. AreBelow n (step g m op (fresh_name g)).1) (sym next) (step_below a.next_name g m op (fresh_name g) makes_none plain.below));
       short = subst AreShort same (step_short g m op (fresh_name g) makes_none plain.short);

@@ -1,6 +1,7 @@
 -- Graphs whose names and lengths are bounded.
 use Rattle.std.specs.Prelude.{ℕ, ◌<◌, length, ⊤}
 use Rattle.std.specs.List.{AllByRecursion}
+use Rattle.gc_graph.specs.Limits.{lengths}
 use Rattle.gc_graph.specs.Graph.{Value, Nil, Num, Ref, Graph}
 
 abbrev pub ValueBelow : ℕ → Value → Type 0
@@ -14,6 +15,6 @@ pub record AreBelow (next : ℕ) (g : Graph) : Type 0 where
   pub fields : AllByRecursion (λ entry. AllByRecursion (ValueBelow next) entry.1.fields) g.objects
   pub roots : AllByRecursion (ValueBelow next) g.roots
 
--- every object has fewer than 65536 fields
+-- every object has a length of the program
 abbrev pub AreShort : Graph → Type 0
-AreShort g = AllByRecursion (λ entry. length entry.1.fields < 65536) g.objects
+AreShort g = AllByRecursion (λ entry. length entry.1.fields < lengths) g.objects

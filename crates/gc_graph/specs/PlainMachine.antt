@@ -1,5 +1,6 @@
 -- What a plain machine stands for, and what its fields satisfy.
-use Rattle.std.specs.Prelude.{◌+◌, ◌<◌}
+use Rattle.std.specs.Prelude.{◌+◌, ◌≤◌}
+use Rattle.gc_graph.specs.Limits.{most_words}
 use Rattle.gc_graph.specs.Machine.{Roomy}
 use Rattle.gc_graph.specs.Records.{graph_of}
 use Rattle.gc_graph.specs.Bounded.{AreBelow, AreShort}
@@ -12,4 +13,4 @@ roomy_of a = record { graph = graph_of a.objects; free = a.free }
 pub record IsPlain (a : Inside) : Type 0 where
   pub below : AreBelow a.next_name (graph_of a.objects)
   pub short : AreShort (graph_of a.objects)
-  pub bound : a.next_name + a.free < 1048577
+  pub bound : a.next_name + a.free ≤ most_words

@@ -1,5 +1,6 @@
 -- Slots, and their places in the list of roots.
 use Rattle.std.specs.Prelude.{ℕ, ◌+◌, ◌*◌, Bool, true, false, if◌then◌else◌, refl}
+use Rattle.gc_graph.specs.Limits.{slots_each}
 use Rattle.std.specs.Coded.{Coded, code_by, coded×, coded_ℕ, coded_bool}
 
 -- one of the sixteen shared slots, or one of a mutator's own sixteen
@@ -18,7 +19,7 @@ shared_slot i = record { shared = true; index = i }
 
 -- how many roots so many mutators have: the shared ones first, then each mutator's own
 abbrev pub roots_of : ℕ → ℕ
-roots_of mutators = 16 + 16 * mutators
+roots_of mutators = slots_each + slots_each * mutators
 
 -- the place in the list of roots of what mutator m calls by this name
 abbrev pub place : SlotName → ℕ → ℕ

@@ -4,6 +4,7 @@
 
 mod command;
 mod laws;
+mod limits;
 mod no_memory;
 mod number;
 mod objects;
@@ -14,11 +15,12 @@ pub mod text;
 
 pub use command::Op;
 pub use laws::{corresponding_graphs_reply_alike, names_do_not_matter, worked_rows};
+pub use limits::{MOST_MUTATORS, MOST_WORDS, SLOTS_EACH};
 pub use no_memory::NoMemory;
 pub use number::Number;
 pub use plain::Plain;
 pub use reply::{Reply, View};
-pub use slot::Slot;
+pub use slot::{Slot, root_count};
 pub use text::{Failed, Sink, Source};
 
 #[cfg(test)]

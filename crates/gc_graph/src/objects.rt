@@ -1,5 +1,6 @@
 ghost use Rattle.std.specs.Prelude.{◌≡◌, ◌+◌, ◌<◌, ◌≤◌, Some, IfOk, OnErr, is_some, length, if◌then◌else◌};
 ghost use Rattle.std.specs.Option.{option_map};
+ghost use Rattle.gc_graph.specs.Limits.{lengths};
 ghost use Rattle.gc_graph.specs.Graph.{object_of, lookup, field_of, root as root_in, set_root, set_field, new_object, add_object};
 ghost use Rattle.gc_graph.specs.Machine.{view_of, view_of_object, same as same_in, get_field, put_field};
 ghost use Rattle.gc_graph.specs.Bounded.{AreBelow, AreShort};
@@ -33,7 +34,7 @@ impl Record {
     }
 
     fn view(&self) -> View
-        requires { length self.now.fields.items < 65536 }
+        requires { length self.now.fields.items < lengths }
         ensures { result ≡ view_of_object (Some (object_of_record self.now)) }
     {
         View::Obj {

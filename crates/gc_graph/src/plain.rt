@@ -1,10 +1,12 @@
 ghost use Rattle.std.specs.Prelude.{◌≡◌, ◌+◌, ◌<◌, ◌≤◌, IfOk, OnErr, IsErr, length};
+ghost use Rattle.gc_graph.specs.Limits.{most_words, most_mutators};
 ghost use Rattle.gc_graph.specs.Machine.{opening_roomy, HasMutator, MakesObject, Answers, Makes};
 
 use crate::command::Op;
 use crate::no_memory::NoMemory;
 use crate::objects::{Held, Objects};
 use crate::reply::Reply;
+use crate::slot::root_count;
 use std::alloc::Global;
 use std::collections::BTreeMap;
 use std::marker::Model;
@@ -34,17 +36,16 @@ impl Model for Plain {
 }
 
 impl Plain {
-    /// A space of `size` words, 1 to 1048576, the first of which is reserved; no objects, and all roots of
-    /// 1 to 16 mutators nil.
+    /// Returns a machine without objects whose roots are all nil. Its space has `size` words, 1 to `MOST_WORDS`, the
+    /// first of which is reserved; there are 1 to `MOST_MUTATORS` mutators.
     pub fn new(alloc: Global, size: u32, mutators: u8) -> Result<Plain, NoMemory>
         requires low { 1 ≤ size }
-        requires high { size ≤ 1048576 }
+        requires high { size ≤ most_words }
         requires some { 1 ≤ mutators }
-        requires few { mutators ≤ 16 }
+        requires few { mutators ≤ most_mutators }
         ensures { IfOk result (λ plain. plain ≡ opening_roomy size mutators) }
     {
-        let count = 16 + 16 * usize::from(mutators);
-        let Ok(roots) = vec![in alloc; Held::Nil; count] else {
+        let Ok(roots) = vec![in alloc; Held::Nil; root_count(mutators)] else {
             return Err(NoMemory);
         };
         Ok(Plain {

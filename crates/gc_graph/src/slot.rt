@@ -1,7 +1,8 @@
-use std::marker::Model;
+ghost use Rattle.std.specs.Prelude.{◌≡◌};
+ghost use Rattle.gc_graph.specs.Slots.{roots_of};
 
-/// How many slots all mutators share, and how many each has of its own.
-const SLOTS: u8 = 16;
+use crate::limits::SLOTS_EACH;
+use std::marker::Model;
 
 /// One of the sixteen slots that all mutators share, or one of a mutator's own sixteen.
 #[derive(Clone, Copy, Debug, PartialEq, Eq)]
@@ -12,6 +13,7 @@ pub struct Slot {
 
 impl Model for Slot {
     ghost use Rattle.std.specs.Prelude.{ℕ, ◌<◌};
+    ghost use Rattle.gc_graph.specs.Limits.{slots_each};
     ghost use Rattle.gc_graph.specs.Slots.{SlotName, coded_slot};
 
     ghost Value = { SlotName };
@@ -20,20 +22,21 @@ impl Model for Slot {
 
     ghost view = { λ s. record { shared = s.shared; index = s.index } };
 
-    ghost invariant = { λ s. s.index < 16 };
+    ghost invariant = { λ s. s.index < slots_each };
 
     ghost inverse = { λ s. record { shared = s.shared; index = s.index } };
 }
 
 impl Slot {
     ghost use Rattle.std.specs.Prelude.{◌≡◌, ◌<◌, ◌≤◌, ◌+◌, ◌*◌, true, false, SomeIff};
+    ghost use Rattle.gc_graph.specs.Limits.{slots_each};
     ghost use Rattle.gc_graph.specs.Slots.{own_slot, shared_slot, place as place_of, roots_of};
 
-    /// A mutator's own slot; None from 16 on.
+    /// Returns a mutator's own slot; None from `SLOTS_EACH` on.
     pub fn own(index: u8) -> Option<Slot>
-        ensures { SomeIff result (index < 16) (own_slot index) }
+        ensures { SomeIff result (index < slots_each) (own_slot index) }
     {
-        if index < SLOTS {
+        if index < SLOTS_EACH {
             Some(Slot {
                 shared: false,
                 index,
@@ -43,11 +46,11 @@ impl Slot {
         }
     }
 
-    /// A slot that all mutators share; None from 16 on.
+    /// Returns a slot that all mutators share; None from `SLOTS_EACH` on.
     pub fn shared(index: u8) -> Option<Slot>
-        ensures { SomeIff result (index < 16) (shared_slot index) }
+        ensures { SomeIff result (index < slots_each) (shared_slot index) }
     {
-        if index < SLOTS {
+        if index < SLOTS_EACH {
             Some(Slot {
                 shared: true,
                 index,
@@ -67,7 +70,7 @@ impl Slot {
     /// Its number among the shared slots, or among a mutator's own.
     pub fn index(self) -> u8
         ensures value { result ≡ self.index }
-        ensures bound { result < 16 }
+        ensures bound { result < slots_each }
     {
         self.index
     }
@@ -81,7 +84,15 @@ impl Slot {
         if self.shared {
             index
         } else {
-            16 + 16 * usize::from(m) + index
+            root_count(m) + index
         }
     }
+}
+
+/// Returns the number of roots of so many mutators: the shared slots, and then those of each mutator.
+pub fn root_count(mutators: u8) -> usize
+    ensures { result ≡ roots_of mutators }
+{
+    let each = usize::from(SLOTS_EACH);
+    each + each * usize::from(mutators)
 }

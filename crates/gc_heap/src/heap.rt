@@ -1,5 +1,5 @@
 use crate::reading::{has_field, target_of, view};
-use gc_graph::{NoMemory, Op, Reply, Slot};
+use gc_graph::{NoMemory, Op, Reply, Slot, root_count};
 use gc_words::{Addr, Header, ImageRef, NewAddr, OldAddr, Space, Value, encode};
 use std::alloc::Global;
 use std::marker::Model;
@@ -27,6 +27,7 @@ impl Model for Heap {
 impl Heap {
     ghost use Rattle.std.specs.Prelude.{◌≡◌, ◌<◌, ◌≤◌, IfOk, IfSome, IsTrue, length, slice_set, if◌then◌else◌};
     ghost use Rattle.std.specs.Option.{option_map};
+    ghost use Rattle.gc_graph.specs.Limits.{most_words, most_mutators};
     ghost use Rattle.gc_graph.specs.Slots.{place as place_of};
     ghost use Rattle.gc_graph.specs.Graph.{object_of, field_of, root};
     ghost use Rattle.gc_graph.specs.Machine.{roomy_step, opening_roomy, get_field, put_field, same as same_in};
@@ -36,19 +37,19 @@ impl Heap {
     ghost use Rattle.gc_words.specs.Views as views;
     ghost use Rattle.gc_heap.specs.Heap.{IsHeap, KeepsLinks, empty_heap, image_of, graph_in, roomy_in, name_of, Makes};
 
-    /// A heap of `size` words, 1 to 1048576, for 1 to 16 mutators: no objects, and all roots nil.
+    /// Returns a heap without objects whose roots are all nil, of `size` words, 1 to `MOST_WORDS`, and for 1 to
+    /// `MOST_MUTATORS` mutators.
     pub fn new(alloc: Global, size: u32, mutators: u8) -> Result<Heap, NoMemory>
         requires low { 1 ≤ size }
-        requires high { size ≤ 1048576 }
+        requires high { size ≤ most_words }
         requires some { 1 ≤ mutators }
-        requires few { mutators ≤ 16 }
+        requires few { mutators ≤ most_mutators }
         ensures empty { IfOk result (λ heap. heap ≡ empty_heap size mutators) }
         ensures opening { IfOk result (λ heap. roomy_in heap ≡ opening_roomy size mutators) }
         ensures sound { IfOk result IsHeap }
     {
         let space = Space::new(alloc, size)?;
-        let count = 16 + 16 * usize::from(mutators);
-        let Ok(roots) = vec![in alloc; 0u64; count] else {
+        let Ok(roots) = vec![in alloc; 0u64; root_count(mutators)] else {
             return Err(NoMemory);
         };
         Ok(Heap {

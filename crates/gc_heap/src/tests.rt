@@ -1,4 +1,5 @@
 ghost use Rattle.std.specs.Prelude.{◌≡◌, ◌≤◌, ◌<◌};
+ghost use Rattle.gc_graph.specs.Limits.{most_words};
 ghost use Rattle.gc_graph.specs.Machine.{HasMutator};
 
 use crate::Heap;
@@ -23,7 +24,7 @@ fn keep_reply(heap: &mut Heap, op: &Op, replies: &mut Vec<Reply>) -> Result<(), 
 /// The replies to one mutator's commands in a heap of `size` words.
 fn replies(alloc: Global, size: u32, commands: &[Op]) -> Result<Vec<Reply>, NoMemory>
     requires low { 1 ≤ size }
-    requires high { size ≤ 1048576 }
+    requires high { size ≤ most_words }
 {
     let mut heap = Heap::new(alloc, size, 1)?;
     let mut replies = Vec::new(alloc);
@@ -36,7 +37,7 @@ fn replies(alloc: Global, size: u32, commands: &[Op]) -> Result<Vec<Reply>, NoMe
 /// The replies of the plain machine to the same commands.
 fn plain_replies(alloc: Global, size: u32, commands: &[Op]) -> Result<Vec<Reply>, NoMemory>
     requires low { 1 ≤ size }
-    requires high { size ≤ 1048576 }
+    requires high { size ≤ most_words }
 {
     let mut plain = Plain::new(alloc, size, 1)?;
     let mut replies = Vec::new(alloc);

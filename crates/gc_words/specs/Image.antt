@@ -1,5 +1,6 @@
 -- The words of a space: a reserved word, and then objects back to back. An image has root words beside them.
 use Rattle.std.specs.Prelude.{◌≡◌, ℕ, zero, suc, ◌+◌, ◌-◌, ◌≤◌, ◌==◌, nat_le, Bool, if◌then◌else◌, List, [], ◌∷◌, length, take, drop, map, replicate, slice_get, slice_index, slice_set, Option, Some, None, Result, Ok, Err, IsOk, is_some}
+use Rattle.gc_graph.specs.Limits.{most_words}
 use Rattle.gc_graph.specs.Graph.{Object, Graph}
 use Rattle.gc_graph.specs.Machine.{Roomy}
 use Rattle.gc_words.specs.Word.{read_header, value_of, field_value}
@@ -41,7 +42,7 @@ walk_words words = walk 0 1 (drop 1 words)
 -- words; the first of them is reserved, and the walk over the others comes to the end.
 pub record HasShape (size end : ℕ) (words : List ℕ) : Type 0 where
   pub size_low : 1 ≤ size
-  pub size_high : size ≤ 1048576
+  pub size_high : size ≤ most_words
   pub end_low : 1 ≤ end
   pub end_high : end ≤ size
   pub count : length words ≡ end

@@ -1,28 +1,37 @@
 -- What words mean: headers of objects, and values.
 use Rattle.std.specs.Prelude.{ℕ, ◌+◌, ◌-◌, ◌*◌, ◌/◌, ◌%◌, ◌<◌, ◌≤◌, ◌==◌, nat_lt, nat_le, Bool, false, ◌&&◌, ◌||◌, if◌then◌else◌, List, Option, Some, None, ⊤}
+use Rattle.gc_graph.specs.Limits.{most_words, kinds, lengths}
 use Rattle.gc_graph.specs.Graph.{Value, Nil, Num, Ref}
 use Rattle.gc_graph.specs.Correspond.{correspond}
 use Rattle.gc_words.specs.declared.header.Header.{Header}
 
 -- a header that a word can be
 pub record IsHeader (h : Header) : Type 0 where
-  pub kind : h.kind < 256
-  pub len : h.len < 65536
+  pub kind : h.kind < kinds
+  pub len : h.len < lengths
+
+-- the word of kind 0 without fields
+abbrev pub least_header : ℕ
+least_header = 16777216
+
+-- the least word above all header words
+abbrev pub past_headers : ℕ
+past_headers = least_header + kinds * lengths
 
 abbrev pub header_word : Header → ℕ
-header_word h = 16777216 + 65536 * h.kind + h.len
+header_word h = least_header + lengths * h.kind + h.len
 
 -- the header that a word is
 abbrev pub read_header : ℕ → Option Header
-read_header w = if nat_le 16777216 w && nat_lt w 33554432 then Some (record { kind = (w - 16777216) / 65536; len = w % 65536 }) else None
+read_header w = if nat_le least_header w && nat_lt w past_headers then Some (record { kind = (w - least_header) / lengths; len = w % lengths }) else None
 
 -- Zero is nil, an odd word a number, any other even word a name.
 abbrev pub value_of : ℕ → Value
 value_of w = if w == 0 then Nil else if w % 2 == 1 then Num (w / 2) else Ref (w / 2)
 
--- An address has twenty bits: other even words are no values.
+-- An address is below the most words of a space: other even words are no values.
 abbrev pub is_value : ℕ → Bool
-is_value w = (w % 2 == 1) || nat_lt w 2097152
+is_value w = (w % 2 == 1) || nat_lt w (2 * most_words)
 
 -- the value that a word is
 abbrev pub read_value : ℕ → Option Value
@@ -37,7 +46,7 @@ word_of (Ref a) = 2 * a
 abbrev pub HasAddress : Value → Type 0
 HasAddress Nil = ⊤
 HasAddress (Num n) = ⊤
-HasAddress (Ref a) = (1 ≤ a) × (a < 1048576)
+HasAddress (Ref a) = (1 ≤ a) × (a < most_words)
 
 -- what a field word of an object with this header means in a graph
 abbrev pub field_value : Header → ℕ → Value

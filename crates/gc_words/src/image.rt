@@ -1,8 +1,5 @@
 use crate::value::{NewAddr, OldAddr};
 
-/// The most words that a space has.
-pub const MOST_WORDS: u32 = 1048576;
-
 /// The most roots of an image: sixteen slots that mutators share, and sixteen of each of sixteen mutators.
 pub const MOST_ROOTS: usize = 272;
 

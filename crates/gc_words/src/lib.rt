@@ -11,8 +11,9 @@ mod shape;
 mod space;
 mod value;
 
+pub use gc_graph::MOST_WORDS;
 pub use header::Header;
-pub use image::{ImageRef, MOST_PAIRS, MOST_ROOTS, MOST_WORDS, Pair};
+pub use image::{ImageRef, MOST_PAIRS, MOST_ROOTS, Pair};
 pub use laws::{
     certified_graphs_correspond, end_is_unused, ends_after_writes, graphs_after_writes,
     graphs_of_spaces, links_after_writes, no_fault_where_certified, no_fault_where_shaped,

@@ -28,6 +28,7 @@ impl Model for Space {
 
 impl Space {
     ghost use Rattle.std.specs.Prelude.{◌≡◌, ◌<◌, ◌≤◌, ◌+◌, ◌∷◌, ◌++◌, [], ◌↔◌, Some, IsTrue, IsSome, IfOk};
+    ghost use Rattle.gc_graph.specs.Limits.{most_words};
     ghost use Rattle.gc_words.specs.Image.{blocks, block_at, is_start, header_at, field_at, set_block, fresh_block};
     ghost use Rattle.gc_words.specs.Spelling.{link_at};
     ghost use Rattle.gc_words.specs.Space.{IsSpace, empty_space, end_of, free_in, HasRoom, with_object, with_field_at, with_link, without_links};
@@ -35,7 +36,7 @@ impl Space {
     /// A space of so many words, without objects.
     pub fn new(alloc: Global, size: u32) -> Result<Space, NoMemory>
         requires low { 1 ≤ size }
-        requires high { size ≤ 1048576 }
+        requires high { size ≤ most_words }
         ensures empty { IfOk result (λ space. space ≡ empty_space size) }
         ensures shaped { IfOk result IsSpace }
     {

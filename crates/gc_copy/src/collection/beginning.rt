@@ -1,4 +1,5 @@
 ghost use Rattle.std.specs.Prelude.{◌≡◌, ◌≤◌, [], IfOk, map, replicate};
+ghost use Rattle.gc_graph.specs.Limits.{most_words};
 ghost use Rattle.gc_copy.specs.Steps.{collect};
 ghost use Rattle.gc_copy.specs.Words.{entries_of, idle_state, open_state, HasNoLinks, BelongsTo};
 ghost use Rattle.gc_copy.specs.declared.step.Step.{Step};
@@ -12,7 +13,7 @@ use gc_words::{Addr, Space};
 use std::alloc::Global;
 
 impl Collection {
-    /// A collection of this heap, whose new space is as large as the heap's.
+    /// Opens a collection of this heap whose new space is as large as the heap's.
     pub fn begin(alloc: Global, heap: &Heap) -> Result<Collection, NoMemory>
         requires { HasNoLinks heap.now }
         ensures step { IfOk result (λ c. collect (idle_state heap.now) Step.Begin ≡ (StepReply.Begun, open_state heap.now c)) }
@@ -21,11 +22,11 @@ impl Collection {
         Collection::begin_sized(alloc, heap, heap.space().size())
     }
 
-    /// The same with a new space of `size` words, 1 to 1048576.
+    /// Opens a collection of this heap whose new space has `size` words, 1 to `MOST_WORDS`.
     pub fn begin_sized(alloc: Global, heap: &Heap, size: u32) -> Result<Collection, NoMemory>
         requires links { HasNoLinks heap.now }
         requires low { 1 ≤ size }
-        requires high { size ≤ 1048576 }
+        requires high { size ≤ most_words }
         ensures step { IfOk result (λ c. collect (idle_state heap.now) (Step.BeginSized size) ≡ (StepReply.Begun, open_state heap.now c)) }
         ensures belongs { IfOk result (BelongsTo heap.now) }
     {

@@ -1,7 +1,7 @@
 ghost use Rattle.std.specs.Prelude.{◌≡◌, ◌<◌, ◌≤◌};
 ghost use Rattle.std.specs.Option.{option_map, option_to_list};
 ghost use Rattle.gc_heap.specs.Heap.{graph_in};
-ghost use Rattle.gc_copy.specs.Steps.{mutate, written};
+ghost use Rattle.gc_copy.specs.Steps.{mutate, written, WritesField};
 ghost use Rattle.gc_copy.specs.Entries.{entry_in, if_done};
 ghost use Rattle.gc_copy.specs.Words.{open_state, spare_of, BelongsTo};
 ghost use Rattle.gc_graph.specs.declared.reply.Reply.{Reply};
@@ -12,12 +12,12 @@ use gc_graph::{Op, Reply};
 use gc_heap::Heap;
 
 impl Collection {
-    /// Makes mutator m's command and notes the field that it wrote, where it wrote one: the write barrier. `reserve`
-    /// has made the room.
+    /// Makes mutator m's command and logs the field that it wrote, if any: the write barrier. Only a `Put` needs room
+    /// in the log, which `reserve` makes.
     pub fn mutate(&mut self, heap: &mut Heap, m: u8, op: &Op) -> Reply
         requires belongs { BelongsTo heap.old self.old }
         requires mutator { m < heap.old.mutators }
-        requires room { 1 ≤ spare_of self.old m }
+        requires room { WritesField op.now → 1 ≤ spare_of self.old m }
         ensures step { mutate (open_state heap.old self.old) m op.now ≡ (result, open_state heap.new self.new) }
         ensures belongs { BelongsTo heap.new self.new }
         ensures mutators { heap.new.mutators ≡ heap.old.mutators }

@@ -2,6 +2,7 @@
 //! is answered as where none was refused.
 
 ghost use Rattle.std.specs.Prelude.{◌≡◌, ◌<◌, ◌≤◌, IfOk, IsTrue};
+ghost use Rattle.gc_graph.specs.Limits.{most_words};
 ghost use Rattle.gc_heap.specs.Heap.{graph_in};
 ghost use Rattle.gc_copy.specs.Steps.{roots_done};
 ghost use Rattle.gc_copy.specs.Words.{collection_in, new_root_words, BelongsTo, HasNoLinks};
@@ -38,7 +39,7 @@ fn begin_again(alloc: Global, heap: &Heap) -> Result<Collection, NoMemory>
 fn begin_sized_again(alloc: Global, heap: &Heap, size: u32) -> Result<Collection, NoMemory>
     requires links { HasNoLinks heap.now }
     requires low { 1 ≤ size }
-    requires high { size ≤ 1048576 }
+    requires high { size ≤ most_words }
     ensures { IfOk result (BelongsTo heap.now) }
 {
     match Collection::begin_sized(alloc, heap, size) {

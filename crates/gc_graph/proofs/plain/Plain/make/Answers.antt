@@ -1,4 +1,5 @@
-use Rattle.std.proofs.Common.{◌≡◌, ◌+◌, ◌-◌, ◌<◌, ◌∙◌, ap, subst, sym, arith}
+use Rattle.std.proofs.Common.{◌≡◌, ◌+◌, ◌-◌, ◌≤◌, ◌∙◌, ap, subst, sym, arith}
+use Rattle.gc_graph.specs.Limits.{most_words}
 use Rattle.gc_graph.specs.Graph.{Graph, set_root, add_object, new_object, Ref}
 use Rattle.gc_graph.specs.Records.{graph_of}
 use Rattle.gc_graph.specs.Bounded.{AreBelow, AreShort}
@@ -16,7 +17,7 @@ invariant_of-self-2 c =
     let g : Graph = graph_of a.objects in
     let same : set_root (add_object g a.next_name (new_object c.args.kind c.args.len)) c.args.place (Ref a.next_name) ≡ graph_of c.take.new.self
     = sym (c.take.ensures.graph ∙ ap (λ h. set_root h c.args.place (Ref a.next_name)) c.in-Ok.ensures.ok) in
-    let bound : a.next_name + a.free < 1048577 = c.self.invariant.bound in
+    let bound : a.next_name + a.free ≤ most_words = c.self.invariant.bound in
     record {
       below = subst (AreBelow (a.next_name + 1)) same (make_below a.next_name g c.args.place c.args.kind c.args.len c.self.invariant.below);
       short = subst AreShort same (make_short a.next_name g c.args.place c.args.kind c.args.len (omega arith) c.self.invariant.short);
