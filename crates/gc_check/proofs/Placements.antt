@@ -14,7 +14,7 @@ use Rattle.gc_words.proofs.Faults.{shaped}
 use Rattle.gc_words.proofs.Starts.{stands_in}
 use Rattle.gc_check.specs.Tables.{image_fault}
 use Rattle.gc_check.specs.Verdict.{pairs_of}
-use Rattle.gc_check.proofs.Entering.{or_none, when_none}
+use Rattle.gc_check.proofs.PartnerRow.{or_none, when_none}
 
 at_place_none : (o : Option ℕ) (r : ℕ → Refusal) → at_place o r ≡ None → o ≡ None
 at_place_none None r e = refl

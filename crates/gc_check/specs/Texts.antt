@@ -12,10 +12,14 @@ use Rattle.gc_check.specs.declared.verdict.Verdict.TheVariants as verdict
 abbrev pub verdict_on : CertifiedPair → Verdict
 verdict_on pair = verdict_of pair.old pair.new pair.pairs
 
+-- where the verdict is yes, this holds of the pair
+abbrev pub OnYes : (CertifiedPair → Type 0) → Verdict → CertifiedPair → Type 0
+OnYes holds (verdict.Yes pairs) pair = holds pair
+OnYes holds (verdict.Refused refusal) pair = ⊤
+
 -- what a verdict promises
 abbrev pub Promises : Verdict → CertifiedPair → Type 0
-Promises (verdict.Yes pairs) pair = Replicated pair.old pair.new pair.pairs
-Promises (verdict.Refused refusal) pair = ⊤
+Promises = OnYes (λ pair. Replicated pair.old pair.new pair.pairs)
 
 -- the text spells a pair, and this is the verdict on it
 pub record IsVerdictOn (text : List ℕ) (verdict : Verdict) : Type 0 where

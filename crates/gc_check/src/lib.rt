@@ -6,21 +6,21 @@ mod checks;
 mod images;
 mod laws;
 mod object;
-mod placing;
-mod printing;
+mod partners;
 mod starts;
 mod tables;
 mod text;
 mod verdict;
+mod verdict_text;
 
 pub use checker::check;
 pub use checks::{Checks, Sequential};
 pub use gc_words::Refusal;
 pub use laws::{certified_is_replicated, worked_rows};
-pub use printing::write_verdict;
 pub use tables::Tables;
-pub use text::check_text;
+pub use text::{check_text, check_text_by};
 pub use verdict::{CheckFault, RunFault, Verdict, Yes};
+pub use verdict_text::write_verdict;
 
 #[cfg(test)]
 mod tests;

@@ -1,6 +1,6 @@
 use crate::images::image_fault;
 use crate::object::object_at;
-use crate::placing::partners_of;
+use crate::partners::partners_of;
 use crate::verdict::CheckFault;
 use gc_words::{Addr, ImageRef, Pair, Refusal, Value, decode};
 use std::alloc::Global;

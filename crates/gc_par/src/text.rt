@@ -1,18 +1,16 @@
 ghost use Rattle.std.specs.Prelude.{◌≡◌, ◌≢◌, ◌↔◌, true, IfSome, IfOk, OnErr, Err};
 ghost use Rattle.std.specs.Io.KnownBytes.{Appends};
 ghost use Rattle.gc_graph.specs.Streams.{bytes_left, bytes_written, source_failed, sink_failed};
-ghost use Rattle.gc_cert.specs.Grammar.{CertifiedPair, HasText};
+ghost use Rattle.gc_cert.specs.Grammar.{CertifiedPair};
 ghost use Rattle.gc_cert.specs.Faults.{IsReadAs, MayFail};
-ghost use Rattle.gc_cert.specs.Views.{pair_in};
 ghost use Rattle.gc_check.specs.Verdict.{verdict_line};
-ghost use Rattle.gc_check.specs.Texts.{verdict_on, Promises, IsVerdictOn, TellsFront};
+ghost use Rattle.gc_check.specs.Texts.{Promises, IsVerdictOn, TellsFront};
 ghost use Rattle.gc_cert.specs.declared.fault.PairFault.{PairFault};
 
-use crate::checker::check_par;
-use gc_cert::{PairFault, PairFile, read_pair, texts_have_one_reading};
-use gc_check::{CheckFault, RunFault, Verdict, write_verdict};
-use gc_graph::{NoMemory, Sink, Source};
-use gc_words::no_fault_where_certified;
+use crate::parallel::Parallel;
+use gc_cert::PairFault;
+use gc_check::{RunFault, Verdict, check_text_by};
+use gc_graph::{Sink, Source};
 use std::alloc::Global;
 use std::io::{Read, Write};
 use std::thread::Threads;
@@ -46,35 +44,5 @@ pub fn check_text_par<R: Read, W: Write>(
     ensures front { result ≡ Err RunFault.Write → IfSome (bytes_left R.remaining reader.old) (λ text.
         TellsFront text (bytes_written W.contents writer.old) (bytes_written W.contents writer.new)) }
 {
-    texts_have_one_reading();
-    let file = match read_pair(alloc, reader) {
-        Ok(file) => file,
-        Err(PairFault::NoMemory) => return Err(RunFault::NoMemory),
-        Err(fault) => return Err(RunFault::Pair(fault)),
-    };
-    let Ok(verdict) = verdict_of(rt, alloc, &file) else {
-        return Err(RunFault::NoMemory);
-    };
-    match write_verdict(writer, &verdict) {
-        Ok(()) => Ok(verdict),
-        Err(_) => Err(RunFault::Write),
-    }
-}
-
-// The checker's answer as a verdict.
-fn verdict_of(
-    rt: &(impl Threads + Sync),
-    alloc: Global,
-    file: &PairFile,
-) -> Result<Verdict, NoMemory>
-    requires { HasText (pair_in file.now) }
-    ensures verdict { IfOk result (λ verdict. verdict ≡ verdict_on (pair_in file.now)) }
-    ensures promised { IfOk result (λ verdict. Promises verdict (pair_in file.now)) }
-{
-    no_fault_where_certified();
-    match check_par(rt, alloc, file.old.as_ref(), file.new.as_ref(), &file.pairs) {
-        Ok(yes) => Ok(Verdict::Yes { pairs: yes.pairs }),
-        Err(CheckFault::Refused(refusal)) => Ok(Verdict::Refused(refusal)),
-        Err(CheckFault::NoMemory) => Err(NoMemory),
-    }
+    check_text_by(&Parallel::new(rt), alloc, reader, writer)
 }

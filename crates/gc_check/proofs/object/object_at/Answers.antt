@@ -1,6 +1,6 @@
 use Rattle.std.proofs.Common.{◌≡◌, ◌+◌, ◌-◌, sym, ◌∙◌, ap, arith, take, drop, is_some, Some}
 use Rattle.gc_words.specs.declared.header.Header.{Header}
-use Rattle.gc_check.proofs.Marking.{start_stands, start_within}
+use Rattle.gc_check.proofs.StartMarks.{start_stands, start_within}
 use Rattle.gc_check.proofs.object.object_at.Goals as goal
 
 pub bounds-words-at : goal.bounds-words-at

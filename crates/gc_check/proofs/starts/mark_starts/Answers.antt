@@ -1,5 +1,5 @@
 use Rattle.std.proofs.Common.{sym, ◌∙◌, ◌+◌, subst, set, true}
-use Rattle.gc_check.proofs.Marking.{MarksTo, marks_one}
+use Rattle.gc_check.proofs.StartMarks.{MarksTo, marks_one}
 use Rattle.gc_check.proofs.starts.mark_starts.Goals as goal
 
 pub loop-at-preserved : goal.loop-at-preserved

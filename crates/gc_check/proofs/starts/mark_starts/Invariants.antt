@@ -1,5 +1,5 @@
 use Rattle.std.proofs.Common.{◌-◌, length}
-use Rattle.gc_check.proofs.Marking.{MarksTo}
+use Rattle.gc_check.proofs.StartMarks.{MarksTo}
 use Rattle.gc_check.proofs.starts.mark_starts.Given as goal
 
 abbrev pub invariant-loop-at : goal.invariant-loop-at

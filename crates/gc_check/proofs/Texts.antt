@@ -1,20 +1,20 @@
--- What is told of the pair that was read holds of the pair that the text spells.
+-- What holds of the pair that was read holds of each pair that the text spells.
 use Rattle.std.proofs.Common.{◌≡◌, ℕ, List, Option, Some, None, IfSome, subst}
 use Rattle.gc_graph.specs.Streams.{SendsFront}
 use Rattle.gc_cert.specs.Grammar.{CertifiedPair, IsTextOf}
 use Rattle.gc_cert.specs.Faults.{IsReadAs}
 use Rattle.gc_check.specs.Verdict.{verdict_line}
-use Rattle.gc_check.specs.Texts.{verdict_on, Promises, TellsFront}
+use Rattle.gc_check.specs.Texts.{verdict_on, TellsFront}
 use Rattle.gc_check.specs.declared.verdict.Verdict.{Verdict}
 
 -- a text spells one pair at most
 abbrev pub HasOneReading : Type 0
 HasOneReading = (f g : CertifiedPair) (text : List ℕ) → IsTextOf f text → IsTextOf g text → f ≡ g
 
-pub promised_of_text : HasOneReading → (o : Option (List ℕ)) (v : Verdict) (file : CertifiedPair) → IfSome o (λ text. IsReadAs file text) → Promises v file
-    → IfSome o (λ text. (pair : CertifiedPair) → IsReadAs pair text → Promises v pair)
-promised_of_text one None v file read promise = tt
-promised_of_text one (Some text) v file read promise = λ pair other. subst (Promises v) (one file pair text read.0 other.0) promise
+pub of_each_reading : HasOneReading → (o : Option (List ℕ)) (P : CertifiedPair → Type 0) (file : CertifiedPair) → IfSome o (λ text. IsReadAs file text) → P file
+    → IfSome o (λ text. (pair : CertifiedPair) → IsReadAs pair text → P pair)
+of_each_reading one None P file read holds = tt
+of_each_reading one (Some text) P file read holds = λ pair other. subst P (one file pair text read.0 other.0) holds
 
 pub front_of_text : (o : Option (List ℕ)) (v : Verdict) (file : CertifiedPair) (old new : Option (List ℕ)) → IfSome o (λ text. IsReadAs file text) → v ≡ verdict_on file → SendsFront old new (verdict_line v)
     → IfSome o (λ text. TellsFront text old new)

@@ -1,8 +1,8 @@
 use Rattle.std.proofs.Common.{sym, ◌∙◌, get_or}
 use Rattle.gc_words.specs.declared.image.Pair.{Pair}
-use Rattle.gc_check.proofs.Marking.{low_start}
-use Rattle.gc_check.proofs.Entering.{entered_fault, entered_one, entered_within}
-use Rattle.gc_check.proofs.placing.enter_pairs.Goals as goal
+use Rattle.gc_check.proofs.StartMarks.{low_start}
+use Rattle.gc_check.proofs.PartnerRow.{entered_fault, entered_one, entered_within}
+use Rattle.gc_check.proofs.partners.enter_pairs.Goals as goal
 
 -- any pair: a read within the certificate does not ask
 abbrev none : Pair

@@ -14,7 +14,7 @@ use Rattle.gc_words.specs.declared.refusal.Refusal.{Refusal}
 use Rattle.gc_words.specs.declared.refusal.Refusal.TheVariants.{OldNotStart, NewNotStart, NotRising, Twice}
 use Rattle.gc_check.specs.Tables.{HoldsPartners, entry_fault}
 use Rattle.gc_check.specs.Verdict.{pairs_of}
-use Rattle.gc_check.proofs.Marking.{start_within}
+use Rattle.gc_check.proofs.StartMarks.{start_within}
 
 -- ---- options
 

@@ -1,5 +1,5 @@
-use Rattle.gc_check.proofs.Entering.{Entered}
-use Rattle.gc_check.proofs.placing.enter_pairs.Given as goal
+use Rattle.gc_check.proofs.PartnerRow.{Entered}
+use Rattle.gc_check.proofs.partners.enter_pairs.Given as goal
 
 abbrev pub invariant-loop-k : goal.invariant-loop-k
 invariant-loop-k l = Entered l.old l.new l.cert l.partners l.last.0 l.k
