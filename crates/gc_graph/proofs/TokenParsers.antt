@@ -1,11 +1,11 @@
--- Taking words from a line gives what was written there, and nothing else.
+-- Taking tokens from a line gives what was written there, and nothing else.
 use Rattle.std.proofs.Common.{◌≡◌, ℕ, ◌^◌, ◌<◌, ◌≤◌, Bool, true, false, cond, eqb, List, [], ◌∷◌, refl, sym, ap, arith, Option, Some, None, subst}
 use Rattle.std.specs.Fmt.{decimal}
 use Rattle.std.specs.Str.{bytes_eq}
 use Rattle.std.proofs.lemmas.Bool.{eqb-false}
 use Rattle.std.proofs.lemmas.Option.{cond_some}
 use Rattle.std.proofs.lemmas.Slice.Eq.{bytes_eq-Decides}
-use Rattle.gc_graph.specs.Words.{◌>>=◌, Words, number_of, number_at, word_at, end_of}
+use Rattle.gc_graph.specs.Tokens.{◌>>=◌, Tokens, number_of, number_at, token_at, end_of}
 use Rattle.gc_graph.proofs.Decimals.{number_found, number_again}
 
 -- ---- what was written is read
@@ -13,13 +13,13 @@ use Rattle.gc_graph.proofs.Decimals.{number_found, number_again}
 bytes_same : (xs : List ℕ) → bytes_eq xs xs ≡ true
 bytes_same xs = (bytes_eq-Decides xs xs).1 refl
 
-pub number_at_again : (most n : ℕ) (words : Words) → n ≤ most → n < 2 ^ 64 → number_at most (decimal n ∷ words) ≡ Some (n, words)
+pub number_at_again : (most n : ℕ) (tokens : Tokens) → n ≤ most → n < 2 ^ 64 → number_at most (decimal n ∷ tokens) ≡ Some (n, tokens)
 unfolding number_at
-number_at_again most n words le small = rw (number_again most n le small) refl
+number_at_again most n tokens le small = rw (number_again most n le small) refl
 
-pub word_at_again : (wanted : List ℕ) (words : Words) → word_at wanted (wanted ∷ words) ≡ Some words
-unfolding word_at
-word_at_again wanted words = rw (bytes_same wanted) refl
+pub token_at_again : (wanted : List ℕ) (tokens : Tokens) → token_at wanted (wanted ∷ tokens) ≡ Some tokens
+unfolding token_at
+token_at_again wanted tokens = rw (bytes_same wanted) refl
 
 pub end_again : {A : Type 0} (x : A) → end_of x [] ≡ Some x
 unfolding end_of
@@ -38,31 +38,31 @@ some x = Some x
 pub some_is : {A : Type 0} (x y : A) → some x ≡ some y → x ≡ y
 some_is x y e = cc
 
--- one word before equal words
-pub onto : (word : List ℕ) {words more : Words} → words ≡ more → word ∷ words ≡ word ∷ more
-onto word e = ap (λ (ws : Words). word ∷ ws) e
+-- one token before equal tokens
+pub onto : (token : List ℕ) {tokens more : Tokens} → tokens ≡ more → token ∷ tokens ≡ token ∷ more
+onto token e = ap (λ (ws : Tokens). token ∷ ws) e
 
-pub number_at_found : (most : ℕ) (words : Words) (x : ℕ × Words) → number_at most words ≡ Some x → (words ≡ decimal x.0 ∷ x.1) × (x.0 ≤ most)
+pub number_at_found : (most : ℕ) (tokens : Tokens) (x : ℕ × Tokens) → number_at most tokens ≡ Some x → (tokens ≡ decimal x.0 ∷ x.1) × (x.0 ≤ most)
 unfolding number_at
 number_at_found most [] x e = absurd cc
-number_at_found most (word ∷ words) x e =
-    let b = bind_some (number_of most word) (λ n. Some (n, words)) x e in
-    let n = number_found most word b.0 b.1 in
-    subst (λ (y : ℕ × Words). (word ∷ words ≡ decimal y.0 ∷ y.1) × (y.0 ≤ most)) (some_is (b.0, words) x b.2) (ap (λ (w : List ℕ). w ∷ words) n.0, n.1)
+number_at_found most (token ∷ tokens) x e =
+    let b = bind_some (number_of most token) (λ n. Some (n, tokens)) x e in
+    let n = number_found most token b.0 b.1 in
+    subst (λ (y : ℕ × Tokens). (token ∷ tokens ≡ decimal y.0 ∷ y.1) × (y.0 ≤ most)) (some_is (b.0, tokens) x b.2) (ap (λ (w : List ℕ). w ∷ tokens) n.0, n.1)
 
-pub word_at_found : (wanted : List ℕ) (words rest : Words) → word_at wanted words ≡ Some rest → words ≡ wanted ∷ rest
-unfolding word_at
-word_at_found wanted [] rest e = absurd cc
-word_at_found wanted (word ∷ words) rest e =
-    let c = cond_some (bytes_eq word wanted) words rest e in
-    rw ((bytes_eq-Decides word wanted).0 c.0, c.1) refl
+pub token_at_found : (wanted : List ℕ) (tokens rest : Tokens) → token_at wanted tokens ≡ Some rest → tokens ≡ wanted ∷ rest
+unfolding token_at
+token_at_found wanted [] rest e = absurd cc
+token_at_found wanted (token ∷ tokens) rest e =
+    let c = cond_some (bytes_eq token wanted) tokens rest e in
+    rw ((bytes_eq-Decides token wanted).0 c.0, c.1) refl
 
-pub end_found : {A : Type 0} (x : A) (words : Words) (y : A) → end_of x words ≡ Some y → (words ≡ []) × (x ≡ y)
+pub end_found : {A : Type 0} (x : A) (tokens : Tokens) (y : A) → end_of x tokens ≡ Some y → (tokens ≡ []) × (x ≡ y)
 unfolding end_of
 end_found x [] y e = (refl, some_is x y e)
-end_found x (word ∷ words) y e = absurd cc
+end_found x (token ∷ tokens) y e = absurd cc
 
--- the word is this one, or another
+-- the token is this one, or another
 pub name_case : {A : Type 0} (P : List ℕ → Type 0) (name wanted : List ℕ) (x y : Option A) (r : A) → cond (bytes_eq name wanted) x y ≡ Some r → (x ≡ Some r → P wanted) → (y ≡ Some r → P name) → P name
 name_case P name wanted x y r e f g = parts (bytes_eq name wanted) refl e
   where

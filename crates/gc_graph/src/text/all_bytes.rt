@@ -1,6 +1,6 @@
 ghost use Rattle.std.specs.Prelude.{◌≡◌, ◌+◌, ◌≤◌, ◌↔◌, true, length, drop, IfSome, IfOk, MatchResult, Err, Some, vec_len};
 ghost use Rattle.gc_graph.specs.Streams.{bytes_left, source_failed};
-ghost use Rattle.gc_graph.specs.Reading.{MayFailReading};
+ghost use Rattle.gc_graph.specs.ReadFaults.{MayFailReading};
 
 use crate::text::source::Source;
 use std::alloc::Global;

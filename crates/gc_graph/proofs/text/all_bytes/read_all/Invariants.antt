@@ -1,7 +1,7 @@
 use Rattle.std.proofs.Common.{◌≤◌, ◌+◌, ◌-◌, vec_len}
 use Rattle.std.specs.Io.KnownBytes.{Consumes}
 use Rattle.gc_graph.specs.Streams.{bytes_left}
-use Rattle.gc_graph.proofs.text.whole.read_all.Given as goal
+use Rattle.gc_graph.proofs.text.all_bytes.read_all.Given as goal
 
 abbrev pub invariant-loop-count : goal.invariant-loop-count
 invariant-loop-count g l = record {
