@@ -1,7 +1,7 @@
 ghost use Rattle.std.specs.Prelude.{◌≡◌, ◌≢◌, ◌↔◌, true, IfSome, IfOk, IfErr, OnOk, OnErr, Err};
 ghost use Rattle.gc_graph.specs.Streams.{bytes_left, bytes_written, source_failed, sink_failed};
 ghost use Rattle.gc_trace.specs.Faults.{MayFail};
-ghost use Rattle.gc_trace.specs.Playing.{PlaysFront};
+ghost use Rattle.gc_trace.specs.Plays.{PlaysFront};
 ghost use Rattle.gc_trace.specs.declared.fault.PlayFault.{PlayFault};
 ghost use Rattle.gc_trace.specs.declared.fault.TraceFault.{TraceFault};
 ghost use Rattle.gcflip.specs.Outcomes.{IsOfPlay};

@@ -11,8 +11,8 @@ use Rattle.gc_world.specs.declared.event.Event.{Event}
 use Rattle.gc_world.specs.declared.event.Event.TheVariants.{Mutate, Collect}
 use Rattle.gc_world.specs.declared.event.Entry.{Entry}
 use Rattle.gc_trace.specs.Grammar.{Recording, least_version, written, spelling, IsEvent, IsOf, IsTextOf}
-use Rattle.gc_trace.specs.Playing.{happened, run_events, opening, answers, last_state}
-use Rattle.gc_trace.specs.Running.{HasRun}
+use Rattle.gc_trace.specs.Plays.{happened, run_events, opening, answers, last_state}
+use Rattle.gc_trace.specs.WorldRuns.{HasRun}
 use Rattle.gc_trace.proofs.Versions.{least_range}
 
 wider_step : (mutators : ℕ) (step : Step) → mutators ≤ 16 → runs.IsStep mutators step → runs.IsStep 16 step

@@ -7,14 +7,14 @@ use Rattle.gc_shared.specs.declared.fault.ThreadsFault.{ThreadsFault}
 use Rattle.gc_shared.specs.declared.fault.ThreadsFault.TheVariants as threads
 use Rattle.gc_trace.specs.Faults.{IsReadAs}
 use Rattle.gc_trace.specs.Grammar.{Recording, spelling, written}
-use Rattle.gc_trace.specs.Playing.{happened}
+use Rattle.gc_trace.specs.Plays.{happened}
 use Rattle.gc_trace.specs.Scripts.{script_of}
 use Rattle.gc_trace.specs.declared.fault.TraceFault.{TraceFault}
 use Rattle.gc_trace.specs.declared.fault.TraceFault.TheVariants as trace
 use Rattle.gc_world.specs.History.{IsHistory}
 use Rattle.gc_world.specs.declared.event.Entry.{Entry}
-use Rattle.gcflip.specs.declared.threads.ThreadsRunFault.{ThreadsRunFault}
-use Rattle.gcflip.specs.declared.threads.ThreadsRunFault.TheVariants.{Trace, Threads, NoMemory}
+use Rattle.gcflip.specs.declared.commands.threads.ThreadsRunFault.{ThreadsRunFault}
+use Rattle.gcflip.specs.declared.commands.threads.ThreadsRunFault.TheVariants.{Trace, Threads, NoMemory}
 
 -- A history of a world of the trace's size and mutators: each mutator made its commands of the trace, in order, and
 -- the collector made so many steps, all as useful ones.

@@ -4,7 +4,7 @@ ghost use Rattle.gc_cert.specs.Faults.{MayFail};
 ghost use Rattle.gc_cert.specs.declared.fault.PairFault.{PairFault};
 ghost use Rattle.gc_check.specs.Texts.{TellsFront};
 ghost use Rattle.gc_check.specs.declared.verdict.RunFault.{RunFault};
-ghost use Rattle.gcflip.specs.Checking.{TellsVerdict, SpellsReplicated};
+ghost use Rattle.gcflip.specs.Verdicts.{TellsVerdict, SpellsReplicated};
 ghost use Rattle.gcflip.specs.Outcomes.{IsOfCheck};
 ghost use Rattle.gcflip.specs.Statuses.{verdict_status};
 

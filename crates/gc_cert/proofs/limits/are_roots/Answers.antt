@@ -1,6 +1,6 @@
 use Rattle.std.proofs.Common.{◌≤◌, IsTrue, ◌↔◌, arith, rules, nat_le, length}
 use Rattle.gc_cert.proofs.WordLists.{all_words}
-use Rattle.gc_cert.proofs.fits.are_roots.Goals as goal
+use Rattle.gc_cert.proofs.limits.are_roots.Goals as goal
 
 pub returns : goal.returns
 returns c =

@@ -9,13 +9,13 @@ use Rattle.std.specs.Prelude.{slice_index_or}
 use Rattle.gc_graph.specs.Streams.{SendsFront}
 use Rattle.gc_graph.specs.declared.command.Op.{Op}
 use Rattle.gc_shared.specs.Scripts.{HasRun}
-use Rattle.gc_trace.proofs.Played.{Reads}
+use Rattle.gc_trace.proofs.PlayOutput.{Reads}
 use Rattle.gc_trace.specs.Grammar.{Recording}
 use Rattle.gc_trace.specs.Scripts.{script_of, scripts}
 use Rattle.gc_world.specs.History.{IsHistory}
 use Rattle.gc_world.specs.World.{Past}
 use Rattle.gc_world.specs.declared.event.Entry.{Entry}
-use Rattle.gcflip.specs.Threading.{IsThreadedRun, WritesRun, WritesRunFront, recorded}
+use Rattle.gcflip.specs.ThreadedRuns.{IsThreadedRun, WritesRun, WritesRunFront, recorded}
 
 -- the scripts that are run are those of the trace
 abbrev pub AreScripts : Recording → List (Vec Op Global) → Type 0

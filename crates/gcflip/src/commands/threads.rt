@@ -4,7 +4,7 @@ ghost use Rattle.gc_trace.specs.Faults.{MayFail};
 ghost use Rattle.gc_trace.specs.declared.fault.TraceFault.{TraceFault};
 ghost use Rattle.gc_shared.specs.declared.fault.ThreadsFault.{ThreadsFault};
 ghost use Rattle.gcflip.specs.Outcomes.{IsOfThreads};
-ghost use Rattle.gcflip.specs.Threading.{WritesRun, WritesRunFront};
+ghost use Rattle.gcflip.specs.ThreadedRuns.{WritesRun, WritesRunFront};
 
 use crate::fault::Fault;
 use gc_graph::{NoMemory, Sink, Source};
@@ -35,7 +35,7 @@ pub enum ThreadsRunFault {
 
 impl From<TraceFault> for ThreadsRunFault {
     ghost use Rattle.std.specs.Prelude.{◌≡◌};
-    ghost use Rattle.gcflip.specs.Threading.{fault_of_trace};
+    ghost use Rattle.gcflip.specs.ThreadedRuns.{fault_of_trace};
 
     ghost from_gives = { λ fault made. made ≡ fault_of_trace fault };
 
@@ -49,7 +49,7 @@ impl From<TraceFault> for ThreadsRunFault {
 
 impl From<ThreadsFault> for ThreadsRunFault {
     ghost use Rattle.std.specs.Prelude.{◌≡◌};
-    ghost use Rattle.gcflip.specs.Threading.{fault_of_threads};
+    ghost use Rattle.gcflip.specs.ThreadedRuns.{fault_of_threads};
 
     ghost from_gives = { λ fault made. made ≡ fault_of_threads fault };
 
@@ -63,7 +63,7 @@ impl From<ThreadsFault> for ThreadsRunFault {
 
 impl From<NoMemory> for ThreadsRunFault {
     ghost use Rattle.std.specs.Prelude.{◌≡◌};
-    ghost use Rattle.gcflip.specs.declared.threads.ThreadsRunFault.TheVariants as faults;
+    ghost use Rattle.gcflip.specs.declared.commands.threads.ThreadsRunFault.TheVariants as faults;
 
     ghost from_gives = { λ fault made. made ≡ faults.NoMemory };
 

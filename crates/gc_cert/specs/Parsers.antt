@@ -1,7 +1,7 @@
--- Reading the words of a line from left to right.
+-- Reading the tokens of a line from left to right.
 use Rattle.std.specs.Prelude.{ℕ, ◌==◌, ◌&&◌, Bool, true, nat_le, List, [], ◌∷◌, Option, Some, None, if◌then◌else◌}
 use Rattle.std.specs.Str.{bytes_eq}
-use Rattle.gc_graph.specs.Words.{◌>>=◌, Words, number_of, number_at, word_at, end_of}
+use Rattle.gc_graph.specs.Tokens.{◌>>=◌, Tokens, number_of, number_at, token_at, end_of}
 
 -- each byte is above the digits, and so none is a space or a line feed
 abbrev pub is_name : List ℕ → Bool
@@ -17,24 +17,24 @@ abbrev pub word_in : List ℕ → Option ℕ
 word_in line = number_of 18446744073709551615 line
 
 -- a name and a number up to this
-unfoldable pub count_of : List ℕ → ℕ → Words → Option ℕ
-count_of name most words = do
-  rest ← word_at name words
+unfoldable pub count_of : List ℕ → ℕ → Tokens → Option ℕ
+count_of name most tokens = do
+  rest ← token_at name tokens
   count ← number_at most rest
   end_of count.0 count.1
 
 -- a name, and the size and the end of an image
-unfoldable pub sizes_of : List ℕ → Words → Option (ℕ × ℕ)
-sizes_of name words = do
-  rest ← word_at name words
+unfoldable pub sizes_of : List ℕ → Tokens → Option (ℕ × ℕ)
+sizes_of name tokens = do
+  rest ← token_at name tokens
   size ← number_at 1048576 rest
   end ← number_at 1048576 size.1
   sizes ← end_of (size.0, end.0) end.1
   if sizes.0 == 0 then None else if sizes.1 == 0 then None else Some sizes
 
 -- an old and a new address
-unfoldable pub pair_of : Words → Option (ℕ × ℕ)
-pair_of words = do
-  old ← number_at 4294967295 words
+unfoldable pub pair_of : Tokens → Option (ℕ × ℕ)
+pair_of tokens = do
+  old ← number_at 4294967295 tokens
   new ← number_at 4294967295 old.1
   end_of (old.0, new.0) new.1

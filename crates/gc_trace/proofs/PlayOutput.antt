@@ -8,7 +8,7 @@ use Rattle.gc_trace.specs.Grammar.{Recording}
 use Rattle.gc_trace.specs.Faults.{IsReadAs}
 use Rattle.gc_trace.specs.Replies.{reply_text}
 use Rattle.gc_trace.specs.Report.{report_of, report_text}
-use Rattle.gc_trace.specs.Playing.{answers, last_state, report_in, Plays, PlaysFront, Reports, ReportsFront}
+use Rattle.gc_trace.specs.Plays.{answers, last_state, report_in, Plays, PlaysFront, Reports, ReportsFront}
 use Rattle.gc_trace.specs.declared.report.Report.{Report}
 
 -- the text that the reader gave, where it tells it, is this trace's

@@ -1,6 +1,6 @@
 use Rattle.std.proofs.Common.{◌≡◌, IsTrue, ◌↔◌, arith, rules, nat_eq, length}
 use Rattle.gc_cert.proofs.WordLists.{all_words}
-use Rattle.gc_cert.proofs.fits.are_words.Goals as goal
+use Rattle.gc_cert.proofs.limits.are_words.Goals as goal
 
 pub returns : goal.returns
 returns c =

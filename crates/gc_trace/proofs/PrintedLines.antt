@@ -6,12 +6,12 @@ use Rattle.std.specs.List.{flat_map}
 use Rattle.std.proofs.lemmas.List.Concat.{flat_map-append, flat_map-cons}
 use Rattle.std.proofs.lemmas.List.Folds.{flat_map-map}
 use Rattle.gc_graph.specs.Streams.{SendsFront, HasSent}
-use Rattle.gc_graph.proofs.Sending.{sent_then, sent_at_last, front_sent}
+use Rattle.gc_graph.proofs.SentText.{sent_then, sent_at_last, front_sent}
 use Rattle.gc_world.specs.History.{run_answer, answers_of}
 use Rattle.gc_world.specs.declared.event.Entry.{Entry}
 use Rattle.gc_trace.specs.Grammar.{event_line, heading, spelling, least_version, written}
 use Rattle.gc_trace.specs.Replies.{reply_line, reply_text}
-use Rattle.gc_trace.specs.Playing.{happened}
+use Rattle.gc_trace.specs.Plays.{happened}
 
 -- the front, and the lines of the first i
 abbrev pub lines_to : {X : Type 0} → List ℕ → (X → List ℕ) → List X → ℕ → List ℕ

@@ -1,6 +1,6 @@
 use Rattle.gc_trace.specs.Views.{recording}
-use Rattle.gcflip.proofs.Threaded.{threaded, writes_run, writes_run_front}
-use Rattle.gcflip.proofs.threads.threads_run.Goals as goal
+use Rattle.gcflip.proofs.ThreadedRuns.{threaded, writes_run, writes_run_front}
+use Rattle.gcflip.proofs.commands.threads.threads_run.Goals as goal
 
 pub returns-in-Ok-clause-ran : goal.returns-in-Ok-clause-ran
 returns-in-Ok-clause-ran g c =

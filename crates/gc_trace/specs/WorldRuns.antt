@@ -10,7 +10,7 @@ use Rattle.gc_world.specs.World.{Past, present}
 use Rattle.gc_world.specs.declared.event.Event.{Event}
 use Rattle.gc_world.specs.declared.event.Event.TheVariants.{Mutate, Collect}
 use Rattle.gc_trace.specs.Grammar.{Recording}
-use Rattle.gc_trace.specs.Playing.{happened}
+use Rattle.gc_trace.specs.Plays.{happened}
 
 -- the pair that is kept after an event in this state
 abbrev pub kept_with : Option CertifiedPair → State → Event → Option CertifiedPair
