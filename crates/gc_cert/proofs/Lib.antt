@@ -1,6 +1,6 @@
 pub mod SameLines
 pub mod OneReading
-pub mod Limit
+pub mod TextLimit
 pub mod RowProofs
 pub mod Stops
 pub mod Forms
@@ -8,4 +8,4 @@ pub mod LineForms
 pub mod Parts
 pub mod Total
 pub mod WordLists
-pub mod Printed
+pub mod PrintedLines

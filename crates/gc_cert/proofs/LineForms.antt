@@ -5,13 +5,13 @@ use Rattle.std.specs.Str.{bytes_eq}
 use Rattle.std.proofs.lemmas.Bool.{and_parts, leb-true, ne_eqb}
 use Rattle.std.proofs.lemmas.Option.{cond_some}
 use Rattle.std.proofs.lemmas.Slice.Eq.{bytes_eq-Decides}
-use Rattle.gc_graph.specs.Lines.{HasNo, space, joined, words_of}
-use Rattle.gc_graph.specs.Words.{◌>>=◌, Words, number_at, word_at, end_of}
+use Rattle.gc_graph.specs.Lines.{HasNo, space, joined, tokens_of}
+use Rattle.gc_graph.specs.Tokens.{◌>>=◌, Tokens, number_at, token_at, end_of}
 use Rattle.gc_graph.proofs.Decimals.{number_found, number_again}
-use Rattle.gc_graph.proofs.LineLemmas.{HasNo-decimal, words_of-joined, joined-words_of}
-use Rattle.gc_graph.proofs.WordReading.{bind_some, onto, number_at_found, number_at_again, word_at_found, word_at_again, end_found, end_again, positive, some_is}
+use Rattle.gc_graph.proofs.LineLemmas.{HasNo-decimal, tokens_of-joined, joined-tokens_of}
+use Rattle.gc_graph.proofs.TokenParsers.{bind_some, onto, number_at_found, number_at_again, token_at_found, token_at_again, end_found, end_again, positive, some_is}
 use Rattle.gc_cert.specs.Grammar.{pair_line, count_line, size_line, IsWord, AreAddresses, AreSizes}
-use Rattle.gc_cert.specs.Reading.{is_name, is_line, word_in, count_of, sizes_of, pair_of}
+use Rattle.gc_cert.specs.Parsers.{is_name, is_line, word_in, count_of, sizes_of, pair_of}
 use Rattle.gc_cert.specs.Sections.{Nothing}
 use Rattle.gc_cert.proofs.Forms.{IsForm}
 
@@ -21,9 +21,9 @@ HasNo-name c (b ∷ name) low e =
     let p = and_parts (leb 58 b) (is_name name) e in
     (omega (arith, low, leb-true 58 b p.0), HasNo-name c name low p.1)
 
--- what was read of the words of a line was joined to it
-from_words : (line : List ℕ) (words : Words) → words_of line ≡ words → line ≡ joined words
-from_words line words e = sym (joined-words_of line) ∙ ap joined e
+-- what was read of the tokens of a line was joined to it
+from_tokens : (line : List ℕ) (tokens : Tokens) → tokens_of line ≡ tokens → line ≡ joined tokens
+from_tokens line tokens e = sym (joined-tokens_of line) ∙ ap joined e
 
 no_space : (n : ℕ) → n < 2 ^ 64 → HasNo space (decimal n)
 no_space n small = HasNo-decimal space n (omega arith) small
@@ -53,26 +53,26 @@ word_form = record {
   again = λ w small. number_again 18446744073709551615 w (omega (arith, small)) small;
 }
 
-count_found : (name : List ℕ) (most : ℕ) (words : Words) (n : ℕ) → count_of name most words ≡ Some n → (n ≤ most) × (words ≡ name ∷ decimal n ∷ [])
+count_found : (name : List ℕ) (most : ℕ) (tokens : Tokens) (n : ℕ) → count_of name most tokens ≡ Some n → (n ≤ most) × (tokens ≡ name ∷ decimal n ∷ [])
 unfolding count_of
-count_found name most words n e =
-    let a0 = bind_some (word_at name words) (λ rest. number_at most rest >>= λ count. end_of count.0 count.1) n e in
+count_found name most tokens n e =
+    let a0 = bind_some (token_at name tokens) (λ rest. number_at most rest >>= λ count. end_of count.0 count.1) n e in
     let a1 = bind_some (number_at most a0.0) (λ count. end_of count.0 count.1) n a0.2 in
     let z = end_found a1.0.0 a1.0.1 n a1.2 in
-    let w0 = word_at_found name words a0.0 a0.1 in
+    let w0 = token_at_found name tokens a0.0 a0.1 in
     let w1 = number_at_found most a0.0 a1.0 a1.1 in
-    subst (λ (m : ℕ). (m ≤ most) × (words ≡ name ∷ decimal m ∷ [])) z.1 (w1.1, w0 ∙ onto name (w1.0 ∙ onto (decimal a1.0.0) z.0))
+    subst (λ (m : ℕ). (m ≤ most) × (tokens ≡ name ∷ decimal m ∷ [])) z.1 (w1.1, w0 ∙ onto name (w1.0 ∙ onto (decimal a1.0.0) z.0))
 
 count_again : (name : List ℕ) (most n : ℕ) → n ≤ most → most < 2 ^ 64 → count_of name most (name ∷ decimal n ∷ []) ≡ Some n
 unfolding count_of
-count_again name most n le small = rw (word_at_again name (decimal n ∷ []), number_at_again most n [] le (omega arith), end_again n) refl
+count_again name most n le small = rw (token_at_again name (decimal n ∷ []), number_at_again most n [] le (omega arith), end_again n) refl
 
-pub count_form : (name : List ℕ) (most : ℕ) → is_name name ≡ true → most < 2 ^ 64 → IsForm (λ n. n ≤ most) (count_line name) (λ line. count_of name most (words_of line))
+pub count_form : (name : List ℕ) (most : ℕ) → is_name name ≡ true → most < 2 ^ 64 → IsForm (λ n. n ≤ most) (count_line name) (λ line. count_of name most (tokens_of line))
 count_form name most named small = record {
   some = 0;
   in_range = omega arith;
-  found = λ line n e. (let f = count_found name most (words_of line) n e in (f.0, from_words line (name ∷ decimal n ∷ []) f.1));
-  again = λ n le. ap (count_of name most) (words_of-joined name (decimal n ∷ []) (HasNo-name space name (omega arith) named, (no_space n (omega (arith, le, small)), tt))) ∙ count_again name most n le small;
+  found = λ line n e. (let f = count_found name most (tokens_of line) n e in (f.0, from_tokens line (name ∷ decimal n ∷ []) f.1));
+  again = λ n le. ap (count_of name most) (tokens_of-joined name (decimal n ∷ []) (HasNo-name space name (omega arith) named, (no_space n (omega (arith, le, small)), tt))) ∙ count_again name most n le small;
 }
 
 sizes_checked : (x s : ℕ × ℕ) → cond (eqb x.0 0) None (cond (eqb x.1 0) None (Some x)) ≡ Some s → (1 ≤ x.0) × (1 ≤ x.1) × (x ≡ s)
@@ -81,59 +81,59 @@ sizes_checked x s e =
     let q = positive x.1 (eqb x.1 0) (Some x) s refl p.1 in
     (p.0, q.0, some_is x s q.1)
 
-sizes_are : (name : List ℕ) (words rest : Words) (size end : ℕ × Words) (x s : ℕ × ℕ) → word_at name words ≡ Some rest → number_at 1048576 rest ≡ Some size → number_at 1048576 size.1 ≡ Some end → end_of (size.0, end.0) end.1 ≡ Some x
-    → (1 ≤ x.0) × (1 ≤ x.1) × (x ≡ s) → AreSizes s × (words ≡ name ∷ decimal s.0 ∷ decimal s.1 ∷ [])
-sizes_are name words rest size end x s named first second last c =
+sizes_are : (name : List ℕ) (tokens rest : Tokens) (size end : ℕ × Tokens) (x s : ℕ × ℕ) → token_at name tokens ≡ Some rest → number_at 1048576 rest ≡ Some size → number_at 1048576 size.1 ≡ Some end → end_of (size.0, end.0) end.1 ≡ Some x
+    → (1 ≤ x.0) × (1 ≤ x.1) × (x ≡ s) → AreSizes s × (tokens ≡ name ∷ decimal s.0 ∷ decimal s.1 ∷ [])
+sizes_are name tokens rest size end x s named first second last c =
     let z = end_found {A = ℕ × ℕ} (size.0, end.0) end.1 x last in
-    let w0 = word_at_found name words rest named in
+    let w0 = token_at_found name tokens rest named in
     let w1 = number_at_found 1048576 rest size first in
     let w2 = number_at_found 1048576 size.1 end second in
     let low : (1 ≤ size.0) × (1 ≤ end.0) = subst (λ (r : ℕ × ℕ). (1 ≤ r.0) × (1 ≤ r.1)) (sym z.1) (c.0, c.1) in
-    subst (λ (r : ℕ × ℕ). AreSizes r × (words ≡ name ∷ decimal r.0 ∷ decimal r.1 ∷ [])) (z.1 ∙ c.2) ((low.0, w1.1, low.1, w2.1), w0 ∙ onto name (w1.0 ∙ onto (decimal size.0) (w2.0 ∙ onto (decimal end.0) z.0)))
+    subst (λ (r : ℕ × ℕ). AreSizes r × (tokens ≡ name ∷ decimal r.0 ∷ decimal r.1 ∷ [])) (z.1 ∙ c.2) ((low.0, w1.1, low.1, w2.1), w0 ∙ onto name (w1.0 ∙ onto (decimal size.0) (w2.0 ∙ onto (decimal end.0) z.0)))
 
-sizes_found : (name : List ℕ) (words : Words) (s : ℕ × ℕ) → sizes_of name words ≡ Some s → AreSizes s × (words ≡ name ∷ decimal s.0 ∷ decimal s.1 ∷ [])
+sizes_found : (name : List ℕ) (tokens : Tokens) (s : ℕ × ℕ) → sizes_of name tokens ≡ Some s → AreSizes s × (tokens ≡ name ∷ decimal s.0 ∷ decimal s.1 ∷ [])
 unfolding sizes_of
-sizes_found name words s e =
-    let a0 = bind_some (word_at name words) (λ rest. number_at 1048576 rest >>= λ size. number_at 1048576 size.1 >>= λ end. end_of (size.0, end.0) end.1 >>= λ sizes. cond (eqb sizes.0 0) None (cond (eqb sizes.1 0) None (Some sizes))) s e in
+sizes_found name tokens s e =
+    let a0 = bind_some (token_at name tokens) (λ rest. number_at 1048576 rest >>= λ size. number_at 1048576 size.1 >>= λ end. end_of (size.0, end.0) end.1 >>= λ sizes. cond (eqb sizes.0 0) None (cond (eqb sizes.1 0) None (Some sizes))) s e in
     let a1 = bind_some (number_at 1048576 a0.0) (λ size. number_at 1048576 size.1 >>= λ end. end_of (size.0, end.0) end.1 >>= λ sizes. cond (eqb sizes.0 0) None (cond (eqb sizes.1 0) None (Some sizes))) s a0.2 in
     let a2 = bind_some (number_at 1048576 a1.0.1) (λ end. end_of (a1.0.0, end.0) end.1 >>= λ sizes. cond (eqb sizes.0 0) None (cond (eqb sizes.1 0) None (Some sizes))) s a1.2 in
     let a3 = bind_some (end_of (a1.0.0, a2.0.0) a2.0.1) (λ sizes. cond (eqb sizes.0 0) None (cond (eqb sizes.1 0) None (Some sizes))) s a2.2 in
-    sizes_are name words a0.0 a1.0 a2.0 a3.0 s a0.1 a1.1 a2.1 a3.1 (sizes_checked a3.0 s a3.2)
+    sizes_are name tokens a0.0 a1.0 a2.0 a3.0 s a0.1 a1.1 a2.1 a3.1 (sizes_checked a3.0 s a3.2)
 
 sizes_again : (name : List ℕ) (size end : ℕ) → AreSizes (size, end) → sizes_of name (name ∷ decimal size ∷ decimal end ∷ []) ≡ Some (size, end)
 unfolding sizes_of
 sizes_again name size end fits =
     let s : eqb size 0 ≡ false = ne_eqb size 0 (omega (arith, fits)) in
     let e : eqb end 0 ≡ false = ne_eqb end 0 (omega (arith, fits)) in
-    rw (word_at_again name (decimal size ∷ decimal end ∷ []), number_at_again 1048576 size (decimal end ∷ []) fits.1 (omega (arith, fits)), number_at_again 1048576 end [] fits.3 (omega (arith, fits)), end_again {A = ℕ × ℕ} (size, end), s, e) refl
+    rw (token_at_again name (decimal size ∷ decimal end ∷ []), number_at_again 1048576 size (decimal end ∷ []) fits.1 (omega (arith, fits)), number_at_again 1048576 end [] fits.3 (omega (arith, fits)), end_again {A = ℕ × ℕ} (size, end), s, e) refl
 
-pub size_form : (name : List ℕ) → is_name name ≡ true → IsForm AreSizes (λ s. size_line name s.0 s.1) (λ line. sizes_of name (words_of line))
+pub size_form : (name : List ℕ) → is_name name ≡ true → IsForm AreSizes (λ s. size_line name s.0 s.1) (λ line. sizes_of name (tokens_of line))
 size_form name named = record {
   some = (1, 1);
   in_range = (omega arith, omega arith, omega arith, omega arith);
-  found = λ line s e. (let f = sizes_found name (words_of line) s e in (f.0, from_words line (name ∷ decimal s.0 ∷ decimal s.1 ∷ []) f.1));
-  again = λ s fits. ap (sizes_of name) (words_of-joined name (decimal s.0 ∷ decimal s.1 ∷ []) (HasNo-name space name (omega arith) named, (no_space s.0 (omega (arith, fits)), (no_space s.1 (omega (arith, fits)), tt)))) ∙ sizes_again name s.0 s.1 fits;
+  found = λ line s e. (let f = sizes_found name (tokens_of line) s e in (f.0, from_tokens line (name ∷ decimal s.0 ∷ decimal s.1 ∷ []) f.1));
+  again = λ s fits. ap (sizes_of name) (tokens_of-joined name (decimal s.0 ∷ decimal s.1 ∷ []) (HasNo-name space name (omega arith) named, (no_space s.0 (omega (arith, fits)), (no_space s.1 (omega (arith, fits)), tt)))) ∙ sizes_again name s.0 s.1 fits;
 }
 
-pair_found : (words : Words) (p : ℕ × ℕ) → pair_of words ≡ Some p → AreAddresses p × (words ≡ decimal p.0 ∷ decimal p.1 ∷ [])
+pair_found : (tokens : Tokens) (p : ℕ × ℕ) → pair_of tokens ≡ Some p → AreAddresses p × (tokens ≡ decimal p.0 ∷ decimal p.1 ∷ [])
 unfolding pair_of
-pair_found words p e =
-    let a0 = bind_some (number_at 4294967295 words) (λ old. number_at 4294967295 old.1 >>= λ new. end_of (old.0, new.0) new.1) p e in
+pair_found tokens p e =
+    let a0 = bind_some (number_at 4294967295 tokens) (λ old. number_at 4294967295 old.1 >>= λ new. end_of (old.0, new.0) new.1) p e in
     let a1 = bind_some (number_at 4294967295 a0.0.1) (λ new. end_of (a0.0.0, new.0) new.1) p a0.2 in
     let z = end_found {A = ℕ × ℕ} (a0.0.0, a1.0.0) a1.0.1 p a1.2 in
-    let w0 = number_at_found 4294967295 words a0.0 a0.1 in
+    let w0 = number_at_found 4294967295 tokens a0.0 a0.1 in
     let w1 = number_at_found 4294967295 a0.0.1 a1.0 a1.1 in
-    subst (λ (q : ℕ × ℕ). AreAddresses q × (words ≡ decimal q.0 ∷ decimal q.1 ∷ [])) z.1 ((omega (arith, w0.1), omega (arith, w1.1)), w0.0 ∙ onto (decimal a0.0.0) (w1.0 ∙ onto (decimal a1.0.0) z.0))
+    subst (λ (q : ℕ × ℕ). AreAddresses q × (tokens ≡ decimal q.0 ∷ decimal q.1 ∷ [])) z.1 ((omega (arith, w0.1), omega (arith, w1.1)), w0.0 ∙ onto (decimal a0.0.0) (w1.0 ∙ onto (decimal a1.0.0) z.0))
 
 pair_again : (old new : ℕ) → AreAddresses (old, new) → pair_of (decimal old ∷ decimal new ∷ []) ≡ Some (old, new)
 unfolding pair_of
 pair_again old new fits =
     rw (number_at_again 4294967295 old (decimal new ∷ []) (omega (arith, fits.0)) (omega (arith, fits.0)), number_at_again 4294967295 new [] (omega (arith, fits.1)) (omega (arith, fits.1)), end_again {A = ℕ × ℕ} (old, new)) refl
 
-pub pair_form : IsForm AreAddresses pair_line (λ line. pair_of (words_of line))
+pub pair_form : IsForm AreAddresses pair_line (λ line. pair_of (tokens_of line))
 pair_form = record {
   some = (0, 0);
   in_range = (omega arith, omega arith);
-  found = λ line p e. (let f = pair_found (words_of line) p e in (f.0, from_words line (decimal p.0 ∷ decimal p.1 ∷ []) f.1));
-  again = λ p fits. ap pair_of (words_of-joined (decimal p.0) (decimal p.1 ∷ []) (no_space p.0 (omega (arith, fits.0)), (no_space p.1 (omega (arith, fits.1)), tt))) ∙ pair_again p.0 p.1 fits;
+  found = λ line p e. (let f = pair_found (tokens_of line) p e in (f.0, from_tokens line (decimal p.0 ∷ decimal p.1 ∷ []) f.1));
+  again = λ p fits. ap pair_of (tokens_of-joined (decimal p.0) (decimal p.1 ∷ []) (no_space p.0 (omega (arith, fits.0)), (no_space p.1 (omega (arith, fits.1)), tt))) ∙ pair_again p.0 p.1 fits;
 }

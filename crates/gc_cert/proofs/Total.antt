@@ -5,12 +5,12 @@ use Rattle.std.specs.Fmt.{decimal}
 use Rattle.std.specs.List.{AllByRecursion}
 use Rattle.std.proofs.lemmas.Bool.{leb-true}
 use Rattle.std.proofs.lemmas.List.{append-nil}
-use Rattle.gc_graph.specs.Lines.{text_of, words_of}
+use Rattle.gc_graph.specs.Lines.{text_of, tokens_of}
 use Rattle.gc_graph.proofs.LineLemmas.{Cut, cut}
 use Rattle.gc_cert.specs.Grammar.{image_alone, CertifiedPair, pair_line, count_line, size_line, certificate_lines, lines_of, spelling, IsWord, AreAddresses, AreSizes, IsCertificate, HasImageText, HasText, IsTextOf}
-use Rattle.gc_cert.specs.Faults.{limit, AreFirst, AreWhole, HasWrongLine, HasByteBehind, IsCutOff, IsFaultOf, IsReadAs, MayFail}
+use Rattle.gc_cert.specs.Faults.{limit, AreFirst, AreWhole, HasWrongLine, HasByteBehind, IsCutOff, IsPairFaultOf, IsReadAs, MayFail}
 use Rattle.gc_cert.specs.Sections.{Nothing, alone, AreAll, Place, start, IsNext, HasTaken, Section, Spelled, Begins, IsWrongAt, IsCutIn, MayStop}
-use Rattle.gc_cert.specs.Reading.{is_name, is_line, word_in, count_of, sizes_of, pair_of}
+use Rattle.gc_cert.specs.Parsers.{is_name, is_line, word_in, count_of, sizes_of, pair_of}
 use Rattle.gc_cert.specs.declared.fault.PairFault.{PairFault}
 use Rattle.gc_cert.specs.declared.fault.PairFault.TheVariants.{Read, TooLarge, BadLine, EndsEarly, NoMemory}
 use Rattle.gc_cert.proofs.Stops.{Delimits, BeginsWith, taken_then, wrong_within, cut_within}
@@ -65,29 +65,29 @@ all_outcome {V} InRange line_of read n p form = go n [] p (omega arith) tt (reco
 image_outcome : (name : List ℕ) (p : Place) → is_name name ≡ true → Outcome HasImageText (image_alone name) p
 unfolding Outcome
 image_outcome name p named =
-    next AreSizes (alone (λ s. size_line name s.0 s.1)) (ImageSection name) [] p p (alone_delimits AreSizes (λ s. size_line name s.0 s.1) (λ line. sizes_of name (words_of line)) (size_form name named)) (image_sizes name) (none_taken p)
-    (line_outcome AreSizes (λ s. size_line name s.0 s.1) (λ line. sizes_of name (words_of line)) p (size_form name named)) (λ s a fits first.
+    next AreSizes (alone (λ s. size_line name s.0 s.1)) (ImageSection name) [] p p (alone_delimits AreSizes (λ s. size_line name s.0 s.1) (λ line. sizes_of name (tokens_of line)) (size_form name named)) (image_sizes name) (none_taken p)
+    (line_outcome AreSizes (λ s. size_line name s.0 s.1) (λ line. sizes_of name (tokens_of line)) p (size_form name named)) (λ s a fits first.
     next (AreAll IsWord s.1) (map decimal) (ImageSection name) (size_line name s.0 s.1 ∷ []) p a (all_delimit IsWord decimal word_in s.1 word_form) (image_words name s fits) first (all_outcome IsWord decimal word_in s.1 a word_form) (λ words b ws second.
-    next (λ n. n ≤ 272) (alone (count_line (codes "roots"))) (ImageSection name) ((size_line name s.0 s.1 ∷ []) ++ map decimal words) p b (alone_delimits (λ n. n ≤ 272) (count_line (codes "roots")) (λ line. count_of (codes "roots") 272 (words_of line)) roots)
-    (image_count name s words fits ws) second (line_outcome (λ n. n ≤ 272) (count_line (codes "roots")) (λ line. count_of (codes "roots") 272 (words_of line)) b roots) (λ n c le third.
+    next (λ n. n ≤ 272) (alone (count_line (codes "roots"))) (ImageSection name) ((size_line name s.0 s.1 ∷ []) ++ map decimal words) p b (alone_delimits (λ n. n ≤ 272) (count_line (codes "roots")) (λ line. count_of (codes "roots") 272 (tokens_of line)) roots)
+    (image_count name s words fits ws) second (line_outcome (λ n. n ≤ 272) (count_line (codes "roots")) (λ line. count_of (codes "roots") 272 (tokens_of line)) b roots) (λ n c le third.
     next (AreAll IsWord n) (map decimal) (ImageSection name) (up_to_count name s words n) p c (all_delimit IsWord decimal word_in n word_form) (image_roots name s words n fits ws le) third (all_outcome IsWord decimal word_in n c word_form) (λ rs d all last.
     (let whole = image_taken name s words rs n p d fits ws le all last in inl (made_image s words rs, d, whole.0, whole.1))))))
   where
-    roots : IsForm (λ n. n ≤ 272) (count_line (codes "roots")) (λ line. count_of (codes "roots") 272 (words_of line))
+    roots : IsForm (λ n. n ≤ 272) (count_line (codes "roots")) (λ line. count_of (codes "roots") 272 (tokens_of line))
     roots = count_form (codes "roots") 272 refl (omega arith)
 
 certificate_outcome : (p : Place) → Outcome IsCertificate certificate_lines p
 unfolding Outcome
 certificate_outcome p =
-    next (λ n. n ≤ 524287) (alone (count_line (codes "pairs"))) CertificateSection [] p p (alone_delimits (λ n. n ≤ 524287) (count_line (codes "pairs")) (λ line. count_of (codes "pairs") 524287 (words_of line)) count) certificate_count (none_taken p)
-    (line_outcome (λ n. n ≤ 524287) (count_line (codes "pairs")) (λ line. count_of (codes "pairs") 524287 (words_of line)) p count) (λ n a le first.
-    next (AreAll AreAddresses n) (map pair_line) CertificateSection (pairs_line n ∷ []) p a (all_delimit AreAddresses pair_line (λ line. pair_of (words_of line)) n pair_form) (certificate_pairs n le) first
-    (all_outcome AreAddresses pair_line (λ line. pair_of (words_of line)) n a pair_form) (λ pairs b ps second.
+    next (λ n. n ≤ 524287) (alone (count_line (codes "pairs"))) CertificateSection [] p p (alone_delimits (λ n. n ≤ 524287) (count_line (codes "pairs")) (λ line. count_of (codes "pairs") 524287 (tokens_of line)) count) certificate_count (none_taken p)
+    (line_outcome (λ n. n ≤ 524287) (count_line (codes "pairs")) (λ line. count_of (codes "pairs") 524287 (tokens_of line)) p count) (λ n a le first.
+    next (AreAll AreAddresses n) (map pair_line) CertificateSection (pairs_line n ∷ []) p a (all_delimit AreAddresses pair_line (λ line. pair_of (tokens_of line)) n pair_form) (certificate_pairs n le) first
+    (all_outcome AreAddresses pair_line (λ line. pair_of (tokens_of line)) n a pair_form) (λ pairs b ps second.
     next Nothing (alone (λ _. codes "end")) CertificateSection (up_to_end n pairs) p b (alone_delimits Nothing (λ _. codes "end") (is_line (codes "end")) (fixed_form (codes "end"))) (certificate_end n pairs le ps) second
     (line_outcome Nothing (λ _. codes "end") (is_line (codes "end")) b (fixed_form (codes "end"))) (λ _ c _ last.
     (let whole = certificate_taken n pairs p c le ps last in inl (pairs, c, whole.0, whole.1)))))
   where
-    count : IsForm (λ n. n ≤ 524287) (count_line (codes "pairs")) (λ line. count_of (codes "pairs") 524287 (words_of line))
+    count : IsForm (λ n. n ≤ 524287) (count_line (codes "pairs")) (λ line. count_of (codes "pairs") 524287 (tokens_of line))
     count = count_form (codes "pairs") 524287 refl (omega arith)
 
 text_outcome : (p : Place) → Outcome HasText lines_of p
@@ -173,7 +173,7 @@ went_on f text p after fault began le taken (some, is) = subst (λ (g : PairFaul
 
 -- a value, or a first fault
 abbrev pub Answered : List ℕ → Type 0
-Answered text = ((f : CertifiedPair) × IsReadAs f text) ⊎ ((fault : PairFault) × IsFaultOf fault text)
+Answered text = ((f : CertifiedPair) × IsReadAs f text) ⊎ ((fault : PairFault) × IsPairFaultOf fault text)
 
 answered : (text : List ℕ) → length text ≤ limit → Outcome HasText lines_of (start text) → Answered text
 unfolding Outcome Stops

@@ -1,8 +1,8 @@
 -- The first fault of a text that was read to its end.
 use Rattle.std.specs.Prelude.{◌≡◌, ℕ, ◌+◌, ◌<◌, ◌≤◌, ⊤, ◌⊎◌, List, [], ◌∷◌, ◌++◌, length}
 use Rattle.gc_graph.specs.Lines.{newline, HasNo, text_of}
-use Rattle.gc_graph.specs.declared.text.whole.ReadFault.{ReadFault}
-use Rattle.gc_graph.specs.declared.text.whole.ReadFault.TheVariants as reading
+use Rattle.gc_graph.specs.declared.text.all_bytes.ReadFault.{ReadFault}
+use Rattle.gc_graph.specs.declared.text.all_bytes.ReadFault.TheVariants as reading
 use Rattle.gc_cert.specs.Grammar.{CertifiedPair, HasText, IsTextOf, lines_of}
 use Rattle.gc_cert.specs.declared.fault.PairFault.{PairFault}
 use Rattle.gc_cert.specs.declared.fault.PairFault.TheVariants.{Read, TooLarge, BadLine, EndsEarly, NoMemory}
@@ -48,12 +48,12 @@ pub record IsCutOff (text : List ℕ) : Type 0 where
   pub not_all : ¬ AreWhole before
 
 -- this is the text's first fault; `Read` and `NoMemory` are none of the text's
-abbrev pub IsFaultOf : PairFault → List ℕ → Type 0
-IsFaultOf Read text = ⊥
-IsFaultOf TooLarge text = limit < length text
-IsFaultOf (BadLine n) text = (length text ≤ limit) × (HasWrongLine text n ⊎ HasByteBehind text n)
-IsFaultOf EndsEarly text = (length text ≤ limit) × IsCutOff text
-IsFaultOf NoMemory text = ⊥
+abbrev pub IsPairFaultOf : PairFault → List ℕ → Type 0
+IsPairFaultOf Read text = ⊥
+IsPairFaultOf TooLarge text = limit < length text
+IsPairFaultOf (BadLine n) text = (length text ≤ limit) × (HasWrongLine text n ⊎ HasByteBehind text n)
+IsPairFaultOf EndsEarly text = (length text ≤ limit) × IsCutOff text
+IsPairFaultOf NoMemory text = ⊥
 
 -- the value that the text is read as
 abbrev pub IsReadAs : CertifiedPair → List ℕ → Type 0
@@ -63,9 +63,9 @@ IsReadAs f text = IsTextOf f text × (length text ≤ limit)
 abbrev pub MayFail : PairFault → List ℕ → Type 0
 MayFail Read text = ⊤
 MayFail NoMemory text = ⊤
-MayFail TooLarge text = IsFaultOf TooLarge text
-MayFail (BadLine n) text = IsFaultOf (BadLine n) text
-MayFail EndsEarly text = IsFaultOf EndsEarly text
+MayFail TooLarge text = IsPairFaultOf TooLarge text
+MayFail (BadLine n) text = IsPairFaultOf (BadLine n) text
+MayFail EndsEarly text = IsPairFaultOf EndsEarly text
 
 -- what a reader's own fault is called
 abbrev pub fault_of_reading : ReadFault → PairFault

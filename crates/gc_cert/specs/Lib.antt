@@ -3,5 +3,5 @@ pub mod Faults
 pub mod Rows
 pub mod Views
 pub mod Sections
-pub mod Reading
-pub mod Printing
+pub mod Parsers
+pub mod PrintedLines

@@ -2,7 +2,7 @@
 use Rattle.std.specs.Prelude.{◌≡◌, [], ◌∷◌, ◌++◌, replicate, codes}
 use Rattle.gc_words.specs.Image.{Image}
 use Rattle.gc_cert.specs.Grammar.{CertifiedPair, lines_of}
-use Rattle.gc_cert.specs.Faults.{IsReadAs, IsFaultOf}
+use Rattle.gc_cert.specs.Faults.{IsReadAs, IsPairFaultOf}
 use Rattle.gc_cert.specs.declared.fault.PairFault.TheVariants.{BadLine, EndsEarly}
 
 abbrev pub least_image : Image
@@ -21,13 +21,13 @@ one_kept = record {
 
 pub record Rows : Type 0 where
   pub least_read : IsReadAs least (codes "heappair 1\nold 1 1\n0\nroots 1\n0\nnew 1 1\n0\nroots 1\n0\npairs 0\nend\n")
-  pub without_end : IsFaultOf EndsEarly (codes "heappair 1\nold 1 1\n0\nroots 1\n0\nnew 1 1\n0\nroots 1\n0\npairs 0\n")
-  pub unfinished_end : IsFaultOf EndsEarly (codes "heappair 1\nold 1 1\n0\nroots 1\n0\nnew 1 1\n0\nroots 1\n0\npairs 0\nend")
-  pub nothing : IsFaultOf EndsEarly []
-  pub no_line : IsFaultOf EndsEarly (codes "x")
-  pub behind : IsFaultOf (BadLine 12) (codes "heappair 1\nold 1 1\n0\nroots 1\n0\nnew 1 1\n0\nroots 1\n0\npairs 0\nend\nx\n")
-  pub line_feed_behind : IsFaultOf (BadLine 12) (codes "heappair 1\nold 1 1\n0\nroots 1\n0\nnew 1 1\n0\nroots 1\n0\npairs 0\nend\n\n")
-  pub long_end : IsFaultOf (BadLine 11) (codes "heappair 1\nold 1 1\n0\nroots 1\n0\nnew 1 1\n0\nroots 1\n0\npairs 0\nendx\n")
+  pub without_end : IsPairFaultOf EndsEarly (codes "heappair 1\nold 1 1\n0\nroots 1\n0\nnew 1 1\n0\nroots 1\n0\npairs 0\n")
+  pub unfinished_end : IsPairFaultOf EndsEarly (codes "heappair 1\nold 1 1\n0\nroots 1\n0\nnew 1 1\n0\nroots 1\n0\npairs 0\nend")
+  pub nothing : IsPairFaultOf EndsEarly []
+  pub no_line : IsPairFaultOf EndsEarly (codes "x")
+  pub behind : IsPairFaultOf (BadLine 12) (codes "heappair 1\nold 1 1\n0\nroots 1\n0\nnew 1 1\n0\nroots 1\n0\npairs 0\nend\nx\n")
+  pub line_feed_behind : IsPairFaultOf (BadLine 12) (codes "heappair 1\nold 1 1\n0\nroots 1\n0\nnew 1 1\n0\nroots 1\n0\npairs 0\nend\n\n")
+  pub long_end : IsPairFaultOf (BadLine 11) (codes "heappair 1\nold 1 1\n0\nroots 1\n0\nnew 1 1\n0\nroots 1\n0\npairs 0\nendx\n")
   pub kept : lines_of one_kept
       ≡ codes "heappair 1" ∷ codes "old 9 9" ∷ codes "0" ∷ codes "16842754" ∷ codes "0" ∷ codes "0" ∷ codes "0" ∷ codes "16842754" ∷ codes "1" ∷ codes "0" ∷ codes "0"
       ∷ codes "roots 32" ∷ replicate 16 (codes "0") ++ codes "10" ∷ replicate 15 (codes "0")

@@ -1,15 +1,15 @@
 ghost use Rattle.std.specs.Prelude.{◌≡◌, ℕ, List, ◌⊎◌};
 ghost use Rattle.gc_cert.specs.Grammar.{CertifiedPair, HasText, IsTextOf, spelling};
-ghost use Rattle.gc_cert.specs.Faults.{IsFaultOf, IsReadAs};
+ghost use Rattle.gc_cert.specs.Faults.{IsPairFaultOf, IsReadAs};
 ghost use Rattle.gc_cert.specs.Rows.{Rows};
 ghost use Rattle.gc_cert.specs.declared.fault.PairFault.{PairFault};
 
 /// A text is read in one way: as one pair of images, or with one first fault.
 pub fn texts_have_one_reading()
     ensures value { (f g : CertifiedPair) (text : List ℕ) → IsTextOf f text → IsTextOf g text → f ≡ g }
-    ensures good { (f : CertifiedPair) (fault : PairFault) (text : List ℕ) → IsReadAs f text → IsFaultOf fault text → ⊥ }
-    ensures some { (text : List ℕ) → ((f : CertifiedPair) × IsReadAs f text) ⊎ ((fault : PairFault) × IsFaultOf fault text) }
-    ensures fault { (p q : PairFault) (text : List ℕ) → IsFaultOf p text → IsFaultOf q text → p ≡ q }
+    ensures good { (f : CertifiedPair) (fault : PairFault) (text : List ℕ) → IsReadAs f text → IsPairFaultOf fault text → ⊥ }
+    ensures some { (text : List ℕ) → ((f : CertifiedPair) × IsReadAs f text) ⊎ ((fault : PairFault) × IsPairFaultOf fault text) }
+    ensures fault { (p q : PairFault) (text : List ℕ) → IsPairFaultOf p text → IsPairFaultOf q text → p ≡ q }
 {}
 
 /// What has a text has one that is within the limit.

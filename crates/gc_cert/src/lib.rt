@@ -2,18 +2,18 @@
 #![tactic(auto)]
 
 mod fault;
-mod fits;
 mod image;
 mod laws;
+mod limits;
 mod lines;
 mod parser;
 mod reader;
 mod writer;
 
 pub use fault::{PairFault, WriteFault};
-pub use fits::pair_fits;
 pub use image::{Image, PairFile};
 pub use laws::{texts_have_one_reading, worked_rows, written_is_read};
+pub use limits::pair_fits;
 pub use reader::read_pair;
 pub use writer::write_pair;
 

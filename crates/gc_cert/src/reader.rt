@@ -1,10 +1,10 @@
 ghost use Rattle.std.specs.Prelude.{◌≡◌, ◌≢◌, ◌+◌, ◌≤◌, ◌<◌, ◌^◌, ◌∷◌, ◌↔◌, [], length, map, drop, true, codes, decimal, IfSome, IfOk, MatchResult, Err, Some};
 ghost use Rattle.gc_graph.specs.Streams.{bytes_left, source_failed};
-ghost use Rattle.gc_graph.specs.Lines.{words_of};
+ghost use Rattle.gc_graph.specs.Lines.{tokens_of};
 ghost use Rattle.gc_words.specs.Views.{addresses};
 ghost use Rattle.gc_cert.specs.Grammar.{pair_line, count_line, size_line, image_alone, certificate_lines, IsWord, AreAddresses, AreSizes, IsCertificate, HasImageText, HasText, IsTextOf};
 ghost use Rattle.gc_cert.specs.Faults.{limit, IsReadAs, MayFail};
-ghost use Rattle.gc_cert.specs.Reading.{is_name};
+ghost use Rattle.gc_cert.specs.Parsers.{is_name};
 ghost use Rattle.gc_cert.specs.Sections.{alone, AreAll, HasTaken, Spelled, Nothing, MayStop};
 ghost use Rattle.gc_cert.specs.Views.{image_in, pair_in};
 

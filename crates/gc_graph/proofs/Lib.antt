@@ -7,8 +7,8 @@ pub mod Plains
 pub mod Bounds
 pub mod Stepping
 pub mod Decimals
-pub mod WordLemmas
-pub mod Sending
-pub mod Taking
+pub mod TokenLemmas
+pub mod SentText
+pub mod TakenBytes
 pub mod LineLemmas
-pub mod WordReading
+pub mod TokenParsers

@@ -1,14 +1,14 @@
--- Lines that have no line feed inside, words that have no space, and cutting at a byte.
+-- Lines that have no line feed inside, tokens that have no space, and cutting at a byte.
 use Rattle.std.proofs.Common.{◌≡◌, ℕ, ◌^◌, ◌<◌, ◌≤◌, Bool, true, false, eqb, leb, not, ◌&&◌, List, [], ◌∷◌, ◌++◌, length, get_or, refl, ap, ◌∙◌, arith, suc, inl, inr, ◌⊎◌}
 use Rattle.std.specs.Fmt.{decimal}
 use Rattle.std.specs.List.{AllByRecursion}
 use Rattle.std.proofs.lemmas.Bool.{and_parts, eqb-true, eqb-false, ne_eqb, leb-true}
 use Rattle.std.proofs.lemmas.List.Splits.{join_with_byte-slice_split}
-use Rattle.gc_graph.specs.Lines.{HasNo, space, newline, joined, words_of}
+use Rattle.gc_graph.specs.Lines.{HasNo, space, newline, joined, tokens_of}
 use Rattle.gc_graph.proofs.Decimals.{decimal_are_digits}
-use Rattle.gc_graph.proofs.WordLemmas.{words_of-cut, words_of-whole}
+use Rattle.gc_graph.proofs.TokenLemmas.{tokens_of-cut, tokens_of-whole}
 
--- a test for words that are written out: no byte is below the digits
+-- a test for tokens that are written out: no byte is below the digits
 abbrev pub all_high : List ℕ → Bool
 all_high [] = true
 all_high (b ∷ bs) = leb 48 b && all_high bs
@@ -27,25 +27,25 @@ pub HasNo-decimal : (c n : ℕ) → c < 48 → n < 2 ^ 64 → HasNo c (decimal n
 HasNo-decimal c n low small = HasNo-digits c (decimal n) low (λ i lt. (decimal_are_digits n small i lt).0)
 
 abbrev pub AllHaveNo : ℕ → List (List ℕ) → Type 0
-AllHaveNo c words = AllByRecursion (HasNo c) words
+AllHaveNo c tokens = AllByRecursion (HasNo c) tokens
 
 HasNo-append : (c : ℕ) (xs ys : List ℕ) → HasNo c xs → HasNo c ys → HasNo c (xs ++ ys)
 HasNo-append c [] ys p q = q
 HasNo-append c (x ∷ xs) ys p q = (p.0, HasNo-append c xs ys p.1 q)
 
-pub HasNo-joined : (words : List (List ℕ)) → AllHaveNo newline words → HasNo newline (joined words)
+pub HasNo-joined : (tokens : List (List ℕ)) → AllHaveNo newline tokens → HasNo newline (joined tokens)
 HasNo-joined [] h = tt
 HasNo-joined (w ∷ []) h = h.0
-HasNo-joined (w ∷ v ∷ words) h = HasNo-append newline w (space ∷ joined (v ∷ words)) h.0 (omega arith, HasNo-joined (v ∷ words) h.1)
+HasNo-joined (w ∷ v ∷ tokens) h = HasNo-append newline w (space ∷ joined (v ∷ tokens)) h.0 (omega arith, HasNo-joined (v ∷ tokens) h.1)
 
--- words that were joined are found again
-pub words_of-joined : (w : List ℕ) (words : List (List ℕ)) → AllHaveNo space (w ∷ words) → words_of (joined (w ∷ words)) ≡ w ∷ words
-words_of-joined w [] h = words_of-whole w h.0
-words_of-joined w (v ∷ words) h = words_of-cut w (joined (v ∷ words)) h.0 ∙ ap (λ (ws : List (List ℕ)). w ∷ ws) (words_of-joined v words h.1)
+-- tokens that were joined are found again
+pub tokens_of-joined : (w : List ℕ) (tokens : List (List ℕ)) → AllHaveNo space (w ∷ tokens) → tokens_of (joined (w ∷ tokens)) ≡ w ∷ tokens
+tokens_of-joined w [] h = tokens_of-whole w h.0
+tokens_of-joined w (v ∷ tokens) h = tokens_of-cut w (joined (v ∷ tokens)) h.0 ∙ ap (λ (ws : List (List ℕ)). w ∷ ws) (tokens_of-joined v tokens h.1)
 
--- the words of a line, joined, are the line
-pub joined-words_of : (line : List ℕ) → joined (words_of line) ≡ line
-joined-words_of line = join_with_byte-slice_split space line
+-- the tokens of a line, joined, are the line
+pub joined-tokens_of : (line : List ℕ) → joined (tokens_of line) ≡ line
+joined-tokens_of line = join_with_byte-slice_split space line
 
 -- ---- a test for texts that are written out
 

@@ -12,6 +12,6 @@ pub mod PlainMachine
 pub mod Codes
 pub mod Lines
 pub mod Streams
-pub mod Words
-pub mod Reading
+pub mod Tokens
+pub mod ReadFaults
 pub mod Rows

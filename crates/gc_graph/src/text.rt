@@ -1,20 +1,20 @@
-//! Texts as bytes: where they come from and where they go, and their lines, words and numbers.
+//! Texts as bytes: where they come from and where they go, and their lines, tokens and numbers.
 
+mod all_bytes;
 mod decimals;
 mod lines;
 mod printer;
 mod sink;
 mod source;
-mod whole;
-mod words;
+mod tokens;
 
+pub use all_bytes::{ReadFault, read_all};
 pub use decimals::number;
 pub use lines::cut;
 pub use printer::Printer;
 pub use sink::Sink;
 pub use source::{Failed, Source};
-pub use whole::{ReadFault, read_all};
-pub use words::Words;
+pub use tokens::Tokens;
 
 #[cfg(test)]
 mod tests;

@@ -4,34 +4,34 @@ use Rattle.std.specs.List.{AllByRecursion, flat_map}
 use Rattle.std.proofs.lemmas.List.{append-nil}
 use Rattle.std.proofs.lemmas.List.Concat.{flat_map-cons}
 use Rattle.std.proofs.lemmas.Option.{same_Some}
-use Rattle.gc_graph.specs.Lines.{newline, joined, line, words_of}
+use Rattle.gc_graph.specs.Lines.{newline, joined, line, tokens_of}
 use Rattle.gc_world.specs.declared.event.Event.{Event}
-use Rattle.gc_trace.specs.Reading.{event_of, version_at, sizes_of}
-use Rattle.gc_trace.specs.Grammar.{Recording, event_words, event_line, version_words, size_words, heading, spelling, IsEvent, IsOf, IsHeading, IsRecording, IsTextOf}
-use Rattle.gc_trace.specs.Faults.{HasNoHeading, GoodBefore, BeginsWithNoEvent, HasBadLine, HasStranger, IsFaultOf, IsReadAs}
+use Rattle.gc_trace.specs.Parsers.{event_of, version_at, sizes_of}
+use Rattle.gc_trace.specs.Grammar.{Recording, event_tokens, event_line, version_tokens, size_tokens, heading, spelling, IsEvent, IsOf, IsHeading, IsRecording, IsTextOf}
+use Rattle.gc_trace.specs.Faults.{HasNoHeading, GoodBefore, BeginsWithNoEvent, HasBadLine, HasStranger, IsTraceFaultOf, IsReadAs}
 use Rattle.gc_trace.specs.declared.fault.TraceFault.{TraceFault}
 use Rattle.gc_trace.specs.declared.fault.TraceFault.TheVariants.{Read, TooLarge, BadHeader, BadLine, NoSuchMutator, NoMemory}
-use Rattle.gc_trace.proofs.Written.{event_again, version_again, sizes_again}
-use Rattle.gc_trace.proofs.EventLines.{words_of-event, HasNo-event, heading_lines}
+use Rattle.gc_trace.proofs.EventTokens.{event_again, version_again, sizes_again}
+use Rattle.gc_trace.proofs.EventLines.{tokens_of-event, HasNo-event, heading_lines}
 use Rattle.gc_graph.proofs.LineLemmas.{one_cut}
 
-pub event_line-more : (event : Event) (more : List ℕ) → event_line event ++ more ≡ joined (event_words event) ++ newline ∷ more
+pub event_line-more : (event : Event) (more : List ℕ) → event_line event ++ more ≡ joined (event_tokens event) ++ newline ∷ more
 unfolding event_line
-event_line-more event more = append_assoc (joined (event_words event)) (newline ∷ []) more
+event_line-more event more = append_assoc (joined (event_tokens event)) (newline ∷ []) more
 
 -- no line of an event begins another
 pub event_line_injective : (version : ℕ) (e d : Event) (x y : List ℕ) → IsEvent version e → IsEvent version d → event_line e ++ x ≡ event_line d ++ y → (e ≡ d) × (x ≡ y)
 event_line_injective version e d x y p q same =
-    let cut = one_cut newline (joined (event_words e)) x (joined (event_words d)) y (HasNo-event version e p) (HasNo-event version d q) (sym (event_line-more e x) ∙ same ∙ event_line-more d y) in
-    let words : event_words e ≡ event_words d = sym (words_of-event version e p) ∙ ap words_of cut.0 ∙ words_of-event version d q in
-    (same_Some e d (sym (event_again version e p) ∙ ap (event_of version) words ∙ event_again version d q), cut.1)
+    let cut = one_cut newline (joined (event_tokens e)) x (joined (event_tokens d)) y (HasNo-event version e p) (HasNo-event version d q) (sym (event_line-more e x) ∙ same ∙ event_line-more d y) in
+    let tokens : event_tokens e ≡ event_tokens d = sym (tokens_of-event version e p) ∙ ap tokens_of cut.0 ∙ tokens_of-event version d q in
+    (same_Some e d (sym (event_again version e p) ∙ ap (event_of version) tokens ∙ event_again version d q), cut.1)
 
-pub heading-more : (version size mutators : ℕ) (more : List ℕ) → heading version size mutators ++ more ≡ joined (version_words version) ++ newline ∷ (joined (size_words size mutators) ++ newline ∷ more)
+pub heading-more : (version size mutators : ℕ) (more : List ℕ) → heading version size mutators ++ more ≡ joined (version_tokens version) ++ newline ∷ (joined (size_tokens size mutators) ++ newline ∷ more)
 unfolding heading
 heading-more version size mutators more =
-    append_assoc (line (version_words version)) (line (size_words size mutators)) more
-    ∙ append_assoc (joined (version_words version)) (newline ∷ []) (line (size_words size mutators) ++ more)
-    ∙ ap (λ (t : List ℕ). joined (version_words version) ++ newline ∷ t) (append_assoc (joined (size_words size mutators)) (newline ∷ []) more)
+    append_assoc (line (version_tokens version)) (line (size_tokens size mutators)) more
+    ∙ append_assoc (joined (version_tokens version)) (newline ∷ []) (line (size_tokens size mutators) ++ more)
+    ∙ ap (λ (t : List ℕ). joined (version_tokens version) ++ newline ∷ t) (append_assoc (joined (size_tokens size mutators)) (newline ∷ []) more)
 
 -- the same version and sizes
 pub record SameHeading (v s m w t n : ℕ) : Type 0 where
@@ -43,10 +43,10 @@ heading_injective : (v s m w t n : ℕ) (x y : List ℕ) → IsHeading v s m →
 heading_injective v s m w t n x y p q same =
     let a = heading_lines v s m p in
     let b = heading_lines w t n q in
-    let first = one_cut newline (joined (version_words v)) (joined (size_words s m) ++ newline ∷ x) (joined (version_words w)) (joined (size_words t n) ++ newline ∷ y) a.first_line b.first_line (sym (heading-more v s m x) ∙ same ∙ heading-more w t n y) in
-    let second = one_cut newline (joined (size_words s m)) x (joined (size_words t n)) y a.second_line b.second_line first.1 in
-    let versions : version_words v ≡ version_words w = sym a.first_words ∙ ap words_of first.0 ∙ b.first_words in
-    let sizes : size_words s m ≡ size_words t n = sym a.second_words ∙ ap words_of second.0 ∙ b.second_words in
+    let first = one_cut newline (joined (version_tokens v)) (joined (size_tokens s m) ++ newline ∷ x) (joined (version_tokens w)) (joined (size_tokens t n) ++ newline ∷ y) a.first_line b.first_line (sym (heading-more v s m x) ∙ same ∙ heading-more w t n y) in
+    let second = one_cut newline (joined (size_tokens s m)) x (joined (size_tokens t n)) y a.second_line b.second_line first.1 in
+    let versions : version_tokens v ≡ version_tokens w = sym a.first_tokens ∙ ap tokens_of first.0 ∙ b.first_tokens in
+    let sizes : size_tokens s m ≡ size_tokens t n = sym a.second_tokens ∙ ap tokens_of second.0 ∙ b.second_tokens in
     let both : ◌≡◌ {A = ℕ × ℕ} (s, m) (t, n) = same_Some (s, m) (t, n) (sym (sizes_again v s m p) ∙ ap sizes_of sizes ∙ sizes_again w t n q) in (
       record {
         version = same_Some v w (sym (version_again v s m p) ∙ ap version_at versions ∙ version_again w t n q);
@@ -106,7 +106,7 @@ some_cut [] b e = cc
 some_cut (x ∷ a) b e = cc
 
 line_some : (e : Event) (more : List ℕ) → event_line e ++ more ≢ []
-line_some e more is = some_cut (joined (event_words e)) more (sym (event_line-more e more) ∙ is)
+line_some e more is = some_cut (joined (event_tokens e)) more (sym (event_line-more e more) ∙ is)
 
 good_stop : (t : Recording) (text : List ℕ) → IsTextOf t text → StopsAt t [] text
 good_stop t text p = (p.recording, p.spelled ∙ sym (append-nil (spelling t)), λ e more _ _ is. line_some e more (sym is))
@@ -159,7 +159,7 @@ good_strange t text n p h =
     let b = strange_stop text n h in
     line_some b.1 b.2 (sym (one_stop t b.0 [] (event_line b.1 ++ b.2) text (good_stop t text p) b.3).1)
 
-pub no_fault : (t : Recording) (fault : TraceFault) (text : List ℕ) → IsReadAs t text → IsFaultOf fault text → ⊥
+pub no_fault : (t : Recording) (fault : TraceFault) (text : List ℕ) → IsReadAs t text → IsTraceFaultOf fault text → ⊥
 no_fault t Read text p q = q
 no_fault t TooLarge text p q = omega (arith, p.1, q)
 no_fault t BadHeader text p q = headed t [] text (good_stop t text p.0) q.1
@@ -194,7 +194,7 @@ bad_headed text n h none = let a = bad_stop text n h in headed a.0 a.1 text a.2 
 strange_headed : (text : List ℕ) (n : ℕ) → HasStranger text n → HasNoHeading text → ⊥
 strange_headed text n h none = let a = strange_stop text n h in headed a.0 (event_line a.1 ++ a.2) text a.3 none
 
-pub one_fault : (f g : TraceFault) (text : List ℕ) → IsFaultOf f text → IsFaultOf g text → f ≡ g
+pub one_fault : (f g : TraceFault) (text : List ℕ) → IsTraceFaultOf f text → IsTraceFaultOf g text → f ≡ g
 one_fault Read g text p q = absurd p
 one_fault NoMemory g text p q = absurd p
 one_fault TooLarge Read text p q = absurd q

@@ -4,20 +4,20 @@ use Rattle.std.specs.List.{AllByRecursion, flat_map}
 use Rattle.std.proofs.lemmas.Bool.{eqb-false, leb-true}
 use Rattle.std.proofs.lemmas.List.{append-nil, length-append}
 use Rattle.std.proofs.lemmas.List.Concat.{flat_map-append, flat_map-cons}
-use Rattle.gc_graph.specs.Lines.{newline, joined, words_of}
+use Rattle.gc_graph.specs.Lines.{newline, joined, tokens_of}
 use Rattle.gc_copy.specs.Runs.{IsStep}
-use Rattle.gc_graph.proofs.LineLemmas.{Cut, cut, joined-words_of}
+use Rattle.gc_graph.proofs.LineLemmas.{Cut, cut, joined-tokens_of}
 use Rattle.gc_copy.specs.declared.step.Step.{Step}
 use Rattle.gc_copy.specs.declared.step.Step.TheVariants as steps
 use Rattle.gc_world.specs.declared.event.Event.{Event}
 use Rattle.gc_world.specs.declared.event.Event.TheVariants.{Mutate, Collect}
-use Rattle.gc_trace.specs.Reading.{event_of, version_at, sizes_of}
-use Rattle.gc_trace.specs.Grammar.{Recording, newest, event_words, event_line, version_words, size_words, heading, spelling, IsHeading, IsEvent, IsOf, IsTextOf}
-use Rattle.gc_trace.specs.Faults.{limit, GoodBefore, HasNoHeading, HasBadLine, HasStranger, BeginsWithNoEvent, IsFaultOf, IsReadAs}
+use Rattle.gc_trace.specs.Parsers.{event_of, version_at, sizes_of}
+use Rattle.gc_trace.specs.Grammar.{Recording, newest, event_tokens, event_line, version_tokens, size_tokens, heading, spelling, IsHeading, IsEvent, IsOf, IsTextOf}
+use Rattle.gc_trace.specs.Faults.{limit, GoodBefore, HasNoHeading, HasBadLine, HasStranger, BeginsWithNoEvent, IsTraceFaultOf, IsReadAs}
 use Rattle.gc_trace.specs.declared.fault.TraceFault.{TraceFault}
 use Rattle.gc_trace.specs.declared.fault.TraceFault.TheVariants.{TooLarge, BadHeader, BadLine, NoSuchMutator}
-use Rattle.gc_trace.proofs.Found.{event_found, version_found, sizes_found}
-use Rattle.gc_trace.proofs.Fronts.{no_line, no_event, no_first, no_version, no_second, no_sizes}
+use Rattle.gc_trace.proofs.ParsedTokens.{event_found, version_found, sizes_found}
+use Rattle.gc_trace.proofs.FrontFaults.{no_line, no_event, no_first, no_version, no_second, no_sizes}
 use Rattle.gc_trace.proofs.OneReading.{event_line-more, heading-more}
 
 dec_le : (m n : ℕ) → (m ≤ n) ⊎ (m ≤ n → ⊥)
@@ -45,22 +45,22 @@ dec_of version mutators (Mutate m op) fits =
 dec_of version mutators (Collect step) fits = dec_step mutators step fits.range
 
 -- the event that stands at the front
-pub one_event : (version : ℕ) (rest line after : List ℕ) (e : Event) → 1 ≤ version → rest ≡ line ++ newline ∷ after → event_of version (words_of line) ≡ Some e → IsEvent version e × (rest ≡ event_line e ++ after)
+pub one_event : (version : ℕ) (rest line after : List ℕ) (e : Event) → 1 ≤ version → rest ≡ line ++ newline ∷ after → event_of version (tokens_of line) ≡ Some e → IsEvent version e × (rest ≡ event_line e ++ after)
 one_event version rest line after e known parts read =
-    let found = event_found version (words_of line) e known read in
-    let whole : joined (event_words e) ≡ line = ap joined (sym found.0) ∙ joined-words_of line in
+    let found = event_found version (tokens_of line) e known read in
+    let whole : joined (event_tokens e) ≡ line = ap joined (sym found.0) ∙ joined-tokens_of line in
     (found.1, parts ∙ ap (λ (t : List ℕ). t ++ newline ∷ after) (sym whole) ∙ sym (event_line-more e after))
 
 -- the heading of these two lines
-pub one_heading : (text first rest second body : List ℕ) (v s m : ℕ) → text ≡ first ++ newline ∷ rest → version_at (words_of first) ≡ Some v → rest ≡ second ++ newline ∷ body → sizes_of (words_of second) ≡ Some (s, m)
+pub one_heading : (text first rest second body : List ℕ) (v s m : ℕ) → text ≡ first ++ newline ∷ rest → version_at (tokens_of first) ≡ Some v → rest ≡ second ++ newline ∷ body → sizes_of (tokens_of second) ≡ Some (s, m)
     → IsHeading v s m × (text ≡ heading v s m ++ body)
 one_heading text first rest second body v s m parts e parts' k =
-    let version = version_found (words_of first) v e in
-    let sizes = sizes_found (words_of second) (s, m) k in
-    let one : joined (version_words v) ≡ first = ap joined (sym version.0) ∙ joined-words_of first in
-    let two : joined (size_words s m) ≡ second = ap joined (sym sizes.0) ∙ joined-words_of second in (
+    let version = version_found (tokens_of first) v e in
+    let sizes = sizes_found (tokens_of second) (s, m) k in
+    let one : joined (version_tokens v) ≡ first = ap joined (sym version.0) ∙ joined-tokens_of first in
+    let two : joined (size_tokens s m) ≡ second = ap joined (sym sizes.0) ∙ joined-tokens_of second in (
       (version.1, version.2, sizes.1.0, sizes.1.1, sizes.1.2, sizes.1.3),
-      parts ∙ ap (λ (l : List ℕ). l ++ newline ∷ rest) (sym one) ∙ ap (λ (l : List ℕ). joined (version_words v) ++ newline ∷ l) (parts' ∙ ap (λ (l : List ℕ). l ++ newline ∷ body) (sym two)) ∙ sym (heading-more v s m body),
+      parts ∙ ap (λ (l : List ℕ). l ++ newline ∷ rest) (sym one) ∙ ap (λ (l : List ℕ). joined (version_tokens v) ++ newline ∷ l) (parts' ∙ ap (λ (l : List ℕ). l ++ newline ∷ body) (sym two)) ∙ sym (heading-more v s m body),
     )
 
 All-push : {A : Type 0} (P : A → Type 0) (xs : List A) (y : A) → AllByRecursion P xs → P y → AllByRecursion P (xs ++ y ∷ [])
@@ -113,10 +113,10 @@ reading (suc fuel) text n v s m events [] lt good = inl (made_of v s m events, g
 reading (suc fuel) text n v s m events (b ∷ rest) lt good =
     elim (cut (b ∷ rest)) [
       | inl h ↦ inr (inl (n, (made_of v s m events, b ∷ rest, good, (λ e. cc), no_line v (b ∷ rest) h)))
-      | inr c ↦ on (λ k more after less so_far. reading fuel text k v s m more after less so_far) c (event_of v (words_of c.line)) refl
+      | inr c ↦ on (λ k more after less so_far. reading fuel text k v s m more after less so_far) c (event_of v (tokens_of c.line)) refl
     ]
   where
-    on : ((k : ℕ) (more : List Event) (after : List ℕ) → length after < fuel → GoodBefore text k (made_of v s m more) after → Reading text) → (c : Cut (b ∷ rest)) → (o : Option Event) → event_of v (words_of c.line) ≡ o → Reading text
+    on : ((k : ℕ) (more : List Event) (after : List ℕ) → length after < fuel → GoodBefore text k (made_of v s m more) after → Reading text) → (c : Cut (b ∷ rest)) → (o : Option Event) → event_of v (tokens_of c.line) ≡ o → Reading text
     on further c None none = inr (inl (n, (made_of v s m events, b ∷ rest, good, (λ e. cc), no_event v (b ∷ rest) c.line c.rest c.parts c.whole none)))
     on further c (Some e) is =
         let one = one_event v (b ∷ rest) c.line c.rest e good.good.recording.heading.0 c.parts is in
@@ -136,9 +136,9 @@ record Headed (text : List ℕ) : Type 0 where
   parts : text ≡ heading version size mutators ++ rest
 
 headed_by : (text : List ℕ) (c : Cut text) (d : Cut c.rest) → Headed text ⊎ HasNoHeading text
-headed_by text c d = at (version_at (words_of c.line)) refl (sizes_of (words_of d.line)) refl
+headed_by text c d = at (version_at (tokens_of c.line)) refl (sizes_of (tokens_of d.line)) refl
   where
-    at : (o : Option ℕ) → version_at (words_of c.line) ≡ o → (p : Option (ℕ × ℕ)) → sizes_of (words_of d.line) ≡ p → Headed text ⊎ HasNoHeading text
+    at : (o : Option ℕ) → version_at (tokens_of c.line) ≡ o → (p : Option (ℕ × ℕ)) → sizes_of (tokens_of d.line) ≡ p → Headed text ⊎ HasNoHeading text
     at None e p k = inr (no_version text c.line c.rest c.parts c.whole e)
     at (Some v) e None k = inr (no_sizes text c.line c.rest d.line d.rest c.parts c.whole d.parts d.whole k)
     at (Some v) e (Some x) k =
@@ -157,7 +157,7 @@ headed text =
 
 -- a trace, or a first fault
 abbrev pub Answered : List ℕ → Type 0
-Answered text = ((t : Recording) × IsReadAs t text) ⊎ ((f : TraceFault) × IsFaultOf f text)
+Answered text = ((t : Recording) × IsReadAs t text) ⊎ ((f : TraceFault) × IsTraceFaultOf f text)
 
 answered : (text : List ℕ) → length text ≤ limit → Reading text → Answered text
 answered text le (inl r) = inl (r.0, (r.1, le))

@@ -6,7 +6,7 @@ use Rattle.gc_world.specs.declared.event.Event.{Event}
 use Rattle.gc_world.specs.declared.event.Event.TheVariants.{Mutate, Collect}
 use Rattle.gc_world.specs.declared.event.Entry.{Entry}
 use Rattle.gc_trace.specs.Grammar.{newest, version_of, least_version}
-use Rattle.gc_trace.specs.Playing.{happened}
+use Rattle.gc_trace.specs.Plays.{happened}
 
 pub version_range : (event : Event) → (1 ≤ version_of event) × (version_of event ≤ newest)
 version_range (Mutate m op) = (omega arith, omega arith)

@@ -1,7 +1,7 @@
 -- The first fault of a text that was read to its end.
 use Rattle.std.specs.Prelude.{◌≡◌, ◌≢◌, ℕ, ◌+◌, ◌<◌, ◌≤◌, ⊤, List, [], ◌++◌, length}
-use Rattle.gc_graph.specs.declared.text.whole.ReadFault.{ReadFault}
-use Rattle.gc_graph.specs.declared.text.whole.ReadFault.TheVariants as reading
+use Rattle.gc_graph.specs.declared.text.all_bytes.ReadFault.{ReadFault}
+use Rattle.gc_graph.specs.declared.text.all_bytes.ReadFault.TheVariants as reading
 use Rattle.gc_world.specs.declared.event.Event.{Event}
 use Rattle.gc_trace.specs.Grammar.{Recording, IsTextOf, IsEvent, IsOf, IsHeading, heading, event_line}
 use Rattle.gc_trace.specs.declared.fault.TraceFault.{TraceFault}
@@ -38,13 +38,13 @@ HasStranger text n =
     (front : Recording) × (event : Event) × (more : List ℕ) × GoodBefore text n front (event_line event ++ more) × IsEvent front.version event × ¬ IsOf front.mutators event
 
 -- this is the text's first fault; `Read` and `NoMemory` are none of the text's
-abbrev pub IsFaultOf : TraceFault → List ℕ → Type 0
-IsFaultOf Read text = ⊥
-IsFaultOf TooLarge text = limit < length text
-IsFaultOf BadHeader text = (length text ≤ limit) × HasNoHeading text
-IsFaultOf (BadLine n) text = (length text ≤ limit) × HasBadLine text n
-IsFaultOf (NoSuchMutator n) text = (length text ≤ limit) × HasStranger text n
-IsFaultOf NoMemory text = ⊥
+abbrev pub IsTraceFaultOf : TraceFault → List ℕ → Type 0
+IsTraceFaultOf Read text = ⊥
+IsTraceFaultOf TooLarge text = limit < length text
+IsTraceFaultOf BadHeader text = (length text ≤ limit) × HasNoHeading text
+IsTraceFaultOf (BadLine n) text = (length text ≤ limit) × HasBadLine text n
+IsTraceFaultOf (NoSuchMutator n) text = (length text ≤ limit) × HasStranger text n
+IsTraceFaultOf NoMemory text = ⊥
 
 -- the value that the text is read as
 abbrev pub IsReadAs : Recording → List ℕ → Type 0
@@ -54,10 +54,10 @@ IsReadAs t text = IsTextOf t text × (length text ≤ limit)
 abbrev pub MayFail : TraceFault → List ℕ → Type 0
 MayFail Read text = ⊤
 MayFail NoMemory text = ⊤
-MayFail TooLarge text = IsFaultOf TooLarge text
-MayFail BadHeader text = IsFaultOf BadHeader text
-MayFail (BadLine n) text = IsFaultOf (BadLine n) text
-MayFail (NoSuchMutator n) text = IsFaultOf (NoSuchMutator n) text
+MayFail TooLarge text = IsTraceFaultOf TooLarge text
+MayFail BadHeader text = IsTraceFaultOf BadHeader text
+MayFail (BadLine n) text = IsTraceFaultOf (BadLine n) text
+MayFail (NoSuchMutator n) text = IsTraceFaultOf (NoSuchMutator n) text
 
 -- what a reader's own fault is called
 abbrev pub fault_of_reading : ReadFault → TraceFault

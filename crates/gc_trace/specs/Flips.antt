@@ -11,8 +11,8 @@ use Rattle.gc_world.specs.History.{run_event}
 use Rattle.gc_world.specs.declared.event.Event.{Event}
 use Rattle.gc_trace.specs.Grammar.{Recording}
 use Rattle.gc_trace.specs.Faults.{IsReadAs}
-use Rattle.gc_trace.specs.Playing.{opening}
-use Rattle.gc_trace.specs.Running.{kept_with}
+use Rattle.gc_trace.specs.Plays.{opening}
+use Rattle.gc_trace.specs.WorldRuns.{kept_with}
 
 -- the pair of the flip that the event is in this state, if it is one
 abbrev pub flip_at : State → Event → Option CertifiedPair

@@ -25,41 +25,41 @@ pub record Recording : Type 0 where
 unfoldable pub slot : SlotName → List ℕ
 slot s = (if s.shared then 103 else 114) ∷ decimal s.index
 
-unfoldable pub op_words : Op → List (List ℕ)
-op_words (ops.New d kind len) = codes "new" ∷ slot d ∷ decimal kind ∷ decimal len ∷ []
-op_words (ops.Num d n) = codes "num" ∷ slot d ∷ decimal n ∷ []
-op_words (ops.Nil d) = codes "nil" ∷ slot d ∷ []
-op_words (ops.Move d s) = codes "move" ∷ slot d ∷ slot s ∷ []
-op_words (ops.Get d s i) = codes "get" ∷ slot d ∷ slot s ∷ decimal i ∷ []
-op_words (ops.Put s i t) = codes "put" ∷ slot s ∷ decimal i ∷ slot t ∷ []
-op_words (ops.Same s t) = codes "same" ∷ slot s ∷ slot t ∷ []
-op_words (ops.Look s) = codes "look" ∷ slot s ∷ []
+unfoldable pub op_tokens : Op → List (List ℕ)
+op_tokens (ops.New d kind len) = codes "new" ∷ slot d ∷ decimal kind ∷ decimal len ∷ []
+op_tokens (ops.Num d n) = codes "num" ∷ slot d ∷ decimal n ∷ []
+op_tokens (ops.Nil d) = codes "nil" ∷ slot d ∷ []
+op_tokens (ops.Move d s) = codes "move" ∷ slot d ∷ slot s ∷ []
+op_tokens (ops.Get d s i) = codes "get" ∷ slot d ∷ slot s ∷ decimal i ∷ []
+op_tokens (ops.Put s i t) = codes "put" ∷ slot s ∷ decimal i ∷ slot t ∷ []
+op_tokens (ops.Same s t) = codes "same" ∷ slot s ∷ slot t ∷ []
+op_tokens (ops.Look s) = codes "look" ∷ slot s ∷ []
 
-unfoldable pub step_words : Step → List (List ℕ)
-step_words steps.Begin = codes "begin" ∷ []
-step_words (steps.BeginSized size) = codes "begin" ∷ decimal size ∷ []
-step_words steps.Roots = codes "roots" ∷ []
-step_words steps.Scan = codes "scan" ∷ []
-step_words (steps.Apply k) = codes "apply" ∷ decimal k ∷ []
-step_words steps.Flip = codes "flip" ∷ []
-step_words steps.Drop = codes "drop" ∷ []
+unfoldable pub step_tokens : Step → List (List ℕ)
+step_tokens steps.Begin = codes "begin" ∷ []
+step_tokens (steps.BeginSized size) = codes "begin" ∷ decimal size ∷ []
+step_tokens steps.Roots = codes "roots" ∷ []
+step_tokens steps.Scan = codes "scan" ∷ []
+step_tokens (steps.Apply k) = codes "apply" ∷ decimal k ∷ []
+step_tokens steps.Flip = codes "flip" ∷ []
+step_tokens steps.Drop = codes "drop" ∷ []
 
-unfoldable pub event_words : Event → List (List ℕ)
-event_words (Mutate m op) = codes "m" ∷ decimal m ∷ op_words op
-event_words (Collect step) = codes "c" ∷ step_words step
+unfoldable pub event_tokens : Event → List (List ℕ)
+event_tokens (Mutate m op) = codes "m" ∷ decimal m ∷ op_tokens op
+event_tokens (Collect step) = codes "c" ∷ step_tokens step
 
 unfoldable pub event_line : Event → List ℕ
-event_line event = line (event_words event)
+event_line event = line (event_tokens event)
 
-unfoldable pub version_words : ℕ → List (List ℕ)
-version_words version = codes "heaptrace" ∷ decimal version ∷ []
+unfoldable pub version_tokens : ℕ → List (List ℕ)
+version_tokens version = codes "heaptrace" ∷ decimal version ∷ []
 
-unfoldable pub size_words : ℕ → ℕ → List (List ℕ)
-size_words size mutators = codes "space" ∷ decimal size ∷ codes "mutators" ∷ decimal mutators ∷ []
+unfoldable pub size_tokens : ℕ → ℕ → List (List ℕ)
+size_tokens size mutators = codes "space" ∷ decimal size ∷ codes "mutators" ∷ decimal mutators ∷ []
 
 -- lines 1 and 2
 unfoldable pub heading : ℕ → ℕ → ℕ → List ℕ
-heading version size mutators = line (version_words version) ++ line (size_words size mutators)
+heading version size mutators = line (version_tokens version) ++ line (size_tokens size mutators)
 
 unfoldable pub spelling : Recording → List ℕ
 spelling t = heading t.version t.size t.mutators ++ flat_map event_line t.events

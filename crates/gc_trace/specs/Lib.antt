@@ -2,9 +2,9 @@ pub mod Grammar
 pub mod Views
 pub mod Faults
 pub mod Replies
-pub mod Reading
-pub mod Playing
-pub mod Running
+pub mod Parsers
+pub mod Plays
+pub mod WorldRuns
 pub mod Flips
 pub mod Rows
 pub mod Report

@@ -11,42 +11,42 @@ use Rattle.gc_copy.specs.Runs.{Answer, Replied, Stepped}
 use Rattle.gc_copy.specs.declared.step.StepReply.{StepReply}
 use Rattle.gc_copy.specs.declared.step.StepReply.TheVariants.{Busy, Begun, Idle, Clean, NoRoom, Copied, Passed, Scanned, Applied, NotReady, Refused, Flipped, Dropped}
 
-unfoldable pub view_words : View → List (List ℕ)
-view_words views.Nil = codes "nil" ∷ []
-view_words (views.Num n) = codes "num" ∷ decimal n ∷ []
-view_words (views.Obj kind len) = codes "obj" ∷ decimal kind ∷ decimal len ∷ []
+unfoldable pub view_tokens : View → List (List ℕ)
+view_tokens views.Nil = codes "nil" ∷ []
+view_tokens (views.Num n) = codes "num" ∷ decimal n ∷ []
+view_tokens (views.Obj kind len) = codes "obj" ∷ decimal kind ∷ decimal len ∷ []
 
-unfoldable pub reply_words : Reply → List (List ℕ)
-reply_words Full = codes "full" ∷ []
-reply_words Made = codes "made" ∷ []
-reply_words Done = codes "done" ∷ []
-reply_words NoObject = codes "no" ∷ codes "object" ∷ []
-reply_words NoField = codes "no" ∷ codes "field" ∷ []
-reply_words (Saw view) = codes "saw" ∷ view_words view
-reply_words Yes = codes "yes" ∷ []
-reply_words No = codes "no" ∷ []
+unfoldable pub reply_tokens : Reply → List (List ℕ)
+reply_tokens Full = codes "full" ∷ []
+reply_tokens Made = codes "made" ∷ []
+reply_tokens Done = codes "done" ∷ []
+reply_tokens NoObject = codes "no" ∷ codes "object" ∷ []
+reply_tokens NoField = codes "no" ∷ codes "field" ∷ []
+reply_tokens (Saw view) = codes "saw" ∷ view_tokens view
+reply_tokens Yes = codes "yes" ∷ []
+reply_tokens No = codes "no" ∷ []
 
-unfoldable pub step_reply_words : StepReply → List (List ℕ)
-step_reply_words Busy = codes "busy" ∷ []
-step_reply_words Begun = codes "begun" ∷ []
-step_reply_words Idle = codes "idle" ∷ []
-step_reply_words Clean = codes "clean" ∷ []
-step_reply_words NoRoom = codes "no" ∷ codes "room" ∷ []
-step_reply_words Copied = codes "copied" ∷ []
-step_reply_words Passed = codes "passed" ∷ []
-step_reply_words Scanned = codes "scanned" ∷ []
-step_reply_words Applied = codes "applied" ∷ []
-step_reply_words NotReady = codes "not" ∷ codes "ready" ∷ []
-step_reply_words Refused = codes "refused" ∷ []
-step_reply_words (Flipped pairs) = codes "flipped" ∷ decimal pairs ∷ []
-step_reply_words Dropped = codes "dropped" ∷ []
+unfoldable pub step_reply_tokens : StepReply → List (List ℕ)
+step_reply_tokens Busy = codes "busy" ∷ []
+step_reply_tokens Begun = codes "begun" ∷ []
+step_reply_tokens Idle = codes "idle" ∷ []
+step_reply_tokens Clean = codes "clean" ∷ []
+step_reply_tokens NoRoom = codes "no" ∷ codes "room" ∷ []
+step_reply_tokens Copied = codes "copied" ∷ []
+step_reply_tokens Passed = codes "passed" ∷ []
+step_reply_tokens Scanned = codes "scanned" ∷ []
+step_reply_tokens Applied = codes "applied" ∷ []
+step_reply_tokens NotReady = codes "not" ∷ codes "ready" ∷ []
+step_reply_tokens Refused = codes "refused" ∷ []
+step_reply_tokens (Flipped pairs) = codes "flipped" ∷ decimal pairs ∷ []
+step_reply_tokens Dropped = codes "dropped" ∷ []
 
-unfoldable pub answer_words : Answer → List (List ℕ)
-answer_words (Replied reply) = reply_words reply
-answer_words (Stepped reply) = step_reply_words reply
+unfoldable pub answer_tokens : Answer → List (List ℕ)
+answer_tokens (Replied reply) = reply_tokens reply
+answer_tokens (Stepped reply) = step_reply_tokens reply
 
 abbrev pub reply_line : Answer → List ℕ
-reply_line answer = line (answer_words answer)
+reply_line answer = line (answer_tokens answer)
 
 -- one line for each answer, in order
 abbrev pub reply_text : List Answer → List ℕ

@@ -10,7 +10,7 @@ use Rattle.gc_copy.specs.declared.step.StepReply.TheVariants as step_replies
 use Rattle.gc_world.specs.declared.event.Event.{Event}
 use Rattle.gc_world.specs.declared.event.Event.TheVariants.{Mutate, Collect}
 use Rattle.gc_trace.specs.Grammar.{Recording, spelling, written}
-use Rattle.gc_trace.specs.Faults.{IsReadAs, IsFaultOf}
+use Rattle.gc_trace.specs.Faults.{IsReadAs, IsTraceFaultOf}
 use Rattle.gc_trace.specs.Replies.{reply_text}
 use Rattle.gc_trace.specs.declared.fault.TraceFault.TheVariants.{BadHeader, BadLine, NoSuchMutator}
 
@@ -19,28 +19,28 @@ abbrev pub small : ℕ → List Event → Recording
 small version events = record { version = version; size = 8; mutators = 1; events = events }
 
 pub record TextRows : Type 0 where
-  pub nothing : IsFaultOf BadHeader []
-  pub no_size : IsFaultOf BadHeader (codes "heaptrace 1\nspace 0 mutators 1\n")
-  pub many_mutators : IsFaultOf BadHeader (codes "heaptrace 1\nspace 8 mutators 17\n")
-  pub no_line_feed : IsFaultOf BadHeader (codes "heaptrace 1\nspace 8 mutators 1")
+  pub nothing : IsTraceFaultOf BadHeader []
+  pub no_size : IsTraceFaultOf BadHeader (codes "heaptrace 1\nspace 0 mutators 1\n")
+  pub many_mutators : IsTraceFaultOf BadHeader (codes "heaptrace 1\nspace 8 mutators 17\n")
+  pub no_line_feed : IsTraceFaultOf BadHeader (codes "heaptrace 1\nspace 8 mutators 1")
   pub no_events : IsReadAs (small 1 []) (codes "heaptrace 1\nspace 8 mutators 1\n")
-  pub cut_line : IsFaultOf (BadLine 3) (codes "heaptrace 1\nspace 8 mutators 1\nm 0 look r0")
-  pub no_slot : IsFaultOf (BadLine 3) (codes "heaptrace 1\nspace 8 mutators 1\nm 0 look r16\n")
-  pub two_spaces : IsFaultOf (BadLine 3) (codes "heaptrace 1\nspace 8 mutators 1\nm 0  look r0\n")
-  pub no_kind : IsFaultOf (BadLine 3) (codes "heaptrace 1\nspace 8 mutators 1\nm 0 new r0 256 0\n")
-  pub leading_zero : IsFaultOf (BadLine 3) (codes "heaptrace 1\nspace 8 mutators 1\nm 0 num r0 01\n")
-  pub no_mutator : IsFaultOf (BadLine 3) (codes "heaptrace 1\nspace 8 mutators 1\nm 16 look r0\n")
-  pub strange_mutator : IsFaultOf (NoSuchMutator 3) (codes "heaptrace 1\nspace 8 mutators 1\nm 1 look r0\n")
-  pub strange_log : IsFaultOf (NoSuchMutator 3) (codes "heaptrace 1\nspace 8 mutators 1\nc apply 1\nx\n")
-  pub empty_line : IsFaultOf (BadLine 4) (codes "heaptrace 1\nspace 8 mutators 1\nm 0 nil g0\n\n")
+  pub cut_line : IsTraceFaultOf (BadLine 3) (codes "heaptrace 1\nspace 8 mutators 1\nm 0 look r0")
+  pub no_slot : IsTraceFaultOf (BadLine 3) (codes "heaptrace 1\nspace 8 mutators 1\nm 0 look r16\n")
+  pub two_spaces : IsTraceFaultOf (BadLine 3) (codes "heaptrace 1\nspace 8 mutators 1\nm 0  look r0\n")
+  pub no_kind : IsTraceFaultOf (BadLine 3) (codes "heaptrace 1\nspace 8 mutators 1\nm 0 new r0 256 0\n")
+  pub leading_zero : IsTraceFaultOf (BadLine 3) (codes "heaptrace 1\nspace 8 mutators 1\nm 0 num r0 01\n")
+  pub no_mutator : IsTraceFaultOf (BadLine 3) (codes "heaptrace 1\nspace 8 mutators 1\nm 16 look r0\n")
+  pub strange_mutator : IsTraceFaultOf (NoSuchMutator 3) (codes "heaptrace 1\nspace 8 mutators 1\nm 1 look r0\n")
+  pub strange_log : IsTraceFaultOf (NoSuchMutator 3) (codes "heaptrace 1\nspace 8 mutators 1\nc apply 1\nx\n")
+  pub empty_line : IsTraceFaultOf (BadLine 4) (codes "heaptrace 1\nspace 8 mutators 1\nm 0 nil g0\n\n")
 
 -- what the second version adds
 pub record SizedRows : Type 0 where
   pub read : IsReadAs (small 2 (Collect steps.Begin ∷ Collect (steps.BeginSized 12) ∷ [])) (codes "heaptrace 2\nspace 8 mutators 1\nc begin\nc begin 12\n")
-  pub low : IsFaultOf (BadLine 3) (codes "heaptrace 2\nspace 8 mutators 1\nc begin 0\n")
-  pub high : IsFaultOf (BadLine 3) (codes "heaptrace 2\nspace 8 mutators 1\nc begin 1048577\n")
-  pub not_in_first : IsFaultOf (BadLine 3) (codes "heaptrace 1\nspace 8 mutators 1\nc begin 12\n")
-  pub no_third : IsFaultOf BadHeader (codes "heaptrace 3\nspace 8 mutators 1\n")
+  pub low : IsTraceFaultOf (BadLine 3) (codes "heaptrace 2\nspace 8 mutators 1\nc begin 0\n")
+  pub high : IsTraceFaultOf (BadLine 3) (codes "heaptrace 2\nspace 8 mutators 1\nc begin 1048577\n")
+  pub not_in_first : IsTraceFaultOf (BadLine 3) (codes "heaptrace 1\nspace 8 mutators 1\nc begin 12\n")
+  pub no_third : IsTraceFaultOf BadHeader (codes "heaptrace 3\nspace 8 mutators 1\n")
   pub least : spelling (written 8 1 (Collect (steps.BeginSized 12) ∷ [])) ≡ codes "heaptrace 2\nspace 8 mutators 1\nc begin 12\n"
   pub lower : spelling (written 8 1 (Collect steps.Begin ∷ [])) ≡ codes "heaptrace 1\nspace 8 mutators 1\nc begin\n"
 

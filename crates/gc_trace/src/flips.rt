@@ -9,7 +9,7 @@ ghost use Rattle.gc_world.specs.History.{run_event};
 ghost use Rattle.gc_world.specs.World.{present};
 ghost use Rattle.gc_trace.specs.Flips.{flip_at, nth_flip, HasCounts};
 ghost use Rattle.gc_trace.specs.Grammar.{IsRecording};
-ghost use Rattle.gc_trace.specs.Running.{KeepsNone};
+ghost use Rattle.gc_trace.specs.WorldRuns.{KeepsNone};
 ghost use Rattle.gc_trace.specs.Views.{recording};
 
 use crate::run::happen;

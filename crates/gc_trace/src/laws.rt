@@ -5,8 +5,8 @@ ghost use Rattle.gc_world.specs.History.{IsHistory, answers_of, state_after};
 ghost use Rattle.gc_world.specs.declared.event.Entry.{Entry};
 ghost use Rattle.gc_world.specs.declared.event.Event.{Event};
 ghost use Rattle.gc_trace.specs.Grammar.{Recording, IsTextOf, IsOf, spelling, written};
-ghost use Rattle.gc_trace.specs.Faults.{limit, IsFaultOf, IsReadAs};
-ghost use Rattle.gc_trace.specs.Playing.{happened, answers};
+ghost use Rattle.gc_trace.specs.Faults.{limit, IsTraceFaultOf, IsReadAs};
+ghost use Rattle.gc_trace.specs.Plays.{happened, answers};
 ghost use Rattle.gc_trace.specs.Rows.{TextRows, SizedRows, LineRows};
 ghost use Rattle.gc_trace.specs.Report.{report_of};
 ghost use Rattle.gc_trace.specs.ReportRows.{ReportRows};
@@ -16,9 +16,9 @@ ghost use Rattle.gc_trace.specs.declared.fault.TraceFault.{TraceFault};
 /// A text is read in one way: as one trace, or with one first fault.
 pub fn texts_have_one_reading()
     ensures value { (t u : Recording) (text : List ℕ) → IsTextOf t text → IsTextOf u text → t ≡ u }
-    ensures good { (t : Recording) (fault : TraceFault) (text : List ℕ) → IsReadAs t text → IsFaultOf fault text → ⊥ }
-    ensures some { (text : List ℕ) → ((t : Recording) × IsReadAs t text) ⊎ ((f : TraceFault) × IsFaultOf f text) }
-    ensures fault { (f g : TraceFault) (text : List ℕ) → IsFaultOf f text → IsFaultOf g text → f ≡ g }
+    ensures good { (t : Recording) (fault : TraceFault) (text : List ℕ) → IsReadAs t text → IsTraceFaultOf fault text → ⊥ }
+    ensures some { (text : List ℕ) → ((t : Recording) × IsReadAs t text) ⊎ ((f : TraceFault) × IsTraceFaultOf f text) }
+    ensures fault { (f g : TraceFault) (text : List ℕ) → IsTraceFaultOf f text → IsTraceFaultOf g text → f ≡ g }
 {}
 
 /// What is written of a world's history is read as its events, where the text is within the limit; and these get

@@ -1,10 +1,10 @@
 ghost use Rattle.std.specs.Prelude.{◌≡◌, None, Some, MatchOption};
-ghost use Rattle.gc_graph.specs.Lines.{words_of};
-ghost use Rattle.gc_graph.specs.Words.{end_of};
-ghost use Rattle.gc_trace.specs.Reading.{slot_of, slot_at, new_of, num_of, nil_of, move_of, get_of, put_of, same_of, look_of, op_of, begin_of, apply_of, step_of, command_of, collect_of, event_of, version_at, sizes_of};
+ghost use Rattle.gc_graph.specs.Lines.{tokens_of};
+ghost use Rattle.gc_graph.specs.Tokens.{end_of};
+ghost use Rattle.gc_trace.specs.Parsers.{slot_of, slot_at, new_of, num_of, nil_of, move_of, get_of, put_of, same_of, look_of, op_of, begin_of, apply_of, step_of, command_of, collect_of, event_of, version_at, sizes_of};
 
 use gc_copy::Step;
-use gc_graph::text::{Words, number};
+use gc_graph::text::{Tokens, number};
 use gc_graph::{Number, Op, Slot};
 use gc_words::MOST_WORDS;
 use gc_world::Event;
@@ -15,12 +15,12 @@ const NEWEST: u64 = 2;
 /// The version from which on a collection may have a size of its own.
 const SIZED: u8 = 2;
 
-/// The slot that the word names.
-#[tactic(auto, unfolding(crate::specs::Reading::slot_of))]
-fn slot_in(word: &[u8]) -> Option<Slot>
-    ensures { result ≡ slot_of word.now }
+/// The slot that the token names.
+#[tactic(auto, unfolding(crate::specs::Parsers::slot_of))]
+fn slot_in(token: &[u8]) -> Option<Slot>
+    ensures { result ≡ slot_of token.now }
 {
-    match word {
+    match token {
         [b'g', digits @ ..] => Slot::shared(number(digits, 15)? as u8),
         [b'r', digits @ ..] => Slot::own(number(digits, 15)? as u8),
         _ => None,
@@ -28,238 +28,238 @@ fn slot_in(word: &[u8]) -> Option<Slot>
 }
 
 /// Takes a slot.
-#[tactic(auto, unfolding(crate::specs::Reading::slot_at))]
-fn slot(words: &mut Words<'_>) -> Option<Slot>
-    ensures { MatchOption result (slot_at words.old ≡ None) (λ s. slot_at words.old ≡ Some (s, words.new)) }
+#[tactic(auto, unfolding(crate::specs::Parsers::slot_at))]
+fn slot(tokens: &mut Tokens<'_>) -> Option<Slot>
+    ensures { MatchOption result (slot_at tokens.old ≡ None) (λ s. slot_at tokens.old ≡ Some (s, tokens.new)) }
 {
-    slot_in(words.next_word()?)
+    slot_in(tokens.next_token()?)
 }
 
-/// The command, if these were all of its words.
-#[tactic(auto, unfolding(gc_graph::specs::Words::end_of))]
-fn whole(words: &Words<'_>, op: Op) -> Option<Op>
-    ensures { result ≡ end_of op words.now }
+/// The command, if these were all of its tokens.
+#[tactic(auto, unfolding(gc_graph::specs::Tokens::end_of))]
+fn whole(tokens: &Tokens<'_>, op: Op) -> Option<Op>
+    ensures { result ≡ end_of op tokens.now }
 {
-    if words.is_empty() { Some(op) } else { None }
+    if tokens.is_empty() { Some(op) } else { None }
 }
 
-/// The step, if these were all of its words.
-#[tactic(auto, unfolding(gc_graph::specs::Words::end_of))]
-fn whole_step(words: &Words<'_>, step: Step) -> Option<Step>
-    ensures { result ≡ end_of step words.now }
+/// The step, if these were all of its tokens.
+#[tactic(auto, unfolding(gc_graph::specs::Tokens::end_of))]
+fn whole_step(tokens: &Tokens<'_>, step: Step) -> Option<Step>
+    ensures { result ≡ end_of step tokens.now }
 {
-    if words.is_empty() { Some(step) } else { None }
+    if tokens.is_empty() { Some(step) } else { None }
 }
 
-#[tactic(auto, unfolding(crate::specs::Reading::new_of))]
-fn new_op(mut words: Words<'_>) -> Option<Op>
-    ensures { result ≡ new_of words.entry }
+#[tactic(auto, unfolding(crate::specs::Parsers::new_of))]
+fn new_op(mut tokens: Tokens<'_>) -> Option<Op>
+    ensures { result ≡ new_of tokens.entry }
 {
-    let d = slot(&mut words)?;
-    let kind = words.number(255)? as u8;
-    let len = words.number(65535)? as u16;
-    whole(&words, Op::New { d, kind, len })
+    let d = slot(&mut tokens)?;
+    let kind = tokens.number(255)? as u8;
+    let len = tokens.number(65535)? as u16;
+    whole(&tokens, Op::New { d, kind, len })
 }
 
-#[tactic(auto, unfolding(crate::specs::Reading::num_of))]
-fn num_op(mut words: Words<'_>) -> Option<Op>
-    ensures { result ≡ num_of words.entry }
+#[tactic(auto, unfolding(crate::specs::Parsers::num_of))]
+fn num_op(mut tokens: Tokens<'_>) -> Option<Op>
+    ensures { result ≡ num_of tokens.entry }
 {
-    let d = slot(&mut words)?;
-    let n = Number::new(words.number(9223372036854775807)?)?;
-    whole(&words, Op::Num { d, n })
+    let d = slot(&mut tokens)?;
+    let n = Number::new(tokens.number(9223372036854775807)?)?;
+    whole(&tokens, Op::Num { d, n })
 }
 
-#[tactic(auto, unfolding(crate::specs::Reading::nil_of))]
-fn nil_op(mut words: Words<'_>) -> Option<Op>
-    ensures { result ≡ nil_of words.entry }
+#[tactic(auto, unfolding(crate::specs::Parsers::nil_of))]
+fn nil_op(mut tokens: Tokens<'_>) -> Option<Op>
+    ensures { result ≡ nil_of tokens.entry }
 {
-    let d = slot(&mut words)?;
-    whole(&words, Op::Nil { d })
+    let d = slot(&mut tokens)?;
+    whole(&tokens, Op::Nil { d })
 }
 
-#[tactic(auto, unfolding(crate::specs::Reading::move_of))]
-fn move_op(mut words: Words<'_>) -> Option<Op>
-    ensures { result ≡ move_of words.entry }
+#[tactic(auto, unfolding(crate::specs::Parsers::move_of))]
+fn move_op(mut tokens: Tokens<'_>) -> Option<Op>
+    ensures { result ≡ move_of tokens.entry }
 {
-    let d = slot(&mut words)?;
-    let s = slot(&mut words)?;
-    whole(&words, Op::Move { d, s })
+    let d = slot(&mut tokens)?;
+    let s = slot(&mut tokens)?;
+    whole(&tokens, Op::Move { d, s })
 }
 
-#[tactic(auto, unfolding(crate::specs::Reading::get_of))]
-fn get_op(mut words: Words<'_>) -> Option<Op>
-    ensures { result ≡ get_of words.entry }
+#[tactic(auto, unfolding(crate::specs::Parsers::get_of))]
+fn get_op(mut tokens: Tokens<'_>) -> Option<Op>
+    ensures { result ≡ get_of tokens.entry }
 {
-    let d = slot(&mut words)?;
-    let s = slot(&mut words)?;
-    let i = words.number(65535)? as u16;
-    whole(&words, Op::Get { d, s, i })
+    let d = slot(&mut tokens)?;
+    let s = slot(&mut tokens)?;
+    let i = tokens.number(65535)? as u16;
+    whole(&tokens, Op::Get { d, s, i })
 }
 
-#[tactic(auto, unfolding(crate::specs::Reading::put_of))]
-fn put_op(mut words: Words<'_>) -> Option<Op>
-    ensures { result ≡ put_of words.entry }
+#[tactic(auto, unfolding(crate::specs::Parsers::put_of))]
+fn put_op(mut tokens: Tokens<'_>) -> Option<Op>
+    ensures { result ≡ put_of tokens.entry }
 {
-    let s = slot(&mut words)?;
-    let i = words.number(65535)? as u16;
-    let t = slot(&mut words)?;
-    whole(&words, Op::Put { s, i, t })
+    let s = slot(&mut tokens)?;
+    let i = tokens.number(65535)? as u16;
+    let t = slot(&mut tokens)?;
+    whole(&tokens, Op::Put { s, i, t })
 }
 
-#[tactic(auto, unfolding(crate::specs::Reading::same_of))]
-fn same_op(mut words: Words<'_>) -> Option<Op>
-    ensures { result ≡ same_of words.entry }
+#[tactic(auto, unfolding(crate::specs::Parsers::same_of))]
+fn same_op(mut tokens: Tokens<'_>) -> Option<Op>
+    ensures { result ≡ same_of tokens.entry }
 {
-    let s = slot(&mut words)?;
-    let t = slot(&mut words)?;
-    whole(&words, Op::Same { s, t })
+    let s = slot(&mut tokens)?;
+    let t = slot(&mut tokens)?;
+    whole(&tokens, Op::Same { s, t })
 }
 
-#[tactic(auto, unfolding(crate::specs::Reading::look_of))]
-fn look_op(mut words: Words<'_>) -> Option<Op>
-    ensures { result ≡ look_of words.entry }
+#[tactic(auto, unfolding(crate::specs::Parsers::look_of))]
+fn look_op(mut tokens: Tokens<'_>) -> Option<Op>
+    ensures { result ≡ look_of tokens.entry }
 {
-    let s = slot(&mut words)?;
-    whole(&words, Op::Look { s })
+    let s = slot(&mut tokens)?;
+    whole(&tokens, Op::Look { s })
 }
 
-/// The command of these words.
-#[tactic(auto, unfolding(crate::specs::Reading::op_of))]
-fn op(mut words: Words<'_>) -> Option<Op>
-    ensures { result ≡ op_of words.entry }
+/// The command of these tokens.
+#[tactic(auto, unfolding(crate::specs::Parsers::op_of))]
+fn op(mut tokens: Tokens<'_>) -> Option<Op>
+    ensures { result ≡ op_of tokens.entry }
 {
-    let name = words.next_word()?;
+    let name = tokens.next_token()?;
     if name == b"new".as_slice() {
-        new_op(words)
+        new_op(tokens)
     } else if name == b"num".as_slice() {
-        num_op(words)
+        num_op(tokens)
     } else if name == b"nil".as_slice() {
-        nil_op(words)
+        nil_op(tokens)
     } else if name == b"move".as_slice() {
-        move_op(words)
+        move_op(tokens)
     } else if name == b"get".as_slice() {
-        get_op(words)
+        get_op(tokens)
     } else if name == b"put".as_slice() {
-        put_op(words)
+        put_op(tokens)
     } else if name == b"same".as_slice() {
-        same_op(words)
+        same_op(tokens)
     } else if name == b"look".as_slice() {
-        look_op(words)
+        look_op(tokens)
     } else {
         None
     }
 }
 
-/// The mutator and the command of these words.
-#[tactic(auto, unfolding(crate::specs::Reading::command_of))]
-fn command(mut words: Words<'_>) -> Option<Event>
-    ensures { result ≡ command_of words.entry }
+/// The mutator and the command of these tokens.
+#[tactic(auto, unfolding(crate::specs::Parsers::command_of))]
+fn command(mut tokens: Tokens<'_>) -> Option<Event>
+    ensures { result ≡ command_of tokens.entry }
 {
-    let m = words.number(15)? as u8;
-    let op = op(words)?;
+    let m = tokens.number(15)? as u8;
+    let op = op(tokens)?;
     Some(Event::Mutate { m, op })
 }
 
 /// The beginning of a collection: of the size of the mutators' space, or of one of its own.
-#[tactic(auto, unfolding(crate::specs::Reading::begin_of))]
-fn begin(version: u8, mut words: Words<'_>) -> Option<Step>
-    ensures { result ≡ begin_of version words.entry }
+#[tactic(auto, unfolding(crate::specs::Parsers::begin_of))]
+fn begin(version: u8, mut tokens: Tokens<'_>) -> Option<Step>
+    ensures { result ≡ begin_of version tokens.entry }
 {
-    if words.is_empty() {
+    if tokens.is_empty() {
         return Some(Step::Begin);
     }
     if version < SIZED {
         return None;
     }
-    let size = words.number(u64::from(MOST_WORDS))? as u32;
+    let size = tokens.number(u64::from(MOST_WORDS))? as u32;
     if size == 0 {
         return None;
     }
-    whole_step(&words, Step::BeginSized(size))
+    whole_step(&tokens, Step::BeginSized(size))
 }
 
-#[tactic(auto, unfolding(crate::specs::Reading::apply_of))]
-fn apply(mut words: Words<'_>) -> Option<Step>
-    ensures { result ≡ apply_of words.entry }
+#[tactic(auto, unfolding(crate::specs::Parsers::apply_of))]
+fn apply(mut tokens: Tokens<'_>) -> Option<Step>
+    ensures { result ≡ apply_of tokens.entry }
 {
-    let k = words.number(15)? as u8;
-    whole_step(&words, Step::Apply(k))
+    let k = tokens.number(15)? as u8;
+    whole_step(&tokens, Step::Apply(k))
 }
 
-/// The step of these words.
-#[tactic(auto, unfolding(crate::specs::Reading::step_of))]
-fn step(version: u8, mut words: Words<'_>) -> Option<Step>
-    ensures { result ≡ step_of version words.entry }
+/// The step of these tokens.
+#[tactic(auto, unfolding(crate::specs::Parsers::step_of))]
+fn step(version: u8, mut tokens: Tokens<'_>) -> Option<Step>
+    ensures { result ≡ step_of version tokens.entry }
 {
-    let name = words.next_word()?;
+    let name = tokens.next_token()?;
     if name == b"begin".as_slice() {
-        begin(version, words)
+        begin(version, tokens)
     } else if name == b"roots".as_slice() {
-        whole_step(&words, Step::Roots)
+        whole_step(&tokens, Step::Roots)
     } else if name == b"scan".as_slice() {
-        whole_step(&words, Step::Scan)
+        whole_step(&tokens, Step::Scan)
     } else if name == b"apply".as_slice() {
-        apply(words)
+        apply(tokens)
     } else if name == b"flip".as_slice() {
-        whole_step(&words, Step::Flip)
+        whole_step(&tokens, Step::Flip)
     } else if name == b"drop".as_slice() {
-        whole_step(&words, Step::Drop)
+        whole_step(&tokens, Step::Drop)
     } else {
         None
     }
 }
 
-/// The step of these words, as an event.
-#[tactic(auto, unfolding(crate::specs::Reading::collect_of))]
-fn collect(version: u8, words: Words<'_>) -> Option<Event>
-    ensures { result ≡ collect_of version words.entry }
+/// The step of these tokens, as an event.
+#[tactic(auto, unfolding(crate::specs::Parsers::collect_of))]
+fn collect(version: u8, tokens: Tokens<'_>) -> Option<Event>
+    ensures { result ≡ collect_of version tokens.entry }
 {
-    let step = step(version, words)?;
+    let step = step(version, tokens)?;
     Some(Event::Collect(step))
 }
 
 /// The event of a line of such a version, which is given without its line feed.
-#[tactic(auto, unfolding(crate::specs::Reading::event_of))]
+#[tactic(auto, unfolding(crate::specs::Parsers::event_of))]
 pub fn event(version: u8, line: &[u8]) -> Option<Event>
-    ensures { result ≡ event_of version (words_of line.now) }
+    ensures { result ≡ event_of version (tokens_of line.now) }
 {
-    let mut words = Words::new(line);
-    let letter = words.next_word()?;
+    let mut tokens = Tokens::new(line);
+    let letter = tokens.next_token()?;
     if letter == b"m".as_slice() {
-        command(words)
+        command(tokens)
     } else if letter == b"c".as_slice() {
-        collect(version, words)
+        collect(version, tokens)
     } else {
         None
     }
 }
 
 /// The version, of the first line.
-#[tactic(auto, unfolding(crate::specs::Reading::version_at, gc_graph::specs::Words::end_of))]
+#[tactic(auto, unfolding(crate::specs::Parsers::version_at, gc_graph::specs::Tokens::end_of))]
 pub fn version(line: &[u8]) -> Option<u8>
-    ensures { result ≡ version_at (words_of line.now) }
+    ensures { result ≡ version_at (tokens_of line.now) }
 {
-    let mut words = Words::new(line);
-    words.word(b"heaptrace")?;
-    let version = words.number(NEWEST)? as u8;
-    if version == 0 || !words.is_empty() {
+    let mut tokens = Tokens::new(line);
+    tokens.token(b"heaptrace")?;
+    let version = tokens.number(NEWEST)? as u8;
+    if version == 0 || !tokens.is_empty() {
         return None;
     }
     Some(version)
 }
 
 /// The size of the space and the number of mutators, of the second line.
-#[tactic(auto, unfolding(crate::specs::Reading::sizes_of, gc_graph::specs::Words::end_of))]
+#[tactic(auto, unfolding(crate::specs::Parsers::sizes_of, gc_graph::specs::Tokens::end_of))]
 pub fn sizes(line: &[u8]) -> Option<(u32, u8)>
-    ensures { result ≡ sizes_of (words_of line.now) }
+    ensures { result ≡ sizes_of (tokens_of line.now) }
 {
-    let mut words = Words::new(line);
-    words.word(b"space")?;
-    let size = words.number(u64::from(MOST_WORDS))? as u32;
-    words.word(b"mutators")?;
-    let mutators = words.number(16)? as u8;
-    if !words.is_empty() || size == 0 || mutators == 0 {
+    let mut tokens = Tokens::new(line);
+    tokens.token(b"space")?;
+    let size = tokens.number(u64::from(MOST_WORDS))? as u32;
+    tokens.token(b"mutators")?;
+    let mutators = tokens.number(16)? as u8;
+    if !tokens.is_empty() || size == 0 || mutators == 0 {
         return None;
     }
     Some((size, mutators))

@@ -1,7 +1,7 @@
 ghost use Rattle.std.specs.Prelude.{◌≡◌, ◌≢◌, ◌≤◌, ◌↔◌, true, IfSome, IfOk, OnOk, OnErr, Err};
 ghost use Rattle.gc_graph.specs.Streams.{bytes_left, bytes_written, source_failed, sink_failed};
 ghost use Rattle.gc_trace.specs.Faults.{MayFail};
-ghost use Rattle.gc_trace.specs.Playing.{Plays, PlaysFront, Reports, ReportsFront};
+ghost use Rattle.gc_trace.specs.Plays.{Plays, PlaysFront, Reports, ReportsFront};
 ghost use Rattle.gc_trace.specs.Flips.{PlaysPair, PlaysPairFront, HasNoFlip};
 ghost use Rattle.gc_trace.specs.declared.fault.TraceFault.{TraceFault};
 

@@ -2,7 +2,7 @@ ghost use Rattle.std.specs.Prelude.{◌≡◌, ◌≢◌, ◌≤◌, ◌∷◌, 
 ghost use Rattle.gc_graph.specs.Lines.{HasNo, newline};
 ghost use Rattle.gc_graph.specs.Streams.{bytes_left, source_failed};
 ghost use Rattle.gc_trace.specs.Grammar.{IsTextOf, IsRecording, IsHeading, IsEvent, IsOf, newest, heading};
-ghost use Rattle.gc_trace.specs.Faults.{limit, IsFaultOf, IsReadAs, MayFail, HasNoHeading};
+ghost use Rattle.gc_trace.specs.Faults.{limit, IsTraceFaultOf, IsReadAs, MayFail, HasNoHeading};
 ghost use Rattle.gc_trace.specs.Views.{recording};
 
 use crate::fault::TraceFault;

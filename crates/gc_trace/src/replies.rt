@@ -3,7 +3,7 @@ ghost use Rattle.std.specs.Io.KnownBytes.{Appends};
 ghost use Rattle.gc_graph.specs.Streams.{bytes_written, sink_failed, SendsFront, HasSent};
 ghost use Rattle.gc_graph.specs.Lines.{line};
 ghost use Rattle.gc_world.specs.History.{run_answer, answers_of};
-ghost use Rattle.gc_trace.specs.Replies.{reply_line, reply_text, view_words, reply_words, step_reply_words};
+ghost use Rattle.gc_trace.specs.Replies.{reply_line, reply_text, view_tokens, reply_tokens, step_reply_tokens};
 
 use gc_copy::StepReply;
 use gc_graph::text::Printer;
@@ -15,10 +15,10 @@ use std::io::Write;
 const LINE: usize = 64;
 
 /// The line of a `saw`.
-#[tactic(auto, unfolding(crate::specs::Replies::view_words))]
+#[tactic(auto, unfolding(crate::specs::Replies::view_tokens))]
 fn print_view(printer: &mut Printer, view: &View)
     requires { length printer.old + 64 ≤ 16384 }
-    ensures { printer.new ≡ printer.old ++ line (codes "saw" ∷ view_words view.now) }
+    ensures { printer.new ≡ printer.old ++ line (codes "saw" ∷ view_tokens view.now) }
 {
     match view {
         View::Nil => printer.bytes(b"saw nil\n"),
@@ -38,10 +38,10 @@ fn print_view(printer: &mut Printer, view: &View)
 }
 
 /// The line of a mutator's reply.
-#[tactic(auto, unfolding(crate::specs::Replies::reply_words))]
+#[tactic(auto, unfolding(crate::specs::Replies::reply_tokens))]
 fn print_reply(printer: &mut Printer, reply: &Reply)
     requires { length printer.old + 64 ≤ 16384 }
-    ensures { printer.new ≡ printer.old ++ line (reply_words reply.now) }
+    ensures { printer.new ≡ printer.old ++ line (reply_tokens reply.now) }
 {
     match reply {
         Reply::Full => printer.bytes(b"full\n"),
@@ -56,10 +56,10 @@ fn print_reply(printer: &mut Printer, reply: &Reply)
 }
 
 /// The line of an answer to a step.
-#[tactic(auto, unfolding(crate::specs::Replies::step_reply_words))]
+#[tactic(auto, unfolding(crate::specs::Replies::step_reply_tokens))]
 fn print_step_reply(printer: &mut Printer, reply: StepReply)
     requires { length printer.old + 64 ≤ 16384 }
-    ensures { printer.new ≡ printer.old ++ line (step_reply_words reply) }
+    ensures { printer.new ≡ printer.old ++ line (step_reply_tokens reply) }
 {
     match reply {
         StepReply::Busy => printer.bytes(b"busy\n"),
@@ -83,7 +83,7 @@ fn print_step_reply(printer: &mut Printer, reply: StepReply)
 }
 
 /// The line of an answer.
-#[tactic(auto, unfolding(crate::specs::Replies::answer_words))]
+#[tactic(auto, unfolding(crate::specs::Replies::answer_tokens))]
 fn print_answer(printer: &mut Printer, answer: &Answer)
     requires { length printer.old + 64 ≤ 16384 }
     ensures { printer.new ≡ printer.old ++ reply_line (run_answer answer.now) }

@@ -3,8 +3,8 @@ ghost use Rattle.gc_copy.specs.Runs.{IsEvent};
 ghost use Rattle.gc_world.specs.History.{run_event, answers_of};
 ghost use Rattle.gc_world.specs.World.{present};
 ghost use Rattle.gc_trace.specs.Grammar.{IsRecording};
-ghost use Rattle.gc_trace.specs.Playing.{answers, last_state};
-ghost use Rattle.gc_trace.specs.Running.{Happens, HasRun};
+ghost use Rattle.gc_trace.specs.Plays.{answers, last_state};
+ghost use Rattle.gc_trace.specs.WorldRuns.{Happens, HasRun};
 ghost use Rattle.gc_trace.specs.Views.{recording};
 
 use crate::trace::Trace;

@@ -1,10 +1,10 @@
 mod growths;
 mod pairs;
-mod playing;
-mod reading;
+mod plays;
+mod reader;
 mod report;
 mod rows;
 mod scripts;
 mod streams;
 mod worlds;
-mod writing;
+mod writer;

@@ -3,7 +3,7 @@ ghost use Rattle.std.specs.Io.KnownBytes.{Appends};
 ghost use Rattle.gc_graph.specs.Streams.{bytes_written, sink_failed, SendsFront, HasSent};
 ghost use Rattle.gc_graph.specs.Lines.{space};
 ghost use Rattle.gc_trace.specs.Grammar.{slot, event_line, heading, spelling, version_of, least_version, written};
-ghost use Rattle.gc_trace.specs.Playing.{happened};
+ghost use Rattle.gc_trace.specs.Plays.{happened};
 ghost use Rattle.gc_world.specs.declared.event.Event.TheVariants.{Mutate, Collect};
 
 use gc_cert::WriteFault;
@@ -17,7 +17,7 @@ use std::io::Write;
 const LINE: usize = 128;
 
 /// A number, behind a space.
-fn number_word(printer: &mut Printer, n: u64)
+fn number_token(printer: &mut Printer, n: u64)
     requires { length printer.old + 21 ≤ 16384 }
     ensures text { printer.new ≡ printer.old ++ space ∷ decimal n }
     ensures room { length printer.new ≤ length printer.old + 21 }
@@ -28,82 +28,82 @@ fn number_word(printer: &mut Printer, n: u64)
 
 /// A slot, behind a space.
 #[tactic(auto, unfolding(crate::specs::Grammar::slot))]
-fn slot_word(printer: &mut Printer, word: Slot)
+fn slot_token(printer: &mut Printer, token: Slot)
     requires { length printer.old + 22 ≤ 16384 }
-    ensures text { printer.new ≡ printer.old ++ space ∷ slot word }
+    ensures text { printer.new ≡ printer.old ++ space ∷ slot token }
     ensures room { length printer.new ≤ length printer.old + 22 }
 {
-    if word.is_shared() {
+    if token.is_shared() {
         printer.bytes(b" g");
     } else {
         printer.bytes(b" r");
     }
-    printer.number(u64::from(word.index()));
+    printer.number(u64::from(token.index()));
 }
 
 /// Two slots, each behind a space.
-fn two_slot_words(printer: &mut Printer, first: Slot, second: Slot)
+fn two_slot_tokens(printer: &mut Printer, first: Slot, second: Slot)
     requires { length printer.old + 44 ≤ 16384 }
     ensures text { printer.new ≡ (printer.old ++ space ∷ slot first) ++ space ∷ slot second }
     ensures room { length printer.new ≤ length printer.old + 44 }
 {
-    slot_word(printer, first);
-    slot_word(printer, second);
+    slot_token(printer, first);
+    slot_token(printer, second);
 }
 
 /// The line of mutator m's command.
-#[tactic(auto, unfolding(crate::specs::Grammar::op_words, crate::specs::Grammar::event_words, crate::specs::Grammar::event_line))]
+#[tactic(auto, unfolding(crate::specs::Grammar::op_tokens, crate::specs::Grammar::event_tokens, crate::specs::Grammar::event_line))]
 fn print_command(printer: &mut Printer, m: u8, op: &Op)
     requires { length printer.old + 128 ≤ 16384 }
     ensures { printer.new ≡ printer.old ++ event_line (Mutate m op.now) }
 {
     printer.bytes(b"m");
-    number_word(printer, u64::from(m));
+    number_token(printer, u64::from(m));
     match *op {
         Op::New { d, kind, len } => {
             printer.bytes(b" new");
-            slot_word(printer, d);
-            number_word(printer, u64::from(kind));
-            number_word(printer, u64::from(len));
+            slot_token(printer, d);
+            number_token(printer, u64::from(kind));
+            number_token(printer, u64::from(len));
         }
         Op::Num { d, n } => {
             printer.bytes(b" num");
-            slot_word(printer, d);
-            number_word(printer, n.get());
+            slot_token(printer, d);
+            number_token(printer, n.get());
         }
         Op::Nil { d } => {
             printer.bytes(b" nil");
-            slot_word(printer, d);
+            slot_token(printer, d);
         }
         Op::Move { d, s } => {
             printer.bytes(b" move");
-            two_slot_words(printer, d, s);
+            two_slot_tokens(printer, d, s);
         }
         Op::Get { d, s, i } => {
             printer.bytes(b" get");
-            two_slot_words(printer, d, s);
-            number_word(printer, u64::from(i));
+            two_slot_tokens(printer, d, s);
+            number_token(printer, u64::from(i));
         }
         Op::Put { s, i, t } => {
             printer.bytes(b" put");
-            slot_word(printer, s);
-            number_word(printer, u64::from(i));
-            slot_word(printer, t);
+            slot_token(printer, s);
+            number_token(printer, u64::from(i));
+            slot_token(printer, t);
         }
         Op::Same { s, t } => {
             printer.bytes(b" same");
-            two_slot_words(printer, s, t);
+            two_slot_tokens(printer, s, t);
         }
         Op::Look { s } => {
             printer.bytes(b" look");
-            slot_word(printer, s);
+            slot_token(printer, s);
         }
     }
     printer.bytes(b"\n");
 }
 
 /// The line of a step.
-#[tactic(auto, unfolding(crate::specs::Grammar::step_words, crate::specs::Grammar::event_words, crate::specs::Grammar::event_line))]
+#[tactic(auto, unfolding(crate::specs::Grammar::step_tokens, crate::specs::Grammar::event_tokens, crate::specs::Grammar::event_line))]
 fn print_step(printer: &mut Printer, step: Step)
     requires { length printer.old + 128 ≤ 16384 }
     ensures { printer.new ≡ printer.old ++ event_line (Collect step) }
@@ -112,14 +112,14 @@ fn print_step(printer: &mut Printer, step: Step)
         Step::Begin => printer.bytes(b"c begin\n"),
         Step::BeginSized(size) => {
             printer.bytes(b"c begin");
-            number_word(printer, u64::from(size));
+            number_token(printer, u64::from(size));
             printer.bytes(b"\n");
         }
         Step::Roots => printer.bytes(b"c roots\n"),
         Step::Scan => printer.bytes(b"c scan\n"),
         Step::Apply(k) => {
             printer.bytes(b"c apply");
-            number_word(printer, u64::from(k));
+            number_token(printer, u64::from(k));
             printer.bytes(b"\n");
         }
         Step::Flip => printer.bytes(b"c flip\n"),
@@ -139,17 +139,17 @@ fn print_event(printer: &mut Printer, event: &Event)
 }
 
 /// Lines 1 and 2.
-#[tactic(auto, unfolding(crate::specs::Grammar::version_words, crate::specs::Grammar::size_words, crate::specs::Grammar::heading))]
+#[tactic(auto, unfolding(crate::specs::Grammar::version_tokens, crate::specs::Grammar::size_tokens, crate::specs::Grammar::heading))]
 fn print_heading(printer: &mut Printer, version: u8, size: u32, mutators: u8)
     requires { printer.old ≡ [] }
     ensures { printer.new ≡ heading version size mutators }
 {
     printer.bytes(b"heaptrace");
-    number_word(printer, u64::from(version));
+    number_token(printer, u64::from(version));
     printer.bytes(b"\nspace");
-    number_word(printer, u64::from(size));
+    number_token(printer, u64::from(size));
     printer.bytes(b" mutators");
-    number_word(printer, u64::from(mutators));
+    number_token(printer, u64::from(mutators));
     printer.bytes(b"\n");
 }
 

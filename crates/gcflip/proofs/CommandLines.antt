@@ -1,4 +1,4 @@
--- What clap's definitions find in the words that the program takes.
+-- What clap's definitions find in the arguments that the program takes.
 use Rattle.std.proofs.Common.{◌≡◌, ◌==◌, ◌∙◌, List, [], ◌∷◌, refl, sym, ap, codes, drop, Bool, true, false, Option, Some, None, option_map, subst, IfSome}
 use Rattle.std.specs.Borrow.{Bor}
 use Rattle.std.specs.Box.{box_value}
@@ -13,10 +13,10 @@ use Rattle.clap.proofs.WalkLemmas.{first_value-rows}
 use Rattle.clap.specs.declared.builder.arg.Arg.{Arg}
 use Rattle.clap.specs.declared.builder.command.Command.{Command}
 use Rattle.clap.specs.declared.builder.command.Command.TheViews.{out-Command}
-use Rattle.gcflip.specs.CommandLine.{command_line, Finds, FindsFile, IsAskedBy, IsFor, IsInRange, IsPlainWord}
+use Rattle.gcflip.specs.CommandLine.{command_line, Finds, FindsFile, IsAskedBy, IsFor, IsInRange, IsPlainArgument}
 use Rattle.gcflip.specs.declared.task.Task.{Task}
 
--- ---- no words behind the program's name
+-- ---- no arguments behind the program's name
 
 none_taken : takes command_line ([] ∷ []) ≡ true
 unfolding clap_on_literals
@@ -26,11 +26,11 @@ none_found : subcommand_of command_line ([] ∷ []) ≡ None
 unfolding clap_on_literals
 none_found = refl
 
-pub no_words_taken : (words : List Text) → drop 1 words ≡ [] → takes command_line words ≡ true
-no_words_taken words e = ap (λ (rest : List Text). takes command_line ([] ∷ rest)) e ∙ none_taken
+pub no_arguments_taken : (arguments : List Text) → drop 1 arguments ≡ [] → takes command_line arguments ≡ true
+no_arguments_taken arguments e = ap (λ (rest : List Text). takes command_line ([] ∷ rest)) e ∙ none_taken
 
-no_words_found : (words : List Text) → drop 1 words ≡ [] → subcommand_of command_line words ≡ None
-no_words_found words e = ap (λ (rest : List Text). subcommand_of command_line ([] ∷ rest)) e ∙ none_found
+no_arguments_found : (arguments : List Text) → drop 1 arguments ≡ [] → subcommand_of command_line arguments ≡ None
+no_arguments_found arguments e = ap (λ (rest : List Text). subcommand_of command_line ([] ∷ rest)) e ∙ none_found
 
 -- ---- a subcommand and a path
 
@@ -38,7 +38,7 @@ no_words_found words e = ap (λ (rest : List Text). subcommand_of command_line (
 abbrev pub file_of : Option (Text × List Row) → Option (Text × Option Text)
 file_of = option_map (λ p. (p.0, first_of (codes "FILE") p.1))
 
-not_two_hyphens : (path : Text) → IsPlainWord path → bytes_eq path (45 ∷ 45 ∷ []) ≡ false
+not_two_hyphens : (path : Text) → IsPlainArgument path → bytes_eq path (45 ∷ 45 ∷ []) ≡ false
 not_two_hyphens [] plain = refl
 not_two_hyphens (x ∷ xs) plain = go (x == 45) refl
   where
@@ -51,44 +51,44 @@ pub record TakesFile (name path : Text) : Type 0 where
   pub taken : takes command_line ([] ∷ name ∷ path ∷ []) ≡ true
   pub found : file_of (subcommand_of command_line ([] ∷ name ∷ path ∷ [])) ≡ Some (name, Some path)
 
-play_taken : (path : Text) → IsPlainWord path → takes command_line ([] ∷ codes "play" ∷ path ∷ []) ≡ true
+play_taken : (path : Text) → IsPlainArgument path → takes command_line ([] ∷ codes "play" ∷ path ∷ []) ≡ true
 unfolding clap_on_literals
 play_taken path plain = simp (plain, not_two_hyphens path plain)
 
-play_found : (path : Text) → IsPlainWord path → file_of (subcommand_of command_line ([] ∷ codes "play" ∷ path ∷ [])) ≡ Some (codes "play", Some path)
+play_found : (path : Text) → IsPlainArgument path → file_of (subcommand_of command_line ([] ∷ codes "play" ∷ path ∷ [])) ≡ Some (codes "play", Some path)
 unfolding clap_on_literals
 play_found path plain = simp (plain, not_two_hyphens path plain)
 
-pub play_takes_file : (path : Text) → IsPlainWord path → TakesFile (codes "play") path
+pub play_takes_file : (path : Text) → IsPlainArgument path → TakesFile (codes "play") path
 play_takes_file path plain = record { taken = play_taken path plain; found = play_found path plain }
 
-check_taken : (path : Text) → IsPlainWord path → takes command_line ([] ∷ codes "check" ∷ path ∷ []) ≡ true
+check_taken : (path : Text) → IsPlainArgument path → takes command_line ([] ∷ codes "check" ∷ path ∷ []) ≡ true
 unfolding clap_on_literals
 check_taken path plain = simp (plain, not_two_hyphens path plain)
 
-check_found : (path : Text) → IsPlainWord path → file_of (subcommand_of command_line ([] ∷ codes "check" ∷ path ∷ [])) ≡ Some (codes "check", Some path)
+check_found : (path : Text) → IsPlainArgument path → file_of (subcommand_of command_line ([] ∷ codes "check" ∷ path ∷ [])) ≡ Some (codes "check", Some path)
 unfolding clap_on_literals
 check_found path plain = simp (plain, not_two_hyphens path plain)
 
-pub check_takes_file : (path : Text) → IsPlainWord path → TakesFile (codes "check") path
+pub check_takes_file : (path : Text) → IsPlainArgument path → TakesFile (codes "check") path
 check_takes_file path plain = record { taken = check_taken path plain; found = check_found path plain }
 
-report_taken : (path : Text) → IsPlainWord path → takes command_line ([] ∷ codes "report" ∷ path ∷ []) ≡ true
+report_taken : (path : Text) → IsPlainArgument path → takes command_line ([] ∷ codes "report" ∷ path ∷ []) ≡ true
 unfolding clap_on_literals
 report_taken path plain = simp (plain, not_two_hyphens path plain)
 
-report_found : (path : Text) → IsPlainWord path → file_of (subcommand_of command_line ([] ∷ codes "report" ∷ path ∷ [])) ≡ Some (codes "report", Some path)
+report_found : (path : Text) → IsPlainArgument path → file_of (subcommand_of command_line ([] ∷ codes "report" ∷ path ∷ [])) ≡ Some (codes "report", Some path)
 unfolding clap_on_literals
 report_found path plain = simp (plain, not_two_hyphens path plain)
 
-pub report_takes_file : (path : Text) → IsPlainWord path → TakesFile (codes "report") path
+pub report_takes_file : (path : Text) → IsPlainArgument path → TakesFile (codes "report") path
 report_takes_file path plain = record { taken = report_taken path plain; found = report_found path plain }
 
-pub file_words_taken : (words : List Text) (name path : Text) → TakesFile name path → drop 1 words ≡ name ∷ path ∷ [] → takes command_line words ≡ true
-file_words_taken words name path takes_file e = ap (λ (rest : List Text). takes command_line ([] ∷ rest)) e ∙ takes_file.taken
+pub file_arguments_taken : (arguments : List Text) (name path : Text) → TakesFile name path → drop 1 arguments ≡ name ∷ path ∷ [] → takes command_line arguments ≡ true
+file_arguments_taken arguments name path takes_file e = ap (λ (rest : List Text). takes command_line ([] ∷ rest)) e ∙ takes_file.taken
 
-file_words_found : (words : List Text) (name path : Text) → TakesFile name path → drop 1 words ≡ name ∷ path ∷ [] → file_of (subcommand_of command_line words) ≡ Some (name, Some path)
-file_words_found words name path takes_file e = ap (λ (rest : List Text). file_of (subcommand_of command_line ([] ∷ rest))) e ∙ takes_file.found
+file_arguments_found : (arguments : List Text) (name path : Text) → TakesFile name path → drop 1 arguments ≡ name ∷ path ∷ [] → file_of (subcommand_of command_line arguments) ≡ Some (name, Some path)
+file_arguments_found arguments name path takes_file e = ap (λ (rest : List Text). file_of (subcommand_of command_line ([] ∷ rest))) e ∙ takes_file.found
 
 -- ---- what the matches of the program's command have
 
@@ -96,19 +96,19 @@ line_is_simple : is_simple command_line ≡ true
 unfolding clap_on_literals
 line_is_simple = refl
 
-rows_are : (a : App) (words : List Text) (m : ArgMatches) → a ≡ command_line → HasMatchesOf a words m → subcommand_rows_of m ≡ subcommand_of command_line words
-rows_are a words m is has = (has (ap is_simple is ∙ line_is_simple)).1 ∙ ap (λ (b : App). subcommand_of b words) is
+rows_are : (a : App) (arguments : List Text) (m : ArgMatches) → a ≡ command_line → HasMatchesOf a arguments m → subcommand_rows_of m ≡ subcommand_of command_line arguments
+rows_are a arguments m is has = (has (ap is_simple is ∙ line_is_simple)).1 ∙ ap (λ (b : App). subcommand_of b arguments) is
 
-pub matches_of_no_words : (a : App) (words : List Text) (m : ArgMatches) → a ≡ command_line → HasMatchesOf a words m → drop 1 words ≡ [] → subcommand_rows_of m ≡ None
-matches_of_no_words a words m is has none = rows_are a words m is has ∙ no_words_found words none
+pub matches_of_no_arguments : (a : App) (arguments : List Text) (m : ArgMatches) → a ≡ command_line → HasMatchesOf a arguments m → drop 1 arguments ≡ [] → subcommand_rows_of m ≡ None
+matches_of_no_arguments a arguments m is has none = rows_are a arguments m is has ∙ no_arguments_found arguments none
 
 line_is_simple_and_free : is_simple_and_free command_line ≡ true
 unfolding clap_on_literals
 line_is_simple_and_free = refl
 
-pub no_fault : (a : App) (words : List Text) → a ≡ command_line → (is_simple_and_free a ≡ true → fault_of a words ≡ []) → fault_of command_line words ≡ []
-no_fault a words is none =
-    ap (λ (b : App). fault_of b words) (sym is) ∙ none (ap is_simple_and_free is ∙ line_is_simple_and_free)
+pub no_fault : (a : App) (arguments : List Text) → a ≡ command_line → (is_simple_and_free a ≡ true → fault_of a arguments ≡ []) → fault_of command_line arguments ≡ []
+no_fault a arguments is none =
+    ap (λ (b : App). fault_of b arguments) (sym is) ∙ none (ap is_simple_and_free is ∙ line_is_simple_and_free)
 
 -- rows of the subcommand in which the FILE stands
 pub record HasFile (m : ArgMatches) (name path : Text) : Type 0 where
@@ -122,13 +122,13 @@ has_file m (Some p) name path is found =
     let both : ◌≡◌ {A = Text × Option Text} (p.0, first_of (codes "FILE") p.1) (name, Some path) = cc in
     record {
       rows = p.1;
-      are = is ∙ ap (λ (word : Text). Some (word, p.1)) (ap (λ (q : Text × Option Text). q.0) both);
+      are = is ∙ ap (λ (argument : Text). Some (argument, p.1)) (ap (λ (q : Text × Option Text). q.0) both);
       first = ap (λ (q : Text × Option Text). q.1) both;
     }
 
-pub matches_of_file_words : (a : App) (words : List Text) (m : ArgMatches) (name path : Text) → a ≡ command_line → HasMatchesOf a words m → TakesFile name path → drop 1 words ≡ name ∷ path ∷ [] → HasFile m name path
-matches_of_file_words a words m name path is has takes_file e =
-    has_file m (subcommand_of command_line words) name path (rows_are a words m is has) (file_words_found words name path takes_file e)
+pub matches_of_file_arguments : (a : App) (arguments : List Text) (m : ArgMatches) (name path : Text) → a ≡ command_line → HasMatchesOf a arguments m → TakesFile name path → drop 1 arguments ≡ name ∷ path ∷ [] → HasFile m name path
+matches_of_file_arguments a arguments m name path is has takes_file e =
+    has_file m (subcommand_of command_line arguments) name path (rows_are a arguments m is has) (file_arguments_found arguments name path takes_file e)
 
 -- ---- from the rows of a subcommand to what its matches give
 

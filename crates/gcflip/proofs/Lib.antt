@@ -1,3 +1,3 @@
 pub mod CommandLines
 pub mod Statuses
-pub mod Threaded
+pub mod ThreadedRuns

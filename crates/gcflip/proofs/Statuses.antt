@@ -8,7 +8,7 @@ use Rattle.gc_shared.specs.declared.fault.CloseKind.TheVariants as close
 use Rattle.gc_shared.specs.declared.fault.ThreadsFault.TheVariants as threads
 use Rattle.gcflip.specs.ThreadsFaults.{close_status}
 use Rattle.gcflip.specs.TraceFaults.{trace_fault_status}
-use Rattle.gcflip.specs.declared.threads.ThreadsRunFault.TheVariants as run
+use Rattle.gcflip.specs.declared.commands.threads.ThreadsRunFault.TheVariants as run
 use Rattle.gc_trace.specs.declared.fault.TraceFault.{TraceFault}
 use Rattle.gc_trace.specs.declared.fault.TraceFault.TheVariants as trace
 use Rattle.gc_trace.specs.declared.fault.PlayFault.TheVariants as play

@@ -1,4 +1,4 @@
--- The command line, as clap's definitions see it, and what words ask for.
+-- The command line, as clap's definitions see it, and what arguments ask for.
 use Rattle.std.specs.Prelude.{◌≡◌, ℕ, ◌≤◌, ⊤, pos, true, List, Option, Some, None, codes}
 use Rattle.clap.specs.Lexer.{strip_byte}
 use Rattle.clap.specs.Words.{App, Row, Rule, first_of, new_app, new_rule, with_rule, with_subcommand}
@@ -41,9 +41,9 @@ files_line =
 abbrev pub command_line : App
 command_line = with_subcommand (with_subcommand files_line (number_command (codes "pair") flip_rule).top) (number_command (codes "threads") turns_rule).top
 
--- no hyphen stands first, so that clap takes the word for a value and no option
-abbrev pub IsPlainWord : List ℕ → Type 0
-IsPlainWord word = strip_byte 45 word ≡ None
+-- no hyphen stands first, so that clap takes the argument for a value and no option
+abbrev pub IsPlainArgument : List ℕ → Type 0
+IsPlainArgument argument = strip_byte 45 argument ≡ None
 
 -- ---- tasks
 

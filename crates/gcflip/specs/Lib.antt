@@ -1,10 +1,10 @@
-pub mod Checking
+pub mod Verdicts
 pub mod CommandLine
 pub mod Faults
 pub mod Outcomes
 pub mod PairFaults
 pub mod Playing
 pub mod Statuses
-pub mod Threading
+pub mod ThreadedRuns
 pub mod ThreadsFaults
 pub mod TraceFaults

@@ -47,10 +47,10 @@ IsOfThreads (fault.Check check) = ⊥
 IsOfThreads (fault.Threads threads) = ⊤
 
 -- standard input is open already
-abbrev pub IsFaultOf : Task → Fault → Type 0
-IsFaultOf task.PlayInput f = IsOfPlay f
-IsFaultOf (task.Play file) f = IsOfOpening f ⊎ IsOfPlay f
-IsFaultOf (task.Check file) f = IsOfOpening f ⊎ IsOfCheck f
-IsFaultOf (task.Report file) f = IsOfOpening f ⊎ IsOfPlay f
-IsFaultOf (task.Pair file n) f = IsOfOpening f ⊎ IsOfPlay f
-IsFaultOf (task.Threads file turns) f = IsOfOpening f ⊎ IsOfThreads f
+abbrev pub IsTaskFault : Task → Fault → Type 0
+IsTaskFault task.PlayInput f = IsOfPlay f
+IsTaskFault (task.Play file) f = IsOfOpening f ⊎ IsOfPlay f
+IsTaskFault (task.Check file) f = IsOfOpening f ⊎ IsOfCheck f
+IsTaskFault (task.Report file) f = IsOfOpening f ⊎ IsOfPlay f
+IsTaskFault (task.Pair file n) f = IsOfOpening f ⊎ IsOfPlay f
+IsTaskFault (task.Threads file turns) f = IsOfOpening f ⊎ IsOfThreads f

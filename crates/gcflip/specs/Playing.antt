@@ -1,6 +1,6 @@
 -- What the program makes of a trace: its status is told beside it, and its report is not.
 use Rattle.std.specs.Prelude.{ℕ, List, Option}
-use Rattle.gc_trace.specs.Playing as trace
+use Rattle.gc_trace.specs.Plays as trace
 use Rattle.gc_trace.specs.declared.report.Report.{Report}
 
 -- the text is of a trace, and its reply lines went out

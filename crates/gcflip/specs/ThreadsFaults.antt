@@ -5,8 +5,8 @@ use Rattle.gc_shared.specs.declared.fault.CloseKind.TheVariants as close
 use Rattle.gc_shared.specs.declared.fault.ThreadsFault.{ThreadsFault}
 use Rattle.gc_shared.specs.declared.fault.ThreadsFault.TheVariants as threads
 use Rattle.gcflip.specs.TraceFaults.{trace_fault_text, trace_fault_status}
-use Rattle.gcflip.specs.declared.threads.ThreadsRunFault.{ThreadsRunFault}
-use Rattle.gcflip.specs.declared.threads.ThreadsRunFault.TheVariants as run
+use Rattle.gcflip.specs.declared.commands.threads.ThreadsRunFault.{ThreadsRunFault}
+use Rattle.gcflip.specs.declared.commands.threads.ThreadsRunFault.TheVariants as run
 
 -- ---- texts
 

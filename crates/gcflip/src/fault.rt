@@ -3,8 +3,8 @@ ghost use Rattle.std.specs.Io.KnownBytes.{Appends};
 ghost use Rattle.gc_graph.specs.Streams.{bytes_written, sink_failed, SendsFront};
 ghost use Rattle.gcflip.specs.Faults.{fault_text, line_of, status_of};
 
+use crate::commands::ThreadsRunFault;
 use crate::pair_faults::{check_status, print_check_fault};
-use crate::threads::ThreadsRunFault;
 use crate::threads_faults::{print_threads_run_fault, threads_run_status};
 use crate::trace_faults::{play_status, print_play_fault};
 use gc_check::RunFault;

@@ -2,15 +2,11 @@
 //! flips, and checks pairs of heaps.
 #![tactic(auto)]
 
-mod check;
+mod commands;
 mod fault;
-mod pair;
 mod pair_faults;
-mod play;
 mod program;
-mod report;
 mod task;
-mod threads;
 mod threads_faults;
 mod trace_faults;
 

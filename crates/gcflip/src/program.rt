@@ -2,16 +2,12 @@ ghost use Rattle.std.specs.Prelude.{◌≡◌, ◌≢◌, ◌⊎◌, Contains, I
 ghost use Rattle.clap.specs.Values.{kind_of};
 ghost use Rattle.gcflip.specs.CommandLine.{IsInRange};
 ghost use Rattle.gcflip.specs.Faults.{status_of};
-ghost use Rattle.gcflip.specs.Outcomes.{IsFaultOf, IsOfOpening, IsStatusOf};
+ghost use Rattle.gcflip.specs.Outcomes.{IsTaskFault, IsOfOpening, IsStatusOf};
 ghost use Rattle.gcflip.specs.Statuses.{statuses};
 
-use crate::check::check_from;
+use crate::commands::{check_from, pair_from, play_from, report_from, threads_from};
 use crate::fault::{Fault, write_fault};
-use crate::pair::pair_from;
-use crate::play::play_from;
-use crate::report::report_from;
 use crate::task::{Task, refusal_of_no_text, task_of};
-use crate::threads::threads_from;
 use clap::Error;
 use clap::error::ErrorKind;
 use gc_graph::{Sink, Source};
@@ -40,7 +36,7 @@ fn perform<R: Files + Input + Print + AllocGlobal + Threads + Wait + Sync>(
 ) -> Result<u8, Fault>
     requires { IsInRange task }
     ensures done { IfOk result (IsStatusOf task.entry) }
-    ensures failed { IfErr result (IsFaultOf task.entry) }
+    ensures failed { IfErr result (IsTaskFault task.entry) }
 {
     let alloc = rt.alloc();
     // The engines have buffers of their own.
@@ -63,12 +59,12 @@ fn perform<R: Files + Input + Print + AllocGlobal + Threads + Wait + Sync>(
     }
 }
 
-/// The words of the command line.
-fn words<R: Env + AllocGlobal>(rt: &R) -> Result<Vec<String>, Error>
+/// The arguments of the command line.
+fn arguments<R: Env + AllocGlobal>(rt: &R) -> Result<Vec<String>, Error>
     ensures { IfErr result (λ e. (kind_of e ≡ ErrorKind.InvalidValue) ⊎ (kind_of e ≡ ErrorKind.OutOfMemory)) }
 {
     match env::args(rt) {
-        Ok(words) => Ok(words.collect(rt.alloc())?),
+        Ok(arguments) => Ok(arguments.collect(rt.alloc())?),
         Err(error) if error.kind() == io::ErrorKind::OutOfMemory => Err(Error::from(AllocError)),
         Err(_) => Err(refusal_of_no_text(rt.alloc())),
     }
@@ -94,7 +90,7 @@ fn finish<E: Print>(errors: &E, outcome: Result<u8, Fault>) -> u8
     }
 }
 
-/// Prints why the words ask for nothing; help is asked for, and no mistake.
+/// Prints why the arguments ask for nothing; help is asked for, and no mistake.
 #[tactic(auto, using(crate::proofs::Statuses::done_is_status, crate::proofs::Statuses::mistake_is_status))]
 fn refuse<R: Print + Eprint, E: Print>(rt: &R, errors: &E, error: &Error) -> u8
     ensures memory { kind_of error.now ≡ ErrorKind.OutOfMemory → result ≡ 5 }
@@ -127,11 +123,11 @@ pub fn run<R: Files + Env + Input + Print + Eprint + AllocGlobal + Threads + Wai
 ) -> u8
     ensures { Contains statuses result }
 {
-    let words = match words(rt) {
-        Ok(words) => words,
+    let arguments = match arguments(rt) {
+        Ok(arguments) => arguments,
         Err(error) => return refuse(rt, errors, &error),
     };
-    let task = match task_of(rt.alloc(), &words) {
+    let task = match task_of(rt.alloc(), &arguments) {
         Ok(task) => task,
         Err(error) => return refuse(rt, errors, &error),
     };

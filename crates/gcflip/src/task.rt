@@ -2,7 +2,7 @@ ghost use Rattle.std.specs.Prelude.{◌≡◌, ◌⊎◌, ℕ, List, [], ◌∷�
 ghost use Rattle.std.specs.Prelude.{Some, None, IfSome, IfOk, IfErr, IsSomeAnd, MatchResult};
 ghost use Rattle.clap.specs.Words.{Row, app_of, fault_of, first_of, kind_of, rule_of, subcommand_of, subcommand_rows_of};
 ghost use Rattle.clap.specs.declared.builder.Command.TheViews.{out-Command};
-ghost use Rattle.gcflip.specs.CommandLine.{IsAskedBy, IsFor, IsInRange, IsPlainWord, command_line, file_command, number_command, flip_rule, turns_rule};
+ghost use Rattle.gcflip.specs.CommandLine.{IsAskedBy, IsFor, IsInRange, IsPlainArgument, command_line, file_command, number_command, flip_rule, turns_rule};
 
 use clap::error::ErrorKind;
 use clap::{Arg, ArgMatches, Command, Error, value_parser};
@@ -161,28 +161,28 @@ fn found_task<'a>(matches: &ArgMatches<'a>) -> Option<Task<'a>>
     }
 }
 
-/// What the words ask for, or why they ask for nothing, help among the reasons.
-pub fn task_of<'a>(alloc: Global, words: &'a [String]) -> Result<Task<'a>, Error>
-    // The first word is the program's own name.
-    ensures input { drop 1 (map string_bytes words.now) ≡ [] →
+/// What the arguments ask for, or why they ask for nothing, help among the reasons.
+pub fn task_of<'a>(alloc: Global, arguments: &'a [String]) -> Result<Task<'a>, Error>
+    // The first argument is the program's own name.
+    ensures input { drop 1 (map string_bytes arguments.now) ≡ [] →
         MatchResult result (λ task. task ≡ Task.PlayInput) (λ e. kind_of e ≡ ErrorKind.OutOfMemory) }
-    ensures play { (path : List ℕ) → IsPlainWord path
-        → drop 1 (map string_bytes words.now) ≡ codes "play" ∷ path ∷ [] →
+    ensures play { (path : List ℕ) → IsPlainArgument path
+        → drop 1 (map string_bytes arguments.now) ≡ codes "play" ∷ path ∷ [] →
         MatchResult result (IsFor (codes "play") path) (λ e. kind_of e ≡ ErrorKind.OutOfMemory) }
-    ensures check { (path : List ℕ) → IsPlainWord path
-        → drop 1 (map string_bytes words.now) ≡ codes "check" ∷ path ∷ [] →
+    ensures check { (path : List ℕ) → IsPlainArgument path
+        → drop 1 (map string_bytes arguments.now) ≡ codes "check" ∷ path ∷ [] →
         MatchResult result (IsFor (codes "check") path) (λ e. kind_of e ≡ ErrorKind.OutOfMemory) }
-    ensures report { (path : List ℕ) → IsPlainWord path
-        → drop 1 (map string_bytes words.now) ≡ codes "report" ∷ path ∷ [] →
+    ensures report { (path : List ℕ) → IsPlainArgument path
+        → drop 1 (map string_bytes arguments.now) ≡ codes "report" ∷ path ∷ [] →
         MatchResult result (IsFor (codes "report") path) (λ e. kind_of e ≡ ErrorKind.OutOfMemory) }
-    // A task is what clap's definitions find in the words.
-    ensures asked { IfOk result (IsAskedBy (subcommand_of command_line (map string_bytes words.now))) }
+    // A task is what clap's definitions find in the arguments.
+    ensures asked { IfOk result (IsAskedBy (subcommand_of command_line (map string_bytes arguments.now))) }
     ensures range { IfOk result IsInRange }
-    // Words in which clap finds a fault, or a call for help, ask for no task.
-    ensures faultless { IfOk result (λ _. fault_of command_line (map string_bytes words.now) ≡ []) }
+    // Arguments in which clap finds a fault, or a call for help, ask for no task.
+    ensures faultless { IfOk result (λ _. fault_of command_line (map string_bytes arguments.now) ≡ []) }
 {
     let mut command = command(alloc)?;
-    let matches = command.try_get_matches_from_mut(words)?;
+    let matches = command.try_get_matches_from_mut(arguments)?;
     match found_task(&matches) {
         Some(task) => Ok(task),
         None => Err(command.error(ErrorKind::InvalidSubcommand, "unrecognized subcommand")?),
@@ -197,7 +197,7 @@ fn no_text(alloc: Global) -> Result<Error, Error>
     Ok(command(alloc)?.error(ErrorKind::InvalidValue, message)?)
 }
 
-/// The refusal of words that are no text.
+/// The refusal of arguments that are no text.
 pub fn refusal_of_no_text(alloc: Global) -> Error
     ensures { (kind_of result ≡ ErrorKind.InvalidValue) ⊎ (kind_of result ≡ ErrorKind.OutOfMemory) }
 {

@@ -2,7 +2,7 @@ ghost use Rattle.std.specs.Prelude.{◌≡◌, ◌+◌, ◌≤◌, ◌++◌, len
 ghost use Rattle.gcflip.specs.ThreadsFaults.{close_text, threads_fault_text, threads_run_text};
 ghost use Rattle.gcflip.specs.ThreadsFaults.{close_status, threads_fault_status, threads_run_status};
 
-use crate::threads::ThreadsRunFault;
+use crate::commands::ThreadsRunFault;
 use crate::trace_faults::{print_trace_fault, trace_status};
 use gc_graph::text::Printer;
 use gc_shared::{CloseKind, ThreadsFault};

@@ -67,13 +67,13 @@ impl Printer {
         self.bytes(digits.format(n).as_bytes());
     }
 
-    /// Words and the decimal of the number that they end in wait, behind what waits already.
-    pub fn numbered(&mut self, words: &[u8], n: u64)
-        requires { length self.old + length words.now + 20 ≤ 16384 }
-        ensures text { self.new ≡ self.old ++ (words.now ++ decimal n) }
-        ensures room { length self.new ≤ length self.old + length words.now + 20 }
+    /// Appends the text, and behind it the decimal of the number.
+    pub fn numbered(&mut self, text: &[u8], n: u64)
+        requires { length self.old + length text.now + 20 ≤ 16384 }
+        ensures text { self.new ≡ self.old ++ (text.now ++ decimal n) }
+        ensures room { length self.new ≤ length self.old + length text.now + 20 }
     {
-        self.bytes(words);
+        self.bytes(text);
         self.number(n);
     }
 

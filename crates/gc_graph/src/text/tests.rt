@@ -1,4 +1,4 @@
-use crate::text::{Printer, ReadFault, Sink, Source, Words, cut, number, read_all};
+use crate::text::{Printer, ReadFault, Sink, Source, Tokens, cut, number, read_all};
 use std::alloc::Global;
 use std::io;
 use std::io::Read;
@@ -58,22 +58,22 @@ fn numbers_up_to_the_greatest(rt: HostRuntime) {
         (b"99999999999999999999", u64::MAX, None),
         (b"100000000000000000000", u64::MAX, None),
     ];
-    for (word, most, want) in rows {
-        assert_eq!(rt; number(word, most), want, "{word:?}");
+    for (token, most, want) in rows {
+        assert_eq!(rt; number(token, most), want, "{token:?}");
     }
 }
 
 #[test]
-fn words_of_a_line(rt: HostRuntime) -> Result<(), Fail> {
+fn tokens_of_a_line(rt: HostRuntime) -> Result<(), Fail> {
     let (line, rest) = cut(b'\n', b"put 12  x\nmore").ok_or("line")?;
     assert_eq!(rt; rest, b"more".as_slice());
-    let mut words = Words::new(line);
-    assert!(rt; words.word(b"put").is_some());
-    assert_eq!(rt; words.number(12), Some(12));
-    assert_eq!(rt; words.next_word(), Some(b"".as_slice()));
-    assert_eq!(rt; words.next_word(), Some(b"x".as_slice()));
-    assert!(rt; words.is_empty());
-    assert!(rt; words.next_word().is_none());
+    let mut tokens = Tokens::new(line);
+    assert!(rt; tokens.token(b"put").is_some());
+    assert_eq!(rt; tokens.number(12), Some(12));
+    assert_eq!(rt; tokens.next_token(), Some(b"".as_slice()));
+    assert_eq!(rt; tokens.next_token(), Some(b"x".as_slice()));
+    assert!(rt; tokens.is_empty());
+    assert!(rt; tokens.next_token().is_none());
     assert!(rt; cut(b'\n', rest).is_none());
     Ok(())
 }

@@ -1,4 +1,4 @@
-use crate::check::check_from;
+use crate::commands::check_from;
 use crate::fault::Fault;
 use gc_cert::PairFault;
 use gc_check::RunFault;

@@ -1,5 +1,5 @@
+use crate::commands::ThreadsRunFault;
 use crate::fault::{Fault, write_fault};
-use crate::threads::ThreadsRunFault;
 use gc_cert::PairFault;
 use gc_check::RunFault;
 use gc_graph::Sink;

@@ -1,7 +1,6 @@
 use super::traces::COLLECT_WHEN_FULL;
-use crate::check::check_from;
+use crate::commands::{check_from, pair_from};
 use crate::fault::Fault;
-use crate::pair::pair_from;
 use gc_graph::{Sink, Source};
 use gc_trace::{PlayFault, TraceFault};
 use std::test::Fail;

@@ -1,6 +1,6 @@
 use super::traces::FULL;
+use crate::commands::play_from;
 use crate::fault::Fault;
-use crate::play::play_from;
 use gc_graph::{Sink, Source};
 use gc_trace::{PlayFault, TraceFault};
 use std::test::Fail;

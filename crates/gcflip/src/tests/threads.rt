@@ -1,8 +1,8 @@
 //! Scripts in threads: what is recorded is a trace of the same scripts, and plays to the same replies.
 
 use super::traces::FULL;
+use crate::commands::{ThreadsRunFault, threads_from, threads_run};
 use crate::fault::Fault;
-use crate::threads::{ThreadsRunFault, threads_from, threads_run};
 use gc_graph::{Number, Reply, Sink, Source, View};
 use gc_shared::{Gate, run_threads};
 use gc_trace::{

@@ -3,7 +3,7 @@ use Rattle.std.specs.Prelude.{codes}
 use Rattle.std.proofs.lemmas.Result.{err_from_is_err_and}
 use Rattle.gc_words.specs.Views.{addresses}
 use Rattle.gc_cert.specs.Grammar.{image_alone, certificate_lines, IsCertificate, HasImageText}
-use Rattle.gc_cert.specs.Reading.{is_line}
+use Rattle.gc_cert.specs.Parsers.{is_line}
 use Rattle.gc_cert.specs.Sections.{Nothing, alone}
 use Rattle.gc_cert.specs.Views.{image_in}
 use Rattle.gc_cert.proofs.Forms.{alone_delimits}

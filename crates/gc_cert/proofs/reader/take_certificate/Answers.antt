@@ -1,10 +1,10 @@
 use Rattle.std.proofs.Common.{◌≤◌, [], ◌∷◌, map, arith, refl}
 use Rattle.std.specs.Prelude.{codes}
 use Rattle.std.proofs.lemmas.Result.{err_from_is_err_and}
-use Rattle.gc_graph.specs.Lines.{words_of}
+use Rattle.gc_graph.specs.Lines.{tokens_of}
 use Rattle.gc_words.specs.Views.{addresses}
 use Rattle.gc_cert.specs.Grammar.{pair_line, count_line, AreAddresses}
-use Rattle.gc_cert.specs.Reading.{is_line, count_of, pair_of}
+use Rattle.gc_cert.specs.Parsers.{is_line, count_of, pair_of}
 use Rattle.gc_cert.specs.Sections.{Nothing, alone, AreAll}
 use Rattle.gc_cert.proofs.Forms.{alone_delimits, all_delimit}
 use Rattle.gc_cert.proofs.LineForms.{fixed_form, count_form, pair_form}
@@ -16,13 +16,13 @@ pub returns-in_err-count : goal.returns-in_err-count
 returns-in_err-count c =
     let p = err_from_is_err_and c.from_residual.result c.from_residual.ensures.1 in
     rw (p.1, p.2) (stop_within (λ n. n ≤ 524287) (alone (count_line (codes "pairs"))) CertificateSection [] c.args.lines.now c.args.lines.now c.in_err-count.field-0.0
-    (alone_delimits (λ n. n ≤ 524287) (count_line (codes "pairs")) (λ line. count_of (codes "pairs") 524287 (words_of line)) (count_form (codes "pairs") 524287 refl (omega arith))) certificate_count (none_taken c.args.lines.now) c.in_err-count.ensures)
+    (alone_delimits (λ n. n ≤ 524287) (count_line (codes "pairs")) (λ line. count_of (codes "pairs") 524287 (tokens_of line)) (count_form (codes "pairs") 524287 refl (omega arith))) certificate_count (none_taken c.args.lines.now) c.in_err-count.ensures)
 
 pub returns-in_err-pairs : goal.returns-in_err-pairs
 returns-in_err-pairs c =
     let p = err_from_is_err_and c.from_residual-in_err-pairs.result c.from_residual-in_err-pairs.ensures.1 in
     rw (p.1, p.2) (stop_within (AreAll AreAddresses c.in_ok-count.count) (map pair_line) CertificateSection (pairs_line c.in_ok-count.count ∷ []) c.args.lines.now c.take_count.new.lines c.in_err-pairs.field-0.0
-    (all_delimit AreAddresses pair_line (λ line. pair_of (words_of line)) c.in_ok-count.count pair_form) (certificate_pairs c.in_ok-count.count c.in_ok-count.ensures.0) c.in_ok-count.ensures.1 c.in_err-pairs.ensures)
+    (all_delimit AreAddresses pair_line (λ line. pair_of (tokens_of line)) c.in_ok-count.count pair_form) (certificate_pairs c.in_ok-count.count c.in_ok-count.ensures.0) c.in_ok-count.ensures.1 c.in_err-pairs.ensures)
 
 pub returns-in_err-take_line : goal.returns-in_err-take_line
 returns-in_err-take_line c =

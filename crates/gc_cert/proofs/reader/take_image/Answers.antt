@@ -2,9 +2,9 @@ use Rattle.std.proofs.Common.{ℕ, ◌≤◌, [], ◌∷◌, ◌++◌, map, arit
 use Rattle.std.specs.Prelude.{codes}
 use Rattle.std.specs.Fmt.{decimal}
 use Rattle.std.proofs.lemmas.Result.{err_from_is_err_and}
-use Rattle.gc_graph.specs.Lines.{words_of}
+use Rattle.gc_graph.specs.Lines.{tokens_of}
 use Rattle.gc_cert.specs.Grammar.{count_line, size_line, IsWord, AreSizes}
-use Rattle.gc_cert.specs.Reading.{word_in, count_of, sizes_of}
+use Rattle.gc_cert.specs.Parsers.{word_in, count_of, sizes_of}
 use Rattle.gc_cert.specs.Sections.{alone, AreAll}
 use Rattle.gc_cert.proofs.Forms.{alone_delimits, all_delimit}
 use Rattle.gc_cert.proofs.LineForms.{word_form, count_form, size_form}
@@ -17,7 +17,7 @@ returns-in_err-size c =
     let p = err_from_is_err_and c.from_residual.result c.from_residual.ensures.1 in
     let name = c.args.name.now in
     rw (p.1, p.2) (stop_within AreSizes (alone (λ s. size_line name s.0 s.1)) (ImageSection name) [] c.args.lines.now c.args.lines.now c.in_err-size.field-0.0
-    (alone_delimits AreSizes (λ s. size_line name s.0 s.1) (λ line. sizes_of name (words_of line)) (size_form name c.requires)) (image_sizes name) (none_taken c.args.lines.now) c.in_err-size.ensures)
+    (alone_delimits AreSizes (λ s. size_line name s.0 s.1) (λ line. sizes_of name (tokens_of line)) (size_form name c.requires)) (image_sizes name) (none_taken c.args.lines.now) c.in_err-size.ensures)
 
 pub returns-in_err-words : goal.returns-in_err-words
 returns-in_err-words c =
@@ -35,7 +35,7 @@ returns-in_err-count c =
     let words = c.in_ok-words.words.items in
     let all : AreAll IsWord s.1 words = rw c.from.ensures at c.in_ok-words.ensures.0 in
     rw (p.1, p.2) (stop_within (λ n. n ≤ 272) (alone (count_line (codes "roots"))) (ImageSection name) ((size_line name s.0 s.1 ∷ []) ++ map decimal words) c.args.lines.now c.take_words.new.lines c.in_err-count.field-0.0
-    (alone_delimits (λ n. n ≤ 272) (count_line (codes "roots")) (λ line. count_of (codes "roots") 272 (words_of line)) (count_form (codes "roots") 272 refl (omega arith))) (image_count name s words c.in_ok-size.ensures.0 all)
+    (alone_delimits (λ n. n ≤ 272) (count_line (codes "roots")) (λ line. count_of (codes "roots") 272 (tokens_of line)) (count_form (codes "roots") 272 refl (omega arith))) (image_count name s words c.in_ok-size.ensures.0 all)
     (taken_then (size_line name s.0 s.1 ∷ []) (map decimal words) c.args.lines.now c.take_sizes.new.lines c.take_words.new.lines c.in_ok-size.ensures.1 c.in_ok-words.ensures.1) c.in_err-count.ensures)
 
 pub returns-in_err-roots : goal.returns-in_err-roots

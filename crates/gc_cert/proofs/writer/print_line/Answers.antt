@@ -1,7 +1,7 @@
 use Rattle.std.proofs.Common.{[], ◌∷◌}
 use Rattle.std.proofs.lemmas.Result.{err_from_is_err_and}
 use Rattle.gc_graph.specs.Streams.{bytes_written}
-use Rattle.gc_cert.proofs.Printed.{front_longer}
+use Rattle.gc_cert.proofs.PrintedLines.{front_longer}
 use Rattle.gc_cert.proofs.writer.print_line.Goals as goal
 
 pub returns-in_err-make_room-clause-err : goal.returns-in_err-make_room-clause-err

@@ -5,10 +5,10 @@ use Rattle.std.proofs.lemmas.Result.{err_from_is_err_and}
 use Rattle.gc_graph.specs.Streams.{bytes_written}
 use Rattle.gc_words.specs.Views.{image_of, addresses}
 use Rattle.gc_cert.specs.Grammar.{image_alone, certificate_lines, lines_of}
-use Rattle.gc_cert.specs.Printing.{Prints}
+use Rattle.gc_cert.specs.PrintedLines.{Prints}
 use Rattle.gc_cert.specs.Views.{pair_of}
 use Rattle.gc_cert.proofs.Parts.{three_parts, both_images, heading}
-use Rattle.gc_cert.proofs.Printed.{front_within, prints_then, none_printed}
+use Rattle.gc_cert.proofs.PrintedLines.{front_within, prints_then, none_printed}
 use Rattle.gc_cert.proofs.writer.print_text.Goals as goal
 
 pub returns-in_err-print_line-clause-err : goal.returns-in_err-print_line-clause-err

@@ -1,7 +1,7 @@
 use Rattle.std.specs.Fmt.{decimal}
 use Rattle.std.proofs.lemmas.Result.{err_from_is_err_and}
 use Rattle.gc_graph.specs.Streams.{bytes_written}
-use Rattle.gc_cert.proofs.Printed.{one_failed, one_printed}
+use Rattle.gc_cert.proofs.PrintedLines.{one_failed, one_printed}
 use Rattle.gc_cert.proofs.writer.print_words.Goals as goal
 
 pub returns-in_err-print_word-clause-err : goal.returns-in_err-print_word-clause-err

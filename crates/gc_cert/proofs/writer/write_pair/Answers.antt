@@ -1,7 +1,7 @@
 use Rattle.gc_graph.specs.Streams.{bytes_written}
 use Rattle.gc_cert.specs.Grammar.{lines_of, spelling}
 use Rattle.gc_cert.specs.Views.{pair_of}
-use Rattle.gc_cert.proofs.Printed.{printed_out, printed_out_front, front_out}
+use Rattle.gc_cert.proofs.PrintedLines.{printed_out, printed_out_front, front_out}
 use Rattle.gc_cert.proofs.writer.write_pair.Goals as goal
 
 pub returns-in_default-clause-err : goal.returns-in_default-clause-err

@@ -2,9 +2,9 @@ use Rattle.std.proofs.Common.{◌≡◌, Option, Some, arith, ap, sym, ◌∙◌
 use Rattle.gc_cert.specs.Grammar.{CertifiedPair}
 use Rattle.gc_cert.specs.Views.{pair_in}
 use Rattle.gc_world.specs.World.{present}
-use Rattle.gc_trace.specs.Running.{kept_with}
+use Rattle.gc_trace.specs.WorldRuns.{kept_with}
 use Rattle.gc_trace.specs.Flips.{flip_at}
-use Rattle.gc_trace.proofs.Flipping.{flip_counts}
+use Rattle.gc_trace.proofs.FlipPairs.{flip_counts}
 use Rattle.gc_trace.proofs.flips.flip_in.Goals as goal
 
 pub has_text-requires : goal.has_text-requires

@@ -4,7 +4,7 @@ use Rattle.gc_cert.specs.Views.{pair_in}
 use Rattle.gc_world.specs.World.{present}
 use Rattle.gc_trace.specs.Flips.{nth_flip}
 use Rattle.gc_trace.specs.Views.{recording}
-use Rattle.gc_trace.proofs.Flipping.{Counted, next_flip}
+use Rattle.gc_trace.proofs.FlipPairs.{Counted, next_flip}
 use Rattle.gc_trace.proofs.flips.nth_flip.Goals as goal
 use Rattle.gc_trace.proofs.flips.nth_flip.Goals.{in-Some+else-before-eq0, in_default}
 

@@ -2,7 +2,7 @@ use Rattle.std.proofs.Common.{◌≡◌, None}
 use Rattle.gc_world.specs.World.{present}
 use Rattle.gc_trace.specs.Flips.{nth_flip}
 use Rattle.gc_trace.specs.Views.{recording}
-use Rattle.gc_trace.proofs.Flipping.{flips_from}
+use Rattle.gc_trace.proofs.FlipPairs.{flips_from}
 use Rattle.gc_trace.proofs.flips.nth_flip.Given as goal
 
 abbrev pub invariant-loop-event : goal.invariant-loop-event

@@ -1,4 +1,4 @@
-use Rattle.gc_trace.proofs.ReadAgain.{history_has_text, same_answers}
+use Rattle.gc_trace.proofs.HistoryTexts.{history_has_text, same_answers}
 use Rattle.gc_trace.proofs.laws.written_is_read.Goals as goal
 
 pub returns : goal.returns

@@ -1,5 +1,5 @@
 use Rattle.gc_trace.specs.Views.{recording}
-use Rattle.gc_trace.proofs.Played.{report_is, plays, plays_front}
+use Rattle.gc_trace.proofs.PlayOutput.{report_is, plays, plays_front}
 use Rattle.gc_trace.proofs.player.play.Goals as goal
 
 pub returns-in-Ok-clause-played : goal.returns-in-Ok-clause-played

@@ -3,7 +3,7 @@ use Rattle.std.specs.Result.{is_ok}
 use Rattle.std.proofs.lemmas.List.{length-append}
 use Rattle.gc_world.specs.declared.event.Event.{Event}
 use Rattle.gc_trace.specs.Faults.{GoodBefore}
-use Rattle.gc_trace.proofs.Fronts.{no_line, no_event}
+use Rattle.gc_trace.proofs.FrontFaults.{no_line, no_event}
 use Rattle.gc_trace.proofs.Total.{made_of, one_event, good_start, good_more, bad_line, stranger, not_nil, later}
 use Rattle.gc_trace.proofs.reader.spelled_trace.Goals as goal
 

@@ -1,5 +1,5 @@
 use Rattle.std.proofs.Common.{sym}
-use Rattle.gc_trace.proofs.Fronts.{no_first, no_version, no_second, no_sizes}
+use Rattle.gc_trace.proofs.FrontFaults.{no_first, no_version, no_second, no_sizes}
 use Rattle.gc_trace.proofs.Total.{one_heading}
 use Rattle.gc_trace.proofs.reader.split_heading.Goals as goal
 

@@ -1,6 +1,6 @@
 use Rattle.std.proofs.Common.{[]}
 use Rattle.std.proofs.lemmas.Result.{on_ok_weaker, on_err_weaker}
-use Rattle.gc_trace.proofs.Printed.{line_sent, line_failed, lines_sent, answer_line, answer_lines}
+use Rattle.gc_trace.proofs.PrintedLines.{line_sent, line_failed, lines_sent, answer_line, answer_lines}
 use Rattle.gc_trace.proofs.replies.write_replies.Goals as goal
 
 pub returns-in-Err-clause-err : goal.returns-in-Err-clause-err

@@ -1,6 +1,6 @@
 use Rattle.std.proofs.Common.{[]}
 use Rattle.gc_graph.specs.Streams.{bytes_written, HasSent}
-use Rattle.gc_trace.proofs.Printed.{lines_to, answer_line}
+use Rattle.gc_trace.proofs.PrintedLines.{lines_to, answer_line}
 use Rattle.gc_trace.proofs.replies.write_replies.Given as goal
 
 abbrev pub invariant-loop-entry : goal.invariant-loop-entry

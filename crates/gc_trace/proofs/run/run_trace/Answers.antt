@@ -1,8 +1,8 @@
 use Rattle.std.proofs.Common.{◌∙◌}
 use Rattle.std.proofs.lemmas.List.{take_all}
-use Rattle.gc_trace.specs.Running.{HasRun}
+use Rattle.gc_trace.specs.WorldRuns.{HasRun}
 use Rattle.gc_trace.specs.Views.{recording}
-use Rattle.gc_trace.proofs.ReadAgain.{ran_answers, ran_state}
+use Rattle.gc_trace.proofs.HistoryTexts.{ran_answers, ran_state}
 use Rattle.gc_trace.proofs.run.run_trace.Goals as goal
 
 has_run : (c : goal.After-history) → HasRun (recording c.args.trace.now) c.loop-event.world

@@ -1,5 +1,5 @@
 use Rattle.std.proofs.Common.{◌≡◌, take}
-use Rattle.gc_trace.specs.Playing.{happened}
+use Rattle.gc_trace.specs.Plays.{happened}
 use Rattle.gc_trace.proofs.run.run_trace.Given as goal
 
 abbrev pub invariant-loop-event : goal.invariant-loop-event

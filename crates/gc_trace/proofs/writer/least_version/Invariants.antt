@@ -1,6 +1,6 @@
 use Rattle.std.proofs.Common.{◌≡◌, ◌≤◌, max}
 use Rattle.gc_trace.specs.Grammar.{least_version}
-use Rattle.gc_trace.specs.Playing.{happened}
+use Rattle.gc_trace.specs.Plays.{happened}
 use Rattle.gc_trace.proofs.Versions.{least_from}
 use Rattle.gc_trace.proofs.writer.least_version.Given as goal
 

@@ -1,8 +1,8 @@
 use Rattle.std.proofs.Common.{ℕ, List}
 use Rattle.gc_world.specs.declared.event.Entry.{Entry}
 use Rattle.gc_trace.specs.Grammar.{heading, least_version}
-use Rattle.gc_trace.specs.Playing.{happened}
-use Rattle.gc_trace.proofs.Printed.{line_sent, line_failed, lines_sent, entry_line, whole_text}
+use Rattle.gc_trace.specs.Plays.{happened}
+use Rattle.gc_trace.proofs.PrintedLines.{line_sent, line_failed, lines_sent, entry_line, whole_text}
 use Rattle.gc_trace.proofs.writer.write_trace.Goals as goal
 
 abbrev first_lines : ℕ → ℕ → List Entry → List ℕ

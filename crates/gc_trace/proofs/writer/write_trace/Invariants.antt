@@ -1,7 +1,7 @@
 use Rattle.gc_graph.specs.Streams.{bytes_written, HasSent}
 use Rattle.gc_trace.specs.Grammar.{heading, least_version}
-use Rattle.gc_trace.specs.Playing.{happened}
-use Rattle.gc_trace.proofs.Printed.{lines_to, entry_line}
+use Rattle.gc_trace.specs.Plays.{happened}
+use Rattle.gc_trace.proofs.PrintedLines.{lines_to, entry_line}
 use Rattle.gc_trace.proofs.writer.write_trace.Given as goal
 
 abbrev pub invariant-loop-entry : goal.invariant-loop-entry

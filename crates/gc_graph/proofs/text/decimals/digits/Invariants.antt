@@ -2,4 +2,4 @@ use Rattle.gc_graph.proofs.Decimals.{IsValue}
 use Rattle.gc_graph.proofs.text.decimals.digits.Given as goal
 
 abbrev pub invariant-loop-byte : goal.invariant-loop-byte
-invariant-loop-byte l = IsValue l.word l.byte-index l.value
+invariant-loop-byte l = IsValue l.token l.byte-index l.value

@@ -1,4 +1,4 @@
-use Rattle.gc_graph.proofs.Sending.{more_sent_slice}
+use Rattle.gc_graph.proofs.SentText.{more_sent_slice}
 use Rattle.gc_graph.proofs.text.sink.Sink.write_all.Goals as goal
 
 pub loop-rest-preserved : goal.loop-rest-preserved

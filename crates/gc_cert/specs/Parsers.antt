@@ -1,0 +1,41 @@
+-- Reading the tokens of a line from left to right.
+use Rattle.std.specs.Prelude.{ℕ, ◌==◌, ◌&&◌, Bool, true, nat_le, List, [], ◌∷◌, Option, Some, None, if◌then◌else◌}
+use Rattle.std.specs.Str.{bytes_eq}
+use Rattle.gc_graph.specs.Limits.{most_words}
+use Rattle.gc_graph.specs.Tokens.{◌>>=◌, Tokens, number_of, number_at, token_at, end_of}
+
+-- each byte is above the digits, and so none is a space or a line feed
+abbrev pub is_name : List ℕ → Bool
+is_name [] = true
+is_name (b ∷ bs) = nat_le 58 b && is_name bs
+
+-- this very line
+unfoldable pub is_line : List ℕ → List ℕ → Option (Unit {0})
+is_line wanted line = if bytes_eq line wanted then Some tt else None
+
+-- a word of a space or of its roots
+abbrev pub word_in : List ℕ → Option ℕ
+word_in line = number_of 18446744073709551615 line
+
+-- a name and a number up to this
+unfoldable pub count_of : List ℕ → ℕ → Tokens → Option ℕ
+count_of name most tokens = do
+  rest ← token_at name tokens
+  count ← number_at most rest
+  end_of count.0 count.1
+
+-- a name, and the size and the end of an image
+unfoldable pub sizes_of : List ℕ → Tokens → Option (ℕ × ℕ)
+sizes_of name tokens = do
+  rest ← token_at name tokens
+  size ← number_at most_words rest
+  end ← number_at most_words size.1
+  sizes ← end_of (size.0, end.0) end.1
+  if sizes.0 == 0 then None else if sizes.1 == 0 then None else Some sizes
+
+-- an old and a new address
+unfoldable pub pair_of : Tokens → Option (ℕ × ℕ)
+pair_of tokens = do
+  old ← number_at 4294967295 tokens
+  new ← number_at 4294967295 old.1
+  end_of (old.0, new.0) new.1

@@ -1,0 +1,76 @@
+-- Taking tokens from a line gives what was written there, and nothing else.
+use Rattle.std.proofs.Common.{◌≡◌, ℕ, ◌^◌, ◌<◌, ◌≤◌, Bool, true, false, cond, eqb, List, [], ◌∷◌, refl, sym, ap, arith, Option, Some, None, subst}
+use Rattle.std.specs.Fmt.{decimal}
+use Rattle.std.specs.Str.{bytes_eq}
+use Rattle.std.proofs.lemmas.Bool.{eqb-false}
+use Rattle.std.proofs.lemmas.Option.{cond_some}
+use Rattle.std.proofs.lemmas.Slice.Eq.{bytes_eq-Decides}
+use Rattle.gc_graph.specs.Tokens.{◌>>=◌, Tokens, number_of, number_at, token_at, end_of}
+use Rattle.gc_graph.proofs.Decimals.{number_found, number_again}
+
+-- ---- what was written is read
+
+bytes_same : (xs : List ℕ) → bytes_eq xs xs ≡ true
+bytes_same xs = (bytes_eq-Decides xs xs).1 refl
+
+pub number_at_again : (most n : ℕ) (tokens : Tokens) → n ≤ most → n < 2 ^ 64 → number_at most (decimal n ∷ tokens) ≡ Some (n, tokens)
+unfolding number_at
+number_at_again most n tokens le small = rw (number_again most n le small) refl
+
+pub token_at_again : (wanted : List ℕ) (tokens : Tokens) → token_at wanted (wanted ∷ tokens) ≡ Some tokens
+unfolding token_at
+token_at_again wanted tokens = rw (bytes_same wanted) refl
+
+pub end_again : {A : Type 0} (x : A) → end_of x [] ≡ Some x
+unfolding end_of
+end_again x = refl
+
+-- ---- what is read was written
+
+-- the value of a step that did not fail
+pub bind_some : {A B : Type 0} (o : Option A) (f : A → Option B) (y : B) → (o >>= f) ≡ Some y → (x : A) × (o ≡ Some x) × (f x ≡ Some y)
+bind_some None f y e = absurd cc
+bind_some (Some x) f y e = (x, refl, e)
+
+abbrev pub some : {A : Type 0} → A → Option A
+some x = Some x
+
+pub some_is : {A : Type 0} (x y : A) → some x ≡ some y → x ≡ y
+some_is x y e = cc
+
+-- one token before equal tokens
+pub onto : (token : List ℕ) {tokens more : Tokens} → tokens ≡ more → token ∷ tokens ≡ token ∷ more
+onto token e = ap (λ (ws : Tokens). token ∷ ws) e
+
+pub number_at_found : (most : ℕ) (tokens : Tokens) (x : ℕ × Tokens) → number_at most tokens ≡ Some x → (tokens ≡ decimal x.0 ∷ x.1) × (x.0 ≤ most)
+unfolding number_at
+number_at_found most [] x e = absurd cc
+number_at_found most (token ∷ tokens) x e =
+    let b = bind_some (number_of most token) (λ n. Some (n, tokens)) x e in
+    let n = number_found most token b.0 b.1 in
+    subst (λ (y : ℕ × Tokens). (token ∷ tokens ≡ decimal y.0 ∷ y.1) × (y.0 ≤ most)) (some_is (b.0, tokens) x b.2) (ap (λ (w : List ℕ). w ∷ tokens) n.0, n.1)
+
+pub token_at_found : (wanted : List ℕ) (tokens rest : Tokens) → token_at wanted tokens ≡ Some rest → tokens ≡ wanted ∷ rest
+unfolding token_at
+token_at_found wanted [] rest e = absurd cc
+token_at_found wanted (token ∷ tokens) rest e =
+    let c = cond_some (bytes_eq token wanted) tokens rest e in
+    rw ((bytes_eq-Decides token wanted).0 c.0, c.1) refl
+
+pub end_found : {A : Type 0} (x : A) (tokens : Tokens) (y : A) → end_of x tokens ≡ Some y → (tokens ≡ []) × (x ≡ y)
+unfolding end_of
+end_found x [] y e = (refl, some_is x y e)
+end_found x (token ∷ tokens) y e = absurd cc
+
+-- the token is this one, or another
+pub name_case : {A : Type 0} (P : List ℕ → Type 0) (name wanted : List ℕ) (x y : Option A) (r : A) → cond (bytes_eq name wanted) x y ≡ Some r → (x ≡ Some r → P wanted) → (y ≡ Some r → P name) → P name
+name_case P name wanted x y r e f g = parts (bytes_eq name wanted) refl e
+  where
+    parts : (b : Bool) → bytes_eq name wanted ≡ b → cond b x y ≡ Some r → P name
+    parts true is e = subst P (sym ((bytes_eq-Decides name wanted).0 is)) (f e)
+    parts false is e = g e
+
+-- a number above zero
+pub positive : {A : Type 0} (n : ℕ) (b : Bool) (x : Option A) (s : A) → eqb n 0 ≡ b → cond b None x ≡ Some s → (1 ≤ n) × (x ≡ Some s)
+positive n true x s is e = absurd cc
+positive n false x s is e = (omega (arith, eqb-false n 0 is), e)

@@ -1,6 +1,0 @@
-use Rattle.std.proofs.Common.{take}
-use Rattle.gc_graph.specs.Lines.{HasNo}
-use Rattle.gc_graph.proofs.text.words.cut_near.Given as goal
-
-abbrev pub invariant-loop-i : goal.invariant-loop-i
-invariant-loop-i l = HasNo l.byte (take l.i l.text)

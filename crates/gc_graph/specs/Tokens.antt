@@ -1,0 +1,46 @@
+-- Taking tokens from the front of a line, from left to right.
+use Rattle.std.specs.Prelude.{ℕ, ◌<◌, nat_le, ◌&&◌, List, [], ◌∷◌, length, slice_index, Option, Some, None, if◌then◌else◌}
+use Rattle.std.specs.Borrow.{Bor}
+use Rattle.std.specs.Fmt.{decimal}
+use Rattle.std.specs.Int.{IsInRange}
+use Rattle.std.specs.Str.{bytes_eq}
+use Rattle.std.specs.Str.Parse.{digits_value}
+use Rattle.gc_graph.specs.Lines.{tokens_of}
+
+-- the tokens of a line, or none behind its end
+abbrev pub tokens_left : Option (Bor (List ℕ)) → List (List ℕ)
+tokens_left None = []
+tokens_left (Some rest) = tokens_of rest.now
+
+-- each byte is a digit
+abbrev pub AreDigits : List ℕ → Type 0
+AreDigits token = (i : ℕ) → i < length token → IsInRange 48 57 (slice_index token i)
+
+infixl 10 ◌>>=◌
+abbrev pub ◌>>=◌ : {A B : Type 0} → Option A → (A → Option B) → Option B
+None >>= f = None
+(Some x) >>= f = f x
+
+-- the number whose decimal the token is, if it is at most this
+unfoldable pub number_of : ℕ → List ℕ → Option ℕ
+number_of most token = if bytes_eq (decimal (digits_value 10 token)) token && nat_le (digits_value 10 token) most then Some (digits_value 10 token) else None
+
+-- What follows takes tokens from the front, and answers with those that are left.
+abbrev pub Tokens : Type 0
+Tokens = List (List ℕ)
+
+unfoldable pub number_at : ℕ → Tokens → Option (ℕ × Tokens)
+number_at most [] = None
+number_at most (token ∷ tokens) = do
+  n ← number_of most token
+  Some (n, tokens)
+
+-- this very token
+unfoldable pub token_at : List ℕ → Tokens → Option Tokens
+token_at wanted [] = None
+token_at wanted (token ∷ tokens) = if bytes_eq token wanted then Some tokens else None
+
+-- no token is left
+unfoldable pub end_of : {A : Type 0} → A → Tokens → Option A
+end_of x [] = Some x
+end_of x (token ∷ tokens) = None

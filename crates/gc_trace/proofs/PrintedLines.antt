@@ -1,0 +1,62 @@
+-- Lines that go out one after the other, behind a front.
+use Rattle.std.proofs.Common.{◌≡◌, ℕ, List, [], ◌∷◌, ◌++◌, take, drop, sym, ap, ◌∙◌, Option, subst, length, ◌+◌, ◌<◌, ◌≤◌, get_or, append_assoc}
+use Rattle.std.proofs.lemmas.List.{append-nil, take-append-drop, take_all, take_more}
+use Rattle.std.specs.Io.KnownBytes.{Appends}
+use Rattle.std.specs.List.{flat_map}
+use Rattle.std.proofs.lemmas.List.Concat.{flat_map-append, flat_map-cons}
+use Rattle.std.proofs.lemmas.List.Folds.{flat_map-map}
+use Rattle.gc_graph.specs.Streams.{SendsFront, HasSent}
+use Rattle.gc_graph.proofs.SentText.{sent_then, sent_at_last, front_sent}
+use Rattle.gc_world.specs.History.{run_answer, answers_of}
+use Rattle.gc_world.specs.declared.event.Entry.{Entry}
+use Rattle.gc_trace.specs.Grammar.{event_line, heading, spelling, least_version, written}
+use Rattle.gc_trace.specs.Replies.{reply_line, reply_text}
+use Rattle.gc_trace.specs.Plays.{happened}
+
+-- the front, and the lines of the first i
+abbrev pub lines_to : {X : Type 0} → List ℕ → (X → List ℕ) → List X → ℕ → List ℕ
+lines_to front line xs i = front ++ flat_map line (take i xs)
+
+lines_more : {X : Type 0} (front : List ℕ) (line : X → List ℕ) (xs : List X) (i : ℕ) (x : X) → i < length xs → x ≡ get_or xs i x → lines_to front line xs (i + 1) ≡ lines_to front line xs i ++ line x
+lines_more {X} front line xs i x lt is =
+    let more : take (i + 1) xs ≡ take i xs ++ x ∷ [] = take_more xs i x lt ∙ ap (λ (y : X). take i xs ++ y ∷ []) (sym is) in
+    let last : flat_map line (take (i + 1) xs) ≡ flat_map line (take i xs) ++ line x = ap (flat_map line) more ∙ flat_map-append line (take i xs) (x ∷ []) ∙ ap (λ (t : List ℕ). flat_map line (take i xs) ++ t) (flat_map-cons line x [] ∙ append-nil (line x)) in
+    ap (λ (t : List ℕ). front ++ t) last ∙ sym (append_assoc front (flat_map line (take i xs)) (line x))
+
+lines_whole : {X : Type 0} (front : List ℕ) (line : X → List ℕ) (xs : List X) (i : ℕ) → lines_to front line xs i ++ flat_map line (drop i xs) ≡ front ++ flat_map line xs
+lines_whole {X} front line xs i =
+    append_assoc front (flat_map line (take i xs)) (flat_map line (drop i xs)) ∙ ap (λ (t : List ℕ). front ++ t) (sym (flat_map-append line (take i xs) (drop i xs)) ∙ ap (flat_map line) (take-append-drop i xs))
+
+-- one more line waits
+pub line_sent : {X : Type 0} (front : List ℕ) (line : X → List ℕ) (a b c : Option (List ℕ)) (xs : List X) (i : ℕ) (x : X) (waiting mid rest : List ℕ) → i < length xs → x ≡ get_or xs i x
+    → HasSent a b (lines_to front line xs i) waiting → HasSent b c waiting mid → rest ≡ mid ++ line x → HasSent a c (lines_to front line xs (i + 1)) rest
+line_sent front line a b c xs i x waiting mid rest lt is so_far more e =
+    subst (λ (t : List ℕ). HasSent a c t rest) (sym (lines_more front line xs i x lt is)) (sent_then a b c (lines_to front line xs i) waiting mid (line x) rest so_far more e)
+
+-- what waited went out in part
+pub line_failed : {X : Type 0} (front : List ℕ) (line : X → List ℕ) (a b c : Option (List ℕ)) (xs : List X) (i : ℕ) (waiting whole : List ℕ) → front ++ flat_map line xs ≡ whole → HasSent a b (lines_to front line xs i) waiting → SendsFront b c waiting → SendsFront a c whole
+line_failed front line a b c xs i waiting whole is so_far failed = subst (SendsFront a c) (lines_whole front line xs i ∙ is) (front_sent a b c (lines_to front line xs i) waiting (flat_map line (drop i xs)) so_far failed)
+
+-- all that waited went out
+pub lines_sent : {X : Type 0} (front : List ℕ) (line : X → List ℕ) (a b c : Option (List ℕ)) (xs : List X) (i : ℕ) (waiting whole : List ℕ) → front ++ flat_map line xs ≡ whole → length xs ≤ i → HasSent a b (lines_to front line xs i) waiting → Appends b c waiting → Appends a c whole
+lines_sent {X} front line a b c xs i waiting whole is le so_far out =
+    subst (Appends a c) (ap (λ (ys : List X). front ++ flat_map line ys) (take_all i xs le) ∙ is) (sent_at_last a b c (lines_to front line xs i) waiting so_far out)
+
+-- ---- the lines of a history
+
+abbrev pub answer_line : Entry → List ℕ
+answer_line entry = reply_line (run_answer entry.answer)
+
+abbrev pub entry_line : Entry → List ℕ
+entry_line entry = event_line entry.event
+
+pub answer_lines : (entries : List Entry) → flat_map answer_line entries ≡ reply_text (answers_of entries)
+answer_lines entries = sym (flat_map-map reply_line (λ (entry : Entry). run_answer entry.answer) entries)
+
+entry_lines : (entries : List Entry) → flat_map entry_line entries ≡ flat_map event_line (happened entries)
+entry_lines entries = sym (flat_map-map event_line (λ (entry : Entry). entry.event) entries)
+
+-- the heading and the lines of a history's events are its text
+pub whole_text : (size mutators : ℕ) (entries : List Entry) → heading (least_version (happened entries)) size mutators ++ flat_map entry_line entries ≡ spelling (written size mutators (happened entries))
+unfolding spelling
+whole_text size mutators entries = ap (λ (t : List ℕ). heading (least_version (happened entries)) size mutators ++ t) (entry_lines entries)

@@ -1,0 +1,146 @@
+-- Reading the tokens of a line from left to right.
+use Rattle.std.specs.Prelude.{ℕ, ◌==◌, nat_lt, true, false, List, [], ◌∷◌, Option, Some, None, if◌then◌else◌, codes}
+use Rattle.std.specs.Str.{bytes_eq}
+use Rattle.gc_graph.specs.Slots.{SlotName}
+use Rattle.gc_graph.specs.Tokens.{◌>>=◌, Tokens, number_of, number_at, token_at, end_of}
+use Rattle.gc_graph.specs.declared.command.Op.{Op}
+use Rattle.gc_graph.specs.declared.command.Op.TheVariants as ops
+use Rattle.gc_trace.specs.Grammar.{newest}
+use Rattle.gc_copy.specs.declared.step.Step.{Step}
+use Rattle.gc_copy.specs.declared.step.Step.TheVariants as steps
+use Rattle.gc_world.specs.declared.event.Event.{Event}
+use Rattle.gc_world.specs.declared.event.Event.TheVariants.{Mutate, Collect}
+
+-- a slot: its letter, and its number
+unfoldable pub slot_of : List ℕ → Option SlotName
+slot_of [] = None
+slot_of (letter ∷ digits) = do
+  index ← number_of 15 digits
+  if letter == 103 then Some (record { shared = true; index = index }) else if letter == 114 then Some (record { shared = false; index = index }) else None
+
+unfoldable pub slot_at : Tokens → Option (SlotName × Tokens)
+slot_at [] = None
+slot_at (token ∷ tokens) = do
+  slot ← slot_of token
+  Some (slot, tokens)
+
+unfoldable pub new_of : Tokens → Option Op
+new_of tokens = do
+  d ← slot_at tokens
+  kind ← number_at 255 d.1
+  len ← number_at 65535 kind.1
+  end_of (ops.New d.0 kind.0 len.0) len.1
+
+unfoldable pub num_of : Tokens → Option Op
+num_of tokens = do
+  d ← slot_at tokens
+  n ← number_at 9223372036854775807 d.1
+  end_of (ops.Num d.0 n.0) n.1
+
+unfoldable pub nil_of : Tokens → Option Op
+nil_of tokens = do
+  d ← slot_at tokens
+  end_of (ops.Nil d.0) d.1
+
+unfoldable pub move_of : Tokens → Option Op
+move_of tokens = do
+  d ← slot_at tokens
+  s ← slot_at d.1
+  end_of (ops.Move d.0 s.0) s.1
+
+unfoldable pub get_of : Tokens → Option Op
+get_of tokens = do
+  d ← slot_at tokens
+  s ← slot_at d.1
+  i ← number_at 65535 s.1
+  end_of (ops.Get d.0 s.0 i.0) i.1
+
+unfoldable pub put_of : Tokens → Option Op
+put_of tokens = do
+  s ← slot_at tokens
+  i ← number_at 65535 s.1
+  t ← slot_at i.1
+  end_of (ops.Put s.0 i.0 t.0) t.1
+
+unfoldable pub same_of : Tokens → Option Op
+same_of tokens = do
+  s ← slot_at tokens
+  t ← slot_at s.1
+  end_of (ops.Same s.0 t.0) t.1
+
+unfoldable pub look_of : Tokens → Option Op
+look_of tokens = do
+  s ← slot_at tokens
+  end_of (ops.Look s.0) s.1
+
+unfoldable pub op_of : Tokens → Option Op
+op_of [] = None
+op_of (name ∷ tokens) =
+    if bytes_eq name (codes "new") then new_of tokens
+    else if bytes_eq name (codes "num") then num_of tokens
+    else if bytes_eq name (codes "nil") then nil_of tokens
+    else if bytes_eq name (codes "move") then move_of tokens
+    else if bytes_eq name (codes "get") then get_of tokens
+    else if bytes_eq name (codes "put") then put_of tokens
+    else if bytes_eq name (codes "same") then same_of tokens
+    else if bytes_eq name (codes "look") then look_of tokens
+    else None
+
+unfoldable pub command_of : Tokens → Option Event
+command_of tokens = do
+  mutator ← number_at 15 tokens
+  op ← op_of mutator.1
+  Some (Mutate mutator.0 op)
+
+-- a collection takes the size of the mutators' space, or, from the second version on, this one
+unfoldable pub begin_of : ℕ → Tokens → Option Step
+begin_of version [] = Some steps.Begin
+begin_of version (token ∷ tokens) = if nat_lt version 2 then None else (do
+  size ← number_at 1048576 (token ∷ tokens)
+  if size.0 == 0 then None else end_of (steps.BeginSized size.0) size.1)
+
+unfoldable pub apply_of : Tokens → Option Step
+apply_of tokens = do
+  k ← number_at 15 tokens
+  end_of (steps.Apply k.0) k.1
+
+unfoldable pub step_of : ℕ → Tokens → Option Step
+step_of version [] = None
+step_of version (name ∷ tokens) =
+    if bytes_eq name (codes "begin") then begin_of version tokens
+    else if bytes_eq name (codes "roots") then end_of steps.Roots tokens
+    else if bytes_eq name (codes "scan") then end_of steps.Scan tokens
+    else if bytes_eq name (codes "apply") then apply_of tokens
+    else if bytes_eq name (codes "flip") then end_of steps.Flip tokens
+    else if bytes_eq name (codes "drop") then end_of steps.Drop tokens
+    else None
+
+unfoldable pub collect_of : ℕ → Tokens → Option Event
+collect_of version tokens = do
+  step ← step_of version tokens
+  Some (Collect step)
+
+-- an event's line, of this version
+unfoldable pub event_of : ℕ → Tokens → Option Event
+event_of version [] = None
+event_of version (letter ∷ tokens) =
+    if bytes_eq letter (codes "m") then command_of tokens
+    else if bytes_eq letter (codes "c") then collect_of version tokens
+    else None
+
+-- the first line: the version
+unfoldable pub version_at : Tokens → Option ℕ
+version_at tokens = do
+  rest ← token_at (codes "heaptrace") tokens
+  version ← number_at newest rest
+  if version.0 == 0 then None else end_of version.0 version.1
+
+-- the second line: the size of the space, and the number of mutators
+unfoldable pub sizes_of : Tokens → Option (ℕ × ℕ)
+sizes_of tokens = do
+  rest ← token_at (codes "space") tokens
+  size ← number_at 1048576 rest
+  rest ← token_at (codes "mutators") size.1
+  mutators ← number_at 16 rest
+  sizes ← end_of (size.0, mutators.0) mutators.1
+  if sizes.0 == 0 then None else if sizes.1 == 0 then None else Some sizes

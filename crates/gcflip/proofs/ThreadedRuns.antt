@@ -1,0 +1,43 @@
+-- A run of a trace's scripts in threads, put together from its parts.
+use Rattle.std.proofs.Common.{◌≡◌, ℕ, List, [], length, map, ap, sym, ◌∙◌, subst, arith, Option, Some, None, IfSome}
+use Rattle.std.specs.declared.vec.Vec.{Vec}
+use Rattle.std.specs.declared.alloc.Global.{Global}
+use Rattle.std.specs.Io.KnownBytes.{Appends}
+use Rattle.std.proofs.lemmas.List.{length-map}
+use Rattle.std.proofs.lemmas.List.FromFn.{length-map-range_with_len, get_or-map-range_with_len}
+use Rattle.std.specs.Prelude.{slice_index_or}
+use Rattle.gc_graph.specs.Streams.{SendsFront}
+use Rattle.gc_graph.specs.declared.command.Op.{Op}
+use Rattle.gc_shared.specs.Scripts.{HasRun}
+use Rattle.gc_trace.proofs.PlayOutput.{Reads}
+use Rattle.gc_trace.specs.Grammar.{Recording}
+use Rattle.gc_trace.specs.Scripts.{script_of, scripts}
+use Rattle.gc_world.specs.History.{IsHistory}
+use Rattle.gc_world.specs.World.{Past}
+use Rattle.gc_world.specs.declared.event.Entry.{Entry}
+use Rattle.gcflip.specs.ThreadedRuns.{IsThreadedRun, WritesRun, WritesRunFront, recorded}
+
+-- the scripts that are run are those of the trace
+abbrev pub AreScripts : Recording → List (Vec Op Global) → Type 0
+AreScripts t given = map (λ script. script.items) given ≡ scripts t.mutators t.events
+
+pub count_is : (t : Recording) (given : List (Vec Op Global)) → AreScripts t given → length given ≡ t.mutators
+count_is t given are = sym (length-map given (λ script. script.items)) ∙ ap length are ∙ length-map-range_with_len (λ m. script_of m t.events) 0 t.mutators
+
+pub threaded : (t : Recording) (turns : ℕ) (given : List (Vec Op Global)) (past : Past) → AreScripts t given → HasRun t.size given turns past → IsHistory past.size past.mutators past.entries → IsThreadedRun t turns past.entries
+threaded t turns given past are ran history =
+    let count : length given ≡ t.mutators = count_is t given are in
+    record {
+      history = subst (λ (size : ℕ). IsHistory size t.mutators past.entries) ran.opened (subst (λ (mutators : ℕ). IsHistory past.size mutators past.entries) (ran.mutators ∙ count) history);
+      commands = λ m lt. ran.commands m (omega (arith, lt, count)) ∙ ap (λ (all : List (List Op)). slice_index_or all m []) are ∙ get_or-map-range_with_len (λ k. script_of k t.events) 0 t.mutators m m [] lt (omega arith);
+      steps = ran.steps;
+      useful = ran.useful;
+    }
+
+pub writes_run : (bytes old new : Option (List ℕ)) (t : Recording) (turns : ℕ) (entries : List Entry) → Reads bytes t → IsThreadedRun t turns entries → Appends old new (recorded t entries) → IfSome bytes (λ text. WritesRun text turns old new)
+writes_run None old new t turns entries read ran out = tt
+writes_run (Some text) old new t turns entries read ran out = (t, entries, read, ran, out)
+
+pub writes_run_front : (bytes old new : Option (List ℕ)) (t : Recording) (turns : ℕ) (entries : List Entry) → Reads bytes t → IsThreadedRun t turns entries → SendsFront old new (recorded t entries) → IfSome bytes (λ text. WritesRunFront text turns old new)
+writes_run_front None old new t turns entries read ran out = tt
+writes_run_front (Some text) old new t turns entries read ran out = (t, entries, read, ran, out)

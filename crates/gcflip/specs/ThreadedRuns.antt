@@ -1,0 +1,53 @@
+-- What the program makes of a trace whose scripts it runs in threads.
+use Rattle.std.specs.Prelude.{◌≡◌, ℕ, ◌<◌, List, Option, length, All}
+use Rattle.std.specs.Io.KnownBytes.{Appends}
+use Rattle.gc_graph.specs.Streams.{SendsFront}
+use Rattle.gc_shared.specs.Scripts.{IsUsefulStep, commands_of, steps_of}
+use Rattle.gc_shared.specs.declared.fault.ThreadsFault.{ThreadsFault}
+use Rattle.gc_shared.specs.declared.fault.ThreadsFault.TheVariants as threads
+use Rattle.gc_trace.specs.Faults.{IsReadAs}
+use Rattle.gc_trace.specs.Grammar.{Recording, spelling, written}
+use Rattle.gc_trace.specs.Plays.{happened}
+use Rattle.gc_trace.specs.Scripts.{script_of}
+use Rattle.gc_trace.specs.declared.fault.TraceFault.{TraceFault}
+use Rattle.gc_trace.specs.declared.fault.TraceFault.TheVariants as trace
+use Rattle.gc_world.specs.History.{IsHistory}
+use Rattle.gc_world.specs.declared.event.Entry.{Entry}
+use Rattle.gcflip.specs.declared.commands.threads.ThreadsRunFault.{ThreadsRunFault}
+use Rattle.gcflip.specs.declared.commands.threads.ThreadsRunFault.TheVariants.{Trace, Threads, NoMemory}
+
+-- A history of a world of the trace's size and mutators: each mutator made its commands of the trace, in order, and
+-- the collector made so many steps, all as useful ones.
+pub record IsThreadedRun (t : Recording) (turns : ℕ) (entries : List Entry) : Type 0 where
+  pub history : IsHistory t.size t.mutators entries
+  pub commands : (m : ℕ) → m < t.mutators → commands_of m entries ≡ script_of m t.events
+  pub steps : length (steps_of entries) ≡ turns
+  pub useful : All (λ entry. IsUsefulStep entry.event entry.answer) (steps_of entries)
+
+-- the trace of a history with the size and the mutators of t
+abbrev pub recorded : Recording → List Entry → List ℕ
+recorded t entries = spelling (written t.size t.mutators (happened entries))
+
+-- the text is of a trace, and the trace of a run of its scripts went out
+abbrev pub WritesRun : List ℕ → ℕ → Option (List ℕ) → Option (List ℕ) → Type 0
+WritesRun text turns old new = (t : Recording) × (entries : List Entry) × IsReadAs t text × IsThreadedRun t turns entries × Appends old new (recorded t entries)
+
+-- the text is of a trace, and a front of the trace of such a run went out
+abbrev pub WritesRunFront : List ℕ → ℕ → Option (List ℕ) → Option (List ℕ) → Type 0
+WritesRunFront text turns old new = (t : Recording) × (entries : List Entry) × IsReadAs t text × IsThreadedRun t turns entries × SendsFront old new (recorded t entries)
+
+-- ---- faults of its parts: want of memory is its own, but for that of the closing
+
+abbrev pub fault_of_trace : TraceFault → ThreadsRunFault
+fault_of_trace trace.Read = Trace trace.Read
+fault_of_trace trace.TooLarge = Trace trace.TooLarge
+fault_of_trace trace.BadHeader = Trace trace.BadHeader
+fault_of_trace (trace.BadLine n) = Trace (trace.BadLine n)
+fault_of_trace (trace.NoSuchMutator n) = Trace (trace.NoSuchMutator n)
+fault_of_trace trace.NoMemory = NoMemory
+
+abbrev pub fault_of_threads : ThreadsFault → ThreadsRunFault
+fault_of_threads threads.NotStarted = Threads threads.NotStarted
+fault_of_threads (threads.Gate seat n) = Threads (threads.Gate seat n)
+fault_of_threads threads.NoMemory = NoMemory
+fault_of_threads (threads.Close kind) = Threads (threads.Close kind)

@@ -1,0 +1,151 @@
+ghost use Rattle.std.specs.Prelude.{◌≡◌, ◌≢◌, ◌↔◌, true, IfSome, IfOk, IfErr, OnOk, OnErr, Err};
+ghost use Rattle.gc_graph.specs.Streams.{bytes_left, bytes_written, source_failed, sink_failed};
+ghost use Rattle.gc_trace.specs.Faults.{MayFail};
+ghost use Rattle.gc_trace.specs.declared.fault.TraceFault.{TraceFault};
+ghost use Rattle.gc_shared.specs.declared.fault.ThreadsFault.{ThreadsFault};
+ghost use Rattle.gcflip.specs.Outcomes.{IsOfThreads};
+ghost use Rattle.gcflip.specs.ThreadedRuns.{WritesRun, WritesRunFront};
+
+use crate::fault::Fault;
+use gc_graph::{NoMemory, Sink, Source};
+use gc_shared::{Gate, ThreadsFault, run_threads};
+use gc_trace::{TraceFault, read_trace, scripts_are_commands, scripts_of, write_trace};
+use std::alloc::Global;
+use std::io::{Read, Write};
+use std::sync::Wait;
+use std::thread::Threads;
+use thiserror::Error;
+
+/// Why the scripts of a trace were not run in threads.
+#[derive(Clone, Copy, Debug, PartialEq, Eq, Error)]
+pub enum ThreadsRunFault {
+    /// The trace is not read; never `NoMemory`.
+    #[error(transparent)]
+    Trace(TraceFault),
+    /// The threads did not come to their end; never `NoMemory`, but for that of the closing.
+    #[error(transparent)]
+    Threads(ThreadsFault),
+    /// Memory was short, in reading too.
+    #[error("no memory")]
+    NoMemory,
+    /// The writer failed.
+    #[error("cannot write")]
+    Write,
+}
+
+impl From<TraceFault> for ThreadsRunFault {
+    ghost use Rattle.std.specs.Prelude.{◌≡◌};
+    ghost use Rattle.gcflip.specs.ThreadedRuns.{fault_of_trace};
+
+    ghost from_gives = { λ fault made. made ≡ fault_of_trace fault };
+
+    fn from(fault: TraceFault) -> ThreadsRunFault {
+        match fault {
+            TraceFault::NoMemory => ThreadsRunFault::NoMemory,
+            fault => ThreadsRunFault::Trace(fault),
+        }
+    }
+}
+
+impl From<ThreadsFault> for ThreadsRunFault {
+    ghost use Rattle.std.specs.Prelude.{◌≡◌};
+    ghost use Rattle.gcflip.specs.ThreadedRuns.{fault_of_threads};
+
+    ghost from_gives = { λ fault made. made ≡ fault_of_threads fault };
+
+    fn from(fault: ThreadsFault) -> ThreadsRunFault {
+        match fault {
+            ThreadsFault::NoMemory => ThreadsRunFault::NoMemory,
+            fault => ThreadsRunFault::Threads(fault),
+        }
+    }
+}
+
+impl From<NoMemory> for ThreadsRunFault {
+    ghost use Rattle.std.specs.Prelude.{◌≡◌};
+    ghost use Rattle.gcflip.specs.declared.commands.threads.ThreadsRunFault.TheVariants as faults;
+
+    ghost from_gives = { λ fault made. made ≡ faults.NoMemory };
+
+    fn from(_fault: NoMemory) -> ThreadsRunFault {
+        ThreadsRunFault::NoMemory
+    }
+}
+
+/// A gate that lets each call pass.
+struct Passing;
+
+impl Gate for Passing {
+    fn before(&self, _seat: u32, _n: u64) -> bool {
+        true
+    }
+
+    fn after(&self, _seat: u32, _n: u64) {}
+}
+
+/// Runs what each mutator does of the trace whose text the reader gives in a thread of its own, beside a thread that
+/// makes so many useful steps, and writes the trace of what happened. The collector's lines of the text are passed over.
+pub fn threads_run<R: Read, W: Write>(
+    rt: &(impl Threads + Wait + Sync),
+    alloc: Global,
+    turns: u64,
+    reader: &mut Source<R>,
+    writer: &mut Sink<W>,
+) -> Result<(), ThreadsRunFault>
+    // All of the recorded trace, and nothing else.
+    ensures ran { OnOk result (IfSome (bytes_left R.remaining reader.old) (λ text.
+        WritesRun text turns (bytes_written W.contents writer.old) (bytes_written W.contents writer.new))) }
+    // The first fault of a bad text.
+    ensures fault { (fault : TraceFault) → result ≡ Err (ThreadsRunFault.Trace fault) →
+        IfSome (bytes_left R.remaining reader.old) (λ text. MayFail fault text) }
+    ensures memory { (result ≢ Err (ThreadsRunFault.Trace TraceFault.NoMemory))
+        × (result ≢ Err (ThreadsRunFault.Threads ThreadsFault.NoMemory)) }
+    ensures unread { (result ≡ Err (ThreadsRunFault.Trace TraceFault.Read)) ↔ (source_failed reader.new ≡ true) }
+    ensures unwritten { result ≡ Err ThreadsRunFault.Write → sink_failed writer.new ≡ true }
+    // Nothing goes out before the world is closed.
+    ensures silent { OnErr result (result ≢ Err ThreadsRunFault.Write → writer.new ≡ writer.old) }
+    // What went out is a front of the recorded trace.
+    ensures front { result ≡ Err ThreadsRunFault.Write → IfSome (bytes_left R.remaining reader.old) (λ text.
+        WritesRunFront text turns (bytes_written W.contents writer.old) (bytes_written W.contents writer.new)) }
+{
+    scripts_are_commands();
+    let trace = read_trace(alloc, reader)?;
+    let scripts = scripts_of(alloc, &trace)?;
+    let world = run_threads(rt, alloc, trace.size, scripts, turns, &Passing)?;
+    match write_trace(writer, trace.size, trace.mutators, world.history()) {
+        Ok(()) => Ok(()),
+        Err(_) => Err(ThreadsRunFault::Write),
+    }
+}
+
+/// Runs the scripts of a trace in threads, as `threads_run` does. The status is 0.
+pub fn threads_from<R: Read, W: Write>(
+    rt: &(impl Threads + Wait + Sync),
+    alloc: Global,
+    turns: u64,
+    reader: &mut Source<R>,
+    writer: &mut Sink<W>,
+) -> Result<u8, Fault>
+    // All of the recorded trace, and nothing else.
+    ensures ran { OnOk result (IfSome (bytes_left R.remaining reader.old) (λ text.
+        WritesRun text turns (bytes_written W.contents writer.old) (bytes_written W.contents writer.new))) }
+    ensures statuses { IfOk result (λ status. status ≡ 0) }
+    ensures threads { IfErr result IsOfThreads }
+    // The first fault of a bad text.
+    ensures fault { (fault : TraceFault) → result ≡ Err (Fault.Threads (ThreadsRunFault.Trace fault)) →
+        IfSome (bytes_left R.remaining reader.old) (λ text. MayFail fault text) }
+    ensures memory { (result ≢ Err (Fault.Threads (ThreadsRunFault.Trace TraceFault.NoMemory)))
+        × (result ≢ Err (Fault.Threads (ThreadsRunFault.Threads ThreadsFault.NoMemory))) }
+    ensures unread { (result ≡ Err (Fault.Threads (ThreadsRunFault.Trace TraceFault.Read)))
+        ↔ (source_failed reader.new ≡ true) }
+    ensures unwritten { result ≡ Err (Fault.Threads ThreadsRunFault.Write) → sink_failed writer.new ≡ true }
+    ensures silent { OnErr result (result ≢ Err (Fault.Threads ThreadsRunFault.Write) → writer.new ≡ writer.old) }
+    // What went out is a front of the recorded trace.
+    ensures front { result ≡ Err (Fault.Threads ThreadsRunFault.Write) → IfSome (bytes_left R.remaining reader.old) (λ text.
+        WritesRunFront text turns (bytes_written W.contents writer.old) (bytes_written W.contents writer.new)) }
+{
+    match threads_run(rt, alloc, turns, reader, writer) {
+        Ok(()) => Ok(0),
+        Err(fault) => Err(Fault::Threads(fault)),
+    }
+}
