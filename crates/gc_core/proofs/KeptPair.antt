@@ -1,5 +1,5 @@
 -- The pair that a flip returns, put together from what its parts are.
-use Rattle.std.proofs.Common.{◌≡◌, ℕ, List, Option, Some, None, sym, ◌∙◌, subst}
+use Rattle.std.proofs.Common.{◌≡◌, ℕ, List, Option, Some, refl, sym, subst}
 use Rattle.std.specs.Option.{option_map}
 use Rattle.gc_words.specs.Image.{Image}
 use Rattle.gc_words.specs.Certificate.{Certified}
@@ -8,7 +8,7 @@ use Rattle.gc_cert.specs.Grammar.{CertifiedPair}
 use Rattle.gc_copy.specs.Words.{CollectionWords, collection_in, state_of, open_state}
 use Rattle.gc_copy.specs.declared.step.StepReply.{StepReply}
 use Rattle.gc_copy.specs.declared.step.StepReply.TheVariants.{Flipped}
-use Rattle.gc_core.specs.Flip.{flip_pair, kept_after}
+use Rattle.gc_core.specs.Flip.{flip_pair, kept_after, replaced}
 
 pub same_image : (size end s e : ℕ) (words roots w r : List ℕ) → size ≡ s → end ≡ e → words ≡ w → roots ≡ r
     → ◌≡◌ {A = Image} (record { size = size; end = end; words = words; roots = roots }) (record { size = s; end = e; words = w; roots = r })
@@ -19,9 +19,10 @@ certified_along old new pairs o n ps a b e h =
     subst (λ x. Certified x new pairs) (sym a) (subst (λ x. Certified o x pairs) (sym b) (subst (λ x. Certified o n x) (sym e) h))
 
 -- that of the collection that was open
-pub kept_open : (heap : HeapWords) (was : Option CollectionWords) (c : CollectionWords) (reply : StepReply) (n : ℕ) (pair : Option CertifiedPair)
+pub kept_open : (heap : HeapWords) (was : Option CollectionWords) (c : CollectionWords) (reply : StepReply) (n : ℕ) (pair kept : Option CertifiedPair)
     → was ≡ Some c → reply ≡ Flipped n → pair ≡ Some (flip_pair (open_state heap c) (collection_in c))
-    → pair ≡ kept_after None (state_of heap (option_map collection_in was)) reply
-kept_open heap was c reply n pair is told e =
-    subst (λ r. pair ≡ kept_after None (state_of heap (option_map collection_in was)) r) (sym told)
-    (subst (λ o. pair ≡ kept_after None (state_of heap (option_map collection_in o)) (Flipped n)) (sym is) e)
+    → kept_after kept (state_of heap (option_map collection_in was)) reply ≡ replaced kept pair
+kept_open heap was c reply n pair kept is told e =
+    let here : kept_after kept (open_state heap c) (Flipped n) ≡ replaced kept pair = subst (λ p. kept_after kept (open_state heap c) (Flipped n) ≡ replaced kept p) (sym e) refl in
+    subst (λ r. kept_after kept (state_of heap (option_map collection_in was)) r ≡ replaced kept pair) (sym told)
+    (subst (λ o. kept_after kept (state_of heap (option_map collection_in o)) (Flipped n) ≡ replaced kept pair) (sym is) here)

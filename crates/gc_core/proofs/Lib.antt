@@ -1,2 +1,3 @@
 mod FirstLog
 mod KeptPair
+pub mod LegalRuns

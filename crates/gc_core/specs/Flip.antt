@@ -31,6 +31,11 @@ abbrev pub kept_after : Option CertifiedPair → State → StepReply → Option 
 kept_after kept s (Flipped pairs) = open_pair s s.collection
 kept_after kept s reply = kept
 
+-- the pair that is kept from now on: the new one, if there is one
+abbrev pub replaced : Option CertifiedPair → Option CertifiedPair → Option CertifiedPair
+replaced kept None = kept
+replaced kept (Some pair) = Some pair
+
 -- where the reply tells of a flip, this holds of its pair
 abbrev pub FlipsOnly : (CertifiedPair → Type 0) → State → StepReply → Type 0
 FlipsOnly says s reply = (pairs : ℕ) → reply ≡ Flipped pairs → IfSome s.collection (λ c. says (flip_pair s c))

@@ -1,2 +1,3 @@
 pub mod CollectedHeap
 pub mod Flip
+pub mod Replies

@@ -1,4 +1,4 @@
-ghost use Rattle.std.specs.Prelude.{◌≡◌, ◌<◌, ◌^◌, Some, None, IfOk, IfSome, IsSome, IsTrue, OnErr, length};
+ghost use Rattle.std.specs.Prelude.{◌≡◌, ◌≢◌, ◌<◌, ◌^◌, Some, None, IfOk, IfSome, IsSome, IsTrue, OnErr, length};
 ghost use Rattle.std.specs.Option.{option_map};
 ghost use Rattle.gc_cert.specs.Views.{pair_in};
 ghost use Rattle.gc_heap.specs.Heap.{graph_in};
@@ -19,7 +19,9 @@ use gc_words::no_fault_where_certified;
 use std::alloc::Global;
 
 impl CollectedHeap {
-    ghost use Rattle.gc_core.specs.Flip.{FlipsOnly, kept_after};
+    ghost use Rattle.gc_core.specs.Flip.{FlipsOnly, kept_after, replaced};
+    ghost use Rattle.gc_cert.specs.Grammar.{CertifiedPair};
+    ghost use Rattle.std.specs.Prelude.{Option};
     ghost use Rattle.gc_core.specs.declared.flip.Keep.{Keep};
 
     /// Flips if the open collection is ready and the checker accepts its certificate: `Flipped` with the number
@@ -33,8 +35,12 @@ impl CollectedHeap {
         ensures step { IfOk result (λ flip. collect self.old Step.Flip ≡ (flip.reply, self.new)) }
         // It flips only what this checker said yes to.
         ensures asked { IfOk result (λ flip. FlipsOnly (C.says_yes checker.now) self.old flip.reply) }
-        ensures pair { keep ≡ Keep.Pair → IfOk result (λ flip.
-            option_map pair_in flip.pair ≡ kept_after None self.old flip.reply) }
+        // A ready collection passes, so no flip is refused.
+        ensures passes { IfOk result (λ flip. IfSome self.old.collection (λ c.
+            IsTrue (is_ready c self.old.heap.graph) → flip.reply ≡ StepReply.Flipped (length c.replicas))) }
+        ensures never_refused { IfOk result (λ flip. flip.reply ≢ StepReply.Refused) }
+        ensures pair { keep ≡ Keep.Pair → IfOk result (λ flip. (kept : Option CertifiedPair)
+            → kept_after kept self.old flip.reply ≡ replaced kept (option_map pair_in flip.pair)) }
         ensures nothing { keep ≡ Keep.Nothing → IfOk result (λ flip. flip.pair ≡ None) }
         ensures certified { IfOk result (λ flip. IfSome flip.pair (λ file. IsCertified (pair_in file))) }
         ensures refused { OnErr result (self.new ≡ self.old) }
@@ -99,7 +105,7 @@ fn carry_out(heap: &mut Heap, collection: Collection, draft: Draft, copies: Opti
     requires copies { IfSome copies (AreCopies collection draft.roots.items) }
     requires few { length draft.pairs.items < 2 ^ 32 }
     ensures step { collect (open_state heap.old collection) Step.Flip ≡ (result.reply, idle_state heap.new) }
-    ensures reply { result.reply ≡ StepReply.Flipped (length draft.pairs.items) }
+    ensures reply { result.reply ≡ StepReply.Flipped (length (collection_in collection).replicas) }
     ensures links { HasNoLinks heap.new }
     ensures pair { IsSome copies → option_map pair_in result.pair
         ≡ Some (flip_pair (open_state heap.old collection) (collection_in collection)) }

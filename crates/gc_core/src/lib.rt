@@ -5,7 +5,9 @@ mod collected_heap;
 mod commands;
 mod flip;
 mod flipping;
+mod laws;
 mod steps;
 
 pub use collected_heap::CollectedHeap;
 pub use flip::{Flip, Keep};
+pub use laws::runs_are_legal;

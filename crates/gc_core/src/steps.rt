@@ -1,4 +1,6 @@
 use crate::collected_heap::CollectedHeap;
+use crate::flip::Keep;
+use gc_check::Checks;
 use gc_copy::{Collection, Step, StepReply};
 use gc_graph::NoMemory;
 
@@ -7,6 +9,31 @@ impl CollectedHeap {
     ghost use Rattle.gc_copy.specs.Steps.{collect, useful_step};
     ghost use Rattle.gc_copy.specs.Runs.{IsStep};
     ghost use Rattle.gc_copy.specs.declared.step.Step.{Step};
+    ghost use Rattle.gc_core.specs.Flip.{FlipsOnly};
+    ghost use Rattle.gc_core.specs.CollectedHeap.{Allocates};
+
+    /// Performs one collector step. A flip happens only if the checker accepts the certificate; its pair is not
+    /// kept. On `NoMemory`, which only `Begin`, `BeginSized` and `Flip` return, the heap is unchanged.
+    pub fn collect<C: Checks>(&mut self, checker: &C, step: Step) -> Result<StepReply, NoMemory>
+        requires can { C.can_check checker.now }
+        requires step { IsStep self.old.mutators step }
+        ensures step { IfOk result (λ reply. collect self.old step ≡ (reply, self.new)) }
+        // It flips only what this checker said yes to.
+        ensures asked { IfOk result (FlipsOnly (C.says_yes checker.now) self.old) }
+        ensures refused { OnErr result (self.new ≡ self.old) }
+        ensures allocates { OnErr result (Allocates step) }
+        ensures mutators { self.new.mutators ≡ self.old.mutators }
+    {
+        match step {
+            Step::Begin => self.begin(),
+            Step::BeginSized(size) => self.begin_sized(size),
+            Step::Roots => Ok(self.roots()),
+            Step::Scan => Ok(self.scan()),
+            Step::Apply(m) => Ok(self.apply_log(m)),
+            Step::Flip => Ok(self.flip(checker, Keep::Nothing)?.reply),
+            Step::Drop => Ok(self.give_up()),
+        }
+    }
 
     /// Opens a collection whose new space has `size` words, 1 to 1048576: `Begun`, or `Busy` while one is open.
     /// On `NoMemory` nothing has changed.

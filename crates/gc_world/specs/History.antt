@@ -1,6 +1,7 @@
 -- Histories: what happened, and what it was answered.
 use Rattle.std.specs.Prelude.{◌≡◌, ℕ, ◌≤◌, List, [], ◌∷◌, map, ⊤}
 use Rattle.std.specs.List.{flat_map}
+use Rattle.gc_graph.specs.Limits.{most_words, most_mutators}
 use Rattle.gc_graph.specs.Legal.{Told}
 use Rattle.gc_copy.specs.State.{State, opening_state}
 use Rattle.gc_copy.specs.Steps.{useful_step}
@@ -60,9 +61,9 @@ UsefulFrom s (entry ∷ rest) = IsUseful s entry.event entry.answer × UsefulFro
 -- the history of a world that was opened with so many words and mutators
 pub record IsHistory (size mutators : ℕ) (entries : List Entry) : Type 0 where
   pub low : 1 ≤ size
-  pub high : size ≤ 1048576
+  pub high : size ≤ most_words
   pub some : 1 ≤ mutators
-  pub few : mutators ≤ 16
+  pub few : mutators ≤ most_mutators
   pub events : runs.AreEvents mutators (events_of entries)
   pub run : IsCoreRun size mutators entries
   pub useful : UsefulFrom (opening_state size mutators) entries

@@ -1,4 +1,2 @@
-pub mod Flip
 pub mod History
-pub mod Live
 pub mod World

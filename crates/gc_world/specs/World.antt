@@ -1,10 +1,8 @@
 -- A world as contracts see it: what it was opened with, its history, and the pair that its last flip kept.
 use Rattle.std.specs.Prelude.{◌≡◌, ℕ, List, [], ◌∷◌, ◌++◌, Option, Some, None, ⊤}
-use Rattle.gc_world.specs.Flip.{IsCertified}
+use Rattle.gc_core.specs.Flip.{IsCertified}
 use Rattle.gc_copy.specs.State.{State}
 use Rattle.gc_cert.specs.Grammar.{CertifiedPair}
-use Rattle.gc_world.specs.Live.{state_in, IsLive}
-use Rattle.gc_world.specs.declared.live.Live.{Live}
 use Rattle.gc_world.specs.History.{IsHistory, state_after}
 use Rattle.gc_world.specs.declared.event.Event.{Event}
 use Rattle.gc_world.specs.declared.event.Answer.{Answer}
@@ -36,8 +34,7 @@ IsKept None = ⊤
 IsKept (Some pair) = IsCertified pair
 
 -- what is there is what the history led to
-pub record IsWorld (now : Live) (past : Past) : Type 0 where
+pub record IsWorld (now : State) (past : Past) : Type 0 where
   pub history : IsHistory past.size past.mutators past.entries
-  pub state : state_in now ≡ present past
-  pub live : IsLive now
+  pub state : now ≡ present past
   pub kept : IsKept past.kept

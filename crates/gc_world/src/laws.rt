@@ -3,6 +3,7 @@
 ghost use Rattle.std.specs.Prelude.{◌≡◌, ◌≢◌, ◌++◌, ◌∷◌, [], ℕ, List, ◌≤◌};
 ghost use Rattle.std.specs.List.{All};
 ghost use Rattle.gc_graph.specs.Legal.{IsLegal};
+ghost use Rattle.gc_graph.specs.Limits.{most_words, most_mutators};
 ghost use Rattle.gc_copy.specs.State.{opening_state};
 ghost use Rattle.gc_copy.specs.Runs.{IsEvent, Stepped, after, answer};
 ghost use Rattle.gc_copy.specs.Belonging.{IsState};
@@ -18,7 +19,7 @@ ghost use Rattle.gc_world.specs.declared.event.Entry.{Entry};
 /// that the event leaves.
 pub fn histories_grow()
     ensures opening { (size mutators : ℕ)
-        → 1 ≤ size → size ≤ 1048576 → 1 ≤ mutators → mutators ≤ 16 → IsHistory size mutators [] }
+        → 1 ≤ size → size ≤ most_words → 1 ≤ mutators → mutators ≤ most_mutators → IsHistory size mutators [] }
     ensures event { (size mutators : ℕ) (entries : List Entry) (entry : Entry)
         → IsHistory size mutators entries
         → IsEvent mutators (run_event entry.event)

@@ -1,23 +1,23 @@
 use crate::event::{Answer, Entry, Event};
-use crate::flip::Stepped;
 use crate::laws::histories_grow;
-use crate::live::Live;
 use crate::range::command_is_in_range;
 use gc_cert::PairFile;
+use gc_check::{Checks, Sequential};
 use gc_copy::{Step, StepReply};
+use gc_core::{CollectedHeap, Flip, Keep};
 use gc_graph::{NoMemory, Op, Reply};
 use gc_heap::Heap;
+use gc_par::Parallel;
 use std::alloc::Global;
 use std::marker::Model;
 use std::thread::Threads;
 
-/// A heap with its mutators and its collector, and the history of all that happened to it. A flip keeps the
-/// pair that the checker accepted, until it is taken.
+/// A collected heap with the history of all that happened to it. A flip keeps the pair that the checker accepted,
+/// until it is taken.
 #[derive(Debug, Drop)]
 pub struct World {
-    alloc: Global,
     size: u32,
-    live: Live,
+    heap: CollectedHeap,
     history: Vec<Entry>,
     kept: Option<PairFile>,
 }
@@ -31,14 +31,14 @@ impl Model for World {
 
     ghost view = { λ w. record {
       size = w.size;
-      mutators = w.live.heap.mutators;
+      mutators = w.heap.mutators;
       entries = w.history.items;
       kept = option_map pair_in w.kept;
     } };
 
-    ghost invariant = { λ w. IsWorld w.live (record {
+    ghost invariant = { λ w. IsWorld w.heap (record {
       size = w.size;
-      mutators = w.live.heap.mutators;
+      mutators = w.heap.mutators;
       entries = w.history.items;
       kept = option_map pair_in w.kept;
     }) };
@@ -48,22 +48,23 @@ impl World {
     ghost use Rattle.std.specs.Prelude.{◌≡◌, ◌<◌, ◌≤◌, [], None, IfOk, OnErr};
     ghost use Rattle.std.specs.Prelude.{is_some, IfSome};
     ghost use Rattle.std.specs.Option.{option_map};
+    ghost use Rattle.gc_graph.specs.Limits.{most_words, most_mutators};
     ghost use Rattle.gc_heap.specs.Heap.{roomy_in};
     ghost use Rattle.gc_cert.specs.Views.{pair_in};
     ghost use Rattle.gc_copy.specs.Steps.{mutate, collect, useful_step};
     ghost use Rattle.gc_copy.specs.Runs.{IsStep};
-    ghost use Rattle.gc_world.specs.Flip.{kept_after, IsCertified};
+    ghost use Rattle.gc_core.specs.Flip.{kept_after, IsCertified};
     ghost use Rattle.gc_world.specs.History.{IsHistory};
     ghost use Rattle.gc_world.specs.World.{present, with_entry};
     ghost use Rattle.gc_world.specs.declared.event.Event.{Event};
     ghost use Rattle.gc_world.specs.declared.event.Answer.{Answer};
 
-    /// An empty heap of `size` words, 1 to 1048576, for 1 to 16 mutators, to which nothing has happened.
+    /// Returns an empty heap of `size` words, 1 to 1048576, for 1 to 16 mutators, to which nothing has happened.
     pub fn open(alloc: Global, size: u32, mutators: u8) -> Result<World, NoMemory>
         requires low { 1 ≤ size }
-        requires high { size ≤ 1048576 }
+        requires high { size ≤ most_words }
         requires some { 1 ≤ mutators }
-        requires few { mutators ≤ 16 }
+        requires few { mutators ≤ most_mutators }
         ensures { IfOk result (λ world. world ≡ record {
           size = size;
           mutators = mutators;
@@ -72,17 +73,16 @@ impl World {
         }) }
     {
         histories_grow();
-        let live = Live::open(alloc, size, mutators)?;
+        let heap = CollectedHeap::open(alloc, size, mutators)?;
         Ok(World {
-            alloc,
             size,
-            live,
+            heap,
             history: Vec::new(alloc),
             kept: None,
         })
     }
 
-    /// Makes mutator m's command. Where memory is wanting, it did not happen.
+    /// Performs mutator `m`'s command. On `NoMemory` the world is unchanged.
     pub fn mutate(&mut self, m: u8, op: &Op) -> Result<Reply, NoMemory>
         requires { m < self.old.mutators }
         ensures answered { IfOk result (λ reply.
@@ -94,15 +94,15 @@ impl World {
         histories_grow();
         command_is_in_range(op);
         make_room(&mut self.history)?;
-        let reply = self.live.mutate(m, op)?;
+        let reply = self.heap.mutate(m, op)?;
         let event = Event::Mutate { m, op: *op };
         let answer = Answer::of_mutator(&reply);
         self.history.push_reserved(Entry { event, answer });
         Ok(reply)
     }
 
-    /// Makes a step of the collector. A flip is made only of what the checker accepts, and keeps the pair that
-    /// it accepted. Where memory is wanting, the step did not happen.
+    /// Performs one collector step. A flip happens only if the checker accepts the certificate; the world then
+    /// keeps the accepted pair of heaps. On `NoMemory` the world is unchanged.
     pub fn collect(&mut self, step: Step) -> Result<StepReply, NoMemory>
         requires { IsStep self.old.mutators step }
         ensures answered { IfOk result (λ reply.
@@ -113,14 +113,12 @@ impl World {
         ensures refused { OnErr result (self.new ≡ self.old) }
     {
         make_room(&mut self.history)?;
-        let stepped = self.live.step(self.alloc, step)?;
-        let reply = stepped.reply();
-        let answer = Answer::Collector(reply);
-        record_step(&mut self.history, &mut self.kept, step, answer, stepped);
+        let reply = perform(&mut self.heap, &mut self.kept, &Sequential, step)?;
+        record_step(&mut self.history, step, Answer::Collector(reply));
         Ok(reply)
     }
 
-    /// The same step, in which a flip is checked by several threads where it has many pairs.
+    /// Performs the same step; several threads check a flip that has many pairs.
     pub fn collect_par(
         &mut self,
         rt: &(impl Threads + Sync),
@@ -135,15 +133,13 @@ impl World {
         ensures refused { OnErr result (self.new ≡ self.old) }
     {
         make_room(&mut self.history)?;
-        let stepped = self.live.step_par(rt, self.alloc, step)?;
-        let reply = stepped.reply();
-        let answer = Answer::Collector(reply);
-        record_step(&mut self.history, &mut self.kept, step, answer, stepped);
+        let reply = perform(&mut self.heap, &mut self.kept, &Parallel::new(rt), step)?;
+        record_step(&mut self.history, step, Answer::Collector(reply));
         Ok(reply)
     }
 
-    /// Makes the useful step, as `collect_par` does, and tells which it was. Its answer is recorded as
-    /// `Useful`.
+    /// Performs the useful step, as `collect_par` does, and returns it with its reply. The history has the answer
+    /// as `Useful`.
     pub fn collect_useful(
         &mut self,
         rt: &(impl Threads + Sync),
@@ -157,50 +153,49 @@ impl World {
         ensures refused { OnErr result (self.new ≡ self.old) }
     {
         make_room(&mut self.history)?;
-        let step = self.live.useful_step();
-        let stepped = self.live.step_par(rt, self.alloc, step)?;
-        let reply = stepped.reply();
-        let answer = Answer::Useful(reply);
-        record_step(&mut self.history, &mut self.kept, step, answer, stepped);
+        let step = self.heap.useful_step();
+        let reply = perform(&mut self.heap, &mut self.kept, &Parallel::new(rt), step)?;
+        record_step(&mut self.history, step, Answer::Useful(reply));
         Ok((step, reply))
     }
 
-    /// The step that brings the collection on, or opens one.
+    /// Returns the useful step: the one that brings the collection on, or opens one.
     pub fn useful_step(&self) -> Step
         ensures { result ≡ useful_step (present self.now) }
     {
-        self.live.useful_step()
+        self.heap.useful_step()
     }
 
-    /// Whether a collection is open.
+    /// Returns whether a collection is open. The world's own calls do not need it; it is for callers that pace
+    /// their collections, and for tests.
     pub fn is_open(&self) -> bool
         ensures { result ≡ is_some (present self.now).collection }
     {
-        self.live.collection.is_some()
+        self.heap.is_open()
     }
 
-    /// How many words the space had when the world was opened.
+    /// Returns the size of the space when the world was opened, in words.
     pub fn size(&self) -> u32
         ensures { result ≡ self.now.size }
     {
         self.size
     }
 
-    /// How many mutators there are.
+    /// Returns the number of mutators, 1 to 16.
     pub fn mutators(&self) -> u8
         ensures { result ≡ self.now.mutators }
     {
-        self.live.heap.mutators()
+        self.heap.mutators()
     }
 
-    /// The mutators' heap.
+    /// Returns the mutators' heap.
     pub fn heap(&self) -> &Heap
         ensures { roomy_in result.now ≡ (present self.now).heap }
     {
-        &self.live.heap
+        self.heap.heap()
     }
 
-    /// Hands the pair of the last flip out, and keeps none then.
+    /// Returns the pair of the last flip, and keeps none then.
     pub fn take_flip(&mut self) -> Option<PairFile>
         ensures taken { option_map pair_in result ≡ self.old.kept }
         ensures certified { IfSome result (λ file. IsCertified (pair_in file)) }
@@ -209,7 +204,7 @@ impl World {
         self.kept.take()
     }
 
-    /// All that happened, in order.
+    /// Returns all that happened, in order.
     pub fn history(&self) -> &[Entry]
         ensures entries { result.now ≡ self.now.entries }
         ensures history { IsHistory self.now.size self.now.mutators self.now.entries }
@@ -218,12 +213,16 @@ impl World {
     }
 }
 
-ghost use Rattle.std.specs.Prelude.{◌≡◌, ◌<◌, ◌++◌, ◌∷◌, [], OnOk, vec_len, vec_capacity};
-ghost use Rattle.gc_world.specs.Flip.{kept_from};
-ghost use Rattle.gc_world.specs.World.{entry_of};
+ghost use Rattle.std.specs.Prelude.{◌≡◌, ◌<◌, ◌++◌, ◌∷◌, [], IfOk, OnOk, OnErr, vec_len, vec_capacity};
+ghost use Rattle.std.specs.Option.{option_map};
+ghost use Rattle.gc_cert.specs.Views.{pair_in};
+ghost use Rattle.gc_copy.specs.Steps.{collect};
+ghost use Rattle.gc_copy.specs.Runs.{IsStep};
+ghost use Rattle.gc_core.specs.Flip.{kept_after};
+ghost use Rattle.gc_world.specs.World.{entry_of, IsKept};
 ghost use Rattle.gc_world.specs.declared.event.Event.{Event};
 
-// Makes room for one entry more.
+// Makes room for one more entry.
 fn make_room(history: &mut Vec<Entry>) -> Result<(), NoMemory>
     ensures items { history.new.items ≡ history.old.items }
     ensures room { OnOk result (vec_len history.new < vec_capacity history.new) }
@@ -234,19 +233,39 @@ fn make_room(history: &mut Vec<Entry>) -> Result<(), NoMemory>
     }
 }
 
-// Writes a step into the history, for which there is room, and keeps the pair where it was a flip.
-fn record_step(
-    history: &mut Vec<Entry>,
-    kept: &mut Option<PairFile>,
-    step: Step,
-    answer: Answer,
-    stepped: Stepped,
-)
+// Appends a step to the history, which has room for it.
+fn record_step(history: &mut Vec<Entry>, step: Step, answer: Answer)
     requires { vec_len history.old < vec_capacity history.old }
-    ensures entries { history.new.items ≡ history.old.items ++ entry_of (Event.Collect step) answer ∷ [] }
-    ensures kept { kept.new ≡ kept_from kept.old stepped }
+    ensures { history.new.items ≡ history.old.items ++ entry_of (Event.Collect step) answer ∷ [] }
 {
     let event = Event::Collect(step);
     history.push_reserved(Entry { event, answer });
-    *kept = stepped.into_kept(kept.take());
+}
+
+// Performs a step, and keeps the pair if it flipped. Only a flip handles a pair.
+fn perform<C: Checks>(
+    heap: &mut CollectedHeap,
+    kept: &mut Option<PairFile>,
+    checker: &C,
+    step: Step,
+) -> Result<StepReply, NoMemory>
+    requires can { C.can_check checker.now }
+    requires step { IsStep heap.old.mutators step }
+    ensures step { IfOk result (λ reply. collect heap.old step ≡ (reply, heap.new)) }
+    ensures kept { IfOk result (λ reply. option_map pair_in kept.new
+        ≡ kept_after (option_map pair_in kept.old) heap.old reply) }
+    ensures certified { IsKept (option_map pair_in kept.old) → IsKept (option_map pair_in kept.new) }
+    ensures refused { OnErr result (heap.new ≡ heap.old) }
+    ensures unkept { OnErr result (kept.new ≡ kept.old) }
+    ensures mutators { heap.new.mutators ≡ heap.old.mutators }
+{
+    let Step::Flip = step else {
+        return heap.collect(checker, step);
+    };
+    let Flip { reply, pair } = heap.flip(checker, Keep::Pair)?;
+    match pair {
+        None => {}
+        Some(pair) => *kept = Some(pair),
+    }
+    Ok(reply)
 }

@@ -1,33 +1,28 @@
-use Rattle.std.proofs.Common.{◌≡◌, [], ◌∷◌, ◌++◌, List, sym, ap, ◌∙◌, subst}
+use Rattle.std.proofs.Common.{◌≡◌, [], ◌∷◌, ◌++◌, List, refl, sym, ap, ◌∙◌, subst}
 use Rattle.std.specs.Option.{option_map}
 use Rattle.gc_cert.specs.Views.{pair_in}
 use Rattle.gc_copy.specs.Steps.{collect}
 use Rattle.gc_copy.specs.Runs.{IsStep}
-use Rattle.gc_world.specs.Flip.{reply_of}
-use Rattle.gc_world.specs.Live.{state_in}
-use Rattle.gc_world.specs.World.{Past, present, entry_of, IsKept}
+use Rattle.gc_world.specs.World.{Past, present, entry_of}
 use Rattle.gc_world.specs.declared.event.Answer.TheVariants.{Collector}
 use Rattle.gc_world.specs.declared.event.Entry.{Entry}
 use Rattle.gc_world.specs.declared.event.Event.TheVariants.{Collect}
-use Rattle.gc_world.proofs.Worlds.{stepped, kept_fine}
+use Rattle.gc_world.proofs.Worlds.{stepped}
 use Rattle.gc_world.proofs.world.World.collect.Goals as goal
 
 pub invariant_of-self-2 : goal.invariant_of-self-2
 invariant_of-self-2 c =
-    let done = c.in_ok-stepped.ensures in
-    let range : IsStep c.self.inside.live.heap.mutators c.args.step = subst (λ (p : Past). IsStep p.mutators c.args.step) (sym c.self.view_is) c.requires in
-    let items : c.record_step.new.history.items ≡ c.self.inside.history.items ++ entry_of (Collect c.args.step) (Collector (reply_of c.in_ok-stepped.stepped)) ∷ []
-    = ◌∙◌ {A = List Entry} c.record_step.ensures.entries
-    (λ i. c.make_room.ensures.items i ++ entry_of (Collect c.args.step) (Collector (c.reply-reply.ensures i)) ∷ []) in
-    let fine : IsKept (option_map pair_in c.record_step.new.kept)
-    = subst (λ k. IsKept (option_map pair_in k)) (sym c.record_step.ensures.kept)
-    (kept_fine c.in_ok-stepped.stepped (state_in c.self.inside.live) c.self.inside.kept (c.self.invariant).kept done.kept) in
-    stepped c.self.inside.live c.step.new.self c.self.inside.size c.self.inside.live.heap.mutators c.step.new.self.heap.mutators c.args.step (reply_of c.in_ok-stepped.stepped)
-    c.self.inside.history.items c.record_step.new.history.items (option_map pair_in c.self.inside.kept) (option_map pair_in c.record_step.new.kept) c.self.invariant range done.step done.live done.mutators items fine
+    let done = c.in_ok-reply.ensures in
+    let range : IsStep c.self.inside.heap.mutators c.args.step = subst (λ (p : Past). IsStep p.mutators c.args.step) (sym c.self.view_is) c.requires in
+    let items : c.record_step.new.history.items ≡ c.self.inside.history.items ++ entry_of (Collect c.args.step) (Collector c.in_ok-reply.reply) ∷ []
+    = ◌∙◌ {A = List Entry} c.record_step.ensures
+    (λ i. c.make_room.ensures.items i ++ entry_of (Collect c.args.step) (Collector c.in_ok-reply.reply) ∷ []) in
+    stepped c.self.inside.heap c.perform.new.heap c.self.inside.size c.self.inside.heap.mutators c.perform.new.heap.mutators c.args.step c.in_ok-reply.reply (Collector c.in_ok-reply.reply)
+    c.self.inside.history.items c.record_step.new.history.items (option_map pair_in c.self.inside.kept) (option_map pair_in c.perform.new.kept) c.self.invariant range done.step refl tt c.perform.ensures.mutators items (c.perform.ensures.certified (c.self.invariant).kept)
 
 pub returns-clause-step : goal.returns-clause-step
 returns-clause-step c =
-    let before : state_in c.self.inside.live ≡ present c.args.self.now = (c.self.invariant).state ∙ ap present c.self.view_is in
+    let before : c.self.inside.heap ≡ present c.args.self.now = (c.self.invariant).state ∙ ap present c.self.view_is in
     let later = invariant_of-self-2 c in
     let state = later.state in
-    ap (λ s. collect s c.args.step) (sym before) ∙ c.in_ok-stepped.ensures.step ∙ (λ i. (sym c.reply-reply.ensures i, state i))
+    ap (λ s. collect s c.args.step) (sym before) ∙ c.in_ok-reply.ensures.step ∙ (λ i. (c.in_ok-reply.reply, state i))

@@ -1,0 +1,118 @@
+-- The replies of a run, event by event, beside a graph that has no collector.
+use Rattle.std.proofs.Common.{◌≡◌, ◌≢◌, ◌⊎◌, inl, inr, ℕ, ◌<◌, ◌≤◌, nat_lt, List, [], ◌∷◌, Option, Some, None, refl, sym, subst, arith}
+use Rattle.std.proofs.lemmas.Bool.{cond_both, ltb-true}
+use Rattle.gc_graph.specs.Limits.{most_words}
+use Rattle.gc_graph.specs.Graph.{Graph, opening, fresh_name}
+use Rattle.gc_graph.specs.Machine.{Roomy, step, words_taken, roomy_step, MakesObject}
+use Rattle.gc_graph.specs.Legal.{IsLegalFrom, IsLegal}
+use Rattle.gc_graph.specs.declared.command.Op.{Op}
+use Rattle.gc_graph.specs.declared.command.Op.TheVariants as ops
+use Rattle.gc_graph.specs.declared.reply.Reply.{Reply}
+use Rattle.gc_graph.specs.declared.reply.Reply.TheVariants.{Full}
+use Rattle.gc_graph.proofs.Matching.{Matched}
+use Rattle.gc_graph.proofs.Matched.{AlikeAfter, step_alike, matched_of}
+use Rattle.gc_graph.proofs.Replies.{own_pairs, matched_itself, fresh_unused}
+use Rattle.gc_graph.proofs.Compose.{joined, composed}
+use Rattle.gc_copy.specs.State.{Collection, State, opening_state, heap_end, pairs_of, new_graph}
+use Rattle.gc_copy.specs.Steps.{is_ready, passes_check, flip, collect_with, collect}
+use Rattle.gc_copy.specs.Belonging.{IsOpened, IsOpen, IsState}
+use Rattle.gc_copy.specs.Runs.{Event, Mutate, Collect, AreEvents, after}
+use Rattle.gc_copy.specs.declared.step.Step.{Step}
+use Rattle.gc_copy.specs.declared.step.Step.TheVariants as steps
+use Rattle.gc_copy.specs.declared.step.StepReply.{StepReply}
+use Rattle.gc_copy.proofs.Steps.{steps_stay, ready_parts}
+use Rattle.gc_copy.proofs.Flips.{corresponding_graphs}
+use Rattle.gc_copy.proofs.Unused.{end_unused}
+use Rattle.gc_copy.proofs.Runs.{Reached, opening_ok, event_keeps}
+use Rattle.gc_core.specs.Replies.{told_in}
+
+-- ---- a step leaves a graph that no command can tell from the one before
+
+abbrev Follows : State → StepReply × State → Type 0
+Follows s next = (pairs : List (ℕ × ℕ)) × Matched pairs s.heap.graph next.1.heap.graph
+
+itself : (s : State) → (pairs : List (ℕ × ℕ)) × Matched pairs s.heap.graph s.heap.graph
+itself s = (own_pairs s.heap.graph.objects, matched_itself s.heap.graph)
+
+module _ (s : State) (ok : IsState s) where
+  stays_follows : (step : Step) → step ≢ steps.Flip → Follows s (collect s step)
+  stays_follows step other =
+      subst (λ (t : State). (pairs : List (ℕ × ℕ)) × Matched pairs s.heap.graph t.heap.graph) (sym (steps_stay s step other)) (itself s)
+
+  opened_flip : (c : Collection) → IsOpened s c → Follows s (flip s c)
+  opened_flip c k =
+      cond_both (is_ready c s.heap.graph) _ _ (Follows s)
+      (λ ready. cond_both (passes_check s c) _ _ (Follows s)
+      (λ t. (
+        pairs_of c,
+        matched_of (pairs_of c) s.heap.graph (new_graph c s.heap.graph.roots)
+            (corresponding_graphs s.size s.heap.free s.heap.graph c ok.heap k.belongs k.size (ready_parts c s.heap.graph ready)),
+      ))
+      (λ t. itself s))
+      (λ t. itself s)
+
+  flip_follows : (o : Option Collection) → IsOpen s o → Follows s (collect_with s o steps.Flip)
+  flip_follows None k = itself s
+  flip_follows (Some c) k = opened_flip c k
+
+  collect_follows : (step : Step) → Follows s (collect s step)
+  collect_follows steps.Begin = stays_follows steps.Begin (λ e. cc e)
+  collect_follows (steps.BeginSized size) = stays_follows (steps.BeginSized size) (λ e. cc e)
+  collect_follows steps.Roots = stays_follows steps.Roots (λ e. cc e)
+  collect_follows steps.Scan = stays_follows steps.Scan (λ e. cc e)
+  collect_follows (steps.Apply m) = stays_follows (steps.Apply m) (λ e. cc e)
+  collect_follows steps.Flip = flip_follows s.collection ok.collection
+  collect_follows steps.Drop = stays_follows steps.Drop (λ e. cc e)
+
+-- ---- a command gets the reply that it gets on the graph without a collector, or `Full`
+
+full_makes : (op : Op) (free : ℕ) → free < words_taken op → MakesObject op
+full_makes (ops.New d kind len) free h = tt
+full_makes (ops.Num d n) free h = absurd (omega arith)
+full_makes (ops.Nil d) free h = absurd (omega arith)
+full_makes (ops.Move d s) free h = absurd (omega arith)
+full_makes (ops.Get d s i) free h = absurd (omega arith)
+full_makes (ops.Put s i t) free h = absurd (omega arith)
+full_makes (ops.Same s t) free h = absurd (omega arith)
+full_makes (ops.Look s) free h = absurd (omega arith)
+
+-- the reply and what it leaves, beside the graph g: `Full` with nothing changed, or the same step
+abbrev Beside : Graph → ℕ → Op → Reply × Roomy → Type 0
+Beside g m op next =
+    (MakesObject op × (next.0 ≡ Full) × ((pairs : List (ℕ × ℕ)) × Matched pairs g next.1.graph))
+    ⊎ ((next.0 ≡ (step g m op (fresh_name g)).0) × ((pairs : List (ℕ × ℕ)) × Matched pairs (step g m op (fresh_name g)).1 next.1.graph))
+
+one_command : (g : Graph) (s : State) (m : ℕ) (op : Op) (pairs : List (ℕ × ℕ)) → Matched pairs g s.heap.graph → IsState s → Beside g m op (roomy_step s.heap m op (heap_end s))
+one_command g s m op pairs matched ok =
+    cond_both (nat_lt s.heap.free (words_taken op)) _ _ (Beside g m op)
+    (λ full. inl (full_makes op s.heap.free (ltb-true s.heap.free (words_taken op) full), refl, (pairs, matched)))
+    (λ fits. (let a : AlikeAfter (step g m op (fresh_name g)) (step s.heap.graph m op (heap_end s))
+    = step_alike pairs g s.heap.graph matched m op (fresh_name g) (heap_end s) (fresh_unused g) (end_unused s.size s.heap.free s.heap.graph ok.heap) in
+    inr (sym a.0, (a.1, a.2))))
+
+-- ---- one event after the other
+
+legal_event : (mutators : ℕ) (events : List Event) (event : Event) (s : State) (g : Graph) (pairs : List (ℕ × ℕ)) → IsState s → Matched pairs g s.heap.graph
+    → ((next : Graph) (others : List (ℕ × ℕ)) → Matched others next (after s event).heap.graph → IsLegalFrom next (told_in (after s event) events))
+    → IsLegalFrom g (told_in s (event ∷ events))
+legal_event mutators events (Mutate m op) s g pairs ok matched rest =
+    elim (one_command g s m op pairs matched ok) [
+      | inl full ↦ inl (full.0, full.1, rest g full.2.0 full.2.1)
+      | inr made ↦ inr (made.0, rest (step g m op (fresh_name g)).1 made.1.0 made.1.1)
+    ]
+legal_event mutators events (Collect st) s g pairs ok matched rest =
+    let follows : Follows s (collect s st) = collect_follows s ok st in
+    rest g (joined pairs follows.0) (composed pairs follows.0 g s.heap.graph (collect s st).1.heap.graph matched follows.1)
+
+legal_from : (mutators : ℕ) (events : List Event) (s : State) (g : Graph) (pairs : List (ℕ × ℕ)) → Reached mutators s → Matched pairs g s.heap.graph
+    → AreEvents mutators events → IsLegalFrom g (told_in s events)
+legal_from mutators [] s g pairs h matched r = tt
+legal_from mutators (event ∷ events) s g pairs h matched r =
+    let next : Reached mutators (after s event) = event_keeps mutators s event h r.0 in
+    legal_event mutators events event s g pairs h.ok matched
+    (λ later others matched. legal_from mutators events (after s event) later others next matched r.1)
+
+pub run_is_legal : (size mutators : ℕ) (events : List Event) → 1 ≤ size → size ≤ most_words → AreEvents mutators events → IsLegal mutators (told_in (opening_state size mutators) events)
+run_is_legal size mutators events low high are =
+    legal_from mutators events (opening_state size mutators) (opening mutators) (own_pairs (opening mutators).objects)
+    (record { ok = opening_ok size mutators low high; count = refl }) (matched_itself (opening mutators)) are

@@ -1,0 +1,16 @@
+//! What follows from the definitions, without a history.
+
+ghost use Rattle.std.specs.Prelude.{ℕ, List, ◌≤◌};
+ghost use Rattle.gc_graph.specs.Legal.{IsLegal};
+ghost use Rattle.gc_graph.specs.Limits.{most_words};
+ghost use Rattle.gc_copy.specs.State.{opening_state};
+ghost use Rattle.gc_copy.specs.Runs.{Event, AreEvents};
+ghost use Rattle.gc_core.specs.Replies.{told_in};
+
+/// In every run, with commands and steps in any interleaving, mutators are told what they could be told without a
+/// collector: the same replies, except that an allocation may find the heap full.
+pub fn runs_are_legal()
+    ensures { (size mutators : ℕ) (events : List Event)
+        → 1 ≤ size → size ≤ most_words → AreEvents mutators events
+        → IsLegal mutators (told_in (opening_state size mutators) events) }
+{}
