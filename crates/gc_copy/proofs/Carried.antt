@@ -6,7 +6,9 @@ use Rattle.gc_graph.specs.Graph.{Value, Nil, Num, Ref, Object, Graph, lookup, ob
 use Rattle.gc_graph.specs.Machine.{Roomy, words_taken, step, roomy_step, get_field, put_field}
 use Rattle.gc_copy.specs.State.{Replica, Collection, State, opening_state, heap_end, new_end, new_free, replica_of, replica_at, pairs_of, moved}
 use Rattle.gc_copy.specs.Steps.{written, logged, mutate, log_at, with_log, fresh_replica, place_replica, with_replica, with_written, write_replica, copy_value, bring_value, bring_up_to_date, if_room, root_target, copy_root, next_field, scan_done, scan_replica, apply_entry, apply_log, is_ready, passes_check, collect_with}
-use Rattle.gc_copy.specs.Runs.{Event, Mutate, Collect, IsEvent, AreEvents, after, state_after}
+use Rattle.gc_copy.specs.Runs.{IsEvent, AreEvents, after, state_after}
+use Rattle.gc_copy.specs.declared.event.Event.{Event}
+use Rattle.gc_copy.specs.declared.event.Event.TheVariants.{Mutate, Collect}
 use Rattle.gc_copy.specs.Carried.{is_begun, base_after, base_of_run, IsKept, OnlyKeptIsPaired, CarriesOnlyKept}
 use Rattle.gc_copy.specs.Members.{In}
 use Rattle.gc_copy.specs.Belonging.{RefersTo, IsState}

@@ -6,7 +6,9 @@ use Rattle.gc_graph.specs.Slots.{roots_of}
 use Rattle.gc_graph.specs.Graph.{Nil}
 use Rattle.gc_copy.specs.State.{Replica, Collection, State, opening_state, replica_at}
 use Rattle.gc_copy.specs.Steps.{if_room, root_target, copy_root, scan_done, scan_replica, log_at, apply_log, is_ready, passes_check, flip, collect_with, collect}
-use Rattle.gc_copy.specs.Runs.{IsStep, Event, Mutate, Collect, IsEvent, AreEvents, after, state_after}
+use Rattle.gc_copy.specs.Runs.{IsStep, IsEvent, AreEvents, after, state_after}
+use Rattle.gc_copy.specs.declared.event.Event.{Event}
+use Rattle.gc_copy.specs.declared.event.Event.TheVariants.{Mutate, Collect}
 use Rattle.gc_copy.specs.Belonging.{IsNamed, RefersTo, IsSmall, IsState}
 use Rattle.gc_copy.specs.declared.step.Step.{Step}
 use Rattle.gc_copy.specs.declared.step.Step.TheVariants as steps

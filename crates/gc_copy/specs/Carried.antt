@@ -5,7 +5,9 @@ use Rattle.gc_graph.specs.Limits.{most_words}
 use Rattle.gc_graph.specs.Graph.{Reachable}
 use Rattle.gc_copy.specs.State.{Collection, State, opening_state, heap_end, pairs_of}
 use Rattle.gc_copy.specs.Steps.{collect}
-use Rattle.gc_copy.specs.Runs.{Event, Mutate, Collect, AreEvents, after, state_after}
+use Rattle.gc_copy.specs.Runs.{AreEvents, after, state_after}
+use Rattle.gc_copy.specs.declared.event.Event.{Event}
+use Rattle.gc_copy.specs.declared.event.Event.TheVariants.{Mutate, Collect}
 use Rattle.gc_copy.specs.declared.step.StepReply.{StepReply}
 use Rattle.gc_copy.specs.declared.step.StepReply.TheVariants.{Busy, Begun, Idle, Clean, NoRoom, Copied, Passed, Scanned, Applied, NotReady, Refused, Flipped, Dropped}
 

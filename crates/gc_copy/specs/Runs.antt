@@ -2,18 +2,14 @@
 use Rattle.std.specs.Prelude.{ℕ, ◌<◌, ◌≤◌, List, [], ◌∷◌, ⊤}
 use Rattle.gc_graph.specs.Limits.{most_words}
 use Rattle.gc_graph.specs.Range.{IsCommand}
-use Rattle.gc_graph.specs.declared.command.Op.{Op}
 use Rattle.gc_copy.specs.State.{State, opening_state}
 use Rattle.gc_copy.specs.Steps.{mutate, collect}
+use Rattle.gc_copy.specs.declared.event.Event.{Event}
+use Rattle.gc_copy.specs.declared.event.Event.TheVariants.{Mutate, Collect}
+use Rattle.gc_copy.specs.declared.event.Answer.{Answer}
+use Rattle.gc_copy.specs.declared.event.Answer.TheVariants.{Mutator, Collector}
 use Rattle.gc_copy.specs.declared.step.Step.{Step}
 use Rattle.gc_copy.specs.declared.step.Step.TheVariants as steps
-use Rattle.gc_graph.specs.declared.reply.Reply.{Reply}
-use Rattle.gc_copy.specs.declared.step.StepReply.{StepReply}
-
--- mutator m's command, or a step of the collector
-pub data Event : Type 0 where
-  Mutate : (m : ℕ) → (op : Op) → Event
-  Collect : (step : Step) → Event
 
 -- a space's size, and the number of a log
 abbrev pub IsStep : ℕ → Step → Type 0
@@ -47,13 +43,9 @@ InEveryRun P = (size mutators : ℕ) (events : List Event) → 1 ≤ size → si
 
 -- ---- answers
 
-pub data Answer : Type 0 where
-  Replied : (reply : Reply) → Answer
-  Stepped : (reply : StepReply) → Answer
-
 abbrev pub answer : State → Event → Answer
-answer s (Mutate m op) = Replied (mutate s m op).0
-answer s (Collect step) = Stepped (collect s step).0
+answer s (Mutate m op) = Mutator (mutate s m op).0
+answer s (Collect step) = Collector (collect s step).0
 
 -- the answers to events, one after the other
 abbrev pub answers : State → List Event → List Answer

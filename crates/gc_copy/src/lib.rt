@@ -3,12 +3,14 @@
 #![tactic(auto)]
 
 mod collection;
+mod event;
 mod laws;
 mod log;
 mod step;
 mod walk;
 
 pub use collection::Collection;
+pub use event::{Answer, Event};
 pub use laws::{
     answers_tell_changes, belonging_is_kept, commands_keep_collections,
     heaps_have_addresses_as_names, images_have_their_graphs, images_show_links,

@@ -16,7 +16,9 @@ use Rattle.gc_graph.proofs.Compose.{joined, composed}
 use Rattle.gc_copy.specs.State.{Collection, State, opening_state, heap_end, pairs_of, new_graph}
 use Rattle.gc_copy.specs.Steps.{is_ready, passes_check, flip, collect_with, collect}
 use Rattle.gc_copy.specs.Belonging.{IsOpened, IsOpen, IsState}
-use Rattle.gc_copy.specs.Runs.{Event, Mutate, Collect, AreEvents, after}
+use Rattle.gc_copy.specs.Runs.{AreEvents, after}
+use Rattle.gc_copy.specs.declared.event.Event.{Event}
+use Rattle.gc_copy.specs.declared.event.Event.TheVariants.{Mutate, Collect}
 use Rattle.gc_copy.specs.declared.step.Step.{Step}
 use Rattle.gc_copy.specs.declared.step.Step.TheVariants as steps
 use Rattle.gc_copy.specs.declared.step.StepReply.{StepReply}

@@ -3,7 +3,8 @@ use Rattle.std.specs.Prelude.{List, [], ◌∷◌}
 use Rattle.gc_graph.specs.Legal.{Told}
 use Rattle.gc_copy.specs.State.{State}
 use Rattle.gc_copy.specs.Steps.{mutate, collect}
-use Rattle.gc_copy.specs.Runs.{Event, Mutate, Collect}
+use Rattle.gc_copy.specs.declared.event.Event.{Event}
+use Rattle.gc_copy.specs.declared.event.Event.TheVariants.{Mutate, Collect}
 
 -- each command with its reply, one event after the other
 abbrev pub told_in : State → List Event → List Told

@@ -4,7 +4,8 @@ ghost use Rattle.std.specs.Prelude.{ℕ, List, ◌≤◌};
 ghost use Rattle.gc_graph.specs.Legal.{IsLegal};
 ghost use Rattle.gc_graph.specs.Limits.{most_words};
 ghost use Rattle.gc_copy.specs.State.{opening_state};
-ghost use Rattle.gc_copy.specs.Runs.{Event, AreEvents};
+ghost use Rattle.gc_copy.specs.Runs.{AreEvents};
+ghost use Rattle.gc_copy.specs.declared.event.Event.{Event};
 ghost use Rattle.gc_core.specs.Replies.{told_in};
 
 /// In every run, with commands and steps in any interleaving, mutators are told what they could be told without a

@@ -11,7 +11,7 @@ use Rattle.gc_copy.specs.Belonging.{IsState}
 use Rattle.gc_copy.specs.Passing.{HasFewPairs}
 use Rattle.gc_copy.specs.declared.step.StepReply.{StepReply}
 use Rattle.gc_copy.specs.declared.step.StepReply.TheVariants.{Busy, Begun, Idle, Clean, NoRoom, Copied, Passed, Scanned, Applied, NotReady, Refused, Flipped, Dropped}
-use Rattle.gc_world.specs.Flip.{flip_pair, kept_of, kept_after, IsCertified}
+use Rattle.gc_core.specs.Flip.{flip_pair, open_pair, kept_after, IsCertified}
 use Rattle.gc_world.specs.History.{run_event}
 use Rattle.gc_world.specs.declared.event.Event.{Event}
 use Rattle.gc_world.specs.declared.event.Event.TheVariants.{Mutate, Collect}
@@ -20,7 +20,7 @@ use Rattle.gc_trace.specs.Flips.{flip_at, with_flip, flips, HasCounts}
 -- ---- what is kept
 
 -- what was kept before makes no difference where a pair is kept now
-kept_by_reply : (s : State) (reply : StepReply) (pair : CertifiedPair) → kept_after None s reply ≡ Some pair → kept_of s s.collection ≡ Some pair
+kept_by_reply : (s : State) (reply : StepReply) (pair : CertifiedPair) → kept_after None s reply ≡ Some pair → open_pair s s.collection ≡ Some pair
 kept_by_reply s Busy pair is = absurd cc
 kept_by_reply s Begun pair is = absurd cc
 kept_by_reply s Idle pair is = absurd cc
@@ -44,7 +44,7 @@ counts_of s c ok small few is certified = record {
   pairs = small c is;
 }
 
-kept_counts : (s : State) (kept : Option Collection) (pair : CertifiedPair) → IsState s → HasFewPairs s → s.mutators ≤ 16 → s.collection ≡ kept → IsCertified pair → kept_of s kept ≡ Some pair → HasCounts pair
+kept_counts : (s : State) (kept : Option Collection) (pair : CertifiedPair) → IsState s → HasFewPairs s → s.mutators ≤ 16 → s.collection ≡ kept → IsCertified pair → open_pair s kept ≡ Some pair → HasCounts pair
 kept_counts s None pair ok small few is certified same = absurd cc
 kept_counts s (Some c) pair ok small few is certified found =
     let same : flip_pair s c ≡ pair = cc in

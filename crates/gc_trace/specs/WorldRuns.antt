@@ -4,7 +4,7 @@ use Rattle.gc_cert.specs.Grammar.{CertifiedPair}
 use Rattle.gc_copy.specs.State.{State}
 use Rattle.gc_copy.specs.Steps.{collect}
 use Rattle.gc_copy.specs.Runs.{after}
-use Rattle.gc_world.specs.Flip.{kept_after}
+use Rattle.gc_core.specs.Flip.{kept_after}
 use Rattle.gc_world.specs.History.{run_event}
 use Rattle.gc_world.specs.World.{Past, present}
 use Rattle.gc_world.specs.declared.event.Event.{Event}

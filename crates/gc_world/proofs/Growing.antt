@@ -3,33 +3,33 @@ use Rattle.std.proofs.Common.{◌≡◌, ℕ, ◌≤◌, List, [], ◌∷◌, �
 use Rattle.gc_copy.specs.State.{State, opening_state}
 use Rattle.gc_copy.specs.Runs.{IsEvent, AreEvents, after, answer, answers}
 use Rattle.gc_copy.specs.Runs as runs
-use Rattle.gc_world.specs.History.{run_event, run_answer, events_of, answers_of, RunsFrom, state_after, IsUseful, UsefulFrom, IsHistory}
-use Rattle.gc_world.specs.declared.event.Entry.{Entry}
+use Rattle.gc_world.specs.History.{unmarked, events_of, answers_of, RunsFrom, state_after, IsUseful, UsefulFrom, IsHistory}
+use Rattle.gc_world.specs.declared.entry.Entry.{Entry}
 
 module _ (last : Entry) where
-  pub state_more : (s : State) (entries : List Entry) → runs.state_after s (events_of (entries ++ last ∷ [])) ≡ after (runs.state_after s (events_of entries)) (run_event last.event)
+  pub state_more : (s : State) (entries : List Entry) → runs.state_after s (events_of (entries ++ last ∷ [])) ≡ after (runs.state_after s (events_of entries)) last.event
   state_more s [] = refl
-  state_more s (entry ∷ entries) = state_more (after s (run_event entry.event)) entries
+  state_more s (entry ∷ entries) = state_more (after s entry.event) entries
 
-  events_more : (mutators : ℕ) (entries : List Entry) → AreEvents mutators (events_of entries) → IsEvent mutators (run_event last.event) → AreEvents mutators (events_of (entries ++ last ∷ []))
+  events_more : (mutators : ℕ) (entries : List Entry) → AreEvents mutators (events_of entries) → IsEvent mutators last.event → AreEvents mutators (events_of (entries ++ last ∷ []))
   events_more mutators [] h r = (r, tt)
   events_more mutators (entry ∷ entries) h r = (h.0, events_more mutators entries h.1 r)
 
-  run_more : (s : State) (entries : List Entry) → RunsFrom s entries → run_answer last.answer ≡ answer (runs.state_after s (events_of entries)) (run_event last.event)
+  run_more : (s : State) (entries : List Entry) → RunsFrom s entries → unmarked last.answer ≡ answer (runs.state_after s (events_of entries)) last.event
       → RunsFrom s (entries ++ last ∷ [])
   run_more s [] e a = ap (λ x. x ∷ []) a
   run_more s (entry ∷ entries) e a =
-      let first : run_answer entry.answer ≡ answer s (run_event entry.event) = cc in
-      let rest : answers_of entries ≡ answers (after s (run_event entry.event)) (events_of entries) = cc in
-      let more : RunsFrom (after s (run_event entry.event)) (entries ++ last ∷ []) = run_more (after s (run_event entry.event)) entries rest a in
+      let first : unmarked entry.answer ≡ answer s entry.event = cc in
+      let rest : answers_of entries ≡ answers (after s entry.event) (events_of entries) = cc in
+      let more : RunsFrom (after s entry.event) (entries ++ last ∷ []) = run_more (after s entry.event) entries rest a in
       λ i. first i ∷ more i
 
   useful_more : (s : State) (entries : List Entry) → UsefulFrom s entries → IsUseful (runs.state_after s (events_of entries)) last.event last.answer → UsefulFrom s (entries ++ last ∷ [])
   useful_more s [] h u = (u, tt)
-  useful_more s (entry ∷ entries) h u = (h.0, useful_more (after s (run_event entry.event)) entries h.1 u)
+  useful_more s (entry ∷ entries) h u = (h.0, useful_more (after s entry.event) entries h.1 u)
 
-  pub history_more : (size mutators : ℕ) (entries : List Entry) → IsHistory size mutators entries → IsEvent mutators (run_event last.event)
-      → run_answer last.answer ≡ answer (state_after size mutators entries) (run_event last.event) → IsUseful (state_after size mutators entries) last.event last.answer
+  pub history_more : (size mutators : ℕ) (entries : List Entry) → IsHistory size mutators entries → IsEvent mutators last.event
+      → unmarked last.answer ≡ answer (state_after size mutators entries) last.event → IsUseful (state_after size mutators entries) last.event last.answer
       → IsHistory size mutators (entries ++ last ∷ [])
   history_more size mutators entries h r a u = record {
     low = h.low;

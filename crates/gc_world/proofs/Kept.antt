@@ -4,14 +4,17 @@ use Rattle.std.specs.List.{All}
 use Rattle.std.proofs.lemmas.List.Elements.{All-nil, All-cons}
 use Rattle.gc_copy.specs.State.{State, opening_state}
 use Rattle.gc_copy.specs.Belonging.{IsState}
-use Rattle.gc_copy.specs.Runs.{Event, Mutate, Collect, Stepped, AreEvents, after, answer, answers}
+use Rattle.gc_copy.specs.Runs.{AreEvents, after, answer, answers}
+use Rattle.gc_copy.specs.declared.event.Event.{Event}
+use Rattle.gc_copy.specs.declared.event.Event.TheVariants.{Mutate, Collect}
+use Rattle.gc_copy.specs.declared.event.Answer.TheVariants.{Collector}
 use Rattle.gc_copy.specs.Carried.{OnlyKeptIsPaired, base_of_run}
 use Rattle.gc_copy.specs.declared.step.StepReply.TheVariants.{Refused}
 use Rattle.gc_copy.proofs.Runs.{Reached, opening_ok, event_keeps, run_keeps}
 use Rattle.gc_copy.proofs.Kept.{never_refused}
 use Rattle.gc_copy.proofs.Carried.{carries_only_kept}
-use Rattle.gc_world.specs.History.{run_event, run_answer, events_of, answers_of, RunsFrom, state_after, IsHistory}
-use Rattle.gc_world.specs.declared.event.Entry.{Entry}
+use Rattle.gc_world.specs.History.{unmarked, events_of, answers_of, RunsFrom, state_after, IsHistory}
+use Rattle.gc_world.specs.declared.entry.Entry.{Entry}
 
 module _ (size mutators : ℕ) (entries : List Entry) (h : IsHistory size mutators entries) where
   opens : Reached mutators (opening_state size mutators)
@@ -22,21 +25,21 @@ module _ (size mutators : ℕ) (entries : List Entry) (h : IsHistory size mutato
 
 -- ---- no answer is `Refused`
 
-not_refused : (s : State) (event : Event) → IsState s → answer s event ≢ Stepped Refused
+not_refused : (s : State) (event : Event) → IsState s → answer s event ≢ Collector Refused
 not_refused s (Mutate m op) ok e = cc
 not_refused s (Collect step) ok e = never_refused s ok step (cc)
 
 none_from : (mutators : ℕ) (entries : List Entry) (s : State) → Reached mutators s → AreEvents mutators (events_of entries) → RunsFrom s entries
-    → All (λ (entry : Entry). run_answer entry.answer ≢ Stepped Refused) entries
+    → All (λ (entry : Entry). unmarked entry.answer ≢ Collector Refused) entries
 none_from mutators [] s h r e = All-nil _
 none_from mutators (entry ∷ entries) s h r e =
-    let first : run_answer entry.answer ≡ answer s (run_event entry.event) = cc in
-    let rest : answers_of entries ≡ answers (after s (run_event entry.event)) (events_of entries) = cc in
-    All-cons (λ (entry : Entry). run_answer entry.answer ≢ Stepped Refused) entry entries
-    (λ is. not_refused s (run_event entry.event) h.ok (sym first ∙ is))
-    (none_from mutators entries (after s (run_event entry.event)) (event_keeps mutators s (run_event entry.event) h r.0) r.1 rest)
+    let first : unmarked entry.answer ≡ answer s entry.event = cc in
+    let rest : answers_of entries ≡ answers (after s entry.event) (events_of entries) = cc in
+    All-cons (λ (entry : Entry). unmarked entry.answer ≢ Collector Refused) entry entries
+    (λ is. not_refused s entry.event h.ok (sym first ∙ is))
+    (none_from mutators entries (after s entry.event) (event_keeps mutators s entry.event h r.0) r.1 rest)
 
-pub none_refused : (size mutators : ℕ) (entries : List Entry) → IsHistory size mutators entries → All (λ (entry : Entry). run_answer entry.answer ≢ Stepped Refused) entries
+pub none_refused : (size mutators : ℕ) (entries : List Entry) → IsHistory size mutators entries → All (λ (entry : Entry). unmarked entry.answer ≢ Collector Refused) entries
 none_refused size mutators entries h = none_from mutators entries (opening_state size mutators) (opens size mutators entries h) h.events h.run
 
 -- ---- only what is kept is carried over

@@ -4,29 +4,29 @@ use Rattle.gc_graph.specs.declared.command.Op.{Op}
 use Rattle.gc_graph.specs.declared.reply.Reply.{Reply}
 use Rattle.gc_copy.specs.State.{State, opening_state}
 use Rattle.gc_copy.specs.Steps.{mutate, collect}
-use Rattle.gc_copy.specs.Runs.{IsEvent, IsStep, after, answer, Replied, Stepped}
+use Rattle.gc_copy.specs.Runs.{IsEvent, IsStep, after, answer}
+use Rattle.gc_copy.specs.declared.event.Answer.TheVariants.{Mutator, Collector}
 use Rattle.gc_copy.specs.declared.step.Step.{Step}
 use Rattle.gc_copy.specs.declared.step.StepReply.{StepReply}
 use Rattle.gc_graph.specs.Range.{IsCommand}
 use Rattle.gc_cert.specs.Grammar.{CertifiedPair}
-use Rattle.gc_world.specs.History.{IsUseful, run_event, run_answer}
+use Rattle.gc_world.specs.History.{IsUseful, unmarked}
 use Rattle.gc_world.specs.World.{IsKept, IsWorld, entry_of}
-use Rattle.gc_world.specs.declared.event.Event.TheVariants.{Mutate, Collect}
-use Rattle.gc_world.specs.declared.event.Answer.{Answer}
-use Rattle.gc_world.specs.declared.event.Answer.TheVariants.{Mutator}
-use Rattle.gc_world.specs.declared.event.Entry.{Entry}
+use Rattle.gc_copy.specs.declared.event.Event.TheVariants.{Mutate, Collect}
+use Rattle.gc_copy.specs.declared.event.Answer.{Answer}
+use Rattle.gc_world.specs.declared.entry.Entry.{Entry}
 use Rattle.gc_world.proofs.Growing.{history_more, state_more}
 
 pub grows : (old new : State) (size mutators : ℕ) (entries : List Entry) (kept later : Option CertifiedPair) (entry : Entry)
-    → IsWorld old (record { size = size; mutators = mutators; entries = entries; kept = kept }) → IsEvent mutators (run_event entry.event)
-    → run_answer entry.answer ≡ answer old (run_event entry.event) → IsUseful old entry.event entry.answer
-    → new ≡ after old (run_event entry.event) → IsKept later
+    → IsWorld old (record { size = size; mutators = mutators; entries = entries; kept = kept }) → IsEvent mutators entry.event
+    → unmarked entry.answer ≡ answer old entry.event → IsUseful old entry.event entry.answer
+    → new ≡ after old entry.event → IsKept later
     → IsWorld new (record { size = size; mutators = mutators; entries = entries ++ entry ∷ []; kept = later })
 grows old new size mutators entries kept later entry w event told useful next fine = record {
   history = history_more entry size mutators entries w.history event
-      (subst (λ s. run_answer entry.answer ≡ answer s (run_event entry.event)) w.state told)
+      (subst (λ s. unmarked entry.answer ≡ answer s entry.event) w.state told)
       (subst (λ s. IsUseful s entry.event entry.answer) w.state useful);
-  state = next ∙ ap (λ s. after s (run_event entry.event)) w.state ∙ sym (state_more entry (opening_state size mutators) entries);
+  state = next ∙ ap (λ s. after s entry.event) w.state ∙ sym (state_more entry (opening_state size mutators) entries);
   kept = fine;
 }
 
@@ -35,16 +35,16 @@ pub commanded : (old new : State) (size before after_it m : ℕ) (op : Op) (repl
     → IsWorld old (record { size = size; mutators = before; entries = entries; kept = kept }) → m < before → IsCommand op → mutate old m op ≡ (reply, new) → after_it ≡ before
     → items ≡ entries ++ entry_of (Mutate m op) (Mutator reply) ∷ [] → IsWorld new (record { size = size; mutators = after_it; entries = items; kept = kept })
 commanded old new size before after_it m op reply entries items kept w less command step same more =
-    let done = grows old new size before entries kept kept (entry_of (Mutate m op) (Mutator reply)) w (less, command) (ap (λ (x : Reply × State). Replied x.0) (sym step)) tt (sym (ap (λ (x : Reply × State). x.1) step)) w.kept in
+    let done = grows old new size before entries kept kept (entry_of (Mutate m op) (Mutator reply)) w (less, command) (ap (λ (x : Reply × State). Mutator x.0) (sym step)) tt (sym (ap (λ (x : Reply × State). x.1) step)) w.kept in
     subst (λ n. IsWorld new (record { size = size; mutators = n; entries = items; kept = kept })) (sym same)
     (subst (λ es. IsWorld new (record { size = size; mutators = before; entries = es; kept = kept })) (sym more) done)
 
 -- after a step, which was answered as such or as the useful one
 pub stepped : (old new : State) (size before after_it : ℕ) (step : Step) (reply : StepReply) (answered : Answer) (entries items : List Entry) (kept later : Option CertifiedPair)
     → IsWorld old (record { size = size; mutators = before; entries = entries; kept = kept }) → IsStep before step → collect old step ≡ (reply, new)
-    → run_answer answered ≡ Stepped reply → IsUseful old (Collect step) answered → after_it ≡ before
+    → unmarked answered ≡ Collector reply → IsUseful old (Collect step) answered → after_it ≡ before
     → items ≡ entries ++ entry_of (Collect step) answered ∷ [] → IsKept later → IsWorld new (record { size = size; mutators = after_it; entries = items; kept = later })
 stepped old new size before after_it step reply answered entries items kept later w range made is useful same more fine =
-    let done = grows old new size before entries kept later (entry_of (Collect step) answered) w range (is ∙ ap (λ (x : StepReply × State). Stepped x.0) (sym made)) useful (sym (ap (λ (x : StepReply × State). x.1) made)) fine in
+    let done = grows old new size before entries kept later (entry_of (Collect step) answered) w range (is ∙ ap (λ (x : StepReply × State). Collector x.0) (sym made)) useful (sym (ap (λ (x : StepReply × State). x.1) made)) fine in
     subst (λ n. IsWorld new (record { size = size; mutators = n; entries = items; kept = later })) (sym same)
     (subst (λ es. IsWorld new (record { size = size; mutators = before; entries = es; kept = later })) (sym more) done)

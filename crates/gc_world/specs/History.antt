@@ -6,29 +6,25 @@ use Rattle.gc_graph.specs.Legal.{Told}
 use Rattle.gc_copy.specs.State.{State, opening_state}
 use Rattle.gc_copy.specs.Steps.{useful_step}
 use Rattle.gc_copy.specs.Runs as runs
-use Rattle.gc_world.specs.declared.event.Event.{Event}
-use Rattle.gc_world.specs.declared.event.Event.TheVariants.{Mutate, Collect}
-use Rattle.gc_world.specs.declared.event.Answer.{Answer}
-use Rattle.gc_world.specs.declared.event.Answer.TheVariants.{Mutator, Collector, Useful}
-use Rattle.gc_world.specs.declared.event.Entry.{Entry}
+use Rattle.gc_copy.specs.declared.event.Event.{Event}
+use Rattle.gc_copy.specs.declared.event.Event.TheVariants.{Mutate, Collect}
+use Rattle.gc_copy.specs.declared.event.Answer.{Answer}
+use Rattle.gc_copy.specs.declared.event.Answer.TheVariants.{Mutator, Collector, Useful}
+use Rattle.gc_world.specs.declared.entry.Entry.{Entry}
 
--- ---- as runs have them
+-- ---- events and answers
 
-abbrev pub run_event : Event → runs.Event
-run_event (Mutate m op) = runs.Mutate m op
-run_event (Collect step) = runs.Collect step
+abbrev pub events_of : List Entry → List Event
+events_of entries = map (λ entry. entry.event) entries
 
--- `Useful` counts as the collector's answer
-abbrev pub run_answer : Answer → runs.Answer
-run_answer (Mutator reply) = runs.Replied reply
-run_answer (Collector reply) = runs.Stepped reply
-run_answer (Useful reply) = runs.Stepped reply
+-- a run answers the useful step as it answers any other
+abbrev pub unmarked : Answer → Answer
+unmarked (Mutator reply) = Mutator reply
+unmarked (Collector reply) = Collector reply
+unmarked (Useful reply) = Collector reply
 
-abbrev pub events_of : List Entry → List runs.Event
-events_of entries = map (λ entry. run_event entry.event) entries
-
-abbrev pub answers_of : List Entry → List runs.Answer
-answers_of entries = map (λ entry. run_answer entry.answer) entries
+abbrev pub answers_of : List Entry → List Answer
+answers_of entries = map (λ entry. unmarked entry.answer) entries
 
 -- ---- core runs
 
@@ -54,7 +50,7 @@ IsUseful s (Collect step) (Useful reply) = step ≡ useful_step s
 
 abbrev pub UsefulFrom : State → List Entry → Type 0
 UsefulFrom s [] = ⊤
-UsefulFrom s (entry ∷ rest) = IsUseful s entry.event entry.answer × UsefulFrom (runs.after s (run_event entry.event)) rest
+UsefulFrom s (entry ∷ rest) = IsUseful s entry.event entry.answer × UsefulFrom (runs.after s entry.event) rest
 
 -- ---- histories
 

@@ -4,9 +4,9 @@ use Rattle.gc_core.specs.Flip.{IsCertified}
 use Rattle.gc_copy.specs.State.{State}
 use Rattle.gc_cert.specs.Grammar.{CertifiedPair}
 use Rattle.gc_world.specs.History.{IsHistory, state_after}
-use Rattle.gc_world.specs.declared.event.Event.{Event}
-use Rattle.gc_world.specs.declared.event.Answer.{Answer}
-use Rattle.gc_world.specs.declared.event.Entry.{Entry}
+use Rattle.gc_copy.specs.declared.event.Event.{Event}
+use Rattle.gc_copy.specs.declared.event.Answer.{Answer}
+use Rattle.gc_world.specs.declared.entry.Entry.{Entry}
 
 -- `kept` is the pair of the last flip, until it is taken
 pub record Past : Type 0 where

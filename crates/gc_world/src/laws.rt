@@ -5,14 +5,15 @@ ghost use Rattle.std.specs.List.{All};
 ghost use Rattle.gc_graph.specs.Legal.{IsLegal};
 ghost use Rattle.gc_graph.specs.Limits.{most_words, most_mutators};
 ghost use Rattle.gc_copy.specs.State.{opening_state};
-ghost use Rattle.gc_copy.specs.Runs.{IsEvent, Stepped, after, answer};
+ghost use Rattle.gc_copy.specs.Runs.{IsEvent, after, answer};
+ghost use Rattle.gc_copy.specs.declared.event.Answer.TheVariants.{Collector};
 ghost use Rattle.gc_copy.specs.Belonging.{IsState};
 ghost use Rattle.gc_copy.specs.Passing.{PassesWhereReady, AlwaysHasRoom};
 ghost use Rattle.gc_copy.specs.Carried.{OnlyKeptIsPaired, base_of_run};
 ghost use Rattle.gc_copy.specs.declared.step.StepReply.TheVariants.{Refused};
-ghost use Rattle.gc_world.specs.History.{run_event, run_answer, events_of, state_after, told_of};
+ghost use Rattle.gc_world.specs.History.{unmarked, events_of, state_after, told_of};
 ghost use Rattle.gc_world.specs.History.{IsUseful, IsHistory};
-ghost use Rattle.gc_world.specs.declared.event.Entry.{Entry};
+ghost use Rattle.gc_world.specs.declared.entry.Entry.{Entry};
 
 /// A world that was just opened has an empty history. An event with the answer that it gets, which is
 /// `Useful` for no step but the useful one, makes a history one entry longer, and the state is then the one
@@ -22,14 +23,14 @@ pub fn histories_grow()
         → 1 ≤ size → size ≤ most_words → 1 ≤ mutators → mutators ≤ most_mutators → IsHistory size mutators [] }
     ensures event { (size mutators : ℕ) (entries : List Entry) (entry : Entry)
         → IsHistory size mutators entries
-        → IsEvent mutators (run_event entry.event)
-        → run_answer entry.answer
-        ≡ answer (state_after size mutators entries) (run_event entry.event)
+        → IsEvent mutators entry.event
+        → unmarked entry.answer
+        ≡ answer (state_after size mutators entries) entry.event
         → IsUseful (state_after size mutators entries) entry.event entry.answer
         → IsHistory size mutators (entries ++ entry ∷ []) }
     ensures state { (size mutators : ℕ) (entries : List Entry) (entry : Entry)
         → state_after size mutators (entries ++ entry ∷ [])
-        ≡ after (state_after size mutators entries) (run_event entry.event) }
+        ≡ after (state_after size mutators entries) entry.event }
 {}
 
 /// What the mutators of a history were told could be told without a collector.
@@ -51,7 +52,7 @@ pub fn runs_keep_states()
         → IsHistory size mutators entries → PassesWhereReady (state_after size mutators entries) }
     ensures none_refused { (size mutators : ℕ) (entries : List Entry)
         → IsHistory size mutators entries
-        → All (λ (entry : Entry). run_answer entry.answer ≢ Stepped Refused) entries }
+        → All (λ (entry : Entry). unmarked entry.answer ≢ Collector Refused) entries }
     ensures room { (size mutators : ℕ) (entries : List Entry)
         → IsHistory size mutators entries → AlwaysHasRoom (state_after size mutators entries) }
     ensures kept { (size mutators : ℕ) (entries : List Entry)

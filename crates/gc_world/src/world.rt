@@ -1,9 +1,9 @@
-use crate::event::{Answer, Entry, Event};
+use crate::entry::Entry;
 use crate::laws::histories_grow;
 use crate::range::command_is_in_range;
 use gc_cert::PairFile;
 use gc_check::{Checks, Sequential};
-use gc_copy::{Step, StepReply};
+use gc_copy::{Answer, Event, Step, StepReply};
 use gc_core::{CollectedHeap, Flip, Keep};
 use gc_graph::{NoMemory, Op, Reply};
 use gc_heap::Heap;
@@ -56,8 +56,8 @@ impl World {
     ghost use Rattle.gc_core.specs.Flip.{kept_after, IsCertified};
     ghost use Rattle.gc_world.specs.History.{IsHistory};
     ghost use Rattle.gc_world.specs.World.{present, with_entry};
-    ghost use Rattle.gc_world.specs.declared.event.Event.{Event};
-    ghost use Rattle.gc_world.specs.declared.event.Answer.{Answer};
+    ghost use Rattle.gc_copy.specs.declared.event.Event.{Event};
+    ghost use Rattle.gc_copy.specs.declared.event.Answer.{Answer};
 
     /// Returns an empty heap of `size` words, 1 to 1048576, for 1 to 16 mutators, to which nothing has happened.
     pub fn open(alloc: Global, size: u32, mutators: u8) -> Result<World, NoMemory>
@@ -220,7 +220,7 @@ ghost use Rattle.gc_copy.specs.Steps.{collect};
 ghost use Rattle.gc_copy.specs.Runs.{IsStep};
 ghost use Rattle.gc_core.specs.Flip.{kept_after};
 ghost use Rattle.gc_world.specs.World.{entry_of, IsKept};
-ghost use Rattle.gc_world.specs.declared.event.Event.{Event};
+ghost use Rattle.gc_copy.specs.declared.event.Event.{Event};
 
 // Makes room for one more entry.
 fn make_room(history: &mut Vec<Entry>) -> Result<(), NoMemory>

@@ -1,5 +1,5 @@
-use Rattle.gc_world.proofs.Told.{told_is_legal}
+use Rattle.gc_world.proofs.LegalHistories.{history_is_legal}
 use Rattle.gc_world.proofs.laws.runs_are_legal.Goals as goal
 
 pub returns : goal.returns
-returns c = told_is_legal
+returns c = history_is_legal

@@ -4,9 +4,9 @@ use Rattle.gc_cert.specs.Views.{pair_in}
 use Rattle.gc_copy.specs.Steps.{collect}
 use Rattle.gc_copy.specs.Runs.{IsStep}
 use Rattle.gc_world.specs.World.{Past, present, entry_of}
-use Rattle.gc_world.specs.declared.event.Answer.TheVariants.{Collector}
-use Rattle.gc_world.specs.declared.event.Entry.{Entry}
-use Rattle.gc_world.specs.declared.event.Event.TheVariants.{Collect}
+use Rattle.gc_copy.specs.declared.event.Answer.TheVariants.{Collector}
+use Rattle.gc_world.specs.declared.entry.Entry.{Entry}
+use Rattle.gc_copy.specs.declared.event.Event.TheVariants.{Collect}
 use Rattle.gc_world.proofs.Worlds.{stepped}
 use Rattle.gc_world.proofs.world.World.collect.Goals as goal
 

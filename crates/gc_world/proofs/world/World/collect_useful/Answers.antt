@@ -3,9 +3,9 @@ use Rattle.std.specs.Option.{option_map}
 use Rattle.gc_cert.specs.Views.{pair_in}
 use Rattle.gc_copy.specs.Steps.{collect}
 use Rattle.gc_world.specs.World.{present, entry_of}
-use Rattle.gc_world.specs.declared.event.Answer.TheVariants.{Useful}
-use Rattle.gc_world.specs.declared.event.Entry.{Entry}
-use Rattle.gc_world.specs.declared.event.Event.TheVariants.{Collect}
+use Rattle.gc_copy.specs.declared.event.Answer.TheVariants.{Useful}
+use Rattle.gc_world.specs.declared.entry.Entry.{Entry}
+use Rattle.gc_copy.specs.declared.event.Event.TheVariants.{Collect}
 use Rattle.gc_world.proofs.Worlds.{stepped}
 use Rattle.gc_world.proofs.world.World.collect_useful.Goals as goal
 

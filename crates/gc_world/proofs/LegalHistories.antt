@@ -1,0 +1,38 @@
+-- What the mutators of a history were told is what they are told in its run.
+use Rattle.std.proofs.Common.{◌≡◌, ℕ, List, [], ◌∷◌, ◌++◌, refl, sym, subst}
+use Rattle.gc_graph.specs.Legal.{IsLegal}
+use Rattle.gc_graph.specs.declared.command.Op.{Op}
+use Rattle.gc_graph.specs.declared.reply.Reply.{Reply}
+use Rattle.gc_copy.specs.State.{State, opening_state}
+use Rattle.gc_copy.specs.Runs.{after, answer, answers}
+use Rattle.gc_copy.specs.declared.event.Event.{Event}
+use Rattle.gc_copy.specs.declared.event.Event.TheVariants.{Mutate, Collect}
+use Rattle.gc_copy.specs.declared.event.Answer as answered
+use Rattle.gc_copy.specs.declared.event.Answer.TheVariants.{Mutator, Collector, Useful}
+use Rattle.gc_core.specs.Replies.{told_in}
+use Rattle.gc_core.proofs.LegalRuns.{run_is_legal}
+use Rattle.gc_world.specs.History.{unmarked, events_of, answers_of, RunsFrom, told_by, told_of, IsHistory}
+use Rattle.gc_world.specs.declared.entry.Entry.{Entry}
+
+-- what counts as a mutator's answer is one
+told_reply : (m : ℕ) (op : Op) (told : answered.Answer) (reply : Reply) → unmarked told ≡ Mutator reply → told_by (Mutate m op) told ≡ record { m = m; op = op; reply = reply } ∷ []
+told_reply m op (Mutator r) reply e = (let same : r ≡ reply = cc in λ i. record { m = m; op = op; reply = same i } ∷ [])
+told_reply m op (Collector r) reply e = absurd (let no : Collector r ≡ Mutator reply = e in cc)
+told_reply m op (Useful r) reply e = absurd (let no : Collector r ≡ Mutator reply = e in cc)
+
+told_event : (entries : List Entry) (event : Event) (told : answered.Answer) (s : State) → unmarked told ≡ answer s event
+    → told_of entries ≡ told_in (after s event) (events_of entries) → told_by event told ++ told_of entries ≡ told_in s (event ∷ events_of entries)
+told_event entries (Mutate m op) told s e rest = λ i. told_reply m op told _ e i ++ rest i
+told_event entries (Collect step) told s e rest = rest
+
+told_is_run : (entries : List Entry) (s : State) → RunsFrom s entries → told_of entries ≡ told_in s (events_of entries)
+told_is_run [] s e = refl
+told_is_run (entry ∷ entries) s e =
+    let first : unmarked entry.answer ≡ answer s entry.event = cc in
+    let rest : answers_of entries ≡ answers (after s entry.event) (events_of entries) = cc in
+    told_event entries entry.event entry.answer s first (told_is_run entries (after s entry.event) rest)
+
+pub history_is_legal : (size mutators : ℕ) (entries : List Entry) → IsHistory size mutators entries → IsLegal mutators (told_of entries)
+history_is_legal size mutators entries h =
+    subst (IsLegal mutators) (sym (told_is_run entries (opening_state size mutators) h.run))
+    (run_is_legal size mutators (events_of entries) h.low h.high h.events)
