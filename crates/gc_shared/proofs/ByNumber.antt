@@ -6,7 +6,7 @@ use Rattle.std.specs.List.Sorted.{IsStrictlyIncreasing}
 use Rattle.std.proofs.lemmas.Bool.{cases_Bool, eq-eqb}
 use Rattle.std.proofs.lemmas.Bool.Decides.{nat_tests, eqb_tells}
 use Rattle.std.proofs.lemmas.List.Sums.{sum_by-cons, count_by-le-length, get_or-le-sum_by}
-use Rattle.gc_world.specs.declared.event.Entry.{Entry}
+use Rattle.gc_world.specs.declared.entry.Entry.{Entry}
 use Rattle.gc_shared.specs.declared.seat.Receipt.{Receipt}
 use Rattle.gc_world.specs.World.{Past}
 use Rattle.gc_shared.specs.declared.fault.CloseKind.{CloseKind}

@@ -8,17 +8,17 @@ use Rattle.gc_graph.specs.declared.reply.View.{View}
 use Rattle.gc_graph.specs.declared.reply.Reply.{Reply}
 use Rattle.gc_copy.specs.declared.step.Step.{Step}
 use Rattle.gc_copy.specs.declared.step.StepReply.{StepReply}
-use Rattle.gc_world.specs.declared.event.Event.{Event}
-use Rattle.gc_world.specs.declared.event.Event.TheVariants.{Mutate, Collect}
-use Rattle.gc_world.specs.declared.event.Answer.{Answer}
+use Rattle.gc_copy.specs.declared.event.Event.{Event}
+use Rattle.gc_copy.specs.declared.event.Event.TheVariants.{Mutate, Collect}
+use Rattle.gc_copy.specs.declared.event.Answer.{Answer}
 use Rattle.gc_graph.specs.contracts.slot.SlotPartialEq.TheImpl as of_slots
 use Rattle.gc_graph.specs.contracts.command.OpPartialEq.TheImpl as of_ops
 use Rattle.gc_graph.specs.contracts.reply.ViewPartialEq.TheImpl as of_views
 use Rattle.gc_graph.specs.contracts.reply.ReplyPartialEq.TheImpl as of_replies
 use Rattle.gc_copy.specs.contracts.step.StepPartialEq.TheImpl as of_steps
 use Rattle.gc_copy.specs.contracts.step.StepReplyPartialEq.TheImpl as of_step_replies
-use Rattle.gc_world.specs.contracts.event.EventPartialEq.TheImpl as of_events
-use Rattle.gc_world.specs.contracts.event.AnswerPartialEq.TheImpl as of_answers
+use Rattle.gc_copy.specs.contracts.event.EventPartialEq.TheImpl as of_events
+use Rattle.gc_copy.specs.contracts.event.AnswerPartialEq.TheImpl as of_answers
 
 both : (s t : Bool) → (s && t) ≡ true → (s ≡ true) × (t ≡ true)
 both true t e = (refl, e)

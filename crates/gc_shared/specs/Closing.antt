@@ -2,7 +2,7 @@
 use Rattle.std.specs.Prelude.{◌≡◌, ℕ, zero, suc, ◌+◌, ◌<◌, ◌≤◌, ◌==◌, ⊤, List, [], ◌∷◌, ◌++◌, length, take, Some, slice_get, count_by}
 use Rattle.std.specs.List.{find}
 use Rattle.std.specs.Option.{option_map_or}
-use Rattle.gc_world.specs.declared.event.Entry.{Entry}
+use Rattle.gc_world.specs.declared.entry.Entry.{Entry}
 use Rattle.gc_world.specs.World.{Past}
 use Rattle.gc_shared.specs.declared.seat.Receipt.{Receipt}
 use Rattle.gc_shared.specs.declared.fault.CloseKind.{CloseKind}

@@ -1,7 +1,7 @@
 -- How closing keeps count of the places that stand on receipts.
 use Rattle.std.specs.Prelude.{◌≡◌, ℕ, ◌<◌, ◌≤◌, Bool, false, if◌then◌else◌, List, length, All, count_by, slice_index_or}
 use Rattle.std.specs.List.Sorted.{IsStrictlyIncreasing}
-use Rattle.gc_world.specs.declared.event.Entry.{Entry}
+use Rattle.gc_world.specs.declared.entry.Entry.{Entry}
 use Rattle.gc_shared.specs.declared.seat.Receipt.{Receipt}
 use Rattle.gc_shared.specs.Seats.{Held}
 use Rattle.gc_shared.specs.Receipts.{IsTold, times_at, places_of}

@@ -6,9 +6,9 @@ use Rattle.gc_graph.specs.declared.reply.Reply.TheVariants.{Done, Saw}
 use Rattle.gc_graph.specs.declared.reply.View.TheVariants as views
 use Rattle.gc_copy.specs.declared.step.Step.TheVariants.{Begin}
 use Rattle.gc_copy.specs.declared.step.StepReply.TheVariants.{Begun}
-use Rattle.gc_world.specs.declared.event.Entry.{Entry}
-use Rattle.gc_world.specs.declared.event.Event.TheVariants.{Mutate, Collect}
-use Rattle.gc_world.specs.declared.event.Answer.TheVariants.{Mutator, Useful}
+use Rattle.gc_world.specs.declared.entry.Entry.{Entry}
+use Rattle.gc_copy.specs.declared.event.Event.TheVariants.{Mutate, Collect}
+use Rattle.gc_copy.specs.declared.event.Answer.TheVariants.{Mutator, Useful}
 use Rattle.gc_world.specs.World.{entry_of}
 use Rattle.gc_shared.specs.declared.seat.Receipt.{Receipt}
 use Rattle.gc_shared.specs.Seats.{Held, receipt}

@@ -3,11 +3,11 @@ use Rattle.std.specs.Prelude.{◌≡◌, ℕ, ◌+◌, ◌<◌, ◌==◌, ⊤, B
 use Rattle.std.specs.declared.vec.Vec.{Vec}
 use Rattle.std.specs.declared.alloc.Global.{Global}
 use Rattle.gc_graph.specs.declared.command.Op.{Op}
-use Rattle.gc_world.specs.declared.event.Entry.{Entry}
-use Rattle.gc_world.specs.declared.event.Event.{Event}
-use Rattle.gc_world.specs.declared.event.Event.TheVariants.{Mutate, Collect}
-use Rattle.gc_world.specs.declared.event.Answer.{Answer}
-use Rattle.gc_world.specs.declared.event.Answer.TheVariants.{Mutator, Collector, Useful}
+use Rattle.gc_world.specs.declared.entry.Entry.{Entry}
+use Rattle.gc_copy.specs.declared.event.Event.{Event}
+use Rattle.gc_copy.specs.declared.event.Event.TheVariants.{Mutate, Collect}
+use Rattle.gc_copy.specs.declared.event.Answer.{Answer}
+use Rattle.gc_copy.specs.declared.event.Answer.TheVariants.{Mutator, Collector, Useful}
 use Rattle.gc_world.specs.World.{Past}
 use Rattle.gc_shared.specs.Seats.{Held}
 

@@ -39,8 +39,8 @@ impl Shared {
     ghost use Rattle.std.specs.Prelude.{IfOk, IfErr, OnErr, Err};
     ghost use Rattle.std.specs.List.{range_with_len};
     ghost use Rattle.gc_copy.specs.Runs.{IsStep};
-    ghost use Rattle.gc_world.specs.declared.event.Event.{Event};
-    ghost use Rattle.gc_world.specs.declared.event.Answer.{Answer};
+    ghost use Rattle.gc_copy.specs.declared.event.Event.{Event};
+    ghost use Rattle.gc_copy.specs.declared.event.Answer.{Answer};
     ghost use Rattle.gc_shared.specs.Seats.{opening, fresh, AddsReceipt, HasSize, IsApply};
     ghost use Rattle.gc_shared.specs.Closing.{IsWhole, IsFirstFault};
 
@@ -217,7 +217,7 @@ impl Shared {
 
 ghost use Rattle.std.specs.Prelude.{◌≡◌, ◌↔◌, IsTrue};
 ghost use Rattle.gc_copy.specs.Runs.{IsStep};
-ghost use Rattle.gc_world.specs.declared.event.Answer.TheVariants.{Mutator};
+ghost use Rattle.gc_copy.specs.declared.event.Answer.TheVariants.{Mutator};
 ghost use Rattle.gc_shared.specs.Seats.{HasSize};
 
 fn mutator_answer(reply: &Reply) -> Answer

@@ -11,8 +11,8 @@ use Rattle.gc_copy.specs.Runs.{IsStep}
 use Rattle.gc_graph.proofs.LineLemmas.{HasNo-name, HasNo-decimal, AllHaveNo, HasNo-joined, tokens_of-joined}
 use Rattle.gc_copy.specs.declared.step.Step.{Step}
 use Rattle.gc_copy.specs.declared.step.Step.TheVariants as steps
-use Rattle.gc_world.specs.declared.event.Event.{Event}
-use Rattle.gc_world.specs.declared.event.Event.TheVariants.{Mutate, Collect}
+use Rattle.gc_copy.specs.declared.event.Event.{Event}
+use Rattle.gc_copy.specs.declared.event.Event.TheVariants.{Mutate, Collect}
 use Rattle.gc_trace.specs.Grammar.{slot, op_tokens, step_tokens, event_tokens, version_tokens, size_tokens, IsEvent, IsHeading}
 
 HasNo-slot : (c : ℕ) (s : SlotName) → c < 48 → IsSlot s → HasNo c (slot s)

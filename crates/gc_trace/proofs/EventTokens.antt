@@ -13,8 +13,8 @@ use Rattle.gc_graph.proofs.Decimals.{number_again}
 use Rattle.gc_graph.proofs.TokenParsers.{number_at_again, token_at_again, end_again}
 use Rattle.gc_copy.specs.declared.step.Step.{Step}
 use Rattle.gc_copy.specs.declared.step.Step.TheVariants as steps
-use Rattle.gc_world.specs.declared.event.Event.{Event}
-use Rattle.gc_world.specs.declared.event.Event.TheVariants.{Mutate, Collect}
+use Rattle.gc_copy.specs.declared.event.Event.{Event}
+use Rattle.gc_copy.specs.declared.event.Event.TheVariants.{Mutate, Collect}
 use Rattle.gc_trace.specs.Parsers.{slot_of, slot_at, new_of, num_of, nil_of, move_of, get_of, put_of, same_of, look_of, op_of, begin_of, apply_of, step_of, command_of, collect_of, event_of, version_at, sizes_of}
 use Rattle.gc_trace.specs.Grammar.{newest, slot, op_tokens, step_tokens, event_tokens, version_tokens, size_tokens, version_of, IsEvent, IsHeading}
 

@@ -12,9 +12,8 @@ use Rattle.gc_copy.specs.Passing.{HasFewPairs}
 use Rattle.gc_copy.specs.declared.step.StepReply.{StepReply}
 use Rattle.gc_copy.specs.declared.step.StepReply.TheVariants.{Busy, Begun, Idle, Clean, NoRoom, Copied, Passed, Scanned, Applied, NotReady, Refused, Flipped, Dropped}
 use Rattle.gc_core.specs.Flip.{flip_pair, open_pair, kept_after, IsCertified}
-use Rattle.gc_world.specs.History.{run_event}
-use Rattle.gc_world.specs.declared.event.Event.{Event}
-use Rattle.gc_world.specs.declared.event.Event.TheVariants.{Mutate, Collect}
+use Rattle.gc_copy.specs.declared.event.Event.{Event}
+use Rattle.gc_copy.specs.declared.event.Event.TheVariants.{Mutate, Collect}
 use Rattle.gc_trace.specs.Flips.{flip_at, with_flip, flips, HasCounts}
 
 -- ---- what is kept
@@ -61,29 +60,29 @@ flip_counts s (Collect step) pair ok small few certified is = kept_counts s s.co
 abbrev pub flips_from : State → List Event → ℕ → ℕ → Option CertifiedPair
 flips_from s events i before = slice_get (flips s (drop i events)) before
 
-flips_more : (s : State) (events : List Event) (i : ℕ) (event : Event) → i < length events → event ≡ get_or events i event → flips s (drop i events) ≡ with_flip (flip_at s event) (flips (after s (run_event event)) (drop (i + 1) events))
+flips_more : (s : State) (events : List Event) (i : ℕ) (event : Event) → i < length events → event ≡ get_or events i event → flips s (drop i events) ≡ with_flip (flip_at s event) (flips (after s event) (drop (i + 1) events))
 flips_more s events i event lt is = ap (flips s) (drop_more events i event lt ∙ ap (λ (e : Event). e ∷ drop (i + 1) events) (sym is))
 
 -- the event is no flip
-pub no_flip : (s : State) (events : List Event) (i before : ℕ) (event : Event) → i < length events → event ≡ get_or events i event → flip_at s event ≡ None → flips_from (after s (run_event event)) events (i + 1) before ≡ flips_from s events i before
+pub no_flip : (s : State) (events : List Event) (i before : ℕ) (event : Event) → i < length events → event ≡ get_or events i event → flip_at s event ≡ None → flips_from (after s event) events (i + 1) before ≡ flips_from s events i before
 no_flip s events i before event lt is none =
-    sym (ap (λ (ps : List CertifiedPair). slice_get ps before) (flips_more s events i event lt is ∙ ap (λ (o : Option CertifiedPair). with_flip o (flips (after s (run_event event)) (drop (i + 1) events))) none))
+    sym (ap (λ (ps : List CertifiedPair). slice_get ps before) (flips_more s events i event lt is ∙ ap (λ (o : Option CertifiedPair). with_flip o (flips (after s event) (drop (i + 1) events))) none))
 
 -- it is the wanted one
 pub this_flip : (s : State) (events : List Event) (i : ℕ) (event : Event) (pair : CertifiedPair) → i < length events → event ≡ get_or events i event → flip_at s event ≡ Some pair → Some pair ≡ flips_from s events i 0
 this_flip s events i event pair lt is some =
-    sym (ap (λ (ps : List CertifiedPair). slice_get ps 0) (flips_more s events i event lt is ∙ ap (λ (o : Option CertifiedPair). with_flip o (flips (after s (run_event event)) (drop (i + 1) events))) some))
+    sym (ap (λ (ps : List CertifiedPair). slice_get ps 0) (flips_more s events i event lt is ∙ ap (λ (o : Option CertifiedPair). with_flip o (flips (after s event) (drop (i + 1) events))) some))
 
 -- it is one before that
-pub other_flip : (s : State) (events : List Event) (i before : ℕ) (event : Event) (pair : CertifiedPair) → i < length events → event ≡ get_or events i event → flip_at s event ≡ Some pair → flips_from (after s (run_event event)) events (i + 1) before ≡ flips_from s events i (suc before)
+pub other_flip : (s : State) (events : List Event) (i before : ℕ) (event : Event) (pair : CertifiedPair) → i < length events → event ≡ get_or events i event → flip_at s event ≡ Some pair → flips_from (after s event) events (i + 1) before ≡ flips_from s events i (suc before)
 other_flip s events i before event pair lt is some =
-    sym (ap (λ (ps : List CertifiedPair). slice_get ps (suc before)) (flips_more s events i event lt is ∙ ap (λ (o : Option CertifiedPair). with_flip o (flips (after s (run_event event)) (drop (i + 1) events))) some))
+    sym (ap (λ (ps : List CertifiedPair). slice_get ps (suc before)) (flips_more s events i event lt is ∙ ap (λ (o : Option CertifiedPair). with_flip o (flips (after s event) (drop (i + 1) events))) some))
 
 -- no flip, with as many still to come, or a flip before the wanted one, with one fewer
 abbrev pub Counted : Option CertifiedPair → ℕ → ℕ → Type 0
 Counted kept before left = ((kept ≡ None) × (left ≡ before)) ⊎ ((pair : CertifiedPair) × (kept ≡ Some pair) × (before ≡ suc left))
 
-pub next_flip : (s next : State) (events : List Event) (i before left : ℕ) (event : Event) (kept wanted : Option CertifiedPair) → i < length events → event ≡ get_or events i event → next ≡ after s (run_event event) → kept ≡ flip_at s event
+pub next_flip : (s next : State) (events : List Event) (i before left : ℕ) (event : Event) (kept wanted : Option CertifiedPair) → i < length events → event ≡ get_or events i event → next ≡ after s event → kept ≡ flip_at s event
     → flips_from s events i before ≡ wanted → Counted kept before left → flips_from next events (i + 1) left ≡ wanted
 next_flip s next events i before left event kept wanted lt is at same so_far (inl (none, all)) =
     ap (λ (t : State). flips_from t events (i + 1) left) at ∙ no_flip s events i left event lt is (sym same ∙ none) ∙ ap (flips_from s events i) all ∙ so_far

@@ -5,13 +5,13 @@ use Rattle.gc_copy.specs.State.{State, opening_state}
 use Rattle.gc_copy.specs.Runs as runs
 use Rattle.gc_copy.specs.declared.step.Step.{Step}
 use Rattle.gc_copy.specs.declared.step.Step.TheVariants as steps
-use Rattle.gc_world.specs.History.{run_event, events_of, answers_of, IsHistory}
+use Rattle.gc_world.specs.History.{events_of, answers_of, IsHistory}
 use Rattle.gc_world.specs.World.{Past, present}
-use Rattle.gc_world.specs.declared.event.Event.{Event}
-use Rattle.gc_world.specs.declared.event.Event.TheVariants.{Mutate, Collect}
-use Rattle.gc_world.specs.declared.event.Entry.{Entry}
+use Rattle.gc_copy.specs.declared.event.Event.{Event}
+use Rattle.gc_copy.specs.declared.event.Event.TheVariants.{Mutate, Collect}
+use Rattle.gc_world.specs.declared.entry.Entry.{Entry}
 use Rattle.gc_trace.specs.Grammar.{Recording, least_version, written, spelling, IsEvent, IsOf, IsTextOf}
-use Rattle.gc_trace.specs.Plays.{happened, run_events, opening, answers, last_state}
+use Rattle.gc_trace.specs.Plays.{opening, answers, last_state}
 use Rattle.gc_trace.specs.WorldRuns.{HasRun}
 use Rattle.gc_trace.proofs.Versions.{least_range}
 
@@ -29,40 +29,32 @@ wider : (mutators : ℕ) (event : Event) → mutators ≤ 16 → IsOf mutators e
 wider mutators (Mutate m op) le of = (omega (arith, le, of.0), of.1)
 wider mutators (Collect step) le of = wider_step mutators step le of
 
-all_fit : (version mutators : ℕ) (entries : List Entry) → mutators ≤ 16 → least_version (happened entries) ≤ version → runs.AreEvents mutators (events_of entries) → AllByRecursion (λ event. IsEvent version event × IsOf mutators event) (happened entries)
+all_fit : (version mutators : ℕ) (entries : List Entry) → mutators ≤ 16 → least_version (events_of entries) ≤ version → runs.AreEvents mutators (events_of entries) → AllByRecursion (λ event. IsEvent version event × IsOf mutators event) (events_of entries)
 all_fit version mutators [] few known all = tt
 all_fit version mutators (e ∷ es) few known all =
     ((record { range = wider mutators e.event few all.0; known = omega (arith, known) }, all.0), all_fit version mutators es few (omega (arith, known)) all.1)
 
-pub history_has_text : (size mutators : ℕ) (entries : List Entry) → IsHistory size mutators entries → IsTextOf (written size mutators (happened entries)) (spelling (written size mutators (happened entries)))
+pub history_has_text : (size mutators : ℕ) (entries : List Entry) → IsHistory size mutators entries → IsTextOf (written size mutators (events_of entries)) (spelling (written size mutators (events_of entries)))
 history_has_text size mutators entries history =
-    let versions = least_range (happened entries) in
+    let versions = least_range (events_of entries) in
     record {
       recording = record {
         heading = (versions.0, versions.1, history.low, history.high, history.some, history.few);
-        events = all_fit (least_version (happened entries)) mutators entries history.few (omega arith) history.events;
+        events = all_fit (least_version (events_of entries)) mutators entries history.few (omega arith) history.events;
       };
       spelled = refl;
     }
 
--- the events, as runs have them
-pub same_events : (entries : List Entry) → events_of entries ≡ run_events (happened entries)
-same_events [] = refl
-same_events (e ∷ es) = ap (λ (rest : List runs.Event). run_event e.event ∷ rest) (same_events es)
-
-pub same_answers : (size mutators : ℕ) (entries : List Entry) → IsHistory size mutators entries → answers (written size mutators (happened entries)) ≡ answers_of entries
-same_answers size mutators entries history = ap (runs.answers (opening_state size mutators)) (sym (same_events entries)) ∙ sym history.run
+pub same_answers : (size mutators : ℕ) (entries : List Entry) → IsHistory size mutators entries → answers (written size mutators (events_of entries)) ≡ answers_of entries
+same_answers size mutators entries history = sym history.run
 
 -- ---- what a world has that has run a trace
-
-ran_events : (t : Recording) (past : Past) → HasRun t past → events_of past.entries ≡ run_events t.events
-ran_events t past ran = same_events past.entries ∙ ap run_events ran.events
 
 ran_opening : (t : Recording) (past : Past) → HasRun t past → opening_state past.size past.mutators ≡ opening t
 ran_opening t past ran = ap (λ (size : ℕ). opening_state size past.mutators) ran.size ∙ ap (opening_state t.size) ran.mutators
 
 pub ran_answers : (t : Recording) (past : Past) → HasRun t past → IsHistory past.size past.mutators past.entries → answers_of past.entries ≡ answers t
-ran_answers t past ran history = history.run ∙ ap (λ (s : State). runs.answers s (events_of past.entries)) (ran_opening t past ran) ∙ ap (runs.answers (opening t)) (ran_events t past ran)
+ran_answers t past ran history = history.run ∙ ap (λ (s : State). runs.answers s (events_of past.entries)) (ran_opening t past ran) ∙ ap (runs.answers (opening t)) ran.events
 
 pub ran_state : (t : Recording) (past : Past) → HasRun t past → present past ≡ last_state t
-ran_state t past ran = ap (λ (s : State). runs.state_after s (events_of past.entries)) (ran_opening t past ran) ∙ ap (runs.state_after (opening t)) (ran_events t past ran)
+ran_state t past ran = ap (λ (s : State). runs.state_after s (events_of past.entries)) (ran_opening t past ran) ∙ ap (runs.state_after (opening t)) ran.events

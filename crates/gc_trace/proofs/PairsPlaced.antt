@@ -8,13 +8,16 @@ use Rattle.gc_graph.specs.Graph.{Value, Nil, Num, Ref, Object, Graph, lookup, fi
 use Rattle.gc_graph.specs.Machine.{roomy_step}
 use Rattle.gc_copy.specs.State.{Replica, Collection, State, opening_state, heap_end, new_end, new_free, replica_of, replica_at, moved}
 use Rattle.gc_copy.specs.Steps.{written, log_at, logged, fresh_replica, place_replica, with_replica, with_written, copy_value, bring_value, bring_up_to_date, with_log, if_room, root_target, copy_root, scan_done, scan, next_field, scan_replica, apply_entry, apply_log, is_ready, passes_check, flip, collect_with}
-use Rattle.gc_copy.specs.Runs.{Event, Mutate, Collect, Stepped, after, answer, answers}
+use Rattle.gc_copy.specs.Runs.{after, answer, answers}
+use Rattle.gc_copy.specs.declared.event.Event.{Event}
+use Rattle.gc_copy.specs.declared.event.Event.TheVariants.{Mutate, Collect}
+use Rattle.gc_copy.specs.declared.event.Answer.TheVariants.{Collector}
 use Rattle.gc_copy.specs.declared.step.Step.{Step}
 use Rattle.gc_copy.specs.declared.step.Step.TheVariants as steps
 use Rattle.gc_copy.specs.declared.step.StepReply.{StepReply}
 use Rattle.gc_copy.specs.declared.step.StepReply.TheVariants.{Busy, Idle, Clean, Copied, Scanned, Applied, NotReady, Refused}
-use Rattle.gc_world.specs.History.{IsHistory, events_of, answers_of, run_event, run_answer}
-use Rattle.gc_world.specs.declared.event.Entry.{Entry}
+use Rattle.gc_world.specs.History.{IsHistory, events_of, answers_of, unmarked}
+use Rattle.gc_world.specs.declared.entry.Entry.{Entry}
 use Rattle.gc_trace.specs.Report.{pairs_in}
 
 -- how many replicas an open collection has
@@ -24,7 +27,7 @@ replicas_in (Some c) = length c.replicas
 
 -- an answer has no more pairs, and leaves no more replicas, than one more than there were
 abbrev PlacesOne : ℕ → StepReply × State → Type 0
-PlacesOne n next = pairs_in (Stepped next.0) + replicas_in next.1.collection ≤ n + 1
+PlacesOne n next = pairs_in (Collector next.0) + replicas_in next.1.collection ≤ n + 1
 
 -- ---- what places a replica
 
@@ -51,11 +54,11 @@ brought_up c g name i = brought c g name i (field_of (lookup g.objects name) i)
 -- ---- steps
 
 -- a step that leaves the state as it was
-unchanged : (s : State) (o : Option Collection) (reply : StepReply) → s.collection ≡ o → pairs_in (Stepped reply) ≡ 0 → PlacesOne (replicas_in o) (reply, s)
+unchanged : (s : State) (o : Option Collection) (reply : StepReply) → s.collection ≡ o → pairs_in (Collector reply) ≡ 0 → PlacesOne (replicas_in o) (reply, s)
 unchanged s o reply e none = let same : replicas_in s.collection ≡ replicas_in o = ap replicas_in e in omega arith
 
 -- where there is room, and where there is not
-room_places : (n : ℕ) (s : State) (reply : StepReply) (o : Option Collection) → pairs_in (Stepped reply) ≡ 0 → replicas_in s.collection ≡ n → replicas_in o ≤ n + 1 → PlacesOne n (if_room s reply o)
+room_places : (n : ℕ) (s : State) (reply : StepReply) (o : Option Collection) → pairs_in (Collector reply) ≡ 0 → replicas_in s.collection ≡ n → replicas_in o ≤ n + 1 → PlacesOne n (if_room s reply o)
 room_places n s reply None none same few = omega arith
 room_places n s reply (Some c) none same few = omega arith
 
@@ -132,4 +135,4 @@ pub few_pairs : (size mutators : ℕ) (entries : List Entry) → IsHistory size 
 few_pairs size mutators entries h =
     let few = run_places (opening_state size mutators) (events_of entries) in
     let same : sum_by pairs_in (answers_of entries) ≡ sum_by pairs_in (answers (opening_state size mutators) (events_of entries)) = ap (sum_by pairs_in) h.run in
-    omega (arith, few, same, length-map entries (λ (entry : Entry). run_event entry.event), length-map entries (λ (entry : Entry). run_answer entry.answer))
+    omega (arith, few, same, length-map entries (λ (entry : Entry). entry.event), length-map entries (λ (entry : Entry). unmarked entry.answer))

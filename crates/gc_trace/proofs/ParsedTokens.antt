@@ -14,8 +14,8 @@ use Rattle.gc_graph.proofs.Decimals.{number_found}
 use Rattle.gc_graph.proofs.TokenParsers.{bind_some, some, some_is, onto, number_at_found, token_at_found, end_found, name_case, positive}
 use Rattle.gc_copy.specs.declared.step.Step.{Step}
 use Rattle.gc_copy.specs.declared.step.Step.TheVariants as steps
-use Rattle.gc_world.specs.declared.event.Event.{Event}
-use Rattle.gc_world.specs.declared.event.Event.TheVariants.{Mutate, Collect}
+use Rattle.gc_copy.specs.declared.event.Event.{Event}
+use Rattle.gc_copy.specs.declared.event.Event.TheVariants.{Mutate, Collect}
 use Rattle.gc_trace.specs.Parsers.{slot_of, slot_at, new_of, num_of, nil_of, move_of, get_of, put_of, same_of, look_of, op_of, begin_of, apply_of, step_of, command_of, collect_of, event_of, version_at, sizes_of}
 use Rattle.gc_trace.specs.Grammar.{newest, slot, op_tokens, step_tokens, event_tokens, version_tokens, size_tokens, version_of, IsEvent}
 

@@ -3,16 +3,16 @@ use Rattle.std.proofs.Common.{◌≡◌, ℕ, ◌+◌, ◌<◌, ◌^◌, Bool, t
 use Rattle.std.specs.List.{count_by, sum_by}
 use Rattle.std.proofs.lemmas.List.{length-map, map_more, take-map, length-take}
 use Rattle.std.proofs.lemmas.List.Sums.{sum_by_push, sum_by-take-le, count_by-le-length}
-use Rattle.gc_copy.specs.Runs.{Answer}
+use Rattle.gc_copy.specs.declared.event.Answer.{Answer}
 use Rattle.gc_copy.specs.State.{State, heap_end}
-use Rattle.gc_world.specs.History.{run_answer, answers_of, IsHistory}
-use Rattle.gc_world.specs.declared.event.Entry.{Entry}
+use Rattle.gc_world.specs.History.{unmarked, answers_of, IsHistory}
+use Rattle.gc_world.specs.declared.entry.Entry.{Entry}
 use Rattle.gc_trace.specs.declared.report.Report.{Report}
 use Rattle.gc_trace.specs.Report.{is_made, is_full, is_begun, is_copied, is_scanned, is_applied, is_flip, is_dropped, is_refused, pairs_in, report_of, one_more_if, with_answer, FitsU64}
 use Rattle.gc_trace.proofs.PairsPlaced.{few_pairs}
 
 abbrev answer_of : Entry → Answer
-answer_of entry = run_answer entry.answer
+answer_of entry = unmarked entry.answer
 
 one_more_is : (is : Bool) (n : ℕ) → n + cond is 1 0 ≡ one_more_if is n
 one_more_is true n = refl

@@ -9,8 +9,8 @@ use Rattle.gc_copy.specs.Runs.{IsStep}
 use Rattle.gc_graph.proofs.LineLemmas.{Cut, cut, joined-tokens_of}
 use Rattle.gc_copy.specs.declared.step.Step.{Step}
 use Rattle.gc_copy.specs.declared.step.Step.TheVariants as steps
-use Rattle.gc_world.specs.declared.event.Event.{Event}
-use Rattle.gc_world.specs.declared.event.Event.TheVariants.{Mutate, Collect}
+use Rattle.gc_copy.specs.declared.event.Event.{Event}
+use Rattle.gc_copy.specs.declared.event.Event.TheVariants.{Mutate, Collect}
 use Rattle.gc_trace.specs.Parsers.{event_of, version_at, sizes_of}
 use Rattle.gc_trace.specs.Grammar.{Recording, newest, event_tokens, event_line, version_tokens, size_tokens, heading, spelling, IsHeading, IsEvent, IsOf, IsTextOf}
 use Rattle.gc_trace.specs.Faults.{limit, GoodBefore, HasNoHeading, HasBadLine, HasStranger, BeginsWithNoEvent, IsTraceFaultOf, IsReadAs}

@@ -2,11 +2,11 @@
 use Rattle.std.proofs.Common.{◌≡◌, ℕ, ◌+◌, ◌<◌, ◌≤◌, max, List, [], ◌∷◌, drop, length, get_or, sym, ap, ◌∙◌, arith}
 use Rattle.std.proofs.lemmas.List.{drop_more}
 use Rattle.gc_copy.specs.declared.step.Step.TheVariants as steps
-use Rattle.gc_world.specs.declared.event.Event.{Event}
-use Rattle.gc_world.specs.declared.event.Event.TheVariants.{Mutate, Collect}
-use Rattle.gc_world.specs.declared.event.Entry.{Entry}
+use Rattle.gc_copy.specs.declared.event.Event.{Event}
+use Rattle.gc_copy.specs.declared.event.Event.TheVariants.{Mutate, Collect}
+use Rattle.gc_world.specs.declared.entry.Entry.{Entry}
 use Rattle.gc_trace.specs.Grammar.{newest, version_of, least_version}
-use Rattle.gc_trace.specs.Plays.{happened}
+use Rattle.gc_world.specs.History.{events_of}
 
 pub version_range : (event : Event) → (1 ≤ version_of event) × (version_of event ≤ newest)
 version_range (Mutate m op) = (omega arith, omega arith)
@@ -24,14 +24,14 @@ least_range (e ∷ es) = let a = version_range e in let b = least_range es in (o
 
 -- what the entries from i on ask for
 abbrev pub least_from : List Entry → ℕ → ℕ
-least_from entries i = least_version (happened (drop i entries))
+least_from entries i = least_version (events_of (drop i entries))
 
 pub least_more : (entries : List Entry) (i : ℕ) (entry : Entry) (version : ℕ) → i < length entries → entry ≡ get_or entries i entry → max (max version (version_of entry.event)) (least_from entries (i + 1)) ≡ max version (least_from entries i)
 least_more entries i entry version lt is =
     let more : drop i entries ≡ entry ∷ drop (i + 1) entries = drop_more entries i entry lt ∙ ap (λ (e : Entry). e ∷ drop (i + 1) entries) (sym is) in
-    let one : least_from entries i ≡ max (version_of entry.event) (least_from entries (i + 1)) = ap (λ (es : List Entry). least_version (happened es)) more in
+    let one : least_from entries i ≡ max (version_of entry.event) (least_from entries (i + 1)) = ap (λ (es : List Entry). least_version (events_of es)) more in
     omega (arith, one)
 
 -- before the first entry
-pub least_all : (entries : List Entry) → max 1 (least_from entries 0) ≡ least_version (happened entries)
-least_all entries = omega (arith, least_range (happened entries))
+pub least_all : (entries : List Entry) → max 1 (least_from entries 0) ≡ least_version (events_of entries)
+least_all entries = omega (arith, least_range (events_of entries))

@@ -2,7 +2,7 @@
 use Rattle.std.specs.Prelude.{◌≡◌, ◌≢◌, ℕ, ◌+◌, ◌<◌, ◌≤◌, ⊤, List, [], ◌++◌, length}
 use Rattle.gc_graph.specs.declared.text.all_bytes.ReadFault.{ReadFault}
 use Rattle.gc_graph.specs.declared.text.all_bytes.ReadFault.TheVariants as reading
-use Rattle.gc_world.specs.declared.event.Event.{Event}
+use Rattle.gc_copy.specs.declared.event.Event.{Event}
 use Rattle.gc_trace.specs.Grammar.{Recording, IsTextOf, IsEvent, IsOf, IsHeading, heading, event_line}
 use Rattle.gc_trace.specs.declared.fault.TraceFault.{TraceFault}
 use Rattle.gc_trace.specs.declared.fault.TraceFault.TheVariants.{Read, TooLarge, BadHeader, BadLine, NoSuchMutator, NoMemory}

@@ -7,8 +7,7 @@ use Rattle.gc_cert.specs.Grammar as pairs
 use Rattle.gc_cert.specs.Grammar.{CertifiedPair}
 use Rattle.gc_copy.specs.State.{State}
 use Rattle.gc_copy.specs.Runs.{after}
-use Rattle.gc_world.specs.History.{run_event}
-use Rattle.gc_world.specs.declared.event.Event.{Event}
+use Rattle.gc_copy.specs.declared.event.Event.{Event}
 use Rattle.gc_trace.specs.Grammar.{Recording}
 use Rattle.gc_trace.specs.Faults.{IsReadAs}
 use Rattle.gc_trace.specs.Plays.{opening}
@@ -25,7 +24,7 @@ with_flip (Some pair) more = pair ∷ more
 -- the pairs of all flips from this state on, in order
 abbrev pub flips : State → List Event → List CertifiedPair
 flips s [] = []
-flips s (event ∷ events) = with_flip (flip_at s event) (flips (after s (run_event event)) events)
+flips s (event ∷ events) = with_flip (flip_at s event) (flips (after s event) events)
 
 -- the pair of the trace's n-th flip, counted from 1
 abbrev pub nth_flip : ℕ → Recording → Option CertifiedPair

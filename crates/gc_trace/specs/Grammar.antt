@@ -9,9 +9,8 @@ use Rattle.gc_graph.specs.declared.command.Op.TheVariants as ops
 use Rattle.gc_copy.specs.Runs as runs
 use Rattle.gc_copy.specs.declared.step.Step.{Step}
 use Rattle.gc_copy.specs.declared.step.Step.TheVariants as steps
-use Rattle.gc_world.specs.History.{run_event}
-use Rattle.gc_world.specs.declared.event.Event.{Event}
-use Rattle.gc_world.specs.declared.event.Event.TheVariants.{Mutate, Collect}
+use Rattle.gc_copy.specs.declared.event.Event.{Event}
+use Rattle.gc_copy.specs.declared.event.Event.TheVariants.{Mutate, Collect}
 
 -- what contracts see of a trace
 pub record Recording : Type 0 where
@@ -86,12 +85,12 @@ version_of (Collect steps.Drop) = 1
 
 -- an event of the version's grammar, whoever the mutators are
 pub record IsEvent (version : ℕ) (event : Event) : Type 0 where
-  pub range : runs.IsEvent 16 (run_event event)
+  pub range : runs.IsEvent 16 event
   pub known : version_of event ≤ version
 
 -- it can happen where there are so many mutators: its own, or that of its log, is one of them
 abbrev pub IsOf : ℕ → Event → Type 0
-IsOf mutators event = runs.IsEvent mutators (run_event event)
+IsOf mutators event = runs.IsEvent mutators event
 
 pub record IsRecording (t : Recording) : Type 0 where
   pub heading : IsHeading t.version t.size t.mutators

@@ -8,8 +8,8 @@ use Rattle.gc_graph.specs.declared.command.Op.TheVariants as ops
 use Rattle.gc_trace.specs.Grammar.{newest}
 use Rattle.gc_copy.specs.declared.step.Step.{Step}
 use Rattle.gc_copy.specs.declared.step.Step.TheVariants as steps
-use Rattle.gc_world.specs.declared.event.Event.{Event}
-use Rattle.gc_world.specs.declared.event.Event.TheVariants.{Mutate, Collect}
+use Rattle.gc_copy.specs.declared.event.Event.{Event}
+use Rattle.gc_copy.specs.declared.event.Event.TheVariants.{Mutate, Collect}
 
 -- a slot: its letter, and its number
 unfoldable pub slot_of : List ℕ → Option SlotName

@@ -1,36 +1,27 @@
 -- What a play writes.
-use Rattle.std.specs.Prelude.{◌≡◌, ℕ, List, Option, map}
+use Rattle.std.specs.Prelude.{◌≡◌, ℕ, List, Option}
 use Rattle.std.specs.Io.KnownBytes.{Appends}
 use Rattle.gc_graph.specs.Streams.{SendsFront}
 use Rattle.gc_copy.specs.State.{State, opening_state}
 use Rattle.gc_copy.specs.Runs as runs
-use Rattle.gc_world.specs.History.{run_event}
-use Rattle.gc_world.specs.declared.event.Event.{Event}
-use Rattle.gc_world.specs.declared.event.Entry.{Entry}
+use Rattle.gc_copy.specs.declared.event.Answer.{Answer}
 use Rattle.gc_trace.specs.Grammar.{Recording}
 use Rattle.gc_trace.specs.Faults.{IsReadAs}
 use Rattle.gc_trace.specs.Replies.{reply_text}
 use Rattle.gc_trace.specs.Report.{report_of, report_text}
 use Rattle.gc_trace.specs.declared.report.Report.{Report}
 
--- what happened, without the answers
-abbrev pub happened : List Entry → List Event
-happened entries = map (λ entry. entry.event) entries
-
-abbrev pub run_events : List Event → List runs.Event
-run_events events = map run_event events
-
 -- what is there before the first event
 abbrev pub opening : Recording → State
 opening t = opening_state t.size t.mutators
 
 -- what the core answers to the events, one after the other
-abbrev pub answers : Recording → List runs.Answer
-answers t = runs.answers (opening t) (run_events t.events)
+abbrev pub answers : Recording → List Answer
+answers t = runs.answers (opening t) t.events
 
 -- what is there after the last event
 abbrev pub last_state : Recording → State
-last_state t = runs.state_after (opening t) (run_events t.events)
+last_state t = runs.state_after (opening t) t.events
 
 -- the report of the trace's run
 abbrev pub report_in : Recording → Report

@@ -7,7 +7,8 @@ use Rattle.gc_graph.specs.declared.reply.Reply.{Reply}
 use Rattle.gc_graph.specs.declared.reply.Reply.TheVariants.{Full, Made, Done, NoObject, NoField, Saw, Yes, No}
 use Rattle.gc_graph.specs.declared.reply.View.{View}
 use Rattle.gc_graph.specs.declared.reply.View.TheVariants as views
-use Rattle.gc_copy.specs.Runs.{Answer, Replied, Stepped}
+use Rattle.gc_copy.specs.declared.event.Answer.{Answer}
+use Rattle.gc_copy.specs.declared.event.Answer.TheVariants.{Mutator, Collector, Useful}
 use Rattle.gc_copy.specs.declared.step.StepReply.{StepReply}
 use Rattle.gc_copy.specs.declared.step.StepReply.TheVariants.{Busy, Begun, Idle, Clean, NoRoom, Copied, Passed, Scanned, Applied, NotReady, Refused, Flipped, Dropped}
 
@@ -42,8 +43,9 @@ step_reply_tokens (Flipped pairs) = codes "flipped" ∷ decimal pairs ∷ []
 step_reply_tokens Dropped = codes "dropped" ∷ []
 
 unfoldable pub answer_tokens : Answer → List (List ℕ)
-answer_tokens (Replied reply) = reply_tokens reply
-answer_tokens (Stepped reply) = step_reply_tokens reply
+answer_tokens (Mutator reply) = reply_tokens reply
+answer_tokens (Collector reply) = step_reply_tokens reply
+answer_tokens (Useful reply) = step_reply_tokens reply
 
 abbrev pub reply_line : Answer → List ℕ
 reply_line answer = line (answer_tokens answer)

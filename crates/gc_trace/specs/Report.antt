@@ -4,7 +4,8 @@ use Rattle.std.specs.List.{flat_map}
 use Rattle.std.specs.Fmt.{decimal}
 use Rattle.gc_graph.specs.Lines.{line}
 use Rattle.gc_graph.specs.declared.reply.Reply.TheVariants as replies
-use Rattle.gc_copy.specs.Runs.{Answer, Replied, Stepped}
+use Rattle.gc_copy.specs.declared.event.Answer.{Answer}
+use Rattle.gc_copy.specs.declared.event.Answer.TheVariants.{Mutator, Collector}
 use Rattle.gc_copy.specs.State.{State, heap_end}
 use Rattle.gc_copy.specs.declared.step.StepReply.TheVariants as steps
 use Rattle.gc_trace.specs.declared.report.Report.{Report}
@@ -12,44 +13,44 @@ use Rattle.gc_trace.specs.declared.report.Report.{Report}
 -- ---- answers that are counted
 
 abbrev pub is_made : Answer → Bool
-is_made (Replied replies.Made) = true
+is_made (Mutator replies.Made) = true
 is_made answer = false
 
 abbrev pub is_full : Answer → Bool
-is_full (Replied replies.Full) = true
+is_full (Mutator replies.Full) = true
 is_full answer = false
 
 abbrev pub is_begun : Answer → Bool
-is_begun (Stepped steps.Begun) = true
+is_begun (Collector steps.Begun) = true
 is_begun answer = false
 
 abbrev pub is_copied : Answer → Bool
-is_copied (Stepped steps.Copied) = true
+is_copied (Collector steps.Copied) = true
 is_copied answer = false
 
 abbrev pub is_scanned : Answer → Bool
-is_scanned (Stepped steps.Scanned) = true
+is_scanned (Collector steps.Scanned) = true
 is_scanned answer = false
 
 abbrev pub is_applied : Answer → Bool
-is_applied (Stepped steps.Applied) = true
+is_applied (Collector steps.Applied) = true
 is_applied answer = false
 
 abbrev pub is_flip : Answer → Bool
-is_flip (Stepped (steps.Flipped pairs)) = true
+is_flip (Collector (steps.Flipped pairs)) = true
 is_flip answer = false
 
 abbrev pub is_dropped : Answer → Bool
-is_dropped (Stepped steps.Dropped) = true
+is_dropped (Collector steps.Dropped) = true
 is_dropped answer = false
 
 abbrev pub is_refused : Answer → Bool
-is_refused (Stepped steps.Refused) = true
+is_refused (Collector steps.Refused) = true
 is_refused answer = false
 
 -- the pairs of a flip
 abbrev pub pairs_in : Answer → ℕ
-pairs_in (Stepped (steps.Flipped pairs)) = pairs
+pairs_in (Collector (steps.Flipped pairs)) = pairs
 pairs_in answer = 0
 
 -- ---- the report

@@ -4,11 +4,11 @@ use Rattle.gc_graph.specs.Slots.{own_slot, shared_slot}
 use Rattle.gc_graph.specs.declared.command.Op.TheVariants as ops
 use Rattle.gc_graph.specs.declared.reply.Reply.TheVariants as replies
 use Rattle.gc_graph.specs.declared.reply.View.TheVariants as views
-use Rattle.gc_copy.specs.Runs.{Replied, Stepped}
+use Rattle.gc_copy.specs.declared.event.Answer.TheVariants.{Mutator, Collector}
 use Rattle.gc_copy.specs.declared.step.Step.TheVariants as steps
 use Rattle.gc_copy.specs.declared.step.StepReply.TheVariants as step_replies
-use Rattle.gc_world.specs.declared.event.Event.{Event}
-use Rattle.gc_world.specs.declared.event.Event.TheVariants.{Mutate, Collect}
+use Rattle.gc_copy.specs.declared.event.Event.{Event}
+use Rattle.gc_copy.specs.declared.event.Event.TheVariants.{Mutate, Collect}
 use Rattle.gc_trace.specs.Grammar.{Recording, spelling, written}
 use Rattle.gc_trace.specs.Faults.{IsReadAs, IsTraceFaultOf}
 use Rattle.gc_trace.specs.Replies.{reply_text}
@@ -54,9 +54,9 @@ all_lines =
 pub record LineRows : Type 0 where
   pub events : spelling (written 9 2 all_lines)
       ≡ codes "heaptrace 1\nspace 9 mutators 2\nm 0 new r0 255 65535\nm 1 num r1 9223372036854775807\nm 0 nil g15\nm 0 move g0 r0\nm 0 get r1 r0 0\nm 0 put r0 7 r1\nm 0 same r0 g1\nm 0 look r9\nc begin\nc roots\nc scan\nc apply 1\nc flip\nc drop\n"
-  pub replies : reply_text (Replied replies.Full ∷ Replied replies.Made ∷ Replied replies.Done ∷ Replied replies.NoObject ∷ Replied replies.NoField ∷ Replied replies.Yes ∷ Replied replies.No
-      ∷ Replied (replies.Saw views.Nil) ∷ Replied (replies.Saw (views.Num 9)) ∷ Replied (replies.Saw (views.Obj 1 2)) ∷ [])
+  pub replies : reply_text (Mutator replies.Full ∷ Mutator replies.Made ∷ Mutator replies.Done ∷ Mutator replies.NoObject ∷ Mutator replies.NoField ∷ Mutator replies.Yes ∷ Mutator replies.No
+      ∷ Mutator (replies.Saw views.Nil) ∷ Mutator (replies.Saw (views.Num 9)) ∷ Mutator (replies.Saw (views.Obj 1 2)) ∷ [])
       ≡ codes "full\nmade\ndone\nno object\nno field\nyes\nno\nsaw nil\nsaw num 9\nsaw obj 1 2\n"
-  pub step_replies : reply_text (Stepped step_replies.Busy ∷ Stepped step_replies.Begun ∷ Stepped step_replies.Idle ∷ Stepped step_replies.Clean ∷ Stepped step_replies.NoRoom ∷ Stepped step_replies.Copied
-      ∷ Stepped step_replies.Passed ∷ Stepped step_replies.Scanned ∷ Stepped step_replies.Applied ∷ Stepped step_replies.NotReady ∷ Stepped step_replies.Refused ∷ Stepped (step_replies.Flipped 3) ∷ Stepped step_replies.Dropped ∷ [])
+  pub step_replies : reply_text (Collector step_replies.Busy ∷ Collector step_replies.Begun ∷ Collector step_replies.Idle ∷ Collector step_replies.Clean ∷ Collector step_replies.NoRoom ∷ Collector step_replies.Copied
+      ∷ Collector step_replies.Passed ∷ Collector step_replies.Scanned ∷ Collector step_replies.Applied ∷ Collector step_replies.NotReady ∷ Collector step_replies.Refused ∷ Collector (step_replies.Flipped 3) ∷ Collector step_replies.Dropped ∷ [])
       ≡ codes "busy\nbegun\nidle\nclean\nno room\ncopied\npassed\nscanned\napplied\nnot ready\nrefused\nflipped 3\ndropped\n"

@@ -5,12 +5,11 @@ use Rattle.gc_copy.specs.State.{State}
 use Rattle.gc_copy.specs.Steps.{collect}
 use Rattle.gc_copy.specs.Runs.{after}
 use Rattle.gc_core.specs.Flip.{kept_after}
-use Rattle.gc_world.specs.History.{run_event}
 use Rattle.gc_world.specs.World.{Past, present}
-use Rattle.gc_world.specs.declared.event.Event.{Event}
-use Rattle.gc_world.specs.declared.event.Event.TheVariants.{Mutate, Collect}
+use Rattle.gc_copy.specs.declared.event.Event.{Event}
+use Rattle.gc_copy.specs.declared.event.Event.TheVariants.{Mutate, Collect}
 use Rattle.gc_trace.specs.Grammar.{Recording}
-use Rattle.gc_trace.specs.Plays.{happened}
+use Rattle.gc_world.specs.History.{events_of}
 
 -- the pair that is kept after an event in this state
 abbrev pub kept_with : Option CertifiedPair → State → Event → Option CertifiedPair
@@ -21,19 +20,19 @@ kept_with kept s (Collect step) = kept_after kept s (collect s step).0
 pub record Happens (old : Past) (event : Event) (new : Past) : Type 0 where
   pub size : new.size ≡ old.size
   pub mutators : new.mutators ≡ old.mutators
-  pub events : happened new.entries ≡ happened old.entries ++ event ∷ []
-  pub state : present new ≡ after (present old) (run_event event)
+  pub events : events_of new.entries ≡ events_of old.entries ++ event ∷ []
+  pub state : present new ≡ after (present old) event
   pub kept : new.kept ≡ kept_with old.kept (present old) event
 
 -- the same, in a world that keeps no pair then
 pub record KeepsNone (old : Past) (event : Event) (new : Past) : Type 0 where
   pub size : new.size ≡ old.size
   pub mutators : new.mutators ≡ old.mutators
-  pub state : present new ≡ after (present old) (run_event event)
+  pub state : present new ≡ after (present old) event
   pub kept : new.kept ≡ None
 
 -- all events of the trace happened in a world of its size and mutators, each once, in order
 pub record HasRun (t : Recording) (past : Past) : Type 0 where
   pub size : past.size ≡ t.size
   pub mutators : past.mutators ≡ t.mutators
-  pub events : happened past.entries ≡ t.events
+  pub events : events_of past.entries ≡ t.events

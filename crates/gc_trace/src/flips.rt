@@ -5,7 +5,6 @@ ghost use Rattle.gc_words.specs.Views.{addresses};
 ghost use Rattle.gc_cert.specs.Grammar.{IsWord, AreAddresses, HasText};
 ghost use Rattle.gc_cert.specs.Views.{pair_in};
 ghost use Rattle.gc_copy.specs.Runs.{IsEvent, after};
-ghost use Rattle.gc_world.specs.History.{run_event};
 ghost use Rattle.gc_world.specs.World.{present};
 ghost use Rattle.gc_trace.specs.Flips.{flip_at, nth_flip, HasCounts};
 ghost use Rattle.gc_trace.specs.Grammar.{IsRecording};
@@ -51,7 +50,7 @@ fn has_text(file: &PairFile)
 
 /// Lets the event happen in a world that keeps no pair, and takes the pair of the flip that it is, if it is one.
 fn flip_in(world: &mut World, event: &Event) -> Result<Option<PairFile>, NoMemory>
-    requires event { IsEvent world.old.mutators (run_event event.now) }
+    requires event { IsEvent world.old.mutators event.now }
     requires few { world.old.mutators ≤ 16 }
     requires none { world.old.kept ≡ None }
     ensures flip { IfOk result (λ kept. option_map pair_in kept ≡ flip_at (present world.old) event.now) }

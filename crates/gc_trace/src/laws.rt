@@ -1,12 +1,12 @@
 ghost use Rattle.std.specs.Prelude.{◌≡◌, ◌≤◌, ℕ, List, length, ◌⊎◌};
 ghost use Rattle.std.specs.List.{AllByRecursion};
 ghost use Rattle.gc_graph.specs.Range.{IsCommand};
-ghost use Rattle.gc_world.specs.History.{IsHistory, answers_of, state_after};
-ghost use Rattle.gc_world.specs.declared.event.Entry.{Entry};
-ghost use Rattle.gc_world.specs.declared.event.Event.{Event};
+ghost use Rattle.gc_world.specs.History.{IsHistory, answers_of, state_after, events_of};
+ghost use Rattle.gc_world.specs.declared.entry.Entry.{Entry};
+ghost use Rattle.gc_copy.specs.declared.event.Event.{Event};
 ghost use Rattle.gc_trace.specs.Grammar.{Recording, IsTextOf, IsOf, spelling, written};
 ghost use Rattle.gc_trace.specs.Faults.{limit, IsTraceFaultOf, IsReadAs};
-ghost use Rattle.gc_trace.specs.Plays.{happened, answers};
+ghost use Rattle.gc_trace.specs.Plays.{answers};
 ghost use Rattle.gc_trace.specs.Rows.{TextRows, SizedRows, LineRows};
 ghost use Rattle.gc_trace.specs.Report.{report_of};
 ghost use Rattle.gc_trace.specs.ReportRows.{ReportRows};
@@ -26,10 +26,10 @@ pub fn texts_have_one_reading()
 pub fn written_is_read()
     ensures read { (size mutators : ℕ) (entries : List Entry)
         → IsHistory size mutators entries
-        → length (spelling (written size mutators (happened entries))) ≤ limit
-        → IsReadAs (written size mutators (happened entries)) (spelling (written size mutators (happened entries))) }
+        → length (spelling (written size mutators (events_of entries))) ≤ limit
+        → IsReadAs (written size mutators (events_of entries)) (spelling (written size mutators (events_of entries))) }
     ensures answers { (size mutators : ℕ) (entries : List Entry) → IsHistory size mutators entries
-        → answers (written size mutators (happened entries)) ≡ answers_of entries }
+        → answers (written size mutators (events_of entries)) ≡ answers_of entries }
 {}
 
 /// The worked rows hold of the definitions.

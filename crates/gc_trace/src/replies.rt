@@ -2,7 +2,7 @@ ghost use Rattle.std.specs.Prelude.{◌≡◌, ◌∷◌, ◌++◌, ◌+◌, ◌
 ghost use Rattle.std.specs.Io.KnownBytes.{Appends};
 ghost use Rattle.gc_graph.specs.Streams.{bytes_written, sink_failed, SendsFront, HasSent};
 ghost use Rattle.gc_graph.specs.Lines.{line};
-ghost use Rattle.gc_world.specs.History.{run_answer, answers_of};
+ghost use Rattle.gc_world.specs.History.{unmarked, answers_of};
 ghost use Rattle.gc_trace.specs.Replies.{reply_line, reply_text, view_tokens, reply_tokens, step_reply_tokens};
 
 use gc_copy::StepReply;
@@ -86,7 +86,7 @@ fn print_step_reply(printer: &mut Printer, reply: StepReply)
 #[tactic(auto, unfolding(crate::specs::Replies::answer_tokens))]
 fn print_answer(printer: &mut Printer, answer: &Answer)
     requires { length printer.old + 64 ≤ 16384 }
-    ensures { printer.new ≡ printer.old ++ reply_line (run_answer answer.now) }
+    ensures { printer.new ≡ printer.old ++ reply_line (unmarked answer.now) }
 {
     match answer {
         Answer::Mutator(reply) => print_reply(printer, reply),

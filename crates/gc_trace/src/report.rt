@@ -40,8 +40,8 @@ pub struct Report {
 impl Report {
     ghost use Rattle.std.specs.Prelude.{◌≡◌};
     ghost use Rattle.gc_words.specs.Space.{free_in, end_of};
-    ghost use Rattle.gc_copy.specs.Runs.{Replied, Stepped};
-    ghost use Rattle.gc_world.specs.History.{run_answer};
+    ghost use Rattle.gc_copy.specs.declared.event.Answer.TheVariants.{Mutator, Collector};
+    ghost use Rattle.gc_world.specs.History.{unmarked};
     ghost use Rattle.gc_trace.specs.Report.{with_answer, FitsU64};
 
     /// Nothing happened yet, and this is the mutators' space.
@@ -81,8 +81,8 @@ impl Report {
 
     /// Counts an event by its answer.
     fn count(&mut self, answer: &Answer)
-        requires { FitsU64 (with_answer self.old (run_answer answer.now)) }
-        ensures { self.new ≡ with_answer self.old (run_answer answer.now) }
+        requires { FitsU64 (with_answer self.old (unmarked answer.now)) }
+        ensures { self.new ≡ with_answer self.old (unmarked answer.now) }
     {
         match answer {
             Answer::Mutator(reply) => self.count_reply(reply),
@@ -93,8 +93,8 @@ impl Report {
 
     /// Counts a mutator's reply, beside the event.
     fn count_reply(&mut self, reply: &Reply)
-        requires { FitsU64 (with_answer self.old (Replied reply.now)) }
-        ensures { self.new ≡ record (with_answer self.old (Replied reply.now)) { events = self.old.events } }
+        requires { FitsU64 (with_answer self.old (Mutator reply.now)) }
+        ensures { self.new ≡ record (with_answer self.old (Mutator reply.now)) { events = self.old.events } }
     {
         let _named = View::Nil;
         match reply {
@@ -106,8 +106,8 @@ impl Report {
 
     /// Counts the answer to a step, beside the event.
     fn count_step(&mut self, reply: &StepReply)
-        requires { FitsU64 (with_answer self.old (Stepped reply.now)) }
-        ensures { self.new ≡ record (with_answer self.old (Stepped reply.now)) { events = self.old.events } }
+        requires { FitsU64 (with_answer self.old (Collector reply.now)) }
+        ensures { self.new ≡ record (with_answer self.old (Collector reply.now)) { events = self.old.events } }
     {
         match reply {
             StepReply::Begun => self.begun += 1,

@@ -1,6 +1,6 @@
 ghost use Rattle.std.specs.Prelude.{◌≡◌, IfOk, OnOk, OnErr};
 ghost use Rattle.gc_copy.specs.Runs.{IsEvent};
-ghost use Rattle.gc_world.specs.History.{run_event, answers_of};
+ghost use Rattle.gc_world.specs.History.{answers_of};
 ghost use Rattle.gc_world.specs.World.{present};
 ghost use Rattle.gc_trace.specs.Grammar.{IsRecording};
 ghost use Rattle.gc_trace.specs.Plays.{answers, last_state};
@@ -14,7 +14,7 @@ use std::alloc::Global;
 
 /// Lets the event happen in the world. Where memory is wanting, it did not.
 pub fn happen(world: &mut World, event: &Event) -> Result<(), NoMemory>
-    requires { IsEvent world.old.mutators (run_event event.now) }
+    requires { IsEvent world.old.mutators event.now }
     ensures happened { OnOk result (Happens world.old event.now world.new) }
     ensures refused { OnErr result (world.new ≡ world.old) }
 {

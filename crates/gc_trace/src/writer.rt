@@ -3,8 +3,8 @@ ghost use Rattle.std.specs.Io.KnownBytes.{Appends};
 ghost use Rattle.gc_graph.specs.Streams.{bytes_written, sink_failed, SendsFront, HasSent};
 ghost use Rattle.gc_graph.specs.Lines.{space};
 ghost use Rattle.gc_trace.specs.Grammar.{slot, event_line, heading, spelling, version_of, least_version, written};
-ghost use Rattle.gc_trace.specs.Plays.{happened};
-ghost use Rattle.gc_world.specs.declared.event.Event.TheVariants.{Mutate, Collect};
+ghost use Rattle.gc_world.specs.History.{events_of};
+ghost use Rattle.gc_copy.specs.declared.event.Event.TheVariants.{Mutate, Collect};
 
 use gc_cert::WriteFault;
 use gc_copy::Step;
@@ -165,7 +165,7 @@ fn version_of(event: &Event) -> u8
 
 /// The least version that has the lines of all events.
 fn least_version(history: &[Entry]) -> u8
-    ensures { result ≡ least_version (happened history.now) }
+    ensures { result ≡ least_version (events_of history.now) }
 {
     let mut version = 1;
     for entry in history {
@@ -184,10 +184,10 @@ pub fn write_trace<W: Write>(
 ) -> Result<(), WriteFault>
     ensures ok { OnOk result (Appends
         (bytes_written W.contents writer.old) (bytes_written W.contents writer.new)
-        (spelling (written size mutators (happened history.now)))) }
+        (spelling (written size mutators (events_of history.now)))) }
     ensures err { OnErr result (SendsFront
         (bytes_written W.contents writer.old) (bytes_written W.contents writer.new)
-        (spelling (written size mutators (happened history.now)))) }
+        (spelling (written size mutators (events_of history.now)))) }
     ensures failed { OnErr result (sink_failed writer.new ≡ true) }
 {
     let mut printer = Printer::new();

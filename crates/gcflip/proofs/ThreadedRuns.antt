@@ -14,7 +14,7 @@ use Rattle.gc_trace.specs.Grammar.{Recording}
 use Rattle.gc_trace.specs.Scripts.{script_of, scripts}
 use Rattle.gc_world.specs.History.{IsHistory}
 use Rattle.gc_world.specs.World.{Past}
-use Rattle.gc_world.specs.declared.event.Entry.{Entry}
+use Rattle.gc_world.specs.declared.entry.Entry.{Entry}
 use Rattle.gcflip.specs.ThreadedRuns.{IsThreadedRun, WritesRun, WritesRunFront, recorded}
 
 -- the scripts that are run are those of the trace

@@ -1,7 +1,7 @@
 use Rattle.std.proofs.Common.{◌≡◌, true, sym, ap, arith, length, subst, List, ℕ, rules, ◌+◌}
 use Rattle.std.specs.Result.{is_ok}
 use Rattle.std.proofs.lemmas.List.{length-append}
-use Rattle.gc_world.specs.declared.event.Event.{Event}
+use Rattle.gc_copy.specs.declared.event.Event.{Event}
 use Rattle.gc_trace.specs.Faults.{GoodBefore}
 use Rattle.gc_trace.proofs.FrontFaults.{no_line, no_event}
 use Rattle.gc_trace.proofs.Total.{made_of, one_event, good_start, good_more, bad_line, stranger, not_nil, later}

@@ -2,7 +2,7 @@ use Rattle.std.proofs.Common.{◌≡◌, ℕ, ◌+◌, List, [], ◌∷◌, ◌+
 use Rattle.std.proofs.lemmas.List.{map-append}
 use Rattle.std.proofs.lemmas.List.FromFn.{map-range_with_len_more}
 use Rattle.gc_graph.specs.declared.command.Op.{Op}
-use Rattle.gc_world.specs.declared.event.Event.{Event}
+use Rattle.gc_copy.specs.declared.event.Event.{Event}
 use Rattle.gc_trace.specs.Scripts.{script_of, scripts}
 use Rattle.gc_trace.proofs.scripts.scripts_of.Goals as goal
 

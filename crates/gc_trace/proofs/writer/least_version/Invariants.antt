@@ -1,11 +1,11 @@
 use Rattle.std.proofs.Common.{◌≡◌, ◌≤◌, max}
 use Rattle.gc_trace.specs.Grammar.{least_version}
-use Rattle.gc_trace.specs.Plays.{happened}
+use Rattle.gc_world.specs.History.{events_of}
 use Rattle.gc_trace.proofs.Versions.{least_from}
 use Rattle.gc_trace.proofs.writer.least_version.Given as goal
 
 abbrev pub invariant-loop-entry : goal.invariant-loop-entry
 invariant-loop-entry l = record {
   some : 1 ≤ l.version;
-  whole : max l.version (least_from l.history l.entry-index) ≡ least_version (happened l.history);
+  whole : max l.version (least_from l.history l.entry-index) ≡ least_version (events_of l.history);
 }
