@@ -7,11 +7,10 @@ use Rattle.gc_shared.specs.declared.fault.ThreadsFault.{ThreadsFault}
 use Rattle.gc_shared.specs.declared.fault.ThreadsFault.TheVariants as threads
 use Rattle.gc_trace.specs.Faults.{IsReadAs}
 use Rattle.gc_trace.specs.Grammar.{Recording, spelling, written}
-use Rattle.gc_trace.specs.Plays.{happened}
 use Rattle.gc_trace.specs.Scripts.{script_of}
 use Rattle.gc_trace.specs.declared.fault.TraceFault.{TraceFault}
 use Rattle.gc_trace.specs.declared.fault.TraceFault.TheVariants as trace
-use Rattle.gc_world.specs.History.{IsHistory}
+use Rattle.gc_world.specs.History.{events_of, IsHistory}
 use Rattle.gc_world.specs.declared.entry.Entry.{Entry}
 use Rattle.gcflip.specs.declared.commands.threads.ThreadsRunFault.{ThreadsRunFault}
 use Rattle.gcflip.specs.declared.commands.threads.ThreadsRunFault.TheVariants.{Trace, Threads, NoMemory}
@@ -26,7 +25,7 @@ pub record IsThreadedRun (t : Recording) (turns : ℕ) (entries : List Entry) : 
 
 -- the trace of a history with the size and the mutators of t
 abbrev pub recorded : Recording → List Entry → List ℕ
-recorded t entries = spelling (written t.size t.mutators (happened entries))
+recorded t entries = spelling (written t.size t.mutators (events_of entries))
 
 -- the text is of a trace, and the trace of a run of its scripts went out
 abbrev pub WritesRun : List ℕ → ℕ → Option (List ℕ) → Option (List ℕ) → Type 0
