@@ -21,38 +21,25 @@ Options:
   -h, --help  Print help
 """
 
-PLAY_HELP = b"""Plays a trace: writes a line for each reply
 
-Usage: gcflip play <FILE>
 
-Arguments:
-  <FILE>  The path of the file to read
+def file_help(command, about):
+    """The help of a command that takes a file and nothing else."""
+    return b"""%s
 
-Options:
-  -h, --help  Print help
-"""
-
-CHECK_HELP = b"""Checks a pair of heaps: writes the line of the verdict
-
-Usage: gcflip check <FILE>
+Usage: gcflip %s <FILE>
 
 Arguments:
   <FILE>  The path of the file to read
 
 Options:
   -h, --help  Print help
-"""
+""" % (about, command)
 
-REPORT_HELP = b"""Plays a trace: writes a report of its run
 
-Usage: gcflip report <FILE>
-
-Arguments:
-  <FILE>  The path of the file to read
-
-Options:
-  -h, --help  Print help
-"""
+PLAY_HELP = file_help(b"play", b"Plays a trace: writes a line for each reply")
+CHECK_HELP = file_help(b"check", b"Checks a pair of heaps: writes the line of the verdict")
+REPORT_HELP = file_help(b"report", b"Plays a trace: writes a report of its run")
 
 PAIR_HELP = b"""Plays a trace: writes the pair of its N-th flip
 

@@ -5,6 +5,21 @@ a run.
 """
 import textwrap
 
+# Two objects that refer to each other, and one of them to itself.
+CYCLE_OF_TWO = """
+        space 32 mutators 1
+        m 0 new r0 1 2 -> made
+        m 0 new r1 2 1 -> made
+        m 0 put r0 0 r1 -> done
+        m 0 put r1 0 r0 -> done
+        m 0 put r0 1 r0 -> done
+        m 0 get r2 r0 0 -> saw obj 2 1
+        m 0 get r2 r2 0 -> saw obj 1 2
+        m 0 same r2 r0 -> yes
+        m 0 get r3 r0 1 -> saw obj 1 2
+        m 0 same r3 r2 -> yes
+"""
+
 PLAYED = {
     "no_events_no_replies": """
         space 1 mutators 1
@@ -58,18 +73,7 @@ PLAYED = {
         m 0 new r1 0 0 -> full
         m 0 look r1 -> saw obj 0 65518
     """,
-    "cycle_of_two": """
-        space 32 mutators 1
-        m 0 new r0 1 2 -> made
-        m 0 new r1 2 1 -> made
-        m 0 put r0 0 r1 -> done
-        m 0 put r1 0 r0 -> done
-        m 0 put r0 1 r0 -> done
-        m 0 get r2 r0 0 -> saw obj 2 1
-        m 0 get r2 r2 0 -> saw obj 1 2
-        m 0 same r2 r0 -> yes
-        m 0 get r3 r0 1 -> saw obj 1 2
-        m 0 same r3 r2 -> yes
+    "cycle_of_two": CYCLE_OF_TWO + """
         m 0 get r4 r0 0 -> saw obj 2 1
         m 0 same r4 r3 -> no
         m 0 same r4 r1 -> yes
@@ -156,37 +160,27 @@ PLAYED = {
     """,
 }
 
+# The first object is garbage when the space is full.
+COLLECT_WHEN_FULL = """
+        space 9 mutators 1
+        m 0 new r0 1 2 -> made
+        m 0 new r0 1 2 -> made
+        m 0 new r1 0 0 -> full
+        c begin -> begun
+        c roots -> copied
+        c scan -> scanned
+        c scan -> scanned
+        c scan -> passed
+        c scan -> clean
+        c roots -> clean
+        c flip -> flipped 1
+        m 0 new r1 0 0 -> made
+"""
+
 # Traces in which the collector works. Each begins with `heaptrace 1`, or `heaptrace 2` where a collection has a size.
 COLLECTED = {
-    "collect_when_full": """
-        space 9 mutators 1
-        m 0 new r0 1 2 -> made
-        m 0 new r0 1 2 -> made
-        m 0 new r1 0 0 -> full
-        c begin -> begun
-        c roots -> copied
-        c scan -> scanned
-        c scan -> scanned
-        c scan -> passed
-        c scan -> clean
-        c roots -> clean
-        c flip -> flipped 1
-        m 0 new r1 0 0 -> made
-    """,
-    "second_collection": """
-        space 9 mutators 1
-        m 0 new r0 1 2 -> made
-        m 0 new r0 1 2 -> made
-        m 0 new r1 0 0 -> full
-        c begin -> begun
-        c roots -> copied
-        c scan -> scanned
-        c scan -> scanned
-        c scan -> passed
-        c scan -> clean
-        c roots -> clean
-        c flip -> flipped 1
-        m 0 new r1 0 0 -> made
+    "collect_when_full": COLLECT_WHEN_FULL,
+    "second_collection": COLLECT_WHEN_FULL + """
         c begin -> begun
         c roots -> copied
         c roots -> copied
@@ -251,18 +245,7 @@ COLLECTED = {
         m 0 look r1 -> saw obj 2 0
         m 0 look r2 -> saw obj 5 0
     """,
-    "cycle_of_two_is_carried_over": """
-        space 32 mutators 1
-        m 0 new r0 1 2 -> made
-        m 0 new r1 2 1 -> made
-        m 0 put r0 0 r1 -> done
-        m 0 put r1 0 r0 -> done
-        m 0 put r0 1 r0 -> done
-        m 0 get r2 r0 0 -> saw obj 2 1
-        m 0 get r2 r2 0 -> saw obj 1 2
-        m 0 same r2 r0 -> yes
-        m 0 get r3 r0 1 -> saw obj 1 2
-        m 0 same r3 r2 -> yes
+    "cycle_of_two_is_carried_over": CYCLE_OF_TWO + """
         c begin -> begun
         c roots -> copied
         c roots -> copied

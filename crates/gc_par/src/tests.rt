@@ -1,10 +1,12 @@
 mod altered;
 mod growths;
-mod plain;
+mod rows;
+mod slow_check;
+mod streams;
 mod texts;
 
 use crate::check_par;
-use gc_check::{CheckFault, Refusal, Yes};
+use gc_check::{CheckFault, Refusal, Yes, check};
 use gc_words::{ImageRef, NewAddr, OldAddr, Pair};
 use std::alloc::{AllocError, Global};
 use std::test::Fail;
@@ -83,6 +85,7 @@ fn first_of_many_differences(rt: HostRuntime) -> Result<(), Fail> {
     for (changes, expected) in DIFFERENCES {
         let words = changed(alloc, words.as_slice(), changes)?;
         let new = image(12289, words.as_slice(), &[]);
+        assert_eq!(rt; check(alloc, old, new, cert.as_slice()), expected);
         assert_eq!(rt; check_par(&rt, alloc, old, new, cert.as_slice()), expected);
     }
     Ok(())

@@ -1,8 +1,8 @@
-pub mod Standing
-pub mod ByNumber
-pub mod Same
-pub mod Played
+pub mod ReceiptMarks
+pub mod SeatNumbers
+pub mod Equality
+pub mod ScriptEvents
 pub mod Players
-pub mod Selecting
-pub mod Running
+pub mod SeatEntries
+pub mod RunHistory
 pub mod WorkedRows

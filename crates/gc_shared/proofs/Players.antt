@@ -10,13 +10,13 @@ use Rattle.std.specs.declared.vec.Vec.{Vec}
 use Rattle.std.specs.declared.alloc.Global.{Global}
 use Rattle.std.specs.declared.result.Result.{Result}
 use Rattle.gc_graph.specs.declared.command.Op.{Op}
-use Rattle.gc_shared.specs.Seats.{Held}
+use Rattle.gc_shared.specs.Seats.{SeatValue}
 use Rattle.gc_shared.specs.declared.fault.ThreadsFault.{ThreadsFault}
 use Rattle.gc_shared.specs.Scripts.{script_at, HasPlayed, HasTurned, HavePlayed, HaveEnded}
 use Rattle.gc_shared.specs.Players.{Player, AreToPlay, AreNext, IsToPlay}
 
 -- the first of the seats from a on, and the others
-pub next_seat : (f : ℕ → Held) (a k : ℕ) (x : Held) (xs : List Held) → map f (range_with_len a (k + 1)) ≡ x ∷ xs → (x ≡ f a) × (xs ≡ map f (range_with_len (a + 1) k))
+pub next_seat : (f : ℕ → SeatValue) (a k : ℕ) (x : SeatValue) (xs : List SeatValue) → map f (range_with_len a (k + 1)) ≡ x ∷ xs → (x ≡ f a) × (xs ≡ map f (range_with_len (a + 1) k))
 next_seat f a k x xs e = let e' = rw add-one at e in (cc, cc)
 
 -- a fact of each element by its place, of one element more
@@ -43,11 +43,11 @@ pub script_here : (scripts : List (Vec Op Global)) (m : ℕ) (v : Vec Op Global)
 script_here scripts m v lt is = ap (λ (v : Vec Op Global). v.items) is ∙ sym (get_or-map (λ (v : Vec Op Global). v.items) scripts m v [] lt)
 
 -- one seat more has played
-pub HavePlayed-more : (scripts : List (Vec Op Global)) (n : ℕ) (seats : List Held) (s : Held) → HavePlayed scripts n seats → HasPlayed n (script_at scripts n) s → HavePlayed scripts (n + 1) (seats ++ s ∷ [])
+pub HavePlayed-more : (scripts : List (Vec Op Global)) (n : ℕ) (seats : List SeatValue) (s : SeatValue) → HavePlayed scripts n seats → HasPlayed n (script_at scripts n) s → HavePlayed scripts (n + 1) (seats ++ s ∷ [])
 HavePlayed-more scripts n seats s all here = record {
   count = omega (arith, all.count, length-append seats (s ∷ []));
   each = λ m d lt.
-      let P : ℕ → Held → Type 0 = λ i t. HasPlayed i (script_at scripts i) t in
+      let P : ℕ → SeatValue → Type 0 = λ i t. HasPlayed i (script_at scripts i) t in
       at_more P seats s (λ i e below. all.each i e (omega (arith, below, all.count))) (rw all.count here) m d (omega (arith, lt, all.count, length-append seats (s ∷ [])));
 }
 
@@ -60,19 +60,19 @@ on_no_ok (Ok x) P e = cc
 on_no_ok (Err x) P e = tt
 
 -- the last seat, and those before it
-pub split_last : (f : ℕ → Held) (n : ℕ) (items rest : List Held) (x : Held) (len : ℕ) → len ≡ length items → items ≡ map f (range_with_len 0 (n + 1)) → rest ≡ take (len - 1) items → ((d : Held) → 0 < len → Some x ≡ Some (get_or items (len - 1) d)) → (rest ≡ map f (range_with_len 0 n)) × (x ≡ f n)
+pub split_last : (f : ℕ → SeatValue) (n : ℕ) (items rest : List SeatValue) (x : SeatValue) (len : ℕ) → len ≡ length items → items ≡ map f (range_with_len 0 (n + 1)) → rest ≡ take (len - 1) items → ((d : SeatValue) → 0 < len → Some x ≡ Some (get_or items (len - 1) d)) → (rest ≡ map f (range_with_len 0 n)) × (x ≡ f n)
 split_last f n items rest x len l is front back =
     let whole : len ≡ n + 1 = l ∙ ap length is ∙ length-map-range_with_len f 0 (n + 1) in
     let last : len - 1 ≡ n = omega arith in
     let b : Some x ≡ Some (get_or items (len - 1) x) = back x (omega arith) in
     let x_is : x ≡ get_or items (len - 1) x = cc in
-    let there : get_or items (len - 1) x ≡ f n = ap (λ (xs : List Held). get_or xs (len - 1) x) is ∙ get_or-map-range_with_len f 0 (n + 1) (len - 1) n x (omega arith) (omega arith) in (
-      front ∙ ap (λ (xs : List Held). take (len - 1) xs) is ∙ ap (λ (k : ℕ). take k (map f (range_with_len 0 (n + 1)))) last ∙ take-map-range_with_len f 0 (n + 1) n (omega arith),
+    let there : get_or items (len - 1) x ≡ f n = ap (λ (xs : List SeatValue). get_or xs (len - 1) x) is ∙ get_or-map-range_with_len f 0 (n + 1) (len - 1) n x (omega arith) (omega arith) in (
+      front ∙ ap (λ (xs : List SeatValue). take (len - 1) xs) is ∙ ap (λ (k : ℕ). take k (map f (range_with_len 0 (n + 1)))) last ∙ take-map-range_with_len f 0 (n + 1) n (omega arith),
       x_is ∙ there,
     )
 
 -- all have ended
-pub ended : (scripts : List (Vec Op Global)) (turns : ℕ) (seats : List Held) (s : Held) → HavePlayed scripts (length scripts) seats → HasTurned (length scripts) turns s → HaveEnded scripts turns (seats ++ s ∷ [])
+pub ended : (scripts : List (Vec Op Global)) (turns : ℕ) (seats : List SeatValue) (s : SeatValue) → HavePlayed scripts (length scripts) seats → HasTurned (length scripts) turns s → HaveEnded scripts turns (seats ++ s ∷ [])
 ended scripts turns seats s all one = record {
   count = omega (arith, all.count, length-append seats (s ∷ []));
   each = λ m d lt. let inside : m < length seats = omega (arith, lt, all.count) in rw (get_or-append seats (s ∷ []) d m inside) (all.each m d lt);

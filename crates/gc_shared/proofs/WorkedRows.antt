@@ -2,23 +2,23 @@
 use Rattle.std.proofs.Common.{◌≡◌, ℕ, zero, suc, ◌<◌, [], ◌∷◌, refl, arith, All}
 use Rattle.std.specs.List.{flat_map}
 use Rattle.std.specs.List.Sorted.{IsStrictlyIncreasing}
-use Rattle.gc_shared.specs.Seats.{Held}
-use Rattle.gc_shared.specs.Receipts.{IsTold, times_at, places_of}
+use Rattle.gc_shared.specs.Seats.{SeatValue}
+use Rattle.gc_shared.specs.Receipts.{IsRecorded, times_at, places_of}
 use Rattle.gc_shared.specs.Closing.{AllStand, SeatsStand}
 use Rattle.gc_shared.specs.Rows.{Rows, history, first, second, collector, cleared}
-use Rattle.gc_shared.proofs.Standing.{all_told, rising}
+use Rattle.gc_shared.proofs.ReceiptMarks.{all_recorded, rising}
 
 first_stands : AllStand history [] 0 first.receipts
-first_stands = (record { told = refl; above = omega arith; apart = refl }, (record { told = refl; above = omega arith; apart = refl }, tt))
+first_stands = (record { recorded = refl; above = omega arith; apart = refl }, (record { recorded = refl; above = omega arith; apart = refl }, tt))
 
 second_stands : AllStand history [] 0 second.receipts
-second_stands = (record { told = refl; above = omega arith; apart = refl }, tt)
+second_stands = (record { recorded = refl; above = omega arith; apart = refl }, tt)
 
 collector_stands : AllStand history [] 0 collector.receipts
-collector_stands = (record { told = refl; above = omega arith; apart = refl }, tt)
+collector_stands = (record { recorded = refl; above = omega arith; apart = refl }, tt)
 
 -- what holds of the three seats
-of_three : (P : Held → Type 0) → P collector → P first → P second → All P (collector ∷ first ∷ second ∷ [])
+of_three : (P : SeatValue → Type 0) → P collector → P first → P second → All P (collector ∷ first ∷ second ∷ [])
 of_three P c f s zero d lt = c
 of_three P c f s (suc zero) d lt = f
 of_three P c f s (suc (suc zero)) d lt = s
@@ -38,7 +38,7 @@ alone stands (suc k) lt = absurd (omega arith)
 pub rows : Rows
 rows = record {
   agree = record {
-    told = of_three (λ seat. All (IsTold history) seat.receipts) (all_told history [] 0 collector.receipts collector_stands) (all_told history [] 0 first.receipts first_stands) (all_told history [] 0 second.receipts second_stands);
+    recorded = of_three (λ seat. All (IsRecorded history) seat.receipts) (all_recorded history [] 0 collector.receipts collector_stands) (all_recorded history [] 0 first.receipts first_stands) (all_recorded history [] 0 second.receipts second_stands);
     rising = of_three (λ seat. IsStrictlyIncreasing (places_of seat.receipts)) (rising history [] 0 collector.receipts collector_stands) (rising history [] 0 first.receipts first_stands) (rising history [] 0 second.receipts second_stands);
     once = each_once;
   };
@@ -47,7 +47,7 @@ rows = record {
   stranger = record {
     within = omega arith;
     before = λ n lt. absurd (omega arith);
-    first = record { which = cleared 0; here = refl; before = tt; torn = λ stands. let none = stands.told in cc };
+    first = record { which = cleared 0; here = refl; before = tt; torn = λ stands. let none = stands.recorded in cc };
   };
   falling = record {
     within = omega arith;
@@ -55,7 +55,7 @@ rows = record {
     first = record {
       which = cleared 0;
       here = refl;
-      before = (record { told = refl; above = omega arith; apart = refl }, tt);
+      before = (record { recorded = refl; above = omega arith; apart = refl }, tt);
       torn = λ stands. absurd (omega (arith, stands.above));
     };
   };

@@ -7,26 +7,26 @@ use Rattle.gc_world.specs.World.{Past}
 use Rattle.gc_shared.specs.declared.seat.Receipt.{Receipt}
 use Rattle.gc_shared.specs.declared.fault.CloseKind.{CloseKind}
 use Rattle.gc_shared.specs.declared.fault.CloseKind.TheVariants.{Seats, Torn, Extra, NoMemory}
-use Rattle.gc_shared.specs.Seats.{Held, Opening, count_of_seats}
-use Rattle.gc_shared.specs.Receipts.{IsTold, times_at, ReceiptsAgree}
+use Rattle.gc_shared.specs.Seats.{SeatValue, Opening, count_of_seats}
+use Rattle.gc_shared.specs.Receipts.{IsRecorded, times_at, ReceiptsAgree}
 
 -- ---- seats by number
 
 -- the receipts of the seat with this number
-abbrev pub receipts_of : List Held → ℕ → List Receipt
+abbrev pub receipts_of : List SeatValue → ℕ → List Receipt
 receipts_of seats n = option_map_or (λ seat. seat.receipts) (find (λ seat. seat.number == n) seats) []
 
 -- the receipts of all seats with lower numbers, seat by seat
-abbrev pub receipts_below : List Held → ℕ → List Receipt
+abbrev pub receipts_below : List SeatValue → ℕ → List Receipt
 receipts_below seats zero = []
 receipts_below seats (suc n) = receipts_below seats n ++ receipts_of seats n
 
 -- each number below `count` stands on one seat
-abbrev pub HasEachOnce : List Held → ℕ → Type 0
+abbrev pub HasEachOnce : List SeatValue → ℕ → Type 0
 HasEachOnce seats count = (n : ℕ) → n < count → count_by (λ seat. seat.number == n) seats ≡ 1
 
 -- the seats have each number of the opening once, and the world is of its size and mutators
-pub record IsSeated (o : Opening) (w : Past) (seats : List Held) : Type 0 where
+pub record IsSeated (o : Opening) (w : Past) (seats : List SeatValue) : Type 0 where
   pub size : w.size ≡ o.size
   pub mutators : w.mutators ≡ o.mutators
   pub count : length seats ≡ count_of_seats o
@@ -36,7 +36,7 @@ pub record IsSeated (o : Opening) (w : Past) (seats : List Held) : Type 0 where
 
 -- the receipt's place has its event and answer, is at least `low`, and is no place of the earlier seats
 pub record Stands (history : List Entry) (earlier : List Receipt) (low : ℕ) (r : Receipt) : Type 0 where
-  pub told : IsTold history r
+  pub recorded : IsRecorded history r
   pub above : low ≤ r.place
   pub apart : times_at r.place earlier ≡ 0
 
@@ -46,7 +46,7 @@ AllStand history earlier low [] = ⊤
 AllStand history earlier low (r ∷ rs) = Stands history earlier low r × AllStand history earlier (r.place + 1) rs
 
 -- all receipts of the seats below `count` stand
-abbrev pub SeatsStand : List Entry → List Held → ℕ → Type 0
+abbrev pub SeatsStand : List Entry → List SeatValue → ℕ → Type 0
 SeatsStand history seats count = (n : ℕ) → n < count → AllStand history (receipts_below seats n) 0 (receipts_of seats n)
 
 -- one above the place of the last receipt, and `low` where there is none
@@ -64,23 +64,23 @@ pub record IsFirstTorn (history : List Entry) (earlier rs : List Receipt) (n : �
 -- ---- answers
 
 -- what Ok says
-pub record IsWhole (o : Opening) (w : Past) (seats : List Held) : Type 0 where
+pub record IsWhole (o : Opening) (w : Past) (seats : List SeatValue) : Type 0 where
   pub seated : IsSeated o w seats
   pub agree : ReceiptsAgree w.entries seats
 
 -- receipt n of this seat is the first that does not stand
-pub record IsTorn (history : List Entry) (seats : List Held) (count seat n : ℕ) : Type 0 where
+pub record IsTorn (history : List Entry) (seats : List SeatValue) (count seat n : ℕ) : Type 0 where
   pub within : seat < count
   pub before : SeatsStand history seats seat
   pub first : IsFirstTorn history (receipts_below seats seat) (receipts_of seats seat) n
 
 -- all receipts stand, and the history has more events
-pub record IsExtra (history : List Entry) (seats : List Held) (count : ℕ) : Type 0 where
+pub record IsExtra (history : List Entry) (seats : List SeatValue) (count : ℕ) : Type 0 where
   pub all : SeatsStand history seats count
   pub fewer : length (receipts_below seats count) < length history
 
 -- the first fault of the seats handed in against the world handed back
-abbrev pub IsFirstFault : Opening → Past → List Held → CloseKind → Type 0
+abbrev pub IsFirstFault : Opening → Past → List SeatValue → CloseKind → Type 0
 IsFirstFault o w seats Seats = IsSeated o w seats → ⊥
 IsFirstFault o w seats (Torn seat n) = IsSeated o w seats × IsTorn w.entries seats (count_of_seats o) seat n
 IsFirstFault o w seats Extra = IsSeated o w seats × IsExtra w.entries seats (count_of_seats o)

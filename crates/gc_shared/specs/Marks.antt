@@ -3,8 +3,8 @@ use Rattle.std.specs.Prelude.{◌≡◌, ℕ, ◌<◌, ◌≤◌, Bool, false, i
 use Rattle.std.specs.List.Sorted.{IsStrictlyIncreasing}
 use Rattle.gc_world.specs.declared.entry.Entry.{Entry}
 use Rattle.gc_shared.specs.declared.seat.Receipt.{Receipt}
-use Rattle.gc_shared.specs.Seats.{Held}
-use Rattle.gc_shared.specs.Receipts.{IsTold, times_at, places_of}
+use Rattle.gc_shared.specs.Seats.{SeatValue}
+use Rattle.gc_shared.specs.Receipts.{IsRecorded, times_at, places_of}
 use Rattle.gc_shared.specs.Closing.{receipts_of, receipts_below, IsTorn, IsExtra}
 use Rattle.gc_shared.specs.declared.fault.CloseKind.{CloseKind}
 use Rattle.gc_shared.specs.declared.fault.CloseKind.TheVariants.{Seats, Torn, Extra, NoMemory}
@@ -16,18 +16,18 @@ pub record IsMarked (marks : List Bool) (rs : List Receipt) : Type 0 where
 
 -- the receipt's place has its event and answer, is at least `low`, and is not marked
 pub record IsFree (history : List Entry) (marks : List Bool) (low : ℕ) (r : Receipt) : Type 0 where
-  pub told : IsTold history r
+  pub recorded : IsRecorded history r
   pub above : low ≤ r.place
   pub free : slice_index_or marks r.place false ≡ false
 
 -- the receipts of the seats with numbers below `count` agree with the history
-pub record AgreeByNumber (history : List Entry) (seats : List Held) (count : ℕ) : Type 0 where
-  pub told : (n : ℕ) → n < count → All (IsTold history) (receipts_of seats n)
+pub record AgreeByNumber (history : List Entry) (seats : List SeatValue) (count : ℕ) : Type 0 where
+  pub recorded : (n : ℕ) → n < count → All (IsRecorded history) (receipts_of seats n)
   pub rising : (n : ℕ) → n < count → IsStrictlyIncreasing (places_of (receipts_of seats n))
   pub once : (place : ℕ) → place < length history → times_at place (receipts_below seats count) ≡ 1
 
 -- what is wrong with the receipts of seats that have each number once
-abbrev pub IsFault : List Entry → List Held → ℕ → CloseKind → Type 0
+abbrev pub IsFault : List Entry → List SeatValue → ℕ → CloseKind → Type 0
 IsFault history seats count Seats = ⊥
 IsFault history seats count (Torn seat n) = IsTorn history seats count seat n
 IsFault history seats count Extra = IsExtra history seats count

@@ -5,13 +5,13 @@ use Rattle.std.specs.declared.alloc.Global.{Global}
 use Rattle.std.specs.declared.result.Result.{Result}
 use Rattle.std.specs.declared.thread.PromisedHandle.{PromisedHandle}
 use Rattle.gc_graph.specs.declared.command.Op.{Op}
-use Rattle.gc_shared.specs.Seats.{Held}
+use Rattle.gc_shared.specs.Seats.{SeatValue}
 use Rattle.gc_shared.specs.declared.fault.ThreadsFault.{ThreadsFault}
 use Rattle.gc_shared.specs.declared.threads.Plays.{Plays}
 use Rattle.gc_shared.specs.Scripts.{script_at}
 
 abbrev pub Player : Type 0
-Player = PromisedHandle (Result Held ThreadsFault) Plays
+Player = PromisedHandle (Result SeatValue ThreadsFault) Plays
 
 -- the thread is to play script m with seat m
 abbrev pub IsToPlay : List (Vec Op Global) → ℕ → Player → Type 0

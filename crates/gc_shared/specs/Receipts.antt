@@ -5,11 +5,11 @@ use Rattle.std.specs.List.Sorted.{IsStrictlyIncreasing}
 use Rattle.gc_world.specs.declared.entry.Entry.{Entry}
 use Rattle.gc_world.specs.World.{entry_of}
 use Rattle.gc_shared.specs.declared.seat.Receipt.{Receipt}
-use Rattle.gc_shared.specs.Seats.{Held}
+use Rattle.gc_shared.specs.Seats.{SeatValue}
 
 -- the receipt's place has its event and answer
-abbrev pub IsTold : List Entry → Receipt → Type 0
-IsTold history r = slice_get history r.place ≡ Some (entry_of r.event r.answer)
+abbrev pub IsRecorded : List Entry → Receipt → Type 0
+IsRecorded history r = slice_get history r.place ≡ Some (entry_of r.event r.answer)
 
 -- how many of the receipts have this place
 abbrev pub times_at : ℕ → List Receipt → ℕ
@@ -20,7 +20,7 @@ places_of rs = map (λ r. r.place) rs
 
 -- Each receipt has the event and answer of its place, the places of a seat rise, and each place of the history
 -- stands on one receipt of all.
-pub record ReceiptsAgree (history : List Entry) (seats : List Held) : Type 0 where
-  pub told : All (λ seat. All (IsTold history) seat.receipts) seats
+pub record ReceiptsAgree (history : List Entry) (seats : List SeatValue) : Type 0 where
+  pub recorded : All (λ seat. All (IsRecorded history) seat.receipts) seats
   pub rising : All (λ seat. IsStrictlyIncreasing (places_of seat.receipts)) seats
   pub once : (place : ℕ) → place < length history → times_at place (flat_map (λ seat. seat.receipts) seats) ≡ 1

@@ -11,7 +11,7 @@ use Rattle.gc_copy.specs.declared.event.Event.TheVariants.{Mutate, Collect}
 use Rattle.gc_copy.specs.declared.event.Answer.TheVariants.{Mutator, Useful}
 use Rattle.gc_world.specs.World.{entry_of}
 use Rattle.gc_shared.specs.declared.seat.Receipt.{Receipt}
-use Rattle.gc_shared.specs.Seats.{Held, receipt}
+use Rattle.gc_shared.specs.Seats.{SeatValue, receipt}
 use Rattle.gc_shared.specs.Receipts.{ReceiptsAgree}
 use Rattle.gc_shared.specs.Closing.{IsTorn, IsExtra}
 use Rattle.gc_shared.specs.Scripts.{commands_of, steps_of}
@@ -34,17 +34,17 @@ cleared place = receipt place (Mutate 0 (Nil r0)) (Mutator Done)
 abbrev pub looked : ℕ → Receipt
 looked place = receipt place (Mutate 0 (Look r0)) (Mutator (Saw views.Nil))
 
-abbrev pub first_with : List Receipt → Held
+abbrev pub first_with : List Receipt → SeatValue
 first_with receipts = record { number = 0; is_mutator = true; receipts = receipts }
 
 -- the three seats of the history
-abbrev pub first : Held
+abbrev pub first : SeatValue
 first = first_with (cleared 0 ∷ looked 3 ∷ [])
 
-abbrev pub second : Held
+abbrev pub second : SeatValue
 second = record { number = 1; is_mutator = true; receipts = receipt 2 (Mutate 1 (Nil r0)) (Mutator Done) ∷ [] }
 
-abbrev pub collector : Held
+abbrev pub collector : SeatValue
 collector = record { number = 2; is_mutator = false; receipts = receipt 1 (Collect Begin) (Useful Begun) ∷ [] }
 
 pub record Rows : Type 0 where

@@ -19,20 +19,20 @@ abbrev pub count_of_seats : Opening → ℕ
 count_of_seats o = o.mutators + o.collectors
 
 -- a Seat as contracts see it
-pub record Held : Type 0 where
+pub record SeatValue : Type 0 where
   pub number : ℕ
   pub is_mutator : Bool
   pub receipts : List Receipt
 
 -- the seat with this number, as an opening with so many mutators gives it
-abbrev pub fresh : ℕ → ℕ → Held
+abbrev pub fresh : ℕ → ℕ → SeatValue
 fresh mutators n = record { number = n; is_mutator = nat_lt n mutators; receipts = [] }
 
 abbrev pub receipt : ℕ → Event → Answer → Receipt
 receipt place event answer = record { place = place; event = event; answer = answer }
 
 -- the seat has got one receipt, at some place, with this event and answer
-abbrev pub AddsReceipt : Held → Held → Event → Answer → Type 0
+abbrev pub AddsReceipt : SeatValue → SeatValue → Event → Answer → Type 0
 AddsReceipt before after event answer =
     (place : ℕ) × (after ≡ record before { receipts = before.receipts ++ receipt place event answer ∷ [] })
 

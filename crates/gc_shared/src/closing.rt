@@ -3,7 +3,7 @@ ghost use Rattle.std.specs.List.{find};
 ghost use Rattle.std.specs.Option.{option_copied};
 ghost use Rattle.gc_world.specs.World.{entry_of};
 ghost use Rattle.gc_shared.specs.Seats.{opening};
-ghost use Rattle.gc_shared.specs.Receipts.{IsTold};
+ghost use Rattle.gc_shared.specs.Receipts.{IsRecorded};
 ghost use Rattle.gc_shared.specs.Closing.{IsSeated, IsWhole, IsFirstFault, IsFirstTorn, AllStand, HasEachOnce, receipts_of, receipts_below};
 ghost use Rattle.gc_shared.specs.Marks.{IsMarked, IsFree, IsFault, AgreeByNumber};
 
@@ -141,12 +141,12 @@ fn is_free(history: &[Entry], marks: &[bool], low: usize, receipt: &Receipt) -> 
     ensures free { IsTrue result ↔ IsFree history.now marks.now low receipt.now }
     ensures within { IsTrue result → receipt.now.place < length marks.now }
 {
-    low <= receipt.place && is_told(history, receipt) && !marks[receipt.place]
+    low <= receipt.place && is_recorded(history, receipt) && !marks[receipt.place]
 }
 
 // Whether the receipt's place has its event and answer.
-fn is_told(history: &[Entry], receipt: &Receipt) -> bool
-    ensures told { IsTrue result ↔ IsTold history.now receipt.now }
+fn is_recorded(history: &[Entry], receipt: &Receipt) -> bool
+    ensures recorded { IsTrue result ↔ IsRecorded history.now receipt.now }
     ensures within { IsTrue result → receipt.now.place < length history.now }
 {
     receipt.place < history.len() && is_of(&history[receipt.place], receipt)

@@ -5,7 +5,7 @@ mod closing;
 mod fault;
 mod gate;
 mod laws;
-mod playing;
+mod script;
 mod seat;
 mod shared;
 mod threads;

@@ -25,9 +25,9 @@ pub struct Seat {
 }
 
 impl Model for Seat {
-    ghost use Rattle.gc_shared.specs.Seats.{Held};
+    ghost use Rattle.gc_shared.specs.Seats.{SeatValue};
 
-    ghost Value = { Held };
+    ghost Value = { SeatValue };
 
     ghost view = { λ s. record {
       number = s.number;

@@ -6,7 +6,7 @@ ghost use Rattle.gc_shared.specs.Players.{AreToPlay};
 
 use crate::fault::ThreadsFault;
 use crate::gate::Gate;
-use crate::playing::{play, turn};
+use crate::script::{play, turn};
 use crate::seat::Seat;
 use crate::shared::Shared;
 use gc_graph::Op;

@@ -1,10 +1,11 @@
-//! What two flips compared, with each number of theirs changed in turn: all checks give the slow one's answer.
+//! The pairs of two flips, with each number changed in turn: all checks give the slow one's answer.
 
-use super::plain::plain_check;
-use super::{image, pair};
-use crate::{check_par, check_text_par};
+use super::slow_check::slow_check;
+use super::texts::TEXT_CHECKS;
+use super::{changed, image, pair, refused};
+use crate::check_par;
 use gc_cert::{pair_fits, write_pair};
-use gc_check::{CheckFault, RunFault, Verdict, Yes, check, check_text};
+use gc_check::{CheckFault, Refusal, RunFault, Verdict, Yes, check};
 use gc_graph::{Sink, Source};
 use gc_words::{ImageRef, NewAddr, OldAddr, Pair};
 use std::alloc::{AllocError, Global};
@@ -71,29 +72,38 @@ fn as_verdict(answer: Result<Yes, CheckFault>) -> Result<Verdict, RunFault> {
     }
 }
 
-/// All checks give one answer, those of texts as a verdict.
-fn expect_agreement(
+/// All checks give this answer, those of texts as a verdict.
+fn expect_answer(
     rt: &(impl Threads + Sync + Abort),
     alloc: Global,
     flip: Flip,
+    expected: Result<Yes, CheckFault>,
 ) -> Result<(), Fail> {
     let Flip { old, new, pairs } = flip;
     assert!(rt; pair_fits(old, new, pairs));
     assert!(rt; pairs.len() <= 2);
-    let expected = plain_check(old, new, pairs);
+    assert_eq!(rt; slow_check(old, new, pairs), expected);
     assert_eq!(rt; check(alloc, old, new, pairs), expected);
     assert_eq!(rt; check_par(rt, alloc, old, new, pairs), expected);
 
     let mut text = Sink::new(Vec::new(alloc));
     write_pair(&mut text, old, new, pairs)?;
     let text = text.into_inner();
-    let mut line = Sink::new(Vec::new(alloc));
-    let verdict = check_text(alloc, &mut Source::new(text.as_slice()), &mut line);
-    assert_eq!(rt; verdict, as_verdict(expected));
-    let mut line = Sink::new(Vec::new(alloc));
-    let verdict = check_text_par(rt, alloc, &mut Source::new(text.as_slice()), &mut line);
-    assert_eq!(rt; verdict, as_verdict(expected));
+    for check in TEXT_CHECKS {
+        let mut line = Sink::new(Vec::new(alloc));
+        let verdict = check.run(rt, alloc, &mut Source::new(text.as_slice()), &mut line);
+        assert_eq!(rt; verdict, as_verdict(expected));
+    }
     Ok(())
+}
+
+/// All checks give the slow one's answer.
+fn expect_agreement(
+    rt: &(impl Threads + Sync + Abort),
+    alloc: Global,
+    flip: Flip,
+) -> Result<(), Fail> {
+    expect_answer(rt, alloc, flip, slow_check(flip.old, flip.new, flip.pairs))
 }
 
 /// The images with each word of either in turn changed.
@@ -160,26 +170,64 @@ fn cycle_of_two(rt: HostRuntime) -> Result<(), Fail> {
         new: both,
         pairs: &[pair(1, 1), pair(5, 5)],
     };
-    let answer = check_par(&rt, rt.alloc(), flip.old, flip.new, flip.pairs);
-    assert_eq!(rt; answer, Ok(Yes { pairs: 2 }));
+    expect_answer(&rt, rt.alloc(), flip, Ok(Yes { pairs: 2 }))?;
     expect_agreement_on_words(&rt, rt.alloc(), flip)?;
     expect_agreement_on_roots(&rt, rt.alloc(), flip)?;
     expect_agreement_on_pairs(&rt, rt.alloc(), flip)
 }
 
-/// One object is kept, at another address, and one is left behind.
+/// One object is kept, at another address, and one is left behind. The first own slot alone is not nil.
+fn one_kept<'a>(old_roots: &'a [u64; 32], new_roots: &'a [u64; 32]) -> Flip<'a> {
+    Flip {
+        old: image(9, &[0, 16842754, 0, 0, 0, 16842754, 1, 0, 0], old_roots),
+        new: image(9, &[0, 16842754, 5, 0, 0], new_roots),
+        pairs: &[Pair {
+            old: OldAddr(5),
+            new: NewAddr(1),
+        }],
+    }
+}
+
 #[test]
 fn one_of_two_is_kept(rt: HostRuntime) -> Result<(), Fail> {
-    let old_roots = roots(10, 0, 0, 0);
-    let new_roots = roots(2, 0, 0, 0);
-    let flip = Flip {
-        old: image(9, &[0, 16842754, 0, 0, 0, 16842754, 1, 0, 0], &old_roots),
-        new: image(9, &[0, 16842754, 5, 0, 0], &new_roots),
-        pairs: &[pair(5, 1)],
-    };
-    let answer = check_par(&rt, rt.alloc(), flip.old, flip.new, flip.pairs);
-    assert_eq!(rt; answer, Ok(Yes { pairs: 1 }));
+    let (old_roots, new_roots) = (roots(10, 0, 0, 0), roots(2, 0, 0, 0));
+    let flip = one_kept(&old_roots, &new_roots);
+    expect_answer(&rt, rt.alloc(), flip, Ok(Yes { pairs: 1 }))?;
     expect_agreement_on_words(&rt, rt.alloc(), flip)?;
     expect_agreement_on_roots(&rt, rt.alloc(), flip)?;
     expect_agreement_on_pairs(&rt, rt.alloc(), flip)
+}
+
+/// Six forgeries of that pair.
+#[test]
+fn forgeries_get_their_answers(rt: HostRuntime) -> Result<(), Fail> {
+    let alloc = rt.alloc();
+    let (old_roots, new_roots) = (roots(10, 0, 0, 0), roots(2, 0, 0, 0));
+    let flip = one_kept(&old_roots, &new_roots);
+    for (place, word, expected) in [
+        (2, 0, Ok(Yes { pairs: 1 })),
+        (3, 1, refused(Refusal::FieldDiffers { k: 0, i: 0 })),
+        (1, 16842755, refused(Refusal::NewShape { at: 1 })),
+    ] {
+        let words = changed(alloc, flip.new.words, &[(place, word)])?;
+        let words = words.as_slice();
+        let new = ImageRef { words, ..flip.new };
+        expect_answer(&rt, alloc, Flip { new, ..flip }, expected)?;
+    }
+
+    let words = changed(alloc, flip.old.words, &[(5, 16842753)])?;
+    let words = words.as_slice();
+    let old = ImageRef { words, ..flip.old };
+    let forged = Flip { old, ..flip };
+    expect_answer(&rt, alloc, forged, refused(Refusal::OldShape { at: 8 }))?;
+
+    for (forged, refusal) in [
+        (pair(1, 1), Refusal::RootDiffers { slot: 16 }),
+        (pair(5, 2), Refusal::NewNotStart { k: 0 }),
+    ] {
+        let pairs = [forged];
+        let pairs = pairs.as_slice();
+        expect_answer(&rt, alloc, Flip { pairs, ..flip }, refused(refusal))?;
+    }
+    Ok(())
 }

@@ -57,6 +57,25 @@ fn two_numbers(alloc: Global) -> Result<Vec<Vec<Op>>, Fail>
     Ok(two(alloc, &[first], &[second])?)
 }
 
+/// The first mutator writes 5 into the field of a new shared object, and the second one reads the field.
+pub(super) fn write_and_read() -> Result<([Op; 3], [Op; 1]), Fail> {
+    let g0 = Slot::shared(0).ok_or("slot")?;
+    let r0 = Slot::own(0).ok_or("slot")?;
+    let r1 = Slot::own(1).ok_or("slot")?;
+    let five = Number::new(5).ok_or("number")?;
+    let writes = [
+        Op::New {
+            d: g0,
+            kind: 1,
+            len: 1,
+        },
+        Op::Num { d: r0, n: five },
+        Op::Put { s: g0, i: 0, t: r0 },
+    ];
+    let reads = [Op::Get { d: r1, s: g0, i: 0 }];
+    Ok((writes, reads))
+}
+
 /// The second mutator's first command waits for the first one's third.
 #[derive(Drop)]
 struct WaitsForWrite<'a, R> {
@@ -83,20 +102,7 @@ impl<'a, R: Clock> Gate for WaitsForWrite<'a, R> {
 #[test]
 fn a_write_is_seen(rt: HostRuntime) -> Result<(), Fail> {
     let _named = View::Nil;
-    let g0 = Slot::shared(0).ok_or("slot")?;
-    let r0 = Slot::own(0).ok_or("slot")?;
-    let r1 = Slot::own(1).ok_or("slot")?;
-    let five = Number::new(5).ok_or("number")?;
-    let writes = [
-        Op::New {
-            d: g0,
-            kind: 1,
-            len: 1,
-        },
-        Op::Num { d: r0, n: five },
-        Op::Put { s: g0, i: 0, t: r0 },
-    ];
-    let reads = [Op::Get { d: r1, s: g0, i: 0 }];
+    let (writes, reads) = write_and_read()?;
     let scripts = two(rt.alloc(), &writes, &reads)?;
     let gate = WaitsForWrite {
         rt: &rt,
@@ -106,6 +112,7 @@ fn a_write_is_seen(rt: HostRuntime) -> Result<(), Fail> {
     assert_eq!(rt; world.history().len(), 44);
     assert!(rt; answers_of(&world, 0, Answer::Mutator(Reply::Made)) == 1);
     assert!(rt; answers_of(&world, 0, Answer::Mutator(Reply::Done)) == 2);
+    let five = Number::new(5).ok_or("number")?;
     let saw_five = Answer::Mutator(Reply::Saw(View::Num(five)));
     assert!(rt; answers_of(&world, 1, saw_five) == 1);
     Ok(())

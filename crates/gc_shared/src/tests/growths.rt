@@ -4,10 +4,10 @@
 ghost use Rattle.std.specs.Prelude.{◌≡◌};
 ghost use Rattle.gc_shared.specs.Seats.{HasSize};
 
-use super::gates::two;
+use super::gates::{two, write_and_read};
 use crate::{CallFault, CloseKind, Gate, Seat, Shared, ThreadsFault, run_threads};
 use gc_copy::{Step, StepReply};
-use gc_graph::{NoMemory, Number, Op, Reply, Slot, View};
+use gc_graph::{NoMemory, Op, Reply, Slot, View};
 use std::alloc::Global;
 use std::process::Abort;
 use std::sync::Wait;
@@ -116,20 +116,7 @@ impl Gate for Open {
 #[test]
 fn scripts_run_or_want_memory(rt: HostRuntime) -> Result<(), Fail> {
     let _named = View::Nil;
-    let g0 = Slot::shared(0).ok_or("slot")?;
-    let r0 = Slot::own(0).ok_or("slot")?;
-    let r1 = Slot::own(1).ok_or("slot")?;
-    let five = Number::new(5).ok_or("number")?;
-    let writes = [
-        Op::New {
-            d: g0,
-            kind: 1,
-            len: 1,
-        },
-        Op::Num { d: r0, n: five },
-        Op::Put { s: g0, i: 0, t: r0 },
-    ];
-    let reads = [Op::Get { d: r1, s: g0, i: 0 }];
+    let (writes, reads) = write_and_read()?;
     let Ok(scripts) = two(rt.alloc(), &writes, &reads) else {
         return Ok(());
     };

@@ -1,4 +1,4 @@
-use Rattle.gc_shared.proofs.ByNumber.{first_fault_of}
+use Rattle.gc_shared.proofs.SeatNumbers.{first_fault_of}
 use Rattle.gc_shared.specs.Seats.{opening}
 use Rattle.gc_shared.proofs.closing.fault.Goals as goal
 

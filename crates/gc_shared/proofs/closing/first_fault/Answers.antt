@@ -1,5 +1,5 @@
 use Rattle.std.proofs.Common.{◌≡◌, ◌≤◌, arith, count_by, length}
-use Rattle.gc_shared.proofs.Standing.{agrees}
+use Rattle.gc_shared.proofs.ReceiptMarks.{agrees}
 use Rattle.gc_shared.proofs.closing.first_fault.Goals as goal
 
 pub returns : goal.returns

@@ -1,6 +1,6 @@
 use Rattle.std.proofs.Common.{length-set, ◌∙◌, take_all}
 use Rattle.gc_shared.specs.Closing.{receipts_below}
-use Rattle.gc_shared.proofs.Standing.{step, torn_here}
+use Rattle.gc_shared.proofs.ReceiptMarks.{step, torn_here}
 use Rattle.gc_shared.proofs.closing.first_torn.Goals as goal
 
 pub returns-then-not-is_free : goal.returns-then-not-is_free

@@ -1,6 +1,6 @@
 use Rattle.std.proofs.Common.{◌≡◌, ap, refl, sym, ◌∙◌}
 use Rattle.gc_world.specs.declared.entry.Entry.{Entry}
-use Rattle.gc_shared.proofs.Same.{same_event, same_answer}
+use Rattle.gc_shared.proofs.Equality.{same_event, same_answer}
 use Rattle.gc_shared.proofs.closing.is_of.Goals as goal
 
 pub returns-then-eq : goal.returns-then-eq

@@ -1,6 +1,6 @@
 use Rattle.std.proofs.Common.{◌≡◌, length, map, ap, vec_len}
 use Rattle.std.specs.List.{range_with_len}
-use Rattle.gc_shared.specs.Seats.{Held, fresh}
+use Rattle.gc_shared.specs.Seats.{SeatValue, fresh}
 use Rattle.gc_shared.specs.Scripts.{HasTurned, HavePlayed}
 use Rattle.gc_shared.proofs.Players.{split_last, ended}
 use Rattle.gc_shared.proofs.threads.run_all.Goals as goal
@@ -13,7 +13,7 @@ pub start_players-all_started-requires-clause-seats : goal.start_players-all_sta
 start_players-all_started-requires-clause-seats g c κs within = (split g (goal.at.start_players-all_started-requires-clause-seats g c).In-Some).0
 
 pub start_collector-requires-after_bounds : goal.start_collector-requires-after_bounds
-start_collector-requires-after_bounds g c κs within = ap (λ (h : Held). h.receipts) (split g (goal.at.start_collector-requires-after_bounds g c).In-Some).1
+start_collector-requires-after_bounds g c κs within = ap (λ (h : SeatValue). h.receipts) (split g (goal.at.start_collector-requires-after_bounds g c).In-Some).1
 
 pub returns : goal.returns
 returns g c =

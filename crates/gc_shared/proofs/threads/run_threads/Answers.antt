@@ -4,7 +4,7 @@ use Rattle.std.specs.declared.alloc.Global.{Global}
 use Rattle.gc_graph.specs.declared.command.Op.{Op}
 use Rattle.gc_shared.specs.Seats.{Opening}
 use Rattle.gc_shared.specs.Scripts.{HaveEnded}
-use Rattle.gc_shared.proofs.Running.{has_run}
+use Rattle.gc_shared.proofs.RunHistory.{has_run}
 use Rattle.gc_shared.proofs.threads.run_threads.Goals as goal
 
 pub returns-in-Ok-close : goal.returns-in-Ok-close

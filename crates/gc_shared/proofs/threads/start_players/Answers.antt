@@ -2,7 +2,7 @@ use Rattle.std.proofs.Common.{◌≡◌, ℕ, ◌+◌, ◌<◌, arith, sym, ap, 
 use Rattle.std.proofs.lemmas.List.FromFn.{length-map-range_with_len}
 use Rattle.std.specs.List.{range_with_len}
 use Rattle.std.specs.Vec.Iter.{into_iter_items, into_iter_len}
-use Rattle.gc_shared.specs.Seats.{Held, fresh}
+use Rattle.gc_shared.specs.Seats.{SeatValue, fresh}
 use Rattle.gc_shared.proofs.Players.{next_seat, AreToPlay-more, script_here}
 use Rattle.gc_shared.proofs.threads.start_players.Goals as goal
 use Rattle.gc_shared.proofs.threads.start_players.Goals.{After-as_slice-script}
@@ -29,7 +29,7 @@ turn g c =
     next_seat (fresh (length c.args.scripts.now)) (vec_len c.loop-seat.players) (into_iter_len c.next.new.self) c.in-Some.seat (into_iter_items c.next.new.self) was
 
 pub start_player-requires-after_bounds : goal.start_player-requires-after_bounds
-start_player-requires-after_bounds g c κs within = ap (λ (h : Held). h.receipts) (turn g c).0
+start_player-requires-after_bounds g c κs within = ap (λ (h : SeatValue). h.receipts) (turn g c).0
 
 pub loop-seat-preserved : goal.loop-seat-preserved
 loop-seat-preserved g c =
@@ -45,7 +45,7 @@ loop-seat-preserved g c =
       rest = rw c.push_reserved.ensures.len here.1;
       room = rw c.push_reserved.ensures.capacity was.room;
       each = rw c.push_reserved.ensures.items (AreToPlay-more c.args.scripts.now c.loop-seat.players.items c.in-Some-start_player.player was.each (
-        started.0 ∙ ap (λ (h : Held). h.number) here.0 ∙ sym len,
+        started.0 ∙ ap (λ (h : SeatValue). h.number) here.0 ∙ sym len,
         started.1 ∙ c.as_slice-script.ensures.value ∙ rw (len, ← c.len.ensures) (script_here c.args.scripts.now c.len.result c.index-scripts-len.result inside c.index-scripts-len.is),
       ));
     }

@@ -12,12 +12,12 @@ use Rattle.gc_copy.specs.declared.event.Event.TheVariants.{Mutate, Collect}
 use Rattle.gc_world.specs.declared.entry.Entry.{Entry}
 use Rattle.gc_world.specs.World.{Past}
 use Rattle.gc_shared.specs.declared.seat.Receipt.{Receipt}
-use Rattle.gc_shared.specs.Seats.{Held, Opening, count_of_seats}
+use Rattle.gc_shared.specs.Seats.{SeatValue, Opening, count_of_seats}
 use Rattle.gc_shared.specs.Closing.{receipts_of, IsWhole}
 use Rattle.gc_shared.specs.Marks.{AgreeByNumber}
-use Rattle.gc_shared.proofs.ByNumber.{agree_by_number}
+use Rattle.gc_shared.proofs.SeatNumbers.{agree_by_number}
 use Rattle.gc_shared.specs.Scripts.{HaveEnded, HasRun, IsUsefulStep, script_at, is_step, steps_of, commands_of, command_before}
-use Rattle.gc_shared.proofs.Selecting.{entry_on, selected, receipts_at, played_all, useful_all}
+use Rattle.gc_shared.proofs.SeatEntries.{entry_on, selected, receipts_at, played_all, useful_all}
 
 abbrev is_by : ℕ → Event → Bool
 is_by m (Mutate k op) = k == m
@@ -68,11 +68,11 @@ all_entries [] all k d lt = absurd (omega arith)
 all_entries (r ∷ rs) all zero d lt = all 0 r (omega arith)
 all_entries (r ∷ rs) all (suc k) d lt = all_entries rs (λ i q inside. all (suc i) q (omega arith)) k d (omega arith)
 
-module _ (scripts : List (Vec Op Global)) (turns : ℕ) (seats : List Held) (ended : HaveEnded scripts turns seats) where
-  abbrev nobody : Held
+module _ (scripts : List (Vec Op Global)) (turns : ℕ) (seats : List SeatValue) (ended : HaveEnded scripts turns seats) where
+  abbrev nobody : SeatValue
   nobody = record { number = 0; is_mutator = true; receipts = [] }
 
-  numbers : (i : ℕ) (e : Held) → i < length seats → (get_or seats i e).number ≡ i
+  numbers : (i : ℕ) (e : SeatValue) → i < length seats → (get_or seats i e).number ≡ i
   numbers i e lt =
       ⊎_elim
       (λ (player : i < length scripts). (ended.each i e player).same)
@@ -120,13 +120,13 @@ module _ (scripts : List (Vec Op Global)) (turns : ℕ) (seats : List Held) (end
       let is = receipts (length scripts) (omega arith) in
       ap (map entry_on) (sym is) ∙ selected h seats (length scripts + 1) (length scripts) is_step agree (omega arith) mine not_mine
 
-pub has_run : (size : ℕ) (scripts : List (Vec Op Global)) (turns : ℕ) (seats : List Held) (o : Opening) (w : Past) → o ≡ record { size = size; mutators = length scripts; collectors = 1 } → HaveEnded scripts turns seats → IsWhole o w seats → HasRun size scripts turns w
+pub has_run : (size : ℕ) (scripts : List (Vec Op Global)) (turns : ℕ) (seats : List SeatValue) (o : Opening) (w : Past) → o ≡ record { size = size; mutators = length scripts; collectors = 1 } → HaveEnded scripts turns seats → IsWhole o w seats → HasRun size scripts turns w
 has_run size scripts turns seats o w is ended whole =
     let n = length scripts in
     let count : count_of_seats o ≡ n + 1 = ap count_of_seats is in
     let agree : AgreeByNumber w.entries seats (n + 1) = rw count at (agree_by_number w.entries seats (count_of_seats o) whole.seated.count whole.seated.once whole.agree) in
     let all = steps scripts turns seats ended w.entries agree in
-    let nobody : Held = record { number = 0; is_mutator = true; receipts = [] } in
+    let nobody : SeatValue = record { number = 0; is_mutator = true; receipts = [] } in
     record {
       opened = whole.seated.size ∙ ap (λ (o : Opening). o.size) is;
       mutators = whole.seated.mutators ∙ ap (λ (o : Opening). o.mutators) is;

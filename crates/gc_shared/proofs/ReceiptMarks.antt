@@ -9,8 +9,8 @@ use Rattle.std.proofs.lemmas.Bool.Decides.{nat_tests}
 use Rattle.std.proofs.lemmas.List.Sums.{sum_by-append, sum_by-cons, sum_by-set, count_by-le-length}
 use Rattle.gc_world.specs.declared.entry.Entry.{Entry}
 use Rattle.gc_shared.specs.declared.seat.Receipt.{Receipt}
-use Rattle.gc_shared.specs.Seats.{Held}
-use Rattle.gc_shared.specs.Receipts.{IsTold, times_at}
+use Rattle.gc_shared.specs.Seats.{SeatValue}
+use Rattle.gc_shared.specs.Receipts.{IsRecorded, times_at}
 use Rattle.gc_shared.specs.Closing.{floor_of, Stands, AllStand, IsFirstTorn, SeatsStand, receipts_of, receipts_below}
 use Rattle.gc_shared.specs.Marks.{IsMarked, IsFree, AgreeByNumber}
 
@@ -51,10 +51,10 @@ rising history earlier low (q ∷ []) all k lt = absurd (omega arith)
 rising history earlier low (q ∷ (r ∷ rs)) all zero lt = omega (arith, all.1.0.above)
 rising history earlier low (q ∷ (r ∷ rs)) all (suc k) lt = let rest = rising history earlier (q.place + 1) (r ∷ rs) all.1 k (omega arith) in rw add-one (rw add-one at rest)
 
-pub all_told : (history : List Entry) (earlier : List Receipt) (low : ℕ) (rs : List Receipt) → AllStand history earlier low rs → All (IsTold history) rs
-all_told history earlier low [] all k d lt = absurd (omega arith)
-all_told history earlier low (q ∷ rs) all zero d lt = all.0.told
-all_told history earlier low (q ∷ rs) all (suc k) d lt = all_told history earlier (q.place + 1) rs all.1 k d (omega arith)
+pub all_recorded : (history : List Entry) (earlier : List Receipt) (low : ℕ) (rs : List Receipt) → AllStand history earlier low rs → All (IsRecorded history) rs
+all_recorded history earlier low [] all k d lt = absurd (omega arith)
+all_recorded history earlier low (q ∷ rs) all zero d lt = all.0.recorded
+all_recorded history earlier low (q ∷ rs) all (suc k) d lt = all_recorded history earlier (q.place + 1) rs all.1 k d (omega arith)
 
 pub no_marks : (n : ℕ) → IsMarked (replicate n false) []
 no_marks n = record {
@@ -102,7 +102,7 @@ every_counted p (x ∷ xs) all k d lt =
 -- a receipt at a free place stands, where the marks are those of the earlier seats and of the seat's receipts before it
 pub stands_if_free : (history : List Entry) (earlier before : List Receipt) (marks : List Bool) (r : Receipt) → IsMarked marks (earlier ++ before) → r.place < length marks → IsFree history marks (floor_of 0 before) r → Stands history earlier (floor_of 0 before) r
 stands_if_free history earlier before marks r is lt free = record {
-  told = free.told;
+  recorded = free.recorded;
   above = free.above;
   apart = omega (arith, is.once r.place lt, ap (λ (b : Bool). let n : ℕ = cond b 1 0 in n) free.free, times_at-append r.place earlier before);
 }
@@ -113,10 +113,10 @@ zero_false false e = refl
 
 pub free_if_stands : (history : List Entry) (earlier before : List Receipt) (marks : List Bool) (r : Receipt) → AllStand history earlier 0 before → IsMarked marks (earlier ++ before) → length marks ≡ length history → Stands history earlier (floor_of 0 before) r → IsFree history marks (floor_of 0 before) r
 free_if_stands history earlier before marks r all is len stands = record {
-  told = stands.told;
+  recorded = stands.recorded;
   above = stands.above;
   free =
-      let lt : r.place < length marks = omega (arith, len, slice_get_within history r.place _ stands.told) in
+      let lt : r.place < length marks = omega (arith, len, slice_get_within history r.place _ stands.recorded) in
       zero_false _ (omega (arith, is.once r.place lt, times_at-append r.place earlier before, stands.apart, none_at history earlier 0 before r.place all stands.above));
 }
 
@@ -147,13 +147,13 @@ torn_here history earlier rs marks low n r lt at len is all marked taken = recor
 }
 
 -- one seat more stands
-pub SeatsStand-more : (history : List Entry) (seats : List Held) (s : ℕ) → SeatsStand history seats s → AllStand history (receipts_below seats s) 0 (receipts_of seats s) → SeatsStand history seats (s + 1)
+pub SeatsStand-more : (history : List Entry) (seats : List SeatValue) (s : ℕ) → SeatsStand history seats s → AllStand history (receipts_below seats s) 0 (receipts_of seats s) → SeatsStand history seats (s + 1)
 SeatsStand-more history seats s below here = below_more _ _ below here
 
 -- where all stand and each place is marked, the receipts agree
-pub agrees : (history : List Entry) (seats : List Held) (count : ℕ) (marks : List Bool) → SeatsStand history seats count → IsMarked marks (receipts_below seats count) → length marks ≡ length history → length history ≤ count_by (λ b. b) marks → AgreeByNumber history seats count
+pub agrees : (history : List Entry) (seats : List SeatValue) (count : ℕ) (marks : List Bool) → SeatsStand history seats count → IsMarked marks (receipts_below seats count) → length marks ≡ length history → length history ≤ count_by (λ b. b) marks → AgreeByNumber history seats count
 agrees history seats count marks stand marked len full = record {
-  told = λ s lt. all_told history (receipts_below seats s) 0 (receipts_of seats s) (stand s lt);
+  recorded = λ s lt. all_recorded history (receipts_below seats s) 0 (receipts_of seats s) (stand s lt);
   rising = λ s lt. rising history (receipts_below seats s) 0 (receipts_of seats s) (stand s lt);
   once = λ p lt.
       let whole : count_by (λ b. b) marks ≡ length marks = omega (arith, count_by-le-length (λ b. b) marks) in

@@ -1,6 +1,6 @@
 use Rattle.std.proofs.Common.{◌≡◌, length, All}
 use Rattle.gc_shared.specs.Scripts.{IsUsefulStep}
-use Rattle.gc_shared.proofs.playing.turn.Given as goal
+use Rattle.gc_shared.proofs.script.turn.Given as goal
 
 abbrev pub invariant-loop-n : goal.invariant-loop-n
 invariant-loop-n g l = record {

@@ -18,11 +18,11 @@ use Rattle.gc_copy.specs.declared.step.StepReply.TheVariants.{Idle}
 use Rattle.gc_world.specs.declared.entry.Entry.{Entry}
 use Rattle.gc_world.specs.World.{entry_of}
 use Rattle.gc_shared.specs.declared.seat.Receipt.{Receipt}
-use Rattle.gc_shared.specs.Seats.{Held}
+use Rattle.gc_shared.specs.Seats.{SeatValue}
 use Rattle.gc_shared.specs.Closing.{receipts_of, receipts_below}
 use Rattle.gc_shared.specs.Receipts.{times_at}
 use Rattle.gc_shared.specs.Marks.{AgreeByNumber}
-use Rattle.gc_shared.proofs.Standing.{times_at-append}
+use Rattle.gc_shared.proofs.ReceiptMarks.{times_at-append}
 use Rattle.gc_shared.specs.Scripts.{IsUsefulStep}
 
 abbrev pub entry_on : Receipt → Entry
@@ -126,7 +126,7 @@ found P p (q ∷ rs) all some =
     (cases_eq q.place p)
 
 -- the seat whose receipt has this place
-owner : (seats : List Held) (n p : ℕ) → 0 < times_at p (receipts_below seats n) → (t : ℕ) × (t < n) × (0 < times_at p (receipts_of seats t))
+owner : (seats : List SeatValue) (n p : ℕ) → 0 < times_at p (receipts_below seats n) → (t : ℕ) × (t < n) × (0 < times_at p (receipts_of seats t))
 owner seats zero p some = absurd (omega arith)
 owner seats (suc n) p some =
     ⊎_elim
@@ -135,7 +135,7 @@ owner seats (suc n) p some =
     let rest = owner seats n p (omega (arith, some, not, times_at-append p (receipts_below seats n) (receipts_of seats n))) in (rest.0, omega (arith, rest.1), rest.2))
     (cases_lt 0 (times_at p (receipts_of seats n)))
 
-part : (seats : List Held) (n p t : ℕ) → t < n → times_at p (receipts_of seats t) ≤ times_at p (receipts_below seats n)
+part : (seats : List SeatValue) (n p t : ℕ) → t < n → times_at p (receipts_of seats t) ≤ times_at p (receipts_below seats n)
 part seats zero p t lt = absurd (omega arith)
 part seats (suc n) p t lt =
     let sum = times_at-append p (receipts_below seats n) (receipts_of seats n) in
@@ -161,12 +161,12 @@ event_at : (history : List Entry) (i : ℕ) (d : Entry) (r : Receipt) → r.plac
 event_at history i d r here same = ap (λ (k : ℕ). get_or history k d) (sym here) ∙ get_or_from_slice_get history r.place (entry_of r.event r.answer) d same
 
 -- the entries of a history that pass a test are those of one seat's receipts, where the test passes that seat's events alone
-pub selected : (history : List Entry) (seats : List Held) (count s : ℕ) (T : Event → Bool) → AgreeByNumber history seats count → s < count → All (λ r. T r.event ≡ true) (receipts_of seats s) → ((t : ℕ) → t < count → t ≢ s → All (λ r. T r.event ≡ false) (receipts_of seats t)) → map entry_on (receipts_of seats s) ≡ filter (λ e. T e.event) history
+pub selected : (history : List Entry) (seats : List SeatValue) (count s : ℕ) (T : Event → Bool) → AgreeByNumber history seats count → s < count → All (λ r. T r.event ≡ true) (receipts_of seats s) → ((t : ℕ) → t < count → t ≢ s → All (λ r. T r.event ≡ false) (receipts_of seats t)) → map entry_on (receipts_of seats s) ≡ filter (λ e. T e.event) history
 selected history seats count s T agree lt mine others =
     let rs = receipts_of seats s in
     let d : Entry = entry_of (Collect Roots) (Collector Idle) in
     select T d 0 history rs
-    (fits_from history rs 0 (agree.rising s lt) (agree.told s lt) (λ some. omega arith))
+    (fits_from history rs 0 (agree.rising s lt) (agree.recorded s lt) (λ some. omega arith))
     (λ i inside. rw (zero-add i) (
     let once = agree.once i inside in
     let most = part seats count i s lt in
@@ -177,7 +177,7 @@ selected history seats count s T agree lt mine others =
     ⊎_elim
     (λ (same : by.0 ≡ s). let here : 0 < times_at i rs = rw same at by.2 in omega (arith, once, most, here))
     (λ (other : by.0 ≢ s).
-    let r = found (λ r. (slice_get history r.place ≡ Some (entry_of r.event r.answer)) × (T r.event ≡ false)) i (receipts_of seats by.0) (λ k e inside. (agree.told by.0 by.1 k e inside, others by.0 by.1 other k e inside)) by.2 in
+    let r = found (λ r. (slice_get history r.place ≡ Some (entry_of r.event r.answer)) × (T r.event ≡ false)) i (receipts_of seats by.0) (λ k e inside. (agree.recorded by.0 by.1 k e inside, others by.0 by.1 other k e inside)) by.2 in
     absurd (false≢true (sym r.1.1 ∙ (ap (λ (e : Entry). T e.event) (sym (event_at history i d r.0 r.2 r.1.0)) ∙ passes))))
     (cases_eq by.0 s)
     in
@@ -186,7 +186,7 @@ selected history seats count s T agree lt mine others =
     let none : times_at i rs ≡ 0 =
     ⊎_elim
     (λ (some : 0 < times_at i rs).
-    let r = found (λ r. (slice_get history r.place ≡ Some (entry_of r.event r.answer)) × (T r.event ≡ true)) i rs (λ k e inside. (agree.told s lt k e inside, mine k e inside)) some in
+    let r = found (λ r. (slice_get history r.place ≡ Some (entry_of r.event r.answer)) × (T r.event ≡ true)) i rs (λ k e inside. (agree.recorded s lt k e inside, mine k e inside)) some in
     absurd (false≢true (sym fails ∙ (ap (λ (e : Entry). T e.event) (event_at history i d r.0 r.2 r.1.0) ∙ r.1.1))))
     (λ (not : times_at i rs ≤ 0). omega arith)
     (cases_lt 0 (times_at i rs))
@@ -195,7 +195,7 @@ selected history seats count s T agree lt mine others =
     (cases_Bool (T (get_or history i d).event))))
 
 -- the seat at a place, where each seat's number is its place
-find_place : (o : ℕ) (ts : List Held) (k : ℕ) (d : Held) → ((i : ℕ) (e : Held) → i < length ts → (get_or ts i e).number ≡ o + i) → k < length ts → find (λ t. t.number == o + k) ts ≡ Some (get_or ts k d)
+find_place : (o : ℕ) (ts : List SeatValue) (k : ℕ) (d : SeatValue) → ((i : ℕ) (e : SeatValue) → i < length ts → (get_or ts i e).number ≡ o + i) → k < length ts → find (λ t. t.number == o + k) ts ≡ Some (get_or ts k d)
 find_place o [] k d numbers lt = absurd (omega arith)
 find_place o (t ∷ ts) zero d numbers lt = let is = eq-eqb t.number (o + 0) (numbers 0 t (omega arith)) in rw is refl
 find_place o (t ∷ ts) (suc k) d numbers lt =
@@ -208,7 +208,7 @@ find_place o (t ∷ ts) (suc k) d numbers lt =
     (eqb_tells t.number (o + suc k))
 
 -- the receipts of the seat at a place
-pub receipts_at : (ts : List Held) (k : ℕ) (d : Held) → ((i : ℕ) (e : Held) → i < length ts → (get_or ts i e).number ≡ i) → k < length ts → receipts_of ts k ≡ (get_or ts k d).receipts
+pub receipts_at : (ts : List SeatValue) (k : ℕ) (d : SeatValue) → ((i : ℕ) (e : SeatValue) → i < length ts → (get_or ts i e).number ≡ i) → k < length ts → receipts_of ts k ≡ (get_or ts k d).receipts
 receipts_at ts k d numbers lt =
     let here = find_place 0 ts k d (λ i e inside. numbers i e inside ∙ sym (zero-add i)) lt in
     let here' = rw (zero-add k) at here in

@@ -1,7 +1,7 @@
 use Rattle.std.proofs.Common.{◌≡◌, map, take}
 use Rattle.gc_copy.specs.declared.event.Event.TheVariants.{Mutate}
 use Rattle.gc_shared.specs.Scripts.{events_of}
-use Rattle.gc_shared.proofs.playing.play.Given as goal
+use Rattle.gc_shared.proofs.script.play.Given as goal
 
 abbrev pub invariant-loop-n : goal.invariant-loop-n
 invariant-loop-n g l = record {

@@ -5,14 +5,14 @@ use Rattle.gc_graph.specs.declared.command.Op.{Op}
 use Rattle.gc_copy.specs.declared.event.Event.TheVariants.{Mutate}
 use Rattle.gc_copy.specs.declared.event.Answer.{Answer}
 use Rattle.gc_shared.specs.declared.seat.Receipt.{Receipt}
-use Rattle.gc_shared.specs.Seats.{Held, AddsReceipt, receipt}
+use Rattle.gc_shared.specs.Seats.{SeatValue, AddsReceipt, receipt}
 use Rattle.gc_shared.specs.Scripts.{events_of}
 
 -- one command more of the script was made
-pub played_more : (m : ℕ) (script : List Op) (n : ℕ) (op : Op) (s t : Held) (a : Answer) → n < length script → op ≡ get_or script n op → AddsReceipt s t (Mutate s.number op) a → s.number ≡ m → events_of s ≡ map (Mutate m) (take n script) → (t.number ≡ m) × (events_of t ≡ map (Mutate m) (take (n + 1) script))
+pub played_more : (m : ℕ) (script : List Op) (n : ℕ) (op : Op) (s t : SeatValue) (a : Answer) → n < length script → op ≡ get_or script n op → AddsReceipt s t (Mutate s.number op) a → s.number ≡ m → events_of s ≡ map (Mutate m) (take n script) → (t.number ≡ m) × (events_of t ≡ map (Mutate m) (take (n + 1) script))
 played_more m script n op s t a lt at adds same events =
     let more : take (n + 1) script ≡ take n script ++ op ∷ [] = take_more script n op lt ∙ ap (λ (x : Op). take n script ++ x ∷ []) (sym at) in
     let grown : events_of t ≡ events_of s ++ Mutate s.number op ∷ [] = ap events_of adds.1 ∙ map-append (λ (r : Receipt). r.event) s.receipts (receipt adds.0 (Mutate s.number op) a ∷ []) in (
-      ap (λ (h : Held). h.number) adds.1 ∙ same,
+      ap (λ (h : SeatValue). h.number) adds.1 ∙ same,
       rw (grown, events, same, more, map-append (Mutate m) (take n script) (op ∷ [])) refl,
     )

@@ -1,5 +1,5 @@
-use Rattle.gc_shared.proofs.Played.{played_more}
-use Rattle.gc_shared.proofs.playing.play.Goals as goal
+use Rattle.gc_shared.proofs.ScriptEvents.{played_more}
+use Rattle.gc_shared.proofs.script.play.Goals as goal
 
 pub loop-n-preserved : goal.loop-n-preserved
 loop-n-preserved g c =

@@ -1,10 +1,10 @@
-//! The check as the rules are told: nested loops, no tables.
+//! A slow checker, which follows the rules one after the other with nested loops and no tables.
 
 use gc_check::{CheckFault, Refusal, Yes};
 use gc_words::{Header, ImageRef, Pair};
 
-pub(super) fn plain_check(old: ImageRef, new: ImageRef, cert: &[Pair]) -> Result<Yes, CheckFault> {
-    match plain_fault(old, new, cert) {
+pub(super) fn slow_check(old: ImageRef, new: ImageRef, cert: &[Pair]) -> Result<Yes, CheckFault> {
+    match slow_fault(old, new, cert) {
         Some(refusal) => Err(CheckFault::Refused(refusal)),
         None => Ok(Yes {
             pairs: u32::try_from(cert.len()).unwrap_or(0),
@@ -12,7 +12,7 @@ pub(super) fn plain_check(old: ImageRef, new: ImageRef, cert: &[Pair]) -> Result
     }
 }
 
-fn plain_fault(old: ImageRef, new: ImageRef, cert: &[Pair]) -> Option<Refusal> {
+fn slow_fault(old: ImageRef, new: ImageRef, cert: &[Pair]) -> Option<Refusal> {
     if let Some(at) = shape(old) {
         return Some(Refusal::OldShape { at });
     }

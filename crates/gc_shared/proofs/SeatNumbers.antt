@@ -11,27 +11,27 @@ use Rattle.gc_shared.specs.declared.seat.Receipt.{Receipt}
 use Rattle.gc_world.specs.World.{Past}
 use Rattle.gc_shared.specs.declared.fault.CloseKind.{CloseKind}
 use Rattle.gc_shared.specs.declared.fault.CloseKind.TheVariants.{Seats, Torn, Extra, NoMemory}
-use Rattle.gc_shared.specs.Seats.{Held, Opening, count_of_seats}
-use Rattle.gc_shared.specs.Receipts.{IsTold, times_at, places_of, ReceiptsAgree}
+use Rattle.gc_shared.specs.Seats.{SeatValue, Opening, count_of_seats}
+use Rattle.gc_shared.specs.Receipts.{IsRecorded, times_at, places_of, ReceiptsAgree}
 use Rattle.gc_shared.specs.Closing.{HasEachOnce, IsSeated, IsWhole, IsFirstFault, receipts_of, receipts_below}
 use Rattle.gc_shared.specs.Marks.{AgreeByNumber, IsFault}
-use Rattle.gc_shared.proofs.Standing.{times_at-append, every_counted}
+use Rattle.gc_shared.proofs.ReceiptMarks.{times_at-append, every_counted}
 
-abbrev below : (Held → ℕ) → ℕ → Held → ℕ
+abbrev below : (SeatValue → ℕ) → ℕ → SeatValue → ℕ
 below f n t = cond (ltb t.number n) (f t) 0
 
-abbrev here : (Held → ℕ) → ℕ → Held → ℕ
+abbrev here : (SeatValue → ℕ) → ℕ → SeatValue → ℕ
 here f n t = cond (eqb t.number n) (f t) 0
 
 split_one : (a n x : ℕ) → ◌≡◌ {A = ℕ} (cond (ltb a (suc n)) x 0) (cond (ltb a n) x 0 + cond (eqb a n) x 0)
 split_one a n x = grind (arith, nat_tests)
 
-split_sum : (f : Held → ℕ) (n : ℕ) (ts : List Held) → sum_by (below f (suc n)) ts ≡ sum_by (below f n) ts + sum_by (here f n) ts
+split_sum : (f : SeatValue → ℕ) (n : ℕ) (ts : List SeatValue) → sum_by (below f (suc n)) ts ≡ sum_by (below f n) ts + sum_by (here f n) ts
 split_sum f n [] = refl
 split_sum f n (t ∷ ts) =
     omega (arith, sum_by-cons (below f (suc n)) t ts, sum_by-cons (below f n) t ts, sum_by-cons (here f n) t ts, split_one t.number n (f t), split_sum f n ts)
 
-none_here : (f : Held → ℕ) (n : ℕ) (ts : List Held) → count_by (λ t. t.number == n) ts ≡ 0 → sum_by (here f n) ts ≡ 0
+none_here : (f : SeatValue → ℕ) (n : ℕ) (ts : List SeatValue) → count_by (λ t. t.number == n) ts ≡ 0 → sum_by (here f n) ts ≡ 0
 none_here f n [] e = refl
 none_here f n (t ∷ ts) e =
     ⊎_elim
@@ -45,7 +45,7 @@ none_here f n (t ∷ ts) e =
     omega (arith, no_f, rest, sum_by-cons (here f n) t ts))
     (eqb_tells t.number n)
 
-one_here : (f : Held → ℕ) (n : ℕ) (ts : List Held) → count_by (λ t. t.number == n) ts ≡ 1 → sum_by (here f n) ts ≡ option_map_or f (find (λ t. t.number == n) ts) 0
+one_here : (f : SeatValue → ℕ) (n : ℕ) (ts : List SeatValue) → count_by (λ t. t.number == n) ts ≡ 1 → sum_by (here f n) ts ≡ option_map_or f (find (λ t. t.number == n) ts) 0
 one_here f n [] e = absurd (omega (arith, e))
 one_here f n (t ∷ ts) e =
     ⊎_elim
@@ -63,7 +63,7 @@ one_here f n (t ∷ ts) e =
     rw found (omega (arith, no_f, rest, sum_by-cons (here f n) t ts)))
     (eqb_tells t.number n)
 
-all_below : (f : Held → ℕ) (n : ℕ) (ts : List Held) → count_by (λ t. ltb t.number n) ts ≡ length ts → sum_by (below f n) ts ≡ sum_by f ts
+all_below : (f : SeatValue → ℕ) (n : ℕ) (ts : List SeatValue) → count_by (λ t. ltb t.number n) ts ≡ length ts → sum_by (below f n) ts ≡ sum_by f ts
 all_below f n [] e = refl
 all_below f n (t ∷ ts) e =
     let most = count_by-le-length (λ t. ltb t.number n) ts in
@@ -78,38 +78,38 @@ all_below f n (t ∷ ts) e =
     absurd (omega (arith, e, no_one, most, sum_by-cons (λ t. cond (ltb t.number n) 1 0) t ts)))
     (cases_Bool (ltb t.number n))
 
-none_below_zero : (f : Held → ℕ) (ts : List Held) → sum_by (below f 0) ts ≡ 0
+none_below_zero : (f : SeatValue → ℕ) (ts : List SeatValue) → sum_by (below f 0) ts ≡ 0
 none_below_zero f [] = refl
 none_below_zero f (t ∷ ts) =
     let no_f : ◌≡◌ {A = ℕ} (cond (ltb t.number 0) (f t) 0) 0 = grind (arith, nat_tests) in
     omega (arith, no_f, none_below_zero f ts, sum_by-cons (below f 0) t ts)
 
-counted : (n : ℕ) (ts : List Held) → HasEachOnce ts n → sum_by (below (λ t. 1) n) ts ≡ n
+counted : (n : ℕ) (ts : List SeatValue) → HasEachOnce ts n → sum_by (below (λ t. 1) n) ts ≡ n
 counted zero ts once = none_below_zero (λ t. 1) ts
 counted (suc n) ts once = omega (arith, split_sum (λ t. 1) n ts, counted n ts (λ s lt. once s (omega arith)), once n (omega arith))
 
-times_of : (p : ℕ) (o : Option Held) → times_at p (option_map_or (λ t. t.receipts) o []) ≡ option_map_or (λ t. times_at p t.receipts) o 0
+times_of : (p : ℕ) (o : Option SeatValue) → times_at p (option_map_or (λ t. t.receipts) o []) ≡ option_map_or (λ t. times_at p t.receipts) o 0
 times_of p None = refl
 times_of p (Some t) = refl
 
-by_number : (p n : ℕ) (ts : List Held) → HasEachOnce ts n → times_at p (receipts_below ts n) ≡ sum_by (below (λ t. times_at p t.receipts) n) ts
+by_number : (p n : ℕ) (ts : List SeatValue) → HasEachOnce ts n → times_at p (receipts_below ts n) ≡ sum_by (below (λ t. times_at p t.receipts) n) ts
 by_number p zero ts once = sym (none_below_zero (λ t. times_at p t.receipts) ts)
 by_number p (suc n) ts once =
-    let f : Held → ℕ = λ t. times_at p t.receipts in
+    let f : SeatValue → ℕ = λ t. times_at p t.receipts in
     omega (arith, times_at-append p (receipts_below ts n) (receipts_of ts n), by_number p n ts (λ s lt. once s (omega arith)), split_sum f n ts, one_here f n ts (once n (omega arith)), times_of p (find (λ t. t.number == n) ts))
 
-as_handed_in : (p : ℕ) (ts : List Held) → times_at p (flat_map (λ t. t.receipts) ts) ≡ sum_by (λ t. times_at p t.receipts) ts
+as_handed_in : (p : ℕ) (ts : List SeatValue) → times_at p (flat_map (λ t. t.receipts) ts) ≡ sum_by (λ t. times_at p t.receipts) ts
 as_handed_in p [] = refl
 as_handed_in p (t ∷ ts) = omega (arith, times_at-append p t.receipts (flat_map (λ t. t.receipts) ts), as_handed_in p ts, sum_by-cons (λ t. times_at p t.receipts) t ts)
 
 -- by number or as handed in, each place stands on as many receipts
-together : (count p : ℕ) (seats : List Held) → length seats ≡ count → HasEachOnce seats count → times_at p (receipts_below seats count) ≡ times_at p (flat_map (λ t. t.receipts) seats)
+together : (count p : ℕ) (seats : List SeatValue) → length seats ≡ count → HasEachOnce seats count → times_at p (receipts_below seats count) ≡ times_at p (flat_map (λ t. t.receipts) seats)
 together count p seats len once =
     let all = all_below (λ t. times_at p t.receipts) count seats (counted count seats once ∙ sym len) in
     by_number p count seats once ∙ all ∙ sym (as_handed_in p seats)
 
 -- where one element alone passes a test, it is the first that does
-find_only : (p : Held → Bool) (ts : List Held) (k : ℕ) (d : Held) → count_by p ts ≡ 1 → p (get_or ts k d) ≡ true → k < length ts → find p ts ≡ Some (get_or ts k d)
+find_only : (p : SeatValue → Bool) (ts : List SeatValue) (k : ℕ) (d : SeatValue) → count_by p ts ≡ 1 → p (get_or ts k d) ≡ true → k < length ts → find p ts ≡ Some (get_or ts k d)
 find_only p [] k d one here lt = absurd (omega arith)
 find_only p (t ∷ ts) zero d one here lt = ap (λ (b : Bool). cond b (Some t) (find p ts)) here
 find_only p (t ∷ ts) (suc k) d one here lt =
@@ -125,20 +125,20 @@ find_only p (t ∷ ts) (suc k) d one here lt =
     ap (λ (b : Bool). cond b (Some t) (find p ts)) no ∙ find_only p ts k d (omega (arith, one, sum, first)) here (omega arith))
     (cases_Bool (p t))
 
-number_within : (count : ℕ) (seats : List Held) (k : ℕ) (d : Held) → length seats ≡ count → HasEachOnce seats count → k < length seats → (get_or seats k d).number < count
+number_within : (count : ℕ) (seats : List SeatValue) (k : ℕ) (d : SeatValue) → length seats ≡ count → HasEachOnce seats count → k < length seats → (get_or seats k d).number < count
 number_within count seats k d len once lt =
-    let e = every_counted (λ (t : Held). ltb t.number count) seats (counted count seats once ∙ sym len) k d lt in
+    let e = every_counted (λ (t : SeatValue). ltb t.number count) seats (counted count seats once ∙ sym len) k d lt in
     grind (arith, nat_tests)
 
 -- the receipts of the seat at a place, found by its number
-receipts_here : (count : ℕ) (seats : List Held) (k : ℕ) (d : Held) → length seats ≡ count → HasEachOnce seats count → k < length seats → receipts_of seats (get_or seats k d).number ≡ (get_or seats k d).receipts
+receipts_here : (count : ℕ) (seats : List SeatValue) (k : ℕ) (d : SeatValue) → length seats ≡ count → HasEachOnce seats count → k < length seats → receipts_of seats (get_or seats k d).number ≡ (get_or seats k d).receipts
 receipts_here count seats k d len once lt =
     let n = (get_or seats k d).number in
     let one = once n (number_within count seats k d len once lt) in
-    ap (λ (o : Option Held). option_map_or (λ t. t.receipts) o []) (find_only (λ t. t.number == n) seats k d one (eq-eqb n n refl) lt)
+    ap (λ (o : Option SeatValue). option_map_or (λ t. t.receipts) o []) (find_only (λ t. t.number == n) seats k d one (eq-eqb n n refl) lt)
 
 -- what holds of each seat's receipts holds of those found by a number
-of_number : (Q : List Receipt → Type 0) (n : ℕ) (ts : List Held) → Q [] → All (λ t. Q t.receipts) ts → Q (receipts_of ts n)
+of_number : (Q : List Receipt → Type 0) (n : ℕ) (ts : List SeatValue) → Q [] → All (λ t. Q t.receipts) ts → Q (receipts_of ts n)
 of_number Q n [] none all = none
 of_number Q n (t ∷ ts) none all =
     let found : Bool → List Receipt = λ b. option_map_or (λ t. t.receipts) (cond b (Some t) (find (λ t. t.number == n) ts)) [] in
@@ -148,23 +148,23 @@ of_number Q n (t ∷ ts) none all =
     (cases_Bool (eqb t.number n))
 
 -- receipts that agree by number agree
-pub agree_as_handed_in : (history : List Entry) (seats : List Held) (count : ℕ) → length seats ≡ count → HasEachOnce seats count → AgreeByNumber history seats count → ReceiptsAgree history seats
+pub agree_as_handed_in : (history : List Entry) (seats : List SeatValue) (count : ℕ) → length seats ≡ count → HasEachOnce seats count → AgreeByNumber history seats count → ReceiptsAgree history seats
 agree_as_handed_in history seats count len once agree = record {
-  told = λ k d lt. rw (← receipts_here count seats k d len once lt) (agree.told (get_or seats k d).number (number_within count seats k d len once lt));
+  recorded = λ k d lt. rw (← receipts_here count seats k d len once lt) (agree.recorded (get_or seats k d).number (number_within count seats k d len once lt));
   rising = λ k d lt. rw (← receipts_here count seats k d len once lt) (agree.rising (get_or seats k d).number (number_within count seats k d len once lt));
   once = λ p lt. sym (together count p seats len once) ∙ agree.once p lt;
 }
 
 -- receipts that agree do so by number
-pub agree_by_number : (history : List Entry) (seats : List Held) (count : ℕ) → length seats ≡ count → HasEachOnce seats count → ReceiptsAgree history seats → AgreeByNumber history seats count
+pub agree_by_number : (history : List Entry) (seats : List SeatValue) (count : ℕ) → length seats ≡ count → HasEachOnce seats count → ReceiptsAgree history seats → AgreeByNumber history seats count
 agree_by_number history seats count len once agree = record {
-  told = λ n lt. of_number (λ rs. All (IsTold history) rs) n seats (λ k d lt. absurd (omega arith)) agree.told;
+  recorded = λ n lt. of_number (λ rs. All (IsRecorded history) rs) n seats (λ k d lt. absurd (omega arith)) agree.recorded;
   rising = λ n lt. of_number (λ rs. IsStrictlyIncreasing (places_of rs)) n seats (λ k lt. absurd (omega arith)) agree.rising;
   once = λ p lt. together count p seats len once ∙ agree.once p lt;
 }
 
 -- the first fault of seats, from that of their receipts by number
-pub first_fault_of : (r : Option CloseKind) (o : Opening) (w : Past) (seats : List Held) → IsSeated o w seats → MatchOption r (AgreeByNumber w.entries seats (count_of_seats o)) (IsFault w.entries seats (count_of_seats o)) → MatchOption r (IsWhole o w seats) (IsFirstFault o w seats)
+pub first_fault_of : (r : Option CloseKind) (o : Opening) (w : Past) (seats : List SeatValue) → IsSeated o w seats → MatchOption r (AgreeByNumber w.entries seats (count_of_seats o)) (IsFault w.entries seats (count_of_seats o)) → MatchOption r (IsWhole o w seats) (IsFirstFault o w seats)
 first_fault_of None o w seats seated agree = record { seated = seated; agree = agree_as_handed_in w.entries seats (count_of_seats o) seated.count seated.once agree }
 first_fault_of (Some Seats) o w seats seated is = absurd is
 first_fault_of (Some (Torn seat n)) o w seats seated is = (seated, is)

@@ -1,0 +1,171 @@
+//! Small pairs of images as texts, with their verdicts.
+
+use super::slow_check::slow_check;
+use super::{changed, image};
+use crate::check_par;
+use gc_cert::{PairFile, read_pair};
+use gc_check::{Yes, check};
+use gc_graph::Source;
+use gc_words::{ImageRef, Pair};
+use std::alloc::{AllocError, Global};
+use std::process::Abort;
+use std::test::Fail;
+use std::thread::Threads;
+
+/// The lines between the first and the last, with slashes in place of line feeds, and the line of the verdict.
+pub(super) const ROWS: [(&str, &str); 18] = [
+    ("old 1 1/0/roots 1/0/new 1 1/0/roots 1/0/pairs 0", "yes 0\n"),
+    (
+        "old 1 1/0/roots 1/0/new 1 1/0/roots 2/0/0/pairs 0",
+        "refused 3 RootCount\n",
+    ),
+    (
+        "old 8 5/0/16777216/0/16777216/0/roots 2/2/6/new 8 3/0/16777216/0/roots 2/2/2/pairs 2/1 1/3 1",
+        "refused 6 NotRising 1\n",
+    ),
+    (
+        "old 8 3/0/16777216/0/roots 2/2/2/new 8 5/0/16777216/0/16777216/0/roots 2/2/6/pairs 2/1 1/1 3",
+        "refused 7 Twice 1\n",
+    ),
+    (
+        "old 8 3/0/16777216/0/roots 1/2/new 8 3/0/16777217/0/roots 1/2/pairs 1/1 1",
+        "refused 2 NewShape 1\n",
+    ),
+    (
+        "old 8 1/7/roots 0/new 8 1/0/roots 0/pairs 0",
+        "refused 1 OldShape 0\n",
+    ),
+    (
+        "old 8 4/0/16777217/0/1/roots 1/6/new 8 4/0/16777217/0/1/roots 1/6/pairs 2/1 1/3 3",
+        "refused 4 OldNotStart 1\n",
+    ),
+    (
+        "old 8 4/0/16777217/0/1/roots 1/6/new 8 4/0/16777217/0/1/roots 1/6/pairs 1/1 1",
+        "refused 10 RootDiffers 0\n",
+    ),
+    (
+        "old 8 7/0/16777218/0/1/10/16777216/0/roots 1/2/new 8 5/0/16777218/0/1/2/roots 1/2/pairs 1/1 1",
+        "refused 9 FieldDiffers 0 1\n",
+    ),
+    (
+        "old 8 5/0/16777216/0/16777216/0/roots 1/2/new 8 3/0/16777216/0/roots 1/2/pairs 1/1 1",
+        "yes 1\n",
+    ),
+    (
+        "old 9 4/0/16777217/0/9/roots 1/2/new 9 4/0/16777217/0/8/roots 1/2/pairs 1/1 1",
+        "refused 9 FieldDiffers 0 0\n",
+    ),
+    (
+        "old 8 3/0/16777216/0/roots 1/2/new 8 3/0/16842752/0/roots 1/2/pairs 1/1 1",
+        "refused 8 HeaderDiffers 0\n",
+    ),
+    (
+        "old 8 3/0/16777216/0/roots 1/2/new 8 3/0/16777216/0/roots 1/2/pairs 1/1 2",
+        "refused 5 NewNotStart 0\n",
+    ),
+    (
+        "old 1 3/0/16777216/0/roots 0/new 1 1/0/roots 0/pairs 0",
+        "refused 1 OldShape 0\n",
+    ),
+    (
+        "old 8 3/0/16777216/77/roots 1/2/new 8 3/0/16777216/99/roots 1/2/pairs 1/1 1",
+        "yes 1\n",
+    ),
+    (
+        "old 8 4/0/16777217/0/2097152/roots 1/2/new 8 4/0/16777217/0/2097152/roots 1/2/pairs 1/1 1",
+        "refused 9 FieldDiffers 0 0\n",
+    ),
+    (
+        "old 8 5/0/16777216/0/16842752/0/roots 2/2/6/new 8 5/0/16842752/0/16777216/0/roots 2/6/2/pairs 2/3 1/1 3",
+        "yes 2\n",
+    ),
+    (
+        "old 8 4/0/16777216/0/5/roots 0/new 8 1/0/roots 0/pairs 0",
+        "refused 1 OldShape 3\n",
+    ),
+];
+
+/// The text of a row.
+pub(super) fn text_of(alloc: Global, lines: &str) -> Result<String, AllocError> {
+    let text = format!(in alloc; "heappair 1/{lines}/end/")?;
+    text.replace(alloc, '/', "\n")
+}
+
+/// The pair that the text of a row spells.
+fn read_row(alloc: Global, lines: &str) -> Result<PairFile, Fail> {
+    let text = text_of(alloc, lines)?;
+    Ok(read_pair(alloc, &mut Source::new(text.as_bytes()))?)
+}
+
+/// Nothing, one object kept with garbage left behind, and old addresses that fall.
+#[test]
+fn pairs_that_are_read_get_yes(rt: HostRuntime) -> Result<(), Fail> {
+    let alloc = rt.alloc();
+    for (row, pairs) in [(0, 0), (9, 1), (16, 2)] {
+        let file = read_row(alloc, ROWS[row].0)?;
+        let (old, new) = (file.old.as_ref(), file.new.as_ref());
+        assert_eq!(rt; file.pairs.len(), pairs as usize);
+        assert_eq!(rt; check(alloc, old, new, &file.pairs), Ok(Yes { pairs }));
+        assert_eq!(rt;
+            check_par(&rt, alloc, old, new, &file.pairs),
+            Ok(Yes { pairs })
+        );
+    }
+    Ok(())
+}
+
+/// Words that may stand anywhere in the rows.
+const WORDS: [u64; 9] = [0, 1, 2, 3, 6, 16777216, 16777217, 16842752, 2097152];
+
+/// Both checkers give the slow one's answer.
+fn expect_slow_answer(
+    rt: &(impl Threads + Sync + Abort),
+    alloc: Global,
+    old: ImageRef,
+    new: ImageRef,
+    cert: &[Pair],
+) {
+    assert!(rt; cert.len() <= 2);
+    let expected = slow_check(old, new, cert);
+    assert_eq!(rt; check(alloc, old, new, cert), expected);
+    assert_eq!(rt; check_par(rt, alloc, old, new, cert), expected);
+}
+
+/// Answers the pair with another word at one place of the old words and roots, and then of the new ones.
+fn expect_neighbours(
+    rt: &(impl Threads + Sync + Abort),
+    alloc: Global,
+    old: ImageRef,
+    new: ImageRef,
+    cert: &[Pair],
+    change: (usize, u64),
+) -> Result<(), AllocError> {
+    let words = changed(alloc, old.words, &[change])?;
+    let roots = changed(alloc, old.roots, &[change])?;
+    let other = image(old.size, words.as_slice(), old.roots);
+    expect_slow_answer(rt, alloc, other, new, cert);
+    let other = image(old.size, old.words, roots.as_slice());
+    expect_slow_answer(rt, alloc, other, new, cert);
+
+    let words = changed(alloc, new.words, &[change])?;
+    let roots = changed(alloc, new.roots, &[change])?;
+    let other = image(new.size, words.as_slice(), new.roots);
+    expect_slow_answer(rt, alloc, old, other, cert);
+    let other = image(new.size, new.words, roots.as_slice());
+    expect_slow_answer(rt, alloc, old, other, cert);
+    Ok(())
+}
+
+#[test]
+fn changed_rows_are_answered_alike(rt: HostRuntime) -> Result<(), Fail> {
+    for (lines, _) in ROWS {
+        let file = read_row(rt.alloc(), lines)?;
+        for place in 0..7 {
+            for word in WORDS {
+                let (old, new) = (file.old.as_ref(), file.new.as_ref());
+                expect_neighbours(&rt, rt.alloc(), old, new, &file.pairs, (place, word))?;
+            }
+        }
+    }
+    Ok(())
+}
