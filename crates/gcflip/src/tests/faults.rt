@@ -1,5 +1,5 @@
 use crate::commands::ThreadsRunFault;
-use crate::fault::{Fault, write_fault};
+use crate::faults::{Fault, write_fault};
 use gc_cert::PairFault;
 use gc_check::RunFault;
 use gc_graph::Sink;
