@@ -8,7 +8,7 @@ use Rattle.std.proofs.lemmas.Fmt.{length-decimal-le}
 use Rattle.gc_graph.specs.Lines.{space, newline, ended, text_of}
 use Rattle.gc_words.specs.Image.{Image}
 use Rattle.gc_cert.specs.Grammar.{CertifiedPair, pair_line, count_line, size_line, image_lines, certificate_lines, lines_of, spelling, IsWord, AreAddresses, HasImageText, HasText}
-use Rattle.gc_cert.specs.Faults.{IsReadAs}
+use Rattle.gc_cert.specs.Faults.{limit, IsReadAs}
 
 bytes : List (List ℕ) → ℕ
 bytes lines = length (text_of lines)
@@ -76,7 +76,7 @@ certificate_bytes pairs le small =
     let all = bytes_map AreAddresses pair_line 21 pair_length pairs small in
     omega (arith, bytes_cons (count_line (codes "pairs") (length pairs)) (map pair_line pairs ++ codes "end" ∷ []), count_length (codes "pairs") (length pairs) (omega arith) (omega (arith, le)), bytes_append (map pair_line pairs) (codes "end" ∷ []), all, le, bytes_cons (codes "end") [], bytes_nil)
 
-lines_bytes : (f : CertifiedPair) → HasText f → bytes (lines_of f) ≤ 67108864
+lines_bytes : (f : CertifiedPair) → HasText f → bytes (lines_of f) ≤ limit
 unfolding lines_of
 lines_bytes f fits =
     let new = image_lines (codes "new") f.new (certificate_lines f.pairs) in

@@ -63,9 +63,7 @@ IsReadAs f text = IsTextOf f text × (length text ≤ limit)
 abbrev pub MayFail : PairFault → List ℕ → Type 0
 MayFail Read text = ⊤
 MayFail NoMemory text = ⊤
-MayFail TooLarge text = IsPairFaultOf TooLarge text
-MayFail (BadLine n) text = IsPairFaultOf (BadLine n) text
-MayFail EndsEarly text = IsPairFaultOf EndsEarly text
+MayFail fault text = IsPairFaultOf fault text
 
 -- what a reader's own fault is called
 abbrev pub fault_of_reading : ReadFault → PairFault

@@ -5,3 +5,4 @@ pub mod Views
 pub mod Sections
 pub mod Parsers
 pub mod PrintedLines
+pub mod FaultTexts

@@ -1,24 +1,38 @@
-use gc_graph::text::ReadFault;
+use gc_graph::text::{Message, ReadFault};
 use thiserror::Error;
 
 /// Why a pair text is not read. Of a text it is the first fault from the top; lines are counted from 1.
 #[derive(Clone, Copy, Debug, PartialEq, Eq, Error)]
+#[error("{}", self.message())]
 pub enum PairFault {
     /// The reader failed.
-    #[error("cannot read")]
     Read,
     /// The text has more than 67108864 bytes.
-    #[error("pair: too large")]
     TooLarge,
     /// This line, which has its line feed, is not what its place asks for; or here stands a byte behind the
     /// line `end`.
-    #[error("pair: bad line {0}")]
     BadLine(u64),
     /// The lines are right so far, and the text ends before the line feed of the line `end`.
-    #[error("pair: ends early")]
     EndsEarly,
-    #[error("no memory")]
     NoMemory,
+}
+
+impl PairFault {
+    ghost use Rattle.std.specs.Prelude.{◌≡◌};
+    ghost use Rattle.gc_cert.specs.FaultTexts.{pair_fault_text};
+
+    /// Returns what is said of the fault.
+    pub fn message(&self) -> Message
+        ensures { result ≡ pair_fault_text self.now }
+    {
+        match self {
+            PairFault::Read => Message::text("cannot read"),
+            PairFault::TooLarge => Message::text("pair: too large"),
+            PairFault::BadLine(n) => Message::numbered("pair: bad line ", *n),
+            PairFault::EndsEarly => Message::text("pair: ends early"),
+            PairFault::NoMemory => Message::text("no memory"),
+        }
+    }
 }
 
 impl From<ReadFault> for PairFault {

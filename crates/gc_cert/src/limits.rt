@@ -54,7 +54,7 @@ fn image_fits(image: &ImageRef<'_>) -> bool
 }
 
 /// Whether two images and pairs have a text: each number is in the range that the text has for it, and each
-/// image has as many words as its end says.
+/// image has as many words as its end says. A caller with images of its own asks this before `write_pair`.
 pub fn pair_fits(old: ImageRef<'_>, new: ImageRef<'_>, pairs: &[Pair]) -> bool
     ensures { IsTrue result ↔ HasText (pair_of old.entry new.entry pairs.now) }
 {

@@ -3,3 +3,4 @@ pub mod Verdict
 pub mod Tables
 pub mod Texts
 pub mod Rows
+pub mod FaultTexts

@@ -1,4 +1,5 @@
 use gc_cert::PairFault;
+use gc_graph::text::Message;
 use gc_words::Refusal;
 use thiserror::Error;
 
@@ -29,14 +30,28 @@ pub enum Verdict {
 
 /// Why a text gets no verdict, or one that could not be told.
 #[derive(Clone, Copy, Debug, PartialEq, Eq, Error)]
+#[error("{}", self.message())]
 pub enum RunFault {
     /// What is wrong with the text.
-    #[error("{0}")]
     Pair(PairFault),
     /// A growth was refused, perhaps in reading.
-    #[error("no memory")]
     NoMemory,
     /// The writer failed.
-    #[error("cannot write")]
     Write,
+}
+
+impl RunFault {
+    ghost use Rattle.std.specs.Prelude.{◌≡◌};
+    ghost use Rattle.gc_check.specs.FaultTexts.{run_fault_text};
+
+    /// Returns what is said of the fault.
+    pub fn message(&self) -> Message
+        ensures { result ≡ run_fault_text self.now }
+    {
+        match self {
+            RunFault::Pair(fault) => fault.message(),
+            RunFault::NoMemory => Message::text("no memory"),
+            RunFault::Write => Message::text("cannot write"),
+        }
+    }
 }

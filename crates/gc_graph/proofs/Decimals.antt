@@ -108,9 +108,6 @@ value_more token i value next digit lt range is so_far e =
       digits = λ k k-lt. elim (cases_eq k i) [ inl same ↦ rw same range | inr other ↦ so_far.digits k (omega arith) ];
     }
 
-pub value_whole : (token : List ℕ) (i value : ℕ) → i ≡ length token → IsValue token i value → AreDigits token × (value ≡ digits_value 10 token)
-value_whole token i value all so_far = (λ k lt. so_far.digits k (omega arith), so_far.value_is ∙ ap (digits_value 10) (take_all i token (omega arith)))
-
 -- ---- twenty digits
 
 pub twenty_value : (token : List ℕ) → length token ≡ 20 → IsInRange 48 57 (get_or token 19 0) → digits_value 10 token ≡ digits_value 10 (take 19 token) * 10 + (get_or token 19 0 - 48)

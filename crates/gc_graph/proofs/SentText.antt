@@ -36,16 +36,6 @@ more_sent_slice old mid new text rest count so_far more =
     let all : take (length rest - count) (drop count rest) ≡ drop count rest = take_all (length rest - count) (drop count rest) (omega (arith, length-drop count rest)) in
     subst (HasSent old new text) (sym all) (more_sent old mid new text rest count so_far more)
 
-pub all_sent : (old new : Option (List ℕ)) (text rest : List ℕ) → HasSent old new text rest → rest ≡ [] → Appends old new text
-all_sent old new text rest so_far none = subst (Appends old new) (sym (so_far.parts ∙ ap (λ (t : List ℕ). so_far.front ++ t) none ∙ append-nil so_far.front)) so_far.out
-
-pub part_sent : (old mid new : Option (List ℕ)) (text rest : List ℕ) → HasSent old mid text rest → Keeps mid new → SendsFront old new text
-part_sent old mid new text rest so_far kept = (so_far.front, rest, so_far.parts, subst (Appends old new) (append-nil so_far.front) (Appends-then old mid new so_far.front [] so_far.out (Keeps-appends mid new kept)))
-
--- what waited went out
-pub flushed : (a b : Option (List ℕ)) (waiting rest : List ℕ) → Appends a b waiting → rest ≡ [] → HasSent a b waiting rest
-flushed a b waiting rest out none = record { front = waiting; parts = sym (ap (λ (t : List ℕ). waiting ++ t) none ∙ append-nil waiting); out = out }
-
 -- more text waits behind what waits already
 pub sent_then : (a b c : Option (List ℕ)) (text waiting mid more rest : List ℕ) → HasSent a b text waiting → HasSent b c waiting mid → rest ≡ mid ++ more → HasSent a c (text ++ more) rest
 sent_then a b c text waiting mid more rest first second is = record {

@@ -11,6 +11,7 @@ pub mod Records
 pub mod PlainMachine
 pub mod Codes
 pub mod Lines
+pub mod Messages
 pub mod Streams
 pub mod Tokens
 pub mod ReadFaults

@@ -3,6 +3,7 @@
 mod all_bytes;
 mod decimals;
 mod lines;
+mod message;
 mod printer;
 mod sink;
 mod source;
@@ -11,6 +12,7 @@ mod tokens;
 pub use all_bytes::{ReadFault, read_all};
 pub use decimals::number;
 pub use lines::cut;
+pub use message::Message;
 pub use printer::Printer;
 pub use sink::Sink;
 pub use source::{Failed, Source};

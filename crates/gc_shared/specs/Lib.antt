@@ -6,3 +6,4 @@ pub mod Scripts
 pub mod Players
 pub mod Rows
 pub mod Faults
+pub mod FaultTexts

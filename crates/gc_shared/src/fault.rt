@@ -1,4 +1,5 @@
 use gc_graph::NoMemory;
+use gc_graph::text::Message;
 use gc_world::World;
 use std::alloc::AllocError;
 use thiserror::Error;
@@ -44,20 +45,41 @@ impl From<AllocError> for CallFault {
 
 /// Why a world was not closed in agreement with its seats: the first of these that is so.
 #[derive(Clone, Copy, Debug, PartialEq, Eq, Error)]
+#[error("{}", self.message())]
 pub enum CloseKind {
     /// The seats are not those of the opening, each once.
-    #[error("close: seats")]
     Seats,
     /// Receipt `n` of this seat, both counted from 0, is not what the history has at its place, or its place is not
     /// above that of the receipt before it, or stands on a receipt of a seat with a lower number.
-    #[error("close: torn seat {seat} receipt {n}")]
     Torn { seat: u8, n: usize },
     /// The history has more events than the seats have receipts.
-    #[error("close: extra")]
     Extra,
     /// A growth was refused, and the receipts were not compared.
-    #[error("no memory")]
     NoMemory,
+}
+
+impl CloseKind {
+    ghost use Rattle.std.specs.Prelude.{◌≡◌};
+    ghost use Rattle.gc_shared.specs.FaultTexts.{close_kind_text};
+
+    /// Returns what is said of the fault.
+    pub fn message(&self) -> Message
+        ensures { result ≡ close_kind_text self.now }
+    {
+        match self {
+            CloseKind::Seats => Message::text("close: seats"),
+            CloseKind::Torn { seat, n } => {
+                Message::numbered_twice(
+                    "close: torn seat ",
+                    u64::from(*seat),
+                    " receipt ",
+                    *n as u64,
+                )
+            }
+            CloseKind::Extra => Message::text("close: extra"),
+            CloseKind::NoMemory => Message::text("no memory"),
+        }
+    }
 }
 
 /// A world that was not closed in agreement with its seats. The seats are spent.
@@ -69,19 +91,35 @@ pub struct CloseFault {
 
 /// Why scripts were not run to their end. The scripts and the world are given up.
 #[derive(Clone, Copy, Debug, PartialEq, Eq, Error)]
+#[error("{}", self.message())]
 pub enum ThreadsFault {
     /// A thread could not be started. This goes before all others.
-    #[error("threads: not started")]
     NotStarted,
     /// The gate ended this seat's thread before its call `n`, both counted from 0.
-    #[error("threads: gate at seat {seat} call {n}")]
     Gate { seat: u32, n: u64 },
     /// A growth was refused.
-    #[error("no memory")]
     NoMemory,
     /// The seats were not closed; a thread whose seat was refused gives `Seats`.
-    #[error(transparent)]
     Close(CloseKind),
+}
+
+impl ThreadsFault {
+    ghost use Rattle.std.specs.Prelude.{◌≡◌};
+    ghost use Rattle.gc_shared.specs.FaultTexts.{threads_fault_text};
+
+    /// Returns what is said of the fault.
+    pub fn message(&self) -> Message
+        ensures { result ≡ threads_fault_text self.now }
+    {
+        match self {
+            ThreadsFault::NotStarted => Message::text("threads: not started"),
+            ThreadsFault::Gate { seat, n } => {
+                Message::numbered_twice("threads: gate at seat ", u64::from(*seat), " call ", *n)
+            }
+            ThreadsFault::NoMemory => Message::text("no memory"),
+            ThreadsFault::Close(kind) => kind.message(),
+        }
+    }
 }
 
 impl From<CallFault> for ThreadsFault {

@@ -68,11 +68,6 @@ pub no_flip : (s : State) (events : List Event) (i before : ℕ) (event : Event)
 no_flip s events i before event lt is none =
     sym (ap (λ (ps : List CertifiedPair). slice_get ps before) (flips_more s events i event lt is ∙ ap (λ (o : Option CertifiedPair). with_flip o (flips (after s event) (drop (i + 1) events))) none))
 
--- it is the wanted one
-pub this_flip : (s : State) (events : List Event) (i : ℕ) (event : Event) (pair : CertifiedPair) → i < length events → event ≡ get_or events i event → flip_at s event ≡ Some pair → Some pair ≡ flips_from s events i 0
-this_flip s events i event pair lt is some =
-    sym (ap (λ (ps : List CertifiedPair). slice_get ps 0) (flips_more s events i event lt is ∙ ap (λ (o : Option CertifiedPair). with_flip o (flips (after s event) (drop (i + 1) events))) some))
-
 -- it is one before that
 pub other_flip : (s : State) (events : List Event) (i before : ℕ) (event : Event) (pair : CertifiedPair) → i < length events → event ≡ get_or events i event → flip_at s event ≡ Some pair → flips_from (after s event) events (i + 1) before ≡ flips_from s events i (suc before)
 other_flip s events i before event pair lt is some =

@@ -26,12 +26,6 @@ least_range (e ∷ es) = let a = version_range e in let b = least_range es in (o
 abbrev pub least_from : List Entry → ℕ → ℕ
 least_from entries i = least_version (events_of (drop i entries))
 
-pub least_more : (entries : List Entry) (i : ℕ) (entry : Entry) (version : ℕ) → i < length entries → entry ≡ get_or entries i entry → max (max version (version_of entry.event)) (least_from entries (i + 1)) ≡ max version (least_from entries i)
-least_more entries i entry version lt is =
-    let more : drop i entries ≡ entry ∷ drop (i + 1) entries = drop_more entries i entry lt ∙ ap (λ (e : Entry). e ∷ drop (i + 1) entries) (sym is) in
-    let one : least_from entries i ≡ max (version_of entry.event) (least_from entries (i + 1)) = ap (λ (es : List Entry). least_version (events_of es)) more in
-    omega (arith, one)
-
 -- before the first entry
 pub least_all : (entries : List Entry) → max 1 (least_from entries 0) ≡ least_version (events_of entries)
 least_all entries = omega (arith, least_range (events_of entries))

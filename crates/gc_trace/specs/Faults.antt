@@ -54,10 +54,7 @@ IsReadAs t text = IsTextOf t text × (length text ≤ limit)
 abbrev pub MayFail : TraceFault → List ℕ → Type 0
 MayFail Read text = ⊤
 MayFail NoMemory text = ⊤
-MayFail TooLarge text = IsTraceFaultOf TooLarge text
-MayFail BadHeader text = IsTraceFaultOf BadHeader text
-MayFail (BadLine n) text = IsTraceFaultOf (BadLine n) text
-MayFail (NoSuchMutator n) text = IsTraceFaultOf (NoSuchMutator n) text
+MayFail fault text = IsTraceFaultOf fault text
 
 -- what a reader's own fault is called
 abbrev pub fault_of_reading : ReadFault → TraceFault
@@ -67,9 +64,5 @@ fault_of_reading reading.NoMemory = NoMemory
 
 -- what a trace's fault is called where it is played: want of memory is the player's own
 abbrev pub fault_of_trace : TraceFault → PlayFault
-fault_of_trace Read = Trace Read
-fault_of_trace TooLarge = Trace TooLarge
-fault_of_trace BadHeader = Trace BadHeader
-fault_of_trace (BadLine n) = Trace (BadLine n)
-fault_of_trace (NoSuchMutator n) = Trace (NoSuchMutator n)
 fault_of_trace NoMemory = plays.NoMemory
+fault_of_trace fault = Trace fault

@@ -10,3 +10,4 @@ pub mod Rows
 pub mod Report
 pub mod ReportRows
 pub mod Scripts
+pub mod FaultTexts

@@ -1,27 +1,44 @@
 use gc_graph::NoMemory;
-use gc_graph::text::ReadFault;
+use gc_graph::text::{Message, ReadFault};
 use thiserror::Error;
 
 /// Why a trace is not read. Of a text it is the first fault from the top; lines are counted from 1.
 #[derive(Clone, Copy, Debug, PartialEq, Eq, Error)]
+#[error("{}", self.message())]
 pub enum TraceFault {
     /// The reader failed.
-    #[error("cannot read")]
     Read,
     /// The text has more than 16777216 bytes.
-    #[error("trace: too large")]
     TooLarge,
     /// Lines 1 and 2 are those of no trace.
-    #[error("trace: bad header")]
     BadHeader,
     /// This line is no line of an event, or lacks its line feed.
-    #[error("trace: bad line {0}")]
     BadLine(u64),
     /// This line is an event's, but of a mutator that there isn't.
-    #[error("trace: no such mutator at line {0}")]
     NoSuchMutator(u64),
-    #[error("no memory")]
     NoMemory,
+}
+
+impl TraceFault {
+    ghost use Rattle.std.specs.Prelude.{◌≡◌};
+    ghost use Rattle.gc_trace.specs.FaultTexts.{trace_fault_text};
+
+    /// Returns what is said of the fault.
+    pub fn message(&self) -> Message
+        ensures { result ≡ trace_fault_text self.now }
+    {
+        match self {
+            TraceFault::Read => Message::text("cannot read"),
+            TraceFault::TooLarge => Message::text("trace: too large"),
+            TraceFault::BadHeader => Message::text("trace: bad header"),
+            TraceFault::BadLine(n) => Message::numbered("trace: bad line ", *n),
+            TraceFault::NoSuchMutator(n) => Message::numbered(
+                "trace: no such mutator at line ",
+                *n,
+            ),
+            TraceFault::NoMemory => Message::text("no memory"),
+        }
+    }
 }
 
 impl From<ReadFault> for TraceFault {
@@ -41,19 +58,33 @@ impl From<ReadFault> for TraceFault {
 
 /// Why a trace is not played.
 #[derive(Clone, Copy, Debug, PartialEq, Eq, Error)]
+#[error("{}", self.message())]
 pub enum PlayFault {
     /// It is not read; never `NoMemory`.
-    #[error(transparent)]
     Trace(TraceFault),
     /// It has fewer flips.
-    #[error("trace: no such flip")]
     NoSuchFlip,
     /// Memory was short, in reading too.
-    #[error("no memory")]
     NoMemory,
     /// The writer failed.
-    #[error("cannot write")]
     Write,
+}
+
+impl PlayFault {
+    ghost use Rattle.std.specs.Prelude.{◌≡◌};
+    ghost use Rattle.gc_trace.specs.FaultTexts.{play_fault_text};
+
+    /// Returns what is said of the fault.
+    pub fn message(&self) -> Message
+        ensures { result ≡ play_fault_text self.now }
+    {
+        match self {
+            PlayFault::Trace(fault) => fault.message(),
+            PlayFault::NoSuchFlip => Message::text("trace: no such flip"),
+            PlayFault::NoMemory => Message::text("no memory"),
+            PlayFault::Write => Message::text("cannot write"),
+        }
+    }
 }
 
 impl From<TraceFault> for PlayFault {

@@ -37,6 +37,23 @@ pub struct Report {
     pub free: u64,
 }
 
+/// A report in which nothing is counted.
+pub const NOTHING: Report = Report {
+    events: 0,
+    made: 0,
+    full: 0,
+    begun: 0,
+    copied: 0,
+    scanned: 0,
+    applied: 0,
+    flips: 0,
+    pairs: 0,
+    dropped: 0,
+    refused: 0,
+    end: 0,
+    free: 0,
+};
+
 impl Report {
     ghost use Rattle.std.specs.Prelude.{◌≡◌};
     ghost use Rattle.gc_words.specs.Space.{free_in, end_of};
@@ -63,19 +80,9 @@ impl Report {
         } }
     {
         Report {
-            events: 0,
-            made: 0,
-            full: 0,
-            begun: 0,
-            copied: 0,
-            scanned: 0,
-            applied: 0,
-            flips: 0,
-            pairs: 0,
-            dropped: 0,
-            refused: 0,
             end: u64::from(space.end()),
             free: u64::from(space.free()),
+            ..NOTHING
         }
     }
 

@@ -99,9 +99,6 @@ line_is_simple = refl
 rows_are : (a : App) (arguments : List Text) (m : ArgMatches) → a ≡ command_line → HasMatchesOf a arguments m → subcommand_rows_of m ≡ subcommand_of command_line arguments
 rows_are a arguments m is has = (has (ap is_simple is ∙ line_is_simple)).1 ∙ ap (λ (b : App). subcommand_of b arguments) is
 
-pub matches_of_no_arguments : (a : App) (arguments : List Text) (m : ArgMatches) → a ≡ command_line → HasMatchesOf a arguments m → drop 1 arguments ≡ [] → subcommand_rows_of m ≡ None
-matches_of_no_arguments a arguments m is has none = rows_are a arguments m is has ∙ no_arguments_found arguments none
-
 line_is_simple_and_free : is_simple_and_free command_line ≡ true
 unfolding clap_on_literals
 line_is_simple_and_free = refl
@@ -174,9 +171,6 @@ number_task_asked None name file found is finds = tt
 number_task_asked (Some task) name file found is finds = let P = λ (wanted : Option (Text × Text)). Finds wanted found in subst P (sym is.0) finds
 
 -- ---- how the command line is put together
-
-pub adds_rule : (old new : Command) (number : Arg) (a : App) (r : Rule) → AddsArg old number new → number.global ≡ false → app_of old ≡ a → rule_of number ≡ r → app_of new ≡ with_rule a r
-adds_rule old new number a r adds local is same = adds.shape local ∙ ap (λ (b : App). with_rule b (rule_of number)) is ∙ ap (with_rule a) same
 
 pub adds_command : (old sub new : Command) (a s : App) → AddsSubcommand old sub new → (out-Command sub).has_globals ≡ false → app_of old ≡ a → app_of sub ≡ s → app_of new ≡ with_subcommand a s.top
 adds_command old sub new a s adds local is same = adds.shape local ∙ ap (λ (b : App). with_subcommand b (shape_of sub)) is ∙ ap (λ (b : App). with_subcommand a b.top) same

@@ -6,17 +6,17 @@ use Rattle.gc_check.specs.declared.verdict.RunFault.TheVariants as check
 use Rattle.gc_shared.specs.declared.fault.CloseKind.{CloseKind}
 use Rattle.gc_shared.specs.declared.fault.CloseKind.TheVariants as close
 use Rattle.gc_shared.specs.declared.fault.ThreadsFault.TheVariants as threads
-use Rattle.gcflip.specs.ThreadsFaults.{close_status}
-use Rattle.gcflip.specs.TraceFaults.{trace_fault_status}
+use Rattle.gcflip.specs.Statuses.{close_kind_status}
+use Rattle.gcflip.specs.Statuses.{trace_fault_status}
 use Rattle.gcflip.specs.declared.commands.threads.ThreadsRunFault.TheVariants as run
 use Rattle.gc_trace.specs.declared.fault.TraceFault.{TraceFault}
 use Rattle.gc_trace.specs.declared.fault.TraceFault.TheVariants as trace
 use Rattle.gc_trace.specs.declared.fault.PlayFault.TheVariants as play
-use Rattle.gcflip.specs.declared.fault.Fault.{Fault}
-use Rattle.gcflip.specs.declared.fault.Fault.TheVariants as program
+use Rattle.gcflip.specs.declared.faults.fault.Fault.{Fault}
+use Rattle.gcflip.specs.declared.faults.fault.Fault.TheVariants as program
 use Rattle.gcflip.specs.declared.task.Task.{Task}
 use Rattle.gcflip.specs.declared.task.Task.TheVariants as task
-use Rattle.gcflip.specs.Faults.{status_of}
+use Rattle.gcflip.specs.Statuses.{status_of}
 use Rattle.gcflip.specs.Outcomes.{IsStatusOf}
 use Rattle.gcflip.specs.Statuses.{statuses}
 
@@ -41,7 +41,7 @@ memory_fault_is_status = (5, lit< tt, refl)
 pub threads_fault_is_status : Contains statuses 6
 threads_fault_is_status = (6, lit< tt, refl)
 
-close_has_status : (kind : CloseKind) → Contains statuses (close_status kind)
+close_has_status : (kind : CloseKind) → Contains statuses (close_kind_status kind)
 close_has_status close.Seats = threads_fault_is_status
 close_has_status (close.Torn seat n) = threads_fault_is_status
 close_has_status close.Extra = threads_fault_is_status

@@ -1,10 +1,7 @@
-pub mod Verdicts
 pub mod CommandLine
 pub mod Faults
 pub mod Outcomes
-pub mod PairFaults
-pub mod Playing
+pub mod Plays
 pub mod Statuses
 pub mod ThreadedRuns
-pub mod ThreadsFaults
-pub mod TraceFaults
+pub mod Verdicts

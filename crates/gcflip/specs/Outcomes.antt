@@ -1,7 +1,7 @@
 -- What may come of a task: its status where it is done, else its fault.
 use Rattle.std.specs.Prelude.{◌≡◌, ◌⊎◌, ℕ, ⊤}
-use Rattle.gcflip.specs.declared.fault.Fault.{Fault}
-use Rattle.gcflip.specs.declared.fault.Fault.TheVariants as fault
+use Rattle.gcflip.specs.declared.faults.fault.Fault.{Fault}
+use Rattle.gcflip.specs.declared.faults.fault.Fault.TheVariants as fault
 use Rattle.gcflip.specs.declared.task.Task.{Task}
 use Rattle.gcflip.specs.declared.task.Task.TheVariants as task
 

@@ -1,13 +1,81 @@
--- What the program ends with.
+-- What the program ends with: 0 where it did what it was asked, 1 for a refusal, 2 where the command line asks for nothing,
+-- 3 where a text is at fault, 4 where reading or writing failed, 5 where memory ran out, 6 for threads and their closing.
 use Rattle.std.specs.Prelude.{ℕ, List, [], ◌∷◌}
+use Rattle.gc_cert.specs.declared.fault.PairFault.{PairFault}
+use Rattle.gc_cert.specs.declared.fault.PairFault.TheVariants as pair
+use Rattle.gc_check.specs.declared.verdict.RunFault.{RunFault}
+use Rattle.gc_check.specs.declared.verdict.RunFault.TheVariants as check
 use Rattle.gc_check.specs.declared.verdict.Verdict.{Verdict}
 use Rattle.gc_check.specs.declared.verdict.Verdict.TheVariants as verdict
+use Rattle.gc_shared.specs.declared.fault.CloseKind.{CloseKind}
+use Rattle.gc_shared.specs.declared.fault.CloseKind.TheVariants as close
+use Rattle.gc_shared.specs.declared.fault.ThreadsFault.{ThreadsFault}
+use Rattle.gc_shared.specs.declared.fault.ThreadsFault.TheVariants as threads
+use Rattle.gc_trace.specs.declared.fault.PlayFault.{PlayFault}
+use Rattle.gc_trace.specs.declared.fault.PlayFault.TheVariants as play
+use Rattle.gc_trace.specs.declared.fault.TraceFault.{TraceFault}
+use Rattle.gc_trace.specs.declared.fault.TraceFault.TheVariants as trace
+use Rattle.gcflip.specs.declared.commands.threads.ThreadsRunFault.{ThreadsRunFault}
+use Rattle.gcflip.specs.declared.commands.threads.ThreadsRunFault.TheVariants as run
+use Rattle.gcflip.specs.declared.faults.fault.Fault.{Fault}
+use Rattle.gcflip.specs.declared.faults.fault.Fault.TheVariants.{Open, NoMemory, Play, Check, Threads}
 
--- 0 for a yes, 1 for a refusal
+abbrev pub statuses : List ℕ
+statuses = 0 ∷ 1 ∷ 2 ∷ 3 ∷ 4 ∷ 5 ∷ 6 ∷ []
+
 abbrev pub verdict_status : Verdict → ℕ
 verdict_status (verdict.Yes pairs) = 0
 verdict_status (verdict.Refused refusal) = 1
 
--- in all: 0 where it did what it was asked, 1 for a refusal, 2 where the command line asks for nothing, 3 to 6 for faults
-abbrev pub statuses : List ℕ
-statuses = 0 ∷ 1 ∷ 2 ∷ 3 ∷ 4 ∷ 5 ∷ 6 ∷ []
+-- ---- faults
+
+abbrev pub trace_fault_status : TraceFault → ℕ
+trace_fault_status trace.Read = 4
+trace_fault_status trace.TooLarge = 3
+trace_fault_status trace.BadHeader = 3
+trace_fault_status (trace.BadLine n) = 3
+trace_fault_status (trace.NoSuchMutator n) = 3
+trace_fault_status trace.NoMemory = 5
+
+abbrev pub play_fault_status : PlayFault → ℕ
+play_fault_status (play.Trace fault) = trace_fault_status fault
+play_fault_status play.NoSuchFlip = 3
+play_fault_status play.NoMemory = 5
+play_fault_status play.Write = 4
+
+abbrev pub pair_fault_status : PairFault → ℕ
+pair_fault_status pair.Read = 4
+pair_fault_status pair.TooLarge = 3
+pair_fault_status (pair.BadLine n) = 3
+pair_fault_status pair.EndsEarly = 3
+pair_fault_status pair.NoMemory = 5
+
+abbrev pub run_fault_status : RunFault → ℕ
+run_fault_status (check.Pair fault) = pair_fault_status fault
+run_fault_status check.NoMemory = 5
+run_fault_status check.Write = 4
+
+abbrev pub close_kind_status : CloseKind → ℕ
+close_kind_status close.Seats = 6
+close_kind_status (close.Torn seat n) = 6
+close_kind_status close.Extra = 6
+close_kind_status close.NoMemory = 5
+
+abbrev pub threads_fault_status : ThreadsFault → ℕ
+threads_fault_status threads.NotStarted = 6
+threads_fault_status (threads.Gate seat n) = 6
+threads_fault_status threads.NoMemory = 5
+threads_fault_status (threads.Close kind) = close_kind_status kind
+
+abbrev pub threads_run_fault_status : ThreadsRunFault → ℕ
+threads_run_fault_status (run.Trace fault) = trace_fault_status fault
+threads_run_fault_status (run.Threads fault) = threads_fault_status fault
+threads_run_fault_status run.NoMemory = 5
+threads_run_fault_status run.Write = 4
+
+abbrev pub status_of : Fault → ℕ
+status_of Open = 4
+status_of NoMemory = 5
+status_of (Play fault) = play_fault_status fault
+status_of (Check fault) = run_fault_status fault
+status_of (Threads fault) = threads_run_fault_status fault

@@ -38,15 +38,9 @@ WritesRunFront text turns old new = (t : Recording) × (entries : List Entry) ×
 -- ---- faults of its parts: want of memory is its own, but for that of the closing
 
 abbrev pub fault_of_trace : TraceFault → ThreadsRunFault
-fault_of_trace trace.Read = Trace trace.Read
-fault_of_trace trace.TooLarge = Trace trace.TooLarge
-fault_of_trace trace.BadHeader = Trace trace.BadHeader
-fault_of_trace (trace.BadLine n) = Trace (trace.BadLine n)
-fault_of_trace (trace.NoSuchMutator n) = Trace (trace.NoSuchMutator n)
 fault_of_trace trace.NoMemory = NoMemory
+fault_of_trace fault = Trace fault
 
 abbrev pub fault_of_threads : ThreadsFault → ThreadsRunFault
-fault_of_threads threads.NotStarted = Threads threads.NotStarted
-fault_of_threads (threads.Gate seat n) = Threads (threads.Gate seat n)
 fault_of_threads threads.NoMemory = NoMemory
-fault_of_threads (threads.Close kind) = Threads (threads.Close kind)
+fault_of_threads fault = Threads fault

@@ -3,12 +3,9 @@
 #![tactic(auto)]
 
 mod commands;
-mod fault;
-mod pair_faults;
+mod faults;
 mod program;
 mod task;
-mod threads_faults;
-mod trace_faults;
 
 use program::run;
 use std::process::ExitCode;

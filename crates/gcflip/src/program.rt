@@ -1,12 +1,12 @@
 ghost use Rattle.std.specs.Prelude.{◌≡◌, ◌≢◌, ◌⊎◌, Contains, IfOk, IfErr};
 ghost use Rattle.clap.specs.Values.{kind_of};
 ghost use Rattle.gcflip.specs.CommandLine.{IsInRange};
-ghost use Rattle.gcflip.specs.Faults.{status_of};
+ghost use Rattle.gcflip.specs.Statuses.{status_of};
 ghost use Rattle.gcflip.specs.Outcomes.{IsTaskFault, IsOfOpening, IsStatusOf};
 ghost use Rattle.gcflip.specs.Statuses.{statuses};
 
 use crate::commands::{check_from, pair_from, play_from, report_from, threads_from};
-use crate::fault::{Fault, write_fault};
+use crate::faults::{Fault, write_fault};
 use crate::task::{Task, refusal_of_no_text, task_of};
 use clap::Error;
 use clap::error::ErrorKind;

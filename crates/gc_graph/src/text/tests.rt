@@ -1,4 +1,4 @@
-use crate::text::{Printer, ReadFault, Sink, Source, Tokens, cut, number, read_all};
+use crate::text::{Message, Printer, ReadFault, Sink, Source, Tokens, cut, number, read_all};
 use std::alloc::Global;
 use std::io;
 use std::io::Read;
@@ -94,5 +94,27 @@ fn what_waits_goes_out_in_order(rt: HostRuntime) -> Result<(), Fail> {
         all.chunks(21)
             .all(|line| line == b"18446744073709551615\n".as_slice())
     );
+    Ok(())
+}
+
+#[test]
+fn messages_are_shown_as_they_are_printed(rt: HostRuntime) -> Result<(), Fail> {
+    let alloc = rt.alloc();
+    let rows = [
+        (Message::text("too large"), "too large"),
+        (Message::numbered("bad line ", 0), "bad line 0"),
+        (
+            Message::numbered_twice("seat ", 2, " call ", u64::MAX),
+            "seat 2 call 18446744073709551615",
+        ),
+    ];
+    for (message, text) in &rows {
+        let mut printer = Printer::new();
+        message.print(&mut printer);
+        let mut sink = Sink::new(Vec::new(alloc));
+        printer.flush(&mut sink)?;
+        assert_eq!(rt; sink.into_inner().as_slice(), text.as_bytes());
+        assert_eq!(rt; message.to_string(alloc)?.as_str(), *text);
+    }
     Ok(())
 }

@@ -144,11 +144,7 @@ fn a_bad_text_has_no_pair(rt: HostRuntime) {
 #[test]
 fn nothing_is_written_for_a_reader_that_fails(rt: HostRuntime) {
     for end in [End::Broken, End::Interrupted] {
-        let broken = Slow {
-            bytes: COLLECT_WHEN_FULL.trace,
-            step: 20,
-            end,
-        };
+        let broken = Slow::of(COLLECT_WHEN_FULL.trace, end);
         let mut sink = Sink::new(Vec::new(rt.alloc()));
         let found = play_pair(rt.alloc(), 1, &mut Source::new(broken), &mut sink);
         assert_eq!(rt; found, Err(PlayFault::Trace(TraceFault::Read)));

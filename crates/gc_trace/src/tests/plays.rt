@@ -1,3 +1,4 @@
+use crate::report::NOTHING;
 use crate::tests::rows::{NO_EVENTS, ONE_OBJECT_FILLS_THE_SPACE, ROWS};
 use crate::tests::streams::{End, Narrow, Slow, count_of, played, played_to};
 use crate::{PlayFault, Report, TraceFault, play};
@@ -21,16 +22,8 @@ fn a_play_reports_the_run(rt: HostRuntime) -> Result<(), Fail> {
         events: 3,
         made: 1,
         full: 1,
-        begun: 0,
-        copied: 0,
-        scanned: 0,
-        applied: 0,
-        flips: 0,
-        pairs: 0,
-        dropped: 0,
-        refused: 0,
         end: 7,
-        free: 0,
+        ..NOTHING
     };
     assert_eq!(rt; play(rt.alloc(), &mut source, &mut sink)?, want);
     Ok(())

@@ -176,11 +176,7 @@ fn a_reader_that_fails_midway_is_no_text(rt: HostRuntime) {
     for end in [End::Broken, End::Interrupted] {
         for given in [0, 20, 46, 73] {
             assert!(rt; given <= text.len());
-            let broken = Slow {
-                bytes: &text[..given],
-                step: 20,
-                end,
-            };
+            let broken = Slow::of(&text[..given], end);
             let mut source = Source::new(broken);
             let found = read_trace(rt.alloc(), &mut source);
             assert_eq!(rt; found.err(), Some(TraceFault::Read), "after {given} bytes");

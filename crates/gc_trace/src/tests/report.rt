@@ -1,5 +1,6 @@
 ghost use Rattle.std.specs.Prelude.{◌≡◌, IfOk};
 
+use crate::report::NOTHING;
 use crate::tests::rows::{COLLECT_WHEN_FULL, NO_EVENTS, ROWS};
 use crate::tests::streams::{End, Narrow, Slow};
 use crate::tests::worlds::{command, step, useful};
@@ -14,23 +15,6 @@ use std::test::Fail;
 /// The report of a collection when the space was full.
 pub const COLLECTED: &[u8] = b"events 12\nmade 3\nfull 1\nbegun 1\ncopied 1\nscanned 2\napplied 0\n\
     flips 1\npairs 1\ndropped 0\nrefused 0\nend 7\nfree 2\n";
-
-/// A report of nothing.
-const NOTHING: Report = Report {
-    events: 0,
-    made: 0,
-    full: 0,
-    begun: 0,
-    copied: 0,
-    scanned: 0,
-    applied: 0,
-    flips: 0,
-    pairs: 0,
-    dropped: 0,
-    refused: 0,
-    end: 0,
-    free: 0,
-};
 
 /// A world of nine words, all of which two objects take. One of them is a root.
 fn full_world(alloc: Global) -> Result<World, Fail>
@@ -185,11 +169,7 @@ fn both_plays_report_alike(rt: HostRuntime) -> Result<(), Fail> {
 #[test]
 fn a_text_that_is_not_read_has_no_report(rt: HostRuntime) {
     for end in [End::Broken, End::Interrupted] {
-        let broken = Slow {
-            bytes: COLLECT_WHEN_FULL.trace,
-            step: 20,
-            end,
-        };
+        let broken = Slow::of(COLLECT_WHEN_FULL.trace, end);
         let mut sink = Sink::new(Vec::new(rt.alloc()));
         let found = play_report(rt.alloc(), &mut Source::new(broken), &mut sink);
         assert_eq!(rt; found, Err(PlayFault::Trace(TraceFault::Read)));

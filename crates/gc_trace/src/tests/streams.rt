@@ -39,6 +39,17 @@ pub struct Slow<'a> {
     pub end: End,
 }
 
+impl<'a> Slow<'a> {
+    /// Twenty bytes a time.
+    pub fn of(bytes: &'a [u8], end: End) -> Self {
+        Slow {
+            bytes,
+            step: 20,
+            end,
+        }
+    }
+}
+
 impl Read for Slow<'_> {
     fn read(&mut self, buf: &mut [u8]) -> io::Result<usize> {
         if self.bytes.is_empty() {

@@ -8,7 +8,7 @@ ghost use Rattle.gcflip.specs.Verdicts.{TellsVerdict, SpellsReplicated};
 ghost use Rattle.gcflip.specs.Outcomes.{IsOfCheck};
 ghost use Rattle.gcflip.specs.Statuses.{verdict_status};
 
-use crate::fault::Fault;
+use crate::faults::Fault;
 use gc_check::Verdict;
 use gc_graph::{Sink, Source};
 use std::alloc::Global;

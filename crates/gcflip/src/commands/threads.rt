@@ -6,7 +6,8 @@ ghost use Rattle.gc_shared.specs.declared.fault.ThreadsFault.{ThreadsFault};
 ghost use Rattle.gcflip.specs.Outcomes.{IsOfThreads};
 ghost use Rattle.gcflip.specs.ThreadedRuns.{WritesRun, WritesRunFront};
 
-use crate::fault::Fault;
+use crate::faults::Fault;
+use gc_graph::text::Message;
 use gc_graph::{NoMemory, Sink, Source};
 use gc_shared::{Gate, ThreadsFault, run_threads};
 use gc_trace::{TraceFault, read_trace, scripts_are_commands, scripts_of, write_trace};
@@ -18,19 +19,33 @@ use thiserror::Error;
 
 /// Why the scripts of a trace were not run in threads.
 #[derive(Clone, Copy, Debug, PartialEq, Eq, Error)]
+#[error("{}", self.message())]
 pub enum ThreadsRunFault {
     /// The trace is not read; never `NoMemory`.
-    #[error(transparent)]
     Trace(TraceFault),
     /// The threads did not come to their end; never `NoMemory`, but for that of the closing.
-    #[error(transparent)]
     Threads(ThreadsFault),
     /// Memory was short, in reading too.
-    #[error("no memory")]
     NoMemory,
     /// The writer failed.
-    #[error("cannot write")]
     Write,
+}
+
+impl ThreadsRunFault {
+    ghost use Rattle.std.specs.Prelude.{◌≡◌};
+    ghost use Rattle.gcflip.specs.Faults.{threads_run_fault_text};
+
+    /// Returns what is said of the fault.
+    pub fn message(&self) -> Message
+        ensures { result ≡ threads_run_fault_text self.now }
+    {
+        match self {
+            ThreadsRunFault::Trace(fault) => fault.message(),
+            ThreadsRunFault::Threads(fault) => fault.message(),
+            ThreadsRunFault::NoMemory => Message::text("no memory"),
+            ThreadsRunFault::Write => Message::text("cannot write"),
+        }
+    }
 }
 
 impl From<TraceFault> for ThreadsRunFault {

@@ -1,5 +1,5 @@
 use crate::commands::check_from;
-use crate::fault::Fault;
+use crate::faults::Fault;
 use gc_cert::PairFault;
 use gc_check::RunFault;
 use gc_graph::{Sink, Source};

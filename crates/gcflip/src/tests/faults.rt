@@ -1,5 +1,5 @@
 use crate::commands::ThreadsRunFault;
-use crate::fault::{Fault, write_fault};
+use crate::faults::{Fault, write_fault};
 use gc_cert::PairFault;
 use gc_check::RunFault;
 use gc_graph::Sink;
@@ -10,9 +10,9 @@ use std::process::Abort;
 use std::test::Fail;
 
 /// A fault, its line, and its status.
-type Told = (Fault, &'static str, u8);
+type FaultRow = (Fault, &'static str, u8);
 
-fn of_the_program() -> [Told; 2] {
+fn of_the_program() -> [FaultRow; 2] {
     [
         (Fault::Open, "cannot read\n", 4),
         (Fault::NoMemory, "no memory\n", 5),
@@ -35,7 +35,7 @@ fn of_traces() -> [(TraceFault, &'static str, u8); 6] {
     ]
 }
 
-fn of_plays() -> [Told; 3] {
+fn of_plays() -> [FaultRow; 3] {
     [
         (
             Fault::Play(PlayFault::NoSuchFlip),
@@ -47,7 +47,7 @@ fn of_plays() -> [Told; 3] {
     ]
 }
 
-fn of_checks() -> [Told; 7] {
+fn of_checks() -> [FaultRow; 7] {
     let pair = |fault| Fault::Check(RunFault::Pair(fault));
     [
         (pair(PairFault::Read), "cannot read\n", 4),
@@ -64,7 +64,7 @@ fn of_checks() -> [Told; 7] {
     ]
 }
 
-fn of_threads() -> [Told; 5] {
+fn of_threads() -> [FaultRow; 5] {
     let threads = |fault| Fault::Threads(ThreadsRunFault::Threads(fault));
     let gate = ThreadsFault::Gate {
         seat: u32::MAX,
@@ -87,7 +87,7 @@ fn of_threads() -> [Told; 5] {
     ]
 }
 
-fn of_closing() -> [Told; 4] {
+fn of_closing() -> [FaultRow; 4] {
     let close = |kind| Fault::Threads(ThreadsRunFault::Threads(ThreadsFault::Close(kind)));
     let torn = CloseKind::Torn {
         seat: u8::MAX,
@@ -105,7 +105,7 @@ fn of_closing() -> [Told; 4] {
     ]
 }
 
-fn has_its_line_and_status(rt: &impl Abort, alloc: Global, told: &Told) -> Result<(), Fail> {
+fn has_its_line_and_status(rt: &impl Abort, alloc: Global, told: &FaultRow) -> Result<(), Fail> {
     let (fault, line, status) = told;
     let mut sink = Sink::new(Vec::new(alloc));
     assert_eq!(rt; write_fault(&mut sink, fault), *status, "of {fault:?}");
@@ -117,7 +117,7 @@ fn has_its_line_and_status(rt: &impl Abort, alloc: Global, told: &Told) -> Resul
 }
 
 /// The status is told even where the line cannot be.
-fn keeps_its_status_without_room(rt: &impl Abort, told: &Told) {
+fn keeps_its_status_without_room(rt: &impl Abort, told: &FaultRow) {
     let (fault, line, status) = told;
     let mut room = [0u8; 5];
     let mut sink = Sink::new(room.as_mut_slice());
@@ -126,7 +126,7 @@ fn keeps_its_status_without_room(rt: &impl Abort, told: &Told) {
     assert!(rt; line.as_bytes().starts_with(&room), "of {fault:?}");
 }
 
-fn are_told(rt: &impl Abort, alloc: Global, faults: &[Told]) -> Result<(), Fail> {
+fn are_told(rt: &impl Abort, alloc: Global, faults: &[FaultRow]) -> Result<(), Fail> {
     for told in faults {
         has_its_line_and_status(rt, alloc, told)?;
         keeps_its_status_without_room(rt, told);

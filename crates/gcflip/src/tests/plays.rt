@@ -1,6 +1,6 @@
 use super::traces::FULL;
 use crate::commands::play_from;
-use crate::fault::Fault;
+use crate::faults::Fault;
 use gc_graph::{Sink, Source};
 use gc_trace::{PlayFault, TraceFault};
 use std::test::Fail;

@@ -2,7 +2,7 @@
 
 use super::traces::FULL;
 use crate::commands::{ThreadsRunFault, threads_from, threads_run};
-use crate::fault::Fault;
+use crate::faults::Fault;
 use gc_graph::{Number, Reply, Sink, Source, View};
 use gc_shared::{Gate, run_threads};
 use gc_trace::{

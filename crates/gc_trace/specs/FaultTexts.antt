@@ -1,13 +1,11 @@
--- What the program says where a trace is not played.
+-- What is said of a trace's fault.
 use Rattle.std.specs.Prelude.{ℕ, List, ◌++◌, codes, decimal}
 use Rattle.gc_trace.specs.declared.fault.TraceFault.{TraceFault}
 use Rattle.gc_trace.specs.declared.fault.TraceFault.TheVariants as trace
 use Rattle.gc_trace.specs.declared.fault.PlayFault.{PlayFault}
 use Rattle.gc_trace.specs.declared.fault.PlayFault.TheVariants as play
 
--- ---- texts
-
-unfoldable pub trace_fault_text : TraceFault → List ℕ
+abbrev pub trace_fault_text : TraceFault → List ℕ
 trace_fault_text trace.Read = codes "cannot read"
 trace_fault_text trace.TooLarge = codes "trace: too large"
 trace_fault_text trace.BadHeader = codes "trace: bad header"
@@ -15,24 +13,8 @@ trace_fault_text (trace.BadLine n) = codes "trace: bad line " ++ decimal n
 trace_fault_text (trace.NoSuchMutator n) = codes "trace: no such mutator at line " ++ decimal n
 trace_fault_text trace.NoMemory = codes "no memory"
 
-unfoldable pub play_fault_text : PlayFault → List ℕ
+abbrev pub play_fault_text : PlayFault → List ℕ
 play_fault_text (play.Trace fault) = trace_fault_text fault
 play_fault_text play.NoSuchFlip = codes "trace: no such flip"
 play_fault_text play.NoMemory = codes "no memory"
 play_fault_text play.Write = codes "cannot write"
-
--- ---- statuses: 3 where a text is at fault, 4 for reading and writing, 5 for memory
-
-abbrev pub trace_fault_status : TraceFault → ℕ
-trace_fault_status trace.Read = 4
-trace_fault_status trace.TooLarge = 3
-trace_fault_status trace.BadHeader = 3
-trace_fault_status (trace.BadLine n) = 3
-trace_fault_status (trace.NoSuchMutator n) = 3
-trace_fault_status trace.NoMemory = 5
-
-abbrev pub play_fault_status : PlayFault → ℕ
-play_fault_status (play.Trace fault) = trace_fault_status fault
-play_fault_status play.NoSuchFlip = 3
-play_fault_status play.NoMemory = 5
-play_fault_status play.Write = 4

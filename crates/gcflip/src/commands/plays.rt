@@ -1,0 +1,61 @@
+ghost use Rattle.std.specs.Prelude.{◌≡◌, ◌≤◌, IfSome, IfOk, IfErr, OnOk};
+ghost use Rattle.gc_graph.specs.Streams.{bytes_left, bytes_written};
+ghost use Rattle.gc_trace.specs.Flips.{PlaysPair};
+ghost use Rattle.gcflip.specs.Outcomes.{IsOfPlay};
+ghost use Rattle.gcflip.specs.Plays.{WritesReplies, WritesReport};
+
+use crate::faults::Fault;
+use gc_graph::{Sink, Source};
+use std::alloc::Global;
+use std::io::{Read, Write};
+
+/// Plays the trace whose text the reader gives: writes the line of each reply. The status is 0.
+pub fn play_from<R: Read, W: Write>(
+    alloc: Global,
+    reader: &mut Source<R>,
+    writer: &mut Sink<W>,
+) -> Result<u8, Fault>
+    // All of the reply lines, and nothing else.
+    ensures played { OnOk result (IfSome (bytes_left R.remaining reader.old) (λ text.
+        WritesReplies text (bytes_written W.contents writer.old) (bytes_written W.contents writer.new))) }
+    ensures statuses { IfOk result (λ status. status ≡ 0) }
+    ensures player { IfErr result IsOfPlay }
+{
+    gc_trace::play_world(alloc, reader, writer)?;
+    Ok(0)
+}
+
+/// Plays the trace whose text the reader gives, and writes its report. The status is 0.
+pub fn report_from<R: Read, W: Write>(
+    alloc: Global,
+    reader: &mut Source<R>,
+    writer: &mut Sink<W>,
+) -> Result<u8, Fault>
+    // All of the report's text, and nothing else.
+    ensures reported { OnOk result (IfSome (bytes_left R.remaining reader.old) (λ text.
+        WritesReport text (bytes_written W.contents writer.old) (bytes_written W.contents writer.new))) }
+    ensures statuses { IfOk result (λ status. status ≡ 0) }
+    ensures player { IfErr result IsOfPlay }
+{
+    gc_trace::play_report(alloc, reader, writer)?;
+    Ok(0)
+}
+
+/// Runs the trace whose text the reader gives up to its n-th flip, counted from 1, and writes the pair of that flip. The
+/// status is 0.
+pub fn pair_from<R: Read, W: Write>(
+    alloc: Global,
+    n: u32,
+    reader: &mut Source<R>,
+    writer: &mut Sink<W>,
+) -> Result<u8, Fault>
+    requires { 1 ≤ n }
+    // All of the pair's text, and nothing else.
+    ensures written { OnOk result (IfSome (bytes_left R.remaining reader.old) (λ text.
+        PlaysPair n text (bytes_written W.contents writer.old) (bytes_written W.contents writer.new))) }
+    ensures statuses { IfOk result (λ status. status ≡ 0) }
+    ensures player { IfErr result IsOfPlay }
+{
+    gc_trace::play_pair(alloc, n, reader, writer)?;
+    Ok(0)
+}
