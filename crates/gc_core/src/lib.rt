@@ -11,3 +11,6 @@ mod steps;
 pub use collected_heap::CollectedHeap;
 pub use flip::{Flip, Keep};
 pub use laws::runs_are_legal;
+
+#[cfg(test)]
+mod tests;
