@@ -1,45 +1,20 @@
 -- A walk over the objects of a space, as loops make it.
-use Rattle.std.proofs.Common.{◌≡◌, ℕ, ◌+◌, ◌-◌, ◌<◌, ◌≤◌, true, List, [], ◌∷◌, ◌++◌, map, length, Some, None, refl, ap, sym, ◌∙◌, subst, arith, append_assoc, append-nil, length-append, inl}
-use Rattle.std.specs.Prelude.{◌^◌, IsOk, nat_le}
-use Rattle.std.proofs.lemmas.Bool.{cond-true, le-leb}
+use Rattle.std.proofs.Common.{◌≡◌, ℕ, ◌+◌, ◌<◌, ◌≤◌, true, List, [], ◌∷◌, ◌++◌, map, length, Some, refl, ap, sym, ◌∙◌, subst, arith, append_assoc, append-nil, length-append, inl}
+use Rattle.std.specs.Prelude.{◌^◌, IsOk}
 use Rattle.std.proofs.lemmas.List.{map-append, length-map}
-use Rattle.gc_words.specs.Image.{Block, walk_words, blocks, is_start, header_at, ok_or_nil}
+use Rattle.gc_words.specs.Image.{Block, walk_words, blocks, is_start, ok_or_nil}
 use Rattle.gc_words.specs.Spelling.{link_at}
 use Rattle.gc_words.specs.Space.{SpaceWords, IsSpace}
 use Rattle.gc_words.specs.Views.{addresses}
-use Rattle.gc_words.specs.Walking.{next_of, next_after, walk_from, block_from, StandsIn}
-use Rattle.gc_words.specs.declared.header.Header.{Header}
+use Rattle.gc_words.specs.Walking.{next_of, walk_from, block_from}
 use Rattle.gc_words.specs.declared.image.Pair.{Pair}
 use Rattle.gc_words.proofs.Steps.{Behind, behind, at_end, has_next}
 use Rattle.gc_words.proofs.Writes.{some_of}
-use Rattle.gc_words.proofs.Starts.{stands_in}
-use Rattle.gc_words.proofs.Fields.{block_of_header}
 use Rattle.gc_copy.specs.State.{Replica}
 use Rattle.gc_copy.specs.Members.{In}
 use Rattle.gc_copy.specs.Words.{replica_entry, replicas_in}
 use Rattle.gc_copy.proofs.Lists.{in_right, in_map}
 use Rattle.gc_copy.proofs.Spaces.{in_start}
-
--- ---- one step
-
-pub next_is : (words : List ℕ) (at : ℕ) (h : Header) → IsOk (walk_words words) → header_at words at ≡ Some h → next_of words at ≡ Some (at + h.len + 2)
-next_is words at h walked e =
-    let b = block_of_header words at h e in
-    let stands : StandsIn words at b.0 = stands_in words at b.0 walked b.1 in
-    let len : b.0.header.len ≡ h.len = ap (λ (k : Header). k.len) b.2 in
-    let fits = stands.fits in
-    let same : at + (b.0.header.len + 2) ≡ at + h.len + 2 = omega (arith, len) in
-    ap (λ o. next_after at o (length words - at)) stands.header
-    ∙ cond-true (nat_le (b.0.header.len + 2) (length words - at)) (Some (at + (b.0.header.len + 2))) None (le-leb _ _ (omega arith))
-    ∙ ap Some same
-
-pub next_within : (words : List ℕ) (at : ℕ) (h : Header) → IsOk (walk_words words) → header_at words at ≡ Some h → at + h.len + 2 ≤ length words
-next_within words at h walked e =
-    let b = block_of_header words at h e in
-    let stands : StandsIn words at b.0 = stands_in words at b.0 walked b.1 in
-    let len : b.0.header.len ≡ h.len = ap (λ (k : Header). k.len) b.2 in
-    let fits = stands.fits in
-    omega (arith, len)
 
 -- ---- the walk so far
 

@@ -12,7 +12,8 @@ use Rattle.gc_words.specs.Word.{IsHeader, HasAddress, word_of, field_value}
 use Rattle.gc_words.specs.Word.{value_of}
 use Rattle.gc_words.specs.Image.{Block, block_in, block_at, is_start, header_at, field_in, field_at, object_of_block, objects_of}
 use Rattle.gc_words.specs.Spelling.{link_at}
-use Rattle.gc_words.specs.Space.{SpaceWords, IsSpace, HasRoom, end_of, free_in, with_object, with_word, link_place, field_place}
+use Rattle.gc_words.specs.Layout.{link_place, field_place}
+use Rattle.gc_words.specs.Space.{SpaceWords, IsSpace, HasRoom, end_of, free_in, with_object, with_word}
 use Rattle.gc_words.specs.Closed.{RefersToStart, IsRootWord}
 use Rattle.gc_words.specs.declared.header.Header.{Header}
 use Rattle.gc_words.specs.Walking.{StandsIn}
@@ -22,7 +23,8 @@ use Rattle.gc_words.proofs.Links.{link_written_there, link_written_beside}
 use Rattle.gc_words.proofs.Graphs.{object_found, field_found, graph_link, meaning_back}
 use Rattle.gc_words.proofs.Fields.{block_of_header}
 use Rattle.gc_words.proofs.Ends.{fields_counted, end_written}
-use Rattle.gc_heap.specs.Heap.{HeapWords, IsHeap, graph_in, name_of}
+use Rattle.gc_graph.specs.Graph.{name_of}
+use Rattle.gc_heap.specs.Heap.{HeapWords, IsHeap, graph_in}
 use Rattle.gc_copy.specs.State.{Replica, Collection, State, new_objects, new_end, new_free, replica_of, moved, moved_name}
 use Rattle.gc_copy.specs.Linked.{place_or_zero, old_links}
 use Rattle.gc_copy.specs.Steps.{fresh_replica, place_replica, with_replica, with_written, write_replica, copy_value, bring_value, bring_up_to_date, collect}

@@ -4,7 +4,8 @@ use Rattle.std.proofs.lemmas.Bool.{cond-true, cond-false}
 use Rattle.std.proofs.lemmas.List.{drop_more, drop_all}
 use Rattle.gc_graph.specs.Graph.{Value, Nil, Num, Ref, names_of}
 use Rattle.gc_words.specs.Word.{value_of, word_of}
-use Rattle.gc_heap.specs.Heap.{HeapWords, graph_in, name_of}
+use Rattle.gc_graph.specs.Graph.{name_of}
+use Rattle.gc_heap.specs.Heap.{HeapWords, graph_in}
 use Rattle.gc_copy.specs.State.{Collection, replica_of, moved}
 use Rattle.gc_copy.specs.Steps.{first_unreplicated, roots_done}
 use Rattle.gc_copy.specs.Members.{In}

@@ -5,8 +5,8 @@
 mod collection;
 mod laws;
 mod log;
+mod pairs;
 mod step;
-mod walk;
 
 pub use collection::Collection;
 pub use laws::{

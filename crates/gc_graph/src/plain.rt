@@ -1,6 +1,6 @@
 ghost use Rattle.std.specs.Prelude.{◌≡◌, ◌+◌, ◌<◌, ◌≤◌, IfOk, OnErr, IsErr, length};
 ghost use Rattle.gc_graph.specs.Limits.{most_words, most_mutators};
-ghost use Rattle.gc_graph.specs.Machine.{opening_roomy, HasMutator, MakesObject, Answers, Makes};
+ghost use Rattle.gc_graph.specs.Machine.{object_words, opening_roomy, HasMutator, MakesObject, Answers, Makes};
 
 use crate::command::Op;
 use crate::no_memory::NoMemory;
@@ -109,7 +109,7 @@ impl Plain {
         ensures ok { IfOk result (λ reply. Makes self.old place kind len reply self.new) }
         ensures err { OnErr result (self.new ≡ self.old) }
     {
-        let taken = u32::from(len) + 2;
+        let taken = object_words(len);
         if taken > self.free {
             return Ok(Reply::Full);
         }
@@ -122,4 +122,11 @@ impl Plain {
         self.next_name += 1;
         Ok(Reply::Made)
     }
+}
+
+/// Returns the number of words of an object with so many fields: its header, its link, and its fields.
+pub fn object_words(len: u16) -> u32
+    ensures { result ≡ object_words len }
+{
+    u32::from(len) + 2
 }

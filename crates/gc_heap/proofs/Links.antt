@@ -4,7 +4,8 @@ use Rattle.std.specs.Prelude.{IsSome}
 use Rattle.std.proofs.lemmas.Bool.{eqb-true, eqb-false, cases_Bool}
 use Rattle.gc_words.specs.Image.{Block, block_at, is_start, field_at, field_in}
 use Rattle.gc_words.specs.Spelling.{link_at}
-use Rattle.gc_words.specs.Space.{SpaceWords, IsSpace, CanPlace, end_of, with_object, with_word, field_place}
+use Rattle.gc_words.specs.Layout.{field_place}
+use Rattle.gc_words.specs.Space.{SpaceWords, IsSpace, CanPlace, end_of, with_object, with_word}
 use Rattle.gc_words.specs.declared.header.Header.{Header}
 use Rattle.gc_words.proofs.Blocks.{placed_beside, field_beside}
 use Rattle.gc_words.proofs.Links.{link_placed, link_placed_beside, link_beside_field}

@@ -4,9 +4,9 @@ use Rattle.gc_graph.specs.Graph.{Ref}
 use Rattle.gc_words.specs.Word.{word_of}
 use Rattle.gc_words.specs.Space.{SpaceWords, CanPlace, end_of, with_object}
 use Rattle.gc_words.specs.declared.header.Header.{Header}
-use Rattle.gc_heap.specs.Heap.{HeapWords, IsHeap, KeepsLinks, Makes}
+use Rattle.gc_heap.specs.Heap.{HeapWords, IsHeap, KeepsLinks}
 use Rattle.gc_heap.proofs.Commands.{made_heap}
-use Rattle.gc_heap.proofs.Steps.{made, with_new}
+use Rattle.gc_heap.proofs.Steps.{Makes, made, with_new}
 use Rattle.gc_graph.specs.declared.reply.Reply.TheVariants.{Made}
 use Rattle.gc_heap.proofs.Links.{links_placed}
 use Rattle.gc_heap.proofs.heap.Heap.make.Goals as goal
