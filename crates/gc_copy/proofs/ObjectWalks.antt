@@ -74,25 +74,16 @@ all_met words at done m past = sym (m.split ∙ ap (λ r. done ++ ok_or_nil r) (
 abbrev pub Counts : List ℕ → ℕ → ℕ → Type 0
 Counts words at count = (done : List (ℕ × Block)) × Met words at done × (count ≡ length done)
 
-pub counts_none : (space : SpaceWords) → IsSpace space → Counts space.words 1 0
-counts_none space is = ([], met_none space is, refl)
-
 pub counts_more : (words : List ℕ) (at next count : ℕ) → Counts words at count → at < length words → next_of words at ≡ Some next → Counts words next (count + 1)
 counts_more words at next count k less e =
     let p : Passing words at next k.0 = passing words at next k.0 k.1 less e in
     (k.0 ++ (at, p.block) ∷ [], p.met, ap (λ n. n + 1) k.2 ∙ sym (length-append k.0 ((at, p.block) ∷ [])))
-
-pub counts_all : (words : List ℕ) (at count : ℕ) → Counts words at count → length words ≤ at → count ≡ length (blocks words)
-counts_all words at count k past = k.2 ∙ ap length (all_met words at k.0 k.1 past)
 
 abbrev pub pair_of : Replica → ℕ × ℕ
 pair_of r = (r.original, r.place)
 
 abbrev pub Lists : List ℕ → ℕ → List Pair → Type 0
 Lists words at pairs = (done : List (ℕ × Block)) × Met words at done × (map addresses pairs ≡ map pair_of (map (replica_entry words) done))
-
-pub lists_none : (space : SpaceWords) (pairs : List Pair) → IsSpace space → pairs ≡ [] → Lists space.words 1 pairs
-lists_none space pairs is none = ([], met_none space is, ap (map addresses) none)
 
 pub lists_more : (words : List ℕ) (at next : ℕ) (pairs more : List Pair) (pair : Pair) → Lists words at pairs → at < length words → next_of words at ≡ Some next → addresses pair ≡ (link_at words at, at) → more ≡ pairs ++ pair ∷ [] → Lists words next more
 lists_more words at next pairs more pair k less e is after =
@@ -104,9 +95,6 @@ lists_more words at next pairs more pair k less e is after =
           ∙ (λ i. k.2 i ++ is i ∷ [])
           ∙ sym (ap (map pair_of) (map-append (replica_entry words) k.0 ((at, p.block) ∷ [])) ∙ map-append pair_of (map (replica_entry words) k.0) (replica_entry words (at, p.block) ∷ [])),
     )
-
-pub lists_all : (words : List ℕ) (at : ℕ) (pairs : List Pair) → Lists words at pairs → length words ≤ at → map addresses pairs ≡ map pair_of (replicas_in words)
-lists_all words at pairs k past = k.2 ∙ ap (λ bs. map pair_of (map (replica_entry words) bs)) (all_met words at k.0 k.1 past)
 
 -- what the object here names
 pub link_small : (words : List ℕ) (at : ℕ) (done : List (ℕ × Block)) → ((r : Replica) → In r (replicas_in words) → r.original < 2 ^ 32) → Met words at done → at < length words → link_at words at < 2 ^ 32

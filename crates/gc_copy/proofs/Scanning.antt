@@ -20,7 +20,7 @@ use Rattle.gc_copy.specs.declared.step.Step.TheVariants as steps
 use Rattle.gc_copy.specs.declared.step.StepReply.TheVariants.{Clean, Passed, Scanned, NoRoom}
 use Rattle.gc_copy.proofs.Links.{found_by_name, found_by_place}
 use Rattle.gc_copy.proofs.Spaces.{in_start, replica_start}
-use Rattle.gc_copy.proofs.Opened.{state_kept, same_graph, after_step, field_present, replica_object}
+use Rattle.gc_copy.proofs.OpenCollection.{state_kept, same_graph, after_step, field_present, replica_object}
 
 module _ (heap : HeapWords) (x : CollectionWords) (is : IsCollection x) (k : BelongsTo heap x) (more : scan_done (collection_in x) ≡ false) where
   -- the replica at the scan pointer

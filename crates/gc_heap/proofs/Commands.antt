@@ -67,9 +67,6 @@ points h s a w heap less read name =
       object = ap (object_of (graph_in h).objects) at ∙ object_found h.space.words a ∙ ap (option_map object_of_block) b.1;
     }
 
-pub start_of : (h : HeapWords) (s a w : ℕ) → IsHeap h → s < length h.roots → w ≡ slice_index h.roots s → Some a ≡ name_of (value_of w) → is_start h.space.words a ≡ true
-start_of h s a w heap less read name = ap is_some (points h s a w heap less read name).found
-
 -- a field, as the graph has it
 field_value_at : (h : HeapWords) (s a i : ℕ) (p : Points h s a) → field_of (object_of (graph_in h).objects (root (graph_in h) s)) i ≡ option_map (field_value p.block.header) (field_at h.space.words a i)
 field_value_at h s a i p = ap (λ v. field_of (object_of (graph_in h).objects v) i) p.target ∙ field_found h.space.words a i p.block p.found

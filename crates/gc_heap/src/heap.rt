@@ -108,7 +108,7 @@ impl Heap {
         Some(OldAddr(at.0))
     }
 
-    /// Makes mutator m's command.
+    /// MakesAtEnd mutator m's command.
     pub fn apply(&mut self, m: u8, op: &Op) -> Reply
         requires { m < self.old.mutators }
         // The name of a new object is the end of the space.
@@ -122,11 +122,11 @@ impl Heap {
         let _ = &self.roots;
         match *op {
             Op::New { d, kind, len } => self.make(d.place(m), kind, len),
-            Op::Num { d, n } => self.take(d.place(m), encode(Value::Num(n))),
-            Op::Nil { d } => self.take(d.place(m), encode(Value::Nil)),
+            Op::Num { d, n } => self.set(d.place(m), encode(Value::Num(n))),
+            Op::Nil { d } => self.set(d.place(m), encode(Value::Nil)),
             Op::Move { d, s } => {
                 let word = self.roots[s.place(m)];
-                self.take(d.place(m), word)
+                self.set(d.place(m), word)
             }
             Op::Get { d, s, i } => self.get(d.place(m), s.place(m), i),
             Op::Put { s, i, t } => self.put(s.place(m), i, t.place(m)),
@@ -148,7 +148,7 @@ impl Heap {
         self.space.set_link(Addr(old.0), u64::from(new.0));
     }
 
-    /// Makes all link words 0.
+    /// MakesAtEnd all link words 0.
     pub fn clear_links(&mut self)
         ensures words { self.new ≡ record self.old { space = without_links self.old.space } }
         ensures graph { graph_in self.new ≡ graph_in self.old }
@@ -186,8 +186,8 @@ impl Heap {
         Reply::Made
     }
 
-    /// A root takes a word.
-    fn take(&mut self, place: usize, word: u64) -> Reply
+    /// Writes a word into a root.
+    fn set(&mut self, place: usize, word: u64) -> Reply
         requires root { place < length self.old.roots }
         requires word { IsRootWord self.old.space.words word }
         ensures done { result ≡ Reply.Done }

@@ -5,7 +5,7 @@
 mod header;
 mod image;
 mod laws;
-mod places;
+mod layout;
 mod refusal;
 mod shape;
 mod space;
@@ -21,7 +21,7 @@ pub use laws::{
     references_stay_to_starts, spaces_are_spelled, walks_go_by_steps, words_are_read_back,
     worked_rows, writes_keep_spaces,
 };
-pub use places::field_index;
+pub use layout::field_index;
 pub use refusal::Refusal;
 pub use shape::{ShapeFault, next_start, walk};
 pub use space::Space;

@@ -1,5 +1,5 @@
 use crate::header::Header;
-use crate::places::{clear_links, field_index, has_start, link_index};
+use crate::layout::{clear_links, field_index, has_start, link_index};
 use crate::shape::next_start;
 use crate::value::Addr;
 use gc_graph::{NoMemory, object_words};

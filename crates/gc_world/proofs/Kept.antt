@@ -8,7 +8,7 @@ use Rattle.gc_copy.specs.Runs.{Event, Mutate, Collect, Stepped, AreEvents, after
 use Rattle.gc_copy.specs.Carried.{OnlyKeptIsPaired, base_of_run}
 use Rattle.gc_copy.specs.declared.step.StepReply.TheVariants.{Refused}
 use Rattle.gc_copy.proofs.Runs.{Reached, opening_ok, event_keeps, run_keeps}
-use Rattle.gc_copy.proofs.Kept.{never_refused}
+use Rattle.gc_copy.proofs.StateLaws.{never_refused}
 use Rattle.gc_copy.proofs.Carried.{carries_only_kept}
 use Rattle.gc_world.specs.History.{run_event, run_answer, events_of, answers_of, RunsFrom, state_after, IsHistory}
 use Rattle.gc_world.specs.declared.event.Entry.{Entry}

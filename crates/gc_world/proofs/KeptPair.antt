@@ -10,7 +10,7 @@ use Rattle.gc_copy.specs.Steps.{is_ready}
 use Rattle.gc_cert.specs.Grammar.{CertifiedPair}
 use Rattle.gc_copy.specs.State.{pairs_of}
 use Rattle.gc_copy.specs.Words.{CollectionWords, IsCollection, collection_in, state_of, open_state, BelongsTo, new_root_words}
-use Rattle.gc_copy.proofs.Shown.{old_shown, new_shown, shown_certified}
+use Rattle.gc_copy.proofs.LinkedImages.{old_shown, new_shown, shown_certified}
 use Rattle.gc_world.specs.Flip.{IsDraft, IsPlan, flip_pair, IsCertified}
 use Rattle.gc_world.specs.declared.flip.Plan.{Plan}
 

@@ -2,7 +2,7 @@ use Rattle.std.proofs.Common.{◌≡◌, sym, ◌∙◌, subst}
 use Rattle.std.specs.Prelude.{slice_set, IsOk}
 use Rattle.gc_words.specs.Walking.{walk_from}
 use Rattle.gc_words.proofs.Steps.{cleared_step, cleared_from}
-use Rattle.gc_words.proofs.places.clear_links.Goals as goal
+use Rattle.gc_words.proofs.layout.clear_links.Goals as goal
 
 pub loop-at-preserved : goal.loop-at-preserved
 loop-at-preserved c =
