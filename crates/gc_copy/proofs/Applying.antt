@@ -3,18 +3,17 @@ use Rattle.std.proofs.Common.{◌≡◌, inl, ℕ, suc, ◌+◌, Bool, true, fal
 use Rattle.std.specs.Prelude.{IsSome, nat_lt, slice_get, slice_set}
 use Rattle.std.specs.List.{list_all}
 use Rattle.std.specs.Option.{option_map}
-use Rattle.std.proofs.lemmas.Bool.{cond-true, cond-false}
 use Rattle.gc_graph.specs.Graph.{Value, Nil, Num, Ref, Object, Graph, lookup, field_of}
-use Rattle.gc_words.specs.Image.{is_start, field_at, block_at, field_in, Block}
+use Rattle.gc_words.specs.Image.{field_at}
 use Rattle.gc_heap.specs.Heap.{HeapWords, graph_in}
-use Rattle.gc_copy.specs.State.{Replica, Collection, new_end, new_free, replica_of, moved}
+use Rattle.gc_copy.specs.State.{Collection, new_end, new_free, replica_of, moved}
 use Rattle.gc_copy.specs.Steps.{log_at, with_log, is_empty, first_log, fresh_replica, place_replica, with_replica, write_replica, copy_value, bring_value, bring_up_to_date, apply_entry, apply_log, if_room, scan_done, roots_done, is_ready}
 use Rattle.gc_copy.specs.Entries.{oldest}
 use Rattle.gc_copy.specs.Words.{Log, CollectionWords, IsCollection, entries_of, collection_in, open_state, BelongsTo, KeepsGraph, KeepsRest}
 use Rattle.gc_copy.specs.declared.step.Step.TheVariants as steps
 use Rattle.gc_copy.specs.declared.step.StepReply.TheVariants.{Clean, Applied, NoRoom}
 use Rattle.gc_copy.proofs.Logs.{entries_at, entry_dropped}
-use Rattle.gc_copy.proofs.Opened.{state_kept, after_step, field_present}
+use Rattle.gc_copy.proofs.OpenCollection.{state_kept, after_step, field_present}
 
 -- ---- a log that is taken out is not looked at
 
@@ -63,28 +62,6 @@ entry_beside c g m entries entry = by (is_some (replica_of c entry.0))
     by false = refl
 
 -- ---- one entry
-
-pub entry_brought : (c : Collection) (g : Graph) (entry : ℕ × ℕ) (place : ℕ) → option_map (λ r. r.place) (replica_of c entry.0) ≡ Some place → apply_entry c g entry ≡ bring_up_to_date c g entry.0 entry.1
-entry_brought c g entry place e = cond-true (is_some (replica_of c entry.0)) (bring_up_to_date c g entry.0 entry.1) (Some c) (there (replica_of c entry.0) e)
-  where
-    there : (o : Option Replica) → option_map (λ r. r.place) o ≡ Some place → is_some o ≡ true
-    there None f = absurd (let no : None ≡ Some place = f in cc)
-    there (Some r) f = refl
-
-pub entry_skipped : (c : Collection) (g : Graph) (entry : ℕ × ℕ) → option_map (λ r. r.place) (replica_of c entry.0) ≡ None → apply_entry c g entry ≡ Some c
-entry_skipped c g entry e = cond-false (is_some (replica_of c entry.0)) (bring_up_to_date c g entry.0 entry.1) (Some c) (gone (replica_of c entry.0) e)
-  where
-    gone : (o : Option Replica) → option_map (λ r. r.place) o ≡ None → is_some o ≡ false
-    gone None f = refl
-    gone (Some r) f = absurd (let no : Some r.place ≡ None = f in cc)
-
--- the start of an object that has a field
-pub start_of_field : (words : List ℕ) (a i : ℕ) → IsSome (field_at words a i) → is_start words a ≡ true
-start_of_field words a i h = by (block_at words a) h
-  where
-    by : (o : Option Block) → IsSome (field_in o i) → is_some o ≡ true
-    by None h = absurd (let no : false ≡ true = h in cc)
-    by (Some b) h = refl
 
 -- ---- the oldest entry
 

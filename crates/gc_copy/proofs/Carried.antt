@@ -9,7 +9,7 @@ use Rattle.gc_copy.specs.Steps.{written, logged, mutate, log_at, with_log, fresh
 use Rattle.gc_copy.specs.Runs.{IsEvent, AreEvents, after, state_after}
 use Rattle.gc_copy.specs.declared.event.Event.{Event}
 use Rattle.gc_copy.specs.declared.event.Event.TheVariants.{Mutate, Collect}
-use Rattle.gc_copy.specs.Carried.{is_begun, base_after, base_of_run, IsKept, OnlyKeptIsPaired, CarriesOnlyKept}
+use Rattle.gc_copy.specs.Carried.{is_begun, base_after, base_of_run, IsLiveSince, OnlyKeptIsPaired, CarriesOnlyKept}
 use Rattle.gc_copy.specs.Members.{In}
 use Rattle.gc_copy.specs.Belonging.{RefersTo, IsState}
 use Rattle.gc_graph.specs.declared.command.Op.{Op}
@@ -211,21 +211,21 @@ follow_more objects None fields i = refl
 follow_more objects (Some v) [] i = refl
 follow_more objects (Some v) (j ∷ fields) i = follow_more objects (field_of (object_of objects v) j) fields i
 
-begun_closed : (s : State) → IsState s → Closed (IsKept s) s.heap.graph
+begun_closed : (s : State) → IsState s → Closed (IsLiveSince s) s.heap.graph
 begun_closed s h = record { roots = roots; fields = fields }
   where
     g : Graph
     g = s.heap.graph
 
-    root_kept : (i : ℕ) (v : Value) → slice_get g.roots i ≡ Some v → RefersTo (IsKept s) v
+    root_kept : (i : ℕ) (v : Value) → slice_get g.roots i ≡ Some v → RefersTo (IsLiveSince s) v
     root_kept i Nil e = tt
     root_kept i (Num n) e = tt
     root_kept i (Ref a) e = inl (i, [], ap (λ o. follow g.objects o []) e)
 
-    roots : (v : Value) → In v g.roots → RefersTo (IsKept s) v
+    roots : (v : Value) → In v g.roots → RefersTo (IsLiveSince s) v
     roots v k = let i = in_get v g.roots k in root_kept i.0 v i.1
 
-    field_kept : (a : ℕ) (o : Object) → In (a, o) g.objects → Reachable g a → (i : ℕ) (v : Value) → slice_get o.fields i ≡ Some v → RefersTo (IsKept s) v
+    field_kept : (a : ℕ) (o : Object) → In (a, o) g.objects → Reachable g a → (i : ℕ) (v : Value) → slice_get o.fields i ≡ Some v → RefersTo (IsLiveSince s) v
     field_kept a o k r i Nil e = tt
     field_kept a o k r i (Num n) e = tt
     field_kept a o k r i (Ref b) e =
@@ -239,7 +239,7 @@ begun_closed s h = record { roots = roots; fields = fields }
               ∙ ap (λ x. follow g.objects x []) e)),
         )
 
-    fields : (a : ℕ) (o : Object) → In (a, o) g.objects → IsKept s a → (v : Value) → In v o.fields → RefersTo (IsKept s) v
+    fields : (a : ℕ) (o : Object) → In (a, o) g.objects → IsLiveSince s a → (v : Value) → In v o.fields → RefersTo (IsLiveSince s) v
     fields a o k (inl r) v l = let i = in_get v o.fields l in field_kept a o k r i.0 v i.1
     fields a o k (inr late) v l = absurd (let range = laid_range 1 g.objects (s.size - s.heap.free) (a, o) (h.heap).laid k in omega arith)
 
@@ -247,18 +247,18 @@ begun_closed s h = record { roots = roots; fields = fields }
 
 record Follows (mutators : ℕ) (base s : State) : Type 0 where
   reached : Reached mutators s
-  carried : CarriesIn (IsKept base) (heap_end base) s s.collection
+  carried : CarriesIn (IsLiveSince base) (heap_end base) s s.collection
 
-mutate_carries : (base s : State) (m : ℕ) (op : Op) → CarriesIn (IsKept base) (heap_end base) s s.collection → CarriesIn (IsKept base) (heap_end base) (mutate s m op).1 (mutate s m op).1.collection
+mutate_carries : (base s : State) (m : ℕ) (op : Op) → CarriesIn (IsLiveSince base) (heap_end base) s s.collection → CarriesIn (IsLiveSince base) (heap_end base) (mutate s m op).1 (mutate s m op).1.collection
 mutate_carries base s m op h = go s.collection h
   where
-    go : (o : Option Collection) → CarriesIn (IsKept base) (heap_end base) s o → CarriesIn (IsKept base) (heap_end base) (mutate s m op).1 (logged o m (written s.heap.graph m op (mutate s m op).0))
+    go : (o : Option Collection) → CarriesIn (IsLiveSince base) (heap_end base) s o → CarriesIn (IsLiveSince base) (heap_end base) (mutate s m op).1 (logged o m (written s.heap.graph m op (mutate s m op).0))
     go None h = tt
     go (Some c) h =
-        let both : Closed (IsKept base) (roomy_step s.heap m op (heap_end s)).1.graph × ((roomy_step s.heap m op (heap_end s)).1.free ≤ s.heap.free) =
-        cond_both (nat_lt s.heap.free (words_taken op)) _ _ (λ (next : Reply × Roomy). Closed (IsKept base) next.1.graph × (next.1.free ≤ s.heap.free))
+        let both : Closed (IsLiveSince base) (roomy_step s.heap m op (heap_end s)).1.graph × ((roomy_step s.heap m op (heap_end s)).1.free ≤ s.heap.free) =
+        cond_both (nat_lt s.heap.free (words_taken op)) _ _ (λ (next : Reply × Roomy). Closed (IsLiveSince base) next.1.graph × (next.1.free ≤ s.heap.free))
         (λ t. (h.0, omega arith))
-        (λ t. (step_closed (IsKept base) s.heap.graph m op (heap_end s) h.0 (inr h.2), omega arith)) in
+        (λ t. (step_closed (IsLiveSince base) s.heap.graph m op (heap_end s) h.0 (inr h.2), omega arith)) in
         (both.0, h.1, (let x = both.1 in let y = h.2 in omega arith))
 
 event_carries : (mutators : ℕ) (base s : State) (event : Event) → Follows mutators base s → IsEvent mutators event → Follows mutators (base_after base s event) (after s event)
@@ -266,15 +266,15 @@ event_carries mutators base s (Mutate m op) h r = record { reached = event_keeps
 event_carries mutators base s (Collect step) h r = record { reached = event_keeps mutators s (Collect step) h.reached r; carried = go s.collection refl h.carried step }
   where
     Goal : StepReply × State → Type 0
-    Goal next = let first = cond (is_begun next.0) s base in CarriesIn (IsKept first) (heap_end first) next.1 next.1.collection
+    Goal next = let first = cond (is_begun next.0) s base in CarriesIn (IsLiveSince first) (heap_end first) next.1 next.1.collection
 
-    quiet : (next : StepReply × State) → Quiet (IsKept base) (heap_end base) next → Goal next
-    quiet next q = subst (λ b. let first = cond b s base in CarriesIn (IsKept first) (heap_end first) next.1 next.1.collection) (sym q.0) q.1
+    quiet : (next : StepReply × State) → Quiet (IsLiveSince base) (heap_end base) next → Goal next
+    quiet next q = subst (λ b. let first = cond b s base in CarriesIn (IsLiveSince first) (heap_end first) next.1 next.1.collection) (sym q.0) q.1
 
-    idle : s.collection ≡ None → CarriesIn (IsKept base) (heap_end base) s s.collection
-    idle is = subst (CarriesIn (IsKept base) (heap_end base) s) (sym is) tt
+    idle : s.collection ≡ None → CarriesIn (IsLiveSince base) (heap_end base) s s.collection
+    idle is = subst (CarriesIn (IsLiveSince base) (heap_end base) s) (sym is) tt
 
-    go : (o : Option Collection) → s.collection ≡ o → CarriesIn (IsKept base) (heap_end base) s s.collection → (step : Step) → Goal (collect_with s o step)
+    go : (o : Option Collection) → s.collection ≡ o → CarriesIn (IsLiveSince base) (heap_end base) s s.collection → (step : Step) → Goal (collect_with s o step)
     go None is k steps.Begin = (begun_closed s (h.reached).ok, (λ r x. absurd x), omega arith)
     go None is k (steps.BeginSized size) = (begun_closed s (h.reached).ok, (λ r x. absurd x), omega arith)
     go None is k steps.Roots = idle is
@@ -282,7 +282,7 @@ event_carries mutators base s (Collect step) h r = record { reached = event_keep
     go None is k (steps.Apply m) = idle is
     go None is k steps.Flip = idle is
     go None is k steps.Drop = idle is
-    go (Some c) is k step = quiet (collect_with s (Some c) step) (open_quiet (IsKept base) (heap_end base) s c step is (subst (CarriesIn (IsKept base) (heap_end base) s) is k))
+    go (Some c) is k step = quiet (collect_with s (Some c) step) (open_quiet (IsLiveSince base) (heap_end base) s c step is (subst (CarriesIn (IsLiveSince base) (heap_end base) s) is k))
 
 run_carries : (mutators : ℕ) (events : List Event) (base s : State) → Follows mutators base s → AreEvents mutators events → Follows mutators (base_of_run base s events) (state_after s events)
 run_carries mutators [] base s h r = h
@@ -293,6 +293,6 @@ carries_only_kept size mutators events low high r =
     let f = run_carries mutators events (opening_state size mutators) (opening_state size mutators) (record { reached = record { ok = opening_ok size mutators low high; count = refl }; carried = tt }) r in
     go (base_of_run (opening_state size mutators) (opening_state size mutators) events) (state_after (opening_state size mutators) events) _ f.carried
   where
-    go : (base s : State) (o : Option Collection) → CarriesIn (IsKept base) (heap_end base) s o → OnlyKeptIsPaired base o
+    go : (base s : State) (o : Option Collection) → CarriesIn (IsLiveSince base) (heap_end base) s o → OnlyKeptIsPaired base o
     go base s None k = tt
-    go base s (Some c) k = all_from_in (λ (p : ℕ × ℕ). IsKept base p.0) (pairs_of c) (λ p l. let q = in_map_from pair p c.replicas l in subst (λ (x : ℕ × ℕ). IsKept base x.0) q.2 (k.1 q.0 q.1))
+    go base s (Some c) k = all_from_in (λ (p : ℕ × ℕ). IsLiveSince base p.0) (pairs_of c) (λ p l. let q = in_map_from pair p c.replicas l in subst (λ (x : ℕ × ℕ). IsLiveSince base x.0) q.2 (k.1 q.0 q.1))

@@ -27,7 +27,7 @@ use Rattle.gc_copy.proofs.Steps.{IsReady, ready_parts, new_heap}
 use Rattle.gc_copy.proofs.Images.{named_address}
 use Rattle.gc_copy.proofs.Flips.{flips}
 use Rattle.gc_copy.proofs.Spaces.{in_start, new_objects_are, new_end_is}
-use Rattle.gc_copy.proofs.Opened.{opened}
+use Rattle.gc_copy.proofs.OpenCollection.{opened}
 
 -- ---- links cleared
 

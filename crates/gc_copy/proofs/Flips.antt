@@ -55,11 +55,11 @@ pairs_rise at (r ∷ rest) end h i zero d l within = absurd (omega arith)
 pairs_rise at (r ∷ rest) end h zero (suc j) d l within =
     let q = get_in (get_or (map pair rest) j d) (map pair rest) j (slice_get-get_or (map pair rest) j d (omega arith)) in
     let s = in_map_from pair (get_or (map pair rest) j d) rest q in
-    let range = laid_range (at + length r.object.fields + 2) (map placed rest) end (placed s.0) h.1 (in_map placed s.0 rest s.1) in
+    let range = laid_range (at + (length r.object.fields + 2)) (map placed rest) end (placed s.0) h.1 (in_map placed s.0 rest s.1) in
     let e : s.0.place ≡ (get_or (map pair rest) j d).1 = ap (λ (p : ℕ × ℕ). p.1) s.2 in
     let here = h.0 in
     omega arith
-pairs_rise at (r ∷ rest) end h (suc i) (suc j) d l within = pairs_rise (at + length r.object.fields + 2) rest end h.1 i j d (omega arith) (omega arith)
+pairs_rise at (r ∷ rest) end h (suc i) (suc j) d l within = pairs_rise (at + (length r.object.fields + 2)) rest end h.1 i j d (omega arith) (omega arith)
 
 pairs_once : (replicas : List Replica) → Distinct (map (λ r. r.original) replicas) → AllPairs (λ p q. p.0 ≢ q.0) (map pair replicas)
 pairs_once [] h i j d l within = absurd (omega arith)

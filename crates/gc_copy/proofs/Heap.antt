@@ -14,41 +14,39 @@ refers_map P Q f (Ref a) h = f a h
 
 -- ---- layout
 
-pub laid_push : (at : ℕ) (objects : List (ℕ × Object)) (end : ℕ) (e : ℕ × Object) (end' : ℕ) → Laid at objects end → e.0 ≡ end → end' ≡ end + length e.1.fields + 2 → Laid at (objects ++ e ∷ []) end'
+pub laid_push : (at : ℕ) (objects : List (ℕ × Object)) (end : ℕ) (e : ℕ × Object) (end' : ℕ) → Laid at objects end → e.0 ≡ end → end' ≡ end + (length e.1.fields + 2) → Laid at (objects ++ e ∷ []) end'
 laid_push at [] end e end' h k l = (k ∙ sym h, (let x : at ≡ end = h in omega arith))
-laid_push at (d ∷ rest) end e end' h k l = (h.0, laid_push (at + length d.1.fields + 2) rest end e end' h.1 k l)
+laid_push at (d ∷ rest) end e end' h k l = (h.0, laid_push (at + (length d.1.fields + 2)) rest end e end' h.1 k l)
 
 pub laid_end : (at : ℕ) (objects : List (ℕ × Object)) (end : ℕ) → Laid at objects end → at ≤ end
 laid_end at [] end h = let x : at ≡ end = h in omega arith
-laid_end at (e ∷ rest) end h = let k = laid_end (at + length e.1.fields + 2) rest end h.1 in omega arith
+laid_end at (e ∷ rest) end h = let k = laid_end (at + (length e.1.fields + 2)) rest end h.1 in omega arith
 
 pub laid_end_is : (at : ℕ) (objects : List (ℕ × Object)) (end : ℕ) → Laid at objects end → objects_end at objects ≡ end
 laid_end_is at [] end h = h
-laid_end_is at (e ∷ rest) end h =
-    let same : at + (length e.1.fields + 2) ≡ at + length e.1.fields + 2 = omega arith in
-    ap (λ n. objects_end n rest) same ∙ laid_end_is (at + length e.1.fields + 2) rest end h.1
+laid_end_is at (e ∷ rest) end h = laid_end_is (at + (length e.1.fields + 2)) rest end h.1
 
-pub end_push : (at : ℕ) (objects : List (ℕ × Object)) (e : ℕ × Object) → objects_end at (objects ++ e ∷ []) ≡ objects_end at objects + length e.1.fields + 2
+pub end_push : (at : ℕ) (objects : List (ℕ × Object)) (e : ℕ × Object) → objects_end at (objects ++ e ∷ []) ≡ objects_end at objects + (length e.1.fields + 2)
 end_push at [] e = omega arith
 end_push at (d ∷ rest) e = end_push (at + (length d.1.fields + 2)) rest e
 
 -- where an object stands
-pub laid_range : (at : ℕ) (objects : List (ℕ × Object)) (end : ℕ) (e : ℕ × Object) → Laid at objects end → In e objects → (at ≤ e.0) × (e.0 + length e.1.fields + 2 ≤ end)
+pub laid_range : (at : ℕ) (objects : List (ℕ × Object)) (end : ℕ) (e : ℕ × Object) → Laid at objects end → In e objects → (at ≤ e.0) × (e.0 + (length e.1.fields + 2) ≤ end)
 laid_range at [] end e h k = absurd k
 laid_range at (d ∷ rest) end e h (inl k) =
-    subst (λ (w : ℕ × Object). (at ≤ w.0) × (w.0 + length w.1.fields + 2 ≤ end)) k
-    (let l : at + length d.1.fields + 2 ≤ end = laid_end (at + length d.1.fields + 2) rest end h.1 in let m : d.0 ≡ at = h.0 in omega arith)
-laid_range at (d ∷ rest) end e h (inr k) = let r = laid_range (at + length d.1.fields + 2) rest end e h.1 k in omega arith
+    subst (λ (w : ℕ × Object). (at ≤ w.0) × (w.0 + (length w.1.fields + 2) ≤ end)) k
+    (let l : at + (length d.1.fields + 2) ≤ end = laid_end (at + (length d.1.fields + 2)) rest end h.1 in let m : d.0 ≡ at = h.0 in omega arith)
+laid_range at (d ∷ rest) end e h (inr k) = let r = laid_range (at + (length d.1.fields + 2)) rest end e h.1 k in omega arith
 
 -- of two objects one ends before the other begins, or they are one
-pub laid_apart : (at : ℕ) (objects : List (ℕ × Object)) (end : ℕ) (d e : ℕ × Object) → Laid at objects end → In d objects → In e objects → (d ≡ e) ⊎ ((d.0 + length d.1.fields + 2 ≤ e.0) ⊎ (e.0 + length e.1.fields + 2 ≤ d.0))
+pub laid_apart : (at : ℕ) (objects : List (ℕ × Object)) (end : ℕ) (d e : ℕ × Object) → Laid at objects end → In d objects → In e objects → (d ≡ e) ⊎ ((d.0 + (length d.1.fields + 2) ≤ e.0) ⊎ (e.0 + (length e.1.fields + 2) ≤ d.0))
 laid_apart at [] end d e h k l = absurd k
 laid_apart at (c ∷ rest) end d e h (inl k) (inl l) = inl (sym k ∙ l)
 laid_apart at (c ∷ rest) end d e h (inl k) (inr l) =
-    inr (inl (subst (λ (w : ℕ × Object). w.0 + length w.1.fields + 2 ≤ e.0) k (let r = laid_range (at + length c.1.fields + 2) rest end e h.1 l in let m : c.0 ≡ at = h.0 in omega arith)))
+    inr (inl (subst (λ (w : ℕ × Object). w.0 + (length w.1.fields + 2) ≤ e.0) k (let r = laid_range (at + (length c.1.fields + 2)) rest end e h.1 l in let m : c.0 ≡ at = h.0 in omega arith)))
 laid_apart at (c ∷ rest) end d e h (inr k) (inl l) =
-    inr (inr (subst (λ (w : ℕ × Object). w.0 + length w.1.fields + 2 ≤ d.0) l (let r = laid_range (at + length c.1.fields + 2) rest end d h.1 k in let m : c.0 ≡ at = h.0 in omega arith)))
-laid_apart at (c ∷ rest) end d e h (inr k) (inr l) = laid_apart (at + length c.1.fields + 2) rest end d e h.1 k l
+    inr (inr (subst (λ (w : ℕ × Object). w.0 + (length w.1.fields + 2) ≤ d.0) l (let r = laid_range (at + (length c.1.fields + 2)) rest end d h.1 k in let m : c.0 ≡ at = h.0 in omega arith)))
+laid_apart at (c ∷ rest) end d e h (inr k) (inr l) = laid_apart (at + (length c.1.fields + 2)) rest end d e h.1 k l
 
 pub laid_same : (at : ℕ) (objects : List (ℕ × Object)) (end : ℕ) (d e : ℕ × Object) → Laid at objects end → In d objects → In e objects → d.0 ≡ e.0 → d ≡ e
 laid_same at objects end d e h k l s = ⊎_elim (λ x. x) (λ y. absurd (⊎_elim (λ z. omega arith) (λ z. omega arith) y)) (laid_apart at objects end d e h k l)
@@ -58,9 +56,9 @@ pub laid_set : (name i : ℕ) (v : Value) (at : ℕ) (objects : List (ℕ × Obj
 laid_set name i v at [] end h = h
 laid_set name i v at (e ∷ rest) end h = ⊎_elim
     (λ t. subst (λ l. Laid at l end) (sym (cond-true (e.0 == name) ((e.0, with_field e.1 i v) ∷ rest) (e ∷ set_field rest name i v) t))
-    (h.0, subst (λ n. Laid (at + n + 2) rest end) (sym (length-set e.1.fields i v)) h.1))
+    (h.0, subst (λ n. Laid (at + (n + 2)) rest end) (sym (length-set e.1.fields i v)) h.1))
     (λ f. subst (λ l. Laid at l end) (sym (cond-false (e.0 == name) ((e.0, with_field e.1 i v) ∷ rest) (e ∷ set_field rest name i v) f))
-    (h.0, laid_set name i v (at + length e.1.fields + 2) rest end h.1))
+    (h.0, laid_set name i v (at + (length e.1.fields + 2)) rest end h.1))
     (cases_Bool (e.0 == name))
 
 -- ---- look-ups

@@ -1,5 +1,5 @@
 -- The image of a heap: its objects are met by the walk, and its words mean the heap's values.
-use Rattle.std.proofs.Common.{◌≡◌, ⊎_elim, inl, inr, is_ok, ℕ, ◌+◌, ◌-◌, ◌<◌, ◌≤◌, ◌==◌, List, [], ◌∷◌, map, length, Some, Ok, refl, ap, sym, ◌∙◌, subst, arith, length-append}
+use Rattle.std.proofs.Common.{◌≡◌, ⊎_elim, inl, inr, is_ok, ℕ, ◌+◌, ◌-◌, ◌<◌, ◌≤◌, ◌==◌, List, [], ◌∷◌, map, length, Some, Ok, refl, ap, sym, ◌∙◌, arith, length-append}
 use Rattle.std.proofs.lemmas.Bool.{cases_Bool, cond-true, cond-false}
 use Rattle.std.proofs.lemmas.List.{length-map}
 use Rattle.gc_graph.specs.Graph.{Value, Nil, Num, Ref, Object, Graph, lookup}
@@ -36,17 +36,16 @@ read_back v h = value_read_back v (has_address v h)
 laid_out : (at : ℕ) (objects : List (ℕ × Object)) (end : ℕ) → Laid at objects end → ((e : ℕ × Object) → In e objects → (e.1.kind < 256) × (length e.1.fields < 65536)) → LaidOut at (map block_entry objects)
 laid_out at [] end h ok = tt
 laid_out at (e ∷ rest) end h ok =
-    let here = ok e (inl refl) in
-    let place : at + length e.1.fields + 2 ≡ at + (length e.1.fields + 2) = omega arith in (
+    let here = ok e (inl refl) in (
       h.0,
       record { header = record { kind = here.0; len = here.1 }; fields = length-map e.1.fields (field_word (object_header e.1)) },
-      subst (λ n. LaidOut n (map block_entry rest)) place (laid_out (at + length e.1.fields + 2) rest end h.1 (λ d k. ok d (inr k))),
+      laid_out (at + (length e.1.fields + 2)) rest end h.1 (λ d k. ok d (inr k)),
     )
 
 words_laid : (links : ℕ → ℕ) (at : ℕ) (objects : List (ℕ × Object)) (end : ℕ) → Laid at objects end → at + length (spelled_from links (map block_entry objects)) ≡ end
 words_laid links at [] end h = let e : at ≡ end = h in omega arith
 words_laid links at (e ∷ rest) end h =
-    let r = words_laid links (at + length e.1.fields + 2) rest end h.1 in
+    let r = words_laid links (at + (length e.1.fields + 2)) rest end h.1 in
     omega (arith, r, length-append (block_words (links e.0) (object_block e.1)) (spelled_from links (map block_entry rest)), length-map e.1.fields (field_word (object_header e.1)))
 
 -- ---- the image of a heap

@@ -40,12 +40,12 @@ written_objects name place i v at (q ∷ rest) end l f = ⊎_elim
     let named : (q.original == name) ≡ true = f q (inl refl) ∙ t in
     let here : placed (with_written name i v q) ≡ (q.place, with_field q.object i v) = ap placed (cond-true (q.original == name) (record q { object = with_field q.object i v }) q named) in
     let others = unwritten name i v rest (λ p k. f p (inr k) ∙ ne_eqb p.place place (λ e.
-    let range = laid_range (at + length q.object.fields + 2) (map placed rest) end (placed p) l.1 (in_map placed p rest k) in
+    let range = laid_range (at + (length q.object.fields + 2)) (map placed rest) end (placed p) l.1 (in_map placed p rest k) in
     let first = l.0 in let is : q.place ≡ place = eqb-true q.place place t in omega arith)) in
     (λ n. here n ∷ others n) ∙ sym (cond-true (q.place == place) ((q.place, with_field q.object i v) ∷ map placed rest) (placed q ∷ set_field (map placed rest) place i v) t))
     (λ t.
     let here : placed (with_written name i v q) ≡ placed q = ap placed (cond-false (q.original == name) (record q { object = with_field q.object i v }) q (f q (inl refl) ∙ t)) in
-    let others = written_objects name place i v (at + length q.object.fields + 2) rest end l.1 (λ p k. f p (inr k)) in
+    let others = written_objects name place i v (at + (length q.object.fields + 2)) rest end l.1 (λ p k. f p (inr k)) in
     (λ n. here n ∷ others n) ∙ sym (cond-false (q.place == place) ((q.place, with_field q.object i v) ∷ map placed rest) (placed q ∷ set_field (map placed rest) place i v) t))
     (cases_Bool (q.place == place))
 

@@ -1,5 +1,5 @@
 -- Mutation logs in their list.
-use Rattle.std.proofs.Common.{◌≡◌, ℕ, suc, zero, ◌+◌, ◌<◌, ◌≤◌, true, false, List, [], ◌∷◌, ◌++◌, map, drop, length, get_or, replicate, Option, Some, None, refl, ap, sym, ◌∙◌, subst, arith, inl, inr}
+use Rattle.std.proofs.Common.{◌≡◌, ℕ, suc, zero, ◌+◌, ◌<◌, ◌≤◌, true, false, List, [], ◌∷◌, ◌++◌, map, drop, length, get_or, Option, Some, None, refl, ap, sym, ◌∙◌, subst, arith, inl, inr}
 use Rattle.std.specs.Prelude.{slice_get, slice_set}
 use Rattle.std.proofs.lemmas.Option.{slice_get-get_or}
 use Rattle.std.specs.Option.{option_map}
@@ -87,13 +87,6 @@ abbrev pub first_from : List Log → ℕ → Option ℕ
 first_from logs m = first_log m (map entries_of (drop m logs))
 
 -- ---- new logs
-
-pub replicate_more : (n : ℕ) → ◌≡◌ {A = List (List (ℕ × ℕ))} (replicate n [] ++ [] ∷ []) (replicate (n + 1) [])
-replicate_more n = by n ∙ ap (λ k. replicate k []) (let e : suc n ≡ n + 1 = omega arith in e)
-  where
-    by : (n : ℕ) → ◌≡◌ {A = List (List (ℕ × ℕ))} (replicate n [] ++ [] ∷ []) (replicate (suc n) [])
-    by zero = refl
-    by (suc n) = let rest = by n in λ i. [] ∷ rest i
 
 -- ---- what an index gives
 

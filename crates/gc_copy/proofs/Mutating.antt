@@ -17,8 +17,8 @@ use Rattle.gc_copy.specs.Entries.{if_done}
 use Rattle.gc_copy.specs.Members.{In}
 use Rattle.gc_copy.specs.Belonging.{HasField}
 use Rattle.gc_copy.specs.Words.{CollectionWords, collection_in, open_state, BelongsTo, BelongsToBut}
-use Rattle.gc_copy.proofs.Kept.{field_there}
-use Rattle.gc_copy.proofs.Shown.{command_leaves, nothing_left}
+use Rattle.gc_copy.proofs.StateLaws.{field_there}
+use Rattle.gc_copy.proofs.LinkedImages.{command_leaves, nothing_left}
 
 -- a log with nothing more is as it was
 set_kept : (logs : List (List (ℕ × ℕ))) (m : ℕ) → slice_set logs m (log_or_nil (slice_get logs m) ++ []) ≡ logs

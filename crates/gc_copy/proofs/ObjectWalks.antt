@@ -1,45 +1,20 @@
 -- A walk over the objects of a space, as loops make it.
-use Rattle.std.proofs.Common.{◌≡◌, ℕ, ◌+◌, ◌-◌, ◌<◌, ◌≤◌, true, List, [], ◌∷◌, ◌++◌, map, length, Some, None, refl, ap, sym, ◌∙◌, subst, arith, append_assoc, append-nil, length-append, inl}
-use Rattle.std.specs.Prelude.{◌^◌, IsOk, nat_le}
-use Rattle.std.proofs.lemmas.Bool.{cond-true, le-leb}
+use Rattle.std.proofs.Common.{◌≡◌, ℕ, ◌+◌, ◌<◌, ◌≤◌, true, List, [], ◌∷◌, ◌++◌, map, length, Some, refl, ap, sym, ◌∙◌, subst, arith, append_assoc, append-nil, length-append, inl}
+use Rattle.std.specs.Prelude.{◌^◌, IsOk}
 use Rattle.std.proofs.lemmas.List.{map-append, length-map}
-use Rattle.gc_words.specs.Image.{Block, walk_words, blocks, is_start, header_at, ok_or_nil}
+use Rattle.gc_words.specs.Image.{Block, walk_words, blocks, is_start, ok_or_nil}
 use Rattle.gc_words.specs.Spelling.{link_at}
 use Rattle.gc_words.specs.Space.{SpaceWords, IsSpace}
 use Rattle.gc_words.specs.Views.{addresses}
-use Rattle.gc_words.specs.Walking.{next_of, next_after, walk_from, block_from, StandsIn}
-use Rattle.gc_words.specs.declared.header.Header.{Header}
+use Rattle.gc_words.specs.Walking.{next_of, walk_from, block_from}
 use Rattle.gc_words.specs.declared.image.Pair.{Pair}
 use Rattle.gc_words.proofs.Steps.{Behind, behind, at_end, has_next}
 use Rattle.gc_words.proofs.Writes.{some_of}
-use Rattle.gc_words.proofs.Starts.{stands_in}
-use Rattle.gc_words.proofs.Fields.{block_of_header}
 use Rattle.gc_copy.specs.State.{Replica}
 use Rattle.gc_copy.specs.Members.{In}
 use Rattle.gc_copy.specs.Words.{replica_entry, replicas_in}
 use Rattle.gc_copy.proofs.Lists.{in_right, in_map}
 use Rattle.gc_copy.proofs.Spaces.{in_start}
-
--- ---- one step
-
-pub next_is : (words : List ℕ) (at : ℕ) (h : Header) → IsOk (walk_words words) → header_at words at ≡ Some h → next_of words at ≡ Some (at + h.len + 2)
-next_is words at h walked e =
-    let b = block_of_header words at h e in
-    let stands : StandsIn words at b.0 = stands_in words at b.0 walked b.1 in
-    let len : b.0.header.len ≡ h.len = ap (λ (k : Header). k.len) b.2 in
-    let fits = stands.fits in
-    let same : at + (b.0.header.len + 2) ≡ at + h.len + 2 = omega (arith, len) in
-    ap (λ o. next_after at o (length words - at)) stands.header
-    ∙ cond-true (nat_le (b.0.header.len + 2) (length words - at)) (Some (at + (b.0.header.len + 2))) None (le-leb _ _ (omega arith))
-    ∙ ap Some same
-
-pub next_within : (words : List ℕ) (at : ℕ) (h : Header) → IsOk (walk_words words) → header_at words at ≡ Some h → at + h.len + 2 ≤ length words
-next_within words at h walked e =
-    let b = block_of_header words at h e in
-    let stands : StandsIn words at b.0 = stands_in words at b.0 walked b.1 in
-    let len : b.0.header.len ≡ h.len = ap (λ (k : Header). k.len) b.2 in
-    let fits = stands.fits in
-    omega (arith, len)
 
 -- ---- the walk so far
 
@@ -99,25 +74,16 @@ all_met words at done m past = sym (m.split ∙ ap (λ r. done ++ ok_or_nil r) (
 abbrev pub Counts : List ℕ → ℕ → ℕ → Type 0
 Counts words at count = (done : List (ℕ × Block)) × Met words at done × (count ≡ length done)
 
-pub counts_none : (space : SpaceWords) → IsSpace space → Counts space.words 1 0
-counts_none space is = ([], met_none space is, refl)
-
 pub counts_more : (words : List ℕ) (at next count : ℕ) → Counts words at count → at < length words → next_of words at ≡ Some next → Counts words next (count + 1)
 counts_more words at next count k less e =
     let p : Passing words at next k.0 = passing words at next k.0 k.1 less e in
     (k.0 ++ (at, p.block) ∷ [], p.met, ap (λ n. n + 1) k.2 ∙ sym (length-append k.0 ((at, p.block) ∷ [])))
-
-pub counts_all : (words : List ℕ) (at count : ℕ) → Counts words at count → length words ≤ at → count ≡ length (blocks words)
-counts_all words at count k past = k.2 ∙ ap length (all_met words at k.0 k.1 past)
 
 abbrev pub pair_of : Replica → ℕ × ℕ
 pair_of r = (r.original, r.place)
 
 abbrev pub Lists : List ℕ → ℕ → List Pair → Type 0
 Lists words at pairs = (done : List (ℕ × Block)) × Met words at done × (map addresses pairs ≡ map pair_of (map (replica_entry words) done))
-
-pub lists_none : (space : SpaceWords) (pairs : List Pair) → IsSpace space → pairs ≡ [] → Lists space.words 1 pairs
-lists_none space pairs is none = ([], met_none space is, ap (map addresses) none)
 
 pub lists_more : (words : List ℕ) (at next : ℕ) (pairs more : List Pair) (pair : Pair) → Lists words at pairs → at < length words → next_of words at ≡ Some next → addresses pair ≡ (link_at words at, at) → more ≡ pairs ++ pair ∷ [] → Lists words next more
 lists_more words at next pairs more pair k less e is after =
@@ -129,9 +95,6 @@ lists_more words at next pairs more pair k less e is after =
           ∙ (λ i. k.2 i ++ is i ∷ [])
           ∙ sym (ap (map pair_of) (map-append (replica_entry words) k.0 ((at, p.block) ∷ [])) ∙ map-append pair_of (map (replica_entry words) k.0) (replica_entry words (at, p.block) ∷ [])),
     )
-
-pub lists_all : (words : List ℕ) (at : ℕ) (pairs : List Pair) → Lists words at pairs → length words ≤ at → map addresses pairs ≡ map pair_of (replicas_in words)
-lists_all words at pairs k past = k.2 ∙ ap (λ bs. map pair_of (map (replica_entry words) bs)) (all_met words at k.0 k.1 past)
 
 -- what the object here names
 pub link_small : (words : List ℕ) (at : ℕ) (done : List (ℕ × Block)) → ((r : Replica) → In r (replicas_in words) → r.original < 2 ^ 32) → Met words at done → at < length words → link_at words at < 2 ^ 32

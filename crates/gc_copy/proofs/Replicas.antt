@@ -113,7 +113,7 @@ replicas_due objects size Due Due' replicas h f = record { laid = h.laid; room =
 
 pub replicas_place : (objects : List (ℕ × Object)) (size : ℕ) (Due : ℕ → ℕ → ℕ → Type 0) (replicas : List Replica) (name : ℕ) (object : Object)
     → AreReplicas objects size Due replicas → lookup objects name ≡ Some object → (In name (map (λ r. r.original) replicas) → ⊥)
-    → end_of replicas + length object.fields + 2 ≤ size
+    → end_of replicas + (length object.fields + 2) ≤ size
     → ((i : ℕ) → Due (end_of replicas) name i)
     → AreReplicas objects size Due (replicas ++ fresh_replica name (end_of replicas) object ∷ [])
 replicas_place objects size Due replicas name object h found new fits due = record {
@@ -126,7 +126,7 @@ replicas_place objects size Due replicas name object h found new fits due = reco
     new_one : Replica
     new_one = fresh_replica name (end_of replicas) object
 
-    ends : end_of (replicas ++ new_one ∷ []) ≡ end_of replicas + length new_one.object.fields + 2
+    ends : end_of (replicas ++ new_one ∷ []) ≡ end_of replicas + (length new_one.object.fields + 2)
     ends = ap (objects_end 1) (map-append placed replicas (new_one ∷ [])) ∙ end_push 1 (map placed replicas) (placed new_one)
 
     more : (p : ℕ × ℕ) → In p (map pair replicas) → In p (map pair replicas ++ pair new_one ∷ [])
@@ -169,8 +169,8 @@ laid_written : (name i : ℕ) (w : Value) (at : ℕ) (replicas : List Replica) (
 laid_written name i w at [] end h = h
 laid_written name i w at (r ∷ rest) end h =
     let p : (with_written name i w r).place ≡ r.place = ap (λ (q : ℕ × ℕ). q.1) (with_written_pair name i w r) in
-    let s : at + length r.object.fields + 2 ≡ at + length (with_written name i w r).object.fields + 2 = omega (arith, with_written_length name i w r) in
-    (p ∙ h.0, subst (λ n. Laid n (map placed (map (with_written name i w) rest)) end) s (laid_written name i w (at + length r.object.fields + 2) rest end h.1))
+    let s : at + (length r.object.fields + 2) ≡ at + (length (with_written name i w r).object.fields + 2) = omega (arith, with_written_length name i w r) in
+    (p ∙ h.0, subst (λ n. Laid n (map placed (map (with_written name i w) rest)) end) s (laid_written name i w (at + (length r.object.fields + 2)) rest end h.1))
 
 pub pairs_written : (name i : ℕ) (w : Value) (replicas : List Replica) → map pair (map (with_written name i w) replicas) ≡ map pair replicas
 pairs_written name i w replicas = map_same pair (with_written name i w) (with_written_pair name i w) replicas

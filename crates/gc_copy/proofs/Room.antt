@@ -54,7 +54,7 @@ nothing_weighs (n ∷ names) = let r = nothing_weighs names in omega (arith, r, 
 weights_fit : (at : ℕ) (objects : List (ℕ × Object)) (end : ℕ) (names : List ℕ) → Laid at objects end → Distinct names → at + sum_by (weight objects) names ≤ end
 weights_fit at [] end names h d = let z = nothing_weighs names in let e : at ≡ end = h in omega arith
 weights_fit at (e ∷ rest) end names h d =
-    let r = weights_fit (at + length e.1.fields + 2) rest end names h.1 d in
+    let r = weights_fit (at + (length e.1.fields + 2)) rest end names h.1 d in
     let o = one_weighs e rest names d in omega arith
 
 replicas_weigh : (objects : List (ℕ × Object)) (at : ℕ) (replicas : List Replica) → ((r : Replica) → In r replicas → weight objects r.original ≡ length r.object.fields + 2) → objects_end at (map placed replicas) ≡ at + sum_by (weight objects) (map (λ r. r.original) replicas)

@@ -1,10 +1,9 @@
 -- The roots, one word after the other.
 use Rattle.std.proofs.Common.{◌≡◌, ℕ, suc, zero, ◌+◌, ◌<◌, ◌≤◌, Bool, true, false, cond, List, [], ◌∷◌, ◌++◌, map, drop, flat_map, length, get_or, Option, Some, None, is_some, refl, ap, sym, ◌∙◌, subst, arith, append_assoc, append-nil, inl, inr}
-use Rattle.std.proofs.lemmas.Bool.{cond-true, cond-false}
 use Rattle.std.proofs.lemmas.List.{drop_more, drop_all}
 use Rattle.gc_graph.specs.Graph.{Value, Nil, Num, Ref, names_of}
 use Rattle.gc_words.specs.Word.{value_of, word_of}
-use Rattle.gc_heap.specs.Heap.{HeapWords, graph_in, name_of}
+use Rattle.gc_heap.specs.Heap.{HeapWords, graph_in}
 use Rattle.gc_copy.specs.State.{Collection, replica_of, moved}
 use Rattle.gc_copy.specs.Steps.{first_unreplicated, roots_done}
 use Rattle.gc_copy.specs.Members.{In}
@@ -36,30 +35,6 @@ first_of_first c (x ∷ xs) ys a e = by (is_some (replica_of c x)) (first_of_fir
 
 opened : (c : Collection) (words : List ℕ) (i : ℕ) → i < length words → found_from c words i ≡ first_unreplicated c (names_of (value_of (get_or words i 0)) ++ flat_map names_of (map value_of (drop (i + 1) words)))
 opened c words i h = ap (λ ws. first_unreplicated c (flat_map names_of (map value_of ws))) (drop_more words i 0 h)
-
-pub passed_over : (c : Collection) (words : List ℕ) (i : ℕ) → i < length words → None ≡ first_unreplicated c (names_of (value_of (get_or words i 0))) → found_from c words (i + 1) ≡ found_from c words i
-passed_over c words i h e = sym (opened c words i h ∙ first_of_both c (names_of (value_of (get_or words i 0))) (flat_map names_of (map value_of (drop (i + 1) words))) (sym e))
-
-pub found_here : (c : Collection) (words : List ℕ) (i a : ℕ) → i < length words → Some a ≡ first_unreplicated c (names_of (value_of (get_or words i 0))) → found_from c words i ≡ Some a
-found_here c words i a h e = opened c words i h ∙ first_of_first c (names_of (value_of (get_or words i 0))) (flat_map names_of (map value_of (drop (i + 1) words))) a (sym e)
-
-pub none_left : (c : Collection) (words : List ℕ) (i : ℕ) → length words ≤ i → found_from c words i ≡ None
-none_left c words i h = ap (λ ws. first_unreplicated c (flat_map names_of (map value_of ws))) (drop_all i words h)
-
--- of one word
-pub refers_to_none : (c : Collection) (w : ℕ) → None ≡ name_of (value_of w) → None ≡ first_unreplicated c (names_of (value_of w))
-refers_to_none c w e = by (value_of w) e
-  where
-    by : (v : Value) → None ≡ name_of v → None ≡ first_unreplicated c (names_of v)
-    by Nil e = refl
-    by (Num n) e = refl
-    by (Ref a) e = absurd (let no : None ≡ Some a = e in cc)
-
-pub one_replicated : (c : Collection) (w a : ℕ) → value_of w ≡ Ref a → is_some (replica_of c a) ≡ true → None ≡ first_unreplicated c (names_of (value_of w))
-one_replicated c w a is t = sym (ap (λ v. first_unreplicated c (names_of v)) is ∙ cond-true (is_some (replica_of c a)) None (Some a) t)
-
-pub one_unreplicated : (c : Collection) (w a : ℕ) → value_of w ≡ Ref a → is_some (replica_of c a) ≡ false → Some a ≡ first_unreplicated c (names_of (value_of w))
-one_unreplicated c w a is f = sym (ap (λ v. first_unreplicated c (names_of v)) is ∙ cond-false (is_some (replica_of c a)) None (Some a) f)
 
 -- ---- moving them
 

@@ -11,19 +11,16 @@ use Rattle.gc_words.proofs.Fields.{block_of_header}
 use Rattle.gc_words.proofs.Ends.{fields_counted}
 use Rattle.gc_words.proofs.Graphs.{object_found}
 use Rattle.gc_heap.specs.Heap.{HeapWords, graph_in}
-use Rattle.gc_copy.specs.State.{Replica, new_objects, new_end, replica_of, replica_at}
+use Rattle.gc_copy.specs.State.{Replica, new_end, replica_of, replica_at}
 use Rattle.gc_copy.specs.Steps.{scan_done, scan, scan_replica, next_object, next_field, if_room, bring_up_to_date, with_collection}
 use Rattle.gc_copy.specs.Members.{In}
 use Rattle.gc_copy.specs.Belonging.{IsDue}
 use Rattle.gc_copy.specs.Words.{CollectionWords, IsCollection, replicas_in, collection_in, open_state, BelongsTo, KeepsGraph, KeepsRest}
 use Rattle.gc_copy.specs.declared.step.Step.TheVariants as steps
 use Rattle.gc_copy.specs.declared.step.StepReply.TheVariants.{Clean, Passed, Scanned, NoRoom}
-use Rattle.gc_copy.proofs.Lists.{in_map}
-use Rattle.gc_copy.proofs.Heap.{laid_range}
-use Rattle.gc_copy.proofs.Replicas.{placed}
 use Rattle.gc_copy.proofs.Links.{found_by_name, found_by_place}
 use Rattle.gc_copy.proofs.Spaces.{in_start, replica_start}
-use Rattle.gc_copy.proofs.Opened.{state_kept, same_graph, after_step, field_present, replica_object}
+use Rattle.gc_copy.proofs.OpenCollection.{state_kept, same_graph, after_step, field_present, replica_object}
 
 module _ (heap : HeapWords) (x : CollectionWords) (is : IsCollection x) (k : BelongsTo heap x) (more : scan_done (collection_in x) ≡ false) where
   -- the replica at the scan pointer
@@ -53,15 +50,6 @@ module _ (heap : HeapWords) (x : CollectionWords) (is : IsCollection x) (k : Bel
       let same : object_of_block b.0 ≡ at.0.object = (let s : Some (object_of_block b.0) ≡ Some at.0.object = sym (object_found x.space.words x.scan_place ∙ ap (option_map object_of_block) b.1) ∙ o in cc) in
       sym (ap (λ (o : Object). length o.fields) same) ∙ fields_counted x.space.words x.scan_place b.0 (is.space).walked b.1 ∙ ap (λ (h : Header). h.len) b.2
 
-  pub within : (h : Header) → header_at x.space.words x.scan_place ≡ Some h → x.scan_place + h.len + 2 < 1048577
-  within h e =
-      let range = laid_range 1 (new_objects (collection_in x)) (new_end (collection_in x)) (placed at.0) (k.belongs).laid (in_map placed at.0 (replicas_in x.space.words) at.1) in
-      let room = (k.belongs).room in
-      let high = (is.space).size_high in
-      let place = at.2 in
-      let n = count h e in
-      omega (arith, range, n)
-
   pub small : link_at x.space.words x.scan_place < 2 ^ 32
   small = subst (λ n. n < 2 ^ 32) (sym original) (is.originals at.0 at.1)
 
@@ -90,13 +78,13 @@ module _ (heap : HeapWords) (x : CollectionWords) (is : IsCollection x) (k : Bel
       ∙ ap (scan_replica (open_state heap x) (collection_in x)) found
       ∙ cond-true (x.scan_field == length at.0.object.fields) _ _ (eq-eqb x.scan_field (length at.0.object.fields) (all ∙ sym (count h e)))
 
-  pub passed : (h : Header) → header_at x.space.words x.scan_place ≡ Some h → x.scan_field ≡ h.len → (place : ℕ) → place ≡ x.scan_place + h.len + 2
+  pub passed : (h : Header) → header_at x.space.words x.scan_place ≡ Some h → x.scan_field ≡ h.len → (place : ℕ) → place ≡ x.scan_place + (h.len + 2)
       → scan (open_state heap x) (collection_in x) ≡ (Passed, open_state heap (record x { scan_place = place; scan_field = 0 }))
   passed h e all place is_there =
-      let p : x.scan_place + length at.0.object.fields + 2 ≡ place = ap (λ n. x.scan_place + n + 2) (count h e) ∙ sym is_there in
+      let p : x.scan_place + (length at.0.object.fields + 2) ≡ place = ap (λ n. x.scan_place + (n + 2)) (count h e) ∙ sym is_there in
       passes h e all ∙ ap (λ n. (Passed, open_state heap (record x { scan_place = n; scan_field = 0 }))) p
 
-  pub passed_belongs : (h : Header) → header_at x.space.words x.scan_place ≡ Some h → x.scan_field ≡ h.len → (place : ℕ) → place ≡ x.scan_place + h.len + 2 → BelongsTo heap (record x { scan_place = place; scan_field = 0 })
+  pub passed_belongs : (h : Header) → header_at x.space.words x.scan_place ≡ Some h → x.scan_field ≡ h.len → (place : ℕ) → place ≡ x.scan_place + (h.len + 2) → BelongsTo heap (record x { scan_place = place; scan_field = 0 })
   passed_belongs h e all place is_there = after_step heap heap x (record x { scan_place = place; scan_field = 0 }) steps.Scan Passed (λ no. cc no) is k (same_graph heap) refl (passed h e all place is_there) k.links
 
   scans : (h : Header) → header_at x.space.words x.scan_place ≡ Some h → (x.scan_field ≡ h.len → ⊥) → scan (open_state heap x) (collection_in x) ≡ if_room (open_state heap x) Scanned (next_field (bring_up_to_date (collection_in x) (graph_in heap) (link_at x.space.words x.scan_place) x.scan_field))

@@ -7,7 +7,8 @@ use Rattle.gc_graph.specs.Graph.{Object, set_field, new_object}
 use Rattle.gc_words.specs.Word.{value_of}
 use Rattle.gc_words.specs.Image.{Block, blocks, block_in, block_at, is_start, field_at, fresh_block, set_block, object_of_block, object_entry, objects_of}
 use Rattle.gc_words.specs.Spelling.{link_at}
-use Rattle.gc_words.specs.Space.{SpaceWords, IsSpace, CanPlace, end_of, free_in, with_object, with_word, link_place, field_place}
+use Rattle.gc_words.specs.Layout.{link_place, field_place}
+use Rattle.gc_words.specs.Space.{SpaceWords, IsSpace, CanPlace, end_of, free_in, with_object, with_word}
 use Rattle.gc_words.specs.declared.header.Header.{Header}
 use Rattle.gc_words.proofs.Walks.{objects_set}
 use Rattle.gc_words.proofs.Writes.{placed, field_written, link_written}

@@ -242,36 +242,36 @@ pub same_place : (at : ℕ) (replicas : List Replica) (end : ℕ) (r s : Replica
 same_place at [] end r s h k l e = absurd k
 same_place at (q ∷ rest) end r s h (inl k) (inl l) e = sym k ∙ l
 same_place at (q ∷ rest) end r s h (inl k) (inr l) e =
-    let range = laid_range (at + length q.object.fields + 2) (map placed rest) end (placed s) h.1 (in_map placed s rest l) in
+    let range = laid_range (at + (length q.object.fields + 2)) (map placed rest) end (placed s) h.1 (in_map placed s rest l) in
     let here = h.0 in let p : q.place ≡ r.place = ap (λ (x : Replica). x.place) k in absurd (omega arith)
 same_place at (q ∷ rest) end r s h (inr k) (inl l) e =
-    let range = laid_range (at + length q.object.fields + 2) (map placed rest) end (placed r) h.1 (in_map placed r rest k) in
+    let range = laid_range (at + (length q.object.fields + 2)) (map placed rest) end (placed r) h.1 (in_map placed r rest k) in
     let here = h.0 in let p : q.place ≡ s.place = ap (λ (x : Replica). x.place) l in absurd (omega arith)
-same_place at (q ∷ rest) end r s h (inr k) (inr l) e = same_place (at + length q.object.fields + 2) rest end r s h.1 k l e
+same_place at (q ∷ rest) end r s h (inr k) (inr l) e = same_place (at + (length q.object.fields + 2)) rest end r s h.1 k l e
 
 -- behind a replica stands the next one, or it is the last
-next_place : (at : ℕ) (replicas : List Replica) (end : ℕ) (r : Replica) → Laid at (map placed replicas) end → In r replicas → ((q : Replica) × In q replicas × (q.place ≡ r.place + length r.object.fields + 2)) ⊎ (r.place + length r.object.fields + 2 ≡ end)
-next_place at [] end r h k = absurd k
-next_place at (q ∷ []) end r h (inl k) = inr (subst (λ (x : Replica). x.place + length x.object.fields + 2 ≡ end) k (let a = h.0 in let b : at + length q.object.fields + 2 ≡ end = h.1 in omega arith))
-next_place at (q ∷ p ∷ rest) end r h (inl k) = inl (p, inr (inl refl), subst (λ (x : Replica). p.place ≡ x.place + length x.object.fields + 2) k (let a = h.0 in let b : p.place ≡ at + length q.object.fields + 2 = (h.1).0 in omega arith))
-next_place at (q ∷ rest) end r h (inr k) = ⊎_elim (λ x. inl (x.0, inr x.1, x.2)) (λ x. inr x) (next_place (at + length q.object.fields + 2) rest end r h.1 k)
+next_replica : (at : ℕ) (replicas : List Replica) (end : ℕ) (r : Replica) → Laid at (map placed replicas) end → In r replicas → ((q : Replica) × In q replicas × (q.place ≡ r.place + (length r.object.fields + 2))) ⊎ (r.place + (length r.object.fields + 2) ≡ end)
+next_replica at [] end r h k = absurd k
+next_replica at (q ∷ []) end r h (inl k) = inr (subst (λ (x : Replica). x.place + (length x.object.fields + 2) ≡ end) k (let a = h.0 in let b : at + (length q.object.fields + 2) ≡ end = h.1 in omega arith))
+next_replica at (q ∷ p ∷ rest) end r h (inl k) = inl (p, inr (inl refl), subst (λ (x : Replica). p.place ≡ x.place + (length x.object.fields + 2)) k (let a = h.0 in let b : p.place ≡ at + (length q.object.fields + 2) = (h.1).0 in omega arith))
+next_replica at (q ∷ rest) end r h (inr k) = ⊎_elim (λ x. inl (x.0, inr x.1, x.2)) (λ x. inr x) (next_replica (at + (length q.object.fields + 2)) rest end r h.1 k)
 
 passed_open : (s : State) (c : Collection) (r : Replica) → IsOpened s c → In r c.replicas → r.place ≡ c.scan_place → c.scan_field ≡ length r.object.fields → IsOpened s (next_object c r)
 passed_open s c r k here place done = record {
   belongs = belongs_from (IsDue (next_object c r)) s.heap.graph.objects (next_object c r)
       (replicas_due s.heap.graph.objects c.size (IsDue c) (IsDue (next_object c r)) c.replicas (its_replicas (IsDue c) s.heap.graph.objects c k.belongs) less)
-      (⊎_elim (λ x. inl (x.0, x.1, (let e = x.2 in omega arith), omega arith)) (λ x. inr ((omega arith), refl)) (next_place 1 c.replicas (end_of c.replicas) r (k.belongs).laid here))
+      (⊎_elim (λ x. inl (x.0, x.1, (let e = x.2 in omega arith), omega arith)) (λ x. inr ((omega arith), refl)) (next_replica 1 c.replicas (end_of c.replicas) r (k.belongs).laid here))
       (k.belongs).entries;
   size = k.size;
   logs = k.logs;
 }
   where
-    unscanned : (q : Replica) (i : ℕ) → (placed r ≡ placed q) ⊎ ((r.place + length r.object.fields + 2 ≤ q.place) ⊎ (q.place + length q.object.fields + 2 ≤ r.place)) → i < length q.object.fields → IsUnscanned c q.place i → IsUnscanned (next_object c r) q.place i
+    unscanned : (q : Replica) (i : ℕ) → (placed r ≡ placed q) ⊎ ((r.place + (length r.object.fields + 2) ≤ q.place) ⊎ (q.place + (length q.object.fields + 2) ≤ r.place)) → i < length q.object.fields → IsUnscanned c q.place i → IsUnscanned (next_object c r) q.place i
     unscanned q i (inl e) within u =
         let p : r.place ≡ q.place = ap (λ (x : ℕ × Object). x.0) e in
         let l : length r.object.fields ≡ length q.object.fields = ap (λ (x : ℕ × Object). length x.1.fields) e in
         absurd (⊎_elim (λ a. omega arith) (λ b. let x = b.0 in let y = b.1 in omega arith) u)
-    unscanned q i (inr (inl later)) within u = ⊎_elim (λ a. inl a) (λ b. inr ((omega arith), (omega arith))) (cases_lt (c.scan_place + length r.object.fields + 2) q.place)
+    unscanned q i (inr (inl later)) within u = ⊎_elim (λ a. inl a) (λ b. inr ((omega arith), (omega arith))) (cases_lt (c.scan_place + (length r.object.fields + 2)) q.place)
     unscanned q i (inr (inr before)) within u = absurd (⊎_elim (λ a. omega arith) (λ b. let x = b.0 in omega arith) u)
 
     less : (q : Replica) → In q c.replicas → (i : ℕ) → i < length q.object.fields → IsDue c q.place q.original i → IsDue (next_object c r) q.place q.original i

@@ -42,7 +42,7 @@ laid_objects : (links : ℕ → ℕ) (at : ℕ) (bs : List (ℕ × Block)) (end 
 laid_objects links at [] end h e = let x : at + 0 ≡ end = e in omega arith
 laid_objects links at (d ∷ rest) end h e =
     let fields = (h.1).fields in
-    let place : at + (d.1.header.len + 2) ≡ at + length (object_of_block d.1).fields + 2 = omega (arith, fields, length-map d.1.fields (field_value d.1.header)) in (
+    let place : at + (d.1.header.len + 2) ≡ at + (length (object_of_block d.1).fields + 2) = omega (arith, fields, length-map d.1.fields (field_value d.1.header)) in (
       h.0,
       subst (λ n. Laid n (map object_entry rest) end) place
           (laid_objects links (at + (d.1.header.len + 2)) rest end h.2 (omega (arith, e, fields, length-append (block_words (links d.0) d.1) (spelled_from links rest)))),

@@ -1,9 +1,10 @@
 -- What a heap is whose names are addresses, and when a collection belongs to it.
-use Rattle.std.specs.Prelude.{◌≡◌, ◌⊎◌, ℕ, ◌+◌, ◌-◌, ◌<◌, ◌≤◌, ◌^◌, List, [], ◌∷◌, length, map, Option, Some, None, slice_get, IsTrue, ⊤}
+use Rattle.std.specs.Prelude.{◌≡◌, ◌⊎◌, ℕ, ◌-◌, ◌<◌, ◌≤◌, ◌^◌, List, [], ◌∷◌, length, map, Option, Some, None, slice_get, IsTrue, ⊤}
 use Rattle.gc_graph.specs.Limits.{most_words, kinds, lengths}
 use Rattle.gc_graph.specs.Slots.{roots_of}
 use Rattle.gc_graph.specs.Graph.{Value, Nil, Num, Ref, Object, Graph, lookup}
 use Rattle.gc_graph.specs.Correspond.{correspond}
+use Rattle.gc_words.specs.Layout.{next_place}
 use Rattle.gc_copy.specs.State.{Replica, Collection, State, new_objects, new_end, pairs_of}
 use Rattle.gc_copy.specs.Steps.{log_at}
 use Rattle.gc_copy.specs.Members.{In, Distinct}
@@ -13,7 +14,7 @@ use Rattle.gc_copy.specs.Members.{In, Distinct}
 -- objects back to back from a place up to an end
 abbrev pub Laid : ℕ → List (ℕ × Object) → ℕ → Type 0
 Laid at [] end = at ≡ end
-Laid at (entry ∷ rest) end = (entry.0 ≡ at) × Laid (at + length entry.1.fields + 2) rest end
+Laid at (entry ∷ rest) end = (entry.0 ≡ at) × Laid (next_place at (length entry.1.fields)) rest end
 
 -- an object has this name
 abbrev pub IsNamed : List (ℕ × Object) → ℕ → Type 0

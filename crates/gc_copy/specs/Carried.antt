@@ -36,12 +36,12 @@ base_of_run base s [] = base
 base_of_run base s (event ∷ events) = base_of_run (base_after base s event) (after s event) events
 
 -- reachable in the base, or made later
-abbrev pub IsKept : State → ℕ → Type 0
-IsKept base name = Reachable base.heap.graph name ⊎ (heap_end base ≤ name)
+abbrev pub IsLiveSince : State → ℕ → Type 0
+IsLiveSince base name = Reachable base.heap.graph name ⊎ (heap_end base ≤ name)
 
 abbrev pub OnlyKeptIsPaired : State → Option Collection → Type 0
 OnlyKeptIsPaired base None = ⊤
-OnlyKeptIsPaired base (Some c) = All (λ p. IsKept base p.0) (pairs_of c)
+OnlyKeptIsPaired base (Some c) = All (λ p. IsLiveSince base p.0) (pairs_of c)
 
 -- in every run each original of an open collection is kept from the state before it began
 abbrev pub CarriesOnlyKept : Type 0

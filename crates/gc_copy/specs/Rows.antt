@@ -90,28 +90,28 @@ pub record SizedRows : Type 0 where
       ∷ apply 0 ∷ apply 0 ∷ apply 0 ∷ flip ∷ [])
       ≡ Mutator Made ∷ Collector Begun ∷ Collector Copied ∷ Collector Scanned ∷ Collector Passed ∷ Mutator Made ∷ Mutator Done ∷ Collector NoRoom ∷ Collector NoRoom ∷ Mutator Done ∷ Mutator Done ∷ Collector Applied ∷ Collector Applied ∷ Collector Clean ∷ Collector (Flipped 1) ∷ []
 
--- ---- what a flip keeps
+-- ---- what a flip shows to the checker
 
 -- the images and pairs of the open collection, old, new and pairs
-pub record Kept : Type 0 where
+pub record FlipPair : Type 0 where
   pub old : Image
   pub new : Image
   pub pairs : List (ℕ × ℕ)
 
-abbrev pub kept_of : State → Option Collection → Option Kept
-kept_of s None = None
-kept_of s (Some c) = Some (record { old = old_image s c; new = new_image s c; pairs = pairs_of c })
+abbrev pub flip_pair_of : State → Option Collection → Option FlipPair
+flip_pair_of s None = None
+flip_pair_of s (Some c) = Some (record { old = old_image s c; new = new_image s c; pairs = pairs_of c })
 
 -- of the collection that is open after these events of one mutator
-abbrev pub kept_after : ℕ → List Event → Option Kept
-kept_after size events = let s = state_after (opening_state size 1) events in kept_of s s.collection
+abbrev pub flip_pair_after : ℕ → List Event → Option FlipPair
+flip_pair_after size events = let s = state_after (opening_state size 1) events in flip_pair_of s s.collection
 
 -- sixteen words, the first of which is given
 abbrev pub sixteen : ℕ → List ℕ
 sixteen word = word ∷ 0 ∷ 0 ∷ 0 ∷ 0 ∷ 0 ∷ 0 ∷ 0 ∷ 0 ∷ 0 ∷ 0 ∷ 0 ∷ 0 ∷ 0 ∷ 0 ∷ 0 ∷ []
 
-pub record KeptRows : Type 0 where
-  pub exactly_full : kept_after 9 (first (ops.New (own_slot 0) 1 2) ∷ first (ops.New (own_slot 0) 1 2) ∷ begin ∷ roots ∷ scan ∷ scan ∷ scan ∷ []) ≡ Some (record {
+pub record FlipPairRows : Type 0 where
+  pub exactly_full : flip_pair_after 9 (first (ops.New (own_slot 0) 1 2) ∷ first (ops.New (own_slot 0) 1 2) ∷ begin ∷ roots ∷ scan ∷ scan ∷ scan ∷ []) ≡ Some (record {
     old = record { size = 9; end = 9; words = 0 ∷ 16842754 ∷ 0 ∷ 0 ∷ 0 ∷ 16842754 ∷ 1 ∷ 0 ∷ 0 ∷ []; roots = sixteen 0 ++ sixteen 10 };
     new = record { size = 9; end = 5; words = 0 ∷ 16842754 ∷ 5 ∷ 0 ∷ 0 ∷ []; roots = sixteen 0 ++ sixteen 2 };
     pairs = (5, 1) ∷ [];

@@ -1,6 +1,7 @@
 -- What a heap with a collector consists of, seen without links. Names are addresses.
-use Rattle.std.specs.Prelude.{ℕ, ◌+◌, ◌-◌, ◌==◌, List, [], ◌∷◌, length, map, Option, Some, None}
+use Rattle.std.specs.Prelude.{ℕ, ◌-◌, ◌==◌, List, [], ◌∷◌, length, map, Option, Some, None}
 use Rattle.std.specs.List.{find}
+use Rattle.gc_words.specs.Layout.{next_place}
 use Rattle.gc_graph.specs.Graph.{Value, Nil, Num, Ref, Object, Graph, new_object}
 use Rattle.gc_graph.specs.Machine.{Roomy, opening_roomy}
 
@@ -38,7 +39,7 @@ heap_end s = s.size - s.heap.free
 -- the place behind objects that lie back to back from a place on
 abbrev pub objects_end : ℕ → List (ℕ × Object) → ℕ
 objects_end at [] = at
-objects_end at (entry ∷ rest) = objects_end (at + (length entry.1.fields + 2)) rest
+objects_end at (entry ∷ rest) = objects_end (next_place at (length entry.1.fields)) rest
 
 -- what stands in the new space, its first word that no object takes, and how many words no object takes
 abbrev pub new_objects : Collection → List (ℕ × Object)

@@ -1,9 +1,10 @@
 -- What a mutator's command and each step of the collector answer and leave.
-use Rattle.std.specs.Prelude.{ℕ, suc, ◌+◌, ◌==◌, nat_lt, Bool, true, false, ◌&&◌, not, if◌then◌else◌, List, [], ◌∷◌, ◌++◌, length, map, replicate, slice_get, slice_set, Option, Some, None, is_none, is_some, ⊤}
+use Rattle.std.specs.Prelude.{ℕ, suc, ◌==◌, nat_lt, Bool, true, false, ◌&&◌, not, if◌then◌else◌, List, [], ◌∷◌, ◌++◌, length, map, replicate, slice_get, slice_set, Option, Some, None, is_none, is_some, ⊤}
 use Rattle.std.specs.List.{list_all, flat_map}
+use Rattle.gc_words.specs.Layout.{next_place}
 use Rattle.gc_graph.specs.Slots.{place}
 use Rattle.gc_graph.specs.Graph.{Value, Nil, Num, Ref, Object, Graph, root, names_of, lookup, field_of, with_field}
-use Rattle.gc_graph.specs.Machine.{roomy_step}
+use Rattle.gc_graph.specs.Machine.{roomy_step, object_words}
 use Rattle.gc_graph.specs.declared.command.Op.{Op}
 use Rattle.gc_graph.specs.declared.command.Op.TheVariants as ops
 use Rattle.gc_graph.specs.declared.reply.Reply.{Reply}
@@ -60,7 +61,7 @@ fresh_replica name place object = record { original = name; place = place; objec
 abbrev pub place_replica : Collection → ℕ → Option Object → Option Collection
 place_replica c name None = None
 place_replica c name (Some object) =
-    if nat_lt (new_free c) (length object.fields + 2) then None
+    if nat_lt (new_free c) (object_words (length object.fields)) then None
     else Some (record c { replicas = c.replicas ++ fresh_replica name (new_end c) object ∷ [] })
 
 -- the collection with a replica of what the value refers to
@@ -132,7 +133,7 @@ abbrev pub scan_done : Collection → Bool
 scan_done c = c.scan_place == new_end c
 
 abbrev pub next_object : Collection → Replica → Collection
-next_object c r = record c { scan_place = c.scan_place + length r.object.fields + 2; scan_field = 0 }
+next_object c r = record c { scan_place = next_place c.scan_place (length r.object.fields); scan_field = 0 }
 
 abbrev pub next_field : Option Collection → Option Collection
 next_field None = None

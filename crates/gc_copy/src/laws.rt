@@ -22,7 +22,7 @@ ghost use Rattle.gc_copy.specs.Belonging.{IsSpaceGraph, HasField, Belongs, Belon
 ghost use Rattle.gc_copy.specs.Runs.{IsStep, InEveryRun};
 ghost use Rattle.gc_copy.specs.Passing.{HasImage, PassesWhereReady, NeverRefused, AlwaysHasRoom, ScansToTheEnd, HasFewPairs};
 ghost use Rattle.gc_copy.specs.Carried.{CarriesOnlyKept};
-ghost use Rattle.gc_copy.specs.Rows.{Rows, SizedRows, KeptRows};
+ghost use Rattle.gc_copy.specs.Rows.{Rows, SizedRows, FlipPairRows};
 ghost use Rattle.gc_copy.specs.declared.step.Step.{Step};
 ghost use Rattle.gc_copy.specs.declared.step.StepReply.TheVariants.{NoRoom};
 
@@ -30,7 +30,7 @@ ghost use Rattle.gc_copy.specs.declared.step.StepReply.TheVariants.{NoRoom};
 pub fn worked_rows()
     ensures answers { Rows }
     ensures sized { SizedRows }
-    ensures kept { KeptRows }
+    ensures kept { FlipPairRows }
 {}
 
 /// A collection that has just begun belongs to any heap. A command keeps the heap, and belonging but for

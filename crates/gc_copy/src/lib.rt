@@ -6,8 +6,8 @@ mod collection;
 mod event;
 mod laws;
 mod log;
+mod pairs;
 mod step;
-mod walk;
 
 pub use collection::Collection;
 pub use event::{Answer, Event};

@@ -5,10 +5,11 @@ use gc_copy::{Collection, Step, StepReply};
 use gc_graph::NoMemory;
 
 impl CollectedHeap {
-    ghost use Rattle.std.specs.Prelude.{◌≡◌, ◌<◌, ◌≤◌, IfOk, OnErr};
-    ghost use Rattle.gc_copy.specs.Steps.{collect, useful_step};
+    ghost use Rattle.std.specs.Prelude.{◌≡◌, ◌≢◌, ◌<◌, ◌≤◌, IfOk, IfSome, IsTrue, OnErr, length};
+    ghost use Rattle.gc_copy.specs.Steps.{collect, is_ready, useful_step};
     ghost use Rattle.gc_copy.specs.Runs.{IsStep};
     ghost use Rattle.gc_copy.specs.declared.step.Step.{Step};
+    ghost use Rattle.gc_copy.specs.declared.step.StepReply.{StepReply};
     ghost use Rattle.gc_core.specs.Flip.{FlipsOnly};
     ghost use Rattle.gc_core.specs.CollectedHeap.{Allocates};
 
@@ -20,6 +21,10 @@ impl CollectedHeap {
         ensures step { IfOk result (λ reply. collect self.old step ≡ (reply, self.new)) }
         // It flips only what this checker said yes to.
         ensures asked { IfOk result (FlipsOnly (C.says_yes checker.now) self.old) }
+        // A ready collection passes, so no flip is refused.
+        ensures passes { step ≡ Step.Flip → IfOk result (λ reply. IfSome self.old.collection (λ c.
+            IsTrue (is_ready c self.old.heap.graph) → reply ≡ StepReply.Flipped (length c.replicas))) }
+        ensures never_refused { IfOk result (λ reply. reply ≢ StepReply.Refused) }
         ensures refused { OnErr result (self.new ≡ self.old) }
         ensures allocates { OnErr result (Allocates step) }
         ensures mutators { self.new.mutators ≡ self.old.mutators }

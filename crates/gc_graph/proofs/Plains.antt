@@ -17,10 +17,10 @@ use Rattle.gc_graph.specs.Machine.{view_of, get_field}
 use Rattle.gc_graph.specs.declared.reply.View.{View}
 use Rattle.gc_graph.specs.declared.reply.Reply.{Reply}
 use Rattle.gc_graph.specs.declared.reply.Reply.TheVariants.{Saw}
-use Rattle.gc_graph.specs.Records.{held_value, object_of_record, named_object, objects_of, record_option}
+use Rattle.gc_graph.specs.Records.{plain_value, object_of_record, named_object, objects_of, record_option}
 use Rattle.gc_graph.specs.declared.objects.Record.{Record}
-use Rattle.gc_graph.specs.declared.objects.Held.{Held}
-use Rattle.gc_graph.specs.declared.objects.Held.TheVariants as held
+use Rattle.gc_graph.specs.declared.objects.PlainValue.{PlainValue}
+use Rattle.gc_graph.specs.declared.objects.PlainValue.TheVariants as held
 
 at_key : (q k : ℕ) → is_eq (nat_cmp q k) ≡ (k == q)
 at_key q k = elim (cases_order q k) [
@@ -50,12 +50,12 @@ pushed (e ∷ es) k r all =
     ∙ ap (λ b. match_ordering (cond b Equal Greater) ((k, r) ∷ e ∷ es) ((e.0, r) ∷ es) (e ∷ insert_entry nat_cmp es k r)) (ne_eqb k e.0 (λ q. omega arith))
     ∙ ap (λ xs. e ∷ xs) (pushed es k r all.1)
 
-pub root_held : (items : List Held) (p : ℕ) (h : Held) → p < length items → h ≡ get_or items p h → value_or_nil (slice_get (map held_value items) p) ≡ held_value h
+pub root_held : (items : List PlainValue) (p : ℕ) (h : PlainValue) → p < length items → h ≡ get_or items p h → value_or_nil (slice_get (map plain_value items) p) ≡ plain_value h
 root_held [] p h l e = absurd (omega arith)
-root_held (x ∷ items) zero h l e = ap held_value (sym e)
+root_held (x ∷ items) zero h l e = ap plain_value (sym e)
 root_held (x ∷ items) (suc p) h l e = root_held items p h (omega arith) e
 
-pub held_nils : (n : ℕ) → map held_value (replicate n held.Nil) ≡ replicate n Nil
+pub held_nils : (n : ℕ) → map plain_value (replicate n held.Nil) ≡ replicate n Nil
 held_nils zero = refl
 held_nils (suc n) = ap (λ vs. Nil ∷ vs) (held_nils n)
 
@@ -73,20 +73,20 @@ object_short (x ∷ os) q o all e =
 
 -- ---- a field written
 
-written_object : (r : Record) (i : ℕ) (v : Held) → object_of_record (record { kind = r.kind; fields = with_item r.fields i v }) ≡ with_field (object_of_record r) i (held_value v)
-written_object r i v = (let fields : map held_value (slice_set r.fields.items i v) ≡ slice_set (map held_value r.fields.items) i (held_value v) = map-set held_value r.fields.items i v in λ j. record { kind = r.kind; fields = fields j })
+written_object : (r : Record) (i : ℕ) (v : PlainValue) → object_of_record (record { kind = r.kind; fields = with_item r.fields i v }) ≡ with_field (object_of_record r) i (plain_value v)
+written_object r i v = (let fields : map plain_value (slice_set r.fields.items i v) ≡ slice_set (map plain_value r.fields.items) i (plain_value v) = map-set plain_value r.fields.items i v in λ j. record { kind = r.kind; fields = fields j })
 
-pub written_entries : (es : List (ℕ × Record)) (q i : ℕ) (r : Record) (v : Held) → entries.lookup (tree.is_at (nat_cmp q)) es ≡ Some r
-    → objects_of (entries.set_value (tree.is_at (nat_cmp q)) es (record { kind = r.kind; fields = with_item r.fields i v })) ≡ set_field (objects_of es) q i (held_value v)
+pub written_entries : (es : List (ℕ × Record)) (q i : ℕ) (r : Record) (v : PlainValue) → entries.lookup (tree.is_at (nat_cmp q)) es ≡ Some r
+    → objects_of (entries.set_value (tree.is_at (nat_cmp q)) es (record { kind = r.kind; fields = with_item r.fields i v })) ≡ set_field (objects_of es) q i (plain_value v)
 written_entries [] q i r v e = absurd (let no : None ≡ Some r = e in cc)
 written_entries (x ∷ es) q i r v e =
     elim (x.0 == q) as (λ b. is_eq (nat_cmp q x.0) ≡ b
     → objects_of (cond (is_eq (nat_cmp q x.0)) ((x.0, record { kind = r.kind; fields = with_item r.fields i v }) ∷ es) (x ∷ entries.set_value (tree.is_at (nat_cmp q)) es (record { kind = r.kind; fields = with_item r.fields i v })))
-    ≡ cond b ((x.0, with_field (object_of_record x.1) i (held_value v)) ∷ objects_of es) (named_object x ∷ set_field (objects_of es) q i (held_value v))) [
+    ≡ cond b ((x.0, with_field (object_of_record x.1) i (plain_value v)) ∷ objects_of es) (named_object x ∷ set_field (objects_of es) q i (plain_value v))) [
       | true ↦ λ at. (let found : Some x.1 ≡ Some r = sym (ap (λ b. cond b (Some x.1) (entries.lookup (tree.is_at (nat_cmp q)) es)) at) ∙ e in
           let same : x.1 ≡ r = cc in
           ap (λ b. objects_of (cond b ((x.0, record { kind = r.kind; fields = with_item r.fields i v }) ∷ es) (x ∷ entries.set_value (tree.is_at (nat_cmp q)) es (record { kind = r.kind; fields = with_item r.fields i v })))) at
-          ∙ ap (λ o. (x.0, o) ∷ objects_of es) (written_object r i v ∙ ap (λ r. with_field (object_of_record r) i (held_value v)) (sym same)))
+          ∙ ap (λ o. (x.0, o) ∷ objects_of es) (written_object r i v ∙ ap (λ r. with_field (object_of_record r) i (plain_value v)) (sym same)))
       | false ↦ λ at. (let later : entries.lookup (tree.is_at (nat_cmp q)) es ≡ Some r = sym (ap (λ b. cond b (Some x.1) (entries.lookup (tree.is_at (nat_cmp q)) es)) at) ∙ e in
           ap (λ b. objects_of (cond b ((x.0, record { kind = r.kind; fields = with_item r.fields i v }) ∷ es) (x ∷ entries.set_value (tree.is_at (nat_cmp q)) es (record { kind = r.kind; fields = with_item r.fields i v })))) at
           ∙ ap (λ os. named_object x ∷ os) (written_entries es q i r v later))
@@ -104,11 +104,11 @@ get_past (x ∷ xs) (suc i) h = get_past xs i (omega arith)
 
 pub field_there : (es : List (ℕ × Record)) (q i n : ℕ) (r : Record) → Some r ≡ entries.lookup (tree.is_at (nat_cmp q)) es → n ≡ length r.fields.items → i < n → true ≡ is_some (field_of (lookup (objects_of es) q) i)
 field_there es q i n r e l h =
-    sym (ap (λ o. is_some (field_of o i)) (sym (found_record es q) ∙ ap record_option (sym e)) ∙ get_there (map held_value r.fields.items) i (let m : length (map held_value r.fields.items) ≡ length r.fields.items = length-map r.fields.items held_value in omega arith))
+    sym (ap (λ o. is_some (field_of o i)) (sym (found_record es q) ∙ ap record_option (sym e)) ∙ get_there (map plain_value r.fields.items) i (let m : length (map plain_value r.fields.items) ≡ length r.fields.items = length-map r.fields.items plain_value in omega arith))
 
 pub field_past : (es : List (ℕ × Record)) (q i n : ℕ) (r : Record) → Some r ≡ entries.lookup (tree.is_at (nat_cmp q)) es → n ≡ length r.fields.items → n ≤ i → false ≡ is_some (field_of (lookup (objects_of es) q) i)
 field_past es q i n r e l h =
-    sym (ap (λ o. is_some (field_of o i)) (sym (found_record es q) ∙ ap record_option (sym e)) ∙ get_past (map held_value r.fields.items) i (let m : length (map held_value r.fields.items) ≡ length r.fields.items = length-map r.fields.items held_value in omega arith))
+    sym (ap (λ o. is_some (field_of o i)) (sym (found_record es q) ∙ ap record_option (sym e)) ∙ get_past (map plain_value r.fields.items) i (let m : length (map plain_value r.fields.items) ≡ length r.fields.items = length-map r.fields.items plain_value in omega arith))
 
 pub record_gone : (es : List (ℕ × Record)) (q i : ℕ) → None ≡ entries.lookup (tree.is_at (nat_cmp q)) es → false ≡ is_some (field_of (lookup (objects_of es) q) i)
 record_gone es q i e = sym (ap (λ o. is_some (field_of o i)) (sym (found_record es q) ∙ ap record_option (sym e)))

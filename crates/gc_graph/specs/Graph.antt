@@ -1,5 +1,6 @@
 -- The object graph that a mutator sees: named objects, and roots.
 use Rattle.std.specs.Prelude.{◌≡◌, ℕ, suc, ◌==◌, if◌then◌else◌, max, List, [], ◌∷◌, ◌++◌, map, replicate, slice_get, slice_set, Option, Some, None, IsFalse}
+use Rattle.std.specs.Option.{option_to_list}
 use Rattle.std.specs.List.{flat_map, list_any, fold}
 use Rattle.gc_graph.specs.Slots.{roots_of}
 
@@ -64,10 +65,14 @@ Reachable g name = (place : ℕ) × (fields : List ℕ) × (at_path g place fiel
 
 -- ---- names
 
+-- the name that a value is
+abbrev pub name_of : Value → Option ℕ
+name_of Nil = None
+name_of (Num n) = None
+name_of (Ref name) = Some name
+
 abbrev pub names_of : Value → List ℕ
-names_of Nil = []
-names_of (Num n) = []
-names_of (Ref name) = name ∷ []
+names_of v = option_to_list (name_of v)
 
 -- the names that occur: those of objects, in fields and in roots
 abbrev pub names_in : Graph → List ℕ

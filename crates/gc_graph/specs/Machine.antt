@@ -73,9 +73,13 @@ pub record Roomy : Type 0 where
   pub graph : Graph
   pub free : ℕ
 
--- the words that a command takes: a new object's header, link and fields
+-- the words of an object with so many fields: its header, its link, and its fields
+abbrev pub object_words : ℕ → ℕ
+object_words len = len + 2
+
+-- the words that a command takes
 abbrev pub words_taken : Op → ℕ
-words_taken (ops.New d kind len) = len + 2
+words_taken (ops.New d kind len) = object_words len
 words_taken (ops.Num d n) = 0
 words_taken (ops.Nil d) = 0
 words_taken (ops.Move d s) = 0
@@ -104,9 +108,14 @@ pub record Answers (old : Roomy) (m : ℕ) (op : Op) (reply : Reply) (new : Room
   pub unused : IsUnused old.graph name
   pub step : roomy_step old m op name ≡ (reply, new)
 
+-- a new object in a place of the roots, where it has room
+abbrev pub make_object : Roomy → ℕ → ℕ → ℕ → ℕ → Reply × Roomy
+make_object s p kind len name =
+    if nat_lt s.free (object_words len) then (Full, s)
+    else (Made, record { graph = set_root (add_object s.graph name (new_object kind len)) p (Ref name); free = s.free - object_words len })
+
 -- The same for a new object that a place of the roots takes.
 pub record Makes (old : Roomy) (p kind len : ℕ) (reply : Reply) (new : Roomy) : Type 0 where
   pub name : ℕ
   pub unused : IsUnused old.graph name
-  pub made : ◌≡◌ {A = Reply × Roomy} (reply, new) (if nat_lt old.free (len + 2) then (Full, old)
-      else (Made, record { graph = set_root (add_object old.graph name (new_object kind len)) p (Ref name); free = old.free - (len + 2) }))
+  pub made : (reply, new) ≡ make_object old p kind len name

@@ -1,18 +1,18 @@
 -- What the plain machine's records and values mean.
 use Rattle.std.specs.Prelude.{ℕ, List, map, Option, Some, None}
 use Rattle.gc_graph.specs.Graph.{Value, Nil, Num, Ref, Object, Graph}
-use Rattle.gc_graph.specs.declared.objects.Held.{Held}
-use Rattle.gc_graph.specs.declared.objects.Held.TheVariants as held
+use Rattle.gc_graph.specs.declared.objects.PlainValue.{PlainValue}
+use Rattle.gc_graph.specs.declared.objects.PlainValue.TheVariants as held
 use Rattle.gc_graph.specs.declared.objects.Record.{Record}
 use Rattle.gc_graph.specs.declared.objects.Objects.{Objects}
 
-abbrev pub held_value : Held → Value
-held_value held.Nil = Nil
-held_value (held.Num n) = Num n
-held_value (held.Ref name) = Ref name
+abbrev pub plain_value : PlainValue → Value
+plain_value held.Nil = Nil
+plain_value (held.Num n) = Num n
+plain_value (held.Ref name) = Ref name
 
 abbrev pub object_of_record : Record → Object
-object_of_record r = record { kind = r.kind; fields = map held_value r.fields.items }
+object_of_record r = record { kind = r.kind; fields = map plain_value r.fields.items }
 
 abbrev pub named_object : ℕ × Record → ℕ × Object
 named_object e = (e.0, object_of_record e.1)
@@ -25,4 +25,4 @@ record_option None = None
 record_option (Some r) = Some (object_of_record r)
 
 abbrev pub graph_of : Objects → Graph
-graph_of o = record { objects = objects_of o.records.entries; roots = map held_value o.roots.items }
+graph_of o = record { objects = objects_of o.records.entries; roots = map plain_value o.roots.items }

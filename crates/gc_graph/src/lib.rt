@@ -18,7 +18,7 @@ pub use laws::{corresponding_graphs_reply_alike, names_do_not_matter, worked_row
 pub use limits::{MOST_MUTATORS, MOST_WORDS, SLOTS_EACH};
 pub use no_memory::NoMemory;
 pub use number::Number;
-pub use plain::Plain;
+pub use plain::{Plain, object_words};
 pub use reply::{Reply, View};
 pub use slot::{Slot, root_count};
 pub use text::{Failed, Sink, Source};

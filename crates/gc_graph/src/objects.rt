@@ -4,7 +4,7 @@ ghost use Rattle.gc_graph.specs.Limits.{lengths};
 ghost use Rattle.gc_graph.specs.Graph.{object_of, lookup, field_of, root as root_in, set_root, set_field, new_object, add_object};
 ghost use Rattle.gc_graph.specs.Machine.{view_of, view_of_object, same as same_in, get_field, put_field};
 ghost use Rattle.gc_graph.specs.Bounded.{AreBelow, AreShort};
-ghost use Rattle.gc_graph.specs.Records.{held_value, object_of_record, objects_of, record_option, graph_of};
+ghost use Rattle.gc_graph.specs.Records.{plain_value, object_of_record, objects_of, record_option, graph_of};
 
 use crate::number::Number;
 use crate::reply::{Reply, View};
@@ -13,7 +13,7 @@ use std::collections::BTreeMap;
 
 /// What a root or a field holds: nil, a number, or an object's name.
 #[derive(Clone, Copy, Debug, PartialEq, Eq)]
-pub enum Held {
+pub enum PlainValue {
     Nil,
     Num(Number),
     Ref(u64),
@@ -23,12 +23,12 @@ pub enum Held {
 #[derive(Debug, Drop)]
 pub struct Record {
     kind: u8,
-    fields: Vec<Held>,
+    fields: Vec<PlainValue>,
 }
 
 impl Record {
-    fn field(&self, i: u16) -> Option<Held>
-        ensures { option_map held_value result ≡ field_of (Some (object_of_record self.now)) i }
+    fn field(&self, i: u16) -> Option<PlainValue>
+        ensures { option_map plain_value result ≡ field_of (Some (object_of_record self.now)) i }
     {
         self.fields.get(usize::from(i)).copied()
     }
@@ -54,10 +54,10 @@ fn record_of(records: &Records, name: u64) -> Option<&Record>
 }
 
 /// Writes a field of the named record, if there is one and it has this field.
-fn write_field(records: &mut Records, name: u64, i: u16, value: Held) -> bool
+fn write_field(records: &mut Records, name: u64, i: u16, value: PlainValue) -> bool
     ensures there { result ≡ is_some (field_of (lookup (objects_of records.old.entries) name) i) }
     ensures objects { objects_of records.new.entries
-        ≡ (if result then set_field (objects_of records.old.entries) name i (held_value value) else objects_of records.old.entries) }
+        ≡ (if result then set_field (objects_of records.old.entries) name i (plain_value value) else objects_of records.old.entries) }
 {
     let place = i as usize;
     match records.get_mut(&name) {
@@ -77,23 +77,23 @@ fn write_field(records: &mut Records, name: u64, i: u16, value: Held) -> bool
 #[derive(Drop)]
 pub struct Objects {
     pub records: Records,
-    pub roots: Vec<Held>,
+    pub roots: Vec<PlainValue>,
 }
 
 impl Objects {
     /// What a root holds.
-    pub fn root(&self, place: usize) -> Held
+    pub fn root(&self, place: usize) -> PlainValue
         requires { place < length self.now.roots.items }
-        ensures { held_value result ≡ root_in (graph_of self.now) place }
+        ensures { plain_value result ≡ root_in (graph_of self.now) place }
     {
         self.roots[place]
     }
 
-    /// A root takes the value.
-    pub fn take(&mut self, place: usize, value: Held) -> Reply
+    /// Writes a value into a root.
+    pub fn set(&mut self, place: usize, value: PlainValue) -> Reply
         requires { place < length self.old.roots.items }
         ensures done { result ≡ Reply.Done }
-        ensures graph { graph_of self.new ≡ set_root (graph_of self.old) place (held_value value) }
+        ensures graph { graph_of self.new ≡ set_root (graph_of self.old) place (plain_value value) }
     {
         self.roots[place] = value;
         Reply::Done
@@ -106,20 +106,20 @@ impl Objects {
         ensures roots { length self.new.roots.items ≡ length self.old.roots.items }
         ensures err { OnErr result (graph_of self.new ≡ graph_of self.old) }
     {
-        let fields = vec![in alloc; Held::Nil; usize::from(len)]?;
+        let fields = vec![in alloc; PlainValue::Nil; usize::from(len)]?;
         let _ = self.records.insert(name, Record { kind, fields })?;
         Ok(())
     }
 
     /// What is seen of a value.
-    pub fn view(&self, value: &Held) -> View
+    pub fn view(&self, value: &PlainValue) -> View
         requires { AreShort (graph_of self.now) }
-        ensures { result ≡ view_of (graph_of self.now).objects (held_value value.now) }
+        ensures { result ≡ view_of (graph_of self.now).objects (plain_value value.now) }
     {
         match value {
-            Held::Nil => View::Nil,
-            Held::Num(n) => View::Num(*n),
-            Held::Ref(name) => match record_of(&self.records, *name) {
+            PlainValue::Nil => View::Nil,
+            PlainValue::Num(n) => View::Num(*n),
+            PlainValue::Ref(name) => match record_of(&self.records, *name) {
                 Some(record) => record.view(),
                 None => View::Nil,
             },
@@ -127,21 +127,22 @@ impl Objects {
     }
 
     /// Whether two values are the same: nil and nil, equal numbers, or one object.
-    fn same(&self, one: Held, other: Held) -> bool
-        ensures { result ≡ same_in (graph_of self.now).objects (held_value one) (held_value other) }
+    fn same(&self, one: PlainValue, other: PlainValue) -> bool
+        ensures { result ≡ same_in (graph_of self.now).objects (plain_value one) (plain_value other) }
     {
         match one {
-            Held::Nil => matches!(other, Held::Nil),
-            Held::Num(a) => matches!(other, Held::Num(b) if a.get() == b.get()),
-            Held::Ref(a) => {
-                matches!(other, Held::Ref(b) if a == b) && record_of(&self.records, a).is_some()
+            PlainValue::Nil => matches!(other, PlainValue::Nil),
+            PlainValue::Num(a) => matches!(other, PlainValue::Num(b) if a.get() == b.get()),
+            PlainValue::Ref(a) => {
+                matches!(other, PlainValue::Ref(b) if a == b)
+                    && record_of(&self.records, a).is_some()
             }
         }
     }
 
     /// The answer to whether two values are the same.
-    pub fn compare(&self, one: Held, other: Held) -> Reply
-        ensures { result ≡ (if same_in (graph_of self.now).objects (held_value one) (held_value other) then Reply.Yes else Reply.No) }
+    pub fn compare(&self, one: PlainValue, other: PlainValue) -> Reply
+        ensures { result ≡ (if same_in (graph_of self.now).objects (plain_value one) (plain_value other) then Reply.Yes else Reply.No) }
     {
         if self.same(one, other) {
             Reply::Yes
@@ -151,13 +152,13 @@ impl Objects {
     }
 
     /// Root `d` takes field `i` of the object that `target` refers to.
-    pub fn get(&mut self, d: usize, target: Held, i: u16) -> Reply
+    pub fn get(&mut self, d: usize, target: PlainValue, i: u16) -> Reply
         requires root { d < length self.old.roots.items }
         requires short { AreShort (graph_of self.old) }
-        ensures { let object = object_of (graph_of self.old).objects (held_value target) in
+        ensures { let object = object_of (graph_of self.old).objects (plain_value target) in
             (result, graph_of self.new) ≡ get_field (graph_of self.old) d object (field_of object i) }
     {
-        let Held::Ref(name) = target else {
+        let PlainValue::Ref(name) = target else {
             return Reply::NoObject;
         };
         let Some(record) = record_of(&self.records, name) else {
@@ -172,11 +173,11 @@ impl Objects {
     }
 
     /// Field `i` of the object that `target` refers to takes the value.
-    pub fn put(&mut self, target: Held, i: u16, value: Held) -> Reply
-        ensures { let object = object_of (graph_of self.old).objects (held_value target) in
-            (result, graph_of self.new) ≡ put_field (graph_of self.old) (held_value target) object (field_of object i) i (held_value value) }
+    pub fn put(&mut self, target: PlainValue, i: u16, value: PlainValue) -> Reply
+        ensures { let object = object_of (graph_of self.old).objects (plain_value target) in
+            (result, graph_of self.new) ≡ put_field (graph_of self.old) (plain_value target) object (field_of object i) i (plain_value value) }
     {
-        let Held::Ref(name) = target else {
+        let PlainValue::Ref(name) = target else {
             return Reply::NoObject;
         };
         if record_of(&self.records, name).is_none() {

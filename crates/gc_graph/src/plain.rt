@@ -1,10 +1,10 @@
 ghost use Rattle.std.specs.Prelude.{◌≡◌, ◌+◌, ◌<◌, ◌≤◌, IfOk, OnErr, IsErr, length};
 ghost use Rattle.gc_graph.specs.Limits.{most_words, most_mutators};
-ghost use Rattle.gc_graph.specs.Machine.{opening_roomy, HasMutator, MakesObject, Answers, Makes};
+ghost use Rattle.gc_graph.specs.Machine.{object_words, opening_roomy, HasMutator, MakesObject, Answers, Makes};
 
 use crate::command::Op;
 use crate::no_memory::NoMemory;
-use crate::objects::{Held, Objects};
+use crate::objects::{Objects, PlainValue};
 use crate::reply::Reply;
 use crate::slot::root_count;
 use std::alloc::Global;
@@ -45,7 +45,7 @@ impl Plain {
         requires few { mutators ≤ most_mutators }
         ensures { IfOk result (λ plain. plain ≡ opening_roomy size mutators) }
     {
-        let Ok(roots) = vec![in alloc; Held::Nil; root_count(mutators)] else {
+        let Ok(roots) = vec![in alloc; PlainValue::Nil; root_count(mutators)] else {
             return Err(NoMemory);
         };
         Ok(Plain {
@@ -76,11 +76,11 @@ impl Plain {
     {
         match *op {
             Op::New { d, kind, len } => self.make(d.place(m), kind, len),
-            Op::Num { d, n } => Ok(self.objects.take(d.place(m), Held::Num(n))),
-            Op::Nil { d } => Ok(self.objects.take(d.place(m), Held::Nil)),
+            Op::Num { d, n } => Ok(self.objects.set(d.place(m), PlainValue::Num(n))),
+            Op::Nil { d } => Ok(self.objects.set(d.place(m), PlainValue::Nil)),
             Op::Move { d, s } => {
                 let value = self.objects.root(s.place(m));
-                Ok(self.objects.take(d.place(m), value))
+                Ok(self.objects.set(d.place(m), value))
             }
             Op::Get { d, s, i } => {
                 let target = self.objects.root(s.place(m));
@@ -109,7 +109,7 @@ impl Plain {
         ensures ok { IfOk result (λ reply. Makes self.old place kind len reply self.new) }
         ensures err { OnErr result (self.new ≡ self.old) }
     {
-        let taken = u32::from(len) + 2;
+        let taken = object_words(len);
         if taken > self.free {
             return Ok(Reply::Full);
         }
@@ -117,9 +117,16 @@ impl Plain {
         let Ok(()) = self.objects.add(self.alloc, name, kind, len) else {
             return Err(NoMemory);
         };
-        let _ = self.objects.take(place, Held::Ref(name));
+        let _ = self.objects.set(place, PlainValue::Ref(name));
         self.free -= taken;
         self.next_name += 1;
         Ok(Reply::Made)
     }
+}
+
+/// Returns the number of words of an object with so many fields: its header, its link, and its fields.
+pub fn object_words(len: u16) -> u32
+    ensures { result ≡ object_words len }
+{
+    u32::from(len) + 2
 }

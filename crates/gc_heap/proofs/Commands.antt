@@ -10,14 +10,16 @@ use Rattle.gc_graph.specs.declared.reply.Reply.TheVariants.{Done, NoField, Saw}
 use Rattle.gc_graph.specs.declared.reply.View.{View}
 use Rattle.gc_words.specs.Word.{value_of, word_of, field_value}
 use Rattle.gc_words.specs.Image.{Block, block_at, field_at, is_start, objects_of, object_of_block}
-use Rattle.gc_words.specs.Space.{with_object, with_word, field_place, end_of, CanPlace}
+use Rattle.gc_words.specs.Layout.{field_place}
+use Rattle.gc_words.specs.Space.{with_object, with_word, end_of, CanPlace}
 use Rattle.gc_words.specs.declared.header.Header.{Header}
 use Rattle.gc_words.specs.Closed.{IsRootWord, IsFieldWord, RefersToStart}
 use Rattle.gc_words.proofs.Graphs.{object_found, field_found, root_value, graph_field, graph_root, word_read_back}
 use Rattle.gc_words.proofs.References.{closed_root_read, closed_field, closed_root, closed_placed, placed_reference}
 use Rattle.gc_words.proofs.Writes.{some_of, field_written, placed}
 use Rattle.std.proofs.lemmas.List.{length-set}
-use Rattle.gc_heap.specs.Heap.{HeapWords, IsHeap, graph_in, name_of}
+use Rattle.gc_graph.specs.Graph.{name_of}
+use Rattle.gc_heap.specs.Heap.{HeapWords, IsHeap, graph_in}
 
 -- ---- roots
 
@@ -64,9 +66,6 @@ points h s a w heap less read name =
       target = at;
       object = ap (object_of (graph_in h).objects) at ∙ object_found h.space.words a ∙ ap (option_map object_of_block) b.1;
     }
-
-pub start_of : (h : HeapWords) (s a w : ℕ) → IsHeap h → s < length h.roots → w ≡ slice_index h.roots s → Some a ≡ name_of (value_of w) → is_start h.space.words a ≡ true
-start_of h s a w heap less read name = ap is_some (points h s a w heap less read name).found
 
 -- a field, as the graph has it
 field_value_at : (h : HeapWords) (s a i : ℕ) (p : Points h s a) → field_of (object_of (graph_in h).objects (root (graph_in h) s)) i ≡ option_map (field_value p.block.header) (field_at h.space.words a i)

@@ -1,4 +1,4 @@
-pub mod Seen
+pub mod Views
 pub mod Commands
 pub mod Links
 pub mod Steps

@@ -1,10 +1,11 @@
 -- What commands leave of links.
-use Rattle.std.proofs.Common.{◌≡◌, ℕ, List, Option, Some, None, true, false, ◌==◌, is_some, refl, sym, ◌∙◌, ap, subst, inl, inr}
+use Rattle.std.proofs.Common.{◌≡◌, ℕ, List, Option, Some, None, true, false, ◌==◌, is_some, sym, ◌∙◌, ap, subst, inl, inr}
 use Rattle.std.specs.Prelude.{IsSome}
 use Rattle.std.proofs.lemmas.Bool.{eqb-true, eqb-false, cases_Bool}
 use Rattle.gc_words.specs.Image.{Block, block_at, is_start, field_at, field_in}
 use Rattle.gc_words.specs.Spelling.{link_at}
-use Rattle.gc_words.specs.Space.{SpaceWords, IsSpace, CanPlace, end_of, with_object, with_word, field_place}
+use Rattle.gc_words.specs.Layout.{field_place}
+use Rattle.gc_words.specs.Space.{SpaceWords, IsSpace, CanPlace, end_of, with_object, with_word}
 use Rattle.gc_words.specs.declared.header.Header.{Header}
 use Rattle.gc_words.proofs.Blocks.{placed_beside, field_beside}
 use Rattle.gc_words.proofs.Links.{link_placed, link_placed_beside, link_beside_field}
@@ -35,6 +36,3 @@ links_written s a i w space some = record {
     there : (o : Option Block) → IsSome (field_in o i) → is_some o ≡ false → ⊥
     there None field no_start = (let no : false ≡ true = field in cc)
     there (Some b) field no_start = (let no : true ≡ false = no_start in cc)
-
-pub links_same : (words : List ℕ) → KeepsLinks words words
-links_same words = record { kept = λ start there. refl; fresh = λ start old new. absurd (let no : true ≡ false = sym new ∙ old in cc) }

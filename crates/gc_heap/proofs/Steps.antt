@@ -1,10 +1,10 @@
 -- Commands on a heap of words, as steps of the roomy machine.
 use Rattle.std.proofs.Common.{◌≡◌, ℕ, ◌+◌, ◌-◌, ◌<◌, ◌≤◌, cond, length, sym, ◌∙◌, ap, arith}
-use Rattle.std.specs.Prelude.{slice_index, slice_set, nat_lt}
+use Rattle.std.specs.Prelude.{slice_index, slice_set}
 use Rattle.std.proofs.lemmas.Bool.{lt-ltb, le-ltb}
 use Rattle.gc_graph.specs.Slots.{SlotName, place}
 use Rattle.gc_graph.specs.Graph.{Value, Ref, root, set_root, add_object, new_object}
-use Rattle.gc_graph.specs.Machine.{step, roomy_step, view_of, MakesObject}
+use Rattle.gc_graph.specs.Machine.{step, roomy_step, view_of, MakesObject, make_object}
 use Rattle.gc_graph.specs.declared.command.Op.{Op}
 use Rattle.gc_graph.specs.declared.command.Op.TheVariants as ops
 use Rattle.gc_graph.specs.declared.reply.Reply.{Reply}
@@ -16,8 +16,8 @@ use Rattle.gc_words.specs.Space.{CanPlace, end_of, free_in, with_object}
 use Rattle.gc_words.specs.declared.header.Header.{Header}
 use Rattle.gc_words.proofs.Graphs.{graph_root, graph_placed, value_read_back}
 use Rattle.gc_words.proofs.Ends.{free_placed}
-use Rattle.gc_heap.proofs.Seen.{meaning}
-use Rattle.gc_heap.specs.Heap.{HeapWords, IsHeap, graph_in, roomy_in, Makes}
+use Rattle.gc_heap.proofs.Views.{meaning}
+use Rattle.gc_heap.specs.Heap.{HeapWords, IsHeap, graph_in, roomy_in}
 use Rattle.gc_heap.proofs.Commands.{at_root}
 
 -- a root takes a word
@@ -53,17 +53,20 @@ new_graph h p header heap can =
     ∙ ap (set_root (add_object (graph_in h) (end_of h.space) (new_object header.kind header.len)) p) value
 
 -- the heap with it is what the roomy machine leaves
-pub full : (h : HeapWords) (p kind len : ℕ) → free_in h.space < len + 2 → Makes h p kind len Full h
+abbrev pub MakesAtEnd : HeapWords → ℕ → ℕ → ℕ → Reply → HeapWords → Type 0
+MakesAtEnd h p kind len reply new = (reply, roomy_in new) ≡ make_object (roomy_in h) p kind len (end_of h.space)
+
+pub full : (h : HeapWords) (p kind len : ℕ) → free_in h.space < len + 2 → MakesAtEnd h p kind len Full h
 full h p kind len short = sym (ap (λ b. cond b (Full, roomy_in h) (Made, record { graph = set_root (add_object (graph_in h) (end_of h.space) (new_object kind len)) p (Ref (end_of h.space)); free = free_in h.space - (len + 2) })) (lt-ltb _ _ short))
 
-pub made : (h : HeapWords) (p kind len : ℕ) → IsHeap h → CanPlace h.space (record { kind = kind; len = len }) → Makes h p kind len Made (with_new h p (record { kind = kind; len = len }))
+pub made : (h : HeapWords) (p kind len : ℕ) → IsHeap h → CanPlace h.space (record { kind = kind; len = len }) → MakesAtEnd h p kind len Made (with_new h p (record { kind = kind; len = len }))
 made h p kind len heap can =
     (λ i. (Made, record { graph = new_graph h p (record { kind = kind; len = len }) heap can i; free = free_placed h.space (record { kind = kind; len = len }) i }))
     ∙ sym (ap (λ b. cond b (Full, roomy_in h) (Made, record { graph = set_root (add_object (graph_in h) (end_of h.space) (new_object kind len)) p (Ref (end_of h.space)); free = free_in h.space - (len + 2) })) (le-ltb _ _ can.room))
 
 pub makes_at : (h new : HeapWords) (m : ℕ) (op : Op) (d : SlotName) (p kind len : ℕ) (reply : Reply) → op ≡ ops.New d kind len → p ≡ place d m
-    → Makes h p kind len reply new → roomy_step (roomy_in h) m op (end_of h.space) ≡ (reply, roomy_in new)
+    → MakesAtEnd h p kind len reply new → roomy_step (roomy_in h) m op (end_of h.space) ≡ (reply, roomy_in new)
 makes_at h new m op d p kind len reply is at makes =
     ap (λ o. roomy_step (roomy_in h) m o (end_of h.space)) is
-    ∙ ap (λ p. cond (nat_lt (free_in h.space) (len + 2)) (Full, roomy_in h) (Made, record { graph = set_root (add_object (graph_in h) (end_of h.space) (new_object kind len)) p (Ref (end_of h.space)); free = free_in h.space - (len + 2) })) (sym at)
+    ∙ ap (λ p. make_object (roomy_in h) p kind len (end_of h.space)) (sym at)
     ∙ sym makes

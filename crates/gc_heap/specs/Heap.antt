@@ -1,13 +1,11 @@
 -- A heap as contracts see it: a space with links among its words, roots, and mutators.
-use Rattle.std.specs.Prelude.{◌≡◌, ℕ, ◌+◌, List, length, replicate, IsTrue, IsFalse, Option, Some, None, nat_lt, ◌-◌, if◌then◌else◌}
+use Rattle.std.specs.Prelude.{◌≡◌, ℕ, List, length, replicate, IsTrue, IsFalse}
 use Rattle.gc_graph.specs.Slots.{roots_of}
-use Rattle.gc_graph.specs.Graph.{Graph, Value, Nil, Num, Ref, set_root, add_object, new_object}
+use Rattle.gc_graph.specs.Graph.{Graph}
 use Rattle.gc_graph.specs.Machine.{Roomy}
 use Rattle.gc_words.specs.Image.{Image, is_start, graph_of, roomy_of}
 use Rattle.gc_words.specs.Spelling.{link_at}
-use Rattle.gc_words.specs.Space.{SpaceWords, IsSpace, empty_space, image_with, free_in, end_of}
-use Rattle.gc_graph.specs.declared.reply.Reply.{Reply}
-use Rattle.gc_graph.specs.declared.reply.Reply.TheVariants.{Full, Made}
+use Rattle.gc_words.specs.Space.{SpaceWords, IsSpace, empty_space, image_with}
 use Rattle.gc_words.specs.Closed.{IsClosed}
 
 pub record HeapWords : Type 0 where
@@ -40,14 +38,3 @@ pub record IsHeap (heap : HeapWords) : Type 0 where
 pub record KeepsLinks (old new : List ℕ) : Type 0 where
   pub kept : (start : ℕ) → IsTrue (is_start old start) → link_at new start ≡ link_at old start
   pub fresh : (start : ℕ) → IsFalse (is_start old start) → IsTrue (is_start new start) → link_at new start ≡ 0
-
--- the name that a value is
-abbrev pub name_of : Value → Option ℕ
-name_of Nil = None
-name_of (Num n) = None
-name_of (Ref a) = Some a
-
--- A new object in a place of the roots, where it has room.
-abbrev pub Makes : HeapWords → ℕ → ℕ → ℕ → Reply → HeapWords → Type 0
-Makes old place kind len reply new = ◌≡◌ {A = Reply × Roomy} (reply, roomy_in new) (if nat_lt (free_in old.space) (len + 2) then (Full, roomy_in old)
-    else (Made, record { graph = set_root (add_object (graph_in old) (end_of old.space) (new_object kind len)) place (Ref (end_of old.space)); free = free_in old.space - (len + 2) }))

@@ -1,6 +1,6 @@
-use crate::reading::{has_field, target_of, view};
+use crate::reading::{has_field, view};
 use gc_graph::{NoMemory, Op, Reply, Slot, root_count};
-use gc_words::{Addr, Header, ImageRef, NewAddr, OldAddr, Space, Value, encode};
+use gc_words::{Addr, Header, ImageRef, NewAddr, OldAddr, Space, Value, encode, target_of};
 use std::alloc::Global;
 use std::marker::Model;
 use std::mem;
@@ -29,13 +29,14 @@ impl Heap {
     ghost use Rattle.std.specs.Option.{option_map};
     ghost use Rattle.gc_graph.specs.Limits.{most_words, most_mutators};
     ghost use Rattle.gc_graph.specs.Slots.{place as place_of};
-    ghost use Rattle.gc_graph.specs.Graph.{object_of, field_of, root};
-    ghost use Rattle.gc_graph.specs.Machine.{roomy_step, opening_roomy, get_field, put_field, same as same_in};
+    ghost use Rattle.gc_graph.specs.Graph.{name_of, object_of, field_of, root};
+    ghost use Rattle.gc_graph.specs.Machine.{roomy_step, make_object, opening_roomy, get_field, put_field, same as same_in};
     ghost use Rattle.gc_words.specs.Image.{is_start};
-    ghost use Rattle.gc_words.specs.Space.{end_of, link_place, with_word, without_links};
+    ghost use Rattle.gc_words.specs.Layout.{link_place};
+    ghost use Rattle.gc_words.specs.Space.{end_of, with_word, without_links};
     ghost use Rattle.gc_words.specs.Closed.{IsRootWord};
     ghost use Rattle.gc_words.specs.Views as views;
-    ghost use Rattle.gc_heap.specs.Heap.{IsHeap, KeepsLinks, empty_heap, image_of, graph_in, roomy_in, name_of, Makes};
+    ghost use Rattle.gc_heap.specs.Heap.{IsHeap, KeepsLinks, empty_heap, image_of, graph_in, roomy_in};
 
     /// Returns a heap without objects whose roots are all nil, of `size` words, 1 to `MOST_WORDS`, and for 1 to
     /// `MOST_MUTATORS` mutators.
@@ -107,7 +108,7 @@ impl Heap {
         Some(OldAddr(at.0))
     }
 
-    /// Makes mutator m's command.
+    /// MakesAtEnd mutator m's command.
     pub fn apply(&mut self, m: u8, op: &Op) -> Reply
         requires { m < self.old.mutators }
         // The name of a new object is the end of the space.
@@ -121,11 +122,11 @@ impl Heap {
         let _ = &self.roots;
         match *op {
             Op::New { d, kind, len } => self.make(d.place(m), kind, len),
-            Op::Num { d, n } => self.take(d.place(m), encode(Value::Num(n))),
-            Op::Nil { d } => self.take(d.place(m), encode(Value::Nil)),
+            Op::Num { d, n } => self.set(d.place(m), encode(Value::Num(n))),
+            Op::Nil { d } => self.set(d.place(m), encode(Value::Nil)),
             Op::Move { d, s } => {
                 let word = self.roots[s.place(m)];
-                self.take(d.place(m), word)
+                self.set(d.place(m), word)
             }
             Op::Get { d, s, i } => self.get(d.place(m), s.place(m), i),
             Op::Put { s, i, t } => self.put(s.place(m), i, t.place(m)),
@@ -147,7 +148,7 @@ impl Heap {
         self.space.set_link(Addr(old.0), u64::from(new.0));
     }
 
-    /// Makes all link words 0.
+    /// MakesAtEnd all link words 0.
     pub fn clear_links(&mut self)
         ensures words { self.new ≡ record self.old { space = without_links self.old.space } }
         ensures graph { graph_in self.new ≡ graph_in self.old }
@@ -171,7 +172,7 @@ impl Heap {
     /// A new object in a root, where it has room.
     fn make(&mut self, place: usize, kind: u8, len: u16) -> Reply
         requires { place < length self.old.roots }
-        ensures step { Makes self.old place kind len result self.new }
+        ensures step { (result, roomy_in self.new) ≡ make_object (roomy_in self.old) place kind len (end_of self.old.space) }
         ensures links { KeepsLinks self.old.space.words self.new.space.words }
         ensures size { self.new.space.size ≡ self.old.space.size }
         ensures mutators { self.new.mutators ≡ self.old.mutators }
@@ -185,8 +186,8 @@ impl Heap {
         Reply::Made
     }
 
-    /// A root takes a word.
-    fn take(&mut self, place: usize, word: u64) -> Reply
+    /// Writes a word into a root.
+    fn set(&mut self, place: usize, word: u64) -> Reply
         requires root { place < length self.old.roots }
         requires word { IsRootWord self.old.space.words word }
         ensures done { result ≡ Reply.Done }

@@ -7,21 +7,9 @@ ghost use Rattle.gc_words.specs.Word.{is_value, value_of};
 ghost use Rattle.gc_words.specs.Image.{is_start, field_at, objects_of};
 ghost use Rattle.gc_words.specs.Space.{IsSpace};
 ghost use Rattle.gc_words.specs.Closed.{IsRootWord};
-ghost use Rattle.gc_heap.specs.Heap.{name_of};
 
 use gc_graph::View;
 use gc_words::{Addr, Space, Value, decode};
-
-/// The object that a word refers to.
-pub fn target_of(word: u64) -> Option<Addr>
-    requires { IsTrue (is_value word) }
-    ensures { option_map (λ a. a.0) result ≡ name_of (value_of word) }
-{
-    match decode(word) {
-        Some(Value::Ref(at)) => Some(at),
-        _ => None,
-    }
-}
 
 /// Whether the object that starts here has a field `i`.
 pub fn has_field(space: &Space, at: Addr, i: u16) -> bool

@@ -1,13 +1,18 @@
 -- What a space's calls read and leave, as their code does it.
-use Rattle.std.proofs.Common.{◌≡◌, ℕ, suc, ◌+◌, ◌-◌, ◌<◌, true, cond, List, [], ◌∷◌, ◌++◌, length, get_or, take, drop, replicate, Some, Result, Ok, is_ok, sym, ◌∙◌, ap, subst, arith, length-append, append_assoc}
-use Rattle.std.specs.Prelude.{slice_index, IsSome}
+use Rattle.std.proofs.Common.{◌≡◌, ℕ, suc, ◌+◌, ◌-◌, ◌<◌, ◌≤◌, true, cond, List, [], ◌∷◌, ◌++◌, length, get_or, take, drop, replicate, Some, None, Result, Ok, is_ok, sym, ◌∙◌, ap, subst, arith, length-append, append_assoc}
+use Rattle.std.specs.Prelude.{slice_index, IsSome, IsOk, nat_le}
+use Rattle.std.proofs.lemmas.Bool.{cond-true, le-leb}
 use Rattle.std.proofs.lemmas.List.{get_or_read, take_all, take_at}
 use Rattle.gc_words.specs.Word.{IsHeader, header_word}
-use Rattle.gc_words.specs.Image.{fresh_block, blocks, block_at, is_start, field_at, set_block}
+use Rattle.gc_words.specs.Image.{Block, walk_words, header_of, header_at, fresh_block, blocks, block_at, is_start, field_at, set_block}
 use Rattle.gc_words.specs.Spelling.{block_words, spelled, no_links}
-use Rattle.gc_words.specs.Space.{SpaceWords, IsSpace, end_of, HasRoom, CanPlace, with_object, with_word, without_links, field_place, link_place}
+use Rattle.gc_words.specs.Layout.{field_place, link_place, next_place}
+use Rattle.gc_words.specs.Space.{SpaceWords, IsSpace, end_of, HasRoom, CanPlace, with_object, with_word, without_links}
 use Rattle.gc_words.specs.declared.header.Header.{Header}
-use Rattle.gc_words.proofs.Writes.{HeaderRead, header_read, FieldRead, field_read, placed, field_written, link_written}
+use Rattle.gc_graph.specs.Machine.{object_words}
+use Rattle.gc_words.specs.Walking.{next_of, next_after, StandsIn}
+use Rattle.gc_words.proofs.Starts.{stands_in}
+use Rattle.gc_words.proofs.Writes.{some_of, HeaderRead, header_read, FieldRead, field_read, placed, field_written, link_written}
 use Rattle.gc_words.proofs.Blocks.{placed_block, written_word}
 use Rattle.gc_words.proofs.Spelled.{cleared, length_cleared}
 
@@ -22,6 +27,32 @@ field_seen s t a i same space some = field_read t.words a i (subst IsSpace same 
 pub word_seen : (s t : SpaceWords) (p x : ℕ) → s ≡ t → p < length t.words → x ≡ get_or s.words p x → x ≡ slice_index t.words p
 word_seen s t p x same inside read =
     get_or_read s.words p x (subst (λ (s : SpaceWords). p < length s.words) (sym same) inside) read 0 ∙ ap (λ (s : SpaceWords). slice_index s.words p) same
+
+-- ---- the place behind an object
+
+pub record NextRead (words : List ℕ) (a : ℕ) : Type 0 where
+  pub next : ℕ
+  pub found : next_of words a ≡ Some next
+  pub place : (h : Header) → header_at words a ≡ Some h → next ≡ next_place a h.len
+  pub inside : a < length words
+  pub within : next ≤ length words
+
+next_read : (words : List ℕ) (a : ℕ) → IsOk (walk_words words) → is_start words a ≡ true → NextRead words a
+next_read words a ok start =
+    let b : (b : Block) × (block_at words a ≡ Some b) = some_of (block_at words a) start in
+    let s : StandsIn words a b.0 = stands_in words a b.0 ok b.1 in
+    let len : ℕ = b.0.header.len in
+    let fits : a + (len + 2) ≤ length words = s.fits in
+    record {
+      next = next_place a len;
+      found = ap (λ o. next_after a o (length words - a)) s.header ∙ cond-true (nat_le (object_words len) (length words - a)) (Some (next_place a len)) None (le-leb _ _ (omega arith));
+      place = λ h e. let same : b.0.header ≡ h = (let both : Some b.0.header ≡ Some h = sym (ap header_of b.1) ∙ e in cc) in ap (λ (h : Header). next_place a h.len) same;
+      inside = omega arith;
+      within = fits;
+    }
+
+pub next_seen : (s t : SpaceWords) (a : ℕ) → s ≡ t → IsSpace s → is_start t.words a ≡ true → NextRead t.words a
+next_seen s t a same space start = next_read t.words a (subst IsSpace same space).walked start
 
 -- ---- a word written, at a place that the code has computed
 
@@ -49,7 +80,7 @@ pub record Places (s t : SpaceWords) (h : Header) : Type 0 where
   pub object : block_at s.words (end_of t) ≡ Some (fresh_block h)
   pub words : s ≡ with_object t h
 
-room_filled : {E : Type 0} (r : Result (Unit {0}) E) (u : Unit {0}) (old pushed new : List ℕ) (h : Header) (n l : ℕ) → r ≡ Ok u → pushed ≡ old ++ header_word h ∷ [] → n ≡ length old + 2 + h.len → l ≡ length old + 1
+room_filled : {E : Type 0} (r : Result (Unit {0}) E) (u : Unit {0}) (old pushed new : List ℕ) (h : Header) (n l : ℕ) → r ≡ Ok u → pushed ≡ old ++ header_word h ∷ [] → n ≡ length old + object_words h.len → l ≡ length old + 1
     → new ≡ cond (is_ok r) (take n pushed ++ replicate (n - l) 0) pushed → new ≡ old ++ block_words 0 (fresh_block h)
 room_filled r u old pushed new h n l ok push total one made =
     let count : length pushed ≡ length old + 1 = ap length push ∙ length-append old (header_word h ∷ []) in
@@ -61,7 +92,7 @@ room_filled r u old pushed new h n l ok push total one made =
     ∙ append_assoc old (header_word h ∷ []) (0 ∷ replicate h.len 0)
 
 pub object_placed : {E : Type 0} (r : Result (Unit {0}) E) (u : Unit {0}) (s t : SpaceWords) (pushed new : List ℕ) (h : Header) (n l : ℕ) → s ≡ t → IsSpace s → IsHeader h → HasRoom t h.len
-    → r ≡ Ok u → pushed ≡ s.words ++ header_word h ∷ [] → n ≡ end_of s + 2 + h.len → l ≡ end_of s + 1 → new ≡ cond (is_ok r) (take n pushed ++ replicate (n - l) 0) pushed
+    → r ≡ Ok u → pushed ≡ s.words ++ header_word h ∷ [] → n ≡ end_of s + object_words h.len → l ≡ end_of s + 1 → new ≡ cond (is_ok r) (take n pushed ++ replicate (n - l) 0) pushed
     → Places (record { size = s.size; words = new }) t h
 object_placed r u s t pushed new h n l same space is room ok push total one made =
     let filled : new ≡ s.words ++ block_words 0 (fresh_block h) = room_filled r u s.words pushed new h n l ok push total one made in

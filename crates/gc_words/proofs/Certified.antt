@@ -54,9 +54,6 @@ objects_of_blocks pairs None q c = absurd c
 
 -- ---- pairs by their places
 
-abbrev pub IsAt : List (ℕ × ℕ) → ℕ → ℕ → ℕ → Type 0
-IsAt pairs k a b = (k < length pairs) × ((d : ℕ × ℕ) → slice_index_or pairs k d ≡ (a, b))
-
 place_of : (pairs : List (ℕ × ℕ)) (a b : ℕ) → paired pairs a b ≡ true → (k : ℕ) × (k < length pairs) × ((d : ℕ × ℕ) → slice_index_or pairs k d ≡ (a, b))
 place_of [] a b e = cc
 place_of (p ∷ pairs) a b e =

@@ -7,7 +7,8 @@ use Rattle.std.proofs.lemmas.List.{map-append, map-set}
 use Rattle.gc_graph.specs.Graph.{Value, Nil, Num, Ref, Object, Graph, lookup, new_object, add_object, set_field, set_root, field_of, value_or_nil}
 use Rattle.gc_words.specs.Word.{value_of, is_value, read_value, word_of, HasAddress, field_value}
 use Rattle.gc_words.specs.Image.{Block, fresh_block, blocks, block_in, block_at, field_at, field_in, is_start, object_of_block, object_entry, objects_of, graph_of}
-use Rattle.gc_words.specs.Space.{SpaceWords, IsSpace, empty_space, end_of, CanPlace, with_object, with_word, without_links, image_with, field_place, link_place}
+use Rattle.gc_words.specs.Layout.{field_place, link_place}
+use Rattle.gc_words.specs.Space.{SpaceWords, IsSpace, empty_space, end_of, CanPlace, with_object, with_word, without_links, image_with}
 use Rattle.gc_words.specs.declared.header.Header.{Header}
 use Rattle.gc_words.proofs.Walks.{objects_set}
 use Rattle.gc_words.proofs.Writes.{placed, field_written, link_written}

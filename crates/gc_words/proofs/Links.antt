@@ -6,7 +6,8 @@ use Rattle.std.proofs.lemmas.List.{get_or_append_left, get_or-append-add, get_or
 use Rattle.gc_words.specs.Word.{header_word}
 use Rattle.gc_words.specs.Image.{Block, blocks, block_in, block_at, is_start, field_at}
 use Rattle.gc_words.specs.Spelling.{link_at, no_links, LaidOut}
-use Rattle.gc_words.specs.Space.{SpaceWords, IsSpace, end_of, with_object, with_word, without_links, field_place, link_place}
+use Rattle.gc_words.specs.Layout.{field_place, link_place}
+use Rattle.gc_words.specs.Space.{SpaceWords, IsSpace, end_of, with_object, with_word, without_links}
 use Rattle.gc_words.specs.declared.header.Header.{Header}
 use Rattle.gc_words.proofs.Starts.{stands_in}
 use Rattle.gc_words.proofs.Writes.{FieldRead, field_read, some_of}

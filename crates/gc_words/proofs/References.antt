@@ -8,7 +8,8 @@ use Rattle.std.proofs.lemmas.List.Folds.{list_any_none}
 use Rattle.gc_graph.specs.Graph.{Value, Nil, Num, Ref, Object, Graph, names_of, names_in, IsUnused}
 use Rattle.gc_words.specs.Word.{value_of, HasAddress, is_value, word_of, field_value, read_header}
 use Rattle.gc_words.specs.Image.{Block, fresh_block, walk_words, blocks, block_in, block_at, field_in, field_at, is_start, with_field_word, set_block, object_of_block, object_entry, objects_of, graph_of}
-use Rattle.gc_words.specs.Space.{SpaceWords, IsSpace, empty_space, end_of, free_in, CanPlace, with_object, with_word, image_with, field_place}
+use Rattle.gc_words.specs.Layout.{field_place}
+use Rattle.gc_words.specs.Space.{SpaceWords, IsSpace, empty_space, end_of, free_in, CanPlace, with_object, with_word, image_with}
 use Rattle.gc_words.specs.Closed.{RefersToStart, IsRootWord, IsFieldWord, HasFieldWords, IsClosed}
 use Rattle.gc_words.specs.Walking.{StandsIn}
 use Rattle.gc_words.specs.declared.header.Header.{Header}

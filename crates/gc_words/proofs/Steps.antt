@@ -1,12 +1,12 @@
 -- A walk over a space's words, one object at a time.
-use Rattle.std.proofs.Common.{◌≡◌, ℕ, suc, zero, ◌+◌, ◌-◌, ◌<◌, ◌≤◌, Bool, true, false, cond, ◌==◌, List, [], ◌∷◌, ◌++◌, length, take, drop, Option, Some, None, Result, Ok, Err, is_some, is_ok, refl, sym, ◌∙◌, ap, subst, inl, inr, arith, length-drop, append_assoc, append-nil}
+use Rattle.std.proofs.Common.{◌≡◌, ℕ, suc, zero, ◌+◌, ◌-◌, ◌<◌, ◌≤◌, Bool, true, false, cond, ◌==◌, List, [], ◌∷◌, ◌++◌, length, take, drop, Option, Some, None, Result, Ok, Err, is_some, is_ok, refl, sym, ◌∙◌, ap, subst, inl, inr, arith, length-drop, append_assoc}
 use Rattle.std.specs.Prelude.{nat_le, slice_index, slice_set, IsOk, IsSome}
 use Rattle.std.specs.List.{AllByRecursion}
 use Rattle.std.proofs.lemmas.Bool.{eq-eqb, ne_eqb, leb-true, leb-false, cases_eq, and_from}
-use Rattle.std.proofs.lemmas.List.{drop_more, drop-drop, drop-set-lt, drop-set-add, drop-take, drop_all, take-append-drop, take-set-le, take-take, take_all}
+use Rattle.std.proofs.lemmas.List.{drop_more, drop-drop, drop-set-lt, drop-set-add, drop-take, drop_all, take-append-drop, take-set-le, take-take}
 use Rattle.gc_words.specs.Word.{read_header, header_word}
-use Rattle.gc_words.specs.Image.{Block, walk, with_front, walk_words, ok_or_nil, blocks, block_in}
-use Rattle.gc_words.specs.Spelling.{block_words, spelled, spelled_from, no_links}
+use Rattle.gc_words.specs.Image.{Block, walk, with_front, walk_words, ok_or_nil, block_in}
+use Rattle.gc_words.specs.Spelling.{block_words, spelled_from, no_links}
 use Rattle.gc_words.specs.Fault.{fault_of_walk, words_fault}
 use Rattle.gc_words.specs.Walking.{next_after, next_of, walk_from, block_from, StepsTo}
 use Rattle.gc_words.specs.declared.header.Header.{Header}
@@ -199,11 +199,3 @@ cleared_step words at next inside ok e =
           ∙ ap (λ xs. xs ++ spelled_from no_links (ok_or_nil (walk_from words next))) (sym front)
           ∙ ap (λ r. take next after ++ spelled_from no_links (ok_or_nil r)) (sym same),
     )
-
-pub cleared_at_end : (words : List ℕ) (at : ℕ) → length words ≤ at → cleared_from words at ≡ words
-cleared_at_end words at past =
-    ap (λ r. take at words ++ spelled_from no_links (ok_or_nil r)) (at_end words at past) ∙ append-nil (take at words) ∙ take_all at words past
-
-pub cleared_start : (words : List ℕ) → 1 ≤ length words → slice_index words 0 ≡ 0 → spelled no_links (blocks words) ≡ cleared_from words 1
-cleared_start [] low reserved = absurd (omega arith)
-cleared_start (w ∷ ws) low reserved = ap (λ w. w ∷ spelled_from no_links (blocks (w ∷ ws))) (sym reserved)

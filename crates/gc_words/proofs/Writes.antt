@@ -5,7 +5,8 @@ use Rattle.std.proofs.lemmas.List.{get_or-take, get_or-drop, length-replicate}
 use Rattle.std.proofs.lemmas.Option.{slice_get-get_or, slice_get_within}
 use Rattle.gc_words.specs.Word.{read_header, header_word}
 use Rattle.gc_words.specs.Image.{Block, fresh_block, walk_words, HasShape, ok_or_nil, blocks, block_at, is_start, header_of, header_at, field_in, field_at, set_block}
-use Rattle.gc_words.specs.Space.{SpaceWords, IsSpace, end_of, CanPlace, with_object, with_word, field_place, link_place}
+use Rattle.gc_words.specs.Layout.{field_place, link_place}
+use Rattle.gc_words.specs.Space.{SpaceWords, IsSpace, end_of, CanPlace, with_object, with_word}
 use Rattle.gc_words.specs.Walking.{StandsIn}
 use Rattle.gc_words.specs.declared.header.Header.{Header}
 use Rattle.gc_words.proofs.Walks.{walk_placed, walk_field, walk_link, HasField, IsThere}

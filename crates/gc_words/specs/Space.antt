@@ -1,5 +1,7 @@
 -- A space as contracts see it, and what its calls do to it.
-use Rattle.std.specs.Prelude.{ℕ, ◌+◌, ◌-◌, ◌≤◌, List, [], ◌∷◌, ◌++◌, length, slice_set}
+use Rattle.std.specs.Prelude.{ℕ, ◌-◌, ◌≤◌, List, [], ◌∷◌, ◌++◌, length, slice_set}
+use Rattle.gc_graph.specs.Machine.{object_words}
+use Rattle.gc_words.specs.Layout.{link_place, field_place}
 use Rattle.gc_words.specs.Word.{IsHeader}
 use Rattle.gc_words.specs.Image.{Image, HasShape, blocks, fresh_block}
 use Rattle.gc_words.specs.Spelling.{block_words, spelled, no_links}
@@ -27,7 +29,7 @@ free_in space = space.size - end_of space
 
 -- an object with so many fields can be placed
 abbrev pub HasRoom : SpaceWords → ℕ → Type 0
-HasRoom space len = len + 2 ≤ free_in space
+HasRoom space len = object_words len ≤ free_in space
 
 -- an object with this header can be placed
 pub record CanPlace (space : SpaceWords) (h : Header) : Type 0 where
@@ -42,12 +44,6 @@ with_object space h = record space { words = space.words ++ block_words 0 (fresh
 -- with one word changed
 abbrev pub with_word : SpaceWords → ℕ → ℕ → SpaceWords
 with_word space place w = record space { words = slice_set space.words place w }
-
-abbrev pub link_place : ℕ → ℕ
-link_place start = start + 1
-
-abbrev pub field_place : ℕ → ℕ → ℕ
-field_place start i = start + 2 + i
 
 -- with this word as field i, or as the link, of the object that starts at a place
 abbrev pub with_field_at : SpaceWords → ℕ → ℕ → ℕ → SpaceWords

@@ -1,6 +1,7 @@
 -- The words of a space, made from its objects and their links.
-use Rattle.std.specs.Prelude.{◌≡◌, ℕ, ◌+◌, List, [], ◌∷◌, length, slice_index, ⊤}
+use Rattle.std.specs.Prelude.{◌≡◌, ℕ, List, [], ◌∷◌, length, slice_index, ⊤}
 use Rattle.std.specs.List.{flat_map}
+use Rattle.gc_words.specs.Layout.{link_place, next_place}
 use Rattle.gc_words.specs.Word.{IsHeader, header_word}
 use Rattle.gc_words.specs.Image.{Block}
 
@@ -21,7 +22,7 @@ no_links place = 0
 
 -- the link word of the object that starts at a place
 abbrev pub link_at : List ℕ → ℕ → ℕ
-link_at words place = slice_index words (place + 1)
+link_at words place = slice_index words (link_place place)
 
 -- it has as many fields as its header says
 pub record IsBlock (b : Block) : Type 0 where
@@ -31,4 +32,4 @@ pub record IsBlock (b : Block) : Type 0 where
 -- objects back to back from a place on
 abbrev pub LaidOut : ℕ → List (ℕ × Block) → Type 0
 LaidOut at [] = ⊤
-LaidOut at (entry ∷ rest) = (entry.0 ≡ at) × IsBlock entry.1 × LaidOut (at + (entry.1.header.len + 2)) rest
+LaidOut at (entry ∷ rest) = (entry.0 ≡ at) × IsBlock entry.1 × LaidOut (next_place at entry.1.header.len) rest

@@ -1,5 +1,7 @@
 -- The walk over a space's words, one object at a time, as loops make it.
-use Rattle.std.specs.Prelude.{◌≡◌, ℕ, ◌+◌, ◌-◌, ◌≤◌, nat_le, if◌then◌else◌, List, length, take, drop, slice_index, Option, Some, None, Result}
+use Rattle.std.specs.Prelude.{◌≡◌, ℕ, ◌-◌, ◌≤◌, nat_le, if◌then◌else◌, List, length, take, drop, slice_index, Option, Some, None, Result}
+use Rattle.gc_graph.specs.Machine.{object_words}
+use Rattle.gc_words.specs.Layout.{fields_place, next_place}
 use Rattle.gc_words.specs.Word.{read_header}
 use Rattle.gc_words.specs.Image.{Block, walk, with_front}
 use Rattle.gc_words.specs.Spelling.{IsBlock}
@@ -7,7 +9,7 @@ use Rattle.gc_words.specs.declared.header.Header.{Header}
 
 abbrev pub next_after : ℕ → Option Header → ℕ → Option ℕ
 next_after at None room = None
-next_after at (Some h) room = if nat_le (h.len + 2) room then Some (at + (h.len + 2)) else None
+next_after at (Some h) room = if nat_le (object_words h.len) room then Some (next_place at h.len) else None
 
 -- the place behind the object that starts at a place
 abbrev pub next_of : List ℕ → ℕ → Option ℕ
@@ -19,20 +21,20 @@ walk_from words at = walk 0 at (drop at words)
 
 -- an object with this header, as it stands at a place of the words
 abbrev pub block_from : List ℕ → ℕ → Header → Block
-block_from words at h = record { header = h; fields = take h.len (drop (at + 2) words) }
+block_from words at h = record { header = h; fields = take h.len (drop (fields_place at) words) }
 
 -- one object is met here, and the walk goes on behind it
 pub record StepsTo (words : List ℕ) (at next : ℕ) : Type 0 where
   pub header : Header
   pub word : read_header (slice_index words at) ≡ Some header
-  pub place : next ≡ at + (header.len + 2)
+  pub place : next ≡ next_place at header.len
   pub within : next ≤ length words
   pub walk_is : walk_from words at ≡ with_front (at, block_from words at header) (walk_from words next)
 
 -- the object stands at a place of the words
 pub record StandsIn (words : List ℕ) (place : ℕ) (b : Block) : Type 0 where
   pub low : 1 ≤ place
-  pub fits : place + (b.header.len + 2) ≤ length words
+  pub fits : next_place place b.header.len ≤ length words
   pub header : read_header (slice_index words place) ≡ Some b.header
-  pub fields : b.fields ≡ take b.header.len (drop (place + 2) words)
+  pub fields : b.fields ≡ take b.header.len (drop (fields_place place) words)
   pub whole : IsBlock b

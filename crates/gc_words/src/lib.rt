@@ -5,7 +5,7 @@
 mod header;
 mod image;
 mod laws;
-mod places;
+mod layout;
 mod refusal;
 mod shape;
 mod space;
@@ -21,10 +21,11 @@ pub use laws::{
     references_stay_to_starts, spaces_are_spelled, walks_go_by_steps, words_are_read_back,
     worked_rows, writes_keep_spaces,
 };
+pub use layout::field_index;
 pub use refusal::Refusal;
-pub use shape::{ShapeFault, walk};
+pub use shape::{ShapeFault, next_start, walk};
 pub use space::Space;
-pub use value::{Addr, NewAddr, OldAddr, Value, decode, encode};
+pub use value::{Addr, NewAddr, OldAddr, Value, decode, encode, target_of};
 
 #[cfg(test)]
 mod tests;

@@ -3,6 +3,7 @@ ghost use Rattle.gc_words.specs.Fault.{words_fault};
 ghost use Rattle.gc_words.specs.Walking.{next_of};
 
 use crate::header::Header;
+use gc_graph::object_words;
 
 /// The words of a space are not shaped.
 #[derive(Clone, Copy, Debug, PartialEq, Eq)]
@@ -33,13 +34,14 @@ pub fn walk(words: &[u64], end: u32) -> Result<(), ShapeFault>
     Ok(())
 }
 
-/// The place behind the object that starts here; None where none does, or where it runs past the words.
-pub(crate) fn next_start(words: &[u64], at: usize) -> Option<usize>
+/// Returns the place behind the object that starts here; None if no header stands here, or if the object runs past
+/// the words.
+pub fn next_start(words: &[u64], at: usize) -> Option<usize>
     requires { at < length words.now }
     ensures { result ≡ next_of words.now at }
 {
     let header = Header::read(words[at])?;
-    let taken = usize::from(header.len()) + 2;
+    let taken = object_words(header.len()) as usize;
     if taken <= words.len() - at {
         Some(at + taken)
     } else {

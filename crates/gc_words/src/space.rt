@@ -1,7 +1,8 @@
 use crate::header::Header;
-use crate::places::{clear_links, field_index, has_start, link_index};
+use crate::layout::{clear_links, field_index, has_start, link_index};
+use crate::shape::next_start;
 use crate::value::Addr;
-use gc_graph::NoMemory;
+use gc_graph::{NoMemory, object_words};
 use std::alloc::Global;
 use std::marker::Model;
 
@@ -31,6 +32,8 @@ impl Space {
     ghost use Rattle.gc_graph.specs.Limits.{most_words};
     ghost use Rattle.gc_words.specs.Image.{blocks, block_at, is_start, header_at, field_at, set_block, fresh_block};
     ghost use Rattle.gc_words.specs.Spelling.{link_at};
+    ghost use Rattle.gc_words.specs.Layout.{next_place};
+    ghost use Rattle.gc_words.specs.Walking.{next_of};
     ghost use Rattle.gc_words.specs.Space.{IsSpace, empty_space, end_of, free_in, HasRoom, with_object, with_field_at, with_link, without_links};
 
     /// A space of so many words, without objects.
@@ -90,7 +93,7 @@ impl Space {
     pub fn has_room(&self, len: u16) -> bool
         ensures { IsTrue result ↔ HasRoom self.now len }
     {
-        u32::from(len) + 2 <= self.free()
+        object_words(len) <= self.free()
     }
 
     /// Places an object at the end, with link 0 and all field words 0, and gives its address.
@@ -104,7 +107,7 @@ impl Space {
         ensures shaped { IsSpace self.new }
     {
         let start = self.words.len();
-        let end = start + 2 + usize::from(header.len());
+        let end = start + object_words(header.len()) as usize;
         self.words.push_reserved(header.word());
         // `new` has made the room, so this cannot fail.
         self.words.resize(end, 0).unwrap();
@@ -117,6 +120,16 @@ impl Space {
         ensures { header_at self.now.words at.0 ≡ Some result }
     {
         Header::read(self.words[at.0 as usize]).unwrap()
+    }
+
+    /// Returns the address behind the object that starts here: the next object's, or the end.
+    pub fn next_start(&self, at: Addr) -> Addr
+        requires { IsTrue (is_start self.now.words at.0) }
+        ensures next { next_of self.now.words at.0 ≡ Some result.0 }
+        ensures place { (h : Header) → header_at self.now.words at.0 ≡ Some h → result.0 ≡ next_place at.0 h.len }
+        ensures shaped { IsSpace self.now }
+    {
+        Addr(next_start(&self.words, at.0 as usize).unwrap() as u32)
     }
 
     /// Field word `i` of the object that starts here.
@@ -143,7 +156,7 @@ impl Space {
         requires { IsTrue (is_start self.now.words at.0) }
         ensures { result ≡ link_at self.now.words at.0 }
     {
-        self.words[link_index(at)]
+        self.words[link_index(at.0 as usize)]
     }
 
     /// Writes the link word of the object that starts here.
@@ -153,7 +166,7 @@ impl Space {
         ensures objects { blocks self.new.words ≡ blocks self.old.words }
         ensures shaped { IsSpace self.new }
     {
-        self.words[link_index(at)] = word;
+        self.words[link_index(at.0 as usize)] = word;
     }
 
     /// Makes all links 0.

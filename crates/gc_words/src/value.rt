@@ -1,6 +1,7 @@
-ghost use Rattle.std.specs.Prelude.{◌≡◌, Some, IfSome};
+ghost use Rattle.std.specs.Prelude.{◌≡◌, Some, IfSome, IsTrue};
 ghost use Rattle.std.specs.Option.{option_map};
-ghost use Rattle.gc_words.specs.Word.{read_value, word_of, HasAddress};
+ghost use Rattle.gc_graph.specs.Graph.{name_of};
+ghost use Rattle.gc_words.specs.Word.{is_value, value_of, read_value, word_of, HasAddress};
 ghost use Rattle.gc_words.specs.Views.{graph_value};
 
 use gc_graph::Number;
@@ -43,6 +44,17 @@ pub fn decode(word: u64) -> Option<Value>
         Some(Value::Ref(Addr((word / 2) as u32)))
     } else {
         None
+    }
+}
+
+/// Returns the address that a word refers to; None for nil and for numbers.
+pub fn target_of(word: u64) -> Option<Addr>
+    requires { IsTrue (is_value word) }
+    ensures { option_map (λ a. a.0) result ≡ name_of (value_of word) }
+{
+    match decode(word) {
+        Some(Value::Ref(at)) => Some(at),
+        _ => None,
     }
 }
 

@@ -13,10 +13,9 @@ ghost use Rattle.gc_copy.specs.Entries.{entry_in};
 ghost use Rattle.gc_copy.specs.Words.{collection_in, BelongsTo, HasReplicaWord, KeepsGraph, KeepsRest};
 
 use super::Collection;
-use super::roots::target_of;
 use crate::log::LogEntry;
 use gc_heap::Heap;
-use gc_words::{Addr, NewAddr, OldAddr, Value, encode};
+use gc_words::{Addr, NewAddr, OldAddr, Value, encode, target_of};
 
 /// A replica has to be placed, and the new space has no room for it.
 #[derive(Debug, Drop)]
@@ -50,7 +49,7 @@ impl Collection {
         let Some(target) = target_of(word) else {
             return word;
         };
-        match self.replica_of(heap, target) {
+        match self.replica_of(heap, OldAddr(target.0)) {
             Some(replica) => encode(Value::Ref(Addr(replica.0))),
             None => word,
         }
@@ -95,10 +94,11 @@ impl Collection {
         let Some(target) = target_of(word) else {
             return Ok(());
         };
-        if self.replica_of(heap, target).is_some() {
+        let original = OldAddr(target.0);
+        if self.replica_of(heap, original).is_some() {
             return Ok(());
         }
-        self.place_replica(heap, target)
+        self.place_replica(heap, original)
     }
 
     /// Reads the original's present field and writes the same nil or number, or the reference to the target's

@@ -9,7 +9,7 @@ ghost use Rattle.gc_copy.specs.declared.step.Step.{Step};
 ghost use Rattle.gc_copy.specs.declared.step.StepReply.{StepReply};
 
 use super::Collection;
-use crate::walk::linked_pairs;
+use crate::pairs::linked_pairs;
 use gc_graph::NoMemory;
 use gc_heap::Heap;
 use gc_words::{ImageRef, Pair, Space};

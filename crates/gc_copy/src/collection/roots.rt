@@ -1,17 +1,17 @@
 ghost use Rattle.std.specs.Prelude.{IfSome, ◌≡◌, IfOk, is_none, IsTrue};
 ghost use Rattle.std.specs.Option.{option_map};
-ghost use Rattle.gc_words.specs.Word.{value_of, is_value};
+ghost use Rattle.gc_words.specs.Word.{value_of};
 ghost use Rattle.gc_graph.specs.Graph.{names_of};
 ghost use Rattle.gc_words.specs.Image.{is_start};
 ghost use Rattle.gc_words.specs.Closed.{IsRootWord};
-ghost use Rattle.gc_heap.specs.Heap.{graph_in, name_of};
+ghost use Rattle.gc_heap.specs.Heap.{graph_in};
 ghost use Rattle.gc_copy.specs.Steps.{first_unreplicated, root_target, roots_done as roots_done_in};
 ghost use Rattle.gc_copy.specs.Words.{collection_in, BelongsTo, new_root_words};
 
 use super::Collection;
 use gc_graph::NoMemory;
 use gc_heap::Heap;
-use gc_words::{OldAddr, Value, decode};
+use gc_words::{OldAddr, target_of};
 use std::alloc::Global;
 
 impl Collection {
@@ -45,7 +45,7 @@ impl Collection {
             ≡ first_unreplicated (collection_in self.now) (names_of (value_of word)) }
         ensures start { IfSome result (λ a. IsTrue (is_start heap.now.space.words a.0)) }
     {
-        let target = target_of(word)?;
+        let target = OldAddr(target_of(word)?.0);
         if self.replica_of(heap, target).is_some() {
             return None;
         }
@@ -67,16 +67,5 @@ impl Collection {
             }
         }
         Ok(roots)
-    }
-}
-
-/// The object that a word refers to.
-pub(super) fn target_of(word: u64) -> Option<OldAddr>
-    requires { IsTrue (is_value word) }
-    ensures { option_map (λ a. a.0) result ≡ name_of (value_of word) }
-{
-    match decode(word) {
-        Some(Value::Ref(at)) => Some(OldAddr(at.0)),
-        _ => None,
     }
 }

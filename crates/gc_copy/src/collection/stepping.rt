@@ -12,7 +12,7 @@ use super::copying::NoRoom;
 use crate::laws::images_show_links;
 use crate::step::StepReply;
 use gc_heap::Heap;
-use gc_words::{Addr, NewAddr, OldAddr};
+use gc_words::{NewAddr, OldAddr};
 
 impl Collection {
     /// Replicates the target of the first root whose target has no replica: `Copied`, `NoRoom`, or `Clean` where
@@ -45,9 +45,8 @@ impl Collection {
         }
         let at = self.scan_place;
         let field = self.scan_field;
-        let len = self.space.header(at).len();
-        if field == len {
-            self.scan_place = Addr(at.0 + u32::from(len) + 2);
+        if field == self.space.header(at).len() {
+            self.scan_place = self.space.next_start(at);
             self.scan_field = 0;
             return StepReply::Passed;
         }

@@ -1,5 +1,5 @@
 use Rattle.gc_copy.proofs.Steps.{begun_belongs}
-use Rattle.gc_copy.proofs.Kept.{heap_kept, command_kept, field_there, notes}
+use Rattle.gc_copy.proofs.StateLaws.{heap_kept, command_kept, field_there, notes}
 use Rattle.gc_copy.proofs.laws.belonging_is_kept.Goals as goal
 
 pub returns : goal.returns

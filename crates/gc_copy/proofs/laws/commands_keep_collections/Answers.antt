@@ -1,4 +1,4 @@
-use Rattle.gc_copy.proofs.Shown.{command_leaves, nothing_left, no_links_kept}
+use Rattle.gc_copy.proofs.LinkedImages.{command_leaves, nothing_left, no_links_kept}
 use Rattle.gc_copy.proofs.laws.commands_keep_collections.Goals as goal
 
 pub returns : goal.returns

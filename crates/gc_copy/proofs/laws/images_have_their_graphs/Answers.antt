@@ -1,5 +1,5 @@
 use Rattle.gc_copy.proofs.Images.{image_shaped, graph_back}
-use Rattle.gc_copy.proofs.Kept.{in_runs, roomy_back, has_image}
+use Rattle.gc_copy.proofs.StateLaws.{in_runs, roomy_back, has_image}
 use Rattle.gc_copy.specs.Passing.{HasImage}
 use Rattle.gc_copy.proofs.laws.images_have_their_graphs.Goals as goal
 

@@ -1,7 +1,7 @@
 use Rattle.gc_copy.specs.Passing.{PassesWhereReady, NeverRefused}
 use Rattle.gc_copy.proofs.Steps.{ready_parts, new_heap}
 use Rattle.gc_copy.proofs.Flips.{certified, corresponding_graphs}
-use Rattle.gc_copy.proofs.Kept.{in_runs, passes_where_ready, never_refused}
+use Rattle.gc_copy.proofs.StateLaws.{in_runs, passes_where_ready, never_refused}
 use Rattle.gc_copy.proofs.laws.ready_flips_pass.Goals as goal
 
 pub returns : goal.returns

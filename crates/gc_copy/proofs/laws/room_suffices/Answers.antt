@@ -1,6 +1,6 @@
 use Rattle.gc_copy.specs.Passing.{AlwaysHasRoom}
 use Rattle.gc_copy.proofs.Room.{has_room}
-use Rattle.gc_copy.proofs.Kept.{in_runs}
+use Rattle.gc_copy.proofs.StateLaws.{in_runs}
 use Rattle.gc_copy.proofs.laws.room_suffices.Goals as goal
 
 pub returns : goal.returns

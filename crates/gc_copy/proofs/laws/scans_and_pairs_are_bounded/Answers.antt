@@ -1,5 +1,5 @@
 use Rattle.gc_copy.specs.Passing.{ScansToTheEnd, HasFewPairs}
-use Rattle.gc_copy.proofs.Kept.{in_runs, scans_to_the_end, has_few_pairs}
+use Rattle.gc_copy.proofs.StateLaws.{in_runs, scans_to_the_end, has_few_pairs}
 use Rattle.gc_copy.proofs.laws.scans_and_pairs_are_bounded.Goals as goal
 
 pub returns : goal.returns

@@ -1,5 +1,5 @@
 use Rattle.gc_copy.proofs.Steps.{steps_stay}
-use Rattle.gc_copy.proofs.Kept.{step_kept}
+use Rattle.gc_copy.proofs.StateLaws.{step_kept}
 use Rattle.gc_copy.proofs.laws.steps_keep_belonging.Goals as goal
 
 pub returns : goal.returns

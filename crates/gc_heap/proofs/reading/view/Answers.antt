@@ -5,7 +5,7 @@ use Rattle.gc_graph.specs.declared.reply.View.TheVariants.{Obj}
 use Rattle.gc_words.specs.Word.{value_of}
 use Rattle.gc_words.specs.Image.{objects_of}
 use Rattle.gc_words.specs.Views.{graph_value}
-use Rattle.gc_heap.proofs.Seen.{shown, meaning}
+use Rattle.gc_heap.proofs.Views.{shown, meaning}
 use Rattle.gc_heap.proofs.reading.view.Goals as goal
 
 pub returns-in-Ref : goal.returns-in-Ref

@@ -1,4 +1,4 @@
-use Rattle.gc_words.specs.Space.{field_place, link_place}
+use Rattle.gc_words.specs.Layout.{field_place, link_place}
 use Rattle.gc_words.proofs.Ends.{end_placed, free_placed, end_written, end_cleared}
 use Rattle.gc_words.proofs.laws.ends_after_writes.Goals as goal
 

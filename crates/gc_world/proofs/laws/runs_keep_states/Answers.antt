@@ -1,4 +1,4 @@
-use Rattle.gc_copy.proofs.Kept.{passes_where_ready}
+use Rattle.gc_copy.proofs.StateLaws.{passes_where_ready}
 use Rattle.gc_copy.proofs.Room.{has_room}
 use Rattle.gc_world.specs.History.{state_after}
 use Rattle.gc_world.proofs.Kept.{reached, none_refused, only_kept}

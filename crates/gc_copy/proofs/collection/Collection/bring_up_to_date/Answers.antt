@@ -4,7 +4,7 @@ use Rattle.gc_words.specs.Image.{field_at}
 use Rattle.gc_words.specs.Space.{SpaceWords}
 use Rattle.gc_heap.specs.Heap.{HeapWords, graph_in}
 use Rattle.gc_copy.specs.Words.{CollectionWords, collection_in}
-use Rattle.gc_copy.proofs.Opened.{if_err, field_word_is, field_value_is, root_word_kept, not_brought, present, Brought, brought_words}
+use Rattle.gc_copy.proofs.OpenCollection.{if_err, field_word_is, field_value_is, root_word_kept, not_brought, present, Brought, brought_words}
 use Rattle.gc_copy.proofs.collection.Collection.bring_up_to_date.Goals as goal
 
 -- the field's word, in the heap

@@ -1,5 +1,5 @@
 use Rattle.gc_copy.specs.Words.{collection_in}
-use Rattle.gc_copy.proofs.Opened.{unmoved}
+use Rattle.gc_copy.proofs.OpenCollection.{unmoved}
 use Rattle.gc_copy.proofs.collection.Collection.moved_word.Goals as goal
 
 pub returns-in_default : goal.returns-in_default

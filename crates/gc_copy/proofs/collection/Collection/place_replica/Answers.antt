@@ -6,7 +6,7 @@ use Rattle.gc_heap.specs.Heap.{graph_in}
 use Rattle.gc_copy.specs.State.{replica_of}
 use Rattle.gc_copy.specs.Steps.{place_replica}
 use Rattle.gc_copy.specs.Words.{CollectionWords, collection_in, BelongsTo, KeepsRest}
-use Rattle.gc_copy.proofs.Opened.{Placing, placing_done, full}
+use Rattle.gc_copy.proofs.OpenCollection.{Placing, placing_done, full}
 use Rattle.gc_copy.proofs.collection.Collection.place_replica.Goals as goal
 
 pub returns-then-not-has_room-clause-full : goal.returns-then-not-has_room-clause-full

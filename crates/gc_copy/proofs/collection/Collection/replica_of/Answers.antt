@@ -6,7 +6,7 @@ use Rattle.gc_words.specs.Spelling.{link_at}
 use Rattle.gc_words.specs.Space.{SpaceWords}
 use Rattle.gc_heap.specs.Heap.{HeapWords}
 use Rattle.gc_copy.specs.Words.{CollectionWords, IsCollection, BelongsTo}
-use Rattle.gc_copy.proofs.Opened.{Tells, link_tells}
+use Rattle.gc_copy.proofs.OpenCollection.{Tells, link_tells}
 use Rattle.gc_copy.proofs.collection.Collection.replica_of.Goals as goal
 use Rattle.gc_copy.proofs.collection.Collection.replica_of.Goals.{Then-link-eq0, Else-link-eq0}
 

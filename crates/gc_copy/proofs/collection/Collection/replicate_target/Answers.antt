@@ -1,5 +1,5 @@
 use Rattle.gc_copy.specs.Words.{collection_in}
-use Rattle.gc_copy.proofs.Opened.{on_ok, has_placed}
+use Rattle.gc_copy.proofs.OpenCollection.{on_ok, has_placed}
 use Rattle.gc_copy.proofs.collection.Collection.replicate_target.Goals as goal
 
 pub returns-clause-replica : goal.returns-clause-replica

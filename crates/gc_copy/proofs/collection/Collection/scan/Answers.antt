@@ -8,7 +8,7 @@ use Rattle.gc_copy.specs.State.{Replica, replica_of}
 use Rattle.gc_copy.specs.Steps.{scan_done, scan, bring_up_to_date}
 use Rattle.gc_copy.specs.Words.{CollectionWords, collection_in, open_state, BelongsTo, KeepsRest}
 use Rattle.gc_copy.specs.declared.step.StepReply.TheVariants.{Passed, Scanned, NoRoom}
-use Rattle.gc_copy.proofs.Scanning.{start, within, small, replica, field_there, next_small, passed, passed_belongs, no_room, scanned, scanned_belongs}
+use Rattle.gc_copy.proofs.Scanning.{start, small, replica, field_there, next_small, passed, passed_belongs, no_room, scanned, scanned_belongs}
 use Rattle.gc_copy.proofs.collection.Collection.scan.Goals as goal
 
 pub header-requires : goal.header-requires
@@ -18,48 +18,29 @@ header-requires c =
     let more : scan_done (collection_in x) ≡ false = ap (λ (y : CollectionWords). scan_done (collection_in y)) c.self.view_is ∙ sym c.scan_done.ensures ∙ c.if-scan_done.false in
     start c.args.heap.now x c.self.invariant k more
 
-pub overflow_add-self : goal.overflow_add-self
-overflow_add-self c =
+pub next_start-self-inside-requires : goal.next_start-self-inside-requires
+next_start-self-inside-requires c =
     let x : CollectionWords = record { space = c.self.inside.space; logs = c.self.inside.logs.items; scan_place = c.self.inside.scan_place.0; scan_field = c.self.inside.scan_field } in
     let k : BelongsTo c.args.heap.now x = subst (BelongsTo c.args.heap.now) (sym c.self.view_is) c.requires in
     let more : scan_done (collection_in x) ≡ false = ap (λ (y : CollectionWords). scan_done (collection_in y)) c.self.view_is ∙ sym c.scan_done.ensures ∙ c.if-scan_done.false in
-    let len : c.len-len.result ≡ c.header.result.len = c.len-len.ensures in
-    let w = within c.args.heap.now x c.self.invariant k more c.header.result c.header.ensures in
-    let from : c.from.result ≡ c.len-len.result = c.from.ensures in
-    let fits : c.self.inside.scan_place.0 + c.from.result < 2 ^ 32 = omega (arith, w, len, from) in
-    search rules
-
-pub overflow_add-self-then-field-len : goal.overflow_add-self-then-field-len
-overflow_add-self-then-field-len c =
-    let x : CollectionWords = record { space = c.self.inside.space; logs = c.self.inside.logs.items; scan_place = c.self.inside.scan_place.0; scan_field = c.self.inside.scan_field } in
-    let k : BelongsTo c.args.heap.now x = subst (BelongsTo c.args.heap.now) (sym c.self.view_is) c.requires in
-    let more : scan_done (collection_in x) ≡ false = ap (λ (y : CollectionWords). scan_done (collection_in y)) c.self.view_is ∙ sym c.scan_done.ensures ∙ c.if-scan_done.false in
-    let len : c.len-len.result ≡ c.header.result.len = c.len-len.ensures in
-    let w = within c.args.heap.now x c.self.invariant k more c.header.result c.header.ensures in
-    let from : c.from.result ≡ c.len-len.result = c.from.ensures in
-    let fits : c.self.inside.scan_place.0 + c.from.result + 2 < 2 ^ 32 = omega (arith, w, len, from) in
-    search rules
+    start c.args.heap.now x c.self.invariant k more
 
 pub returns-then-field-len-clause-step : goal.returns-then-field-len-clause-step
 returns-then-field-len-clause-step c =
     let x : CollectionWords = record { space = c.self.inside.space; logs = c.self.inside.logs.items; scan_place = c.self.inside.scan_place.0; scan_field = c.self.inside.scan_field } in
     let k : BelongsTo c.args.heap.now x = subst (BelongsTo c.args.heap.now) (sym c.self.view_is) c.requires in
     let more : scan_done (collection_in x) ≡ false = ap (λ (y : CollectionWords). scan_done (collection_in y)) c.self.view_is ∙ sym c.scan_done.ensures ∙ c.if-scan_done.false in
-    let len : c.len-len.result ≡ c.header.result.len = c.len-len.ensures in
-    let from : c.from.result ≡ c.len-len.result = c.from.ensures in
-    let place : c.self.inside.scan_place.0 + c.from.result + 2 ≡ c.self.inside.scan_place.0 + c.header.result.len + 2 = omega (arith, len, from) in
-    subst (λ y. scan (open_state c.args.heap.now y) (collection_in y) ≡ (Passed, open_state c.args.heap.now (record x { scan_place = c.self.inside.scan_place.0 + c.from.result + 2; scan_field = 0 }))) c.self.view_is
-    (passed c.args.heap.now x c.self.invariant k more c.header.result c.header.ensures (c.if-field-len.true ∙ len) (c.self.inside.scan_place.0 + c.from.result + 2) place)
+    let len : c.len.result ≡ c.header.result.len = c.len.ensures in
+    subst (λ y. scan (open_state c.args.heap.now y) (collection_in y) ≡ (Passed, open_state c.args.heap.now (record x { scan_place = c.next_start-self-inside.result.0; scan_field = 0 }))) c.self.view_is
+    (passed c.args.heap.now x c.self.invariant k more c.header.result c.header.ensures (c.if-field-len.true ∙ len) c.next_start-self-inside.result.0 (c.next_start-self-inside.ensures.place c.header.result c.header.ensures))
 
 pub returns-then-field-len-clause-belongs : goal.returns-then-field-len-clause-belongs
 returns-then-field-len-clause-belongs c =
     let x : CollectionWords = record { space = c.self.inside.space; logs = c.self.inside.logs.items; scan_place = c.self.inside.scan_place.0; scan_field = c.self.inside.scan_field } in
     let k : BelongsTo c.args.heap.now x = subst (BelongsTo c.args.heap.now) (sym c.self.view_is) c.requires in
     let more : scan_done (collection_in x) ≡ false = ap (λ (y : CollectionWords). scan_done (collection_in y)) c.self.view_is ∙ sym c.scan_done.ensures ∙ c.if-scan_done.false in
-    let len : c.len-len.result ≡ c.header.result.len = c.len-len.ensures in
-    let from : c.from.result ≡ c.len-len.result = c.from.ensures in
-    let place : c.self.inside.scan_place.0 + c.from.result + 2 ≡ c.self.inside.scan_place.0 + c.header.result.len + 2 = omega (arith, len, from) in
-    passed_belongs c.args.heap.now x c.self.invariant k more c.header.result c.header.ensures (c.if-field-len.true ∙ len) (c.self.inside.scan_place.0 + c.from.result + 2) place
+    let len : c.len.result ≡ c.header.result.len = c.len.ensures in
+    passed_belongs c.args.heap.now x c.self.invariant k more c.header.result c.header.ensures (c.if-field-len.true ∙ len) c.next_start-self-inside.result.0 (c.next_start-self-inside.ensures.place c.header.result c.header.ensures)
 
 pub overflow_cast-original : goal.overflow_cast-original
 overflow_cast-original c =
@@ -74,7 +55,7 @@ bring_up_to_date-requires-clause-field c =
     let x : CollectionWords = record { space = c.self.inside.space; logs = c.self.inside.logs.items; scan_place = c.self.inside.scan_place.0; scan_field = c.self.inside.scan_field } in
     let k : BelongsTo c.args.heap.now x = subst (BelongsTo c.args.heap.now) (sym c.self.view_is) c.requires in
     let more : scan_done (collection_in x) ≡ false = ap (λ (y : CollectionWords). scan_done (collection_in y)) c.self.view_is ∙ sym c.scan_done.ensures ∙ c.if-scan_done.false in
-    let len : c.len-len.result ≡ c.header.result.len = c.len-len.ensures in
+    let len : c.len.result ≡ c.header.result.len = c.len.ensures in
     subst (λ a. IsSome (field_at c.args.heap.now.space.words a c.self.inside.scan_field)) (sym c.link.ensures)
     (field_there c.args.heap.now x c.self.invariant k more c.header.result c.header.ensures (λ same. c.if-field-len.false (same ∙ sym len)))
 
@@ -86,14 +67,14 @@ bring_up_to_date-requires-clause-replica c =
     subst (λ y. option_map (λ (r : Replica). r.place) (replica_of (collection_in y) c.link.result) ≡ Some c.self.inside.scan_place.0) c.self.view_is
     (subst (λ a. option_map (λ (r : Replica). r.place) (replica_of (collection_in x) a) ≡ Some c.self.inside.scan_place.0) (sym c.link.ensures) (replica c.args.heap.now x c.self.invariant k more))
 
-pub overflow_add-self-in-Ok : goal.overflow_add-self-in-Ok
-overflow_add-self-in-Ok c =
+pub overflow_add-self : goal.overflow_add-self
+overflow_add-self c =
     let x : CollectionWords = record { space = c.self.inside.space; logs = c.self.inside.logs.items; scan_place = c.self.inside.scan_place.0; scan_field = c.self.inside.scan_field } in
     let k : BelongsTo c.args.heap.now x = subst (BelongsTo c.args.heap.now) (sym c.self.view_is) c.requires in
     let more : scan_done (collection_in x) ≡ false = ap (λ (y : CollectionWords). scan_done (collection_in y)) c.self.view_is ∙ sym c.scan_done.ensures ∙ c.if-scan_done.false in
-    let len : c.len-len.result ≡ c.header.result.len = c.len-len.ensures in
+    let len : c.len.result ≡ c.header.result.len = c.len.ensures in
     let most = next_small c.args.heap.now x c.self.invariant k more c.header.result c.header.ensures (λ same. c.if-field-len.false (same ∙ sym len)) in
-    let fits : c.self.inside.scan_field + 1 < 2 ^ 16 = (let t = c.len-len.type_inv in omega (arith, most, len, t)) in
+    let fits : c.self.inside.scan_field + 1 < 2 ^ 16 = (let t = c.len.type_inv in omega (arith, most, len, t)) in
     search rules
 
 -- what a call said of whole collections, of their parts
@@ -109,7 +90,7 @@ returns-in-Ok-clause-step c =
     let x : CollectionWords = record { space = c.self.inside.space; logs = c.self.inside.logs.items; scan_place = c.self.inside.scan_place.0; scan_field = c.self.inside.scan_field } in
     let k : BelongsTo c.args.heap.now x = subst (BelongsTo c.args.heap.now) (sym c.self.view_is) c.requires in
     let more : scan_done (collection_in x) ≡ false = ap (λ (y : CollectionWords). scan_done (collection_in y)) c.self.view_is ∙ sym c.scan_done.ensures ∙ c.if-scan_done.false in
-    let other : c.self.inside.scan_field ≡ c.header.result.len → ⊥ = λ same. c.if-field-len.false (same ∙ sym c.len-len.ensures) in
+    let other : c.self.inside.scan_field ≡ c.header.result.len → ⊥ = λ same. c.if-field-len.false (same ∙ sym c.len.ensures) in
     let after : CollectionWords = record { space = c.self-2.inside.space; logs = c.self-2.inside.logs.items; scan_place = c.self-2.inside.scan_place.0; scan_field = c.self-2.inside.scan_field } in
     let rest : KeepsRest x after = kept x c.args.self.now after c.bring_up_to_date.new.self c.self.view_is c.self-2.view_is c.in-Ok.ensures.rest in
     let brought = brought_here c.args.heap.now x c.args.self.now after c.bring_up_to_date.new.self c.link.result (link_at x.space.words x.scan_place) x.scan_field c.self.view_is c.self-2.view_is c.link.ensures c.in-Ok.ensures.brought in
@@ -121,7 +102,7 @@ returns-in-Ok-clause-belongs c =
     let x : CollectionWords = record { space = c.self.inside.space; logs = c.self.inside.logs.items; scan_place = c.self.inside.scan_place.0; scan_field = c.self.inside.scan_field } in
     let k : BelongsTo c.args.heap.now x = subst (BelongsTo c.args.heap.now) (sym c.self.view_is) c.requires in
     let more : scan_done (collection_in x) ≡ false = ap (λ (y : CollectionWords). scan_done (collection_in y)) c.self.view_is ∙ sym c.scan_done.ensures ∙ c.if-scan_done.false in
-    let other : c.self.inside.scan_field ≡ c.header.result.len → ⊥ = λ same. c.if-field-len.false (same ∙ sym c.len-len.ensures) in
+    let other : c.self.inside.scan_field ≡ c.header.result.len → ⊥ = λ same. c.if-field-len.false (same ∙ sym c.len.ensures) in
     let after : CollectionWords = record { space = c.self-2.inside.space; logs = c.self-2.inside.logs.items; scan_place = c.self-2.inside.scan_place.0; scan_field = c.self-2.inside.scan_field } in
     let rest : KeepsRest x after = kept x c.args.self.now after c.bring_up_to_date.new.self c.self.view_is c.self-2.view_is c.in-Ok.ensures.rest in
     let brought = brought_here c.args.heap.now x c.args.self.now after c.bring_up_to_date.new.self c.link.result (link_at x.space.words x.scan_place) x.scan_field c.self.view_is c.self-2.view_is c.link.ensures c.in-Ok.ensures.brought in
@@ -133,7 +114,7 @@ returns-in-Err-clause-step c =
     let x : CollectionWords = record { space = c.self.inside.space; logs = c.self.inside.logs.items; scan_place = c.self.inside.scan_place.0; scan_field = c.self.inside.scan_field } in
     let k : BelongsTo c.args.heap.now x = subst (BelongsTo c.args.heap.now) (sym c.self.view_is) c.requires in
     let more : scan_done (collection_in x) ≡ false = ap (λ (y : CollectionWords). scan_done (collection_in y)) c.self.view_is ∙ sym c.scan_done.ensures ∙ c.if-scan_done.false in
-    let other : c.self.inside.scan_field ≡ c.header.result.len → ⊥ = λ same. c.if-field-len.false (same ∙ sym c.len-len.ensures) in
+    let other : c.self.inside.scan_field ≡ c.header.result.len → ⊥ = λ same. c.if-field-len.false (same ∙ sym c.len.ensures) in
     let full = c.in-Err.ensures.full in
     let none : bring_up_to_date (collection_in x) (graph_in c.args.heap.now) (link_at x.space.words x.scan_place) x.scan_field ≡ None
     = ap (λ (y : CollectionWords). bring_up_to_date (collection_in y) (graph_in c.args.heap.now) (link_at x.space.words x.scan_place) x.scan_field) c.self.view_is

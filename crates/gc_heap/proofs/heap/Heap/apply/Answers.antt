@@ -9,7 +9,7 @@ use Rattle.gc_graph.specs.declared.reply.Reply.TheVariants.{Done}
 use Rattle.gc_words.specs.Word.{value_of}
 use Rattle.gc_heap.specs.Heap.{HeapWords, IsHeap, graph_in}
 use Rattle.gc_heap.proofs.Commands.{read_root, at_root}
-use Rattle.gc_heap.proofs.Seen.{meaning}
+use Rattle.gc_heap.proofs.Views.{meaning}
 use Rattle.gc_heap.proofs.Steps.{took, looked, makes_at}
 use Rattle.gc_heap.proofs.heap.Heap.apply.Goals as goal
 
@@ -18,13 +18,13 @@ returns-in-New-clause-step c = makes_at c.args.self.now c.make.new.self c.args.m
 
 pub returns-in-Num-clause-step : goal.returns-in-Num-clause-step
 returns-in-Num-clause-step c =
-    took c.args.self.now c.take.new.self c.args.m (Num c.in-Num.d c.in-Num.n) c.args.op.now c.place-in-Num.result c.encode.result (graphs.Num c.in-Num.n) c.take.result c.in-Num.is (λ none. none)
-    (λ i. (Done, set_root (graph_in c.args.self.now) (sym c.place-in-Num.ensures.value i) (graphs.Num c.in-Num.n))) (meaning c.encode.result (graphs.Num c.in-Num.n) c.encode.ensures.read_back) c.take.ensures.done c.take.ensures.heap
+    took c.args.self.now c.set.new.self c.args.m (Num c.in-Num.d c.in-Num.n) c.args.op.now c.place-in-Num.result c.encode.result (graphs.Num c.in-Num.n) c.set.result c.in-Num.is (λ none. none)
+    (λ i. (Done, set_root (graph_in c.args.self.now) (sym c.place-in-Num.ensures.value i) (graphs.Num c.in-Num.n))) (meaning c.encode.result (graphs.Num c.in-Num.n) c.encode.ensures.read_back) c.set.ensures.done c.set.ensures.heap
 
 pub returns-in-Nil-clause-step : goal.returns-in-Nil-clause-step
 returns-in-Nil-clause-step c =
-    took c.args.self.now c.take-in-Nil.new.self c.args.m (Nil c.in-Nil.d) c.args.op.now c.place-in-Nil.result c.encode-in-Nil.result graphs.Nil c.take-in-Nil.result c.in-Nil.is (λ none. none)
-    (λ i. (Done, set_root (graph_in c.args.self.now) (sym c.place-in-Nil.ensures.value i) graphs.Nil)) (meaning c.encode-in-Nil.result graphs.Nil c.encode-in-Nil.ensures.read_back) c.take-in-Nil.ensures.done c.take-in-Nil.ensures.heap
+    took c.args.self.now c.set-in-Nil.new.self c.args.m (Nil c.in-Nil.d) c.args.op.now c.place-in-Nil.result c.encode-in-Nil.result graphs.Nil c.set-in-Nil.result c.in-Nil.is (λ none. none)
+    (λ i. (Done, set_root (graph_in c.args.self.now) (sym c.place-in-Nil.ensures.value i) graphs.Nil)) (meaning c.encode-in-Nil.result graphs.Nil c.encode-in-Nil.ensures.read_back) c.set-in-Nil.ensures.done c.set-in-Nil.ensures.heap
 
 pub returns-in-Move-clause-step : goal.returns-in-Move-clause-step
 returns-in-Move-clause-step c =
@@ -33,8 +33,8 @@ returns-in-Move-clause-step c =
     let count : length h.roots ≡ roots_of h.mutators = heap.roots in
     let read : c.index-word.result.now ≡ slice_index h.roots c.place-in-Move.result = read_root h _ c.place-in-Move.result _ (ap (λ (h : HeapWords). h.roots) c.self.view_is) (omega (arith, c.place-in-Move.ensures.bound, c.requires)) c.index-word.ensures in
     let given : root (graph_in h) (place c.in-Move.s c.args.m) ≡ value_of c.index-word.result.now = ap (root (graph_in h)) (sym c.place-in-Move.ensures.value) ∙ at_root h c.place-in-Move.result c.index-word.result.now read in
-    took h c.take-in-Move.new.self c.args.m (Move c.in-Move.d c.in-Move.s) c.args.op.now c.place-in-Move-2.result c.index-word.result.now (value_of c.index-word.result.now) c.take-in-Move.result c.in-Move.is (λ none. none)
-    (λ i. (Done, set_root (graph_in h) (sym c.place-in-Move-2.ensures.value i) (given i))) (λ i. value_of c.index-word.result.now) c.take-in-Move.ensures.done c.take-in-Move.ensures.heap
+    took h c.set-in-Move.new.self c.args.m (Move c.in-Move.d c.in-Move.s) c.args.op.now c.place-in-Move-2.result c.index-word.result.now (value_of c.index-word.result.now) c.set-in-Move.result c.in-Move.is (λ none. none)
+    (λ i. (Done, set_root (graph_in h) (sym c.place-in-Move-2.ensures.value i) (given i))) (λ i. value_of c.index-word.result.now) c.set-in-Move.ensures.done c.set-in-Move.ensures.heap
 
 pub returns-in-Look-clause-step : goal.returns-in-Look-clause-step
 returns-in-Look-clause-step c =

@@ -4,9 +4,9 @@ use Rattle.gc_graph.specs.Graph.{Ref}
 use Rattle.gc_words.specs.Word.{word_of}
 use Rattle.gc_words.specs.Space.{SpaceWords, CanPlace, end_of, with_object}
 use Rattle.gc_words.specs.declared.header.Header.{Header}
-use Rattle.gc_heap.specs.Heap.{HeapWords, IsHeap, KeepsLinks, Makes}
+use Rattle.gc_heap.specs.Heap.{HeapWords, IsHeap, KeepsLinks}
 use Rattle.gc_heap.proofs.Commands.{made_heap}
-use Rattle.gc_heap.proofs.Steps.{made, with_new}
+use Rattle.gc_heap.proofs.Steps.{MakesAtEnd, made, with_new}
 use Rattle.gc_graph.specs.declared.reply.Reply.TheVariants.{Made}
 use Rattle.gc_heap.proofs.Links.{links_placed}
 use Rattle.gc_heap.proofs.heap.Heap.make.Goals as goal
@@ -56,5 +56,5 @@ returns-clause-step c =
     let h : HeapWords = record { space = s; roots = c.self.inside.roots.items; mutators = c.self.inside.mutators } in
     let after : HeapWords = record { space = c.place-at.new.self; roots = slice_set h.roots c.args.place c.encode.result; mutators = h.mutators } in
     let is : with_new h c.args.place header ≡ after = λ i. record { space = sym space i; roots = slice_set h.roots c.args.place (sym word i); mutators = h.mutators } in
-    subst (λ h. Makes h c.args.place c.args.kind c.args.len Made after) c.self.view_is
-    (subst (Makes h c.args.place c.args.kind c.args.len Made) is (made h c.args.place c.args.kind c.args.len c.self.invariant can))
+    subst (λ h. MakesAtEnd h c.args.place c.args.kind c.args.len Made after) c.self.view_is
+    (subst (MakesAtEnd h c.args.place c.args.kind c.args.len Made) is (made h c.args.place c.args.kind c.args.len c.self.invariant can))

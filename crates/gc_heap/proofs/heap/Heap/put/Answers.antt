@@ -5,7 +5,8 @@ use Rattle.gc_graph.specs.Machine.{put_field}
 use Rattle.gc_graph.specs.declared.reply.Reply.{Reply}
 use Rattle.gc_graph.specs.declared.reply.Reply.TheVariants.{NoField, Done}
 use Rattle.gc_words.specs.Image.{field_at}
-use Rattle.gc_words.specs.Space.{with_word, field_place}
+use Rattle.gc_words.specs.Layout.{field_place}
+use Rattle.gc_words.specs.Space.{with_word}
 use Rattle.gc_words.specs.Closed.{IsRootWord}
 use Rattle.gc_heap.specs.Heap.{HeapWords, IsHeap, KeepsLinks, graph_in}
 use Rattle.gc_heap.proofs.Commands.{Points, points, read_root, root_word, at_root, not_there, put_no_field, put_done, written_heap}

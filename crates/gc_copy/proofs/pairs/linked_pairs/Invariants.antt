@@ -1,6 +1,6 @@
 use Rattle.std.proofs.Common.{◌-◌, length}
 use Rattle.gc_copy.proofs.ObjectWalks.{Lists}
-use Rattle.gc_copy.proofs.walk.linked_pairs.Given as goal
+use Rattle.gc_copy.proofs.pairs.linked_pairs.Given as goal
 
 -- the objects before the place are listed
 abbrev pub invariant-loop-at : goal.invariant-loop-at

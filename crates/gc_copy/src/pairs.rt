@@ -1,10 +1,9 @@
-//! Walks over the objects of a space.
+//! The certificate that the links of the replicas tell.
 
-ghost use Rattle.std.specs.Prelude.{◌≡◌, ◌<◌, ◌^◌, Some, IfOk, IsTrue, length, map};
-ghost use Rattle.gc_words.specs.Image.{blocks, is_start};
+ghost use Rattle.std.specs.Prelude.{◌≡◌, ◌<◌, ◌^◌, IfOk, length, map};
+ghost use Rattle.gc_words.specs.Image.{blocks};
 ghost use Rattle.gc_words.specs.Space.{IsSpace};
 ghost use Rattle.gc_words.specs.Views.{addresses};
-ghost use Rattle.gc_words.specs.Walking.{next_of};
 ghost use Rattle.gc_copy.specs.State.{Replica};
 ghost use Rattle.gc_copy.specs.Members.{In};
 ghost use Rattle.gc_copy.specs.Words.{replicas_in};
@@ -13,16 +12,7 @@ use gc_graph::NoMemory;
 use gc_words::{Addr, NewAddr, OldAddr, Pair, Space};
 use std::alloc::Global;
 
-/// The place behind the object that starts here.
-fn behind(space: &Space, at: Addr) -> Addr
-    requires shaped { IsSpace space.now }
-    requires start { IsTrue (is_start space.now.words at.0) }
-    ensures { next_of space.now.words at.0 ≡ Some result.0 }
-{
-    Addr(at.0 + u32::from(space.header(at).len()) + 2)
-}
-
-/// How many objects there are.
+/// Returns the number of objects.
 fn count_objects(space: &Space) -> usize
     requires { IsSpace space.now }
     ensures { result ≡ length (blocks space.now.words) }
@@ -31,12 +21,12 @@ fn count_objects(space: &Space) -> usize
     let mut at = Addr(1);
     while at.0 < space.end() {
         count += 1;
-        at = behind(space, at);
+        at = space.next_start(at);
     }
     count
 }
 
-/// The objects with what their links name, in the order of their places. One growth.
+/// Returns each object with what its link names, in the order of their places. Allocates once.
 pub(crate) fn linked_pairs(alloc: Global, space: &Space) -> Result<Vec<Pair>, NoMemory>
     requires shaped { IsSpace space.now }
     requires links { (r : Replica) → In r (replicas_in space.now.words) → r.original < 2 ^ 32 }
@@ -56,7 +46,7 @@ pub(crate) fn linked_pairs(alloc: Global, space: &Space) -> Result<Vec<Pair>, No
         if pairs.push(pair).is_err() {
             return Err(NoMemory);
         }
-        at = behind(space, at);
+        at = space.next_start(at);
     }
     Ok(pairs)
 }

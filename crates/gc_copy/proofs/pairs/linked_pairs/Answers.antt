@@ -4,7 +4,7 @@ use Rattle.std.specs.Result.{is_ok}
 use Rattle.std.proofs.lemmas.Bool.{cond-true}
 use Rattle.gc_words.specs.declared.image.Pair.{Pair}
 use Rattle.gc_copy.proofs.ObjectWalks.{start_met, link_small, lists_more, lists_few}
-use Rattle.gc_copy.proofs.walk.linked_pairs.Goals as goal
+use Rattle.gc_copy.proofs.pairs.linked_pairs.Goals as goal
 
 pub link-requires : goal.link-requires
 link-requires c =
@@ -17,8 +17,8 @@ overflow_cast-pair c =
     let small : c.link.result < 2 ^ 32 = subst (λ n. n < 2 ^ 32) (sym c.link.ensures) (link_small c.args.space.now.words c.loop-at.at.0 c.loop-at.invariant.0 c.requires.links c.loop-at.invariant.1 less) in
     search rules
 
-pub behind-at-requires-clause-start : goal.behind-at-requires-clause-start
-behind-at-requires-clause-start c =
+pub next_start-at-requires : goal.next_start-at-requires
+next_start-at-requires c =
     let less : c.loop-at.at.0 < length c.args.space.now.words = subst (λ n. c.loop-at.at.0 < n) c.end.ensures.value c.loop-at-test.true in
     start_met c.args.space.now.words c.loop-at.at.0 c.loop-at.invariant.0 c.loop-at.invariant.1 less
 
@@ -28,7 +28,7 @@ loop-at-preserved c =
     let pair : Pair = record { old = record { 0 = c.link.result }; new = record { 0 = c.loop-at.at.0 } } in
     let pushed : is_ok c.push.result ≡ true = c.is_err.ensures.negation ∙ ap not c.if-is_err.false in
     let more : c.push.new.self.items ≡ c.loop-at.pairs.items ++ pair ∷ [] = c.push.ensures.items ∙ cond-true (is_ok c.push.result) _ _ pushed in
-    lists_more c.args.space.now.words c.loop-at.at.0 c.behind-at.result.0 c.loop-at.pairs.items c.push.new.self.items pair c.loop-at.invariant less c.behind-at.ensures (ap (λ n. (n, c.loop-at.at.0)) c.link.ensures) more
+    lists_more c.args.space.now.words c.loop-at.at.0 c.next_start-at.result.0 c.loop-at.pairs.items c.push.new.self.items pair c.loop-at.invariant less c.next_start-at.ensures.next (ap (λ n. (n, c.loop-at.at.0)) c.link.ensures) more
 
 pub returns-clause-few : goal.returns-clause-few
 returns-clause-few c = lists_few c.args.space.now c.loop-at.at.0 c.loop-at.pairs.items c.requires.shaped c.loop-at.invariant

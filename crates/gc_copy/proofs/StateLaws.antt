@@ -83,7 +83,7 @@ scans_to_the_end s h c is = subst (λ o. ((collect_with s o steps.Scan).0 ≡ Cl
 
 two_words : (at : ℕ) (objects : List (ℕ × Object)) (end : ℕ) → Laid at objects end → at + 2 * length objects ≤ end
 two_words at [] end h = let e : at ≡ end = h in omega arith
-two_words at (e ∷ rest) end h = let r = two_words (at + length e.1.fields + 2) rest end h.1 in omega arith
+two_words at (e ∷ rest) end h = let r = two_words (at + (length e.1.fields + 2)) rest end h.1 in omega arith
 
 pub has_few_pairs : (s : State) → IsState s → HasFewPairs s
 has_few_pairs s h c is =

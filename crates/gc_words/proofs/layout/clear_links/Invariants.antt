@@ -1,14 +1,16 @@
 use Rattle.std.proofs.Common.{◌≡◌, ◌-◌, length}
 use Rattle.std.specs.Prelude.{IsOk}
+use Rattle.gc_words.specs.Image.{blocks}
+use Rattle.gc_words.specs.Spelling.{spelled, no_links}
 use Rattle.gc_words.specs.Walking.{walk_from}
-use Rattle.gc_words.proofs.Steps.{has_start_from}
-use Rattle.gc_words.proofs.places.has_start.Given as goal
+use Rattle.gc_words.proofs.Steps.{cleared_from}
+use Rattle.gc_words.proofs.layout.clear_links.Given as goal
 
--- the place is a start exactly where it is one of the rest of the walk
+-- the links before the place are 0, and all else is as it was
 abbrev pub invariant-loop-at : goal.invariant-loop-at
 invariant-loop-at l = record {
   walked : IsOk (walk_from l.words l.at);
-  same : has_start_from l.words 1 l.place ≡ has_start_from l.words l.at l.place;
+  cleared : spelled no_links (blocks l.initial.words) ≡ cleared_from l.words l.at;
 }
 
 abbrev pub decreases-loop-at : goal.decreases-loop-at

@@ -1,7 +1,7 @@
 use Rattle.std.proofs.Common.{◌≤◌, sym, ◌∙◌, arith}
 use Rattle.gc_words.proofs.Steps.{behind, start_behind, found_start}
-use Rattle.gc_words.proofs.places.has_start.Goals as goal
-use Rattle.gc_words.proofs.places.has_start.Goals.{then-loop-at-test+else-at-place, else-loop-at-test}
+use Rattle.gc_words.proofs.layout.has_start.Goals as goal
+use Rattle.gc_words.proofs.layout.has_start.Goals.{then-loop-at-test+else-at-place, else-loop-at-test}
 
 pub loop-at-preserved : goal.loop-at-preserved
 loop-at-preserved c =

@@ -3,20 +3,21 @@
 ghost use Rattle.std.specs.Prelude.{◌≡◌, ◌<◌, ◌≤◌, ◌+◌, length, IsOk, slice_index};
 ghost use Rattle.gc_words.specs.Image.{walk_words, blocks, is_start};
 ghost use Rattle.gc_words.specs.Spelling.{spelled, no_links};
-ghost use Rattle.gc_words.specs.Space.{link_place, field_place};
+ghost use Rattle.gc_words.specs.Layout.{link_place, field_place};
 
 use crate::shape::next_start;
 use crate::value::Addr;
 
-/// Where the link word stands of the object that starts here.
-pub(crate) fn link_index(at: Addr) -> usize
-    ensures { result ≡ link_place at.0 }
+/// Returns the place of the link word of the object that starts here.
+pub(crate) fn link_index(at: usize) -> usize
+    requires { at < usize.MAX }
+    ensures { result ≡ link_place at }
 {
-    at.0 as usize + 1
+    at + 1
 }
 
-/// Where field word `i` stands of the object that starts here.
-pub(crate) fn field_index(at: Addr, i: u16) -> usize
+/// Returns the place of field word `i` of the object that starts here.
+pub fn field_index(at: Addr, i: u16) -> usize
     ensures { result ≡ field_place at.0 i }
 {
     at.0 as usize + 2 + usize::from(i)
@@ -44,7 +45,7 @@ pub(crate) fn clear_links(words: &mut [u64])
     let mut at = 1;
     while at < words.len() {
         let next = next_start(words, at).unwrap();
-        words[at + 1] = 0;
+        words[link_index(at)] = 0;
         at = next;
     }
 }

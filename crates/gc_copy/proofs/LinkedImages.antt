@@ -22,7 +22,7 @@ use Rattle.gc_copy.proofs.Lists.{in_map}
 use Rattle.gc_copy.proofs.Replicas.{replica_in, replicas_due}
 use Rattle.gc_copy.proofs.Steps.{its_replicas, belongs_from, ready_parts}
 use Rattle.gc_copy.proofs.Links.{found_by_place}
-use Rattle.gc_copy.proofs.Kept.{command_kept}
+use Rattle.gc_copy.proofs.StateLaws.{command_kept}
 use Rattle.gc_copy.proofs.Flips.{certified}
 use Rattle.gc_copy.proofs.Words.{heap_graph, space_blocks, space_spelled, words_back}
 use Rattle.gc_copy.proofs.Spaces.{in_start, new_objects_are}

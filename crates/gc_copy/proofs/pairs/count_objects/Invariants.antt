@@ -1,6 +1,6 @@
 use Rattle.std.proofs.Common.{◌-◌, length}
 use Rattle.gc_copy.proofs.ObjectWalks.{Counts}
-use Rattle.gc_copy.proofs.walk.count_objects.Given as goal
+use Rattle.gc_copy.proofs.pairs.count_objects.Given as goal
 
 -- the objects before the place are counted
 abbrev pub invariant-loop-at : goal.invariant-loop-at

@@ -12,7 +12,8 @@ use Rattle.gc_words.specs.Word.{IsHeader, HasAddress, word_of, field_value}
 use Rattle.gc_words.specs.Word.{value_of}
 use Rattle.gc_words.specs.Image.{Block, block_in, block_at, is_start, header_at, field_in, field_at, object_of_block, objects_of}
 use Rattle.gc_words.specs.Spelling.{link_at}
-use Rattle.gc_words.specs.Space.{SpaceWords, IsSpace, HasRoom, end_of, free_in, with_object, with_word, link_place, field_place}
+use Rattle.gc_words.specs.Layout.{link_place, field_place}
+use Rattle.gc_words.specs.Space.{SpaceWords, IsSpace, HasRoom, end_of, free_in, with_object, with_word}
 use Rattle.gc_words.specs.Closed.{RefersToStart, IsRootWord}
 use Rattle.gc_words.specs.declared.header.Header.{Header}
 use Rattle.gc_words.specs.Walking.{StandsIn}
@@ -22,7 +23,8 @@ use Rattle.gc_words.proofs.Links.{link_written_there, link_written_beside}
 use Rattle.gc_words.proofs.Graphs.{object_found, field_found, graph_link, meaning_back}
 use Rattle.gc_words.proofs.Fields.{block_of_header}
 use Rattle.gc_words.proofs.Ends.{fields_counted, end_written}
-use Rattle.gc_heap.specs.Heap.{HeapWords, IsHeap, graph_in, name_of}
+use Rattle.gc_graph.specs.Graph.{name_of}
+use Rattle.gc_heap.specs.Heap.{HeapWords, IsHeap, graph_in}
 use Rattle.gc_copy.specs.State.{Replica, Collection, State, new_objects, new_end, new_free, replica_of, moved, moved_name}
 use Rattle.gc_copy.specs.Linked.{place_or_zero, old_links}
 use Rattle.gc_copy.specs.Steps.{fresh_replica, place_replica, with_replica, with_written, write_replica, copy_value, bring_value, bring_up_to_date, collect}
@@ -49,9 +51,6 @@ state_kept old new o k = λ i. record { mutators = k.mutators i; size = k.size i
 
 pub same_graph : (h : HeapWords) → KeepsGraph h h
 same_graph h = record { mutators = refl; size = refl; roots = refl; heap = refl; blocks = refl }
-
-pub graph_twice : (a b c : HeapWords) → KeepsGraph a b → KeepsGraph b c → KeepsGraph a c
-graph_twice a b c k l = record { mutators = l.mutators ∙ k.mutators; size = l.size ∙ k.size; roots = l.roots ∙ k.roots; heap = l.heap ∙ k.heap; blocks = l.blocks ∙ k.blocks }
 
 pub start_kept : (old new : HeapWords) (a : ℕ) → KeepsGraph old new → is_start new.space.words a ≡ is_start old.space.words a
 start_kept old new a k = ap (λ bs. is_some (block_in bs a)) k.blocks
@@ -253,14 +252,6 @@ replicated_already c g w h = by (value_of w) h
     by (Num n) h = refl
     by (Ref a) h = cond-true (is_some (replica_of c a)) (Some c) (place_replica c a (lookup g.objects a)) h
 
-pub no_target : (c : Collection) (v : Value) → None ≡ name_of v → HasReplicaOf c v
-no_target c Nil e = tt
-no_target c (Num n) e = tt
-no_target c (Ref a) e = absurd (let no : None ≡ Some a = e in cc)
-
-pub target_placed : (c : Collection) (g : Graph) (a : ℕ) → replica_of c a ≡ None → with_replica c g (Ref a) ≡ place_replica c a (lookup g.objects a)
-target_placed c g a none = cond-false (is_some (replica_of c a)) (Some c) (place_replica c a (lookup g.objects a)) (ap is_some none)
-
 -- once it is placed it has one
 pub placed_has : (c next : Collection) (a : ℕ) (o : Option Object) → place_replica c a o ≡ Some next → IsSome (replica_of next a)
 placed_has c next a None e = absurd (let no : None ≡ Some next = e in cc)
@@ -331,14 +322,6 @@ field_below words a i o e there =
     let w : (w : ℕ) × (slice_get b.0.fields i ≡ Some w) = some_of (slice_get b.0.fields i) (subst (λ x. IsSome (field_in x i)) b.1 there) in
     let less = get_past b.0.fields i w.0 w.1 in
     omega (arith, count, less)
-
--- an object whose field there is
-pub object_with_field : (words : List ℕ) (a i : ℕ) → IsSome (field_at words a i) → (o : Object) × (lookup (objects_of words) a ≡ Some o)
-object_with_field words a i there = from (block_at words a) refl there
-  where
-    from : (x : Option Block) → block_at words a ≡ x → IsSome (field_in x i) → (o : Object) × (lookup (objects_of words) a ≡ Some o)
-    from None e h = absurd (let no : false ≡ true = h in cc)
-    from (Some b) e h = (object_of_block b, object_found words a ∙ ap (option_map object_of_block) e)
 
 pub replica_object : (objects : List (ℕ × Object)) (c : CollectionWords) (r : Replica) → Belongs objects (collection_in c) → In r (replicas_in c.space.words) → lookup (objects_of c.space.words) r.place ≡ Some r.object
 replica_object objects c r belongs l =
@@ -468,18 +451,11 @@ pub on_ok : {X Y : Type 0} (P Q : Type 0) (r : Result X Y) → (P → Q) → OnO
 on_ok P Q (Ok x) f h = f h
 on_ok P Q (Err e) f h = tt
 
-pub on_err : {X Y : Type 0} (P Q : Type 0) (r : Result X Y) → (P → Q) → OnErr r P → OnErr r Q
-on_err P Q (Ok x) f h = tt
-on_err P Q (Err e) f h = f h
-
 pub if_err : {X Y : Type 0} (P : Type 0) (r : Result X Y) → P → OnErr r P
 if_err P (Ok x) h = tt
 if_err P (Err e) h = h
 
 -- ---- what the heap's words say
-
-pub target_named : (w a : ℕ) → Some a ≡ name_of (value_of w) → value_of w ≡ Ref a
-target_named w a e = named (value_of w) a e
 
 pub has_placed : (c next : Collection) (w a : ℕ) (o : Option Object) → Some a ≡ name_of (value_of w) → place_replica c a o ≡ Some next → HasReplicaOf next (value_of w)
 has_placed c next w a o e p = subst (HasReplicaOf next) (sym (named (value_of w) a e)) (placed_has c next a o p)
