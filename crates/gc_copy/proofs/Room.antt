@@ -1,10 +1,14 @@
 -- Each original has one replica of its own size, so the new space has room for all.
 use Rattle.std.proofs.Common.{◌≡◌, ◌≢◌, inl, inr, ⊎_elim, ℕ, ◌+◌, ◌-◌, ◌≤◌, ◌==◌, nat_lt, false, List, [], ◌∷◌, map, length, Option, Some, None, is_some, slice_get, flat_map, sum_by, refl, ap, sym, ◌∙◌, subst, arith}
 use Rattle.std.proofs.lemmas.Bool.{cases_Bool, cond-true, cond-false, cond_both, eqb-true, eqb-false, le-ltb}
+use Rattle.std.proofs.lemmas.List.{length-map}
 use Rattle.std.proofs.lemmas.List.Sums.{sum_by-cons}
 use Rattle.gc_graph.specs.Graph.{Value, Nil, Num, Ref, Object, Graph, lookup, field_of, names_of}
 use Rattle.gc_copy.specs.State.{Replica, Collection, State, objects_end, new_free, replica_of, replica_at}
 use Rattle.gc_copy.specs.Steps.{log_at, with_log, place_replica, with_replica, copy_value, bring_value, bring_up_to_date, if_room, root_target, copy_root, next_field, scan_done, scan_replica, apply_entry, apply_log, is_ready, passes_check, collect_with, collect}
+use Rattle.gc_heap.specs.Heap.{HeapWords, IsHeap}
+use Rattle.gc_copy.specs.Words.{CollectionWords, IsCollection, BelongsTo, collection_in, entries_of, open_state}
+use Rattle.gc_copy.specs.Passing.{AlwaysHasRoom}
 use Rattle.gc_copy.specs.Members.{In, Distinct}
 use Rattle.gc_copy.specs.Belonging.{Laid, IsNamed, RefersTo, IsSpaceGraph, IsDue, IsOpen, IsOpened, IsState}
 use Rattle.gc_copy.specs.declared.step.Step.{Step}
@@ -14,6 +18,7 @@ use Rattle.gc_copy.specs.declared.step.StepReply.TheVariants.{NoRoom, Copied, Sc
 use Rattle.gc_copy.proofs.Lists.{in_flat_map_from, get_in}
 use Rattle.gc_copy.proofs.Heap.{lookup_here, lookup_there, lookup_named, lookup_in}
 use Rattle.gc_copy.proofs.Replicas.{placed, end_of, AreReplicas}
+use Rattle.gc_copy.proofs.Words.{heap_graph}
 use Rattle.gc_copy.proofs.Steps.{none_of, its_replicas, unnamed, unreplicated_some}
 
 abbrev weight_of : Option Object → ℕ
@@ -77,11 +82,11 @@ room_for size free new_size g Due replicas name o h larger k found new =
 
 -- ---- no step lacks room
 
-module _ (s : State) (h : IsState s) where
+module _ (s : State) (h : IsSpaceGraph s.size s.heap.free s.heap.graph) where
   placed_there : (c : Collection) (Due : ℕ → ℕ → ℕ → Type 0) (name : ℕ) → s.size ≤ c.size → AreReplicas s.heap.graph.objects c.size Due c.replicas → replica_of c name ≡ None → IsNamed s.heap.graph.objects name → place_replica c name (lookup s.heap.graph.objects name) ≢ None
   placed_there c Due name same k none named =
       let o = lookup_named s.heap.graph.objects name named in
-      let fits = room_for s.size s.heap.free c.size s.heap.graph Due c.replicas name o.0 h.heap same k o.1 (unnamed c name none) in
+      let fits = room_for s.size s.heap.free c.size s.heap.graph Due c.replicas name o.0 h same k o.1 (unnamed c name none) in
       let roomy : nat_lt (new_free c) (length o.0.fields + 2) ≡ false = le-ltb (new_free c) (length o.0.fields + 2) (omega arith) in
       let is = ap (place_replica c name) o.1 ∙ cond-false (nat_lt (new_free c) (length o.0.fields + 2)) None _ roomy in
       λ e. cc (sym is ∙ e)
@@ -103,7 +108,7 @@ module _ (s : State) (h : IsState s) where
 
       value : (o : Object) → lookup s.heap.graph.objects name ≡ Some o → (f : Option Value) → slice_get o.fields i ≡ f → bring_value c s.heap.graph name i f ≢ None
       value o found None e = λ x. cc x
-      value o found (Some v) e = copied v (with_replica c s.heap.graph v) (replicated_there c Due v same k (((h.heap).objects name o (lookup_in s.heap.graph.objects name o found)).fields v (get_in v o.fields i e)))
+      value o found (Some v) e = copied v (with_replica c s.heap.graph v) (replicated_there c Due v same k ((h.objects name o (lookup_in s.heap.graph.objects name o found)).fields v (get_in v o.fields i e)))
 
       go : (o : Option Object) → lookup s.heap.graph.objects name ≡ o → bring_value c s.heap.graph name i (field_of o i) ≢ None
       go None e = λ x. cc x
@@ -118,7 +123,7 @@ module _ (s : State) (h : IsState s) where
   copies c k same (Some name) e =
       let n = unreplicated_some c (flat_map names_of s.heap.graph.roots) name e in
       let v = in_flat_map_from names_of name s.heap.graph.roots n.1 in
-      in_room Copied (place_replica c name (lookup s.heap.graph.objects name)) (placed_there c (IsDue c) name same (its_replicas (IsDue c) s.heap.graph.objects c k.belongs) n.0 (named v.0 ((h.heap).roots v.0 v.1) v.2)) (λ x. cc x)
+      in_room Copied (place_replica c name (lookup s.heap.graph.objects name)) (placed_there c (IsDue c) name same (its_replicas (IsDue c) s.heap.graph.objects c k.belongs) n.0 (named v.0 (h.roots v.0 v.1) v.2)) (λ x. cc x)
     where
       named : (v : Value) → RefersTo (IsNamed s.heap.graph.objects) v → In name (names_of v) → IsNamed s.heap.graph.objects name
       named Nil f x = absurd x
@@ -144,12 +149,9 @@ module _ (s : State) (h : IsState s) where
       (λ t. λ x. cc x))
       (λ x. cc x)
 
-  pub has_room : (c : Collection) → s.collection ≡ Some c → s.size ≤ c.size → (step : Step) → (collect s step).0 ≢ NoRoom
-  has_room c is same step = subst (λ o. (collect_with s o step).0 ≢ NoRoom) (sym is) (go step)
+  pub opened_has_room : (c : Collection) → IsOpened s c → s.collection ≡ Some c → s.size ≤ c.size → (step : Step) → (collect s step).0 ≢ NoRoom
+  opened_has_room c k is same step = subst (λ o. (collect_with s o step).0 ≢ NoRoom) (sym is) (go step)
     where
-      k : IsOpened s c
-      k = subst (IsOpen s) is h.collection
-
       go : (step : Step) → (collect_with s (Some c) step).0 ≢ NoRoom
       go steps.Begin = λ e. cc e
       go (steps.BeginSized size) = λ e. cc e
@@ -160,3 +162,12 @@ module _ (s : State) (h : IsState s) where
           (λ t. cond_both (passes_check s c) _ _ (λ (next : StepReply × State). next.0 ≢ NoRoom) (λ u. λ e. cc e) (λ u. λ e. cc e))
           (λ t. λ e. cc e)
       go steps.Drop = λ e. cc e
+
+pub has_room : (s : State) → IsState s → AlwaysHasRoom s
+has_room s h c is = opened_has_room s h.heap c (subst (IsOpen s) is h.collection) is
+
+-- of a heap of words and the collection that belongs to it
+pub words_have_room : (heap : HeapWords) (c : CollectionWords) (step : Step) → IsHeap heap → IsCollection c → BelongsTo heap c → heap.space.size ≤ c.space.size → (collect (open_state heap c) step).0 ≢ NoRoom
+words_have_room heap c step h k b same =
+    opened_has_room (open_state heap c) (heap_graph heap h) (collection_in c)
+    (record { belongs = b.belongs; size = k.space.size_high; logs = length-map c.logs entries_of ∙ b.logs }) refl same step

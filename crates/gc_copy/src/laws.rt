@@ -154,6 +154,9 @@ pub fn only_kept_is_carried()
 pub fn room_suffices()
     ensures states { (s : State) → IsState s → AlwaysHasRoom s }
     ensures runs { InEveryRun AlwaysHasRoom }
+    ensures words { (heap : HeapWords) (c : CollectionWords) (step : Step)
+        → IsHeap heap → IsCollection c → BelongsTo heap c → heap.space.size ≤ c.space.size
+        → (collect (open_state heap c) step).0 ≢ NoRoom }
 {}
 
 /// Scanning is clean at the new end alone, and a collection has at most `MOST_PAIRS` pairs.

@@ -1,14 +1,15 @@
 -- What a flip shows its checker, and the pair of heaps that the checker accepts.
-use Rattle.std.specs.Prelude.{◌≡◌, ℕ, List, map, Option, Some, None, IfSome}
+use Rattle.std.specs.Prelude.{◌≡◌, ◌≢◌, ◌≤◌, ℕ, List, length, map, Option, Some, None, IfSome, IsTrue}
 use Rattle.gc_words.specs.Views.{addresses}
 use Rattle.gc_words.specs.Certificate.{Certified}
 use Rattle.gc_heap.specs.Heap.{HeapWords}
 use Rattle.gc_cert.specs.Grammar.{CertifiedPair}
 use Rattle.gc_copy.specs.State.{State, Collection, pairs_of}
+use Rattle.gc_copy.specs.Steps.{is_ready}
 use Rattle.gc_copy.specs.Linked.{old_image, new_image}
 use Rattle.gc_copy.specs.Words.{CollectionWords, collection_in, new_root_words}
 use Rattle.gc_copy.specs.declared.step.StepReply.{StepReply}
-use Rattle.gc_copy.specs.declared.step.StepReply.TheVariants.{Flipped}
+use Rattle.gc_copy.specs.declared.step.StepReply.TheVariants.{NoRoom, Flipped}
 use Rattle.gc_core.specs.declared.flip.Draft.{Draft}
 use Rattle.gc_core.specs.declared.flip.Copies.{Copies}
 
@@ -39,6 +40,14 @@ replaced kept (Some pair) = Some pair
 -- where the reply tells of a flip, this holds of its pair
 abbrev pub FlipsOnly : (CertifiedPair → Type 0) → State → StepReply → Type 0
 FlipsOnly says s reply = (pairs : ℕ) → reply ≡ Flipped pairs → IfSome s.collection (λ c. says (flip_pair s c))
+
+-- a ready collection's flip is answered with the number of its pairs
+abbrev pub PassesIfReady : State → StepReply → Type 0
+PassesIfReady s reply = IfSome s.collection (λ c. IsTrue (is_ready c s.heap.graph) → reply ≡ Flipped (length c.replicas))
+
+-- where the new space is at least as large as the old one, no replica lacks room
+abbrev pub HasRoomIfLarge : State → StepReply → Type 0
+HasRoomIfLarge s reply = IfSome s.collection (λ c. s.size ≤ c.size → reply ≢ NoRoom)
 
 -- ---- what is made ready before anything changes
 

@@ -19,7 +19,7 @@ use gc_words::no_fault_where_certified;
 use std::alloc::Global;
 
 impl CollectedHeap {
-    ghost use Rattle.gc_core.specs.Flip.{FlipsOnly, kept_after, replaced};
+    ghost use Rattle.gc_core.specs.Flip.{FlipsOnly, PassesIfReady, kept_after, replaced};
     ghost use Rattle.gc_cert.specs.Grammar.{CertifiedPair};
     ghost use Rattle.std.specs.Prelude.{Option};
     ghost use Rattle.gc_core.specs.declared.flip.Keep.{Keep};
@@ -36,8 +36,7 @@ impl CollectedHeap {
         // It flips only what this checker said yes to.
         ensures asked { IfOk result (λ flip. FlipsOnly (C.says_yes checker.now) self.old flip.reply) }
         // A ready collection passes, so no flip is refused.
-        ensures passes { IfOk result (λ flip. IfSome self.old.collection (λ c.
-            IsTrue (is_ready c self.old.heap.graph) → flip.reply ≡ StepReply.Flipped (length c.replicas))) }
+        ensures passes { IfOk result (λ flip. PassesIfReady self.old flip.reply) }
         ensures never_refused { IfOk result (λ flip. flip.reply ≢ StepReply.Refused) }
         ensures pair { keep ≡ Keep.Pair → IfOk result (λ flip. (kept : Option CertifiedPair)
             → kept_after kept self.old flip.reply ≡ replaced kept (option_map pair_in flip.pair)) }

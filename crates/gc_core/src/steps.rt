@@ -5,12 +5,12 @@ use gc_copy::{Collection, Step, StepReply};
 use gc_graph::NoMemory;
 
 impl CollectedHeap {
-    ghost use Rattle.std.specs.Prelude.{◌≡◌, ◌≢◌, ◌<◌, ◌≤◌, IfOk, IfSome, IsTrue, OnErr, length};
-    ghost use Rattle.gc_copy.specs.Steps.{collect, is_ready, useful_step};
+    ghost use Rattle.std.specs.Prelude.{◌≡◌, ◌≢◌, ◌<◌, ◌≤◌, IfOk, OnErr};
+    ghost use Rattle.gc_copy.specs.Steps.{collect, useful_step};
     ghost use Rattle.gc_copy.specs.Runs.{IsStep};
     ghost use Rattle.gc_copy.specs.declared.step.Step.{Step};
     ghost use Rattle.gc_copy.specs.declared.step.StepReply.{StepReply};
-    ghost use Rattle.gc_core.specs.Flip.{FlipsOnly};
+    ghost use Rattle.gc_core.specs.Flip.{FlipsOnly, PassesIfReady, HasRoomIfLarge};
     ghost use Rattle.gc_core.specs.CollectedHeap.{Allocates};
 
     /// Performs one collector step. A flip happens only if the checker accepts the certificate; its pair is not
@@ -22,9 +22,9 @@ impl CollectedHeap {
         // It flips only what this checker said yes to.
         ensures asked { IfOk result (FlipsOnly (C.says_yes checker.now) self.old) }
         // A ready collection passes, so no flip is refused.
-        ensures passes { step ≡ Step.Flip → IfOk result (λ reply. IfSome self.old.collection (λ c.
-            IsTrue (is_ready c self.old.heap.graph) → reply ≡ StepReply.Flipped (length c.replicas))) }
+        ensures passes { step ≡ Step.Flip → IfOk result (PassesIfReady self.old) }
         ensures never_refused { IfOk result (λ reply. reply ≢ StepReply.Refused) }
+        ensures room { IfOk result (HasRoomIfLarge self.old) }
         ensures refused { OnErr result (self.new ≡ self.old) }
         ensures allocates { OnErr result (Allocates step) }
         ensures mutators { self.new.mutators ≡ self.old.mutators }
@@ -71,6 +71,7 @@ impl CollectedHeap {
     /// is none, or `Idle` if no collection is open. Does not allocate.
     pub fn roots(&mut self) -> StepReply
         ensures step { collect self.old Step.Roots ≡ (result, self.new) }
+        ensures room { HasRoomIfLarge self.old result }
         ensures mutators { self.new.mutators ≡ self.old.mutators }
     {
         match &mut self.collection {
@@ -84,6 +85,7 @@ impl CollectedHeap {
     /// allocate.
     pub fn scan(&mut self) -> StepReply
         ensures step { collect self.old Step.Scan ≡ (result, self.new) }
+        ensures room { HasRoomIfLarge self.old result }
         ensures mutators { self.new.mutators ≡ self.old.mutators }
     {
         match &mut self.collection {
@@ -97,6 +99,7 @@ impl CollectedHeap {
     pub fn apply_log(&mut self, m: u8) -> StepReply
         requires { m < self.old.mutators }
         ensures step { collect self.old (Step.Apply m) ≡ (result, self.new) }
+        ensures room { HasRoomIfLarge self.old result }
         ensures mutators { self.new.mutators ≡ self.old.mutators }
     {
         match &mut self.collection {

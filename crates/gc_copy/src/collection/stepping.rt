@@ -1,4 +1,4 @@
-ghost use Rattle.std.specs.Prelude.{IsTrue, ◌≡◌, ◌<◌};
+ghost use Rattle.std.specs.Prelude.{IsTrue, ◌≡◌, ◌≢◌, ◌<◌, ◌≤◌};
 ghost use Rattle.gc_words.specs.Space.{image_with};
 ghost use Rattle.gc_words.specs.Certificate.{Certified};
 ghost use Rattle.gc_heap.specs.Heap.{image_of, graph_in};
@@ -6,10 +6,11 @@ ghost use Rattle.gc_copy.specs.State.{pairs_of};
 ghost use Rattle.gc_copy.specs.Steps.{collect, scan_done as scan_done_in, is_ready};
 ghost use Rattle.gc_copy.specs.Words.{collection_in, open_state, BelongsTo, new_root_words};
 ghost use Rattle.gc_copy.specs.declared.step.Step.{Step};
+ghost use Rattle.gc_copy.specs.declared.step.StepReply.{StepReply};
 
 use super::Collection;
 use super::copying::NoRoom;
-use crate::laws::images_show_links;
+use crate::laws::{images_show_links, room_suffices};
 use crate::step::StepReply;
 use gc_heap::Heap;
 use gc_words::{NewAddr, OldAddr};
@@ -20,9 +21,14 @@ impl Collection {
     pub fn roots(&mut self, heap: &mut Heap) -> StepReply
         requires { BelongsTo heap.old self.old }
         ensures step { collect (open_state heap.old self.old) Step.Roots ≡ (result, open_state heap.new self.new) }
+        ensures room { heap.old.space.size ≤ self.old.space.size → result ≢ StepReply.NoRoom }
         ensures belongs { BelongsTo heap.new self.new }
         ensures mutators { heap.new.mutators ≡ heap.old.mutators }
     {
+        room_suffices();
+        // Here the prover learns that the heap and the collection are sound.
+        let _ = heap.space();
+        let _ = &self.space;
         let Some(target) = self.root_target(heap) else {
             return StepReply::Clean;
         };
@@ -37,9 +43,13 @@ impl Collection {
     pub fn scan(&mut self, heap: &mut Heap) -> StepReply
         requires { BelongsTo heap.old self.old }
         ensures step { collect (open_state heap.old self.old) Step.Scan ≡ (result, open_state heap.new self.new) }
+        ensures room { heap.old.space.size ≤ self.old.space.size → result ≢ StepReply.NoRoom }
         ensures belongs { BelongsTo heap.new self.new }
         ensures mutators { heap.new.mutators ≡ heap.old.mutators }
     {
+        room_suffices();
+        // Here the prover learns that the heap is sound.
+        let _ = heap.space();
         if self.scan_done() {
             return StepReply::Clean;
         }
@@ -66,9 +76,13 @@ impl Collection {
         requires belongs { BelongsTo heap.old self.old }
         requires mutator { m < heap.old.mutators }
         ensures step { collect (open_state heap.old self.old) (Step.Apply m) ≡ (result, open_state heap.new self.new) }
+        ensures room { heap.old.space.size ≤ self.old.space.size → result ≢ StepReply.NoRoom }
         ensures belongs { BelongsTo heap.new self.new }
         ensures mutators { heap.new.mutators ≡ heap.old.mutators }
     {
+        room_suffices();
+        // Here the prover learns that the heap is sound.
+        let _ = heap.space();
         let Some(entry) = self.logs[m as usize].oldest() else {
             return StepReply::Clean;
         };

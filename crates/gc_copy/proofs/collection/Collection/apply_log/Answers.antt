@@ -1,8 +1,11 @@
 use Rattle.std.proofs.Common.{◌≡◌, ◌<◌, length, Some, None, refl, ap, sym, ◌∙◌, subst, arith}
 use Rattle.std.specs.Prelude.{slice_get, slice_set}
 use Rattle.gc_heap.specs.Heap.{graph_in}
+use Rattle.gc_copy.specs.State.{State}
 use Rattle.gc_copy.specs.Steps.{log_at, apply_entry, apply_log}
-use Rattle.gc_copy.specs.Words.{CollectionWords, collection_in, open_state, BelongsTo, KeepsRest}
+use Rattle.gc_copy.specs.Words.{CollectionWords, IsCollection, collection_in, open_state, BelongsTo, KeepsRest}
+use Rattle.gc_copy.specs.declared.step.Step.TheVariants as steps
+use Rattle.gc_copy.specs.declared.step.StepReply.{StepReply}
 use Rattle.gc_copy.specs.declared.step.StepReply.TheVariants.{Applied, NoRoom}
 use Rattle.gc_copy.proofs.Logs.{there_in}
 use Rattle.gc_copy.proofs.Applying.{field_there, stays, applied, applied_belongs}
@@ -47,3 +50,8 @@ returns-in-Err-clause-step c =
     subst (λ y. apply_log (open_state c.args.heap.now y) (collection_in y) c.args.m (log_at (collection_in y) c.args.m) ≡ (NoRoom, open_state c.args.heap.now y)) c.self.view_is
     (stays c.args.heap.now x c.args.m c.index.result.now there (c.in-Some.entry.object.0, c.in-Some.entry.field) c.in-Some.ensures none)
     ∙ (λ i. (NoRoom, open_state (sym full.2 i) (sym full.1 i)))
+
+pub returns-in-Err-clause-room : goal.returns-in-Err-clause-room
+returns-in-Err-clause-room c larger same =
+    c.room_suffices.ensures.words c.args.heap.now c.args.self.now (steps.Apply c.args.m) c.space.ensures.sound (subst IsCollection c.self.view_is c.self.invariant) c.requires.belongs larger
+    (ap (λ (next : StepReply × State). next.0) (returns-in-Err-clause-step c))

@@ -4,9 +4,11 @@ use Rattle.std.specs.Option.{option_map}
 use Rattle.gc_words.specs.Image.{field_at}
 use Rattle.gc_words.specs.Spelling.{link_at}
 use Rattle.gc_heap.specs.Heap.{HeapWords, graph_in}
-use Rattle.gc_copy.specs.State.{Replica, replica_of}
+use Rattle.gc_copy.specs.State.{Replica, State, replica_of}
 use Rattle.gc_copy.specs.Steps.{scan_done, scan, bring_up_to_date}
-use Rattle.gc_copy.specs.Words.{CollectionWords, collection_in, open_state, BelongsTo, KeepsRest}
+use Rattle.gc_copy.specs.Words.{CollectionWords, IsCollection, collection_in, open_state, BelongsTo, KeepsRest}
+use Rattle.gc_copy.specs.declared.step.Step.TheVariants as steps
+use Rattle.gc_copy.specs.declared.step.StepReply.{StepReply}
 use Rattle.gc_copy.specs.declared.step.StepReply.TheVariants.{Passed, Scanned, NoRoom}
 use Rattle.gc_copy.proofs.Scanning.{start, small, replica, field_there, next_small, passed, passed_belongs, no_room, scanned, scanned_belongs}
 use Rattle.gc_copy.proofs.collection.Collection.scan.Goals as goal
@@ -121,3 +123,8 @@ returns-in-Err-clause-step c =
     ∙ ap (λ n. bring_up_to_date (collection_in c.args.self.now) (graph_in c.args.heap.now) n x.scan_field) (sym c.link.ensures) ∙ full.0 in
     subst (λ y. scan (open_state c.args.heap.now y) (collection_in y) ≡ (NoRoom, open_state c.args.heap.now y)) c.self.view_is (no_room c.args.heap.now x c.self.invariant k more c.header.result c.header.ensures other none)
     ∙ (λ i. (NoRoom, open_state (sym full.2 i) (sym full.1 i)))
+
+pub returns-in-Err-clause-room : goal.returns-in-Err-clause-room
+returns-in-Err-clause-room c larger same =
+    c.room_suffices.ensures.words c.args.heap.now c.args.self.now steps.Scan c.space.ensures.sound (subst IsCollection c.self.view_is c.self.invariant) c.requires larger
+    (ap (λ (next : StepReply × State). next.0) (returns-in-Err-clause-step c))
