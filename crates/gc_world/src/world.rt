@@ -45,7 +45,7 @@ impl Model for World {
 }
 
 impl World {
-    ghost use Rattle.std.specs.Prelude.{◌≡◌, ◌<◌, ◌≤◌, [], None, IfOk, OnErr};
+    ghost use Rattle.std.specs.Prelude.{◌≡◌, ◌≢◌, ◌<◌, ◌≤◌, [], None, IfOk, OnErr};
     ghost use Rattle.std.specs.Prelude.{is_some, IfSome};
     ghost use Rattle.std.specs.Option.{option_map};
     ghost use Rattle.gc_graph.specs.Limits.{most_words, most_mutators};
@@ -53,7 +53,7 @@ impl World {
     ghost use Rattle.gc_cert.specs.Views.{pair_in};
     ghost use Rattle.gc_copy.specs.Steps.{mutate, collect, useful_step};
     ghost use Rattle.gc_copy.specs.Runs.{IsStep};
-    ghost use Rattle.gc_core.specs.Flip.{kept_after, IsCertified};
+    ghost use Rattle.gc_core.specs.Flip.{kept_after, IsCertified, PassesIfReady, HasRoomIfLarge};
     ghost use Rattle.gc_world.specs.History.{IsHistory};
     ghost use Rattle.gc_world.specs.World.{present, with_entry};
     ghost use Rattle.gc_copy.specs.declared.event.Event.{Event};
@@ -110,6 +110,9 @@ impl World {
               kept = kept_after self.old.kept (present self.old) reply;
             }) }
         ensures step { IfOk result (λ reply. collect (present self.old) step ≡ (reply, present self.new)) }
+        ensures passes { step ≡ Step.Flip → IfOk result (PassesIfReady (present self.old)) }
+        ensures never_refused { IfOk result (λ reply. reply ≢ StepReply.Refused) }
+        ensures room { IfOk result (HasRoomIfLarge (present self.old)) }
         ensures refused { OnErr result (self.new ≡ self.old) }
     {
         make_room(&mut self.history)?;
@@ -130,6 +133,9 @@ impl World {
               kept = kept_after self.old.kept (present self.old) reply;
             }) }
         ensures step { IfOk result (λ reply. collect (present self.old) step ≡ (reply, present self.new)) }
+        ensures passes { step ≡ Step.Flip → IfOk result (PassesIfReady (present self.old)) }
+        ensures never_refused { IfOk result (λ reply. reply ≢ StepReply.Refused) }
+        ensures room { IfOk result (HasRoomIfLarge (present self.old)) }
         ensures refused { OnErr result (self.new ≡ self.old) }
     {
         make_room(&mut self.history)?;
@@ -150,6 +156,9 @@ impl World {
               kept = kept_after self.old.kept (present self.old) made.1;
             }) }
         ensures step { IfOk result (λ made. collect (present self.old) made.0 ≡ (made.1, present self.new)) }
+        ensures passes { IfOk result (λ made. made.0 ≡ Step.Flip → PassesIfReady (present self.old) made.1) }
+        ensures never_refused { IfOk result (λ made. made.1 ≢ StepReply.Refused) }
+        ensures room { IfOk result (λ made. HasRoomIfLarge (present self.old) made.1) }
         ensures refused { OnErr result (self.new ≡ self.old) }
     {
         make_room(&mut self.history)?;
@@ -213,12 +222,14 @@ impl World {
     }
 }
 
-ghost use Rattle.std.specs.Prelude.{◌≡◌, ◌<◌, ◌++◌, ◌∷◌, [], IfOk, OnOk, OnErr, vec_len, vec_capacity};
+ghost use Rattle.std.specs.Prelude.{◌≡◌, ◌≢◌, ◌<◌, ◌++◌, ◌∷◌, [], IfOk, OnOk, OnErr, vec_len, vec_capacity};
 ghost use Rattle.std.specs.Option.{option_map};
 ghost use Rattle.gc_cert.specs.Views.{pair_in};
 ghost use Rattle.gc_copy.specs.Steps.{collect};
 ghost use Rattle.gc_copy.specs.Runs.{IsStep};
-ghost use Rattle.gc_core.specs.Flip.{kept_after};
+ghost use Rattle.gc_core.specs.Flip.{kept_after, PassesIfReady, HasRoomIfLarge};
+ghost use Rattle.gc_copy.specs.declared.step.Step.{Step};
+ghost use Rattle.gc_copy.specs.declared.step.StepReply.{StepReply};
 ghost use Rattle.gc_world.specs.World.{entry_of, IsKept};
 ghost use Rattle.gc_copy.specs.declared.event.Event.{Event};
 
@@ -252,6 +263,9 @@ fn perform<C: Checks>(
     requires can { C.can_check checker.now }
     requires step { IsStep heap.old.mutators step }
     ensures step { IfOk result (λ reply. collect heap.old step ≡ (reply, heap.new)) }
+    ensures passes { step ≡ Step.Flip → IfOk result (PassesIfReady heap.old) }
+    ensures never_refused { IfOk result (λ reply. reply ≢ StepReply.Refused) }
+    ensures room { IfOk result (HasRoomIfLarge heap.old) }
     ensures kept { IfOk result (λ reply. option_map pair_in kept.new
         ≡ kept_after (option_map pair_in kept.old) heap.old reply) }
     ensures certified { IsKept (option_map pair_in kept.old) → IsKept (option_map pair_in kept.new) }
