@@ -3,7 +3,7 @@ use Rattle.std.proofs.Common.{◌≡◌, ℕ, zero, suc, ◌+◌, ◌<◌, ◌�
 use Rattle.std.specs.Prelude.{slice_index, nat_le, IsOk}
 use Rattle.std.specs.List.{list_any}
 use Rattle.std.proofs.lemmas.Bool.{eqb-true, eq-eqb, ne_eqb, lt-leb, cases_eq, cases_Bool, not-false}
-use Rattle.std.proofs.lemmas.List.{length-replicate, take_all, map_more, at_drop_more, at_drop_all}
+use Rattle.std.proofs.lemmas.List.{map_more, at_drop_more}
 use Rattle.std.proofs.lemmas.List.Folds.{list_any-append}
 use Rattle.gc_graph.specs.Correspond.{paired}
 use Rattle.gc_words.specs.Image.{Image, walk_words, is_start}
@@ -150,14 +150,6 @@ pub record Entered (old new : Image) (cert : List Pair) (row : List ℕ) (last k
   pub ends : EndsAt (pairs_of (take k cert)) last
   pub same : place_faults old new [] 0 (pairs_of cert) ≡ place_faults old new (pairs_of (take k cert)) k (pairs_of (drop k cert))
 
-pub entered_none : (old new : Image) (cert : List Pair) (row : List ℕ) → row ≡ replicate (length old.words) 0 → Entered old new cert row 0 0
-entered_none old new cert row e = record {
-  len = ap length e ∙ length-replicate (length old.words) 0;
-  held = subst (λ row. HoldsPartners row []) (sym e) (holds_none (length old.words));
-  ends = ends_none;
-  same = refl;
-}
-
 -- the next pair
 unrolled : (old new : Image) (cert : List Pair) (k : ℕ) (d : Pair) → k < length cert
     → let before = pairs_of (take k cert) in place_faults old new before k (pairs_of (drop k cert))
@@ -195,9 +187,3 @@ entered_within old new cert row last k p ok s e =
     let placed : Placed old new row p = no_entry_fault old new row last k p e in
     let within : p.0 < length old.words = start_within old.words p.0 ok placed.old_start in
     omega (arith, s.len)
-
-pub entered_all : (old new : Image) (cert : List Pair) (row : List ℕ) (last k : ℕ) → length cert ≤ k → Entered old new cert row last k → (place_faults old new [] 0 (pairs_of cert) ≡ None) × HoldsPartners row (pairs_of cert)
-entered_all old new cert row last k past s = (
-  s.same ∙ at_drop_all (λ rest. place_faults old new (pairs_of (take k cert)) k (pairs_of rest)) cert k past,
-  subst (λ cert. HoldsPartners row (pairs_of cert)) (take_all k cert past) s.held,
-)

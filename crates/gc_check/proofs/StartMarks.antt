@@ -1,15 +1,13 @@
 -- The marks of a space's starts, set one after the other as a walk meets them.
-use Rattle.std.proofs.Common.{◌≡◌, ℕ, zero, suc, ◌+◌, ◌<◌, ◌≤◌, Bool, true, false, cond, ◌==◌, List, ◌∷◌, length, get_or, set, replicate, Option, Some, None, is_some, refl, sym, ◌∙◌, ap, subst, inl, inr, arith, length-set, get_or-set_same, get_or-set_other}
+use Rattle.std.proofs.Common.{◌≡◌, ℕ, ◌+◌, ◌<◌, ◌≤◌, Bool, true, false, cond, ◌==◌, List, ◌∷◌, length, get_or, set, Option, Some, None, is_some, refl, sym, ◌∙◌, ap, subst, inl, inr, arith, length-set, get_or-set_same, get_or-set_other}
 use Rattle.std.specs.Prelude.{slice_index, IsOk, IsSome}
 use Rattle.std.proofs.lemmas.Bool.{eq-eqb, ne_eqb, cases_eq}
-use Rattle.std.proofs.lemmas.List.{length-replicate}
 use Rattle.gc_words.specs.Word.{read_header}
 use Rattle.gc_words.specs.Image.{Block, walk_words, ok_or_nil, block_in, block_at, is_start}
 use Rattle.gc_words.specs.Walking.{next_of, walk_from, block_from, StandsIn}
 use Rattle.gc_words.specs.declared.header.Header.{Header}
-use Rattle.gc_words.proofs.Steps.{has_next, Behind, behind, has_start_from, at_end}
+use Rattle.gc_words.proofs.Steps.{has_next, Behind, behind, has_start_from}
 use Rattle.gc_words.proofs.Starts.{stands_in}
-use Rattle.gc_check.specs.Tables.{MarksStarts}
 
 -- the object that a walk which comes to its end meets at a place
 pub record Met (words : List ℕ) (at : ℕ) : Type 0 where
@@ -41,18 +39,6 @@ pub record MarksTo (words : List ℕ) (marks : List Bool) (at : ℕ) : Type 0 wh
   pub walked : IsOk (walk_from words at)
   pub starts : (place : ℕ) → cond (get_or marks place false) true (has_start_from words at place) ≡ is_start words place
 
-none_marked : (n place : ℕ) → get_or (replicate n false) place false ≡ false
-none_marked zero place = refl
-none_marked (suc n) zero = refl
-none_marked (suc n) (suc place) = none_marked n place
-
-pub marks_none : (words : List ℕ) (marks : List Bool) → IsOk (walk_words words) → marks ≡ replicate (length words) false → MarksTo words marks 1
-marks_none words marks ok e = record {
-  len = ap length e ∙ length-replicate (length words) false;
-  walked = ok;
-  starts = λ place. ap (λ b. cond b true (is_start words place)) (ap (λ ms. get_or ms place false) e ∙ none_marked (length words) place);
-}
-
 marked_already : (b : Bool) → cond b true true ≡ true
 marked_already true = refl
 marked_already false = refl
@@ -79,17 +65,6 @@ marks_one words marks at h inside word before =
           | inr other ↦ (let kept : get_or (set marks at true) place false ≡ get_or marks place false = get_or-set_other marks at place true false (λ e. other (sym e)) in
               ap (λ b. cond b true rest) kept ∙ ap (cond (get_or marks place false) true) (sym (here m place false (ne_eqb at place other))) ∙ before.starts place)
         ]
-
-or_false : (b : Bool) → cond b true false ≡ b
-or_false true = refl
-or_false false = refl
-
-pub all_marked : (words : List ℕ) (marks : List Bool) (at : ℕ) → IsOk (walk_words words) → length words ≤ at → MarksTo words marks at → MarksStarts words marks
-all_marked words marks at ok past m = record {
-  len = m.len;
-  walked = ok;
-  starts = λ place. sym (or_false (get_or marks place false)) ∙ sym (ap (λ r. cond (get_or marks place false) true (is_some (block_in (ok_or_nil r) place))) (at_end words at past)) ∙ m.starts place;
-}
 
 -- ---- what a mark says
 

@@ -56,12 +56,6 @@ all_recorded history earlier low [] all k d lt = absurd (omega arith)
 all_recorded history earlier low (q ∷ rs) all zero d lt = all.0.recorded
 all_recorded history earlier low (q ∷ rs) all (suc k) d lt = all_recorded history earlier (q.place + 1) rs all.1 k d (omega arith)
 
-pub no_marks : (n : ℕ) → IsMarked (replicate n false) []
-no_marks n = record {
-  once = λ p lt. let e = get_or-replicate n p false false (omega (arith, lt, length-replicate n false)) in rw e refl;
-  all = sum_by-replicate (λ b. cond b 1 0) n false ∙ omega arith;
-}
-
 -- a mark more
 pub marked_more : (marks : List Bool) (rs : List Receipt) (r : Receipt) → r.place < length marks → get_or marks r.place false ≡ false → IsMarked marks rs → IsMarked (set marks r.place true) (rs ++ r ∷ [])
 marked_more marks rs r lt free is = record {
@@ -147,9 +141,6 @@ torn_here history earlier rs marks low n r lt at len is all marked taken = recor
 }
 
 -- one seat more stands
-pub SeatsStand-more : (history : List Entry) (seats : List SeatValue) (s : ℕ) → SeatsStand history seats s → AllStand history (receipts_below seats s) 0 (receipts_of seats s) → SeatsStand history seats (s + 1)
-SeatsStand-more history seats s below here = below_more _ _ below here
-
 -- where all stand and each place is marked, the receipts agree
 pub agrees : (history : List Entry) (seats : List SeatValue) (count : ℕ) (marks : List Bool) → SeatsStand history seats count → IsMarked marks (receipts_below seats count) → length marks ≡ length history → length history ≤ count_by (λ b. b) marks → AgreeByNumber history seats count
 agrees history seats count marks stand marked len full = record {
