@@ -34,6 +34,10 @@ fn empty(alloc: Global, size: u32, mutators: u8) -> Result<Heap, NoMemory>
     Heap::new(alloc, size, mutators)
 }
 
+fn new(d: Slot, kind: u8, len: u16) -> Op {
+    Op::New { d, kind, len }
+}
+
 /// Makes mutator m's command while the collection is open.
 fn mutate(collection: &mut Collection, heap: &mut Heap, m: u8, op: &Op) -> Result<Reply, NoMemory>
     requires belongs { BelongsTo heap.old collection.old }
@@ -71,17 +75,7 @@ fn write_while_scanning(rt: HostRuntime) -> Result<(), Fail> {
     let r2 = Slot::own(2).ok_or("slot")?;
     let nine = Number::new(9).ok_or("number")?;
     let mut heap = empty(rt.alloc(), 32, 1)?;
-    assert_eq!(rt;
-        heap.apply(
-            0,
-            &Op::New {
-                d: r0,
-                kind: 1,
-                len: 1
-            }
-        ),
-        Reply::Made
-    );
+    assert_eq!(rt; heap.apply(0, &new(r0, 1, 1)), Reply::Made);
     assert_eq!(rt;
         command(&mut heap, 0, &Op::Num { d: r1, n: nine }),
         Reply::Done
@@ -118,18 +112,7 @@ fn log_across_two_mutators(rt: HostRuntime) -> Result<(), Fail> {
     let seven = Number::new(7).ok_or("number")?;
     let eight = Number::new(8).ok_or("number")?;
     let mut heap = empty(rt.alloc(), 32, 2)?;
-    assert_eq!(rt;
-        command(
-            &mut heap,
-            0,
-            &Op::New {
-                d: g0,
-                kind: 1,
-                len: 1
-            }
-        ),
-        Reply::Made
-    );
+    assert_eq!(rt; command(&mut heap, 0, &new(g0, 1, 1)), Reply::Made);
     let mut collection = Collection::begin(rt.alloc(), &heap)?;
     assert_eq!(rt; collection.roots(&mut heap), StepReply::Copied);
     assert_eq!(rt; collection.scan(&mut heap), StepReply::Scanned);
@@ -165,18 +148,7 @@ fn link_left_over(rt: HostRuntime) -> Result<(), Fail> {
     let _named = View::Nil;
     let r0 = Slot::own(0).ok_or("slot")?;
     let mut heap = empty(rt.alloc(), 16, 1)?;
-    assert_eq!(rt;
-        command(
-            &mut heap,
-            0,
-            &Op::New {
-                d: r0,
-                kind: 2,
-                len: 1
-            }
-        ),
-        Reply::Made
-    );
+    assert_eq!(rt; command(&mut heap, 0, &new(r0, 2, 1)), Reply::Made);
     let mut given_up = Collection::begin(rt.alloc(), &heap)?;
     assert_eq!(rt; given_up.roots(&mut heap), StepReply::Copied);
     let put = Op::Put { s: r0, i: 0, t: r0 };
@@ -203,29 +175,16 @@ fn entry_stays_without_room(rt: HostRuntime) -> Result<(), Fail> {
     let r0 = Slot::own(0).ok_or("slot")?;
     let r1 = Slot::own(1).ok_or("slot")?;
     let mut heap = empty(rt.alloc(), 16, 1)?;
-    assert_eq!(rt;
-        command(
-            &mut heap,
-            0,
-            &Op::New {
-                d: r0,
-                kind: 1,
-                len: 1
-            }
-        ),
-        Reply::Made
-    );
+    assert_eq!(rt; command(&mut heap, 0, &new(r0, 1, 1)), Reply::Made);
     let mut collection = Collection::begin_sized(rt.alloc(), &heap, 5)?;
     assert_eq!(rt; collection.roots(&mut heap), StepReply::Copied);
     assert_eq!(rt; collection.scan(&mut heap), StepReply::Scanned);
     assert_eq!(rt; collection.scan(&mut heap), StepReply::Passed);
-    let new = Op::New {
-        d: r1,
-        kind: 2,
-        len: 0,
-    };
     let put = Op::Put { s: r0, i: 0, t: r1 };
-    assert_eq!(rt; mutate(&mut collection, &mut heap, 0, &new)?, Reply::Made);
+    assert_eq!(rt;
+        mutate(&mut collection, &mut heap, 0, &new(r1, 2, 0))?,
+        Reply::Made
+    );
     assert_eq!(rt; mutate(&mut collection, &mut heap, 0, &put)?, Reply::Done);
     assert_eq!(rt; collection.apply_log(0, &mut heap), StepReply::NoRoom);
     assert_eq!(rt; collection.apply_log(0, &mut heap), StepReply::NoRoom);
@@ -246,18 +205,7 @@ fn entry_stays_without_room(rt: HostRuntime) -> Result<(), Fail> {
 fn too_small_for_a_replica(rt: HostRuntime) -> Result<(), Fail> {
     let r0 = Slot::own(0).ok_or("slot")?;
     let mut heap = empty(rt.alloc(), 7, 1)?;
-    assert_eq!(rt;
-        command(
-            &mut heap,
-            0,
-            &Op::New {
-                d: r0,
-                kind: 3,
-                len: 4
-            }
-        ),
-        Reply::Made
-    );
+    assert_eq!(rt; command(&mut heap, 0, &new(r0, 3, 4)), Reply::Made);
     let mut small = Collection::begin_sized(rt.alloc(), &heap, 6)?;
     assert_eq!(rt; small.roots(&mut heap), StepReply::NoRoom);
     assert!(rt; !small.ready(&heap));

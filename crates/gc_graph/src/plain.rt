@@ -11,7 +11,8 @@ use std::alloc::Global;
 use std::collections::BTreeMap;
 use std::marker::Model;
 
-/// The machine without a collector: an object graph, and a count of free words.
+/// The machine without a collector: an object graph, and a count of free words. No other crate runs it but in tests;
+/// it is public so that clients can compare the replies of a heap with it.
 #[derive(Drop)]
 pub struct Plain {
     objects: Objects,

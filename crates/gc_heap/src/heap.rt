@@ -108,7 +108,7 @@ impl Heap {
         Some(OldAddr(at.0))
     }
 
-    /// MakesAtEnd mutator m's command.
+    /// Makes mutator m's command.
     pub fn apply(&mut self, m: u8, op: &Op) -> Reply
         requires { m < self.old.mutators }
         // The name of a new object is the end of the space.
@@ -148,7 +148,7 @@ impl Heap {
         self.space.set_link(Addr(old.0), u64::from(new.0));
     }
 
-    /// MakesAtEnd all link words 0.
+    /// Makes all link words 0.
     pub fn clear_links(&mut self)
         ensures words { self.new ≡ record self.old { space = without_links self.old.space } }
         ensures graph { graph_in self.new ≡ graph_in self.old }

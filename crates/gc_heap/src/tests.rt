@@ -8,7 +8,7 @@ use gc_words::{NewAddr, OldAddr, Space};
 use std::alloc::Global;
 use std::test::Fail;
 
-/// MakesAtEnd a command of the first mutator and keeps its reply.
+/// Makes a command of the first mutator and keeps its reply.
 fn keep_reply(heap: &mut Heap, op: &Op, replies: &mut Vec<Reply>) -> Result<(), NoMemory>
     requires { 0 < heap.old.mutators }
     ensures { heap.new.mutators ≡ heap.old.mutators }

@@ -82,7 +82,8 @@ impl Space {
         self.words.as_slice()
     }
 
-    /// Whether an object starts here. It walks over the objects before; no other call does.
+    /// Returns whether an object starts here. It walks over the objects before; no other call does. No event needs it:
+    /// it is for clients that hold an address of unknown origin, and for tests.
     pub fn is_start(&self, at: Addr) -> bool
         ensures { result ≡ is_start self.now.words at.0 }
     {
