@@ -59,32 +59,19 @@ fn turns<'a>(alloc: Global) -> Arg<'a>
         .help("How many steps the collector makes, 1000000 at most")
 }
 
-/// The subcommand `pair FILE N`.
-fn pair<'a>(alloc: Global) -> Result<Command<'a>, Error>
-    ensures shape { IfOk result (λ c. app_of c ≡ number_command (codes "pair") flip_rule) }
+/// A subcommand that reads a file and takes a number.
+fn on_file_with<'a>(
+    alloc: Global,
+    name: &'a str,
+    about: &'a str,
+    number: Arg<'a>,
+) -> Result<Command<'a>, Error>
+    requires { number.global ≡ false }
+    ensures shape { IfOk result (λ c. app_of c ≡ number_command name.entry.now (rule_of number.entry)) }
     ensures local { IfOk result (λ c. (out-Command c).has_globals ≡ false) }
     ensures memory { IfErr result (λ e. kind_of e ≡ ErrorKind.OutOfMemory) }
 {
-    let pair = on_file(
-        alloc,
-        "pair",
-        "Plays a trace: writes the pair of its N-th flip",
-    )?;
-    Ok(pair.arg(flip_number(alloc))?)
-}
-
-/// The subcommand `threads FILE TURNS`.
-fn threads<'a>(alloc: Global) -> Result<Command<'a>, Error>
-    ensures shape { IfOk result (λ c. app_of c ≡ number_command (codes "threads") turns_rule) }
-    ensures local { IfOk result (λ c. (out-Command c).has_globals ≡ false) }
-    ensures memory { IfErr result (λ e. kind_of e ≡ ErrorKind.OutOfMemory) }
-{
-    let threads = on_file(
-        alloc,
-        "threads",
-        "Runs a trace's mutators in threads, beside a collector: writes the trace of what happened",
-    )?;
-    Ok(threads.arg(turns(alloc))?)
+    Ok(on_file(alloc, name, about)?.arg(number)?)
 }
 
 /// The command line that the program takes.
@@ -99,14 +86,26 @@ fn command<'a>(alloc: Global) -> Result<Command<'a>, Error>
         "Checks a pair of heaps: writes the line of the verdict",
     )?;
     let report = on_file(alloc, "report", "Plays a trace: writes a report of its run")?;
+    let pair = on_file_with(
+        alloc,
+        "pair",
+        "Plays a trace: writes the pair of its N-th flip",
+        flip_number(alloc),
+    )?;
+    let threads = on_file_with(
+        alloc,
+        "threads",
+        "Runs a trace's mutators in threads, beside a collector: writes the trace of what happened",
+        turns(alloc),
+    )?;
     Ok(
         Command::new(alloc, "gcflip")
             .about("Plays the trace on standard input, or does what a subcommand says")
             .subcommand(play)?
             .subcommand(check)?
             .subcommand(report)?
-            .subcommand(pair(alloc)?)?
-            .subcommand(threads(alloc)?)?,
+            .subcommand(pair)?
+            .subcommand(threads)?,
     )
 }
 
