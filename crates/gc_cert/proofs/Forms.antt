@@ -3,7 +3,8 @@ use Rattle.std.proofs.Common.{◌≡◌, ◌≢◌, ℕ, suc, zero, ◌-◌, ◌
 use Rattle.std.specs.List.{AllByRecursion}
 use Rattle.std.proofs.lemmas.List.{append-nil}
 use Rattle.gc_graph.specs.Lines.{newline, HasNo, ended}
-use Rattle.gc_cert.specs.Sections.{alone, AreAll, Place, IsNext, HasTaken, Spelled, Begins, IsWrongAt, IsCutIn}
+use Rattle.gc_cert.specs.Sections.{Place, IsNext, HasTaken}
+use Rattle.gc_cert.specs.Internal.Sections.{alone, AreAll, Spelled, Begins, IsWrongAt, IsCutIn}
 use Rattle.gc_cert.proofs.Stops.{Delimits, BeginsWith}
 
 abbrev Lines : Type 0

@@ -6,8 +6,10 @@ use Rattle.std.specs.List.{AllByRecursion}
 use Rattle.std.proofs.lemmas.List.{append-nil, append_cancel_left}
 use Rattle.gc_graph.specs.Lines.{space}
 use Rattle.gc_words.specs.Image.{Image}
-use Rattle.gc_cert.specs.Grammar.{CertifiedPair, pair_line, count_line, size_line, image_lines, image_alone, certificate_lines, lines_of, IsWord, AreAddresses, AreSizes, IsCertificate, HasImageText, HasText}
-use Rattle.gc_cert.specs.Sections.{Nothing, alone, AreAll, Place, HasTaken, Section, Spelled}
+use Rattle.gc_cert.specs.Grammar.{CertifiedPair, pair_line, count_line, size_line, image_lines, certificate_lines, lines_of, IsWord, AreAddresses, AreSizes, IsCertificate, HasImageText, HasText}
+use Rattle.gc_cert.specs.Internal.Grammar.{image_alone}
+use Rattle.gc_cert.specs.Sections.{Place, HasTaken}
+use Rattle.gc_cert.specs.Internal.Sections.{Nothing, alone, AreAll, Section, Spelled}
 use Rattle.gc_cert.proofs.Stops.{Delimits, BeginsWith}
 use Rattle.gc_cert.proofs.Forms.{All-replicate, length-replicated, one_form}
 use Rattle.gc_cert.proofs.LineForms.{pair_form}

@@ -5,7 +5,8 @@ use Rattle.std.proofs.lemmas.List.Concat.{flat_map-append}
 use Rattle.gc_graph.specs.Lines.{newline, ended, text_of}
 use Rattle.gc_cert.specs.declared.fault.PairFault.{PairFault}
 use Rattle.gc_cert.specs.declared.fault.PairFault.TheVariants.{Read, TooLarge, BadLine, EndsEarly, NoMemory}
-use Rattle.gc_cert.specs.Sections.{Place, HasTaken, Section, Spelled, Begins, IsWrongAt, IsCutIn, MayStop}
+use Rattle.gc_cert.specs.Sections.{Place, HasTaken}
+use Rattle.gc_cert.specs.Internal.Sections.{Section, Spelled, Begins, IsWrongAt, IsCutIn, MayStop}
 
 -- the lines of one value begin those of no other
 abbrev pub Delimits : {V : Type 0} → (V → Type 0) → (V → List (List ℕ)) → Type 0

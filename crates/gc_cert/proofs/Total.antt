@@ -7,10 +7,13 @@ use Rattle.std.proofs.lemmas.Bool.{leb-true}
 use Rattle.std.proofs.lemmas.List.{append-nil}
 use Rattle.gc_graph.specs.Lines.{text_of, tokens_of}
 use Rattle.gc_graph.proofs.LineLemmas.{Cut, cut}
-use Rattle.gc_cert.specs.Grammar.{image_alone, CertifiedPair, pair_line, count_line, size_line, certificate_lines, lines_of, spelling, IsWord, AreAddresses, AreSizes, IsCertificate, HasImageText, HasText, IsTextOf}
+use Rattle.gc_cert.specs.Grammar.{CertifiedPair, pair_line, count_line, size_line, certificate_lines, lines_of, spelling, IsWord, AreAddresses, AreSizes, IsCertificate, HasImageText, HasText, IsTextOf}
+use Rattle.gc_cert.specs.Internal.Grammar.{image_alone}
 use Rattle.gc_cert.specs.Faults.{limit, AreFirst, AreWhole, HasWrongLine, HasByteBehind, IsCutOff, IsPairFaultOf, IsReadAs, MayFail}
-use Rattle.gc_cert.specs.Sections.{Nothing, alone, AreAll, Place, start, IsNext, HasTaken, Section, Spelled, Begins, IsWrongAt, IsCutIn, MayStop}
-use Rattle.gc_cert.specs.Parsers.{is_name, is_line, word_in, count_of, sizes_of, pair_of}
+use Rattle.gc_cert.specs.Sections.{Place, start, IsNext, HasTaken}
+use Rattle.gc_cert.specs.Internal.Sections.{Nothing, alone, AreAll, Section, Spelled, Begins, IsWrongAt, IsCutIn, MayStop}
+use Rattle.gc_cert.specs.Parsers.{count_of, sizes_of, pair_of}
+use Rattle.gc_cert.specs.Internal.Parsers.{is_name, is_line, word_in}
 use Rattle.gc_cert.specs.declared.fault.PairFault.{PairFault}
 use Rattle.gc_cert.specs.declared.fault.PairFault.TheVariants.{Read, TooLarge, BadLine, EndsEarly, NoMemory}
 use Rattle.gc_cert.proofs.Stops.{Delimits, BeginsWith, taken_then, wrong_within, cut_within}

@@ -1,8 +1,6 @@
 -- The first fault of a text that was read to its end.
 use Rattle.std.specs.Prelude.{◌≡◌, ℕ, ◌+◌, ◌<◌, ◌≤◌, ⊤, ◌⊎◌, List, [], ◌∷◌, ◌++◌, length}
 use Rattle.gc_graph.specs.Lines.{newline, HasNo, text_of}
-use Rattle.gc_graph.specs.declared.text.all_bytes.ReadFault.{ReadFault}
-use Rattle.gc_graph.specs.declared.text.all_bytes.ReadFault.TheVariants as reading
 use Rattle.gc_cert.specs.Grammar.{CertifiedPair, HasText, IsTextOf, lines_of}
 use Rattle.gc_cert.specs.declared.fault.PairFault.{PairFault}
 use Rattle.gc_cert.specs.declared.fault.PairFault.TheVariants.{Read, TooLarge, BadLine, EndsEarly, NoMemory}
@@ -64,9 +62,3 @@ abbrev pub MayFail : PairFault → List ℕ → Type 0
 MayFail Read text = ⊤
 MayFail NoMemory text = ⊤
 MayFail fault text = IsPairFaultOf fault text
-
--- what a reader's own fault is called
-abbrev pub fault_of_reading : ReadFault → PairFault
-fault_of_reading reading.Read = Read
-fault_of_reading reading.TooLarge = TooLarge
-fault_of_reading reading.NoMemory = NoMemory

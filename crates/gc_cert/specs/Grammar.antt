@@ -28,10 +28,6 @@ abbrev pub image_lines : List ℕ → Image → List (List ℕ) → List (List �
 image_lines name image more =
     size_line name image.size image.end ∷ (map decimal image.words ++ (count_line (codes "roots") (length image.roots) ∷ (map decimal image.roots ++ more)))
 
--- an image's lines, and none behind
-abbrev pub image_alone : List ℕ → Image → List (List ℕ)
-image_alone name image = image_lines name image []
-
 abbrev pub certificate_lines : List (ℕ × ℕ) → List (List ℕ)
 certificate_lines pairs = count_line (codes "pairs") (length pairs) ∷ (map pair_line pairs ++ codes "end" ∷ [])
 

@@ -1,8 +1,8 @@
-pub mod Grammar
-pub mod Faults
-pub mod Rows
-pub mod Views
-pub mod Sections
-pub mod Parsers
-pub mod PrintedLines
 pub mod FaultTexts
+pub mod Faults
+pub mod Grammar
+pub mod Internal
+pub mod Parsers
+pub mod Rows
+pub mod Sections
+pub mod Views

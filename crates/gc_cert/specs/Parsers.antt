@@ -1,21 +1,7 @@
 -- Reading the tokens of a line from left to right.
-use Rattle.std.specs.Prelude.{ℕ, ◌==◌, ◌&&◌, Bool, true, nat_le, List, [], ◌∷◌, Option, Some, None, if◌then◌else◌}
-use Rattle.std.specs.Str.{bytes_eq}
+use Rattle.std.specs.Prelude.{ℕ, ◌==◌, List, Option, Some, None, if◌then◌else◌}
 use Rattle.gc_graph.specs.Limits.{most_words}
-use Rattle.gc_graph.specs.Tokens.{◌>>=◌, Tokens, number_of, number_at, token_at, end_of}
-
--- each byte is above the digits, and so none is a space or a line feed
-abbrev pub is_name : List ℕ → Bool
-is_name [] = true
-is_name (b ∷ bs) = nat_le 58 b && is_name bs
-
--- this very line
-unfoldable pub is_line : List ℕ → List ℕ → Option (Unit {0})
-is_line wanted line = if bytes_eq line wanted then Some tt else None
-
--- a word of a space or of its roots
-abbrev pub word_in : List ℕ → Option ℕ
-word_in line = number_of 18446744073709551615 line
+use Rattle.gc_graph.specs.Tokens.{Tokens, number_at, token_at, end_of}
 
 -- a name and a number up to this
 unfoldable pub count_of : List ℕ → ℕ → Tokens → Option ℕ

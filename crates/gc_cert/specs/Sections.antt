@@ -1,9 +1,7 @@
 -- Reading a text section by section: what a section took of the text, and where a text is none of its own.
-use Rattle.std.specs.Prelude.{◌≡◌, ℕ, ◌+◌, ◌≤◌, ⊤, List, [], ◌∷◌, ◌++◌, length}
+use Rattle.std.specs.Prelude.{◌≡◌, ℕ, ◌+◌, ◌≤◌, List, ◌∷◌, ◌++◌, length}
 use Rattle.std.specs.List.{AllByRecursion}
 use Rattle.gc_graph.specs.Lines.{newline, HasNo, text_of}
-use Rattle.gc_cert.specs.declared.fault.PairFault.{PairFault}
-use Rattle.gc_cert.specs.declared.fault.PairFault.TheVariants.{Read, TooLarge, BadLine, EndsEarly, NoMemory}
 
 -- the text behind the lines that were taken, and how many these were
 pub record Place : Type 0 where
@@ -27,56 +25,3 @@ pub record HasTaken (lines : List (List ℕ)) (old new : Place) : Type 0 where
 -- each line has a byte or more
 abbrev pub NoneEmpty : List (List ℕ) → Type 0
 NoneEmpty lines = AllByRecursion (λ line. 1 ≤ length line) lines
-
--- which lines are a whole section
-abbrev pub Section : Type 1
-Section = List (List ℕ) → Type 0
-
--- the lines of each value in range
-abbrev pub Spelled : {V : Type 0} → (V → Type 0) → (V → List (List ℕ)) → Section
-Spelled {V = V} InRange lines_of lines = (v : V) × InRange v × (lines ≡ lines_of v)
-
--- the one line of a value
-abbrev pub alone : {V : Type 0} → (V → List ℕ) → V → List (List ℕ)
-alone line_of v = line_of v ∷ []
-
--- so many values in range
-abbrev pub AreAll : {V : Type 0} → (V → Type 0) → ℕ → List V → Type 0
-AreAll InRange n vs = (length vs ≡ n) × AllByRecursion InRange vs
-
--- the value of a line that says nothing but that it stands there
-abbrev pub Nothing : Unit {0} → Type 0
-Nothing u = Unit {0}
-
--- the first lines of a section
-abbrev pub Begins : Section → List (List ℕ) → Type 0
-Begins S lines = (more : List (List ℕ)) × S (lines ++ more)
-
--- the lines up to line n begin a section and are none, and line n, with its line feed, cannot follow them
-pub record IsWrongAt (S : Section) (p : Place) (n : ℕ) : Type 0 where
-  pub before : List (List ℕ)
-  pub line : List ℕ
-  pub after : List ℕ
-  pub parts : p.rest ≡ text_of before ++ (line ++ newline ∷ after)
-  pub whole_line : HasNo newline line
-  pub number : n ≡ p.taken + 1 + length before
-  pub good : Begins S before
-  pub not_all : ¬ S before
-  pub wrong : ¬ Begins S (before ++ line ∷ [])
-
--- the lines that have their line feed begin a section and are none
-pub record IsCutIn (S : Section) (p : Place) : Type 0 where
-  pub before : List (List ℕ)
-  pub unfinished : List ℕ
-  pub parts : p.rest ≡ text_of before ++ unfinished
-  pub no_line : HasNo newline unfinished
-  pub good : Begins S before
-  pub not_all : ¬ S before
-
--- what may be answered in the place of a section
-abbrev pub MayStop : Section → PairFault → Place → Type 0
-MayStop S Read p = ⊥
-MayStop S TooLarge p = ⊥
-MayStop S (BadLine n) p = IsWrongAt S p n
-MayStop S EndsEarly p = IsCutIn S p
-MayStop S NoMemory p = ⊤

@@ -37,7 +37,7 @@ impl PairFault {
 
 impl From<ReadFault> for PairFault {
     ghost use Rattle.std.specs.Prelude.{◌≡◌};
-    ghost use Rattle.gc_cert.specs.Faults.{fault_of_reading};
+    ghost use Rattle.gc_cert.specs.Internal.Faults.{fault_of_reading};
 
     ghost from_gives = { λ fault made. made ≡ fault_of_reading fault };
 

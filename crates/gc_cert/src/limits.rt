@@ -3,7 +3,7 @@ ghost use Rattle.std.specs.List.{AllByRecursion};
 ghost use Rattle.gc_graph.specs.Limits.{most_words, most_roots};
 ghost use Rattle.gc_words.specs.Views.{image_of, addresses};
 ghost use Rattle.gc_cert.specs.Grammar.{IsWord, IsCertificate, HasText, HasImageText};
-ghost use Rattle.gc_cert.specs.Sections.{AreAll};
+ghost use Rattle.gc_cert.specs.Internal.Sections.{AreAll};
 ghost use Rattle.gc_cert.specs.Views.{pair_of};
 
 use gc_words::{ImageRef, MOST_PAIRS, MOST_ROOTS, MOST_WORDS, Pair};

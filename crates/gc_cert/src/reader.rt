@@ -2,10 +2,12 @@ ghost use Rattle.std.specs.Prelude.{◌≡◌, ◌≢◌, ◌+◌, ◌≤◌, �
 ghost use Rattle.gc_graph.specs.Streams.{bytes_left, source_failed};
 ghost use Rattle.gc_graph.specs.Lines.{tokens_of};
 ghost use Rattle.gc_words.specs.Views.{addresses};
-ghost use Rattle.gc_cert.specs.Grammar.{pair_line, count_line, size_line, image_alone, certificate_lines, IsWord, AreAddresses, AreSizes, IsCertificate, HasImageText, HasText, IsTextOf};
+ghost use Rattle.gc_cert.specs.Grammar.{pair_line, count_line, size_line, certificate_lines, IsWord, AreAddresses, AreSizes, IsCertificate, HasImageText, HasText, IsTextOf};
+ghost use Rattle.gc_cert.specs.Internal.Grammar.{image_alone};
 ghost use Rattle.gc_cert.specs.Faults.{limit, IsReadAs, MayFail};
-ghost use Rattle.gc_cert.specs.Parsers.{is_name};
-ghost use Rattle.gc_cert.specs.Sections.{alone, AreAll, HasTaken, Spelled, Nothing, MayStop};
+ghost use Rattle.gc_cert.specs.Internal.Parsers.{is_name};
+ghost use Rattle.gc_cert.specs.Sections.{HasTaken};
+ghost use Rattle.gc_cert.specs.Internal.Sections.{alone, AreAll, Spelled, Nothing, MayStop};
 ghost use Rattle.gc_cert.specs.Views.{image_in, pair_in};
 
 use crate::fault::PairFault;

@@ -2,8 +2,9 @@ ghost use Rattle.std.specs.Prelude.{◌≡◌, ◌∷◌, ◌≤◌, [], true, l
 ghost use Rattle.std.specs.Io.KnownBytes.{Appends};
 ghost use Rattle.gc_graph.specs.Streams.{bytes_written, sink_failed, SendsFront};
 ghost use Rattle.gc_words.specs.Views.{image_of, addresses};
-ghost use Rattle.gc_cert.specs.Grammar.{pair_line, count_line, size_line, image_alone, certificate_lines, lines_of, spelling, HasText};
-ghost use Rattle.gc_cert.specs.PrintedLines.{Prints, PrintsFront};
+ghost use Rattle.gc_cert.specs.Grammar.{pair_line, count_line, size_line, certificate_lines, lines_of, spelling, HasText};
+ghost use Rattle.gc_cert.specs.Internal.Grammar.{image_alone};
+ghost use Rattle.gc_cert.specs.Internal.PrintedLines.{Prints, PrintsFront};
 ghost use Rattle.gc_cert.specs.Views.{pair_of};
 
 use crate::fault::WriteFault;

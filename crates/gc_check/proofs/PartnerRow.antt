@@ -12,7 +12,7 @@ use Rattle.gc_words.specs.Fault.{◌or_else◌, when, not_above_last, place_faul
 use Rattle.gc_words.specs.declared.image.Pair.{Pair}
 use Rattle.gc_words.specs.declared.refusal.Refusal.{Refusal}
 use Rattle.gc_words.specs.declared.refusal.Refusal.TheVariants.{OldNotStart, NewNotStart, NotRising, Twice}
-use Rattle.gc_check.specs.Tables.{HoldsPartners, entry_fault}
+use Rattle.gc_check.specs.Internal.Tables.{HoldsPartners, entry_fault}
 use Rattle.gc_check.specs.Verdict.{pairs_of}
 use Rattle.gc_check.proofs.StartMarks.{start_within}
 

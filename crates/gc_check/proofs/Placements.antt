@@ -12,7 +12,7 @@ use Rattle.gc_words.specs.declared.refusal.Refusal.{Refusal}
 use Rattle.gc_words.specs.declared.refusal.Refusal.TheVariants.{OldShape, NewShape, RootCount, OldNotStart, NewNotStart, NotRising, Twice}
 use Rattle.gc_words.proofs.Faults.{shaped}
 use Rattle.gc_words.proofs.Starts.{stands_in}
-use Rattle.gc_check.specs.Tables.{image_fault}
+use Rattle.gc_check.specs.Internal.Tables.{image_fault}
 use Rattle.gc_check.specs.Verdict.{pairs_of}
 use Rattle.gc_check.proofs.PartnerRow.{or_none, when_none}
 

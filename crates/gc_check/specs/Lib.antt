@@ -1,6 +1,7 @@
+pub mod FaultTexts
 pub mod Headline
-pub mod Verdict
+pub mod Internal
+pub mod Rows
 pub mod Tables
 pub mod Texts
-pub mod Rows
-pub mod FaultTexts
+pub mod Verdict

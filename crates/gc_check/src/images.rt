@@ -1,7 +1,7 @@
 ghost use Rattle.std.specs.Prelude.{◌≡◌};
 ghost use Rattle.gc_words.specs.Fault.{shape_fault};
 ghost use Rattle.gc_words.specs.Views.{image_of};
-ghost use Rattle.gc_check.specs.Tables.{image_fault};
+ghost use Rattle.gc_check.specs.Internal.Tables.{image_fault};
 
 use gc_words::{ImageRef, MOST_WORDS, Refusal, walk};
 

@@ -4,7 +4,7 @@ ghost use Rattle.std.specs.Prelude.{◌≡◌, None, Some, [], length, replicate
 ghost use Rattle.gc_words.specs.Image.{IsShaped, walk_words};
 ghost use Rattle.gc_words.specs.Fault.{place_faults};
 ghost use Rattle.gc_words.specs.Views.{addresses, image_of};
-ghost use Rattle.gc_check.specs.Tables.{HoldsPartners, entry_fault};
+ghost use Rattle.gc_check.specs.Internal.Tables.{HoldsPartners, entry_fault};
 ghost use Rattle.gc_check.specs.Verdict.{pairs_of, IsRefusalOf};
 
 use crate::starts::Starts;

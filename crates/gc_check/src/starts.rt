@@ -13,7 +13,7 @@ pub(crate) struct Starts<'a> {
 impl<'a> Model for Starts<'a> {
     ghost use Rattle.gc_words.specs.Image.{Image};
     ghost use Rattle.gc_words.specs.Views.{image_of};
-    ghost use Rattle.gc_check.specs.Tables.{MarksStarts};
+    ghost use Rattle.gc_check.specs.Internal.Tables.{MarksStarts};
 
     ghost Value = { Image };
 
@@ -51,7 +51,7 @@ impl<'a> Starts<'a> {
 
 ghost use Rattle.std.specs.Prelude.{◌≡◌, length, replicate, false, IsOk};
 ghost use Rattle.gc_words.specs.Image.{walk_words};
-ghost use Rattle.gc_check.specs.Tables.{MarksStarts};
+ghost use Rattle.gc_check.specs.Internal.Tables.{MarksStarts};
 
 // Sets the marks at which objects start.
 fn mark_starts(words: &[u64], marks: &mut [bool])

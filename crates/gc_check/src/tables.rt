@@ -19,7 +19,8 @@ pub struct Tables<'a> {
 
 impl<'a> Model for Tables<'a> {
     ghost use Rattle.gc_words.specs.Views.{image_of};
-    ghost use Rattle.gc_check.specs.Tables.{Checked, HasTables};
+    ghost use Rattle.gc_check.specs.Tables.{Checked};
+    ghost use Rattle.gc_check.specs.Internal.Tables.{HasTables};
     ghost use Rattle.gc_check.specs.Verdict.{pairs_of};
 
     ghost Value = { Checked };

@@ -8,8 +8,9 @@ use Rattle.gc_words.specs.Image.{field_at}
 use Rattle.gc_heap.specs.Heap.{HeapWords, graph_in}
 use Rattle.gc_copy.specs.State.{Collection, new_end, new_free, replica_of, moved}
 use Rattle.gc_copy.specs.Steps.{log_at, with_log, is_empty, first_log, fresh_replica, place_replica, with_replica, write_replica, copy_value, bring_value, bring_up_to_date, apply_entry, apply_log, if_room, scan_done, roots_done, is_ready}
-use Rattle.gc_copy.specs.Entries.{oldest}
-use Rattle.gc_copy.specs.Words.{Log, CollectionWords, IsCollection, entries_of, collection_in, open_state, BelongsTo, KeepsGraph, KeepsRest}
+use Rattle.gc_copy.specs.Internal.Entries.{oldest}
+use Rattle.gc_copy.specs.Words.{Log, CollectionWords, IsCollection, entries_of, collection_in, open_state, BelongsTo}
+use Rattle.gc_copy.specs.Internal.Words.{KeepsGraph, KeepsRest}
 use Rattle.gc_copy.specs.declared.step.Step.TheVariants as steps
 use Rattle.gc_copy.specs.declared.step.StepReply.TheVariants.{Clean, Applied, NoRoom}
 use Rattle.gc_copy.proofs.Logs.{entries_at, entry_dropped}

@@ -13,7 +13,7 @@ use Rattle.gc_heap.specs.Heap.{HeapWords, IsHeap, KeepsLinks, graph_in, roomy_in
 use Rattle.gc_copy.specs.State.{Collection, State}
 use Rattle.gc_copy.specs.Steps.{log_or_nil, log_at, with_log, written, mutate}
 use Rattle.gc_graph.specs.Slots.{SlotName}
-use Rattle.gc_copy.specs.Entries.{if_done}
+use Rattle.gc_copy.specs.Internal.Entries.{if_done}
 use Rattle.gc_copy.specs.Members.{In}
 use Rattle.gc_copy.specs.Belonging.{HasField}
 use Rattle.gc_copy.specs.Words.{CollectionWords, collection_in, open_state, BelongsTo, BelongsToBut}

@@ -33,7 +33,8 @@ use Rattle.gc_copy.proofs.Lists.{in_push, in_right, in_map, in_map_from, find_ex
 use Rattle.gc_copy.proofs.Heap.{laid_range, lookup_laid}
 use Rattle.gc_copy.specs.Belonging.{IsDue, Belongs, IsOpen, IsOpened}
 use Rattle.gc_copy.proofs.Replicas.{placed, with_written_pair, replica_in}
-use Rattle.gc_copy.specs.Words.{CollectionWords, IsCollection, entries_of, replicas_in, collection_in, state_of, open_state, LinksReplicas, BelongsTo, HasReplicaOf, KeepsGraph, KeepsRest}
+use Rattle.gc_copy.specs.Words.{CollectionWords, IsCollection, entries_of, replicas_in, collection_in, state_of, open_state, LinksReplicas, BelongsTo}
+use Rattle.gc_copy.specs.Internal.Words.{HasReplicaOf, KeepsGraph, KeepsRest}
 use Rattle.gc_copy.specs.declared.step.Step.{Step}
 use Rattle.gc_copy.specs.declared.step.Step.TheVariants as steps
 use Rattle.gc_copy.specs.declared.step.StepReply.{StepReply}

@@ -8,7 +8,8 @@ use Rattle.gc_copy.specs.State.{Collection, replica_of, moved}
 use Rattle.gc_copy.specs.Steps.{first_unreplicated, roots_done}
 use Rattle.gc_copy.specs.Members.{In}
 use Rattle.gc_copy.proofs.Replicas.{HasReplica}
-use Rattle.gc_copy.specs.Words.{new_root_words, HasReplicaOf}
+use Rattle.gc_copy.specs.Words.{new_root_words}
+use Rattle.gc_copy.specs.Internal.Words.{HasReplicaOf}
 use Rattle.gc_copy.proofs.Lists.{in_map}
 use Rattle.gc_copy.proofs.Steps.{roots_replicated}
 

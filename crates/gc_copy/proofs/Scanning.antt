@@ -15,7 +15,8 @@ use Rattle.gc_copy.specs.State.{Replica, new_end, replica_of, replica_at}
 use Rattle.gc_copy.specs.Steps.{scan_done, scan, scan_replica, next_object, next_field, if_room, bring_up_to_date, with_collection}
 use Rattle.gc_copy.specs.Members.{In}
 use Rattle.gc_copy.specs.Belonging.{IsDue}
-use Rattle.gc_copy.specs.Words.{CollectionWords, IsCollection, replicas_in, collection_in, open_state, BelongsTo, KeepsGraph, KeepsRest}
+use Rattle.gc_copy.specs.Words.{CollectionWords, IsCollection, replicas_in, collection_in, open_state, BelongsTo}
+use Rattle.gc_copy.specs.Internal.Words.{KeepsGraph, KeepsRest}
 use Rattle.gc_copy.specs.declared.step.Step.TheVariants as steps
 use Rattle.gc_copy.specs.declared.step.StepReply.TheVariants.{Clean, Passed, Scanned, NoRoom}
 use Rattle.gc_copy.proofs.Links.{found_by_name, found_by_place}

@@ -1,12 +1,11 @@
 -- A collection as contracts see it: a new space whose links are originals, logs with their room, and the scan pointer.
-use Rattle.std.specs.Prelude.{◌≡◌, ℕ, ◌<◌, ◌^◌, List, length, map, slice_get, IsTrue, IsSome, Option, Some, None, ⊤}
-use Rattle.gc_graph.specs.Graph.{Value, Nil, Num, Ref}
-use Rattle.gc_words.specs.Word.{word_of, value_of}
+use Rattle.std.specs.Prelude.{◌≡◌, ℕ, ◌<◌, ◌^◌, List, length, map, slice_get, IsTrue, Option, Some, None}
+use Rattle.gc_words.specs.Word.{word_of}
 use Rattle.gc_words.specs.Image.{Block, blocks, is_start, object_of_block}
 use Rattle.gc_words.specs.Spelling.{link_at}
 use Rattle.gc_words.specs.Space.{SpaceWords, IsSpace}
 use Rattle.gc_heap.specs.Heap.{HeapWords, graph_in, roomy_in}
-use Rattle.gc_copy.specs.State.{Replica, Collection, State, replica_of, new_graph}
+use Rattle.gc_copy.specs.State.{Replica, Collection, State, new_graph}
 use Rattle.gc_copy.specs.Linked.{old_links}
 use Rattle.gc_copy.specs.Members.{In}
 use Rattle.gc_copy.specs.Belonging.{Belongs, BelongsBut}
@@ -86,27 +85,3 @@ spare_in (Some log) = log.spare
 
 abbrev pub spare_of : CollectionWords → ℕ → ℕ
 spare_of c m = spare_in (slice_get c.logs m)
-
--- what the word refers to has a replica
-abbrev pub HasReplicaOf : Collection → Value → Type 0
-HasReplicaOf c Nil = ⊤
-HasReplicaOf c (Num n) = ⊤
-HasReplicaOf c (Ref name) = IsSome (replica_of c name)
-
-abbrev pub HasReplicaWord : Collection → ℕ → Type 0
-HasReplicaWord c word = HasReplicaOf c (value_of word)
-
--- links apart, the heap stays as it is
-pub record KeepsGraph (old new : HeapWords) : Type 0 where
-  pub mutators : new.mutators ≡ old.mutators
-  pub size : new.space.size ≡ old.space.size
-  pub roots : new.roots ≡ old.roots
-  pub heap : roomy_in new ≡ roomy_in old
-  pub blocks : blocks new.space.words ≡ blocks old.space.words
-
--- the space apart, the collection stays as it is
-pub record KeepsRest (old new : CollectionWords) : Type 0 where
-  pub size : new.space.size ≡ old.space.size
-  pub logs : new.logs ≡ old.logs
-  pub scan_place : new.scan_place ≡ old.scan_place
-  pub scan_field : new.scan_field ≡ old.scan_field

@@ -37,7 +37,8 @@ impl MutationLog {
     ghost use Rattle.std.specs.Prelude.{◌≡◌, ◌≤◌, ◌-◌, ◌++◌, ◌∷◌, [], drop, OnOk, Some, None};
     ghost use Rattle.std.specs.Option.{option_map};
     ghost use Rattle.gc_copy.specs.Steps.{is_empty};
-    ghost use Rattle.gc_copy.specs.Entries.{entry_in, oldest};
+    ghost use Rattle.gc_copy.specs.Entries.{entry_in};
+    ghost use Rattle.gc_copy.specs.Internal.Entries.{oldest};
 
     /// A log without entries and without room.
     pub(crate) fn new(alloc: Global) -> MutationLog

@@ -1,14 +1,7 @@
 -- What ties the heap and the open collection of a collected heap together.
-use Rattle.std.specs.Prelude.{Option, Some, None, ⊤}
-use Rattle.gc_heap.specs.Heap.{HeapWords}
+use Rattle.std.specs.Prelude.{⊤}
 use Rattle.gc_copy.specs.declared.step.Step.{Step}
 use Rattle.gc_copy.specs.declared.step.Step.TheVariants.{Begin, BeginSized, Flip}
-use Rattle.gc_copy.specs.Words.{CollectionWords, HasNoLinks, BelongsTo}
-
--- the collection belongs to the heap, which without one has no links
-abbrev pub Fits : HeapWords → Option CollectionWords → Type 0
-Fits heap None = HasNoLinks heap
-Fits heap (Some c) = BelongsTo heap c
 
 -- the steps that allocate
 abbrev pub Allocates : Step → Type 0

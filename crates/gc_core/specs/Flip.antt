@@ -1,17 +1,12 @@
 -- What a flip shows its checker, and the pair of heaps that the checker accepts.
-use Rattle.std.specs.Prelude.{◌≡◌, ◌≢◌, ◌≤◌, ℕ, List, length, map, Option, Some, None, IfSome, IsTrue}
-use Rattle.gc_words.specs.Views.{addresses}
+use Rattle.std.specs.Prelude.{◌≡◌, ◌≢◌, ◌≤◌, ℕ, length, Option, Some, None, IfSome, IsTrue}
 use Rattle.gc_words.specs.Certificate.{Certified}
-use Rattle.gc_heap.specs.Heap.{HeapWords}
 use Rattle.gc_cert.specs.Grammar.{CertifiedPair}
 use Rattle.gc_copy.specs.State.{State, Collection, pairs_of}
 use Rattle.gc_copy.specs.Steps.{is_ready}
 use Rattle.gc_copy.specs.Linked.{old_image, new_image}
-use Rattle.gc_copy.specs.Words.{CollectionWords, collection_in, new_root_words}
 use Rattle.gc_copy.specs.declared.step.StepReply.{StepReply}
 use Rattle.gc_copy.specs.declared.step.StepReply.TheVariants.{NoRoom, Flipped}
-use Rattle.gc_core.specs.declared.flip.Draft.{Draft}
-use Rattle.gc_core.specs.declared.flip.Copies.{Copies}
 
 -- ---- the pair of a flip
 
@@ -50,13 +45,3 @@ abbrev pub HasRoomIfLarge : State → StepReply → Type 0
 HasRoomIfLarge s reply = IfSome s.collection (λ c. s.size ≤ c.size → reply ≢ NoRoom)
 
 -- ---- what is made ready before anything changes
-
--- the collection's pairs, and the moved roots
-pub record IsDraft (heap : HeapWords) (c : CollectionWords) (draft : Draft) : Type 0 where
-  pub pairs : map addresses draft.pairs.items ≡ pairs_of (collection_in c)
-  pub roots : draft.roots.items ≡ new_root_words heap (collection_in c)
-
--- copies of the new words and of these roots
-pub record AreCopies (c : CollectionWords) (moved : List ℕ) (copies : Copies) : Type 0 where
-  pub words : copies.words.items ≡ c.space.words
-  pub roots : copies.roots.items ≡ moved

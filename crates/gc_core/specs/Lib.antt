@@ -1,3 +1,4 @@
 pub mod CollectedHeap
 pub mod Flip
+pub mod Internal
 pub mod Replies

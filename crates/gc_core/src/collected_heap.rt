@@ -19,7 +19,7 @@ impl Model for CollectedHeap {
     ghost use Rattle.std.specs.Option.{option_map};
     ghost use Rattle.gc_copy.specs.State.{State};
     ghost use Rattle.gc_copy.specs.Words.{collection_in, state_of};
-    ghost use Rattle.gc_core.specs.CollectedHeap.{Fits};
+    ghost use Rattle.gc_core.specs.Internal.CollectedHeap.{Fits};
 
     ghost Value = { State };
 

@@ -3,7 +3,7 @@ ghost use Rattle.gc_copy.specs.Steps.{is_ready};
 ghost use Rattle.gc_copy.specs.Words.{BelongsTo, collection_in};
 ghost use Rattle.gc_heap.specs.Heap.{graph_in};
 ghost use Rattle.std.specs.Prelude.{IsTrue};
-ghost use Rattle.gc_core.specs.Flip.{IsDraft, AreCopies};
+ghost use Rattle.gc_core.specs.Internal.Flip.{IsDraft, AreCopies};
 ghost use Rattle.gc_core.specs.declared.flip.Keep.{Keep};
 
 use gc_cert::PairFile;

@@ -6,7 +6,8 @@ ghost use Rattle.gc_copy.specs.Steps.{collect, is_ready};
 ghost use Rattle.gc_copy.specs.Words.{BelongsTo, HasNoLinks, collection_in, idle_state, open_state};
 ghost use Rattle.gc_copy.specs.declared.step.Step.{Step};
 ghost use Rattle.gc_copy.specs.declared.step.StepReply.{StepReply};
-ghost use Rattle.gc_core.specs.Flip.{flip_pair, IsCertified, IsDraft, AreCopies};
+ghost use Rattle.gc_core.specs.Flip.{flip_pair, IsCertified};
+ghost use Rattle.gc_core.specs.Internal.Flip.{IsDraft, AreCopies};
 
 use crate::collected_heap::CollectedHeap;
 use crate::flip::{Copies, Draft, Flip, Keep};

@@ -13,7 +13,8 @@ use Rattle.std.specs.Int.{IsInRange}
 use Rattle.std.specs.Option.{SomeIff, MatchOption}
 use Rattle.std.specs.Str.{bytes_eq}
 use Rattle.std.specs.Str.Parse.{digits_value}
-use Rattle.gc_graph.specs.Tokens.{number_of, AreDigits}
+use Rattle.gc_graph.specs.Tokens.{number_of}
+use Rattle.gc_graph.specs.Internal.Tokens.{AreDigits}
 
 model : IsNumeralModel AreDigits (digits_value 10)
 model = numerals_by_value AreDigits tells_by_index

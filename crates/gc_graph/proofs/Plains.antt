@@ -17,7 +17,8 @@ use Rattle.gc_graph.specs.Machine.{view_of, get_field}
 use Rattle.gc_graph.specs.declared.reply.View.{View}
 use Rattle.gc_graph.specs.declared.reply.Reply.{Reply}
 use Rattle.gc_graph.specs.declared.reply.Reply.TheVariants.{Saw}
-use Rattle.gc_graph.specs.Records.{plain_value, object_of_record, named_object, objects_of, record_option}
+use Rattle.gc_graph.specs.Records.{plain_value, object_of_record, named_object, objects_of}
+use Rattle.gc_graph.specs.Internal.Records.{record_option}
 use Rattle.gc_graph.specs.declared.objects.Record.{Record}
 use Rattle.gc_graph.specs.declared.objects.PlainValue.{PlainValue}
 use Rattle.gc_graph.specs.declared.objects.PlainValue.TheVariants as held

@@ -7,9 +7,11 @@ use Rattle.std.proofs.lemmas.List.{length-set}
 use Rattle.gc_graph.specs.Slots.{SlotName, place}
 use Rattle.gc_graph.specs.Graph.{Value, Nil, Num, Object, Graph, object_of, field_of, root, set_root, add_object, new_object, fresh_name, Ref}
 use Rattle.gc_graph.specs.Limits.{most_words}
-use Rattle.gc_graph.specs.Machine.{Roomy, words_taken, get_field, put_field, step, roomy_step, MakesObject, Answers, Makes}
+use Rattle.gc_graph.specs.Machine.{Roomy, words_taken, get_field, put_field, step, roomy_step, MakesObject, Answers}
+use Rattle.gc_graph.specs.Internal.Machine.{Makes}
 use Rattle.gc_graph.specs.Records.{graph_of}
-use Rattle.gc_graph.specs.PlainMachine.{roomy_of, IsPlain}
+use Rattle.gc_graph.specs.PlainMachine.{roomy_of}
+use Rattle.gc_graph.specs.Internal.PlainMachine.{IsPlain}
 use Rattle.gc_graph.specs.Bounded.{AreBelow, AreShort}
 use Rattle.gc_graph.specs.declared.plain.Plain.TheInside.{Inside}
 use Rattle.gc_graph.specs.declared.command.Op.{Op}

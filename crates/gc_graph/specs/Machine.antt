@@ -107,15 +107,3 @@ pub record Answers (old : Roomy) (m : ℕ) (op : Op) (reply : Reply) (new : Room
   pub name : ℕ
   pub unused : IsUnused old.graph name
   pub step : roomy_step old m op name ≡ (reply, new)
-
--- a new object in a place of the roots, where it has room
-abbrev pub make_object : Roomy → ℕ → ℕ → ℕ → ℕ → Reply × Roomy
-make_object s p kind len name =
-    if nat_lt s.free (object_words len) then (Full, s)
-    else (Made, record { graph = set_root (add_object s.graph name (new_object kind len)) p (Ref name); free = s.free - object_words len })
-
--- The same for a new object that a place of the roots takes.
-pub record Makes (old : Roomy) (p kind len : ℕ) (reply : Reply) (new : Roomy) : Type 0 where
-  pub name : ℕ
-  pub unused : IsUnused old.graph name
-  pub made : (reply, new) ≡ make_object old p kind len name

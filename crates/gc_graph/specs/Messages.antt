@@ -1,5 +1,5 @@
 -- What contracts see of a message: its text.
-use Rattle.std.specs.Prelude.{ℕ, ◌≤◌, List, ◌++◌, length}
+use Rattle.std.specs.Prelude.{ℕ, List, ◌++◌}
 use Rattle.std.specs.Fmt.{decimal}
 use Rattle.gc_graph.specs.declared.text.message.Form.{Form}
 use Rattle.gc_graph.specs.declared.text.message.Form.TheVariants.{Text, Numbered, NumberedTwice}
@@ -8,9 +8,3 @@ abbrev pub text_of_form : Form → List ℕ
 text_of_form (Text text) = text.now
 text_of_form (Numbered text n) = text.now ++ decimal n
 text_of_form (NumberedTwice first m second n) = (first.now ++ decimal m) ++ (second.now ++ decimal n)
-
--- short enough to stand in a printer
-abbrev pub IsShort : Form → Type 0
-IsShort (Text text) = length text.now ≤ 40
-IsShort (Numbered text n) = length text.now ≤ 40
-IsShort (NumberedTwice first m second n) = (length first.now ≤ 40) × (length second.now ≤ 40)

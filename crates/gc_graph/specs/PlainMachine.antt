@@ -1,16 +1,7 @@
 -- What a plain machine stands for, and what its fields satisfy.
-use Rattle.std.specs.Prelude.{◌+◌, ◌≤◌}
-use Rattle.gc_graph.specs.Limits.{most_words}
 use Rattle.gc_graph.specs.Machine.{Roomy}
 use Rattle.gc_graph.specs.Records.{graph_of}
-use Rattle.gc_graph.specs.Bounded.{AreBelow, AreShort}
 use Rattle.gc_graph.specs.declared.plain.Plain.TheInside.{Inside}
 
 abbrev pub roomy_of : Inside → Roomy
 roomy_of a = record { graph = graph_of a.objects; free = a.free }
-
--- every name in use is below the next one
-pub record IsPlain (a : Inside) : Type 0 where
-  pub below : AreBelow a.next_name (graph_of a.objects)
-  pub short : AreShort (graph_of a.objects)
-  pub bound : a.next_name + a.free ≤ most_words

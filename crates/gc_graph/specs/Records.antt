@@ -1,5 +1,5 @@
 -- What the plain machine's records and values mean.
-use Rattle.std.specs.Prelude.{ℕ, List, map, Option, Some, None}
+use Rattle.std.specs.Prelude.{ℕ, List, map}
 use Rattle.gc_graph.specs.Graph.{Value, Nil, Num, Ref, Object, Graph}
 use Rattle.gc_graph.specs.declared.objects.PlainValue.{PlainValue}
 use Rattle.gc_graph.specs.declared.objects.PlainValue.TheVariants as held
@@ -19,10 +19,6 @@ named_object e = (e.0, object_of_record e.1)
 
 abbrev pub objects_of : List (ℕ × Record) → List (ℕ × Object)
 objects_of es = map named_object es
-
-abbrev pub record_option : Option Record → Option Object
-record_option None = None
-record_option (Some r) = Some (object_of_record r)
 
 abbrev pub graph_of : Objects → Graph
 graph_of o = record { objects = objects_of o.records.entries; roots = map plain_value o.roots.items }

@@ -1,15 +1,11 @@
 -- Slots, and their places in the list of roots.
-use Rattle.std.specs.Prelude.{ℕ, ◌+◌, ◌*◌, Bool, true, false, if◌then◌else◌, refl}
+use Rattle.std.specs.Prelude.{ℕ, ◌+◌, ◌*◌, Bool, true, false, if◌then◌else◌}
 use Rattle.gc_graph.specs.Limits.{slots_each}
-use Rattle.std.specs.Coded.{Coded, code_by, coded×, coded_ℕ, coded_bool}
 
 -- one of the sixteen shared slots, or one of a mutator's own sixteen
 pub record SlotName : Type 0 where
   pub shared : Bool
   pub index : ℕ
-
-abbrev pub coded_slot : Coded SlotName
-coded_slot = code_by (Bool × ℕ) (coded× coded_bool coded_ℕ) (λ s. (s.shared, s.index)) (λ p. record { shared = p.0; index = p.1 }) (λ _. refl)
 
 abbrev pub own_slot : ℕ → SlotName
 own_slot i = record { shared = false; index = i }

@@ -1,8 +1,7 @@
 -- Taking tokens from the front of a line, from left to right.
-use Rattle.std.specs.Prelude.{ℕ, ◌<◌, nat_le, ◌&&◌, List, [], ◌∷◌, length, slice_index, Option, Some, None, if◌then◌else◌}
+use Rattle.std.specs.Prelude.{ℕ, nat_le, ◌&&◌, List, [], ◌∷◌, Option, Some, None, if◌then◌else◌}
 use Rattle.std.specs.Borrow.{Bor}
 use Rattle.std.specs.Fmt.{decimal}
-use Rattle.std.specs.Int.{IsInRange}
 use Rattle.std.specs.Str.{bytes_eq}
 use Rattle.std.specs.Str.Parse.{digits_value}
 use Rattle.gc_graph.specs.Lines.{tokens_of}
@@ -12,13 +11,12 @@ abbrev pub tokens_left : Option (Bor (List ℕ)) → List (List ℕ)
 tokens_left None = []
 tokens_left (Some rest) = tokens_of rest.now
 
--- each byte is a digit
-abbrev pub AreDigits : List ℕ → Type 0
-AreDigits token = (i : ℕ) → i < length token → IsInRange 48 57 (slice_index token i)
-
 infixl 10 ◌>>=◌
+
 abbrev pub ◌>>=◌ : {A B : Type 0} → Option A → (A → Option B) → Option B
+
 None >>= f = None
+
 (Some x) >>= f = f x
 
 -- the number whose decimal the token is, if it is at most this

@@ -4,7 +4,8 @@ ghost use Rattle.gc_graph.specs.Limits.{lengths};
 ghost use Rattle.gc_graph.specs.Graph.{object_of, lookup, field_of, root as root_in, set_root, set_field, new_object, add_object};
 ghost use Rattle.gc_graph.specs.Machine.{view_of, view_of_object, same as same_in, get_field, put_field};
 ghost use Rattle.gc_graph.specs.Bounded.{AreBelow, AreShort};
-ghost use Rattle.gc_graph.specs.Records.{plain_value, object_of_record, objects_of, record_option, graph_of};
+ghost use Rattle.gc_graph.specs.Records.{plain_value, object_of_record, objects_of, graph_of};
+ghost use Rattle.gc_graph.specs.Internal.Records.{record_option};
 
 use crate::number::Number;
 use crate::reply::{Reply, View};

@@ -1,6 +1,7 @@
 ghost use Rattle.std.specs.Prelude.{◌≡◌, ◌+◌, ◌<◌, ◌≤◌, IfOk, OnErr, IsErr, length};
 ghost use Rattle.gc_graph.specs.Limits.{most_words, most_mutators};
-ghost use Rattle.gc_graph.specs.Machine.{object_words, opening_roomy, HasMutator, MakesObject, Answers, Makes};
+ghost use Rattle.gc_graph.specs.Machine.{object_words, opening_roomy, HasMutator, MakesObject, Answers};
+ghost use Rattle.gc_graph.specs.Internal.Machine.{Makes};
 
 use crate::command::Op;
 use crate::no_memory::NoMemory;
@@ -23,13 +24,14 @@ pub struct Plain {
 
 impl Model for Plain {
     ghost use Rattle.gc_graph.specs.Machine.{Roomy};
-    ghost use Rattle.gc_graph.specs.Codes.{coded_roomy};
+    ghost use Rattle.gc_graph.specs.Internal.Codes.{coded_roomy};
 
     ghost Value = { Roomy };
 
     ghost coded = { coded_roomy };
 
-    ghost use Rattle.gc_graph.specs.PlainMachine.{roomy_of, IsPlain};
+    ghost use Rattle.gc_graph.specs.PlainMachine.{roomy_of};
+    ghost use Rattle.gc_graph.specs.Internal.PlainMachine.{IsPlain};
 
     ghost view = { roomy_of };
 

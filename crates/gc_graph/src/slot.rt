@@ -14,7 +14,8 @@ pub struct Slot {
 impl Model for Slot {
     ghost use Rattle.std.specs.Prelude.{ℕ, ◌<◌};
     ghost use Rattle.gc_graph.specs.Limits.{slots_each};
-    ghost use Rattle.gc_graph.specs.Slots.{SlotName, coded_slot};
+    ghost use Rattle.gc_graph.specs.Slots.{SlotName};
+    ghost use Rattle.gc_graph.specs.Internal.Slots.{coded_slot};
 
     ghost Value = { SlotName };
 

@@ -4,7 +4,8 @@ use Rattle.std.specs.Prelude.{slice_index, slice_set}
 use Rattle.std.proofs.lemmas.Bool.{lt-ltb, le-ltb}
 use Rattle.gc_graph.specs.Slots.{SlotName, place}
 use Rattle.gc_graph.specs.Graph.{Value, Ref, root, set_root, add_object, new_object}
-use Rattle.gc_graph.specs.Machine.{step, roomy_step, view_of, MakesObject, make_object}
+use Rattle.gc_graph.specs.Machine.{step, roomy_step, view_of, MakesObject}
+use Rattle.gc_graph.specs.Internal.Machine.{make_object}
 use Rattle.gc_graph.specs.declared.command.Op.{Op}
 use Rattle.gc_graph.specs.declared.command.Op.TheVariants as ops
 use Rattle.gc_graph.specs.declared.reply.Reply.{Reply}

@@ -9,7 +9,7 @@ use Rattle.gc_words.specs.Image.{Image}
 use Rattle.gc_words.specs.Fault.{◌or_else◌, pair_fault, object_faults}
 use Rattle.gc_words.specs.declared.refusal.Refusal.{Refusal}
 use Rattle.gc_check.specs.Tables.{Checked}
-use Rattle.gc_par.specs.Least.{fault_at, place_or, IsFirst}
+use Rattle.gc_par.specs.Internal.Least.{fault_at, place_or, IsFirst}
 
 -- ---- the least number
 

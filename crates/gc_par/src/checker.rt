@@ -4,7 +4,7 @@ ghost use Rattle.gc_words.specs.Fault.{first_fault, object_faults};
 ghost use Rattle.gc_words.specs.Views.{image_of};
 ghost use Rattle.gc_check.specs.Headline.{Replicated};
 ghost use Rattle.gc_check.specs.Verdict.{pairs_of, IsRefusalOf};
-ghost use Rattle.gc_par.specs.Least.{fault_at, place_or, IsFirst};
+ghost use Rattle.gc_par.specs.Internal.Least.{fault_at, place_or, IsFirst};
 
 use gc_check::{CheckFault, Refusal, Tables, Yes, certified_is_replicated};
 use gc_words::{ImageRef, Pair, no_fault_where_certified};

@@ -12,8 +12,9 @@ use Rattle.std.specs.declared.result.Result.{Result}
 use Rattle.gc_graph.specs.declared.command.Op.{Op}
 use Rattle.gc_shared.specs.Seats.{SeatValue}
 use Rattle.gc_shared.specs.declared.fault.ThreadsFault.{ThreadsFault}
-use Rattle.gc_shared.specs.Scripts.{script_at, HasPlayed, HasTurned, HavePlayed, HaveEnded}
-use Rattle.gc_shared.specs.Players.{Player, AreToPlay, AreNext, IsToPlay}
+use Rattle.gc_shared.specs.Scripts.{script_at}
+use Rattle.gc_shared.specs.Internal.Scripts.{HasPlayed, HasTurned, HavePlayed, HaveEnded}
+use Rattle.gc_shared.specs.Internal.Players.{Player, AreToPlay, AreNext, IsToPlay}
 
 -- the first of the seats from a on, and the others
 pub next_seat : (f : ℕ → SeatValue) (a k : ℕ) (x : SeatValue) (xs : List SeatValue) → map f (range_with_len a (k + 1)) ≡ x ∷ xs → (x ≡ f a) × (xs ≡ map f (range_with_len (a + 1) k))

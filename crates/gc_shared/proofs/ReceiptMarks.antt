@@ -12,7 +12,7 @@ use Rattle.gc_shared.specs.declared.seat.Receipt.{Receipt}
 use Rattle.gc_shared.specs.Seats.{SeatValue}
 use Rattle.gc_shared.specs.Receipts.{IsRecorded, times_at}
 use Rattle.gc_shared.specs.Closing.{floor_of, Stands, AllStand, IsFirstTorn, SeatsStand, receipts_of, receipts_below}
-use Rattle.gc_shared.specs.Marks.{IsMarked, IsFree, AgreeByNumber}
+use Rattle.gc_shared.specs.Internal.Marks.{IsMarked, IsFree, AgreeByNumber}
 
 pub floor_of-snoc : (low : ℕ) (rs : List Receipt) (r : Receipt) → floor_of low (rs ++ r ∷ []) ≡ r.place + 1
 floor_of-snoc low [] r = refl

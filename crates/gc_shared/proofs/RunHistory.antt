@@ -14,9 +14,10 @@ use Rattle.gc_world.specs.World.{Past}
 use Rattle.gc_shared.specs.declared.seat.Receipt.{Receipt}
 use Rattle.gc_shared.specs.Seats.{SeatValue, Opening, count_of_seats}
 use Rattle.gc_shared.specs.Closing.{receipts_of, IsWhole}
-use Rattle.gc_shared.specs.Marks.{AgreeByNumber}
+use Rattle.gc_shared.specs.Internal.Marks.{AgreeByNumber}
 use Rattle.gc_shared.proofs.SeatNumbers.{agree_by_number}
-use Rattle.gc_shared.specs.Scripts.{HaveEnded, HasRun, IsUsefulStep, script_at, is_step, steps_of, commands_of, command_before}
+use Rattle.gc_shared.specs.Scripts.{HasRun, IsUsefulStep, script_at, is_step, steps_of, commands_of, command_before}
+use Rattle.gc_shared.specs.Internal.Scripts.{HaveEnded}
 use Rattle.gc_shared.proofs.SeatEntries.{entry_on, selected, receipts_at, played_all, useful_all}
 
 abbrev is_by : ℕ → Event → Bool

@@ -6,7 +6,7 @@ use Rattle.gc_copy.specs.declared.event.Event.TheVariants.{Mutate}
 use Rattle.gc_copy.specs.declared.event.Answer.{Answer}
 use Rattle.gc_shared.specs.declared.seat.Receipt.{Receipt}
 use Rattle.gc_shared.specs.Seats.{SeatValue, AddsReceipt, receipt}
-use Rattle.gc_shared.specs.Scripts.{events_of}
+use Rattle.gc_shared.specs.Internal.Scripts.{events_of}
 
 -- one command more of the script was made
 pub played_more : (m : ℕ) (script : List Op) (n : ℕ) (op : Op) (s t : SeatValue) (a : Answer) → n < length script → op ≡ get_or script n op → AddsReceipt s t (Mutate s.number op) a → s.number ≡ m → events_of s ≡ map (Mutate m) (take n script) → (t.number ≡ m) × (events_of t ≡ map (Mutate m) (take (n + 1) script))

@@ -21,7 +21,7 @@ use Rattle.gc_shared.specs.declared.seat.Receipt.{Receipt}
 use Rattle.gc_shared.specs.Seats.{SeatValue}
 use Rattle.gc_shared.specs.Closing.{receipts_of, receipts_below}
 use Rattle.gc_shared.specs.Receipts.{times_at}
-use Rattle.gc_shared.specs.Marks.{AgreeByNumber}
+use Rattle.gc_shared.specs.Internal.Marks.{AgreeByNumber}
 use Rattle.gc_shared.proofs.ReceiptMarks.{times_at-append}
 use Rattle.gc_shared.specs.Scripts.{IsUsefulStep}
 

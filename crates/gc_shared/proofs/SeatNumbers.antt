@@ -14,7 +14,7 @@ use Rattle.gc_shared.specs.declared.fault.CloseKind.TheVariants.{Seats, Torn, Ex
 use Rattle.gc_shared.specs.Seats.{SeatValue, Opening, count_of_seats}
 use Rattle.gc_shared.specs.Receipts.{IsRecorded, times_at, places_of, ReceiptsAgree}
 use Rattle.gc_shared.specs.Closing.{HasEachOnce, IsSeated, IsWhole, IsFirstFault, receipts_of, receipts_below}
-use Rattle.gc_shared.specs.Marks.{AgreeByNumber, IsFault}
+use Rattle.gc_shared.specs.Internal.Marks.{AgreeByNumber, IsFault}
 use Rattle.gc_shared.proofs.ReceiptMarks.{times_at-append, every_counted}
 
 abbrev below : (SeatValue → ℕ) → ℕ → SeatValue → ℕ

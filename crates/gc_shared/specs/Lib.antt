@@ -1,9 +1,7 @@
-pub mod Seats
-pub mod Receipts
 pub mod Closing
-pub mod Marks
-pub mod Scripts
-pub mod Players
-pub mod Rows
-pub mod Faults
 pub mod FaultTexts
+pub mod Internal
+pub mod Receipts
+pub mod Rows
+pub mod Scripts
+pub mod Seats

@@ -1,5 +1,5 @@
 -- Scripts that threads run: what their seats have on their receipts then, and what the world's history has.
-use Rattle.std.specs.Prelude.{◌≡◌, ℕ, ◌+◌, ◌<◌, ◌==◌, ⊤, Bool, true, false, if◌then◌else◌, List, [], ◌∷◌, length, map, filter, All, slice_index_or}
+use Rattle.std.specs.Prelude.{◌≡◌, ℕ, ◌<◌, ◌==◌, ⊤, Bool, true, false, if◌then◌else◌, List, [], ◌∷◌, length, map, filter, All, slice_index_or}
 use Rattle.std.specs.declared.vec.Vec.{Vec}
 use Rattle.std.specs.declared.alloc.Global.{Global}
 use Rattle.gc_graph.specs.declared.command.Op.{Op}
@@ -9,7 +9,6 @@ use Rattle.gc_copy.specs.declared.event.Event.TheVariants.{Mutate, Collect}
 use Rattle.gc_copy.specs.declared.event.Answer.{Answer}
 use Rattle.gc_copy.specs.declared.event.Answer.TheVariants.{Mutator, Collector, Useful}
 use Rattle.gc_world.specs.World.{Past}
-use Rattle.gc_shared.specs.Seats.{SeatValue}
 
 -- script m
 abbrev pub script_at : List (Vec Op Global) → ℕ → List Op
@@ -17,38 +16,12 @@ script_at scripts m = slice_index_or (map (λ script. script.items) scripts) m [
 
 -- ---- on receipts
 
--- the events on a seat's receipts, in order
-abbrev pub events_of : SeatValue → List Event
-events_of seat = map (λ r. r.event) seat.receipts
-
--- the seat with this number has made the commands of the script, in order, and nothing else
-pub record HasPlayed (number : ℕ) (script : List Op) (seat : SeatValue) : Type 0 where
-  pub same : seat.number ≡ number
-  pub events : events_of seat ≡ map (Mutate number) script
-
 -- a step of the collector that was answered `Useful`
 abbrev pub IsUsefulStep : Event → Answer → Type 0
 IsUsefulStep (Mutate m op) answer = ⊥
 IsUsefulStep (Collect step) (Mutator reply) = ⊥
 IsUsefulStep (Collect step) (Collector reply) = ⊥
 IsUsefulStep (Collect step) (Useful reply) = ⊤
-
--- the seat with this number has made so many useful steps, and nothing else
-pub record HasTurned (number turns : ℕ) (seat : SeatValue) : Type 0 where
-  pub same : seat.number ≡ number
-  pub count : length seat.receipts ≡ turns
-  pub useful : All (λ r. IsUsefulStep r.event r.answer) seat.receipts
-
--- the first n seats have played their scripts
-pub record HavePlayed (scripts : List (Vec Op Global)) (n : ℕ) (seats : List SeatValue) : Type 0 where
-  pub count : length seats ≡ n
-  pub each : (m : ℕ) (d : SeatValue) → m < n → HasPlayed m (script_at scripts m) (slice_index_or seats m d)
-
--- each mutator's seat has played its script, and the last one has made so many useful steps
-pub record HaveEnded (scripts : List (Vec Op Global)) (turns : ℕ) (seats : List SeatValue) : Type 0 where
-  pub count : length seats ≡ length scripts + 1
-  pub each : (m : ℕ) (d : SeatValue) → m < length scripts → HasPlayed m (script_at scripts m) (slice_index_or seats m d)
-  pub last : (d : SeatValue) → HasTurned (length scripts) turns (slice_index_or seats (length scripts) d)
 
 -- ---- in a history
 

@@ -5,7 +5,7 @@ ghost use Rattle.gc_world.specs.World.{entry_of};
 ghost use Rattle.gc_shared.specs.Seats.{opening};
 ghost use Rattle.gc_shared.specs.Receipts.{IsRecorded};
 ghost use Rattle.gc_shared.specs.Closing.{IsSeated, IsWhole, IsFirstFault, IsFirstTorn, AllStand, HasEachOnce, receipts_of, receipts_below};
-ghost use Rattle.gc_shared.specs.Marks.{IsMarked, IsFree, IsFault, AgreeByNumber};
+ghost use Rattle.gc_shared.specs.Internal.Marks.{IsMarked, IsFree, IsFault, AgreeByNumber};
 
 use crate::fault::CloseKind;
 use crate::seat::{Receipt, Seat};

@@ -124,7 +124,7 @@ impl ThreadsFault {
 
 impl From<CallFault> for ThreadsFault {
     ghost use Rattle.std.specs.Prelude.{◌≡◌};
-    ghost use Rattle.gc_shared.specs.Faults.{fault_of_call};
+    ghost use Rattle.gc_shared.specs.Internal.Faults.{fault_of_call};
 
     ghost from_gives = { λ fault made. made ≡ fault_of_call fault };
 

@@ -1,5 +1,5 @@
 ghost use Rattle.std.specs.Prelude.{◌≡◌, [], IfOk};
-ghost use Rattle.gc_shared.specs.Scripts.{HasPlayed, HasTurned};
+ghost use Rattle.gc_shared.specs.Internal.Scripts.{HasPlayed, HasTurned};
 
 use crate::fault::ThreadsFault;
 use crate::gate::Gate;

@@ -1,8 +1,9 @@
 ghost use Rattle.std.specs.Prelude.{◌≡◌, ◌≤◌, ◌<◌, ◌+◌, [], IfOk, IfSome, OnOk, length, map, true, vec_len, vec_capacity};
 ghost use Rattle.std.specs.List.{range_with_len};
 ghost use Rattle.gc_shared.specs.Seats.{fresh};
-ghost use Rattle.gc_shared.specs.Scripts.{HasPlayed, HasTurned, HavePlayed, HaveEnded, HasRun};
-ghost use Rattle.gc_shared.specs.Players.{AreToPlay};
+ghost use Rattle.gc_shared.specs.Scripts.{HasRun};
+ghost use Rattle.gc_shared.specs.Internal.Scripts.{HasPlayed, HasTurned, HavePlayed, HaveEnded};
+ghost use Rattle.gc_shared.specs.Internal.Players.{AreToPlay};
 
 use crate::fault::ThreadsFault;
 use crate::gate::Gate;

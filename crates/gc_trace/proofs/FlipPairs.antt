@@ -14,7 +14,8 @@ use Rattle.gc_copy.specs.declared.step.StepReply.TheVariants.{Busy, Begun, Idle,
 use Rattle.gc_core.specs.Flip.{flip_pair, open_pair, kept_after, IsCertified}
 use Rattle.gc_copy.specs.declared.event.Event.{Event}
 use Rattle.gc_copy.specs.declared.event.Event.TheVariants.{Mutate, Collect}
-use Rattle.gc_trace.specs.Flips.{flip_at, with_flip, flips, HasCounts}
+use Rattle.gc_trace.specs.Flips.{flip_at, with_flip, flips}
+use Rattle.gc_trace.specs.Internal.Flips.{HasCounts}
 
 -- ---- what is kept
 

@@ -8,7 +8,8 @@ use Rattle.gc_copy.specs.State.{State, heap_end}
 use Rattle.gc_world.specs.History.{unmarked, answers_of, IsHistory}
 use Rattle.gc_world.specs.declared.entry.Entry.{Entry}
 use Rattle.gc_trace.specs.declared.report.Report.{Report}
-use Rattle.gc_trace.specs.Report.{is_made, is_full, is_begun, is_copied, is_scanned, is_applied, is_flip, is_dropped, is_refused, pairs_in, report_of, one_more_if, with_answer, FitsU64}
+use Rattle.gc_trace.specs.Report.{is_made, is_full, is_begun, is_copied, is_scanned, is_applied, is_flip, is_dropped, is_refused, pairs_in, report_of}
+use Rattle.gc_trace.specs.Internal.Report.{one_more_if, with_answer, FitsU64}
 use Rattle.gc_trace.proofs.PairsPlaced.{few_pairs}
 
 abbrev answer_of : Entry → Answer

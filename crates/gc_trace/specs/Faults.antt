@@ -1,14 +1,9 @@
 -- The first fault of a text that was read to its end.
 use Rattle.std.specs.Prelude.{◌≡◌, ◌≢◌, ℕ, ◌+◌, ◌<◌, ◌≤◌, ⊤, List, [], ◌++◌, length}
-use Rattle.gc_graph.specs.declared.text.all_bytes.ReadFault.{ReadFault}
-use Rattle.gc_graph.specs.declared.text.all_bytes.ReadFault.TheVariants as reading
 use Rattle.gc_copy.specs.declared.event.Event.{Event}
 use Rattle.gc_trace.specs.Grammar.{Recording, IsTextOf, IsEvent, IsOf, IsHeading, heading, event_line}
 use Rattle.gc_trace.specs.declared.fault.TraceFault.{TraceFault}
 use Rattle.gc_trace.specs.declared.fault.TraceFault.TheVariants.{Read, TooLarge, BadHeader, BadLine, NoSuchMutator, NoMemory}
-use Rattle.gc_trace.specs.declared.fault.PlayFault.{PlayFault}
-use Rattle.gc_trace.specs.declared.fault.PlayFault.TheVariants as plays
-use Rattle.gc_trace.specs.declared.fault.PlayFault.TheVariants.{Trace}
 
 abbrev pub limit : ℕ
 limit = 16777216
@@ -55,14 +50,3 @@ abbrev pub MayFail : TraceFault → List ℕ → Type 0
 MayFail Read text = ⊤
 MayFail NoMemory text = ⊤
 MayFail fault text = IsTraceFaultOf fault text
-
--- what a reader's own fault is called
-abbrev pub fault_of_reading : ReadFault → TraceFault
-fault_of_reading reading.Read = Read
-fault_of_reading reading.TooLarge = TooLarge
-fault_of_reading reading.NoMemory = NoMemory
-
--- what a trace's fault is called where it is played: want of memory is the player's own
-abbrev pub fault_of_trace : TraceFault → PlayFault
-fault_of_trace NoMemory = plays.NoMemory
-fault_of_trace fault = Trace fault

@@ -1,8 +1,7 @@
 -- The flips of a trace's run, and the pairs that they keep.
-use Rattle.std.specs.Prelude.{◌≡◌, ℕ, ◌-◌, ◌≤◌, List, [], ◌∷◌, length, Option, Some, None, slice_get}
+use Rattle.std.specs.Prelude.{◌≡◌, ℕ, ◌-◌, List, [], ◌∷◌, Option, Some, None, slice_get}
 use Rattle.std.specs.Io.KnownBytes.{Appends}
 use Rattle.gc_graph.specs.Streams.{SendsFront}
-use Rattle.gc_words.specs.Image.{IsShaped}
 use Rattle.gc_cert.specs.Grammar as pairs
 use Rattle.gc_cert.specs.Grammar.{CertifiedPair}
 use Rattle.gc_copy.specs.State.{State}
@@ -45,11 +44,3 @@ abbrev pub HasNoFlip : ℕ → List ℕ → Type 0
 HasNoFlip n text = (t : Recording) × IsReadAs t text × (nth_flip n t ≡ None)
 
 -- ---- what such a pair is
-
--- both images are those of spaces, and there are few enough roots and pairs for a pair text
-pub record HasCounts (pair : CertifiedPair) : Type 0 where
-  pub old : IsShaped pair.old
-  pub new : IsShaped pair.new
-  pub old_roots : length pair.old.roots ≤ 272
-  pub new_roots : length pair.new.roots ≤ 272
-  pub pairs : length pair.pairs ≤ 524287

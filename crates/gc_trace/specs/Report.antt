@@ -1,5 +1,5 @@
 -- What a run is reported by.
-use Rattle.std.specs.Prelude.{ℕ, ◌+◌, ◌<◌, ◌^◌, Bool, true, false, if◌then◌else◌, List, [], ◌∷◌, length, codes, count_by, sum_by}
+use Rattle.std.specs.Prelude.{ℕ, Bool, true, false, List, [], ◌∷◌, length, codes, count_by, sum_by}
 use Rattle.std.specs.List.{flat_map}
 use Rattle.std.specs.Fmt.{decimal}
 use Rattle.gc_graph.specs.Lines.{line}
@@ -97,35 +97,3 @@ abbrev pub report_text : Report → List ℕ
 report_text r = flat_map line (report_lines r)
 
 -- ---- one answer more
-
-abbrev pub one_more_if : Bool → ℕ → ℕ
-one_more_if is n = if is then n + 1 else n
-
-abbrev pub with_answer : Report → Answer → Report
-with_answer r answer = record r {
-  events = r.events + 1;
-  made = one_more_if (is_made answer) r.made;
-  full = one_more_if (is_full answer) r.full;
-  begun = one_more_if (is_begun answer) r.begun;
-  copied = one_more_if (is_copied answer) r.copied;
-  scanned = one_more_if (is_scanned answer) r.scanned;
-  applied = one_more_if (is_applied answer) r.applied;
-  flips = one_more_if (is_flip answer) r.flips;
-  pairs = r.pairs + pairs_in answer;
-  dropped = one_more_if (is_dropped answer) r.dropped;
-  refused = one_more_if (is_refused answer) r.refused;
-}
-
--- each number that counts is one of 64 bits
-pub record FitsU64 (r : Report) : Type 0 where
-  pub events : r.events < 2 ^ 64
-  pub made : r.made < 2 ^ 64
-  pub full : r.full < 2 ^ 64
-  pub begun : r.begun < 2 ^ 64
-  pub copied : r.copied < 2 ^ 64
-  pub scanned : r.scanned < 2 ^ 64
-  pub applied : r.applied < 2 ^ 64
-  pub flips : r.flips < 2 ^ 64
-  pub pairs : r.pairs < 2 ^ 64
-  pub dropped : r.dropped < 2 ^ 64
-  pub refused : r.refused < 2 ^ 64

@@ -1,5 +1,5 @@
 -- What the events of a trace do to a world.
-use Rattle.std.specs.Prelude.{◌≡◌, ℕ, List, [], ◌∷◌, ◌++◌, Option, None}
+use Rattle.std.specs.Prelude.{◌≡◌, ℕ, List, [], ◌∷◌, ◌++◌, Option}
 use Rattle.std.specs.Io.KnownBytes.{Appends}
 use Rattle.gc_cert.specs.Grammar.{CertifiedPair}
 use Rattle.gc_copy.specs.State.{State}
@@ -27,13 +27,6 @@ pub record Happens (old : Past) (event : Event) (new : Past) : Type 0 where
   pub events : events_of new.entries ≡ events_of old.entries ++ event ∷ []
   pub state : present new ≡ after (present old) event
   pub kept : new.kept ≡ kept_with old.kept (present old) event
-
--- the same, in a world that keeps no pair then
-pub record KeepsNone (old : Past) (event : Event) (new : Past) : Type 0 where
-  pub size : new.size ≡ old.size
-  pub mutators : new.mutators ≡ old.mutators
-  pub state : present new ≡ after (present old) event
-  pub kept : new.kept ≡ None
 
 -- all events of the trace happened in a world of its size and mutators, each once, in order
 pub record HasRun (t : Recording) (past : Past) : Type 0 where

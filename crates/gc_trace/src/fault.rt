@@ -43,7 +43,7 @@ impl TraceFault {
 
 impl From<ReadFault> for TraceFault {
     ghost use Rattle.std.specs.Prelude.{◌≡◌};
-    ghost use Rattle.gc_trace.specs.Faults.{fault_of_reading};
+    ghost use Rattle.gc_trace.specs.Internal.Faults.{fault_of_reading};
 
     ghost from_gives = { λ fault made. made ≡ fault_of_reading fault };
 
@@ -89,7 +89,7 @@ impl PlayFault {
 
 impl From<TraceFault> for PlayFault {
     ghost use Rattle.std.specs.Prelude.{◌≡◌};
-    ghost use Rattle.gc_trace.specs.Faults.{fault_of_trace};
+    ghost use Rattle.gc_trace.specs.Internal.Faults.{fault_of_trace};
 
     ghost from_gives = { λ fault made. made ≡ fault_of_trace fault };
 

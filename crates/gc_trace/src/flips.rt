@@ -6,9 +6,10 @@ ghost use Rattle.gc_cert.specs.Grammar.{IsWord, AreAddresses, HasText};
 ghost use Rattle.gc_cert.specs.Views.{pair_in};
 ghost use Rattle.gc_copy.specs.Runs.{IsEvent, after};
 ghost use Rattle.gc_world.specs.World.{present};
-ghost use Rattle.gc_trace.specs.Flips.{flip_at, nth_flip, HasCounts};
+ghost use Rattle.gc_trace.specs.Flips.{flip_at, nth_flip};
+ghost use Rattle.gc_trace.specs.Internal.Flips.{HasCounts};
 ghost use Rattle.gc_trace.specs.Grammar.{IsRecording};
-ghost use Rattle.gc_trace.specs.WorldRuns.{KeepsNone};
+ghost use Rattle.gc_trace.specs.Internal.WorldRuns.{KeepsNone};
 ghost use Rattle.gc_trace.specs.Views.{recording};
 
 use crate::run::happen;

@@ -59,7 +59,7 @@ impl Report {
     ghost use Rattle.gc_words.specs.Space.{free_in, end_of};
     ghost use Rattle.gc_copy.specs.declared.event.Answer.TheVariants.{Mutator, Collector};
     ghost use Rattle.gc_world.specs.History.{unmarked};
-    ghost use Rattle.gc_trace.specs.Report.{with_answer, FitsU64};
+    ghost use Rattle.gc_trace.specs.Internal.Report.{with_answer, FitsU64};
 
     /// Nothing happened yet, and this is the mutators' space.
     fn of_space(space: &Space) -> Report

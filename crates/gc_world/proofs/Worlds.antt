@@ -11,7 +11,8 @@ use Rattle.gc_copy.specs.declared.step.StepReply.{StepReply}
 use Rattle.gc_graph.specs.Range.{IsCommand}
 use Rattle.gc_cert.specs.Grammar.{CertifiedPair}
 use Rattle.gc_world.specs.History.{IsUseful, unmarked}
-use Rattle.gc_world.specs.World.{IsKept, IsWorld, entry_of}
+use Rattle.gc_world.specs.World.{entry_of}
+use Rattle.gc_world.specs.Internal.World.{IsKept, IsWorld}
 use Rattle.gc_copy.specs.declared.event.Event.TheVariants.{Mutate, Collect}
 use Rattle.gc_copy.specs.declared.event.Answer.{Answer}
 use Rattle.gc_world.specs.declared.entry.Entry.{Entry}

@@ -1,9 +1,8 @@
 -- A world as contracts see it: what it was opened with, its history, and the pair that its last flip kept.
-use Rattle.std.specs.Prelude.{◌≡◌, ℕ, List, [], ◌∷◌, ◌++◌, Option, Some, None, ⊤}
-use Rattle.gc_core.specs.Flip.{IsCertified}
+use Rattle.std.specs.Prelude.{ℕ, List, [], ◌∷◌, ◌++◌, Option}
 use Rattle.gc_copy.specs.State.{State}
 use Rattle.gc_cert.specs.Grammar.{CertifiedPair}
-use Rattle.gc_world.specs.History.{IsHistory, state_after}
+use Rattle.gc_world.specs.History.{state_after}
 use Rattle.gc_copy.specs.declared.event.Event.{Event}
 use Rattle.gc_copy.specs.declared.event.Answer.{Answer}
 use Rattle.gc_world.specs.declared.entry.Entry.{Entry}
@@ -27,14 +26,3 @@ abbrev pub with_entry : Past → Event → Answer → Past
 with_entry past event answer = record past { entries = past.entries ++ entry_of event answer ∷ [] }
 
 -- ---- what the words of a world are
-
--- a kept pair is certified
-abbrev pub IsKept : Option CertifiedPair → Type 0
-IsKept None = ⊤
-IsKept (Some pair) = IsCertified pair
-
--- what is there is what the history led to
-pub record IsWorld (now : State) (past : Past) : Type 0 where
-  pub history : IsHistory past.size past.mutators past.entries
-  pub state : now ≡ present past
-  pub kept : IsKept past.kept

@@ -25,7 +25,8 @@ pub struct World {
 impl Model for World {
     ghost use Rattle.std.specs.Option.{option_map};
     ghost use Rattle.gc_cert.specs.Views.{pair_in};
-    ghost use Rattle.gc_world.specs.World.{Past, IsWorld};
+    ghost use Rattle.gc_world.specs.World.{Past};
+    ghost use Rattle.gc_world.specs.Internal.World.{IsWorld};
 
     ghost Value = { Past };
 
@@ -230,7 +231,8 @@ ghost use Rattle.gc_copy.specs.Runs.{IsStep};
 ghost use Rattle.gc_core.specs.Flip.{kept_after, PassesIfReady, HasRoomIfLarge};
 ghost use Rattle.gc_copy.specs.declared.step.Step.{Step};
 ghost use Rattle.gc_copy.specs.declared.step.StepReply.{StepReply};
-ghost use Rattle.gc_world.specs.World.{entry_of, IsKept};
+ghost use Rattle.gc_world.specs.World.{entry_of};
+ghost use Rattle.gc_world.specs.Internal.World.{IsKept};
 ghost use Rattle.gc_copy.specs.declared.event.Event.{Event};
 
 // Makes room for one more entry.

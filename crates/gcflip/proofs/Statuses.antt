@@ -17,7 +17,7 @@ use Rattle.gcflip.specs.declared.faults.fault.Fault.TheVariants as program
 use Rattle.gcflip.specs.declared.task.Task.{Task}
 use Rattle.gcflip.specs.declared.task.Task.TheVariants as task
 use Rattle.gcflip.specs.Statuses.{status_of}
-use Rattle.gcflip.specs.Outcomes.{IsStatusOf}
+use Rattle.gcflip.specs.Internal.Outcomes.{IsStatusOf}
 use Rattle.gcflip.specs.Statuses.{statuses}
 
 pub done_is_status : Contains statuses 0

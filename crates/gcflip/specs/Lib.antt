@@ -1,5 +1,6 @@
 pub mod CommandLine
 pub mod Faults
+pub mod Internal
 pub mod Outcomes
 pub mod Plays
 pub mod Statuses

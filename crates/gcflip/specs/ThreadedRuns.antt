@@ -3,17 +3,11 @@ use Rattle.std.specs.Prelude.{◌≡◌, ℕ, ◌<◌, List, Option, length, All
 use Rattle.std.specs.Io.KnownBytes.{Appends}
 use Rattle.gc_graph.specs.Streams.{SendsFront}
 use Rattle.gc_shared.specs.Scripts.{IsUsefulStep, commands_of, steps_of}
-use Rattle.gc_shared.specs.declared.fault.ThreadsFault.{ThreadsFault}
-use Rattle.gc_shared.specs.declared.fault.ThreadsFault.TheVariants as threads
 use Rattle.gc_trace.specs.Faults.{IsReadAs}
 use Rattle.gc_trace.specs.Grammar.{Recording, spelling, written}
 use Rattle.gc_trace.specs.Scripts.{script_of}
-use Rattle.gc_trace.specs.declared.fault.TraceFault.{TraceFault}
-use Rattle.gc_trace.specs.declared.fault.TraceFault.TheVariants as trace
 use Rattle.gc_world.specs.History.{events_of, IsHistory}
 use Rattle.gc_world.specs.declared.entry.Entry.{Entry}
-use Rattle.gcflip.specs.declared.commands.threads.ThreadsRunFault.{ThreadsRunFault}
-use Rattle.gcflip.specs.declared.commands.threads.ThreadsRunFault.TheVariants.{Trace, Threads, NoMemory}
 
 -- A history of a world of the trace's size and mutators: each mutator made its commands of the trace, in order, and
 -- the collector made so many steps, all as useful ones.
@@ -36,11 +30,3 @@ abbrev pub WritesRunFront : List ℕ → ℕ → Option (List ℕ) → Option (L
 WritesRunFront text turns old new = (t : Recording) × (entries : List Entry) × IsReadAs t text × IsThreadedRun t turns entries × SendsFront old new (recorded t entries)
 
 -- ---- faults of its parts: want of memory is its own, but for that of the closing
-
-abbrev pub fault_of_trace : TraceFault → ThreadsRunFault
-fault_of_trace trace.NoMemory = NoMemory
-fault_of_trace fault = Trace fault
-
-abbrev pub fault_of_threads : ThreadsFault → ThreadsRunFault
-fault_of_threads threads.NoMemory = NoMemory
-fault_of_threads fault = Threads fault

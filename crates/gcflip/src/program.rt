@@ -2,7 +2,7 @@ ghost use Rattle.std.specs.Prelude.{◌≡◌, ◌≢◌, ◌⊎◌, Contains, I
 ghost use Rattle.clap.specs.Values.{kind_of};
 ghost use Rattle.gcflip.specs.CommandLine.{IsInRange};
 ghost use Rattle.gcflip.specs.Statuses.{status_of};
-ghost use Rattle.gcflip.specs.Outcomes.{IsTaskFault, IsOfOpening, IsStatusOf};
+ghost use Rattle.gcflip.specs.Internal.Outcomes.{IsTaskFault, IsOfOpening, IsStatusOf};
 ghost use Rattle.gcflip.specs.Statuses.{statuses};
 
 use crate::commands::{check_from, pair_from, play_from, report_from, threads_from};

@@ -10,7 +10,8 @@ ghost use Rattle.gc_copy.specs.State.{replica_of as replica_in, moved};
 ghost use Rattle.gc_copy.specs.Steps.{place_replica as placed_in, with_replica as with_replica_in};
 ghost use Rattle.gc_copy.specs.Steps.{bring_up_to_date as brought_in, apply_entry as applied_in};
 ghost use Rattle.gc_copy.specs.Entries.{entry_in};
-ghost use Rattle.gc_copy.specs.Words.{collection_in, BelongsTo, HasReplicaWord, KeepsGraph, KeepsRest};
+ghost use Rattle.gc_copy.specs.Words.{collection_in, BelongsTo};
+ghost use Rattle.gc_copy.specs.Internal.Words.{HasReplicaWord, KeepsGraph, KeepsRest};
 
 use super::Collection;
 use crate::log::LogEntry;

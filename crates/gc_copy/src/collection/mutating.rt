@@ -2,7 +2,8 @@ ghost use Rattle.std.specs.Prelude.{◌≡◌, ◌<◌, ◌≤◌};
 ghost use Rattle.std.specs.Option.{option_map, option_to_list};
 ghost use Rattle.gc_heap.specs.Heap.{graph_in};
 ghost use Rattle.gc_copy.specs.Steps.{mutate, written, WritesField};
-ghost use Rattle.gc_copy.specs.Entries.{entry_in, if_done};
+ghost use Rattle.gc_copy.specs.Entries.{entry_in};
+ghost use Rattle.gc_copy.specs.Internal.Entries.{if_done};
 ghost use Rattle.gc_copy.specs.Words.{open_state, spare_of, BelongsTo};
 ghost use Rattle.gc_graph.specs.declared.reply.Reply.{Reply};
 

@@ -1,7 +1,8 @@
 ghost use Rattle.std.specs.Prelude.{◌≡◌, ◌<◌, ◌≤◌, ◌-◌, ◌^◌, ◌↔◌, length, slice_index, IfSome, IsTrue, MatchOption};
 ghost use Rattle.std.specs.Int.{IsInRange};
 ghost use Rattle.std.specs.Str.Parse.{digits_value};
-ghost use Rattle.gc_graph.specs.Tokens.{number_of, AreDigits};
+ghost use Rattle.gc_graph.specs.Tokens.{number_of};
+ghost use Rattle.gc_graph.specs.Internal.Tokens.{AreDigits};
 
 /// The value of a digit.
 fn digit(byte: u8) -> Option<u64>

@@ -18,7 +18,8 @@ pub struct Message {
 
 impl Model for Message {
     ghost use Rattle.std.specs.Prelude.{List, ℕ};
-    ghost use Rattle.gc_graph.specs.Messages.{text_of_form, IsShort};
+    ghost use Rattle.gc_graph.specs.Messages.{text_of_form};
+    ghost use Rattle.gc_graph.specs.Internal.Messages.{IsShort};
 
     ghost Value = { List ℕ };
 

@@ -50,7 +50,7 @@ impl ThreadsRunFault {
 
 impl From<TraceFault> for ThreadsRunFault {
     ghost use Rattle.std.specs.Prelude.{◌≡◌};
-    ghost use Rattle.gcflip.specs.ThreadedRuns.{fault_of_trace};
+    ghost use Rattle.gcflip.specs.Internal.ThreadedRuns.{fault_of_trace};
 
     ghost from_gives = { λ fault made. made ≡ fault_of_trace fault };
 
@@ -64,7 +64,7 @@ impl From<TraceFault> for ThreadsRunFault {
 
 impl From<ThreadsFault> for ThreadsRunFault {
     ghost use Rattle.std.specs.Prelude.{◌≡◌};
-    ghost use Rattle.gcflip.specs.ThreadedRuns.{fault_of_threads};
+    ghost use Rattle.gcflip.specs.Internal.ThreadedRuns.{fault_of_threads};
 
     ghost from_gives = { λ fault made. made ≡ fault_of_threads fault };
 

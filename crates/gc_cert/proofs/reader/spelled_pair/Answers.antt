@@ -2,9 +2,10 @@ use Rattle.std.proofs.Common.{[], ◌∷◌, ◌++◌, map}
 use Rattle.std.specs.Prelude.{codes}
 use Rattle.std.proofs.lemmas.Result.{err_from_is_err_and}
 use Rattle.gc_words.specs.Views.{addresses}
-use Rattle.gc_cert.specs.Grammar.{image_alone, certificate_lines, IsCertificate, HasImageText}
-use Rattle.gc_cert.specs.Parsers.{is_line}
-use Rattle.gc_cert.specs.Sections.{Nothing, alone}
+use Rattle.gc_cert.specs.Grammar.{certificate_lines, IsCertificate, HasImageText}
+use Rattle.gc_cert.specs.Internal.Grammar.{image_alone}
+use Rattle.gc_cert.specs.Internal.Parsers.{is_line}
+use Rattle.gc_cert.specs.Internal.Sections.{Nothing, alone}
 use Rattle.gc_cert.specs.Views.{image_in}
 use Rattle.gc_cert.proofs.Forms.{alone_delimits}
 use Rattle.gc_cert.proofs.LineForms.{fixed_form}

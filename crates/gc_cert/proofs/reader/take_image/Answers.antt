@@ -4,8 +4,9 @@ use Rattle.std.specs.Fmt.{decimal}
 use Rattle.std.proofs.lemmas.Result.{err_from_is_err_and}
 use Rattle.gc_graph.specs.Lines.{tokens_of}
 use Rattle.gc_cert.specs.Grammar.{count_line, size_line, IsWord, AreSizes}
-use Rattle.gc_cert.specs.Parsers.{word_in, count_of, sizes_of}
-use Rattle.gc_cert.specs.Sections.{alone, AreAll}
+use Rattle.gc_cert.specs.Parsers.{count_of, sizes_of}
+use Rattle.gc_cert.specs.Internal.Parsers.{word_in}
+use Rattle.gc_cert.specs.Internal.Sections.{alone, AreAll}
 use Rattle.gc_cert.proofs.Forms.{alone_delimits, all_delimit}
 use Rattle.gc_cert.proofs.LineForms.{word_form, count_form, size_form}
 use Rattle.gc_cert.proofs.Parts.{none_taken, ImageSection, image_sizes, image_words, image_count, up_to_count, image_roots, image_taken}

@@ -1,5 +1,5 @@
-use Rattle.gc_cert.specs.Sections.{Nothing}
-use Rattle.gc_cert.specs.Parsers.{is_line}
+use Rattle.gc_cert.specs.Internal.Sections.{Nothing}
+use Rattle.gc_cert.specs.Internal.Parsers.{is_line}
 use Rattle.gc_cert.proofs.Forms.{line_cut, line_wrong, line_taken}
 use Rattle.gc_cert.proofs.LineForms.{fixed_form, line_is, line_is_not}
 use Rattle.gc_cert.proofs.reader.take_line.Goals as goal

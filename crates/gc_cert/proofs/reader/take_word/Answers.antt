@@ -1,7 +1,7 @@
 use Rattle.std.proofs.Common.{sym}
 use Rattle.std.specs.Fmt.{decimal}
 use Rattle.gc_cert.specs.Grammar.{IsWord}
-use Rattle.gc_cert.specs.Parsers.{word_in}
+use Rattle.gc_cert.specs.Internal.Parsers.{word_in}
 use Rattle.gc_cert.proofs.Forms.{line_cut, line_wrong, line_taken}
 use Rattle.gc_cert.proofs.LineForms.{word_form}
 use Rattle.gc_cert.proofs.reader.take_word.Goals as goal

@@ -2,8 +2,8 @@ use Rattle.std.proofs.Common.{map, arith}
 use Rattle.std.proofs.lemmas.Result.{err_from_is_err_and}
 use Rattle.std.specs.Fmt.{decimal}
 use Rattle.gc_cert.specs.Grammar.{IsWord}
-use Rattle.gc_cert.specs.Parsers.{word_in}
-use Rattle.gc_cert.specs.Sections.{alone, AreAll, Spelled}
+use Rattle.gc_cert.specs.Internal.Parsers.{word_in}
+use Rattle.gc_cert.specs.Internal.Sections.{alone, AreAll, Spelled}
 use Rattle.gc_cert.proofs.Forms.{alone_delimits, begins_with_one}
 use Rattle.gc_cert.proofs.LineForms.{word_form}
 use Rattle.gc_cert.proofs.Stops.{stop_within}

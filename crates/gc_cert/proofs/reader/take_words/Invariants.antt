@@ -1,7 +1,8 @@
 use Rattle.std.proofs.Common.{map}
 use Rattle.std.specs.Fmt.{decimal}
 use Rattle.gc_cert.specs.Grammar.{IsWord}
-use Rattle.gc_cert.specs.Sections.{AreAll, HasTaken}
+use Rattle.gc_cert.specs.Sections.{HasTaken}
+use Rattle.gc_cert.specs.Internal.Sections.{AreAll}
 use Rattle.gc_cert.proofs.reader.take_words.Given as goal
 
 abbrev pub invariant-loop : goal.invariant-loop

@@ -5,7 +5,7 @@ use Rattle.std.proofs.lemmas.Result.{err_from_is_err_and}
 use Rattle.gc_graph.specs.Streams.{bytes_written}
 use Rattle.gc_words.specs.Views.{addresses}
 use Rattle.gc_cert.specs.Grammar.{pair_line, count_line, certificate_lines}
-use Rattle.gc_cert.specs.PrintedLines.{Prints}
+use Rattle.gc_cert.specs.Internal.PrintedLines.{Prints}
 use Rattle.gc_cert.proofs.Parts.{pairs_line}
 use Rattle.gc_cert.proofs.PrintedLines.{front_within, prints_then, none_printed, length_mapped}
 use Rattle.gc_cert.proofs.writer.print_certificate.Goals as goal

@@ -5,8 +5,9 @@ use Rattle.std.proofs.lemmas.List.{append-nil}
 use Rattle.std.proofs.lemmas.Result.{err_from_is_err_and}
 use Rattle.gc_graph.specs.Streams.{bytes_written}
 use Rattle.gc_words.specs.Views.{image_of}
-use Rattle.gc_cert.specs.Grammar.{count_line, size_line, image_alone}
-use Rattle.gc_cert.specs.PrintedLines.{Prints}
+use Rattle.gc_cert.specs.Grammar.{count_line, size_line}
+use Rattle.gc_cert.specs.Internal.Grammar.{image_alone}
+use Rattle.gc_cert.specs.Internal.PrintedLines.{Prints}
 use Rattle.gc_cert.proofs.Parts.{whole_image, up_to_count}
 use Rattle.gc_cert.proofs.PrintedLines.{front_within, prints_then, none_printed}
 use Rattle.gc_cert.proofs.writer.print_image.Goals as goal

@@ -4,7 +4,7 @@ use Rattle.gc_graph.specs.Streams.{bytes_written}
 use Rattle.gc_words.specs.Views.{addresses}
 use Rattle.gc_words.specs.declared.image.Pair.{Pair}
 use Rattle.gc_cert.specs.Grammar.{pair_line}
-use Rattle.gc_cert.specs.PrintedLines.{Prints, PrintsFront}
+use Rattle.gc_cert.specs.Internal.PrintedLines.{Prints, PrintsFront}
 use Rattle.gc_cert.proofs.PrintedLines.{one_failed, one_printed, all_printed, map_map}
 use Rattle.gc_cert.proofs.writer.print_pairs.Goals as goal
 

@@ -3,7 +3,7 @@ use Rattle.gc_graph.specs.Streams.{bytes_written}
 use Rattle.gc_words.specs.Views.{addresses}
 use Rattle.gc_words.specs.declared.image.Pair.{Pair}
 use Rattle.gc_cert.specs.Grammar.{pair_line}
-use Rattle.gc_cert.specs.PrintedLines.{Prints}
+use Rattle.gc_cert.specs.Internal.PrintedLines.{Prints}
 use Rattle.gc_cert.proofs.writer.print_pairs.Given as goal
 
 abbrev pub invariant-loop-pair : goal.invariant-loop-pair

@@ -4,8 +4,9 @@ use Rattle.std.proofs.lemmas.List.{append-nil}
 use Rattle.std.proofs.lemmas.Result.{err_from_is_err_and}
 use Rattle.gc_graph.specs.Streams.{bytes_written}
 use Rattle.gc_words.specs.Views.{image_of, addresses}
-use Rattle.gc_cert.specs.Grammar.{image_alone, certificate_lines, lines_of}
-use Rattle.gc_cert.specs.PrintedLines.{Prints}
+use Rattle.gc_cert.specs.Grammar.{certificate_lines, lines_of}
+use Rattle.gc_cert.specs.Internal.Grammar.{image_alone}
+use Rattle.gc_cert.specs.Internal.PrintedLines.{Prints}
 use Rattle.gc_cert.specs.Views.{pair_of}
 use Rattle.gc_cert.proofs.Parts.{three_parts, both_images, heading}
 use Rattle.gc_cert.proofs.PrintedLines.{front_within, prints_then, none_printed}

@@ -1,7 +1,7 @@
 use Rattle.std.proofs.Common.{map, take}
 use Rattle.std.specs.Fmt.{decimal}
 use Rattle.gc_graph.specs.Streams.{bytes_written}
-use Rattle.gc_cert.specs.PrintedLines.{Prints}
+use Rattle.gc_cert.specs.Internal.PrintedLines.{Prints}
 use Rattle.gc_cert.proofs.writer.print_words.Given as goal
 
 abbrev pub invariant-loop-word : goal.invariant-loop-word

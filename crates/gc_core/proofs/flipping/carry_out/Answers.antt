@@ -2,7 +2,7 @@ use Rattle.std.proofs.Common.{ap, ◌∙◌, subst}
 use Rattle.std.specs.Prelude.{IfSome}
 use Rattle.gc_words.specs.Image.{Image}
 use Rattle.gc_words.specs.Space.{SpaceWords, end_of}
-use Rattle.gc_core.specs.Flip.{AreCopies}
+use Rattle.gc_core.specs.Internal.Flip.{AreCopies}
 use Rattle.gc_core.proofs.KeptPair.{same_image, certified_along}
 use Rattle.gc_core.proofs.flipping.carry_out.Goals as goal
 

@@ -1,5 +1,5 @@
 use Rattle.std.proofs.Common.{◌∙◌, ap}
-use Rattle.gc_graph.specs.Records.{record_option}
+use Rattle.gc_graph.specs.Internal.Records.{record_option}
 use Rattle.gc_graph.proofs.Plains.{found_record}
 use Rattle.gc_graph.proofs.objects.record_of.Goals as goal
 

@@ -5,7 +5,7 @@ use Rattle.std.proofs.lemmas.Slice.Zip.{AllZip-map}
 use Rattle.rayon.specs.Numbers.{nat_range}
 use Rattle.rayon.specs.Lists.{IsLeast}
 use Rattle.rayon.proofs.ToStd.{nat_range-All}
-use Rattle.gc_par.specs.Least.{fault_at, place_or}
+use Rattle.gc_par.specs.Internal.Least.{fault_at, place_or}
 use Rattle.gc_par.proofs.Least.{least_is_first}
 use Rattle.gc_par.proofs.checker.first_faulty.Goals as goal
 

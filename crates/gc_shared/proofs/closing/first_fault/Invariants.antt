@@ -1,6 +1,6 @@
 use Rattle.std.proofs.Common.{◌≡◌, length}
 use Rattle.gc_shared.specs.Closing.{SeatsStand, receipts_below}
-use Rattle.gc_shared.specs.Marks.{IsMarked}
+use Rattle.gc_shared.specs.Internal.Marks.{IsMarked}
 use Rattle.gc_shared.proofs.closing.first_fault.Given as goal
 
 abbrev pub invariant-loop-seat : goal.invariant-loop-seat

@@ -1,6 +1,6 @@
 use Rattle.std.proofs.Common.{◌≡◌, ◌++◌, length, take}
 use Rattle.gc_shared.specs.Closing.{AllStand, floor_of, receipts_below, receipts_of}
-use Rattle.gc_shared.specs.Marks.{IsMarked}
+use Rattle.gc_shared.specs.Internal.Marks.{IsMarked}
 use Rattle.gc_shared.proofs.closing.first_torn.Given as goal
 
 abbrev pub invariant-loop-n : goal.invariant-loop-n

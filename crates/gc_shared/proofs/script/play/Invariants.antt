@@ -1,6 +1,6 @@
 use Rattle.std.proofs.Common.{◌≡◌, map, take}
 use Rattle.gc_copy.specs.declared.event.Event.TheVariants.{Mutate}
-use Rattle.gc_shared.specs.Scripts.{events_of}
+use Rattle.gc_shared.specs.Internal.Scripts.{events_of}
 use Rattle.gc_shared.proofs.script.play.Given as goal
 
 abbrev pub invariant-loop-n : goal.invariant-loop-n

@@ -1,7 +1,8 @@
 use Rattle.std.proofs.Common.{◌≡◌, ℕ, ◌+◌, ◌-◌, ◌≤◌, List, arith, subst, vec_len}
 use Rattle.std.specs.Vec.Iter.{into_iter_items, into_iter_len}
-use Rattle.gc_shared.specs.Scripts.{HasPlayed, script_at}
-use Rattle.gc_shared.specs.Players.{Player, AreNext, IsToPlay}
+use Rattle.gc_shared.specs.Scripts.{script_at}
+use Rattle.gc_shared.specs.Internal.Scripts.{HasPlayed}
+use Rattle.gc_shared.specs.Internal.Players.{Player, AreNext, IsToPlay}
 use Rattle.gc_shared.proofs.Players.{next_player, HavePlayed-more, on_ok, on_no_ok}
 use Rattle.gc_shared.proofs.threads.join_players.Goals as goal
 use Rattle.gc_shared.proofs.threads.join_players.Goals.{After-join}

@@ -1,7 +1,7 @@
 use Rattle.std.proofs.Common.{◌-◌, ◌<◌, ◌≤◌, vec_len, vec_capacity, OnOk}
 use Rattle.std.specs.Vec.Iter.{into_iter_items, into_iter_len}
-use Rattle.gc_shared.specs.Scripts.{HavePlayed}
-use Rattle.gc_shared.specs.Players.{AreNext}
+use Rattle.gc_shared.specs.Internal.Scripts.{HavePlayed}
+use Rattle.gc_shared.specs.Internal.Players.{AreNext}
 use Rattle.gc_shared.proofs.threads.join_players.Given as goal
 
 abbrev pub invariant-loop-player : goal.invariant-loop-player

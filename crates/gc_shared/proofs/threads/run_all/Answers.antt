@@ -1,7 +1,7 @@
 use Rattle.std.proofs.Common.{◌≡◌, length, map, ap, vec_len}
 use Rattle.std.specs.List.{range_with_len}
 use Rattle.gc_shared.specs.Seats.{SeatValue, fresh}
-use Rattle.gc_shared.specs.Scripts.{HasTurned, HavePlayed}
+use Rattle.gc_shared.specs.Internal.Scripts.{HasTurned, HavePlayed}
 use Rattle.gc_shared.proofs.Players.{split_last, ended}
 use Rattle.gc_shared.proofs.threads.run_all.Goals as goal
 use Rattle.gc_shared.proofs.threads.run_all.Goals.{In-Some}

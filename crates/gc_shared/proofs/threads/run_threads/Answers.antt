@@ -3,7 +3,7 @@ use Rattle.std.specs.declared.vec.Vec.{Vec}
 use Rattle.std.specs.declared.alloc.Global.{Global}
 use Rattle.gc_graph.specs.declared.command.Op.{Op}
 use Rattle.gc_shared.specs.Seats.{Opening}
-use Rattle.gc_shared.specs.Scripts.{HaveEnded}
+use Rattle.gc_shared.specs.Internal.Scripts.{HaveEnded}
 use Rattle.gc_shared.proofs.RunHistory.{has_run}
 use Rattle.gc_shared.proofs.threads.run_threads.Goals as goal
 

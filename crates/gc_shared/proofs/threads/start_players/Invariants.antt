@@ -2,7 +2,7 @@ use Rattle.std.proofs.Common.{◌≡◌, ◌+◌, ◌≤◌, length, map, vec_le
 use Rattle.std.specs.List.{range_with_len}
 use Rattle.std.specs.Vec.Iter.{into_iter_items, into_iter_len}
 use Rattle.gc_shared.specs.Seats.{fresh}
-use Rattle.gc_shared.specs.Players.{AreToPlay}
+use Rattle.gc_shared.specs.Internal.Players.{AreToPlay}
 use Rattle.gc_shared.proofs.threads.start_players.Given as goal
 
 abbrev pub invariant-loop-seat : goal.invariant-loop-seat

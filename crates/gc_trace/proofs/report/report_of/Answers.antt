@@ -4,7 +4,7 @@ use Rattle.gc_words.specs.Space.{free_in, end_of}
 use Rattle.gc_graph.specs.Machine.{Roomy}
 use Rattle.gc_world.specs.World.{present}
 use Rattle.gc_world.specs.History.{IsHistory}
-use Rattle.gc_trace.specs.Report.{FitsU64}
+use Rattle.gc_trace.specs.Internal.Report.{FitsU64}
 use Rattle.gc_trace.proofs.ReportCounts.{none_counted, next_counted, front_fits}
 use Rattle.gc_trace.proofs.SpaceEnds.{same_end}
 use Rattle.gc_trace.proofs.report.report_of.Goals as goal

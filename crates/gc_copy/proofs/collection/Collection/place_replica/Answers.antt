@@ -5,7 +5,8 @@ use Rattle.gc_words.specs.Space.{HasRoom}
 use Rattle.gc_heap.specs.Heap.{graph_in}
 use Rattle.gc_copy.specs.State.{replica_of}
 use Rattle.gc_copy.specs.Steps.{place_replica}
-use Rattle.gc_copy.specs.Words.{CollectionWords, collection_in, BelongsTo, KeepsRest}
+use Rattle.gc_copy.specs.Words.{CollectionWords, collection_in, BelongsTo}
+use Rattle.gc_copy.specs.Internal.Words.{KeepsRest}
 use Rattle.gc_copy.proofs.OpenCollection.{Placing, placing_done, full}
 use Rattle.gc_copy.proofs.collection.Collection.place_replica.Goals as goal
 

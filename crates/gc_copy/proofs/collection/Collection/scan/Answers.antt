@@ -6,7 +6,8 @@ use Rattle.gc_words.specs.Spelling.{link_at}
 use Rattle.gc_heap.specs.Heap.{HeapWords, graph_in}
 use Rattle.gc_copy.specs.State.{Replica, State, replica_of}
 use Rattle.gc_copy.specs.Steps.{scan_done, scan, bring_up_to_date}
-use Rattle.gc_copy.specs.Words.{CollectionWords, IsCollection, collection_in, open_state, BelongsTo, KeepsRest}
+use Rattle.gc_copy.specs.Words.{CollectionWords, IsCollection, collection_in, open_state, BelongsTo}
+use Rattle.gc_copy.specs.Internal.Words.{KeepsRest}
 use Rattle.gc_copy.specs.declared.step.Step.TheVariants as steps
 use Rattle.gc_copy.specs.declared.step.StepReply.{StepReply}
 use Rattle.gc_copy.specs.declared.step.StepReply.TheVariants.{Passed, Scanned, NoRoom}

@@ -1,6 +1,6 @@
 use Rattle.std.proofs.Common.{◌<◌, sym, subst}
 use Rattle.gc_copy.specs.State.{State}
-use Rattle.gc_core.specs.CollectedHeap.{Fits}
+use Rattle.gc_core.specs.Internal.CollectedHeap.{Fits}
 use Rattle.gc_core.proofs.FirstLog.{log_is_one}
 use Rattle.gc_core.proofs.collected_heap.CollectedHeap.useful_step.Goals as goal
 

@@ -1,0 +1,6 @@
+-- What only private contracts and proofs need: no part of a promise.
+pub mod Faults
+pub mod Grammar
+pub mod Parsers
+pub mod PrintedLines
+pub mod Sections

@@ -1,0 +1,2 @@
+-- What only private contracts and proofs need: no part of a promise.
+pub mod Tables

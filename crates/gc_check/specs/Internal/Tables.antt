@@ -1,0 +1,41 @@
+-- For private contracts and proofs, beside `Tables`.
+use Rattle.std.specs.Prelude.{◌≡◌, ℕ, ◌<◌, ◌≤◌, ◌^◌, ◌==◌, nat_le, Bool, false, not, List, length, slice_index, slice_index_or, Option, None, IsOk}
+use Rattle.std.specs.List.{list_any}
+use Rattle.gc_graph.specs.Correspond.{paired}
+use Rattle.gc_words.specs.Image.{Image, walk_words, is_start}
+use Rattle.gc_words.specs.Fault.{◌or_else◌, when, at_place, shape_fault, table_fault}
+use Rattle.gc_words.specs.declared.refusal.Refusal.{Refusal}
+use Rattle.gc_words.specs.declared.refusal.Refusal.TheVariants.{OldShape, NewShape, RootCount, OldNotStart, NewNotStart, NotRising, Twice}
+use Rattle.gc_check.specs.Tables.{Checked}
+
+-- of the images alone: their shapes, and the number of their roots
+abbrev pub image_fault : Image → Image → Option Refusal
+image_fault old new =
+    at_place (shape_fault old) (λ at. OldShape at)
+    or_else at_place (shape_fault new) (λ at. NewShape at)
+    or_else when (not (length old.roots == length new.roots)) RootCount
+
+-- a mark stands exactly where an object of the words starts
+pub record MarksStarts (words : List ℕ) (marks : List Bool) : Type 0 where
+  pub len : length marks ≡ length words
+  pub walked : IsOk (walk_words words)
+  pub starts : (place : ℕ) → slice_index_or marks place false ≡ is_start words place
+
+-- By old address: the new address that is paired with it. It is 0 where there is none.
+pub record HoldsPartners (partners : List ℕ) (pairs : List (ℕ × ℕ)) : Type 0 where
+  pub pair : (a b : ℕ) → 1 ≤ b → (slice_index partners a == b) ≡ paired pairs a b
+  pub taken : (a : ℕ) → not (slice_index partners a == 0) ≡ list_any (λ q. q.0 == a) pairs
+
+-- what is wrong with the place of pair k, by the partners of those before it and the last new address among them
+abbrev pub entry_fault : Image → Image → List ℕ → ℕ → ℕ → ℕ × ℕ → Option Refusal
+entry_fault old new partners last k p =
+    when (not (is_start old.words p.0)) (OldNotStart k)
+    or_else when (not (is_start new.words p.1)) (NewNotStart k)
+    or_else when (nat_le p.1 last) (NotRising k)
+    or_else when (not (slice_index partners p.0 == 0)) (Twice k)
+
+-- fewer pairs than a `u32` can count, all of them in their places, and the row of partners made of them
+pub record HasTables (checked : Checked) (row : List ℕ) : Type 0 where
+  pub few : length checked.pairs < 2 ^ 32
+  pub placed : table_fault checked.old checked.new checked.pairs ≡ None
+  pub partners : HoldsPartners row checked.pairs

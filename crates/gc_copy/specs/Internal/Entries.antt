@@ -1,0 +1,13 @@
+-- For private contracts and proofs, beside `Entries`.
+use Rattle.std.specs.Prelude.{ℕ, List, [], ◌∷◌, Option, Some, None}
+use Rattle.gc_graph.specs.declared.reply.Reply.{Reply}
+use Rattle.gc_graph.specs.declared.reply.Reply.TheVariants.{Done}
+
+abbrev pub oldest : List (ℕ × ℕ) → Option (ℕ × ℕ)
+oldest [] = None
+oldest (entry ∷ rest) = Some entry
+
+-- what a command wrote, where it was answered `Done`
+abbrev pub if_done : Reply → Option (ℕ × ℕ) → Option (ℕ × ℕ)
+if_done Done entry = entry
+if_done reply entry = None

@@ -1,0 +1,5 @@
+-- What only private contracts and proofs need: no part of a promise.
+pub mod Faults
+pub mod Marks
+pub mod Players
+pub mod Scripts

@@ -1,0 +1,19 @@
+-- For private contracts and proofs, beside `Faults`.
+use Rattle.gc_graph.specs.declared.text.all_bytes.ReadFault.{ReadFault}
+use Rattle.gc_graph.specs.declared.text.all_bytes.ReadFault.TheVariants as reading
+use Rattle.gc_trace.specs.declared.fault.TraceFault.{TraceFault}
+use Rattle.gc_trace.specs.declared.fault.TraceFault.TheVariants.{Read, TooLarge, NoMemory}
+use Rattle.gc_trace.specs.declared.fault.PlayFault.{PlayFault}
+use Rattle.gc_trace.specs.declared.fault.PlayFault.TheVariants as plays
+use Rattle.gc_trace.specs.declared.fault.PlayFault.TheVariants.{Trace}
+
+-- what a reader's own fault is called
+abbrev pub fault_of_reading : ReadFault → TraceFault
+fault_of_reading reading.Read = Read
+fault_of_reading reading.TooLarge = TooLarge
+fault_of_reading reading.NoMemory = NoMemory
+
+-- what a trace's fault is called where it is played: want of memory is the player's own
+abbrev pub fault_of_trace : TraceFault → PlayFault
+fault_of_trace NoMemory = plays.NoMemory
+fault_of_trace fault = Trace fault

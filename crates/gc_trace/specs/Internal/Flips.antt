@@ -1,0 +1,12 @@
+-- For private contracts and proofs, beside `Flips`.
+use Rattle.std.specs.Prelude.{◌≤◌, length}
+use Rattle.gc_words.specs.Image.{IsShaped}
+use Rattle.gc_cert.specs.Grammar.{CertifiedPair}
+
+-- both images are those of spaces, and there are few enough roots and pairs for a pair text
+pub record HasCounts (pair : CertifiedPair) : Type 0 where
+  pub old : IsShaped pair.old
+  pub new : IsShaped pair.new
+  pub old_roots : length pair.old.roots ≤ 272
+  pub new_roots : length pair.new.roots ≤ 272
+  pub pairs : length pair.pairs ≤ 524287

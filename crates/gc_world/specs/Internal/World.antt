@@ -1,0 +1,18 @@
+-- For private contracts and proofs, beside `World`.
+use Rattle.std.specs.Prelude.{◌≡◌, Option, Some, None, ⊤}
+use Rattle.gc_core.specs.Flip.{IsCertified}
+use Rattle.gc_copy.specs.State.{State}
+use Rattle.gc_cert.specs.Grammar.{CertifiedPair}
+use Rattle.gc_world.specs.History.{IsHistory}
+use Rattle.gc_world.specs.World.{Past, present}
+
+-- a kept pair is certified
+abbrev pub IsKept : Option CertifiedPair → Type 0
+IsKept None = ⊤
+IsKept (Some pair) = IsCertified pair
+
+-- what is there is what the history led to
+pub record IsWorld (now : State) (past : Past) : Type 0 where
+  pub history : IsHistory past.size past.mutators past.entries
+  pub state : now ≡ present past
+  pub kept : IsKept past.kept
