@@ -1,7 +1,9 @@
 -- Runs of a heap with its collector: the states that lists of events lead to.
-use Rattle.std.specs.Prelude.{ℕ, ◌<◌, ◌≤◌, List, [], ◌∷◌, ⊤}
+use Rattle.std.specs.Prelude.{ℕ, ◌<◌, ◌≤◌, ◌==◌, if◌then◌else◌, List, [], ◌∷◌, ⊤}
+use Rattle.std.specs.List.{flat_map}
 use Rattle.gc_graph.specs.Limits.{most_words}
 use Rattle.gc_graph.specs.Range.{IsCommand}
+use Rattle.gc_graph.specs.declared.command.Op.{Op}
 use Rattle.gc_copy.specs.State.{State, opening_state}
 use Rattle.gc_copy.specs.Steps.{mutate, collect}
 use Rattle.gc_copy.specs.declared.event.Event.{Event}
@@ -51,3 +53,14 @@ answer s (Collect step) = Collector (collect s step).0
 abbrev pub answers : State → List Event → List Answer
 answers s [] = []
 answers s (event ∷ events) = answer s event ∷ answers (after s event) events
+
+-- ---- what one mutator does
+
+-- the command, where it is mutator m's
+abbrev pub command_by : ℕ → Event → List Op
+command_by m (Mutate other op) = if other == m then op ∷ [] else []
+command_by m (Collect step) = []
+
+-- the commands of mutator m, in order
+abbrev pub commands_of : ℕ → List Event → List Op
+commands_of m events = flat_map (command_by m) events

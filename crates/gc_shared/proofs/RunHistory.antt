@@ -1,5 +1,5 @@
 -- What the history of a run is, from what its seats have and from what closing them says.
-use Rattle.std.proofs.Common.{◌≡◌, ◌≢◌, ℕ, zero, suc, ◌+◌, ◌<◌, ◌≤◌, ◌==◌, Bool, true, false, cond, List, [], ◌∷◌, length, map, filter, get_or, refl, sym, ap, ◌∙◌, arith, All, subst, ⊎_elim, eqb}
+use Rattle.std.proofs.Common.{◌≡◌, ◌≢◌, ℕ, zero, suc, ◌+◌, ◌<◌, ◌≤◌, ◌==◌, Bool, true, false, cond, List, [], ◌∷◌, ◌++◌, length, map, filter, get_or, refl, sym, ap, ◌∙◌, arith, All, subst, ⊎_elim, eqb}
 use Rattle.std.proofs.lemmas.Bool.{cases_lt, eq-eqb}
 use Rattle.std.proofs.lemmas.Bool.Decides.{eqb_tells}
 use Rattle.std.proofs.lemmas.List.{length-map}
@@ -16,7 +16,9 @@ use Rattle.gc_shared.specs.Seats.{SeatValue, Opening, count_of_seats}
 use Rattle.gc_shared.specs.Closing.{receipts_of, IsWhole}
 use Rattle.gc_shared.specs.Internal.Marks.{AgreeByNumber}
 use Rattle.gc_shared.proofs.SeatNumbers.{agree_by_number}
-use Rattle.gc_shared.specs.Scripts.{HasRun, IsUsefulStep, script_at, is_step, steps_of, commands_of, command_before}
+use Rattle.gc_shared.specs.Scripts.{HasRun, IsUsefulStep, script_at, is_step, steps_of}
+use Rattle.gc_copy.specs.Runs.{command_by, commands_of}
+use Rattle.gc_world.specs.History.{events_of}
 use Rattle.gc_shared.specs.Internal.Scripts.{HaveEnded}
 use Rattle.gc_shared.proofs.SeatEntries.{entry_on, selected, receipts_at, played_all, useful_all}
 
@@ -31,11 +33,8 @@ not_eq a b ne =
     (λ (other : (eqb a b ≡ false) × (a ≢ b)). other.0)
     (eqb_tells a b)
 
-events : List Entry → List Event
-events es = map (λ e. e.event) es
-
 -- one entry more
-command_more : (m : ℕ) (e : Event) (ops : List Op) (rest : List Event) → map (Mutate m) ops ≡ rest → map (Mutate m) (command_before m e ops) ≡ cond (is_by m e) (e ∷ rest) rest
+command_more : (m : ℕ) (e : Event) (ops : List Op) (rest : List Event) → map (Mutate m) ops ≡ rest → map (Mutate m) (command_by m e ++ ops) ≡ cond (is_by m e) (e ∷ rest) rest
 command_more m (Mutate k op) ops rest is =
     ⊎_elim
     (λ (same : (eqb k m ≡ true) × (k ≡ m)). let op_is : Mutate m op ≡ Mutate k op = ap (λ (n : ℕ). Mutate n op) (sym same.1) in rw same.0 (cc))
@@ -47,9 +46,9 @@ if_map : (b : Bool) (e : Entry) (es : List Entry) → cond b (e.event ∷ map (�
 if_map true e es = refl
 if_map false e es = refl
 
-commands_are : (m : ℕ) (h : List Entry) → map (Mutate m) (commands_of m h) ≡ map (λ e. e.event) (filter (λ e. is_by m e.event) h)
+commands_are : (m : ℕ) (h : List Entry) → map (Mutate m) (commands_of m (events_of h)) ≡ map (λ e. e.event) (filter (λ e. is_by m e.event) h)
 commands_are m [] = refl
-commands_are m (e ∷ es) = command_more m e.event (commands_of m es) (map (λ e. e.event) (filter (λ e. is_by m e.event) es)) (commands_are m es) ∙ if_map (is_by m e.event) e (filter (λ e. is_by m e.event) es)
+commands_are m (e ∷ es) = command_more m e.event (commands_of m (events_of es)) (map (λ e. e.event) (filter (λ e. is_by m e.event) es)) (commands_are m es) ∙ if_map (is_by m e.event) e (filter (λ e. is_by m e.event) es)
 
 same_commands : (m : ℕ) (xs ys : List Op) → map (Mutate m) xs ≡ map (Mutate m) ys → xs ≡ ys
 same_commands m [] [] e = refl
@@ -104,13 +103,13 @@ module _ (scripts : List (Vec Op Global)) (turns : ℕ) (seats : List SeatValue)
       rw here (collector_all Q (collector (λ e. ne (here ∙ e)))))
       (cases_lt t (length scripts))
 
-  commands : (h : List Entry) → AgreeByNumber h seats (length scripts + 1) → (m : ℕ) → m < length scripts → commands_of m h ≡ script_at scripts m
+  commands : (h : List Entry) → AgreeByNumber h seats (length scripts + 1) → (m : ℕ) → m < length scripts → commands_of m (events_of h) ≡ script_at scripts m
   commands h agree m lt =
       let mine = player_all (λ e. is_by m e ≡ true) m lt (λ op. eq-eqb m m refl) in
       let not_mine = others (λ e. is_by m e ≡ false) m (λ t op ne player. not_eq t m ne) (λ ne step. refl) in
       let sel = selected h seats (length scripts + 1) m (is_by m) agree (omega arith) mine not_mine in
       let is = receipts m (omega arith) in
-      same_commands m (commands_of m h) (script_at scripts m)
+      same_commands m (commands_of m (events_of h)) (script_at scripts m)
       (commands_are m h ∙ ap (λ (es : List Entry). map (λ e. e.event) es) (sym sel) ∙ events_of_entries (receipts_of seats m)
       ∙ ap (λ (rs : List Receipt). map (λ r. r.event) rs) is ∙ (ended.each m nobody lt).events)
 

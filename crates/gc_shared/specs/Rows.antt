@@ -14,7 +14,9 @@ use Rattle.gc_shared.specs.declared.seat.Receipt.{Receipt}
 use Rattle.gc_shared.specs.Seats.{SeatValue, receipt}
 use Rattle.gc_shared.specs.Receipts.{ReceiptsAgree}
 use Rattle.gc_shared.specs.Closing.{IsTorn, IsExtra}
-use Rattle.gc_shared.specs.Scripts.{commands_of, steps_of}
+use Rattle.gc_copy.specs.Runs.{commands_of}
+use Rattle.gc_world.specs.History.{events_of}
+use Rattle.gc_shared.specs.Scripts.{steps_of}
 
 abbrev pub r0 : SlotName
 r0 = own_slot 0
@@ -58,5 +60,5 @@ pub record Rows : Type 0 where
   pub falling : IsTorn history (first_with (looked 3 ∷ cleared 0 ∷ []) ∷ []) 1 0 1
   -- events without receipts
   pub extra : IsExtra history (first ∷ []) 1
-  pub commands : commands_of 0 history ≡ Nil r0 ∷ Look r0 ∷ []
+  pub commands : commands_of 0 (events_of history) ≡ Nil r0 ∷ Look r0 ∷ []
   pub steps : steps_of history ≡ entry_of (Collect Begin) (Useful Begun) ∷ []

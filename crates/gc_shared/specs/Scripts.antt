@@ -1,5 +1,5 @@
 -- Scripts that threads run: what their seats have on their receipts then, and what the world's history has.
-use Rattle.std.specs.Prelude.{◌≡◌, ℕ, ◌<◌, ◌==◌, ⊤, Bool, true, false, if◌then◌else◌, List, [], ◌∷◌, length, map, filter, All, slice_index_or}
+use Rattle.std.specs.Prelude.{◌≡◌, ℕ, ◌<◌, ⊤, Bool, true, false, List, [], ◌∷◌, length, map, filter, All, slice_index_or}
 use Rattle.std.specs.declared.vec.Vec.{Vec}
 use Rattle.std.specs.declared.alloc.Global.{Global}
 use Rattle.gc_graph.specs.declared.command.Op.{Op}
@@ -8,6 +8,8 @@ use Rattle.gc_copy.specs.declared.event.Event.{Event}
 use Rattle.gc_copy.specs.declared.event.Event.TheVariants.{Mutate, Collect}
 use Rattle.gc_copy.specs.declared.event.Answer.{Answer}
 use Rattle.gc_copy.specs.declared.event.Answer.TheVariants.{Mutator, Collector, Useful}
+use Rattle.gc_copy.specs.Runs.{commands_of}
+use Rattle.gc_world.specs.History.{events_of}
 use Rattle.gc_world.specs.World.{Past}
 
 -- script m
@@ -25,16 +27,7 @@ IsUsefulStep (Collect step) (Useful reply) = ⊤
 
 -- ---- in a history
 
--- the command before others, where it is this mutator's
-abbrev pub command_before : ℕ → Event → List Op → List Op
-command_before m (Mutate k op) ops = if k == m then op ∷ ops else ops
-command_before m (Collect step) ops = ops
-
--- the commands of a mutator, in order
-abbrev pub commands_of : ℕ → List Entry → List Op
-commands_of m [] = []
-commands_of m (entry ∷ rest) = command_before m entry.event (commands_of m rest)
-
+-- an event of the collector
 abbrev pub is_step : Event → Bool
 is_step (Mutate m op) = false
 is_step (Collect step) = true
@@ -48,6 +41,6 @@ steps_of entries = filter (λ entry. is_step entry.event) entries
 pub record HasRun (size : ℕ) (scripts : List (Vec Op Global)) (turns : ℕ) (w : Past) : Type 0 where
   pub opened : w.size ≡ size
   pub mutators : w.mutators ≡ length scripts
-  pub commands : (m : ℕ) → m < length scripts → commands_of m w.entries ≡ script_at scripts m
+  pub commands : (m : ℕ) → m < length scripts → commands_of m (events_of w.entries) ≡ script_at scripts m
   pub steps : length (steps_of w.entries) ≡ turns
   pub useful : All (λ entry. IsUsefulStep entry.event entry.answer) (steps_of w.entries)

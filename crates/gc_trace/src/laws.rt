@@ -10,7 +10,8 @@ ghost use Rattle.gc_trace.specs.Plays.{answers};
 ghost use Rattle.gc_trace.specs.Rows.{TextRows, SizedRows, LineRows};
 ghost use Rattle.gc_trace.specs.Report.{report_of};
 ghost use Rattle.gc_trace.specs.ReportRows.{ReportRows};
-ghost use Rattle.gc_trace.specs.Scripts.{script_of, scripts};
+ghost use Rattle.gc_copy.specs.Runs.{commands_of};
+ghost use Rattle.gc_trace.specs.Scripts.{scripts};
 ghost use Rattle.gc_trace.specs.declared.fault.TraceFault.{TraceFault};
 
 /// A text is read in one way: as one trace, or with one first fault.
@@ -56,5 +57,5 @@ pub fn pairs_are_placed_by_steps()
 pub fn scripts_are_commands()
     ensures count { (mutators : ℕ) (events : List Event) → length (scripts mutators events) ≡ mutators }
     ensures commands { (m mutators : ℕ) (events : List Event)
-        → AllByRecursion (IsOf mutators) events → AllByRecursion IsCommand (script_of m events) }
+        → AllByRecursion (IsOf mutators) events → AllByRecursion IsCommand (commands_of m events) }
 {}

@@ -1,5 +1,6 @@
 ghost use Rattle.std.specs.Prelude.{◌≡◌, map, IfOk};
-ghost use Rattle.gc_trace.specs.Scripts.{script_of, scripts};
+ghost use Rattle.gc_copy.specs.Runs.{commands_of};
+ghost use Rattle.gc_trace.specs.Scripts.{scripts};
 
 use crate::trace::Trace;
 use gc_graph::{NoMemory, Op};
@@ -23,7 +24,7 @@ pub fn scripts_of(alloc: Global, trace: &Trace) -> Result<Vec<Vec<Op>>, NoMemory
 
 // The commands of mutator m.
 fn script_of(alloc: Global, m: u8, events: &[Event]) -> Result<Vec<Op>, NoMemory>
-    ensures { IfOk result (λ script. script.items ≡ script_of m events.now) }
+    ensures { IfOk result (λ script. script.items ≡ commands_of m events.now) }
 {
     let mut script = Vec::new(alloc);
     let _named: Option<Op> = None;

@@ -2,10 +2,10 @@
 use Rattle.std.specs.Prelude.{◌≡◌, ℕ, ◌<◌, List, Option, length, All}
 use Rattle.std.specs.Io.KnownBytes.{Appends}
 use Rattle.gc_graph.specs.Streams.{SendsFront}
-use Rattle.gc_shared.specs.Scripts.{IsUsefulStep, commands_of, steps_of}
+use Rattle.gc_shared.specs.Scripts.{IsUsefulStep, steps_of}
 use Rattle.gc_trace.specs.Faults.{IsReadAs}
 use Rattle.gc_trace.specs.Grammar.{Recording, spelling, written}
-use Rattle.gc_trace.specs.Scripts.{script_of}
+use Rattle.gc_copy.specs.Runs.{commands_of}
 use Rattle.gc_world.specs.History.{events_of, IsHistory}
 use Rattle.gc_world.specs.declared.entry.Entry.{Entry}
 
@@ -13,7 +13,7 @@ use Rattle.gc_world.specs.declared.entry.Entry.{Entry}
 -- the collector made so many steps, all as useful ones.
 pub record IsThreadedRun (t : Recording) (turns : ℕ) (entries : List Entry) : Type 0 where
   pub history : IsHistory t.size t.mutators entries
-  pub commands : (m : ℕ) → m < t.mutators → commands_of m entries ≡ script_of m t.events
+  pub commands : (m : ℕ) → m < t.mutators → commands_of m (events_of entries) ≡ commands_of m t.events
   pub steps : length (steps_of entries) ≡ turns
   pub useful : All (λ entry. IsUsefulStep entry.event entry.answer) (steps_of entries)
 

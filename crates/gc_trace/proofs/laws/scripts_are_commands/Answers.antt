@@ -7,7 +7,7 @@ use Rattle.gc_graph.specs.declared.command.Op.{Op}
 use Rattle.gc_copy.specs.declared.event.Event.{Event}
 use Rattle.gc_copy.specs.declared.event.Event.TheVariants.{Mutate, Collect}
 use Rattle.gc_trace.specs.Grammar.{IsOf}
-use Rattle.gc_trace.specs.Scripts.{command_by, script_of}
+use Rattle.gc_copy.specs.Runs.{command_by, commands_of}
 use Rattle.gc_trace.proofs.laws.scripts_are_commands.Goals as goal
 
 more : (xs ys : List Op) → AllByRecursion IsCommand xs → AllByRecursion IsCommand ys → AllByRecursion IsCommand (xs ++ ys)
@@ -18,9 +18,9 @@ one : (m mutators : ℕ) (event : Event) → IsOf mutators event → AllByRecurs
 one m mutators (Mutate other op) of = cond_both (other == m) (op ∷ []) [] (AllByRecursion IsCommand) (λ t. (of.1, tt)) (λ t. tt)
 one m mutators (Collect step) of = tt
 
-commands : (m mutators : ℕ) (events : List Event) → AllByRecursion (IsOf mutators) events → AllByRecursion IsCommand (script_of m events)
+commands : (m mutators : ℕ) (events : List Event) → AllByRecursion (IsOf mutators) events → AllByRecursion IsCommand (commands_of m events)
 commands m mutators [] of = tt
-commands m mutators (event ∷ events) of = more (command_by m event) (script_of m events) (one m mutators event of.0) (commands m mutators events of.1)
+commands m mutators (event ∷ events) of = more (command_by m event) (commands_of m events) (one m mutators event of.0) (commands m mutators events of.1)
 
 pub returns : goal.returns
-returns c = record { count = λ mutators events. length-map-range_with_len (λ m. script_of m events) 0 mutators; commands = commands }
+returns c = record { count = λ mutators events. length-map-range_with_len (λ m. commands_of m events) 0 mutators; commands = commands }
