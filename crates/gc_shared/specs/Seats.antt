@@ -1,7 +1,8 @@
 -- Openings, their seats, and what a call adds to one.
 use Rattle.std.specs.Prelude.{◌≡◌, ℕ, ◌+◌, ◌≤◌, Bool, nat_lt, List, [], ◌∷◌, ◌++◌, ⊤}
+use Rattle.gc_graph.specs.Limits.{most_words}
 use Rattle.gc_copy.specs.declared.step.Step.{Step}
-use Rattle.gc_copy.specs.declared.step.Step.TheVariants.{Begin, BeginSized, Roots, Scan, Apply, Flip, Drop}
+use Rattle.gc_copy.specs.declared.step.Step.TheVariants.{BeginSized, Apply}
 use Rattle.gc_copy.specs.declared.event.Event.{Event}
 use Rattle.gc_copy.specs.declared.event.Answer.{Answer}
 use Rattle.gc_shared.specs.declared.seat.Receipt.{Receipt}
@@ -40,19 +41,9 @@ AddsReceipt before after event answer =
 
 -- where a step has a size, it is that of a space
 abbrev pub HasSize : Step → Type 0
-HasSize Begin = ⊤
-HasSize (BeginSized size) = (1 ≤ size) × (size ≤ 1048576)
-HasSize Roots = ⊤
-HasSize Scan = ⊤
-HasSize (Apply k) = ⊤
-HasSize Flip = ⊤
-HasSize Drop = ⊤
+HasSize (BeginSized size) = (1 ≤ size) × (size ≤ most_words)
+HasSize step = ⊤
 
 abbrev pub IsApply : Step → Type 0
-IsApply Begin = ⊥
-IsApply (BeginSized size) = ⊥
-IsApply Roots = ⊥
-IsApply Scan = ⊥
 IsApply (Apply k) = ⊤
-IsApply Flip = ⊥
-IsApply Drop = ⊥
+IsApply step = ⊥

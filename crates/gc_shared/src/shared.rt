@@ -112,7 +112,7 @@ impl Shared {
         let reply = world.mutate(m, op)?;
         drop(world);
         let event = Event::Mutate { m, op: *op };
-        let answer = mutator_answer(&reply);
+        let answer = Answer::of_mutator(&reply);
         seat.receipts.push_reserved(Receipt {
             place,
             event,
@@ -217,14 +217,7 @@ impl Shared {
 
 ghost use Rattle.std.specs.Prelude.{◌≡◌, ◌↔◌, IsTrue};
 ghost use Rattle.gc_copy.specs.Runs.{IsStep};
-ghost use Rattle.gc_copy.specs.declared.event.Answer.TheVariants.{Mutator};
 ghost use Rattle.gc_shared.specs.Seats.{HasSize};
-
-fn mutator_answer(reply: &Reply) -> Answer
-    ensures { result ≡ Mutator reply.now }
-{
-    Answer::Mutator(*reply)
-}
 
 // Whether a world of so many mutators can make the step: an `Apply` names one of their logs.
 fn is_step(step: Step, mutators: u8) -> bool
