@@ -1,7 +1,7 @@
 -- Reading the tokens of a line from left to right.
 use Rattle.std.specs.Prelude.{ℕ, ◌==◌, List, Option, Some, None, if◌then◌else◌}
 use Rattle.gc_graph.specs.Limits.{most_words}
-use Rattle.gc_graph.specs.Tokens.{Tokens, number_at, token_at, end_of}
+use Rattle.gc_graph.specs.Tokens.{◌>>=◌, Tokens, number_at, token_at, end_of}
 
 -- a name and a number up to this
 unfoldable pub count_of : List ℕ → ℕ → Tokens → Option ℕ
