@@ -43,7 +43,7 @@ marked_already : (b : Bool) → cond b true true ≡ true
 marked_already true = refl
 marked_already false = refl
 
-pub marks_one : (words : List ℕ) (marks : List Bool) (at : ℕ) (h : Header) → at < length words → read_header (slice_index words at) ≡ Some h → MarksTo words marks at → MarksTo words (set marks at true) (at + (h.len + 2))
+marks_one : (words : List ℕ) (marks : List Bool) (at : ℕ) (h : Header) → at < length words → read_header (slice_index words at) ≡ Some h → MarksTo words marks at → MarksTo words (set marks at true) (at + (h.len + 2))
 marks_one words marks at h inside word before =
     let m : Met words at = met words at inside before.walked in
     let same : m.header ≡ h = (let s : Some m.header ≡ Some h = sym m.word ∙ word in cc) in
@@ -65,6 +65,12 @@ marks_one words marks at h inside word before =
           | inr other ↦ (let kept : get_or (set marks at true) place false ≡ get_or marks place false = get_or-set_other marks at place true false (λ e. other (sym e)) in
               ap (λ b. cond b true rest) kept ∙ ap (cond (get_or marks place false) true) (sym (here m place false (ne_eqb at place other))) ∙ before.starts place)
         ]
+
+pub marks_next : (words : List ℕ) (marks : List Bool) (at next : ℕ) → at < length words → next_of words at ≡ Some next → MarksTo words marks at → MarksTo words (set marks at true) next
+marks_next words marks at next inside e before =
+    let b : Behind words at next = behind words at next inside before.walked e in
+    let place : next ≡ at + (b.step.header.len + 2) = b.step.place in
+    subst (MarksTo words (set marks at true)) (sym place) (marks_one words marks at b.step.header inside b.step.word before)
 
 -- ---- what a mark says
 

@@ -1,7 +1,7 @@
 ghost use Rattle.std.specs.Prelude.{◌≡◌, Some, IsOk, IsTrue};
 ghost use Rattle.gc_words.specs.Image.{walk_words, is_start, block_at};
 
-use gc_words::Header;
+use gc_words::{Addr, Header, field_index};
 
 /// An object as it stands among words, without its link.
 #[derive(Clone, Copy, Debug)]
@@ -19,7 +19,7 @@ pub(crate) fn object_at(words: &[u64], start: u32) -> Object<'_>
 {
     let at = start as usize;
     let header = Header::read(words[at]).unwrap();
-    let fields = at + 2;
+    let fields = field_index(Addr(start), 0);
     Object {
         header,
         fields: &words[fields..fields + usize::from(header.len())],

@@ -1,5 +1,5 @@
 use gc_graph::NoMemory;
-use gc_words::{Header, ImageRef};
+use gc_words::{ImageRef, next_start};
 use std::alloc::Global;
 use std::marker::Model;
 
@@ -62,7 +62,6 @@ fn mark_starts(words: &[u64], marks: &mut [bool])
     let mut at = 1;
     while at < words.len() {
         marks[at] = true;
-        let header = Header::read(words[at]).unwrap();
-        at += usize::from(header.len()) + 2;
+        at = next_start(words, at).unwrap();
     }
 }

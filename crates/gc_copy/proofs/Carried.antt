@@ -9,7 +9,7 @@ use Rattle.gc_copy.specs.Steps.{written, logged, mutate, log_at, with_log, fresh
 use Rattle.gc_copy.specs.Runs.{IsEvent, AreEvents, after, state_after}
 use Rattle.gc_copy.specs.declared.event.Event.{Event}
 use Rattle.gc_copy.specs.declared.event.Event.TheVariants.{Mutate, Collect}
-use Rattle.gc_copy.specs.Carried.{is_begun, base_after, base_of_run, IsLiveSince, OnlyKeptIsPaired, CarriesOnlyKept}
+use Rattle.gc_copy.specs.Carried.{is_begun, base_after, base_of_run, IsLiveSince, OnlyKeptIsPaired, CarriesOnlyKept, LeadsOnlyTo, OnlyKeptIsNamed, NamesOnlyKept}
 use Rattle.gc_copy.specs.Members.{In}
 use Rattle.gc_copy.specs.Belonging.{RefersTo, IsState}
 use Rattle.gc_graph.specs.declared.command.Op.{Op}
@@ -25,21 +25,16 @@ use Rattle.gc_copy.proofs.Replicas.{pair, replica_in}
 use Rattle.gc_copy.proofs.Steps.{some_of, unreplicated_some}
 use Rattle.gc_copy.proofs.Runs.{Reached, opening_ok, event_keeps}
 
--- P holds of what the roots refer to, and of what objects of which it holds refer to
-pub record Closed (P : ℕ → Type 0) (g : Graph) : Type 0 where
-  pub roots : (v : Value) → In v g.roots → RefersTo P v
-  pub fields : (a : ℕ) (o : Object) → In (a, o) g.objects → P a → (v : Value) → In v o.fields → RefersTo P v
-
 -- ---- commands
 
-root_refers : (P : ℕ → Type 0) (g : Graph) (p : ℕ) → Closed P g → RefersTo P (root g p)
+root_refers : (P : ℕ → Type 0) (g : Graph) (p : ℕ) → LeadsOnlyTo P g → RefersTo P (root g p)
 root_refers P g p h = go (slice_get g.roots p) refl
   where
     go : (o : Option Value) → slice_get g.roots p ≡ o → RefersTo P (value_or_nil o)
     go None e = tt
     go (Some v) e = h.roots v (get_in v g.roots p e)
 
-field_refers : (P : ℕ → Type 0) (g : Graph) (v : Value) (i : ℕ) (w : Value) → Closed P g → RefersTo P v → field_of (object_of g.objects v) i ≡ Some w → RefersTo P w
+field_refers : (P : ℕ → Type 0) (g : Graph) (v : Value) (i : ℕ) (w : Value) → LeadsOnlyTo P g → RefersTo P v → field_of (object_of g.objects v) i ≡ Some w → RefersTo P w
 field_refers P g Nil i w h r e = absurd cc
 field_refers P g (Num n) i w h r e = absurd cc
 field_refers P g (Ref a) i w h r e = go (lookup g.objects a) refl e
@@ -48,15 +43,15 @@ field_refers P g (Ref a) i w h r e = go (lookup g.objects a) refl e
     go None k l = absurd cc
     go (Some o) k l = h.fields a o (lookup_in g.objects a o k) r w (get_in w o.fields i l)
 
-root_closed : (P : ℕ → Type 0) (g : Graph) (d : ℕ) (v : Value) → Closed P g → RefersTo P v → Closed P (set_root g d v)
+root_closed : (P : ℕ → Type 0) (g : Graph) (d : ℕ) (v : Value) → LeadsOnlyTo P g → RefersTo P v → LeadsOnlyTo P (set_root g d v)
 root_closed P g d v h r = record { roots = λ w k. ⊎_elim (λ e. subst (RefersTo P) e r) (h.roots w) (in_set w g.roots d v k); fields = h.fields }
 
-get_closed : (P : ℕ → Type 0) (g : Graph) (d : ℕ) (target : Option Object) (found : Option Value) → Closed P g → ((v : Value) → found ≡ Some v → RefersTo P v) → Closed P (get_field g d target found).1
+get_closed : (P : ℕ → Type 0) (g : Graph) (d : ℕ) (target : Option Object) (found : Option Value) → LeadsOnlyTo P g → ((v : Value) → found ≡ Some v → RefersTo P v) → LeadsOnlyTo P (get_field g d target found).1
 get_closed P g d None found h f = h
 get_closed P g d (Some o) None h f = h
 get_closed P g d (Some o) (Some v) h f = root_closed P g d v h (f v refl)
 
-put_closed : (P : ℕ → Type 0) (g : Graph) (v : Value) (target : Option Object) (found : Option Value) (i : ℕ) (w : Value) → Closed P g → RefersTo P w → Closed P (put_field g v target found i w).1
+put_closed : (P : ℕ → Type 0) (g : Graph) (v : Value) (target : Option Object) (found : Option Value) (i : ℕ) (w : Value) → LeadsOnlyTo P g → RefersTo P w → LeadsOnlyTo P (put_field g v target found i w).1
 put_closed P g Nil target found i w h r = h
 put_closed P g (Num n) target found i w h r = h
 put_closed P g (Ref a) None found i w h r = h
@@ -74,7 +69,7 @@ put_closed P g (Ref a) (Some o) (Some before) i w h r = record {
       e.2;
 }
 
-new_closed : (P : ℕ → Type 0) (g : Graph) (d kind len name : ℕ) → Closed P g → P name → Closed P (set_root (add_object g name (record { kind = kind; fields = replicate len Nil })) d (Ref name))
+new_closed : (P : ℕ → Type 0) (g : Graph) (d kind len name : ℕ) → LeadsOnlyTo P g → P name → LeadsOnlyTo P (set_root (add_object g name (record { kind = kind; fields = replicate len Nil })) d (Ref name))
 new_closed P g d kind len name h p = record {
   roots = λ w k. ⊎_elim (λ e. subst (RefersTo P) e p) (h.roots w) (in_set w g.roots d (Ref name) k);
   fields = λ a o k q v l. ⊎_elim
@@ -83,7 +78,7 @@ new_closed P g d kind len name h p = record {
       (in_push (a, o) (name, record { kind = kind; fields = replicate len Nil }) g.objects k);
 }
 
-step_closed : (P : ℕ → Type 0) (g : Graph) (m : ℕ) (op : Op) (name : ℕ) → Closed P g → P name → Closed P (step g m op name).1
+step_closed : (P : ℕ → Type 0) (g : Graph) (m : ℕ) (op : Op) (name : ℕ) → LeadsOnlyTo P g → P name → LeadsOnlyTo P (step g m op name).1
 step_closed P g m (ops.New d kind len) name h p = new_closed P g (place d m) kind len name h p
 step_closed P g m (ops.Num d n) name h p = root_closed P g (place d m) (Num n) h tt
 step_closed P g m (ops.Nil d) name h p = root_closed P g (place d m) Nil h tt
@@ -123,7 +118,7 @@ with_originals P c next g (Ref a) h p e = go (is_some (replica_of c a)) e
 with_written_original : (name i : ℕ) (w : Value) (r : Replica) → (with_written name i w r).original ≡ r.original
 with_written_original name i w r = cond_both (r.original == name) _ _ (λ (q : Replica). q.original ≡ r.original) (λ t. refl) (λ t. refl)
 
-bring_originals : (P : ℕ → Type 0) (c next : Collection) (g : Graph) (name i : ℕ) → Closed P g → Originals P c.replicas → P name → bring_up_to_date c g name i ≡ Some next → Originals P next.replicas
+bring_originals : (P : ℕ → Type 0) (c next : Collection) (g : Graph) (name i : ℕ) → LeadsOnlyTo P g → Originals P c.replicas → P name → bring_up_to_date c g name i ≡ Some next → Originals P next.replicas
 bring_originals P c next g name i closed h p e = go (field_of (lookup g.objects name) i) refl e
   where
     copied : (v : Value) (d : Option Collection) → with_replica c g v ≡ d → RefersTo P v → copy_value d name i v ≡ Some next → Originals P next.replicas
@@ -142,7 +137,7 @@ bring_originals P c next g name i closed h p e = go (field_of (lookup g.objects 
 
 abbrev CarriesIn : (ℕ → Type 0) → ℕ → State → Option Collection → Type 0
 CarriesIn P end s None = Unit {0}
-CarriesIn P end s (Some c) = Closed P s.heap.graph × Originals P c.replicas × (end ≤ heap_end s)
+CarriesIn P end s (Some c) = LeadsOnlyTo P s.heap.graph × Originals P c.replicas × (end ≤ heap_end s)
 
 abbrev Quiet : (ℕ → Type 0) → ℕ → StepReply × State → Type 0
 Quiet P end next = (is_begun next.0 ≡ false) × CarriesIn P end next.1 next.1.collection
@@ -211,7 +206,7 @@ follow_more objects None fields i = refl
 follow_more objects (Some v) [] i = refl
 follow_more objects (Some v) (j ∷ fields) i = follow_more objects (field_of (object_of objects v) j) fields i
 
-begun_closed : (s : State) → IsState s → Closed (IsLiveSince s) s.heap.graph
+begun_closed : (s : State) → IsState s → LeadsOnlyTo (IsLiveSince s) s.heap.graph
 begun_closed s h = record { roots = roots; fields = fields }
   where
     g : Graph
@@ -255,8 +250,8 @@ mutate_carries base s m op h = go s.collection h
     go : (o : Option Collection) → CarriesIn (IsLiveSince base) (heap_end base) s o → CarriesIn (IsLiveSince base) (heap_end base) (mutate s m op).1 (logged o m (written s.heap.graph m op (mutate s m op).0))
     go None h = tt
     go (Some c) h =
-        let both : Closed (IsLiveSince base) (roomy_step s.heap m op (heap_end s)).1.graph × ((roomy_step s.heap m op (heap_end s)).1.free ≤ s.heap.free) =
-        cond_both (nat_lt s.heap.free (words_taken op)) _ _ (λ (next : Reply × Roomy). Closed (IsLiveSince base) next.1.graph × (next.1.free ≤ s.heap.free))
+        let both : LeadsOnlyTo (IsLiveSince base) (roomy_step s.heap m op (heap_end s)).1.graph × ((roomy_step s.heap m op (heap_end s)).1.free ≤ s.heap.free) =
+        cond_both (nat_lt s.heap.free (words_taken op)) _ _ (λ (next : Reply × Roomy). LeadsOnlyTo (IsLiveSince base) next.1.graph × (next.1.free ≤ s.heap.free))
         (λ t. (h.0, omega arith))
         (λ t. (step_closed (IsLiveSince base) s.heap.graph m op (heap_end s) h.0 (inr h.2), omega arith)) in
         (both.0, h.1, (let x = both.1 in let y = h.2 in omega arith))
@@ -288,11 +283,19 @@ run_carries : (mutators : ℕ) (events : List Event) (base s : State) → Follow
 run_carries mutators [] base s h r = h
 run_carries mutators (event ∷ events) base s h r = run_carries mutators events (base_after base s event) (after s event) (event_carries mutators base s event h r.0) r.1
 
-pub carries_only_kept : CarriesOnlyKept
-carries_only_kept size mutators events low high r =
+pub names_only_kept : NamesOnlyKept
+names_only_kept size mutators events low high r =
     let f = run_carries mutators events (opening_state size mutators) (opening_state size mutators) (record { reached = record { ok = opening_ok size mutators low high; count = refl }; carried = tt }) r in
     go (base_of_run (opening_state size mutators) (opening_state size mutators) events) (state_after (opening_state size mutators) events) _ f.carried
   where
-    go : (base s : State) (o : Option Collection) → CarriesIn (IsLiveSince base) (heap_end base) s o → OnlyKeptIsPaired base o
+    go : (base s : State) (o : Option Collection) → CarriesIn (IsLiveSince base) (heap_end base) s o → OnlyKeptIsNamed base s.heap.graph o
     go base s None k = tt
-    go base s (Some c) k = all_from_in (λ (p : ℕ × ℕ). IsLiveSince base p.0) (pairs_of c) (λ p l. let q = in_map_from pair p c.replicas l in subst (λ (x : ℕ × ℕ). IsLiveSince base x.0) q.2 (k.1 q.0 q.1))
+    go base s (Some c) k = (k.0, all_from_in (λ (p : ℕ × ℕ). IsLiveSince base p.0) (pairs_of c) (λ p l. let q = in_map_from pair p c.replicas l in subst (λ (x : ℕ × ℕ). IsLiveSince base x.0) q.2 (k.1 q.0 q.1)))
+
+pub carries_only_kept : CarriesOnlyKept
+carries_only_kept size mutators events low high r =
+    go (base_of_run (opening_state size mutators) (opening_state size mutators) events) (state_after (opening_state size mutators) events) _ (names_only_kept size mutators events low high r)
+  where
+    go : (base s : State) (o : Option Collection) → OnlyKeptIsNamed base s.heap.graph o → OnlyKeptIsPaired base o
+    go base s None k = tt
+    go base s (Some c) k = k.1

@@ -2,10 +2,12 @@
 use Rattle.std.specs.Prelude.{◌⊎◌, ℕ, ◌≤◌, Bool, true, false, if◌then◌else◌, List, [], ◌∷◌, Option, Some, None, ⊤}
 use Rattle.std.specs.List.{All}
 use Rattle.gc_graph.specs.Limits.{most_words}
-use Rattle.gc_graph.specs.Graph.{Reachable}
+use Rattle.gc_graph.specs.Graph.{Value, Object, Graph, Reachable}
 use Rattle.gc_copy.specs.State.{Collection, State, opening_state, heap_end, pairs_of}
 use Rattle.gc_copy.specs.Steps.{collect}
 use Rattle.gc_copy.specs.Runs.{AreEvents, after, state_after}
+use Rattle.gc_copy.specs.Members.{In}
+use Rattle.gc_copy.specs.Belonging.{RefersTo}
 use Rattle.gc_copy.specs.declared.event.Event.{Event}
 use Rattle.gc_copy.specs.declared.event.Event.TheVariants.{Mutate, Collect}
 use Rattle.gc_copy.specs.declared.step.StepReply.{StepReply}
@@ -47,3 +49,19 @@ OnlyKeptIsPaired base (Some c) = All (λ p. IsLiveSince base p.0) (pairs_of c)
 abbrev pub CarriesOnlyKept : Type 0
 CarriesOnlyKept = (size mutators : ℕ) (events : List Event) → 1 ≤ size → size ≤ most_words → AreEvents mutators events
     → (let opening = opening_state size mutators in OnlyKeptIsPaired (base_of_run opening opening events) (state_after opening events).collection)
+
+-- P holds of each name in a root, and of each in a field of an object of which it holds
+pub record LeadsOnlyTo (P : ℕ → Type 0) (g : Graph) : Type 0 where
+  pub roots : (v : Value) → In v g.roots → RefersTo P v
+  pub fields : (a : ℕ) (o : Object) → In (a, o) g.objects → P a → (v : Value) → In v o.fields → RefersTo P v
+
+abbrev pub OnlyKeptIsNamed : State → Graph → Option Collection → Type 0
+OnlyKeptIsNamed base g None = ⊤
+OnlyKeptIsNamed base g (Some c) = LeadsOnlyTo (IsLiveSince base) g × OnlyKeptIsPaired base (Some c)
+
+-- In every run, while a collection is open, each name in a root, on the left of a pair, or in a field of an object kept
+-- from the state before it began, is one that is kept from that state.
+abbrev pub NamesOnlyKept : Type 0
+NamesOnlyKept = (size mutators : ℕ) (events : List Event) → 1 ≤ size → size ≤ most_words → AreEvents mutators events
+    → (let opening = opening_state size mutators in
+    let s = state_after opening events in OnlyKeptIsNamed (base_of_run opening opening events) s.heap.graph s.collection)

@@ -21,7 +21,7 @@ ghost use Rattle.gc_copy.specs.Members.{In};
 ghost use Rattle.gc_copy.specs.Belonging.{IsSpaceGraph, HasField, Belongs, BelongsBut, IsOpened, IsOpen, IsState};
 ghost use Rattle.gc_copy.specs.Runs.{IsStep, InEveryRun};
 ghost use Rattle.gc_copy.specs.Passing.{HasImage, PassesWhereReady, NeverRefused, AlwaysHasRoom, ScansToTheEnd, HasFewPairs};
-ghost use Rattle.gc_copy.specs.Carried.{CarriesOnlyKept};
+ghost use Rattle.gc_copy.specs.Carried.{CarriesOnlyKept, NamesOnlyKept};
 ghost use Rattle.gc_copy.specs.Rows.{Rows, SizedRows, FlipPairRows};
 ghost use Rattle.gc_copy.specs.declared.step.Step.{Step};
 ghost use Rattle.gc_copy.specs.declared.step.StepReply.TheVariants.{NoRoom};
@@ -145,9 +145,10 @@ pub fn answers_tell_changes()
 {}
 
 /// In every run, each original of an open collection was reachable when the collection began, or was made
-/// later.
+/// later. So was each object that a root refers to, and each that a field of such an object refers to.
 pub fn only_kept_is_carried()
-    ensures { CarriesOnlyKept }
+    ensures pairs { CarriesOnlyKept }
+    ensures names { NamesOnlyKept }
 {}
 
 /// Where the new space is at least as large as the old one, no step lacks room.

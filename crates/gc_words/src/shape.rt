@@ -4,9 +4,11 @@ ghost use Rattle.gc_words.specs.Walking.{next_of};
 
 use crate::header::Header;
 use gc_graph::object_words;
+use thiserror::Error;
 
 /// The words of a space are not shaped.
-#[derive(Clone, Copy, Debug, PartialEq, Eq)]
+#[derive(Clone, Copy, Debug, PartialEq, Eq, Error)]
+#[error("not shaped")]
 pub struct ShapeFault {
     /// The first address whose word is no header or whose object runs past the end. 0 where the words are
     /// not as many as the end says, or the first is not 0.
