@@ -17,6 +17,6 @@ of_each_reading one None P file read holds = tt
 of_each_reading one (Some text) P file read holds = λ pair other. subst P (one file pair text read.0 other.0) holds
 
 pub front_of_text : (o : Option (List ℕ)) (v : Verdict) (file : CertifiedPair) (old new : Option (List ℕ)) → IfSome o (λ text. IsReadAs file text) → v ≡ verdict_on file → SendsFront old new (verdict_line v)
-    → IfSome o (λ text. TellsFront text old new)
-front_of_text None v file old new read same front = tt
-front_of_text (Some text) v file old new read same front = record { pair = file; read = read; front = subst (λ v. SendsFront old new (verdict_line v)) same front }
+    → TellsFront o old new
+front_of_text None v file old new read same front = record { verdict = v; about = tt; front = front }
+front_of_text (Some text) v file old new read same front = record { verdict = v; about = record { pair = file; read = read; verdict_is = same }; front = front }

@@ -1,5 +1,5 @@
 -- What the checker answers to a text, and what it writes.
-use Rattle.std.specs.Prelude.{◌≡◌, ℕ, List, Option, ⊤}
+use Rattle.std.specs.Prelude.{◌≡◌, ℕ, List, Option, IfSome, ⊤}
 use Rattle.gc_graph.specs.Streams.{SendsFront}
 use Rattle.gc_cert.specs.Grammar.{CertifiedPair}
 use Rattle.gc_cert.specs.Faults.{IsReadAs}
@@ -27,8 +27,8 @@ pub record IsVerdictOn (text : List ℕ) (verdict : Verdict) : Type 0 where
   pub read : IsReadAs pair text
   pub verdict_is : verdict ≡ verdict_on pair
 
--- the text spells a pair, and a front of the line of its verdict went out
-pub record TellsFront (text : List ℕ) (old new : Option (List ℕ)) : Type 0 where
-  pub pair : CertifiedPair
-  pub read : IsReadAs pair text
-  pub front : SendsFront old new (verdict_line (verdict_on pair))
+-- a front of this verdict's line went out, and where the reader tells its text, it is the verdict on that
+pub record TellsFront (text : Option (List ℕ)) (old new : Option (List ℕ)) : Type 0 where
+  pub verdict : Verdict
+  pub about : IfSome text (λ text. IsVerdictOn text verdict)
+  pub front : SendsFront old new (verdict_line verdict)

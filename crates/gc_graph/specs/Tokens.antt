@@ -12,11 +12,8 @@ tokens_left None = []
 tokens_left (Some rest) = tokens_of rest.now
 
 infixl 10 ◌>>=◌
-
 abbrev pub ◌>>=◌ : {A B : Type 0} → Option A → (A → Option B) → Option B
-
 None >>= f = None
-
 (Some x) >>= f = f x
 
 -- the number whose decimal the token is, if it is at most this

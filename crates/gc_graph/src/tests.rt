@@ -1,11 +1,12 @@
-ghost use Rattle.std.specs.Prelude.{◌≤◌};
+ghost use Rattle.std.specs.Prelude.{◌≤◌, IfOk};
 ghost use Rattle.gc_graph.specs.Limits.{most_words};
 ghost use Rattle.gc_graph.specs.Machine.{HasMutator};
 
+use crate::text::{ReadFault, read_all};
 use crate::{Failed, NoMemory, Number, Op, Plain, Reply, Sink, Slot, Source, View};
 use std::alloc::Global;
 use std::io;
-use std::io::{Read, Write};
+use std::io::{ErrorKind, Read, Write};
 use std::test::Fail;
 
 /// Makes a command and keeps its reply.
@@ -239,6 +240,119 @@ fn a_write_of_no_byte_is_a_failure_for_good(rt: HostRuntime) {
     assert_eq!(rt; sink.write(b"text"), Err(Failed));
     assert!(rt; sink.failed());
     assert_eq!(rt; sink.write(b"text"), Err(Failed));
+}
+
+/// How a stream fails where it fails once.
+#[derive(Clone, Copy)]
+enum Hitch {
+    /// By this error.
+    Error(ErrorKind),
+    /// It takes no byte.
+    NoByte,
+}
+
+/// Fails at its first call, and would go on at the next.
+#[derive(Drop)]
+struct Hesitant {
+    hitch: Option<Hitch>,
+    calls: usize,
+}
+
+impl Hesitant {
+    fn new(hitch: Hitch) -> Hesitant {
+        Hesitant {
+            hitch: Some(hitch),
+            calls: 0,
+        }
+    }
+
+    fn answer(&mut self, all: usize) -> io::Result<usize>
+        ensures { IfOk result (λ count. count ≤ all) }
+    {
+        self.calls = self.calls.saturating_add(1);
+        match self.hitch.take() {
+            Some(Hitch::Error(kind)) => Err(kind.into()),
+            Some(Hitch::NoByte) => Ok(0),
+            None => Ok(all),
+        }
+    }
+}
+
+impl Read for Hesitant {
+    fn read(&mut self, buf: &mut [u8]) -> io::Result<usize> {
+        self.answer(buf.len())
+    }
+}
+
+impl Write for Hesitant {
+    fn write(&mut self, buf: &[u8]) -> io::Result<usize> {
+        self.answer(buf.len())
+    }
+
+    fn flush(&mut self) -> io::Result<()> {
+        Ok(())
+    }
+}
+
+/// The errors after which another call may go well.
+const PASSING: [ErrorKind; 3] = [
+    ErrorKind::Interrupted,
+    ErrorKind::WouldBlock,
+    ErrorKind::TimedOut,
+];
+
+#[test]
+fn a_reader_that_fails_once_is_not_asked_again(rt: HostRuntime) {
+    for kind in PASSING {
+        let mut reader = Hesitant::new(Hitch::Error(kind));
+        let mut source = Source::new(&mut reader);
+        let mut buffer = [0u8; 4];
+        assert_eq!(rt; source.read(&mut buffer), Err(Failed));
+        assert!(rt; source.failed());
+        assert_eq!(rt; source.read(&mut buffer), Err(Failed));
+        assert_eq!(rt; reader.calls, 1);
+        let mut reader = Hesitant::new(Hitch::Error(kind));
+        let had = read_all(rt.alloc(), &mut Source::new(&mut reader), 9);
+        assert_eq!(rt; had.err(), Some(ReadFault::Read));
+        assert_eq!(rt; reader.calls, 1);
+    }
+}
+
+#[test]
+fn a_writer_that_fails_once_is_not_asked_again(rt: HostRuntime) {
+    for hitch in [
+        Hitch::NoByte,
+        Hitch::Error(ErrorKind::Interrupted),
+        Hitch::Error(ErrorKind::WouldBlock),
+        Hitch::Error(ErrorKind::TimedOut),
+    ] {
+        let mut writer = Hesitant::new(hitch);
+        let mut sink = Sink::new(&mut writer);
+        assert_eq!(rt; sink.write(b"text"), Err(Failed));
+        assert!(rt; sink.failed());
+        assert_eq!(rt; sink.write(b"text"), Err(Failed));
+        assert_eq!(rt; writer.calls, 1);
+        let mut writer = Hesitant::new(hitch);
+        assert_eq!(rt; Sink::new(&mut writer).write_all(b"text"), Err(Failed));
+        assert_eq!(rt; writer.calls, 1);
+    }
+}
+
+#[test]
+fn one_read_and_one_write_take_what_they_can(rt: HostRuntime) {
+    let mut reader = Hesitant {
+        hitch: None,
+        calls: 0,
+    };
+    let mut buffer = [0u8; 4];
+    assert_eq!(rt; Source::new(&mut reader).read(&mut buffer), Ok(4));
+    assert_eq!(rt; reader.calls, 1);
+    let mut writer = Hesitant {
+        hitch: None,
+        calls: 0,
+    };
+    assert_eq!(rt; Sink::new(&mut writer).write(b"text"), Ok(4));
+    assert_eq!(rt; writer.calls, 1);
 }
 
 #[test]

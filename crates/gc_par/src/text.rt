@@ -41,8 +41,8 @@ pub fn check_text_par<R: Read, W: Write>(
     ensures unwritten { result ≡ Err RunFault.Write → sink_failed writer.new ≡ true }
     ensures silent { OnErr result (result ≢ Err RunFault.Write → writer.new ≡ writer.old) }
     // What went out is a front of the verdict's line.
-    ensures front { result ≡ Err RunFault.Write → IfSome (bytes_left R.remaining reader.old) (λ text.
-        TellsFront text (bytes_written W.contents writer.old) (bytes_written W.contents writer.new)) }
+    ensures front { result ≡ Err RunFault.Write → TellsFront (bytes_left R.remaining reader.old)
+        (bytes_written W.contents writer.old) (bytes_written W.contents writer.new) }
 {
     check_text_by(&Parallel::new(rt), alloc, reader, writer)
 }

@@ -1,3 +1,4 @@
+pub mod Ranges
 pub mod EventTokens
 pub mod EventLines
 pub mod ParsedTokens

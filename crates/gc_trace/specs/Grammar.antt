@@ -96,6 +96,14 @@ pub record IsRecording (t : Recording) : Type 0 where
   pub heading : IsHeading t.version t.size t.mutators
   pub events : AllByRecursion (λ event. IsEvent t.version event × IsOf t.mutators event) t.events
 
+-- its numbers are in their ranges, whatever its version is
+pub record IsInRange (t : Recording) : Type 0 where
+  pub low : 1 ≤ t.size
+  pub high : t.size ≤ 1048576
+  pub some : 1 ≤ t.mutators
+  pub few : t.mutators ≤ 16
+  pub events : AllByRecursion (IsOf t.mutators) t.events
+
 -- the text of the trace
 pub record IsTextOf (t : Recording) (text : List ℕ) : Type 0 where
   pub recording : IsRecording t

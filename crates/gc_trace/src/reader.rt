@@ -1,7 +1,7 @@
 ghost use Rattle.std.specs.Prelude.{◌≡◌, ◌≢◌, ◌≤◌, ◌∷◌, ◌++◌, ◌↔◌, ◌+◌, length, drop, Some, true, false, IfSome, IfOk, MatchOption, MatchResult, Err};
 ghost use Rattle.gc_graph.specs.Lines.{HasNo, newline};
 ghost use Rattle.gc_graph.specs.Streams.{bytes_left, source_failed};
-ghost use Rattle.gc_trace.specs.Grammar.{IsTextOf, IsRecording, IsHeading, IsEvent, IsOf, newest, heading};
+ghost use Rattle.gc_trace.specs.Grammar.{IsTextOf, IsRecording, IsInRange, IsHeading, IsEvent, IsOf, newest, heading};
 ghost use Rattle.gc_trace.specs.Faults.{limit, IsTraceFaultOf, IsReadAs, MayFail, HasNoHeading};
 ghost use Rattle.gc_trace.specs.Views.{recording};
 
@@ -114,12 +114,14 @@ fn spelled_trace(alloc: Global, text: &[u8]) -> Result<Trace, TraceFault>
     })
 }
 
+#[tactic(auto, using(crate::proofs::Ranges::in_range))]
 /// The trace whose text the reader gives up to its end, else the first fault. Where the text has more than
 /// 16777216 bytes, one byte more than these is read.
 pub fn read_trace<R: Read>(alloc: Global, reader: &mut Source<R>) -> Result<Trace, TraceFault>
     ensures exact { IfSome (bytes_left R.remaining reader.old) (λ text.
         MatchResult result (λ t. IsReadAs (recording t) text) (λ fault. MayFail fault text)) }
     ensures sound { IfOk result (λ t. IsRecording (recording t)) }
+    ensures ranges { IfOk result (λ t. IsInRange (recording t)) }
     ensures stops { result ≡ Err TraceFault.TooLarge → IfSome (bytes_left R.remaining reader.old)
         (λ text. bytes_left R.remaining reader.new ≡ Some (drop (limit + 1) text)) }
     ensures read { (result ≡ Err TraceFault.Read) ↔ (source_failed reader.new ≡ true) }

@@ -2,7 +2,7 @@ ghost use Rattle.std.specs.Prelude.{◌≡◌, IfOk, OnOk, OnErr};
 ghost use Rattle.gc_copy.specs.Runs.{IsEvent};
 ghost use Rattle.gc_world.specs.History.{answers_of};
 ghost use Rattle.gc_world.specs.World.{present};
-ghost use Rattle.gc_trace.specs.Grammar.{IsRecording};
+ghost use Rattle.gc_trace.specs.Grammar.{IsInRange};
 ghost use Rattle.gc_trace.specs.Plays.{answers, last_state};
 ghost use Rattle.gc_trace.specs.WorldRuns.{Happens, HasRun};
 ghost use Rattle.gc_trace.specs.Views.{recording};
@@ -33,7 +33,7 @@ pub fn happen(world: &mut World, event: &Event) -> Result<(), NoMemory>
 
 /// The world in which all events of the trace have happened, in order.
 pub fn run_trace(alloc: Global, trace: &Trace) -> Result<World, NoMemory>
-    requires { IsRecording (recording trace.now) }
+    requires { IsInRange (recording trace.now) }
     ensures run { IfOk result (λ world. HasRun (recording trace.now) world) }
     // Its answers and its state are the core's.
     ensures answers { IfOk result (λ world. answers_of world.entries ≡ answers (recording trace.now)) }

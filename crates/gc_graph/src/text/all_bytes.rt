@@ -7,8 +7,8 @@ use std::alloc::Global;
 use std::io::Read;
 use thiserror::Error;
 
-/// The most bytes that one read asks for.
-const PIECE: usize = 65536;
+/// The most bytes that one read asks for. They lie on the stack, which may be small.
+const PIECE: usize = 8192;
 
 /// Why the bytes of a reader are not had.
 #[derive(Clone, Copy, Debug, PartialEq, Eq, Error)]

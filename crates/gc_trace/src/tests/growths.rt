@@ -3,7 +3,7 @@
 //! need no memory.
 
 ghost use Rattle.std.specs.Prelude.{IfOk};
-ghost use Rattle.gc_trace.specs.Grammar.{IsRecording};
+ghost use Rattle.gc_trace.specs.Grammar.{IsInRange};
 ghost use Rattle.gc_trace.specs.Views.{recording};
 
 use crate::tests::pairs::ONE_KEPT;
@@ -19,7 +19,7 @@ use std::alloc::Global;
 use std::test::Fail;
 
 fn read_again(alloc: Global, text: &[u8]) -> Result<Trace, TraceFault>
-    ensures { IfOk result (λ trace. IsRecording (recording trace)) }
+    ensures { IfOk result (λ trace. IsInRange (recording trace)) }
 {
     match read_trace(alloc, &mut Source::new(text)) {
         Ok(trace) => Ok(trace),
@@ -29,7 +29,7 @@ fn read_again(alloc: Global, text: &[u8]) -> Result<Trace, TraceFault>
 }
 
 fn run_again(alloc: Global, trace: &Trace) -> Result<World, NoMemory>
-    requires { IsRecording (recording trace.now) }
+    requires { IsInRange (recording trace.now) }
 {
     match run_trace(alloc, trace) {
         Ok(world) => Ok(world),

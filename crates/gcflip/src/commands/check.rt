@@ -50,8 +50,8 @@ pub fn check_from<R: Read, W: Write>(
     ensures unwritten { result ≡ Err (Fault.Check RunFault.Write) → sink_failed writer.new ≡ true }
     ensures silent { OnErr result (result ≢ Err (Fault.Check RunFault.Write) → writer.new ≡ writer.old) }
     // What went out is a front of the verdict's line.
-    ensures front { result ≡ Err (Fault.Check RunFault.Write) → IfSome (bytes_left R.remaining reader.old) (λ text.
-        TellsFront text (bytes_written W.contents writer.old) (bytes_written W.contents writer.new)) }
+    ensures front { result ≡ Err (Fault.Check RunFault.Write) → TellsFront (bytes_left R.remaining reader.old)
+        (bytes_written W.contents writer.old) (bytes_written W.contents writer.new) }
 {
     match gc_par::check_text_par(rt, alloc, reader, writer) {
         Ok(verdict) => Ok(status(&verdict)),
