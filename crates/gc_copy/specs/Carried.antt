@@ -11,22 +11,11 @@ use Rattle.gc_copy.specs.Belonging.{RefersTo}
 use Rattle.gc_copy.specs.declared.event.Event.{Event}
 use Rattle.gc_copy.specs.declared.event.Event.TheVariants.{Mutate, Collect}
 use Rattle.gc_copy.specs.declared.step.StepReply.{StepReply}
-use Rattle.gc_copy.specs.declared.step.StepReply.TheVariants.{Busy, Begun, Idle, Clean, NoRoom, Copied, Passed, Scanned, Applied, NotReady, Refused, Flipped, Dropped}
+use Rattle.gc_copy.specs.declared.step.StepReply.TheVariants.{Begun}
 
 abbrev pub is_begun : StepReply → Bool
-is_begun Busy = false
 is_begun Begun = true
-is_begun Idle = false
-is_begun Clean = false
-is_begun NoRoom = false
-is_begun Copied = false
-is_begun Passed = false
-is_begun Scanned = false
-is_begun Applied = false
-is_begun NotReady = false
-is_begun Refused = false
-is_begun (Flipped pairs) = false
-is_begun Dropped = false
+is_begun reply = false
 
 -- the state before the last event that was answered `Begun`, which so far is `base`
 abbrev pub base_after : State → State → Event → State

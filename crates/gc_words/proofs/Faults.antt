@@ -97,12 +97,12 @@ not_above_push (x ∷ y ∷ rest) p n = not_above_push (y ∷ rest) p n
 abbrev pub LastIsHighest : List (ℕ × ℕ) → Type 0
 LastIsHighest before = (n : ℕ) → not_above_last before n ≡ false → All (λ q. q.1 < n) before
 
-pushed_highest : (before : List (ℕ × ℕ)) (p : ℕ × ℕ) → All (λ q. q.1 < p.1) before → LastIsHighest (before ++ p ∷ [])
+pub pushed_highest : (before : List (ℕ × ℕ)) (p : ℕ × ℕ) → All (λ q. q.1 < p.1) before → LastIsHighest (before ++ p ∷ [])
 pushed_highest before p below n e =
     let less : p.1 < n = leb-false n p.1 (sym (not_above_push before p n) ∙ e) in
     All-push (λ q. q.1 < n) before p (All-weaker (λ q. q.1 < p.1) (λ q. q.1 < n) (λ q h. omega arith) before below) less
 
-none_same : (before : List (ℕ × ℕ)) (a : ℕ) → list_any (λ q. q.0 == a) before ≡ false → All (λ q. q.0 ≢ a) before
+pub none_same : (before : List (ℕ × ℕ)) (a : ℕ) → list_any (λ q. q.0 == a) before ≡ false → All (λ q. q.0 ≢ a) before
 none_same before a e = λ k d h same. both_ways (list_any (λ q. q.0 == a) before) e (list_any_at (λ q. q.0 == a) before k d h (eq-eqb _ _ same))
 
 no_place_fault : (old new : Image) (before : List (ℕ × ℕ)) (k : ℕ) (p : ℕ × ℕ) → place_fault old new before k p ≡ None
@@ -113,7 +113,7 @@ no_place_fault old new before k p e =
     let s1 : (when (not (is_start old.words p.0)) (OldNotStart k) ≡ None) × (when (not (is_start new.words p.1)) (NewNotStart k) ≡ None) = or_none _ _ s2.0 in
     (not-false _ (when_none _ _ s1.0), not-false _ (when_none _ _ s1.1), when_none _ _ s2.1, when_none _ _ s3.1)
 
-no_place_faults : (old new : Image) (rest before : List (ℕ × ℕ)) (k : ℕ) → AllPairs Later before → LastIsHighest before → place_faults old new before k rest ≡ None
+pub no_place_faults : (old new : Image) (rest before : List (ℕ × ℕ)) (k : ℕ) → AllPairs Later before → LastIsHighest before → place_faults old new before k rest ≡ None
     → AllPairs Later (before ++ rest) × All (λ p. (is_start old.words p.0 ≡ true) × (is_start new.words p.1 ≡ true)) rest
 no_place_faults old new [] before k pairs highest e = (subst (AllPairs Later) (sym (append-nil before)) pairs, All-nil _)
 no_place_faults old new (p ∷ rest) before k pairs highest e =
@@ -136,7 +136,7 @@ before_each before rest p pairs k d h =
     length_above [] ys = omega arith
     length_above (x ∷ xs) ys = let ih : length xs < length (xs ++ p ∷ ys) = length_above xs ys in omega arith
 
-above_all : (before : List (ℕ × ℕ)) (n : ℕ) → AllByRecursion (λ q. q.1 < n) before → not_above_last before n ≡ false
+pub above_all : (before : List (ℕ × ℕ)) (n : ℕ) → AllByRecursion (λ q. q.1 < n) before → not_above_last before n ≡ false
 above_all [] n h = refl
 above_all (p ∷ []) n h = lt-leb n p.1 h.0
 above_all (p ∷ q ∷ rest) n h = above_all (q ∷ rest) n h.1
@@ -169,17 +169,17 @@ difference_none alike i [] (w ∷ ws) z = absurd z
 difference_none alike i (v ∷ vs) [] z = absurd z
 difference_none alike i (v ∷ vs) (w ∷ ws) z = none_if (alike v w) _ i z.0 (difference_none alike (suc i) vs ws z.1)
 
-header_same : (g h : Header) → same_header g h ≡ true → g ≡ h
+pub header_same : (g h : Header) → same_header g h ≡ true → g ≡ h
 header_same g h e =
     let parts : ((g.kind == h.kind) ≡ true) × ((g.len == h.len) ≡ true) = and_parts _ _ e in
     let k : g.kind ≡ h.kind = eqb-true _ _ parts.0 in
     let l : g.len ≡ h.len = eqb-true _ _ parts.1 in
     λ i. record { kind = k i; len = l i }
 
-same_header_of : (g h : Header) → g ≡ h → same_header g h ≡ true
+pub same_header_of : (g h : Header) → g ≡ h → same_header g h ≡ true
 same_header_of g h e = and_from _ _ (eq-eqb _ _ (ap (λ h. h.kind) e)) (eq-eqb _ _ (ap (λ h. h.len) e))
 
-no_block_fault : (pairs : List (ℕ × ℕ)) (k : ℕ) (o q : Option Block) → is_some o ≡ true → is_some q ≡ true → block_fault pairs k o q ≡ None → BlocksCorrespond pairs o q
+pub no_block_fault : (pairs : List (ℕ × ℕ)) (k : ℕ) (o q : Option Block) → is_some o ≡ true → is_some q ≡ true → block_fault pairs k o q ≡ None → BlocksCorrespond pairs o q
 no_block_fault pairs k (Some a) (Some b) s t e =
     let parts : (same_header a.header b.header ≡ true) × (at_place (first_difference (field_words_correspond a.header pairs) 0 a.fields b.fields) (λ i. FieldDiffers k i) ≡ None) = if_none (same_header a.header b.header) _ (HeaderDiffers k) e in
     (header_same a.header b.header parts.0, no_difference _ 0 a.fields b.fields (at_place_none _ (λ i. FieldDiffers k i) parts.1))
@@ -203,7 +203,7 @@ module _ (old new : Image) (pairs : List (ℕ × ℕ)) where
   abbrev pub Object : ℕ × ℕ → Type 0
   Object p = BlocksCorrespond pairs (block_at old.words p.0) (block_at new.words p.1)
 
-  no_object_faults : (k : ℕ) (rest : List (ℕ × ℕ)) → All Start rest → object_faults old new pairs k rest ≡ None → All Object rest
+  pub no_object_faults : (k : ℕ) (rest : List (ℕ × ℕ)) → All Start rest → object_faults old new pairs k rest ≡ None → All Object rest
   no_object_faults k [] starts e = All-nil Object
   no_object_faults k (p ∷ rest) starts e =
       let both : (pair_fault old new pairs k p ≡ None) × (object_faults old new pairs (suc k) rest ≡ None) = or_none _ _ e in

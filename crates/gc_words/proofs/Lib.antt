@@ -11,4 +11,5 @@ pub mod Links
 pub mod Graphs
 pub mod References
 pub mod Faults
+pub mod FirstFault
 pub mod Certified

@@ -1,9 +1,10 @@
 -- The first condition of a certificate that fails.
-use Rattle.std.specs.Prelude.{ℕ, suc, ◌==◌, nat_le, Bool, true, false, ◌&&◌, not, if◌then◌else◌, List, [], ◌∷◌, ◌++◌, length, slice_index, Option, Some, None, Result, Ok, Err}
-use Rattle.std.specs.List.{list_any}
+use Rattle.std.specs.Prelude.{◌≡◌, ◌≢◌, ◌<◌, IsTrue, ℕ, suc, ◌==◌, nat_le, Bool, true, false, ◌&&◌, not, if◌then◌else◌, List, [], ◌∷◌, ◌++◌, length, slice_index, Option, Some, None, Result, Ok, Err}
+use Rattle.std.specs.List.{All, AllPairs, list_any}
 use Rattle.gc_graph.specs.Limits.{most_words}
 use Rattle.gc_words.specs.Word.{words_correspond, field_words_correspond}
-use Rattle.gc_words.specs.Image.{Image, Block, walk_words, block_at, is_start}
+use Rattle.gc_words.specs.Image.{Image, Block, IsShaped, walk_words, block_at, is_start}
+use Rattle.gc_words.specs.Certificate.{BlocksCorrespond}
 use Rattle.gc_words.specs.declared.header.Header.{Header}
 use Rattle.gc_words.specs.declared.refusal.Refusal.{Refusal}
 use Rattle.gc_words.specs.declared.refusal.Refusal.TheVariants.{OldShape, NewShape, RootCount, OldNotStart, NewNotStart, NotRising, Twice, HeaderDiffers, FieldDiffers, RootDiffers}
@@ -101,3 +102,69 @@ root_fault old new pairs = at_place (first_difference (words_correspond pairs) 0
 -- in this order
 abbrev pub first_fault : Image → Image → List (ℕ × ℕ) → Option Refusal
 first_fault old new pairs = table_fault old new pairs or_else object_faults old new pairs 0 pairs or_else root_fault old new pairs
+
+-- ---- the first fault as a relation
+
+-- pair k, with the pairs before it
+pub record PairAt (pairs : List (ℕ × ℕ)) (k : ℕ) (P : List (ℕ × ℕ) → ℕ × ℕ → Type 0) : Type 0 where
+  pub before : List (ℕ × ℕ)
+  pub pair : ℕ × ℕ
+  pub rest : List (ℕ × ℕ)
+  pub whole : pairs ≡ before ++ pair ∷ rest
+  pub place : length before ≡ k
+  pub holds : P before pair
+
+-- what comes first: shapes, and as many roots
+pub record AreComparable (old new : Image) : Type 0 where
+  pub old_shaped : IsShaped old
+  pub new_shaped : IsShaped new
+  pub roots : length old.roots ≡ length new.roots
+
+-- then where pairs stand: at starts, new addresses rising, no old address twice
+pub record ArePlaced (old new : Image) (pairs : List (ℕ × ℕ)) : Type 0 where
+  pub starts : All (λ p. IsTrue (is_start old.words p.0) × IsTrue (is_start new.words p.1)) pairs
+  pub later : AllPairs (λ p q. (p.0 ≢ q.0) × (p.1 < q.1)) pairs
+
+-- then objects, pair by pair
+abbrev pub ObjectsMatch : Image → Image → List (ℕ × ℕ) → List (ℕ × ℕ) → Type 0
+ObjectsMatch old new pairs some = All (λ p. BlocksCorrespond pairs (block_at old.words p.0) (block_at new.words p.1)) some
+
+abbrev pub HeadersDiffer : Option Block → Option Block → Type 0
+HeadersDiffer (Some a) (Some b) = a.header ≢ b.header
+HeadersDiffer (Some a) None = ⊥
+HeadersDiffer None b = ⊥
+
+abbrev pub FieldsDifferAt : List (ℕ × ℕ) → ℕ → Option Block → Option Block → Type 0
+FieldsDifferAt pairs i (Some a) (Some b) = (a.header ≡ b.header) × (first_difference (field_words_correspond a.header pairs) 0 a.fields b.fields ≡ Some i)
+FieldsDifferAt pairs i (Some a) None = ⊥
+FieldsDifferAt pairs i None b = ⊥
+
+-- of the places of pair k, which of its conditions fails while those before it hold
+abbrev pub PlaceFails : Image → Image → List (ℕ × ℕ) → Refusal → Type 0
+PlaceFails old new pairs (OldNotStart k) = PairAt pairs k (λ before p. ArePlaced old new before × (is_start old.words p.0 ≡ false))
+PlaceFails old new pairs (NewNotStart k) = PairAt pairs k (λ before p. ArePlaced old new before × IsTrue (is_start old.words p.0) × (is_start new.words p.1 ≡ false))
+PlaceFails old new pairs (NotRising k) = PairAt pairs k (λ before p. ArePlaced old new before × IsTrue (is_start old.words p.0) × IsTrue (is_start new.words p.1)
+    × (All (λ q. q.1 < p.1) before → ⊥))
+PlaceFails old new pairs (Twice k) = PairAt pairs k (λ before p. ArePlaced old new before × IsTrue (is_start old.words p.0) × IsTrue (is_start new.words p.1)
+    × All (λ q. q.1 < p.1) before × (All (λ q. q.0 ≢ p.0) before → ⊥))
+PlaceFails old new pairs refusal = ⊥
+
+-- the same of the objects that pair k joins
+abbrev pub ObjectFails : Image → Image → List (ℕ × ℕ) → Refusal → Type 0
+ObjectFails old new pairs (HeaderDiffers k) = PairAt pairs k (λ before p. ObjectsMatch old new pairs before × HeadersDiffer (block_at old.words p.0) (block_at new.words p.1))
+ObjectFails old new pairs (FieldDiffers k i) = PairAt pairs k (λ before p. ObjectsMatch old new pairs before × FieldsDifferAt pairs i (block_at old.words p.0) (block_at new.words p.1))
+ObjectFails old new pairs refusal = ⊥
+
+-- the refusal's condition fails at its place, and all conditions before it hold
+abbrev pub IsFirstFault : Image → Image → List (ℕ × ℕ) → Refusal → Type 0
+IsFirstFault old new pairs (OldShape at) = shape_fault old ≡ Some at
+IsFirstFault old new pairs (NewShape at) = IsShaped old × (shape_fault new ≡ Some at)
+IsFirstFault old new pairs RootCount = IsShaped old × IsShaped new × (length old.roots ≢ length new.roots)
+IsFirstFault old new pairs (RootDiffers slot) = AreComparable old new × ArePlaced old new pairs × ObjectsMatch old new pairs pairs
+    × (first_difference (words_correspond pairs) 0 old.roots new.roots ≡ Some slot)
+IsFirstFault old new pairs (HeaderDiffers k) = AreComparable old new × ArePlaced old new pairs × ObjectFails old new pairs (HeaderDiffers k)
+IsFirstFault old new pairs (FieldDiffers k i) = AreComparable old new × ArePlaced old new pairs × ObjectFails old new pairs (FieldDiffers k i)
+IsFirstFault old new pairs (OldNotStart k) = AreComparable old new × PlaceFails old new pairs (OldNotStart k)
+IsFirstFault old new pairs (NewNotStart k) = AreComparable old new × PlaceFails old new pairs (NewNotStart k)
+IsFirstFault old new pairs (NotRising k) = AreComparable old new × PlaceFails old new pairs (NotRising k)
+IsFirstFault old new pairs (Twice k) = AreComparable old new × PlaceFails old new pairs (Twice k)

@@ -11,9 +11,10 @@ ghost use Rattle.gc_words.specs.Space.{SpaceWords, IsSpace, CanPlace, empty_spac
 ghost use Rattle.gc_words.specs.Walking.{next_of, walk_from, StepsTo, StandsIn};
 ghost use Rattle.gc_words.specs.Closed.{IsClosed, RefersToStart, IsRootWord, IsFieldWord};
 ghost use Rattle.gc_words.specs.Certificate.{Certified};
-ghost use Rattle.gc_words.specs.Fault.{shape_fault, first_fault};
+ghost use Rattle.gc_words.specs.Fault.{shape_fault, first_fault, IsFirstFault};
 ghost use Rattle.gc_words.specs.Rows.{WordRows, PairRows};
 ghost use Rattle.gc_words.specs.declared.header.Header.{Header};
+ghost use Rattle.gc_words.specs.declared.refusal.Refusal.{Refusal};
 
 /// The vectors and the worked rows hold of the definitions.
 pub fn worked_rows()
@@ -30,6 +31,12 @@ pub fn no_fault_where_shaped()
 pub fn no_fault_where_certified()
     ensures { (old new : Image) (pairs : List (ℕ × ℕ))
         → (first_fault old new pairs ≡ None) ↔ Certified old new pairs }
+{}
+
+/// Of the first fault the condition fails at its place, and all conditions before it hold.
+pub fn first_fault_is_first()
+    ensures { (old new : Image) (pairs : List (ℕ × ℕ)) (refusal : Refusal)
+        → first_fault old new pairs ≡ Some refusal → IsFirstFault old new pairs refusal }
 {}
 
 /// Under a certificate that holds the graphs of the two images correspond.
