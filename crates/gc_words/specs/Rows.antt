@@ -10,6 +10,7 @@ pub record WordRows : Type 0 where
   pub nil : read_value 0 ≡ Some Nil
   pub one : read_value 1 ≡ Some (Num 0)
   pub two : read_value 2 ≡ Some (Ref 1)
+  pub three : read_value 3 ≡ Some (Num 1)
   pub nine : read_value 9 ≡ Some (Num 4)
   pub eight : read_value 8 ≡ Some (Ref 4)
   pub greatest_address : read_value 2097150 ≡ Some (Ref 1048575)
@@ -18,6 +19,8 @@ pub record WordRows : Type 0 where
   pub greatest_number : read_value 18446744073709551615 ≡ Some (Num 9223372036854775807)
   pub low : read_header 16777215 ≡ None
   pub least : read_header 16777216 ≡ Some (record { kind = 0; len = 0 })
+  pub one_field : read_header 16777217 ≡ Some (record { kind = 0; len = 1 })
+  pub next_kind : read_header 16842752 ≡ Some (record { kind = 1; len = 0 })
   pub kind_one : read_header 16842754 ≡ Some (record { kind = 1; len = 2 })
   pub greatest : read_header 33554431 ≡ Some (record { kind = 255; len = 65535 })
   pub high : read_header 33554432 ≡ None

@@ -1,6 +1,8 @@
 use crate::report::NOTHING;
 use crate::tests::rows::{NO_EVENTS, ONE_OBJECT_FILLS_THE_SPACE, ROWS};
-use crate::tests::streams::{End, Narrow, Slow, count_of, played, played_to};
+use crate::tests::streams::{
+    End, Narrow, Slow, Taking, count_of, nine_thousand_flips, played, played_to,
+};
 use crate::{PlayFault, Report, TraceFault, play};
 use gc_graph::{Sink, Source};
 use std::test::Fail;
@@ -125,5 +127,16 @@ fn faults_are_shown(rt: HostRuntime) -> Result<(), Fail> {
     );
     assert_eq!(rt; PlayFault::Write.to_string(alloc)?.as_str(), "cannot write");
     assert_eq!(rt; PlayFault::NoMemory.to_string(alloc)?.as_str(), "no memory");
+    Ok(())
+}
+
+#[test]
+fn replies_are_written_in_few_calls(rt: HostRuntime) -> Result<(), Fail> {
+    let text = nine_thousand_flips(rt.alloc())?;
+    let mut writer = Taking::new();
+    let mut source = Source::new(text.as_slice());
+    play(rt.alloc(), &mut source, &mut Sink::new(&mut writer))?;
+    assert_eq!(rt; writer.bytes, 45000);
+    assert!(rt; writer.calls < 6, "{} calls", writer.calls);
     Ok(())
 }

@@ -1,5 +1,5 @@
 use crate::tests::rows::ONE_OBJECT_FILLS_THE_SPACE;
-use crate::tests::streams::{End, Same, Slow, count_of};
+use crate::tests::streams::{End, Giving, Same, Slow, count_of, nine_thousand_flips};
 use crate::{PlayFault, TraceFault, play, read_trace};
 use gc_copy::Step;
 use gc_graph::{Op, Sink, Slot, Source};
@@ -183,4 +183,17 @@ fn a_reader_that_fails_midway_is_no_text(rt: HostRuntime) {
             assert!(rt; source.failed());
         }
     }
+}
+
+#[test]
+fn a_text_is_read_in_few_calls(rt: HostRuntime) -> Result<(), Fail> {
+    let text = nine_thousand_flips(rt.alloc())?;
+    let mut reader = Giving {
+        bytes: &text,
+        calls: 0,
+    };
+    let trace = read_trace(rt.alloc(), &mut Source::new(&mut reader))?;
+    assert_eq!(rt; trace.events.len(), 9000);
+    assert!(rt; reader.calls < 20, "{} calls", reader.calls);
+    Ok(())
 }

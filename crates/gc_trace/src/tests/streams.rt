@@ -5,6 +5,7 @@ use gc_graph::{Sink, Source};
 use std::alloc::Global;
 use std::io;
 use std::io::{Read, Write};
+use std::test::Fail;
 
 /// What a stream does once it has given all of its bytes, or taken as many as it has room for.
 #[derive(Clone, Copy)]
@@ -126,6 +127,59 @@ impl Write for Narrow {
     fn flush(&mut self) -> io::Result<()> {
         Ok(())
     }
+}
+
+/// Gives all of its bytes as they are asked for, and counts the calls.
+#[derive(Drop)]
+pub struct Giving<'a> {
+    pub bytes: &'a [u8],
+    pub calls: usize,
+}
+
+impl Read for Giving<'_> {
+    fn read(&mut self, buf: &mut [u8]) -> io::Result<usize> {
+        self.calls = self.calls.saturating_add(1);
+        let all = self.bytes;
+        let count = buf.len().min(all.len());
+        buf[..count].copy_from_slice(&all[..count]);
+        self.bytes = &all[count..];
+        Ok(count)
+    }
+}
+
+/// Takes all bytes, and counts them and the calls.
+#[derive(Drop)]
+pub struct Taking {
+    pub bytes: usize,
+    pub calls: usize,
+}
+
+impl Taking {
+    pub fn new() -> Taking {
+        Taking { bytes: 0, calls: 0 }
+    }
+}
+
+impl Write for Taking {
+    fn write(&mut self, buf: &[u8]) -> io::Result<usize> {
+        self.calls = self.calls.saturating_add(1);
+        self.bytes = self.bytes.saturating_add(buf.len());
+        Ok(buf.len())
+    }
+
+    fn flush(&mut self) -> io::Result<()> {
+        Ok(())
+    }
+}
+
+/// A trace of nine thousand flips of no collection, 63031 bytes.
+pub fn nine_thousand_flips(alloc: Global) -> Result<Vec<u8>, Fail> {
+    let mut text = Vec::new(alloc);
+    text.extend_from_slice(b"heaptrace 1\nspace 1 mutators 1\n")?;
+    for _ in 0..9000 {
+        text.extend_from_slice(b"c flip\n")?;
+    }
+    Ok(text)
 }
 
 /// What is written where the text is played.

@@ -1,5 +1,5 @@
 use crate::tests::rows::{ROWS, WRITE_WHILE_SCANNING};
-use crate::tests::streams::{End, Narrow, played};
+use crate::tests::streams::{End, Narrow, Taking, nine_thousand_flips, played};
 use crate::tests::worlds::{command, step, useful};
 use crate::{read_trace, run_trace, write_trace};
 use gc_cert::WriteFault;
@@ -182,5 +182,22 @@ fn a_front_of_the_trace_goes_out_before_the_writer_fails(rt: HostRuntime) -> Res
         assert!(rt; sink.failed());
         assert_eq!(rt; sink.into_inner().taken(), b"heaptra".as_slice());
     }
+    Ok(())
+}
+
+#[test]
+fn a_trace_is_written_in_few_calls(rt: HostRuntime) -> Result<(), Fail> {
+    let text = nine_thousand_flips(rt.alloc())?;
+    let trace = read_trace(rt.alloc(), &mut Source::new(text.as_slice()))?;
+    let world = run_trace(rt.alloc(), &trace)?;
+    let mut writer = Taking::new();
+    write_trace(
+        &mut Sink::new(&mut writer),
+        world.size(),
+        world.mutators(),
+        world.history(),
+    )?;
+    assert_eq!(rt; writer.bytes, 63031);
+    assert!(rt; writer.calls < 8, "{} calls", writer.calls);
     Ok(())
 }
