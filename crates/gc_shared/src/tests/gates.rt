@@ -3,6 +3,7 @@
 ghost use Rattle.std.specs.Prelude.{◌≡◌, IfOk, vec_len};
 
 use crate::{Gate, ThreadsFault, run_threads};
+use gc_copy::Step;
 use gc_graph::{Number, Op, Reply, Slot, View};
 use gc_world::{Answer, Event, World};
 use std::alloc::{AllocError, Global};
@@ -274,5 +275,83 @@ fn a_command_between_two_turns(rt: HostRuntime) -> Result<(), Fail> {
     let command = Event::Mutate { m: 0, op: nil };
     assert!(rt; history[1].event == command);
     assert!(rt; history[1].answer == Answer::Mutator(Reply::Done));
+    Ok(())
+}
+
+/// One seat's call is told only after it was made. The teller stays in `after` until the listener, which waits for it,
+/// asks for its second call, and so has made its first. Were the teller told before its own call, that call would come
+/// later than the listener's first.
+#[derive(Drop)]
+struct Told<'a, R> {
+    rt: &'a R,
+    teller: u32,
+    call: u64,
+    told: AtomicBool,
+    answered: AtomicBool,
+}
+
+impl<'a, R: Clock> Gate for Told<'a, R> {
+    fn before(&self, seat: u32, n: u64) -> bool {
+        if seat == self.teller {
+            return true;
+        }
+        if n == 0 {
+            return waited(self.rt, &self.told);
+        }
+        self.answered.store(true, Ordering::SeqCst);
+        true
+    }
+
+    fn after(&self, seat: u32, n: u64) {
+        if seat == self.teller && n == self.call {
+            self.told.store(true, Ordering::SeqCst);
+            let _ = waited(self.rt, &self.answered);
+        }
+    }
+}
+
+#[test]
+fn a_command_is_told_once_it_is_made(rt: HostRuntime) -> Result<(), Fail> {
+    let _named = View::Nil;
+    let (writes, _reads) = write_and_read()?;
+    let read = Op::Get {
+        d: Slot::own(1).ok_or("slot")?,
+        s: Slot::shared(0).ok_or("slot")?,
+        i: 0,
+    };
+    let scripts = two(rt.alloc(), &writes, &[read, read])?;
+    let gate = Told {
+        rt: &rt,
+        teller: 0,
+        call: 2,
+        told: AtomicBool::new(false),
+        answered: AtomicBool::new(false),
+    };
+    let world = run_threads(&rt, rt.alloc(), 64, scripts, 0, &gate)?;
+    assert_eq!(rt; world.history().len(), 5);
+    let five = Number::new(5).ok_or("number")?;
+    let saw_five = Answer::Mutator(Reply::Saw(View::Num(five)));
+    assert!(rt; answers_of(&world, 1, saw_five) == 2);
+    Ok(())
+}
+
+#[test]
+fn a_step_is_told_once_it_is_made(rt: HostRuntime) -> Result<(), Fail> {
+    let _named = View::Nil;
+    let nil = Op::Nil {
+        d: Slot::own(0).ok_or("slot")?,
+    };
+    let scripts = one(rt.alloc(), &[nil, nil])?;
+    let gate = Told {
+        rt: &rt,
+        teller: 1,
+        call: 0,
+        told: AtomicBool::new(false),
+        answered: AtomicBool::new(false),
+    };
+    let world = run_threads(&rt, rt.alloc(), 8, scripts, 1, &gate)?;
+    let history = world.history();
+    assert_eq!(rt; history.len(), 3);
+    assert!(rt; history[0].event == Event::Collect(Step::Begin));
     Ok(())
 }

@@ -1,0 +1,110 @@
+//! Closing: the world that is handed back is the one behind the lock, with its history and its kept pair, whatever the
+//! seats are.
+
+use crate::{CloseFault, CloseKind, Seat, Shared};
+use gc_copy::{Step, StepReply};
+use gc_graph::{Op, Reply, Slot, View};
+use gc_world::World;
+use std::alloc::Global;
+use std::process::Abort;
+use std::sync::Wait;
+use std::test::Fail;
+use std::thread::Threads;
+
+/// A shared world with one seat of each kind.
+#[derive(Drop)]
+struct Opened {
+    shared: Shared,
+    mutator: Seat,
+    collector: Seat,
+}
+
+fn fresh(alloc: Global) -> Result<Opened, Fail> {
+    let (shared, mut seats) = Shared::open(alloc, 32, 1, 1)?;
+    let collector = seats.pop().ok_or("two seats")?;
+    let mutator = seats.pop().ok_or("two seats")?;
+    Ok(Opened {
+        shared,
+        mutator,
+        collector,
+    })
+}
+
+/// Returns a world that has begun and flipped, and so has two events and keeps a pair.
+fn flipped(rt: &(impl Threads + Wait + Abort + Sync), alloc: Global) -> Result<Opened, Fail> {
+    let mut opened = fresh(alloc)?;
+    let begun = opened.shared.useful(rt, &mut opened.collector);
+    assert!(rt; begun == Ok((Step::Begin, StepReply::Begun)));
+    let flipped = opened.shared.useful(rt, &mut opened.collector);
+    assert!(rt; flipped == Ok((Step::Flip, StepReply::Flipped { pairs: 0 })));
+    Ok(opened)
+}
+
+/// The world has its two events, and its pair.
+fn expect_whole(rt: &impl Abort, mut world: World) {
+    assert!(rt; world.size() == 32 && world.mutators() == 1);
+    assert_eq!(rt; world.history().len(), 2);
+    assert!(rt; world.take_flip().is_some());
+}
+
+fn expect_fault(rt: &impl Abort, closed: Result<World, CloseFault>, kind: CloseKind) {
+    match closed {
+        Ok(_world) => panic!(rt; "closed"),
+        Err(fault) => {
+            assert_eq!(rt; fault.kind, kind);
+            expect_whole(rt, fault.world);
+        }
+    }
+}
+
+fn two(alloc: Global, first: Seat, second: Seat) -> Result<Vec<Seat>, Fail> {
+    let mut seats = Vec::new(alloc);
+    seats.push(first)?;
+    seats.push(second)?;
+    Ok(seats)
+}
+
+#[test]
+fn its_own_seats(rt: HostRuntime) -> Result<(), Fail> {
+    let opened = flipped(&rt, rt.alloc())?;
+    let seats = two(rt.alloc(), opened.collector, opened.mutator)?;
+    let world = opened.shared.close(seats).map_err(|fault| fault.kind)?;
+    expect_whole(&rt, world);
+    Ok(())
+}
+
+#[test]
+fn no_seats(rt: HostRuntime) -> Result<(), Fail> {
+    let opened = flipped(&rt, rt.alloc())?;
+    let closed = opened.shared.close(Vec::new(rt.alloc()));
+    expect_fault(&rt, closed, CloseKind::Seats);
+    Ok(())
+}
+
+/// The mutator's receipt is of another world, and names the place of a step in this one.
+#[test]
+fn a_receipt_that_does_not_stand(rt: HostRuntime) -> Result<(), Fail> {
+    let _named = View::Nil;
+    let nil = Op::Nil {
+        d: Slot::own(0).ok_or("slot")?,
+    };
+    let opened = flipped(&rt, rt.alloc())?;
+    let mut other = fresh(rt.alloc())?;
+    let done = other.shared.call(&rt, &mut other.mutator, &nil);
+    assert!(rt; done == Ok(Reply::Done));
+    let seats = two(rt.alloc(), opened.collector, other.mutator)?;
+    let closed = opened.shared.close(seats);
+    expect_fault(&rt, closed, CloseKind::Torn { seat: 0, n: 0 });
+    Ok(())
+}
+
+/// The collector's seat is of another world, where it made no step.
+#[test]
+fn events_without_receipts(rt: HostRuntime) -> Result<(), Fail> {
+    let opened = flipped(&rt, rt.alloc())?;
+    let other = fresh(rt.alloc())?;
+    let seats = two(rt.alloc(), opened.mutator, other.collector)?;
+    let closed = opened.shared.close(seats);
+    expect_fault(&rt, closed, CloseKind::Extra);
+    Ok(())
+}

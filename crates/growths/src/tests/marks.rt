@@ -1,0 +1,29 @@
+//! Requests for memory that tell the refusing allocator where the test has come to.
+
+use gc_graph::NoMemory;
+use std::alloc::Global;
+
+/// A request of this size starts or ends the counting of requests. It is never refused.
+const FENCE: usize = 1_000_003;
+
+/// A request of this size says that the call returned `NoMemory`, and that it is now retried.
+const RETRY: usize = 1_000_033;
+
+/// Starts the counting before the tested call, and ends it behind it.
+pub fn fence(alloc: Global) -> Result<(), NoMemory> {
+    request(alloc, FENCE)
+}
+
+/// Says that the call returned `NoMemory`.
+pub fn retried(alloc: Global) -> Result<(), NoMemory> {
+    request(alloc, RETRY)
+}
+
+fn request(alloc: Global, size: usize) -> Result<(), NoMemory> {
+    let room: Vec<u8> = match Vec::with_capacity(alloc, size) {
+        Ok(room) => room,
+        Err(_) => return Err(NoMemory),
+    };
+    drop(room);
+    Ok(())
+}
