@@ -13,7 +13,7 @@ fault_of_reading reading.Read = Read
 fault_of_reading reading.TooLarge = TooLarge
 fault_of_reading reading.NoMemory = NoMemory
 
--- what a trace's fault is called where it is played: want of memory is the player's own
+-- what a player calls a trace's fault: out of memory is a fault of the player itself
 abbrev pub fault_of_trace : TraceFault → PlayFault
 fault_of_trace NoMemory = plays.NoMemory
 fault_of_trace fault = Trace fault
