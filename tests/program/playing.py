@@ -84,4 +84,22 @@ def limit(program, folder):
     yield "a_file_without_end", difference(run(program, ["play", "/dev/zero"]), too_large)
 
 
-GROUPS = [played, refused, cuts, byte_by_byte, limit]
+def most_events(program, folder):
+    """No trace has more events: a line has seven bytes at least."""
+    text = b"heaptrace 1\nspace 1 mutators 1\n" + b"c flip\n" * 2396740
+    assert LIMIT - len(b"c flip\n") < len(text) <= LIMIT
+    for way, found in both_ways(program, folder, text):
+        yield "most_events, %s" % way, difference(found, Outcome(stdout=b"idle\n" * 2396740))
+
+
+def small_stack(program, folder):
+    """A stack of 128 KiB is enough."""
+    text, replies = traces.trace_and_replies(traces.PLAYED["cycle_of_two"])
+    shell = ["-c", 'ulimit -s 128; exec "$0" "$@"', program]
+    found = run("/bin/sh", shell, text=text)
+    yield "small_stack, on standard input", difference(found, Outcome(stdout=replies))
+    found = run("/bin/sh", [*shell, "play", file_of(folder, "text", text)])
+    yield "small_stack, of a file", difference(found, Outcome(stdout=replies))
+
+
+GROUPS = [played, refused, cuts, byte_by_byte, limit, most_events, small_stack]

@@ -91,7 +91,11 @@ impl From<NoMemory> for ThreadsRunFault {
 struct Passing;
 
 impl Gate for Passing {
-    fn before(&self, _seat: u32, _n: u64) -> bool {
+    ghost use Rattle.std.specs.Prelude.{◌≡◌, true};
+
+    fn before(&self, _seat: u32, _n: u64) -> bool
+        ensures { result ≡ true }
+    {
         true
     }
 
