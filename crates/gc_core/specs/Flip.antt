@@ -43,5 +43,3 @@ PassesIfReady s reply = IfSome s.collection (λ c. IsTrue (is_ready c s.heap.gra
 -- where the new space is at least as large as the old one, no replica lacks room
 abbrev pub HasRoomIfLarge : State → StepReply → Type 0
 HasRoomIfLarge s reply = IfSome s.collection (λ c. s.size ≤ c.size → reply ≢ NoRoom)
-
--- ---- what is made ready before anything changes

@@ -42,5 +42,3 @@ PlaysPairFront n text old new = (t : Recording) × (pair : CertifiedPair) × IsR
 -- the text is of a trace with fewer flips
 abbrev pub HasNoFlip : ℕ → List ℕ → Type 0
 HasNoFlip n text = (t : Recording) × IsReadAs t text × (nth_flip n t ≡ None)
-
--- ---- what such a pair is

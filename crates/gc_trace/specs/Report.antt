@@ -95,5 +95,3 @@ report_lines r =
 -- thirteen lines, each of a name and a number
 abbrev pub report_text : Report → List ℕ
 report_text r = flat_map line (report_lines r)
-
--- ---- one answer more

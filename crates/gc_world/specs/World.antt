@@ -24,5 +24,3 @@ entry_of event answer = record { event = event; answer = answer }
 
 abbrev pub with_entry : Past → Event → Answer → Past
 with_entry past event answer = record past { entries = past.entries ++ entry_of event answer ∷ [] }
-
--- ---- what the words of a world are

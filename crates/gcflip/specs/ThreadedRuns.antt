@@ -28,5 +28,3 @@ WritesRun text turns old new = (t : Recording) × (entries : List Entry) × IsRe
 -- the text is of a trace, and a front of the trace of such a run went out
 abbrev pub WritesRunFront : List ℕ → ℕ → Option (List ℕ) → Option (List ℕ) → Type 0
 WritesRunFront text turns old new = (t : Recording) × (entries : List Entry) × IsReadAs t text × IsThreadedRun t turns entries × SendsFront old new (recorded t entries)
-
--- ---- faults of its parts: want of memory is its own, but for that of the closing

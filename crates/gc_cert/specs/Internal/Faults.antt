@@ -1,4 +1,4 @@
--- For private contracts and proofs, beside `Faults`.
+-- What a parser's failure is called as a fault of the text.
 use Rattle.gc_graph.specs.declared.text.all_bytes.ReadFault.{ReadFault}
 use Rattle.gc_graph.specs.declared.text.all_bytes.ReadFault.TheVariants as reading
 use Rattle.gc_cert.specs.declared.fault.PairFault.{PairFault}

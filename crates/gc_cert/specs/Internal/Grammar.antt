@@ -1,4 +1,4 @@
--- For private contracts and proofs, beside `Grammar`.
+-- The text of one image.
 use Rattle.std.specs.Prelude.{ℕ, List, []}
 use Rattle.gc_words.specs.Image.{Image}
 use Rattle.gc_cert.specs.Grammar.{image_lines}

@@ -1,4 +1,4 @@
--- For private contracts and proofs, beside `Parsers`.
+-- Tokens and lines of a pair text that the parsers test.
 use Rattle.std.specs.Prelude.{ℕ, ◌&&◌, Bool, true, nat_le, List, [], ◌∷◌, Option, Some, None, if◌then◌else◌}
 use Rattle.std.specs.Str.{bytes_eq}
 use Rattle.gc_graph.specs.Tokens.{number_of}

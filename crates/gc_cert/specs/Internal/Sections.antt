@@ -1,4 +1,4 @@
--- For private contracts and proofs, beside `Sections`.
+-- The sections of a pair text: what each spells, how it begins, and where it goes wrong.
 use Rattle.std.specs.Prelude.{◌≡◌, ℕ, ◌+◌, ⊤, List, [], ◌∷◌, ◌++◌, length}
 use Rattle.std.specs.List.{AllByRecursion}
 use Rattle.gc_graph.specs.Lines.{newline, HasNo, text_of}

@@ -1,4 +1,4 @@
--- For private contracts and proofs, beside `Tables`.
+-- What the tables of the checker hold, and the faults that they find one by one.
 use Rattle.std.specs.Prelude.{◌≡◌, ℕ, ◌<◌, ◌≤◌, ◌^◌, ◌==◌, nat_le, Bool, false, not, List, length, slice_index, slice_index_or, Option, None, IsOk}
 use Rattle.std.specs.List.{list_any}
 use Rattle.gc_graph.specs.Correspond.{paired}

@@ -1,4 +1,4 @@
--- For private contracts and proofs, beside `Entries`.
+-- The oldest entry of a log, and what a reply lets be logged.
 use Rattle.std.specs.Prelude.{ℕ, List, [], ◌∷◌, Option, Some, None}
 use Rattle.gc_graph.specs.declared.reply.Reply.{Reply}
 use Rattle.gc_graph.specs.declared.reply.Reply.TheVariants.{Done}

@@ -1,4 +1,4 @@
--- For private contracts and proofs, beside `Words`.
+-- What the private steps keep of a heap and of a collection, and words whose targets have replicas.
 use Rattle.std.specs.Prelude.{◌≡◌, ℕ, IsSome, ⊤}
 use Rattle.gc_graph.specs.Graph.{Value, Nil, Num, Ref}
 use Rattle.gc_words.specs.Word.{value_of}

@@ -1,4 +1,4 @@
--- For private contracts and proofs, beside `CollectedHeap`.
+-- What ties the heap and the open collection of a collected heap together.
 use Rattle.std.specs.Prelude.{Option, Some, None}
 use Rattle.gc_heap.specs.Heap.{HeapWords}
 use Rattle.gc_copy.specs.Words.{CollectionWords, HasNoLinks, BelongsTo}

@@ -1,4 +1,4 @@
--- For private contracts and proofs, beside `Machine`.
+-- A new object in a place of the roots.
 use Rattle.std.specs.Prelude.{ℕ, ◌-◌, nat_lt, if◌then◌else◌, ◌≡◌}
 use Rattle.gc_graph.specs.Graph.{Ref, set_root, new_object, add_object, IsUnused}
 use Rattle.gc_graph.specs.declared.reply.Reply.{Reply}

@@ -1,4 +1,4 @@
--- For private contracts and proofs, beside `Messages`.
+-- The length up to which a message is printed without an allocation.
 use Rattle.std.specs.Prelude.{◌≤◌, length}
 use Rattle.gc_graph.specs.declared.text.message.Form.{Form}
 use Rattle.gc_graph.specs.declared.text.message.Form.TheVariants.{Text, Numbered, NumberedTwice}

@@ -1,4 +1,4 @@
--- For private contracts and proofs, beside `PlainMachine`.
+-- What ties the fields of the plain machine together.
 use Rattle.std.specs.Prelude.{◌+◌, ◌≤◌}
 use Rattle.gc_graph.specs.Limits.{most_words}
 use Rattle.gc_graph.specs.Records.{graph_of}

@@ -1,4 +1,4 @@
--- For private contracts and proofs, beside `Records`.
+-- A record of the plain machine, if there is one.
 use Rattle.std.specs.Prelude.{Option, Some, None}
 use Rattle.gc_graph.specs.Graph.{Object}
 use Rattle.gc_graph.specs.declared.objects.Record.{Record}

@@ -1,4 +1,4 @@
--- For private contracts and proofs, beside `Slots`.
+-- How a slot is stored.
 use Rattle.std.specs.Prelude.{ℕ, Bool, refl}
 use Rattle.std.specs.Coded.{Coded, code_by, coded×, coded_ℕ, coded_bool}
 use Rattle.gc_graph.specs.Slots.{SlotName}

@@ -1,4 +1,4 @@
--- For private contracts and proofs, beside `Tokens`.
+-- Bytes that are digits.
 use Rattle.std.specs.Prelude.{ℕ, ◌<◌, List, length, slice_index}
 use Rattle.std.specs.Int.{IsInRange}
 

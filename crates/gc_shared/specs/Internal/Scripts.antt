@@ -1,4 +1,4 @@
--- For private contracts and proofs, beside `Scripts`.
+-- What the seats of a run have on their receipts when their threads end.
 use Rattle.std.specs.Prelude.{◌≡◌, ℕ, ◌+◌, ◌<◌, List, length, map, All, slice_index_or}
 use Rattle.std.specs.declared.vec.Vec.{Vec}
 use Rattle.std.specs.declared.alloc.Global.{Global}

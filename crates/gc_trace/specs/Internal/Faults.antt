@@ -1,4 +1,4 @@
--- For private contracts and proofs, beside `Faults`.
+-- What a reader's and a player's failures are called as faults of the text.
 use Rattle.gc_graph.specs.declared.text.all_bytes.ReadFault.{ReadFault}
 use Rattle.gc_graph.specs.declared.text.all_bytes.ReadFault.TheVariants as reading
 use Rattle.gc_trace.specs.declared.fault.TraceFault.{TraceFault}

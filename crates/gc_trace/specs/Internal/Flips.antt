@@ -1,4 +1,4 @@
--- For private contracts and proofs, beside `Flips`.
+-- The counts of a flip's pair, which its text needs.
 use Rattle.std.specs.Prelude.{◌≤◌, length}
 use Rattle.gc_words.specs.Image.{IsShaped}
 use Rattle.gc_cert.specs.Grammar.{CertifiedPair}

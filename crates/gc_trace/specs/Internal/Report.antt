@@ -1,4 +1,4 @@
--- For private contracts and proofs, beside `Report`.
+-- A report with one answer more, and numbers that fit their type.
 use Rattle.std.specs.Prelude.{ℕ, ◌+◌, ◌<◌, ◌^◌, Bool, if◌then◌else◌}
 use Rattle.gc_copy.specs.declared.event.Answer.{Answer}
 use Rattle.gc_trace.specs.declared.report.Report.{Report}

@@ -1,4 +1,4 @@
--- For private contracts and proofs, beside `WorldRuns`.
+-- An event that keeps no pair.
 use Rattle.std.specs.Prelude.{◌≡◌, None}
 use Rattle.gc_copy.specs.Runs.{after}
 use Rattle.gc_world.specs.World.{Past, present}

@@ -1,4 +1,4 @@
--- For private contracts and proofs, beside `World`.
+-- What ties the fields of a world together.
 use Rattle.std.specs.Prelude.{◌≡◌, Option, Some, None, ⊤}
 use Rattle.gc_core.specs.Flip.{IsCertified}
 use Rattle.gc_copy.specs.State.{State}

@@ -1,4 +1,4 @@
--- For private contracts and proofs, beside `Outcomes`.
+-- With which statuses and faults the parts of a task may end.
 use Rattle.std.specs.Prelude.{◌≡◌, ◌⊎◌, ℕ, ⊤}
 use Rattle.gcflip.specs.declared.faults.fault.Fault.{Fault}
 use Rattle.gcflip.specs.declared.faults.fault.Fault.TheVariants as fault

@@ -1,4 +1,4 @@
--- For private contracts and proofs, beside `ThreadedRuns`.
+-- What the faults of reading and of threads are called by the threads command.
 use Rattle.gc_shared.specs.declared.fault.ThreadsFault.{ThreadsFault}
 use Rattle.gc_shared.specs.declared.fault.ThreadsFault.TheVariants as threads
 use Rattle.gc_trace.specs.declared.fault.TraceFault.{TraceFault}
