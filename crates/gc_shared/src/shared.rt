@@ -21,6 +21,7 @@ pub struct Shared {
 
 impl Model for Shared {
     ghost use Rattle.std.specs.Prelude.{◌≤◌};
+    ghost use Rattle.gc_graph.specs.Limits.{most_mutators};
     ghost use Rattle.gc_shared.specs.Seats.{Opening};
 
     ghost Value = { Opening };
@@ -31,13 +32,14 @@ impl Model for Shared {
       collectors = s.collectors;
     } };
 
-    ghost invariant = { λ s. (s.mutators ≤ 16) × (s.collectors ≤ 16) };
+    ghost invariant = { λ s. (s.mutators ≤ most_mutators) × (s.collectors ≤ 16) };
 }
 
 impl Shared {
     ghost use Rattle.std.specs.Prelude.{◌≡◌, ◌≢◌, ◌≤◌, ◌+◌, ◌⊎◌, ◌↔◌, map, true, false};
     ghost use Rattle.std.specs.Prelude.{IfOk, IfErr, OnErr, Err};
     ghost use Rattle.std.specs.List.{range_with_len};
+    ghost use Rattle.gc_graph.specs.Limits.{most_words, most_mutators};
     ghost use Rattle.gc_copy.specs.Runs.{IsStep};
     ghost use Rattle.gc_copy.specs.declared.event.Event.{Event};
     ghost use Rattle.gc_copy.specs.declared.event.Answer.{Answer};
@@ -53,9 +55,9 @@ impl Shared {
         collectors: u8,
     ) -> Result<(Shared, Vec<Seat>), NoMemory>
         requires low { 1 ≤ size }
-        requires high { size ≤ 1048576 }
+        requires high { size ≤ most_words }
         requires some { 1 ≤ mutators }
-        requires few { mutators ≤ 16 }
+        requires few { mutators ≤ most_mutators }
         requires few_collectors { collectors ≤ 16 }
         ensures opening { IfOk result (λ opened. opened.0 ≡ opening size mutators collectors) }
         ensures seats { IfOk result (λ opened.

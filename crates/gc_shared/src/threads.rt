@@ -1,5 +1,6 @@
 ghost use Rattle.std.specs.Prelude.{◌≡◌, ◌≤◌, ◌<◌, ◌+◌, [], IfOk, IfSome, OnOk, length, map, true, vec_len, vec_capacity};
 ghost use Rattle.std.specs.List.{range_with_len};
+ghost use Rattle.gc_graph.specs.Limits.{most_words, most_mutators};
 ghost use Rattle.gc_shared.specs.Seats.{fresh};
 ghost use Rattle.gc_shared.specs.Scripts.{HasRun};
 ghost use Rattle.gc_shared.specs.Internal.Scripts.{HasPlayed, HasTurned, HavePlayed, HaveEnded};
@@ -53,9 +54,9 @@ pub fn run_threads<R: Threads + Wait + Sync, G: Gate + Sync>(
     gate: &G,
 ) -> Result<World, ThreadsFault>
     requires low { 1 ≤ size }
-    requires high { size ≤ 1048576 }
+    requires high { size ≤ most_words }
     requires some { 1 ≤ vec_len scripts }
-    requires few { vec_len scripts ≤ 16 }
+    requires few { vec_len scripts ≤ most_mutators }
     ensures { IfOk result (HasRun size scripts.items turns) }
 {
     let mutators = scripts.len() as u8;

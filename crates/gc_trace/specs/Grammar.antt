@@ -2,6 +2,7 @@
 use Rattle.std.specs.Prelude.{◌≡◌, ℕ, ◌≤◌, max, List, [], ◌∷◌, ◌++◌, codes, if◌then◌else◌}
 use Rattle.std.specs.List.{flat_map, AllByRecursion}
 use Rattle.std.specs.Fmt.{decimal}
+use Rattle.gc_graph.specs.Limits.{most_words, most_mutators}
 use Rattle.gc_graph.specs.Slots.{SlotName}
 use Rattle.gc_graph.specs.Lines.{line}
 use Rattle.gc_graph.specs.declared.command.Op.{Op}
@@ -70,7 +71,7 @@ abbrev pub newest : ℕ
 newest = 2
 
 abbrev pub IsHeading : ℕ → ℕ → ℕ → Type 0
-IsHeading version size mutators = (1 ≤ version) × (version ≤ newest) × (1 ≤ size) × (size ≤ 1048576) × (1 ≤ mutators) × (mutators ≤ 16)
+IsHeading version size mutators = (1 ≤ version) × (version ≤ newest) × (1 ≤ size) × (size ≤ most_words) × (1 ≤ mutators) × (mutators ≤ most_mutators)
 
 -- the version that brought the event's line: a collection's own size came with the second
 abbrev pub version_of : Event → ℕ
@@ -85,7 +86,7 @@ version_of (Collect steps.Drop) = 1
 
 -- an event of the version's grammar, whoever the mutators are
 pub record IsEvent (version : ℕ) (event : Event) : Type 0 where
-  pub range : runs.IsEvent 16 event
+  pub range : runs.IsEvent most_mutators event
   pub known : version_of event ≤ version
 
 -- it can happen where there are so many mutators: its own, or that of its log, is one of them
@@ -99,9 +100,9 @@ pub record IsRecording (t : Recording) : Type 0 where
 -- its numbers are in their ranges, whatever its version is
 pub record IsInRange (t : Recording) : Type 0 where
   pub low : 1 ≤ t.size
-  pub high : t.size ≤ 1048576
+  pub high : t.size ≤ most_words
   pub some : 1 ≤ t.mutators
-  pub few : t.mutators ≤ 16
+  pub few : t.mutators ≤ most_mutators
   pub events : AllByRecursion (IsOf t.mutators) t.events
 
 -- the text of the trace

@@ -1,6 +1,7 @@
 -- Reading the tokens of a line from left to right.
 use Rattle.std.specs.Prelude.{ℕ, ◌==◌, nat_lt, true, false, List, [], ◌∷◌, Option, Some, None, if◌then◌else◌, codes}
 use Rattle.std.specs.Str.{bytes_eq}
+use Rattle.gc_graph.specs.Limits.{most_words}
 use Rattle.gc_graph.specs.Slots.{SlotName}
 use Rattle.gc_graph.specs.Tokens.{◌>>=◌, Tokens, number_of, number_at, token_at, end_of}
 use Rattle.gc_graph.specs.declared.command.Op.{Op}
@@ -96,7 +97,7 @@ command_of tokens = do
 unfoldable pub begin_of : ℕ → Tokens → Option Step
 begin_of version [] = Some steps.Begin
 begin_of version (token ∷ tokens) = if nat_lt version 2 then None else (do
-  size ← number_at 1048576 (token ∷ tokens)
+  size ← number_at most_words (token ∷ tokens)
   if size.0 == 0 then None else end_of (steps.BeginSized size.0) size.1)
 
 unfoldable pub apply_of : Tokens → Option Step
@@ -139,7 +140,7 @@ version_at tokens = do
 unfoldable pub sizes_of : Tokens → Option (ℕ × ℕ)
 sizes_of tokens = do
   rest ← token_at (codes "space") tokens
-  size ← number_at 1048576 rest
+  size ← number_at most_words rest
   rest ← token_at (codes "mutators") size.1
   mutators ← number_at 16 rest
   sizes ← end_of (size.0, mutators.0) mutators.1

@@ -1,6 +1,7 @@
 ghost use Rattle.std.specs.Prelude.{◌≡◌, ◌≤◌, ◌-◌, None, IfOk, OnOk, IfSome, map};
 ghost use Rattle.std.specs.List.{AllByRecursion};
 ghost use Rattle.std.specs.Option.{option_map};
+ghost use Rattle.gc_graph.specs.Limits.{most_mutators};
 ghost use Rattle.gc_words.specs.Views.{addresses};
 ghost use Rattle.gc_cert.specs.Grammar.{IsWord, AreAddresses, HasText};
 ghost use Rattle.gc_cert.specs.Views.{pair_in};
@@ -52,7 +53,7 @@ fn has_text(file: &PairFile)
 /// Lets the event happen in a world that keeps no pair, and takes the pair of the flip that it is, if it is one.
 fn flip_in(world: &mut World, event: &Event) -> Result<Option<PairFile>, NoMemory>
     requires event { IsEvent world.old.mutators event.now }
-    requires few { world.old.mutators ≤ 16 }
+    requires few { world.old.mutators ≤ most_mutators }
     requires none { world.old.kept ≡ None }
     ensures flip { IfOk result (λ kept. option_map pair_in kept ≡ flip_at (present world.old) event.now) }
     ensures text { IfOk result (λ kept. IfSome kept (λ file. HasText (pair_in file))) }
