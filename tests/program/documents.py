@@ -5,11 +5,11 @@ import subprocess
 import sys
 
 TOP = os.path.join(os.path.dirname(os.path.abspath(__file__)), "..", "..")
-DOCUMENTS = ["README.md", "docs/ARCHITECTURE.md", "docs/DECISIONS.md"]
+DOCUMENTS = ["README.md", "docs/ARCHITECTURE.md", "docs/DECISIONS.md", "docs/TESTING.md"]
 SOURCES = (".rt", ".antt", ".edit", ".py", ".c", ".txt")
 WORD = re.compile(r"[A-Za-z_]\w{3,}")
 # Arguments, and names of things outside the repository that the documents speak of.
-FOREIGN = {"PATH", "TURNS", "rattle", "dac8208d650f15bf", "try_lock"}
+FOREIGN = {"EDIT", "PATH", "TURNS", "rattle", "dac8208d650f15bf", "try_lock"}
 
 
 def sources():
