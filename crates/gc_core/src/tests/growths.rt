@@ -8,6 +8,7 @@ use gc_check::Sequential;
 use gc_copy::StepReply;
 use gc_graph::{NoMemory, Op, Reply, Slot, View};
 use std::alloc::Global;
+use std::process::Abort;
 use std::test::Fail;
 
 fn open_again(alloc: Global) -> Result<CollectedHeap, NoMemory>
@@ -47,6 +48,27 @@ fn flip_again(heap: &mut CollectedHeap, keep: Keep) -> Result<Flip, NoMemory>
     }
 }
 
+/// Writes into an object while it is collected, and flips.
+fn collect_again(
+    rt: &impl Abort,
+    heap: &mut CollectedHeap,
+    r0: Slot,
+    keep: Keep,
+) -> Result<Flip, Fail>
+    requires { 0 < heap.old.mutators }
+    ensures { heap.new.mutators ≡ heap.old.mutators }
+{
+    let _named = View::Nil;
+    assert_eq!(rt; begin_again(heap)?, StepReply::Begun);
+    let put = Op::Put { s: r0, i: 0, t: r0 };
+    assert_eq!(rt; mutate_again(heap, &put)?, Reply::Done);
+    assert_eq!(rt; heap.apply_log(0), StepReply::Applied);
+    assert_eq!(rt; heap.roots(), StepReply::Copied);
+    assert_eq!(rt; heap.scan(), StepReply::Scanned);
+    assert_eq!(rt; heap.scan(), StepReply::Passed);
+    Ok(flip_again(heap, keep)?)
+}
+
 #[test]
 fn each_call_is_retried(rt: HostRuntime) -> Result<(), Fail> {
     let _named = View::Nil;
@@ -57,18 +79,12 @@ fn each_call_is_retried(rt: HostRuntime) -> Result<(), Fail> {
         kind: 1,
         len: 1,
     };
-    assert_eq!(&rt; mutate_again(&mut heap, &new)?, Reply::Made);
-    for keep in [Keep::Pair, Keep::Nothing] {
-        assert_eq!(&rt; begin_again(&mut heap)?, StepReply::Begun);
-        let put = Op::Put { s: r0, i: 0, t: r0 };
-        assert_eq!(&rt; mutate_again(&mut heap, &put)?, Reply::Done);
-        assert_eq!(&rt; heap.apply_log(0), StepReply::Applied);
-        assert_eq!(&rt; heap.roots(), StepReply::Copied);
-        assert_eq!(&rt; heap.scan(), StepReply::Scanned);
-        assert_eq!(&rt; heap.scan(), StepReply::Passed);
-        let flip = flip_again(&mut heap, keep)?;
-        assert_eq!(&rt; flip.reply, StepReply::Flipped { pairs: 1 });
-        assert!(&rt; flip.pair.is_some() == (keep == Keep::Pair));
-    }
+    assert_eq!(rt; mutate_again(&mut heap, &new)?, Reply::Made);
+    let kept = collect_again(&rt, &mut heap, r0, Keep::Pair)?;
+    assert_eq!(rt; kept.reply, StepReply::Flipped { pairs: 1 });
+    assert!(rt; kept.pair.is_some());
+    let flip = collect_again(&rt, &mut heap, r0, Keep::Nothing)?;
+    assert_eq!(rt; flip.reply, StepReply::Flipped { pairs: 1 });
+    assert!(rt; flip.pair.is_none());
     Ok(())
 }
