@@ -45,7 +45,8 @@ impl Collection {
     /// The replica of an original, which is placed where there is none.
     fn replica(&mut self, old: &mut Space, at: usize) -> Result<usize, NoRoom> {
         if old.words[at + 1] == 0 {
-            let placed = self.new.place(old.words[at], at as u64).ok_or(NoRoom)?;
+            let placed = if old.is_raw(at) { self.new.place_copy(old, at) } else { self.new.place(old.words[at], at as u64) };
+            let placed = placed.ok_or(NoRoom)?;
             old.words[at + 1] = placed as u64;
         }
         Ok(old.words[at + 1] as usize)
@@ -58,7 +59,8 @@ impl Collection {
 
     /// Brings a field of a replica up to date with what its original has now.
     fn bring(&mut self, old: &mut Space, original: usize, replica: usize, field: usize) -> Result<(), NoRoom> {
-        let word = self.moved(old, old.words[original + 2 + field])?;
+        let held = old.words[original + 2 + field];
+        let word = if old.is_raw(original) { held } else { self.moved(old, held)? };
         self.new.words[replica + 2 + field] = word;
         Ok(())
     }
@@ -68,7 +70,7 @@ impl Collection {
             return Ok(StepReply::Clean);
         }
         let len = self.new.len(self.scan);
-        if self.field == len {
+        if self.field == len || self.new.is_raw(self.scan) {
             self.scan += len + 2;
             self.field = 0;
             return Ok(StepReply::Passed);
@@ -161,9 +163,9 @@ impl World {
         let pairs = collection.pairs();
         let moved = |word: &u64| target(*word).map_or(*word, |at| 2 * self.heap.space.words[at + 1]);
         let roots: Vec<_> = self.heap.roots.iter().map(moved).collect();
-        let new = Image::new(collection.new.size, collection.new.words.clone(), roots.clone());
+        let new = Image::new(true, collection.new.size, collection.new.words.clone(), roots.clone());
         let old_space = mem::replace(&mut self.heap.space, collection.new);
-        let old = Image::new(old_space.size, old_space.words, mem::replace(&mut self.heap.roots, roots));
+        let old = Image::new(true, old_space.size, old_space.words, mem::replace(&mut self.heap.roots, roots));
         assert!(pair::check(&old, &new, &pairs).is_ok(), "a flip is refused");
         clear_links(&mut self.heap.space);
         let count = pairs.len();

@@ -9,6 +9,7 @@ pub struct Slot {
 #[derive(Clone, Copy)]
 pub enum Op {
     New { d: Slot, kind: u8, len: u16 },
+    NewRaw { d: Slot, kind: u8, len: u16 },
     Num { d: Slot, n: u64 },
     Nil { d: Slot },
     Move { d: Slot, s: Slot },
@@ -22,6 +23,7 @@ pub enum View {
     Nil,
     Num(u64),
     Obj { kind: u8, len: u16 },
+    RawObj { kind: u8, len: u16 },
 }
 
 pub enum Reply {
@@ -30,6 +32,7 @@ pub enum Reply {
     Done,
     NoObject,
     NoField,
+    NoNumber,
     Saw(View),
     Yes,
     No,
@@ -51,6 +54,23 @@ impl Space {
     /// How many fields the object at an address has.
     pub fn len(&self, at: usize) -> usize {
         (self.words[at] & 0xffff) as usize
+    }
+
+    /// Whether the fields of an object are plain numbers.
+    pub fn is_raw(&self, at: usize) -> bool {
+        self.words[at] >> 24 == 3
+    }
+
+    /// Places a raw object of another space at the end with its fields.
+    pub fn place_copy(&mut self, from: &Space, original: usize) -> Option<usize> {
+        let (at, len) = (self.words.len(), from.len(original));
+        if len + 2 > self.size - at {
+            return None;
+        }
+        self.words.push(from.words[original]);
+        self.words.push(original as u64);
+        self.words.extend_from_slice(&from.words[original + 2..original + 2 + len]);
+        Some(at)
     }
 
     /// Places an object with nil fields at the end, where it has room, and gives its address.
@@ -97,14 +117,17 @@ impl Heap {
 
     fn view(&self, word: u64) -> View {
         match target(word) {
-            Some(at) => View::Obj { kind: (self.space.words[at] >> 16) as u8, len: self.space.len(at) as u16 },
+            Some(at) => {
+                let (kind, len) = ((self.space.words[at] >> 16) as u8, self.space.len(at) as u16);
+                if self.space.is_raw(at) { View::RawObj { kind, len } } else { View::Obj { kind, len } }
+            }
             None if word == 0 => View::Nil,
             None => View::Num(word / 2),
         }
     }
 
-    fn make(&mut self, m: u8, d: Slot, kind: u8, len: u16) -> Reply {
-        let header = (1 << 24) + (u64::from(kind) << 16) + u64::from(len);
+    fn make(&mut self, m: u8, d: Slot, first: u64, kind: u8, len: u16) -> Reply {
+        let header = (first << 24) + (u64::from(kind) << 16) + u64::from(len);
         let Some(at) = self.space.place(header, 0) else {
             return Reply::Full;
         };
@@ -112,27 +135,34 @@ impl Heap {
         Reply::Made
     }
 
-    /// The address of a field of what the slot refers to.
-    fn field(&self, m: u8, s: Slot, i: u16) -> Result<usize, Reply> {
+    /// The address of a field of what the slot refers to, and whether it is raw.
+    fn field(&self, m: u8, s: Slot, i: u16) -> Result<(bool, usize), Reply> {
         let at = target(self.root(m, s)).ok_or(Reply::NoObject)?;
-        if (i as usize) < self.space.len(at) { Ok(at + 2 + i as usize) } else { Err(Reply::NoField) }
+        if (i as usize) < self.space.len(at) { Ok((self.space.is_raw(at), at + 2 + i as usize)) } else { Err(Reply::NoField) }
     }
 
     fn get(&mut self, m: u8, d: Slot, s: Slot, i: u16) -> Result<Reply, Reply> {
-        let word = self.space.words[self.field(m, s, i)?];
+        let (raw, field) = self.field(m, s, i)?;
+        let held = self.space.words[field];
+        let word = if raw { 2 * held + 1 } else { held };
         self.take(m, d, word);
         Ok(Reply::Saw(self.view(word)))
     }
 
     fn put(&mut self, m: u8, s: Slot, i: u16, t: Slot) -> Result<Reply, Reply> {
-        let field = self.field(m, s, i)?;
-        self.space.words[field] = self.root(m, t);
+        let (raw, field) = self.field(m, s, i)?;
+        let word = self.root(m, t);
+        if raw && word % 2 == 0 {
+            return Err(Reply::NoNumber);
+        }
+        self.space.words[field] = if raw { word / 2 } else { word };
         Ok(Reply::Done)
     }
 
     pub fn apply(&mut self, m: u8, op: Op) -> Reply {
         match op {
-            Op::New { d, kind, len } => self.make(m, d, kind, len),
+            Op::New { d, kind, len } => self.make(m, d, 1, kind, len),
+            Op::NewRaw { d, kind, len } => self.make(m, d, 3, kind, len),
             Op::Num { d, n } => self.take(m, d, 2 * n + 1),
             Op::Nil { d } => self.take(m, d, 0),
             Op::Move { d, s } => self.take(m, d, self.root(m, s)),

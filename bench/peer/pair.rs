@@ -10,11 +10,13 @@ pub struct Image {
     words: Vec<u64>,
     end: u64,
     roots: Vec<u64>,
+    /// Whether headers of raw objects count.
+    raws: bool,
 }
 
 impl Image {
-    pub fn new(size: usize, words: Vec<u64>, roots: Vec<u64>) -> Image {
-        Image { size: size as u64, end: words.len() as u64, words, roots }
+    pub fn new(raws: bool, size: usize, words: Vec<u64>, roots: Vec<u64>) -> Image {
+        Image { size: size as u64, end: words.len() as u64, words, roots, raws }
     }
 }
 
@@ -40,13 +42,13 @@ impl<'a> Lines<'a> {
         self.next(|line| decimal(behind(line, name)?).filter(|n| *n <= most))
     }
 
-    fn image(&mut self, name: &[u8]) -> Result<Image, String> {
+    fn image(&mut self, name: &[u8], raws: bool) -> Result<Image, String> {
         let in_range = |n: &u64| (1..=1_048_576).contains(n);
         let (size, end) = self.next(|line| two(behind(line, name)?).filter(|(s, e)| in_range(s) && in_range(e)))?;
         let words = self.words(end)?;
         let count = self.count(b"roots", 272)?;
         let roots = self.words(count)?;
-        Ok(Image { size, words, end, roots })
+        Ok(Image { size, words, end, roots, raws })
     }
 }
 
@@ -70,7 +72,7 @@ fn starts(image: &Image) -> Result<Vec<bool>, usize> {
     while at < image.words.len() {
         let header = image.words[at];
         let next = at + 2 + (header & 0xffff) as usize;
-        if header >> 24 != 1 || next > image.words.len() {
+        if !(header >> 24 == 1 || (image.raws && header >> 24 == 3)) || next > image.words.len() {
             return Err(at);
         }
         starts[at] = true;
@@ -122,8 +124,12 @@ pub fn check(old: &Image, new: &Image, pairs: &[(u64, u64)]) -> Result<(), Strin
         if old.words[a] != new.words[b] {
             return Err(format!("8 HeaderDiffers {k}"));
         }
+        let raw = old.words[a] >> 24 == 3;
         for i in 0..(old.words[a] & 0xffff) as usize {
-            if !correspond(&partners, old.words[a + 2 + i], new.words[b + 2 + i]) {
+            if raw && old.words[a + 2 + i] == new.words[b + 2 + i] {
+                continue;
+            }
+            if raw || !correspond(&partners, old.words[a + 2 + i], new.words[b + 2 + i]) {
                 return Err(format!("9 FieldDiffers {k} {i}"));
             }
         }
@@ -138,9 +144,13 @@ pub fn verdict(text: &[u8]) -> Result<(String, u8), String> {
         return Err("pair: too large".to_string());
     }
     let mut lines = Lines { rest: text, number: 0 };
-    lines.next(|line| (line == b"heappair 1").then_some(()))?;
-    let old = lines.image(b"old")?;
-    let new = lines.image(b"new")?;
+    let raws = lines.next(|line| match line {
+        b"heappair 1" => Some(false),
+        b"heappair 2" => Some(true),
+        _ => None,
+    })?;
+    let old = lines.image(b"old", raws)?;
+    let new = lines.image(b"new", raws)?;
     let count = lines.count(b"pairs", 524_287)?;
     let address = |n: &u64| *n <= u64::from(u32::MAX);
     let pairs = (0..count)

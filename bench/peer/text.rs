@@ -63,8 +63,13 @@ pub fn decimal(digits: &[u8]) -> Option<u64> {
     })
 }
 
-fn op(words: &mut Words<'_>) -> Option<Op> {
+fn op(version: u8, words: &mut Words<'_>) -> Option<Op> {
     match words.0.next()? {
+        b"raw" if version > 2 => Some(Op::NewRaw {
+            d: words.slot()?,
+            kind: words.number(255)? as u8,
+            len: words.number(65535)? as u16,
+        }),
         b"new" => Some(Op::New {
             d: words.slot()?,
             kind: words.number(255)? as u8,
@@ -105,7 +110,7 @@ fn step(version: u8, words: &mut Words<'_>) -> Option<Step> {
 fn event(version: u8, line: &[u8]) -> Option<Event> {
     let mut words = Words::new(line);
     let event = match words.0.next()? {
-        b"m" => Event::Mutate(words.number(15)? as u8, op(&mut words)?),
+        b"m" => Event::Mutate(words.number(15)? as u8, op(version, &mut words)?),
         b"c" => Event::Collect(step(version, &mut words)?),
         _ => return None,
     };
@@ -142,6 +147,7 @@ fn header(text: &[u8]) -> Option<(u8, u32, u8, &[u8])> {
     let version = match first {
         b"heaptrace 1" => 1,
         b"heaptrace 2" => 2,
+        b"heaptrace 3" => 3,
         _ => return None,
     };
     let (second, rest) = cut(rest)?;
@@ -199,9 +205,11 @@ fn push_reply(lines: &mut Vec<u8>, reply: &Reply) {
         Reply::Done => writeln!(lines, "done"),
         Reply::NoObject => writeln!(lines, "no object"),
         Reply::NoField => writeln!(lines, "no field"),
+        Reply::NoNumber => writeln!(lines, "no number"),
         Reply::Saw(View::Nil) => writeln!(lines, "saw nil"),
         Reply::Saw(View::Num(n)) => writeln!(lines, "saw num {n}"),
         Reply::Saw(View::Obj { kind, len }) => writeln!(lines, "saw obj {kind} {len}"),
+        Reply::Saw(View::RawObj { kind, len }) => writeln!(lines, "saw raw {kind} {len}"),
         Reply::Yes => writeln!(lines, "yes"),
         Reply::No => writeln!(lines, "no"),
     };

@@ -16,7 +16,7 @@ def told(verdict):
 
 def verdicts(program, folder):
     for name, text, verdict in pairs.texts_and_verdicts():
-        yield "%s is checked" % name, difference(check(program, folder, text), told(verdict))
+        yield "%s, is checked" % name, difference(check(program, folder, text), told(verdict))
 
 
 def refused(program, folder):
@@ -26,11 +26,16 @@ def refused(program, folder):
 
 def cuts(program, folder):
     lines, verdict = pairs.CHECKED["old_addresses_may_fall"]
-    text = pairs.text_of(lines)
+    yield from cuts_of(program, folder, "pair text", pairs.text_of(lines), verdict)
+    version, lines, verdict = pairs.CHECKED_RAW["raw_word_like_a_reference"]
+    yield from cuts_of(program, folder, "pair text of the second version", pairs.text_of(lines, version), verdict)
+
+
+def cuts_of(program, folder, name, text, verdict):
     for length in range(len(text)):
         found = check(program, folder, text[:length])
-        yield "pair text cut behind %d bytes" % length, difference(found, refusal(pairs.ENDS_EARLY, 3))
-    yield "pair text, not cut", difference(check(program, folder, text), told(verdict))
+        yield "%s cut behind %d bytes" % (name, length), difference(found, refusal(pairs.ENDS_EARLY, 3))
+    yield "%s, not cut" % name, difference(check(program, folder, text), told(verdict))
 
 
 def standard_input(program, folder):

@@ -37,7 +37,7 @@ def words(*numbers):
 
 
 PAIR_OF_COLLECT_WHEN_FULL = (
-    "heappair 1\nold 9 9\n" + words(0, 16842754, 0, 0, 0, 16842754, 1, 0, 0)
+    "heappair 2\nold 9 9\n" + words(0, 16842754, 0, 0, 0, 16842754, 1, 0, 0)
     + "roots 32\n" + root_lines({16: 10})
     + "new 9 5\n" + words(0, 16842754, 5, 0, 0)
     + "roots 32\n" + root_lines({16: 2})
@@ -45,11 +45,21 @@ PAIR_OF_COLLECT_WHEN_FULL = (
 ).encode()
 
 SECOND_PAIR = (
-    "heappair 1\nold 9 7\n" + words(0, 16842754, 1, 0, 0, 16777216, 5)
+    "heappair 2\nold 9 7\n" + words(0, 16842754, 1, 0, 0, 16777216, 5)
     + "roots 32\n" + root_lines({16: 2, 17: 10})
     + "new 9 7\n" + words(0, 16842754, 1, 0, 0, 16777216, 5)
     + "roots 32\n" + root_lines({16: 2, 17: 10})
     + "pairs 2\n1 1\n5 5\nend\n"
+).encode()
+
+
+# The words of a raw object are its numbers, also where they look like references.
+RAW_PAIR = (
+    "heappair 2\nold 16 5\n" + words(0, 50790402, 1, 8, 10)
+    + "roots 32\n" + root_lines({16: 2, 17: 21})
+    + "new 16 5\n" + words(0, 50790402, 1, 8, 10)
+    + "roots 32\n" + root_lines({16: 2, 17: 21})
+    + "pairs 1\n1 1\nend\n"
 ).encode()
 
 
@@ -94,6 +104,8 @@ def pairs(program, folder):
     path = trace_file(folder, "second_collection")
     yield "first pair", difference(run(program, ["pair", path, "1"]), Outcome(stdout=PAIR_OF_COLLECT_WHEN_FULL))
     yield "second pair", difference(run(program, ["pair", path, "2"]), Outcome(stdout=SECOND_PAIR))
+    path = trace_file(folder, "raw_object_written_while_it_is_copied")
+    yield "pair of a raw object", difference(run(program, ["pair", path, "1"]), Outcome(stdout=RAW_PAIR))
     for name, conversation in COLLECTED.items():
         path = trace_file(folder, name)
         flips = flips_of(conversation)
@@ -118,7 +130,9 @@ def wrong_run(program, folder, text, found, turns):
     if found.status != 0 or found.stderr:
         return difference(found, Outcome(stdout=found.stdout))
     recorded = found.stdout
-    if recorded.splitlines()[:2] != [b"heaptrace 1", text.splitlines()[1]]:
+    # No useful step begins with a size of its own, so a version above 1 is for raw objects.
+    raws = any(b" raw " in line for line in text.splitlines())
+    if recorded.splitlines()[:2] != [b"heaptrace 3" if raws else b"heaptrace 1", text.splitlines()[1]]:
         return "recorded %r" % recorded.splitlines()[:2]
     for mutator in range(16):
         if commands_of(recorded, mutator) != commands_of(text, mutator):
@@ -145,7 +159,8 @@ def threads(program, folder):
     for turns in [0, 1, 40, 1000]:
         found = run(program, ["threads", path, str(turns)])
         yield "two scripts and %d turns" % turns, wrong_run(program, folder, shared, found, turns)
-    for name in ["log_across_two_mutators", "cycle_of_two_is_carried_over", "last_write_of_two_mutators_wins"]:
+    for name in ["log_across_two_mutators", "cycle_of_two_is_carried_over", "last_write_of_two_mutators_wins",
+                 "raw_object_written_while_it_is_copied"]:
         text, _ = trace_and_replies(PLAYED[name])
         found = run(program, ["threads", file_of(folder, name, text), "25"])
         yield "scripts of %s" % name, wrong_run(program, folder, text, found, 25)

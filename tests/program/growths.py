@@ -18,7 +18,7 @@ import os
 import shutil
 import subprocess
 
-from .collecting import PAIR_OF_COLLECT_WHEN_FULL, REPORT_OF_COLLECT_WHEN_FULL, wrong_run
+from .collecting import PAIR_OF_COLLECT_WHEN_FULL, RAW_PAIR, REPORT_OF_COLLECT_WHEN_FULL, wrong_run
 from .harness import Outcome, difference, file_of, refusal, run
 from .pairs import CHECKED, LEAST, all_paired, text_of
 from .traces import PLAYED, trace_and_replies
@@ -131,6 +131,9 @@ def growths(program, folder):
     bad_pair = file_of(folder, "bad pair", LEAST + b"x\n")
     collected_text, collected_replies = trace_and_replies(PLAYED["collect_when_full"])
     collected = file_of(folder, "collected", collected_text)
+    raw_text, raw_replies = trace_and_replies(PLAYED["raw_object_written_while_it_is_copied"])
+    raw = file_of(folder, "raw", raw_text)
+    raw_pair = file_of(folder, "raw pair", RAW_PAIR)
     runs = [
         ("play_of_standard_input", [], text, Outcome(stdout=replies)),
         ("play_of_a_file", ["play", path], b"", Outcome(stdout=replies)),
@@ -145,6 +148,9 @@ def growths(program, folder):
         ("pair_of_a_flip", ["pair", collected, "1"], b"", Outcome(stdout=PAIR_OF_COLLECT_WHEN_FULL)),
         ("flip_that_is_not_there", ["pair", collected, "2"], b"", refusal("trace: no such flip", 3)),
         ("play_of_collections", ["play", collected], b"", Outcome(stdout=collected_replies)),
+        ("play_of_a_raw_object", ["play", raw], b"", Outcome(stdout=raw_replies)),
+        ("pair_of_a_raw_object", ["pair", raw, "1"], b"", Outcome(stdout=RAW_PAIR)),
+        ("check_of_a_raw_object", ["check", raw_pair], b"", Outcome(stdout=b"yes 1\n")),
         ("unknown_word", ["nothing"], b"", run(program, ["nothing"])),
         ("help", ["--help"], b"", run(program, ["--help"])),
     ]

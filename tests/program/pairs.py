@@ -4,9 +4,9 @@ Verdicts and faults stand as the formats and the checker's rules give them (docs
 """
 
 
-def text_of(lines):
+def text_of(lines, version=1):
     """The text of a pair, from the lines between its first and its last, parted by slashes."""
-    return ("heappair 1/%s/end/" % lines).replace("/", "\n").encode()
+    return ("heappair %d/%s/end/" % (version, lines)).replace("/", "\n").encode()
 
 
 # The name, the lines between the first and the last, and the verdict.
@@ -74,10 +74,78 @@ CHECKED = {
 }
 
 
+# The name, the version, the lines between the first and the last, and the verdict. The objects are raw.
+CHECKED_RAW = {
+    "raw_header_in_the_first_version": (
+        1,
+        "old 8 3/0/50331648/0/roots 1/2/new 8 3/0/50331648/0/roots 1/2/pairs 1/1 1",
+        "refused 1 OldShape 1",
+    ),
+    "raw_header_in_the_second_version": (
+        2,
+        "old 8 3/0/50331648/0/roots 1/2/new 8 3/0/50331648/0/roots 1/2/pairs 1/1 1",
+        "yes 1",
+    ),
+    "raw_header_in_the_new_heap_of_the_first_version": (
+        1,
+        "old 8 3/0/16777216/0/roots 1/2/new 8 3/0/50331648/0/roots 1/2/pairs 1/1 1",
+        "refused 2 NewShape 1",
+    ),
+    "raw_word_like_a_reference": (
+        2,
+        "old 9 4/0/50331649/0/18/roots 1/2/new 9 4/0/50331649/0/18/roots 1/2/pairs 1/1 1",
+        "yes 1",
+    ),
+    "raw_words_differ": (
+        2,
+        "old 9 4/0/50331649/0/18/roots 1/2/new 9 4/0/50331649/0/8/roots 1/2/pairs 1/1 1",
+        "refused 9 FieldDiffers 0 0",
+    ),
+    "raw_word_that_no_heap_has": (
+        2,
+        "old 9 4/0/50331649/0/18446744073709551614/roots 1/2/new 9 4/0/50331649/0/18446744073709551614/roots 1/2/pairs 1/1 1",
+        "yes 1",
+    ),
+    "replica_of_another_header": (
+        2,
+        "old 8 3/0/16777216/0/roots 1/2/new 8 3/0/50331648/0/roots 1/2/pairs 1/1 1",
+        "refused 8 HeaderDiffers 0",
+    ),
+    "raw_word_moved_as_a_reference": (
+        2,
+        "old 8 6/0/50331649/0/8/16777216/0/roots 2/2/8/new 8 6/0/16777216/0/50331649/0/2/roots 2/6/2/pairs 2/4 1/1 3",
+        "refused 9 FieldDiffers 1 0",
+    ),
+    "last_word_below_raw_headers": (
+        2,
+        "old 8 3/0/50331647/0/roots 0/new 8 1/0/roots 0/pairs 0",
+        "refused 1 OldShape 1",
+    ),
+    "first_word_above_raw_headers": (
+        2,
+        "old 8 3/0/67108864/0/roots 0/new 8 1/0/roots 0/pairs 0",
+        "refused 1 OldShape 1",
+    ),
+    "greatest_raw_header_runs_past_the_end": (
+        2,
+        "old 8 3/0/16777216/0/roots 0/new 8 3/0/67108863/0/roots 0/pairs 0",
+        "refused 2 NewShape 1",
+    ),
+    "raw_kinds_differ": (
+        2,
+        "old 8 3/0/50331648/0/roots 1/2/new 8 3/0/50397184/0/roots 1/2/pairs 1/1 1",
+        "refused 8 HeaderDiffers 0",
+    ),
+}
+
+
 def texts_and_verdicts():
-    """Each pair text: its name, its bytes, the line of its verdict."""
+    """Each pair text: its name, its bytes, the line of its verdict. Without raw headers the version makes no difference."""
     for name, (lines, verdict) in CHECKED.items():
-        yield name, text_of(lines), verdict
+        for version in [1, 2]:
+            yield "%s, version %d" % (name, version), text_of(lines, version), verdict
+    for name, (version, lines, verdict) in CHECKED_RAW.items():
+        yield name, text_of(lines, version), verdict
 
 
 def status_of(verdict):
@@ -95,7 +163,9 @@ def bad_line(number):
 
 # A line of the least text, by its number, and what stands in its place.
 WRONG_LINES = {
+    "next_version": (1, b"heappair 3"),
     "unknown_version": (1, b"heappair 9"),
+    "version_0": (1, b"heappair 0"),
     "version_with_leading_zero": (1, b"heappair 01"),
     "another_text": (1, b"heaptrace 1"),
     "empty_first_line": (1, b""),

@@ -21,7 +21,11 @@ RETRY = 1000033
 
 # How many requests are refused, where the number is known from what a call has to keep.
 EXACTLY = {
-    # The pairs, the new roots, the checker's three rows, the new words and the new roots of the kept pair, and an entry.
+    # The pairs, the new roots, and the checker's three rows.
+    "collected_heaps::flip_of_1000_that_keeps_nothing": 5,
+    # The same, and the new words and the new roots of the kept pair.
+    "collected_heaps::flip_of_1000_that_keeps_the_pair": 7,
+    # The pairs, the new roots, the checker's three rows, the new words and the new roots of the kept pair, and an entry of the history.
     "worlds::flip_of_1000_with_a_full_history": 8,
     "worlds::flip_of_1000_with_a_spare_place": 7,
 }

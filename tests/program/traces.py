@@ -158,6 +158,45 @@ PLAYED = {
         m 14 look r15 -> saw nil
         m 14 look g15 -> saw obj 255 65535
     """,
+    "raw_objects_take_numbers_alone": """
+        space 12 mutators 1
+        m 0 raw r0 255 2 -> made
+        m 0 look r0 -> saw raw 255 2
+        m 0 get r1 r0 1 -> saw num 0
+        m 0 put r0 0 r2 -> no number
+        m 0 put r0 1 r0 -> no number
+        m 0 put r0 2 r2 -> no field
+        m 0 put r2 0 r2 -> no object
+        m 0 get r3 r0 0 -> saw num 0
+        m 0 num r2 9223372036854775807 -> done
+        m 0 put r0 0 r2 -> done
+        m 0 get r3 r0 0 -> saw num 9223372036854775807
+        m 0 same r3 r2 -> yes
+        m 0 raw r4 0 6 -> full
+        m 0 look r4 -> saw nil
+        m 0 raw r4 0 5 -> made
+        m 0 same r4 r0 -> no
+    """,
+    "a_raw_object_behind_a_field": """
+        space 16 mutators 2
+        m 0 new g0 1 1 -> made
+        m 1 raw r0 2 1 -> made
+        m 1 put g0 0 r0 -> done
+        m 0 get r0 g0 0 -> saw raw 2 1
+        m 0 num r1 18 -> done
+        m 0 put r0 0 r1 -> done
+        m 1 get r1 r0 0 -> saw num 18
+        m 1 put r0 0 r0 -> no number
+    """,
+    "greatest_raw_object": """
+        space 65538 mutators 1
+        m 0 raw r0 255 65535 -> made
+        m 0 num r1 4 -> done
+        m 0 put r0 65534 r1 -> done
+        m 0 get r2 r0 65534 -> saw num 4
+        m 0 put r0 65535 r1 -> no field
+        m 0 new r1 0 0 -> full
+    """,
 }
 
 # The first object is garbage when the space is full.
@@ -177,7 +216,8 @@ COLLECT_WHEN_FULL = """
         m 0 new r1 0 0 -> made
 """
 
-# Traces in which the collector works. Each begins with `heaptrace 1`, or `heaptrace 2` where a collection has a size.
+# Traces in which the collector works. Each begins with `heaptrace 1`, or `heaptrace 2` where a collection has a size, or
+# `heaptrace 3` where an object is raw.
 COLLECTED = {
     "collect_when_full": COLLECT_WHEN_FULL,
     "second_collection": COLLECT_WHEN_FULL + """
@@ -384,13 +424,101 @@ COLLECTED = {
         c apply 0 -> clean
         c flip -> flipped 1
     """,
+    "raw_object_written_while_it_is_copied": """
+        space 16 mutators 1
+        m 0 raw r0 7 2 -> made
+        m 0 look r0 -> saw raw 7 2
+        m 0 get r1 r0 1 -> saw num 0
+        m 0 put r0 0 r2 -> no number
+        m 0 put r0 2 r2 -> no field
+        m 0 num r1 8 -> done
+        m 0 put r0 0 r1 -> done
+        c begin -> begun
+        c roots -> copied
+        m 0 num r1 10 -> done
+        m 0 put r0 1 r1 -> done
+        c scan -> passed
+        c scan -> clean
+        c flip -> not ready
+        c apply 0 -> applied
+        c flip -> flipped 1
+        m 0 get r2 r0 0 -> saw num 8
+        m 0 get r2 r0 1 -> saw num 10
+    """,
+    "raw_words_keep_nothing": """
+        space 16 mutators 1
+        m 0 new r0 1 0 -> made
+        m 0 raw r1 0 1 -> made
+        m 0 num r2 2 -> done
+        m 0 put r1 0 r2 -> done
+        m 0 nil r0 -> done
+        c begin 4 -> begun
+        c roots -> copied
+        c roots -> clean
+        c scan -> passed
+        c scan -> clean
+        c flip -> flipped 1
+        m 0 get r3 r1 0 -> saw num 2
+        m 0 raw r4 0 0 -> full
+    """,
+    "a_refused_put_is_not_logged": """
+        space 16 mutators 1
+        m 0 raw r0 0 1 -> made
+        c begin -> begun
+        m 0 put r0 0 r0 -> no number
+        c apply 0 -> clean
+        c roots -> copied
+        m 0 put r0 0 r1 -> no number
+        c scan -> passed
+        c flip -> flipped 1
+        m 0 get r1 r0 0 -> saw num 0
+    """,
+    "a_raw_object_is_found_by_a_field": """
+        space 16 mutators 1
+        m 0 new r0 1 1 -> made
+        m 0 raw r1 2 1 -> made
+        m 0 num r2 9 -> done
+        m 0 put r1 0 r2 -> done
+        m 0 put r0 0 r1 -> done
+        m 0 nil r1 -> done
+        c begin -> begun
+        c roots -> copied
+        c scan -> scanned
+        c scan -> passed
+        c scan -> passed
+        c scan -> clean
+        c flip -> flipped 2
+        m 0 get r1 r0 0 -> saw raw 2 1
+        m 0 get r1 r1 0 -> saw num 9
+    """,
+    "a_raw_replica_without_room": """
+        space 16 mutators 1
+        m 0 new r0 1 1 -> made
+        m 0 raw r1 2 1 -> made
+        m 0 put r0 0 r1 -> done
+        m 0 nil r1 -> done
+        c begin 6 -> begun
+        c roots -> copied
+        c scan -> no room
+        c flip -> not ready
+        c drop -> dropped
+        c begin 7 -> begun
+        c roots -> copied
+        c scan -> scanned
+        c scan -> passed
+        c scan -> passed
+        c flip -> flipped 2
+        m 0 raw r1 0 0 -> full
+    """,
 }
 
 PLAYED.update(COLLECTED)
 
 
 def version_of(events):
-    """The least version that has all these lines: the second brought a collection's own size."""
+    """The least version that has all these lines: the second brought a collection's own size, the third raw objects."""
+    if any(event.split(" ")[2:3] == ["raw"] for event, _ in events):
+        return 3
     return 2 if any(event.startswith("c begin ") for event, _ in events) else 1
 
 
@@ -425,7 +553,7 @@ HEADERS = {
     "size_with_leading_zero": b"heaptrace 1\nspace 08 mutators 1\n",
     "size_beyond_64_bits": b"heaptrace 1\nspace 18446744073709551624 mutators 1\n",
     "mutators_with_a_sign": b"heaptrace 1\nspace 8 mutators +1\n",
-    "next_version": b"heaptrace 3\nspace 8 mutators 1\n",
+    "next_version": b"heaptrace 4\nspace 8 mutators 1\n",
     "unknown_version": b"heaptrace 9\nspace 8 mutators 1\n",
     "version_with_leading_zero": b"heaptrace 01\nspace 8 mutators 1\n",
     "another_text": b"heappair 1\nspace 8 mutators 1\n",
@@ -475,6 +603,7 @@ BAD_LINES = {
     "unknown_step": b"c sweep",
     "step_in_capitals": b"c Flip",
     "size_in_the_first_version": b"c begin 12",
+    "raw_object_in_the_first_version": b"m 0 raw r0 7 2",
     "word_behind_a_step": b"c flip 1",
     "log_without_number": b"c apply",
     "log_16": b"c apply 16",
@@ -489,6 +618,19 @@ BAD_LINES_OF_THE_SECOND = {
     "size_too_great": b"c begin 1048577",
     "size_with_leading_zero": b"c begin 012",
     "two_sizes": b"c begin 12 12",
+    "raw_object_in_the_second_version": b"m 0 raw r0 7 2",
+}
+
+# The line behind `heaptrace 3` and `space 8 mutators 1`, without its end.
+BAD_LINES_OF_THE_THIRD = {
+    "raw_kind_256": b"m 0 raw r0 256 0",
+    "raw_length_65536": b"m 0 raw r0 0 65536",
+    "raw_length_with_leading_zero": b"m 0 raw r0 0 02",
+    "raw_without_a_length": b"m 0 raw r0 7",
+    "raw_with_a_word_too_many": b"m 0 raw r0 7 2 2",
+    "raw_slot_16": b"m 0 raw r16 7 2",
+    "raw_in_capitals": b"m 0 RAW r0 7 2",
+    "size_0_in_the_third_version": b"c begin 0",
 }
 
 
@@ -501,6 +643,9 @@ def refused_texts():
         yield name, start + line + b"\n", bad_line(3)
     for name, line in BAD_LINES_OF_THE_SECOND.items():
         yield name, b"heaptrace 2\nspace 8 mutators 1\n" + line + b"\n", bad_line(3)
+    for name, line in BAD_LINES_OF_THE_THIRD.items():
+        yield name, b"heaptrace 3\nspace 8 mutators 1\n" + line + b"\n", bad_line(3)
+    yield "no_such_mutator_for_raw", b"heaptrace 3\nspace 8 mutators 1\nm 1 raw r0 7 2\n", no_such_mutator(3)
     yield "no_such_log", start + b"c apply 1\nx\n", no_such_mutator(3)
     yield "no_such_mutator", start + b"m 1 look r0\n", no_such_mutator(3)
     yield "last_line_without_its_end", start + b"m 0 look r0", bad_line(3)

@@ -1,7 +1,7 @@
 -- Sections of one line, and of a number of lines of one form.
 use Rattle.std.proofs.Common.{◌≡◌, ◌≢◌, ℕ, suc, zero, ◌-◌, ◌<◌, List, [], ◌∷◌, ◌++◌, length, map, replicate, refl, sym, ap, ◌∙◌, arith, append_assoc, subst, length-append, Option, Some, None}
 use Rattle.std.specs.List.{AllByRecursion}
-use Rattle.std.proofs.lemmas.List.{append-nil}
+use Rattle.std.proofs.lemmas.List.{append-nil, map-append}
 use Rattle.gc_graph.specs.Lines.{newline, HasNo, ended}
 use Rattle.gc_cert.specs.Sections.{Place, IsNext, HasTaken}
 use Rattle.gc_cert.specs.Internal.Sections.{alone, AreAll, Spelled, Begins, IsWrongAt, IsCutIn}
@@ -86,9 +86,6 @@ All-append : {V : Type 0} (P : V → Type 0) (xs ys : List V) → AllByRecursion
 All-append P [] ys p q = q
 All-append P (x ∷ xs) ys p q = (p.0, All-append P xs ys p.1 q)
 
-pub All-push : {V : Type 0} (P : V → Type 0) (xs : List V) (y : V) → AllByRecursion P xs → P y → AllByRecursion P (xs ++ y ∷ [])
-All-push P xs y h p = All-append P xs (y ∷ []) h (p, tt)
-
 pub All-replicate : {V : Type 0} (P : V → Type 0) (n : ℕ) (x : V) → P x → AllByRecursion P (replicate n x)
 All-replicate P zero x p = tt
 All-replicate P (suc n) x p = (p, All-replicate P n x p)
@@ -96,10 +93,6 @@ All-replicate P (suc n) x p = (p, All-replicate P n x p)
 pub length-replicated : {V : Type 0} (n : ℕ) (x : V) → length (replicate n x) ≡ n
 length-replicated zero x = refl
 length-replicated (suc n) x = ap suc (length-replicated n x)
-
-map-append : {V : Type 0} (f : V → List ℕ) (xs ys : List V) → map f (xs ++ ys) ≡ map f xs ++ map f ys
-map-append f [] ys = refl
-map-append f (x ∷ xs) ys = ap (λ (ls : Lines). f x ∷ ls) (map-append f xs ys)
 
 pub all_delimit : {V : Type 0} (InRange : V → Type 0) (line_of : V → List ℕ) (read : List ℕ → Option V) (n : ℕ) → IsForm InRange line_of read → Delimits (AreAll InRange n) (map line_of)
 all_delimit {V} InRange line_of read n form vs ws x y p q e = same vs ws p.1 q.1 (p.0 ∙ sym q.0) e

@@ -1,5 +1,5 @@
 -- Each line of a pair text is of a form: what is read of it is what it was written of.
-use Rattle.std.proofs.Common.{◌≡◌, ℕ, ◌^◌, ◌<◌, ◌≤◌, true, false, cond, eqb, leb, List, [], ◌∷◌, refl, sym, ap, ◌∙◌, arith, subst, Some, None}
+use Rattle.std.proofs.Common.{◌≡◌, ℕ, ◌^◌, ◌<◌, ◌≤◌, Bool, true, false, cond, eqb, leb, List, [], ◌∷◌, refl, sym, ap, ◌∙◌, arith, subst, Some, None}
 use Rattle.std.specs.Fmt.{decimal}
 use Rattle.std.specs.Str.{bytes_eq}
 use Rattle.std.proofs.lemmas.Bool.{and_parts, leb-true, ne_eqb}
@@ -10,10 +10,10 @@ use Rattle.gc_graph.specs.Tokens.{◌>>=◌, Tokens, number_at, token_at, end_of
 use Rattle.gc_graph.proofs.Decimals.{number_found, number_again}
 use Rattle.gc_graph.proofs.LineLemmas.{HasNo-decimal, tokens_of-joined, joined-tokens_of}
 use Rattle.gc_graph.proofs.TokenParsers.{bind_some, onto, number_at_found, number_at_again, token_at_found, token_at_again, end_found, end_again, positive, some_is}
-use Rattle.gc_cert.specs.Grammar.{pair_line, count_line, size_line, IsWord, AreAddresses, AreSizes}
+use Rattle.gc_cert.specs.Grammar.{heading, pair_line, count_line, size_line, IsWord, AreAddresses, AreSizes}
 use Rattle.gc_cert.specs.Parsers.{count_of, sizes_of, pair_of}
-use Rattle.gc_cert.specs.Internal.Parsers.{is_name, is_line, word_in}
-use Rattle.gc_cert.specs.Internal.Sections.{Nothing}
+use Rattle.gc_cert.specs.Internal.Parsers.{is_name, is_line, raws_in, word_in}
+use Rattle.gc_cert.specs.Internal.Sections.{Nothing, AnyFlag}
 use Rattle.gc_cert.proofs.Forms.{IsForm}
 
 HasNo-name : (c : ℕ) (name : List ℕ) → c < 58 → is_name name ≡ true → HasNo c name
@@ -45,6 +45,28 @@ line_is wanted line e = rw (sym e) refl
 pub line_is_not : (wanted line : List ℕ) → false ≡ bytes_eq line wanted → is_line wanted line ≡ None
 unfolding is_line
 line_is_not wanted line e = rw (sym e) refl
+
+heading_found : (line : List ℕ) (raws : Bool) → raws_in line ≡ Some raws → line ≡ heading raws
+unfolding raws_in
+heading_found line raws e = at (bytes_eq line (heading false)) (bytes_eq line (heading true)) refl refl e
+  where
+    at : (p q : Bool) → bytes_eq line (heading false) ≡ p → bytes_eq line (heading true) ≡ q → cond p (Some false) (cond q (Some true) None) ≡ Some raws → line ≡ heading raws
+    at true q is other e = (bytes_eq-Decides line (heading false)).0 is ∙ ap heading (some_is false raws e)
+    at false true other is e = (bytes_eq-Decides line (heading true)).0 is ∙ ap heading (some_is true raws e)
+    at false false other is e = absurd cc
+
+heading_again : (raws : Bool) → raws_in (heading raws) ≡ Some raws
+unfolding raws_in
+heading_again false = refl
+heading_again true = refl
+
+pub heading_form : IsForm AnyFlag heading raws_in
+heading_form = record {
+  some = false;
+  in_range = tt;
+  found = λ line raws e. (tt, heading_found line raws e);
+  again = λ raws _. heading_again raws;
+}
 
 pub word_form : IsForm IsWord decimal word_in
 word_form = record {

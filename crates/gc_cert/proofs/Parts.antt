@@ -1,19 +1,19 @@
 -- What each part of a pair text begins with, behind the lines that stand before.
-use Rattle.std.proofs.Common.{◌≡◌, ℕ, ◌≤◌, List, [], ◌∷◌, ◌++◌, length, map, replicate, refl, sym, ap, ◌∙◌, arith, append_assoc, subst}
+use Rattle.std.proofs.Common.{◌≡◌, ℕ, ◌≤◌, Bool, List, [], ◌∷◌, ◌++◌, length, map, replicate, refl, sym, ap, ◌∙◌, arith, append_assoc, subst}
 use Rattle.std.specs.Prelude.{codes}
 use Rattle.std.specs.Fmt.{decimal}
 use Rattle.std.specs.List.{AllByRecursion}
 use Rattle.std.proofs.lemmas.List.{append-nil, append_cancel_left}
 use Rattle.gc_graph.specs.Lines.{space}
 use Rattle.gc_words.specs.Image.{Image}
-use Rattle.gc_cert.specs.Grammar.{CertifiedPair, pair_line, count_line, size_line, image_lines, certificate_lines, lines_of, IsWord, AreAddresses, AreSizes, IsCertificate, HasImageText, HasText}
-use Rattle.gc_cert.specs.Internal.Grammar.{image_alone}
+use Rattle.gc_cert.specs.Grammar.{CertifiedPair, heading, pair_line, count_line, size_line, image_lines, certificate_lines, lines_of, IsWord, AreAddresses, AreSizes, IsCertificate, HasImageText, HasText}
+use Rattle.gc_cert.specs.Internal.Grammar.{image_alone, IsImageBy}
 use Rattle.gc_cert.specs.Sections.{Place, HasTaken}
-use Rattle.gc_cert.specs.Internal.Sections.{Nothing, alone, AreAll, Section, Spelled}
+use Rattle.gc_cert.specs.Internal.Sections.{Nothing, AnyFlag, alone, AreAll, Section, Spelled}
 use Rattle.gc_cert.proofs.Stops.{Delimits, BeginsWith}
 use Rattle.gc_cert.proofs.Forms.{All-replicate, length-replicated, one_form}
 use Rattle.gc_cert.proofs.LineForms.{pair_form}
-use Rattle.gc_cert.proofs.SameLines.{head_of, number_head, count_same, two_same, same_lines, image_same, image_more, certificate_same}
+use Rattle.gc_cert.proofs.SameLines.{head_of, number_head, count_same, two_same, same_lines, image_same, image_more, heading_same, certificate_same}
 use Rattle.std.proofs.lemmas.Fmt.{decimal_injective}
 
 abbrev Lines : Type 0
@@ -25,14 +25,14 @@ none_taken p = record { parts = refl; number = omega arith }
 
 -- ---- an image
 
-abbrev pub ImageSection : List ℕ → Section
-ImageSection name = Spelled HasImageText (image_alone name)
+abbrev pub ImageSection : Bool → List ℕ → Section
+ImageSection raws name = Spelled (IsImageBy raws) (image_alone name)
 
-abbrev pub made_image : ℕ × ℕ → List ℕ → List ℕ → Image
-made_image s words roots = record { size = s.0; end = s.1; words = words; roots = roots }
+abbrev pub made_image : Bool → ℕ × ℕ → List ℕ → List ℕ → Image
+made_image raws s words roots = record { size = s.0; end = s.1; words = words; roots = roots; raws = raws }
 
-image_fits : (s : ℕ × ℕ) (words roots : List ℕ) → AreSizes s → AreAll IsWord s.1 words → length roots ≤ 272 → AllByRecursion IsWord roots → HasImageText (made_image s words roots)
-image_fits s words roots fits ws le rs = record { sizes = fits; count = ws.0; words = ws.1; roots = le; root_words = rs }
+image_fits : (raws : Bool) (s : ℕ × ℕ) (words roots : List ℕ) → AreSizes s → AreAll IsWord s.1 words → length roots ≤ 272 → AllByRecursion IsWord roots → IsImageBy raws (made_image raws s words roots)
+image_fits raws s words roots fits ws le rs = record { fits = record { sizes = fits; count = ws.0; words = ws.1; roots = le; root_words = rs }; raws_are = refl }
 
 -- what stands behind the words
 abbrev root_lines : List ℕ → Lines
@@ -53,33 +53,33 @@ behind_words name s words image lines p ws fits e =
     let behind = behind_sizes name s image (map decimal words ++ lines) p fits e in
     (same_lines IsWord decimal decimal_injective words image.words lines (root_lines image.roots) ws.1 fits.words (ws.0 ∙ sym behind.0) behind.1).1
 
-pub image_sizes : (name : List ℕ) → BeginsWith AreSizes (alone (λ s. size_line name s.0 s.1)) (λ lines. ImageSection name ([] ++ lines))
-image_sizes name = record {
+pub image_sizes : (raws : Bool) (name : List ℕ) → BeginsWith AreSizes (alone (λ s. size_line name s.0 s.1)) (λ lines. ImageSection raws name ([] ++ lines))
+image_sizes raws name = record {
   some = λ s fits.
       let words = replicate s.1 0 in
-      (map decimal words ++ root_lines [], (made_image s words [], image_fits s words [] fits (length-replicated s.1 0, All-replicate IsWord s.1 0 (omega arith)) (omega arith) tt, refl));
-  only = λ lines (image, fits, e). ((image.size, image.end), map decimal image.words ++ root_lines image.roots, fits.sizes, e);
+      (map decimal words ++ root_lines [], (made_image raws s words [], image_fits raws s words [] fits (length-replicated s.1 0, All-replicate IsWord s.1 0 (omega arith)) (omega arith) tt, refl));
+  only = λ lines (image, by, e). ((image.size, image.end), map decimal image.words ++ root_lines image.roots, by.fits.sizes, e);
 }
 
-pub image_words : (name : List ℕ) (s : ℕ × ℕ) → AreSizes s → BeginsWith (AreAll IsWord s.1) (map decimal) (λ lines. ImageSection name ((size_line name s.0 s.1 ∷ []) ++ lines))
-image_words name s fits = record {
-  some = λ words ws. (root_lines [], (made_image s words [], image_fits s words [] fits ws (omega arith) tt, refl));
-  only = λ lines (image, fits', e). (let behind = behind_sizes name s image lines fits fits' e in (image.words, root_lines image.roots, (behind.0, fits'.words), behind.1));
+pub image_words : (raws : Bool) (name : List ℕ) (s : ℕ × ℕ) → AreSizes s → BeginsWith (AreAll IsWord s.1) (map decimal) (λ lines. ImageSection raws name ((size_line name s.0 s.1 ∷ []) ++ lines))
+image_words raws name s fits = record {
+  some = λ words ws. (root_lines [], (made_image raws s words [], image_fits raws s words [] fits ws (omega arith) tt, refl));
+  only = λ lines (image, by, e). (let behind = behind_sizes name s image lines fits by.fits e in (image.words, root_lines image.roots, (behind.0, by.fits.words), behind.1));
 }
 
-pub image_count : (name : List ℕ) (s : ℕ × ℕ) (words : List ℕ) → AreSizes s → AreAll IsWord s.1 words → BeginsWith (λ n. n ≤ 272) (alone (count_line (codes "roots"))) (λ lines. ImageSection name (((size_line name s.0 s.1 ∷ []) ++ map decimal words) ++ lines))
-image_count name s words fits ws = record {
+pub image_count : (raws : Bool) (name : List ℕ) (s : ℕ × ℕ) (words : List ℕ) → AreSizes s → AreAll IsWord s.1 words → BeginsWith (λ n. n ≤ 272) (alone (count_line (codes "roots"))) (λ lines. ImageSection raws name (((size_line name s.0 s.1 ∷ []) ++ map decimal words) ++ lines))
+image_count raws name s words fits ws = record {
   some = λ n le.
       let roots = replicate n 0 in
       let counted : length roots ≡ n = length-replicated n 0 in (
         map decimal roots ++ [],
         (
-          made_image s words roots,
-          image_fits s words roots fits ws (omega arith) (All-replicate IsWord n 0 (omega arith)),
+          made_image raws s words roots,
+          image_fits raws s words roots fits ws (omega arith) (All-replicate IsWord n 0 (omega arith)),
           ap (λ (k : ℕ). size_line name s.0 s.1 ∷ (map decimal words ++ count_line (codes "roots") k ∷ (map decimal roots ++ []))) (sym counted),
         ),
       );
-  only = λ lines (image, fits', e). (length image.roots, map decimal image.roots ++ [], fits'.roots, behind_words name s words image lines fits ws fits' e);
+  only = λ lines (image, by, e). (length image.roots, map decimal image.roots ++ [], by.fits.roots, behind_words name s words image lines fits ws by.fits e);
 }
 
 -- the lines up to the count of the roots
@@ -89,28 +89,28 @@ up_to_count name s words n = ((size_line name s.0 s.1 ∷ []) ++ map decimal wor
 pub whole_image : (name : List ℕ) (s : ℕ × ℕ) (words : List ℕ) (n : ℕ) (more : Lines) → up_to_count name s words n ++ more ≡ size_line name s.0 s.1 ∷ (map decimal words ++ count_line (codes "roots") n ∷ more)
 whole_image name s words n more = ap (λ (ls : Lines). size_line name s.0 s.1 ∷ ls) (append_assoc (map decimal words) (count_line (codes "roots") n ∷ []) more)
 
-up_to_roots : (name : List ℕ) (s : ℕ × ℕ) (words roots : List ℕ) (n : ℕ) (more : Lines) → length roots ≡ n → up_to_count name s words n ++ (map decimal roots ++ more) ≡ image_lines name (made_image s words roots) more
-up_to_roots name s words roots n more counted = whole_image name s words n (map decimal roots ++ more) ∙ ap (λ (k : ℕ). size_line name s.0 s.1 ∷ (map decimal words ++ count_line (codes "roots") k ∷ (map decimal roots ++ more))) (sym counted)
+up_to_roots : (raws : Bool) (name : List ℕ) (s : ℕ × ℕ) (words roots : List ℕ) (n : ℕ) (more : Lines) → length roots ≡ n → up_to_count name s words n ++ (map decimal roots ++ more) ≡ image_lines name (made_image raws s words roots) more
+up_to_roots raws name s words roots n more counted = whole_image name s words n (map decimal roots ++ more) ∙ ap (λ (k : ℕ). size_line name s.0 s.1 ∷ (map decimal words ++ count_line (codes "roots") k ∷ (map decimal roots ++ more))) (sym counted)
 
-pub image_roots : (name : List ℕ) (s : ℕ × ℕ) (words : List ℕ) (n : ℕ) → AreSizes s → AreAll IsWord s.1 words → n ≤ 272 → BeginsWith (AreAll IsWord n) (map decimal) (λ lines. ImageSection name (up_to_count name s words n ++ lines))
-image_roots name s words n fits ws le = record {
-  some = λ roots rs. ([], (made_image s words roots, image_fits s words roots fits ws (omega (arith, rs.0)) rs.1, up_to_roots name s words roots n [] rs.0));
-  only = λ lines (image, fits', e).
-      let behind = behind_words name s words image (count_line (codes "roots") n ∷ lines) fits ws fits' (sym (whole_image name s words n lines) ∙ e) in
+pub image_roots : (raws : Bool) (name : List ℕ) (s : ℕ × ℕ) (words : List ℕ) (n : ℕ) → AreSizes s → AreAll IsWord s.1 words → n ≤ 272 → BeginsWith (AreAll IsWord n) (map decimal) (λ lines. ImageSection raws name (up_to_count name s words n ++ lines))
+image_roots raws name s words n fits ws le = record {
+  some = λ roots rs. ([], (made_image raws s words roots, image_fits raws s words roots fits ws (omega (arith, rs.0)) rs.1, up_to_roots raws name s words roots n [] rs.0));
+  only = λ lines (image, by, e).
+      let behind = behind_words name s words image (count_line (codes "roots") n ∷ lines) fits ws by.fits (sym (whole_image name s words n lines) ∙ e) in
       let h = head_of (count_line (codes "roots") n) (count_line (codes "roots") (length image.roots)) lines (map decimal image.roots ++ []) behind in
-      (image.roots, [], (sym (count_same (codes "roots") n (length image.roots) (omega arith) (omega (arith, fits'.roots)) h.0), fits'.root_words), h.1);
+      (image.roots, [], (sym (count_same (codes "roots") n (length image.roots) (omega arith) (omega (arith, by.fits.roots)) h.0), by.fits.root_words), h.1);
 }
 
 -- all of an image was taken
-pub image_taken : (name : List ℕ) (s : ℕ × ℕ) (words roots : List ℕ) (n : ℕ) (a b : Place) → AreSizes s → AreAll IsWord s.1 words → n ≤ 272 → AreAll IsWord n roots → HasTaken (up_to_count name s words n ++ map decimal roots) a b
-    → HasImageText (made_image s words roots) × HasTaken (image_alone name (made_image s words roots)) a b
-image_taken name s words roots n a b fits ws le rs taken = (
-  image_fits s words roots fits ws (omega (arith, rs.0)) rs.1,
-  subst (λ (ls : Lines). HasTaken ls a b) (ap (λ (ls : Lines). up_to_count name s words n ++ ls) (sym (append-nil (map decimal roots))) ∙ up_to_roots name s words roots n [] rs.0) taken,
+pub image_taken : (raws : Bool) (name : List ℕ) (s : ℕ × ℕ) (words roots : List ℕ) (n : ℕ) (a b : Place) → AreSizes s → AreAll IsWord s.1 words → n ≤ 272 → AreAll IsWord n roots → HasTaken (up_to_count name s words n ++ map decimal roots) a b
+    → IsImageBy raws (made_image raws s words roots) × HasTaken (image_alone name (made_image raws s words roots)) a b
+image_taken raws name s words roots n a b fits ws le rs taken = (
+  image_fits raws s words roots fits ws (omega (arith, rs.0)) rs.1,
+  subst (λ (ls : Lines). HasTaken ls a b) (ap (λ (ls : Lines). up_to_count name s words n ++ ls) (sym (append-nil (map decimal roots))) ∙ up_to_roots raws name s words roots n [] rs.0) taken,
 )
 
-pub image_delimits : (name : List ℕ) → Delimits HasImageText (image_alone name)
-image_delimits name v w x y p q e = image_same name v w x y p q (sym (image_more name v [] x) ∙ e ∙ image_more name w [] y)
+pub image_delimits : (raws : Bool) (name : List ℕ) → Delimits (IsImageBy raws) (image_alone name)
+image_delimits raws name v w x y p q e = image_same name v w x y p.fits q.fits (p.raws_are ∙ sym q.raws_are) (sym (image_more name v [] x) ∙ e ∙ image_more name w [] y)
 
 -- ---- the pairs, and the line behind them
 
@@ -168,76 +168,96 @@ certificate_delimits v w x y p q e = certificate_same v w x y p.0 q.0 p.1 q.1 e
 abbrev pub TextSection : Section
 TextSection = Spelled HasText lines_of
 
-abbrev pub heading : List ℕ
-heading = codes "heappair 1"
-
 abbrev pub made_pair : Image → Image → List (ℕ × ℕ) → CertifiedPair
 made_pair old new pairs = record { old = old; new = new; pairs = pairs }
 
-abbrev least_image : Image
-least_image = made_image (1, 1) (0 ∷ []) []
+abbrev least_image : Bool → Image
+least_image raws = made_image raws (1, 1) (0 ∷ []) []
 
-least_fits : HasImageText least_image
-least_fits = image_fits (1, 1) (0 ∷ []) [] (omega arith, omega arith, omega arith, omega arith) (refl, (omega arith, tt)) (omega arith) tt
+least_fits : (raws : Bool) → IsImageBy raws (least_image raws)
+least_fits raws = image_fits raws (1, 1) (0 ∷ []) [] (omega arith, omega arith, omega arith, omega arith) (refl, (omega arith, tt)) (omega arith) tt
 
-pair_fits : (old new : Image) (pairs : List (ℕ × ℕ)) → HasImageText old → HasImageText new → IsCertificate pairs → HasText (made_pair old new pairs)
-pair_fits old new pairs p q r = record { old = p; new = q; pairs = r }
+pair_fits : (raws : Bool) (old new : Image) (pairs : List (ℕ × ℕ)) → IsImageBy raws old → IsImageBy raws new → IsCertificate pairs → HasText (made_pair old new pairs)
+pair_fits raws old new pairs p q r = record { old = p.fits; new = q.fits; raws = p.raws_are ∙ sym q.raws_are; pairs = r }
 
-pub text_heading : BeginsWith Nothing (alone (λ _. heading)) (λ lines. TextSection ([] ++ lines))
+pub text_heading : BeginsWith AnyFlag (alone heading) (λ lines. TextSection ([] ++ lines))
 unfolding lines_of
 text_heading = record {
-  some = λ u _. (image_lines (codes "old") least_image (image_lines (codes "new") least_image (certificate_lines [])), (made_pair least_image least_image [], pair_fits least_image least_image [] least_fits least_fits (omega arith, tt), refl));
-  only = λ lines (f, fits, e). (tt, image_lines (codes "old") f.old (image_lines (codes "new") f.new (certificate_lines f.pairs)), tt, e);
+  some = λ raws _.
+      let least = least_image raws in
+      (image_lines (codes "old") least (image_lines (codes "new") least (certificate_lines [])), (made_pair least least [], pair_fits raws least least [] (least_fits raws) (least_fits raws) (omega arith, tt), refl));
+  only = λ lines (f, fits, e). (f.old.raws, image_lines (codes "old") f.old (image_lines (codes "new") f.new (certificate_lines f.pairs)), tt, e);
 }
 
-behind_heading : (f : CertifiedPair) (lines : Lines) → heading ∷ lines ≡ lines_of f → lines ≡ image_alone (codes "old") f.old ++ image_lines (codes "new") f.new (certificate_lines f.pairs)
+-- what a text whose first line is this has behind it
+record Behind (raws : Bool) (f : CertifiedPair) (lines : Lines) : Type 0 where
+  old : IsImageBy raws f.old
+  new : IsImageBy raws f.new
+  lines_are : lines ≡ image_alone (codes "old") f.old ++ image_lines (codes "new") f.new (certificate_lines f.pairs)
+
+behind_heading : (raws : Bool) (f : CertifiedPair) (lines : Lines) → HasText f → heading raws ∷ lines ≡ lines_of f → Behind raws f lines
 unfolding lines_of
-behind_heading f lines e =
+behind_heading raws f lines fits e =
     let behind = image_lines (codes "new") f.new (certificate_lines f.pairs) in
-    (head_of heading heading lines (image_lines (codes "old") f.old behind) e).1 ∙ sym (image_more (codes "old") f.old [] behind)
+    let first = head_of (heading raws) (heading f.old.raws) lines (image_lines (codes "old") f.old behind) e in
+    let flag : f.old.raws ≡ raws = sym (heading_same raws f.old.raws first.0) in
+    record {
+      old = record { fits = fits.old; raws_are = flag };
+      new = record { fits = fits.new; raws_are = sym fits.raws ∙ flag };
+      lines_are = first.1 ∙ sym (image_more (codes "old") f.old [] behind);
+    }
 
 -- the lines of three parts
-pub three_parts : (old new : Image) (pairs : List (ℕ × ℕ)) → ((heading ∷ []) ++ image_alone (codes "old") old) ++ (image_alone (codes "new") new ++ certificate_lines pairs) ≡ lines_of (made_pair old new pairs)
+pub three_parts : (raws : Bool) (old new : Image) (pairs : List (ℕ × ℕ)) → old.raws ≡ raws → ((heading raws ∷ []) ++ image_alone (codes "old") old) ++ (image_alone (codes "new") new ++ certificate_lines pairs) ≡ lines_of (made_pair old new pairs)
 unfolding lines_of
-three_parts old new pairs =
-    ap (λ (ls : Lines). heading ∷ ls) (image_more (codes "old") old [] (image_alone (codes "new") new ++ certificate_lines pairs) ∙ ap (image_lines (codes "old") old) (image_more (codes "new") new [] (certificate_lines pairs)))
+three_parts raws old new pairs flag =
+    ap (λ (r : Bool). ((heading r ∷ []) ++ image_alone (codes "old") old) ++ (image_alone (codes "new") new ++ certificate_lines pairs)) (sym flag)
+    ∙ ap (λ (ls : Lines). heading old.raws ∷ ls) (image_more (codes "old") old [] (image_alone (codes "new") new ++ certificate_lines pairs) ∙ ap (image_lines (codes "old") old) (image_more (codes "new") new [] (certificate_lines pairs)))
 
-pub text_old : BeginsWith HasImageText (image_alone (codes "old")) (λ lines. TextSection ((heading ∷ []) ++ lines))
-text_old = record {
-  some = λ image fits. (image_alone (codes "new") least_image ++ certificate_lines [], (made_pair image least_image [], pair_fits image least_image [] fits least_fits (omega arith, tt), three_parts image least_image []));
-  only = λ lines (f, fits, e). (f.old, image_lines (codes "new") f.new (certificate_lines f.pairs), fits.old, behind_heading f lines e);
+pub text_old : (raws : Bool) → BeginsWith (IsImageBy raws) (image_alone (codes "old")) (λ lines. TextSection ((heading raws ∷ []) ++ lines))
+text_old raws = record {
+  some = λ image by.
+      let least = least_image raws in
+      (image_alone (codes "new") least ++ certificate_lines [], (made_pair image least [], pair_fits raws image least [] by (least_fits raws) (omega arith, tt), three_parts raws image least [] by.raws_are));
+  only = λ lines (f, fits, e). (let behind = behind_heading raws f lines fits e in (f.old, image_lines (codes "new") f.new (certificate_lines f.pairs), behind.old, behind.lines_are));
 }
 
-behind_old : (old : Image) (f : CertifiedPair) (lines : Lines) → HasImageText old → HasText f → ((heading ∷ []) ++ image_alone (codes "old") old) ++ lines ≡ lines_of f → lines ≡ image_alone (codes "new") f.new ++ certificate_lines f.pairs
-behind_old old f lines p fits e =
-    (image_delimits (codes "old") old f.old lines (image_lines (codes "new") f.new (certificate_lines f.pairs)) p fits.old (behind_heading f (image_alone (codes "old") old ++ lines) e)).1
-    ∙ sym (image_more (codes "new") f.new [] (certificate_lines f.pairs))
+-- what stands behind the lines of the old image
+record BehindOld (raws : Bool) (f : CertifiedPair) (lines : Lines) : Type 0 where
+  new : IsImageBy raws f.new
+  lines_are : lines ≡ image_alone (codes "new") f.new ++ certificate_lines f.pairs
 
-pub text_new : (old : Image) → HasImageText old → BeginsWith HasImageText (image_alone (codes "new")) (λ lines. TextSection (((heading ∷ []) ++ image_alone (codes "old") old) ++ lines))
-text_new old p = record {
-  some = λ image fits. (certificate_lines [], (made_pair old image [], pair_fits old image [] p fits (omega arith, tt), three_parts old image []));
-  only = λ lines (f, fits, e). (f.new, certificate_lines f.pairs, fits.new, behind_old old f lines p fits e);
+behind_old : (raws : Bool) (old : Image) (f : CertifiedPair) (lines : Lines) → IsImageBy raws old → HasText f → ((heading raws ∷ []) ++ image_alone (codes "old") old) ++ lines ≡ lines_of f → BehindOld raws f lines
+behind_old raws old f lines p fits e =
+    let behind = behind_heading raws f (image_alone (codes "old") old ++ lines) fits e in
+    record {
+      new = behind.new;
+      lines_are = (image_delimits raws (codes "old") old f.old lines (image_lines (codes "new") f.new (certificate_lines f.pairs)) p behind.old behind.lines_are).1
+          ∙ sym (image_more (codes "new") f.new [] (certificate_lines f.pairs));
+    }
+
+pub text_new : (raws : Bool) (old : Image) → IsImageBy raws old → BeginsWith (IsImageBy raws) (image_alone (codes "new")) (λ lines. TextSection (((heading raws ∷ []) ++ image_alone (codes "old") old) ++ lines))
+text_new raws old p = record {
+  some = λ image by. (certificate_lines [], (made_pair old image [], pair_fits raws old image [] p by (omega arith, tt), three_parts raws old image [] p.raws_are));
+  only = λ lines (f, fits, e). (let behind = behind_old raws old f lines p fits e in (f.new, certificate_lines f.pairs, behind.new, behind.lines_are));
 }
 
--- the lines of both images
-abbrev pub both_images : Image → Image → Lines
-both_images old new = ((heading ∷ []) ++ image_alone (codes "old") old) ++ image_alone (codes "new") new
+-- the first line and the lines of both images
+abbrev pub both_images : Bool → Image → Image → Lines
+both_images raws old new = ((heading raws ∷ []) ++ image_alone (codes "old") old) ++ image_alone (codes "new") new
 
-pub text_certificate : (old new : Image) → HasImageText old → HasImageText new → BeginsWith IsCertificate certificate_lines (λ lines. TextSection (both_images old new ++ lines))
-text_certificate old new p q = record {
-  some = λ pairs fits. ([], (made_pair old new pairs, pair_fits old new pairs p q fits, ap (λ (ls : Lines). both_images old new ++ ls) (append-nil (certificate_lines pairs)) ∙ all_three pairs));
+pub all_parts : (raws : Bool) (old new : Image) (pairs : List (ℕ × ℕ)) → old.raws ≡ raws → both_images raws old new ++ certificate_lines pairs ≡ lines_of (made_pair old new pairs)
+all_parts raws old new pairs flag = append_assoc ((heading raws ∷ []) ++ image_alone (codes "old") old) (image_alone (codes "new") new) (certificate_lines pairs) ∙ three_parts raws old new pairs flag
+
+pub text_certificate : (raws : Bool) (old new : Image) → IsImageBy raws old → IsImageBy raws new → BeginsWith IsCertificate certificate_lines (λ lines. TextSection (both_images raws old new ++ lines))
+text_certificate raws old new p q = record {
+  some = λ pairs fits. ([], (made_pair old new pairs, pair_fits raws old new pairs p q fits, ap (λ (ls : Lines). both_images raws old new ++ ls) (append-nil (certificate_lines pairs)) ∙ all_parts raws old new pairs p.raws_are));
   only = λ lines (f, fits, e).
-      let behind = behind_old old f (image_alone (codes "new") new ++ lines) p fits (sym (append_assoc ((heading ∷ []) ++ image_alone (codes "old") old) (image_alone (codes "new") new) lines) ∙ e) in
-      (f.pairs, [], fits.pairs, (image_delimits (codes "new") new f.new lines (certificate_lines f.pairs) q fits.new behind).1 ∙ sym (append-nil (certificate_lines f.pairs)));
+      let behind = behind_old raws old f (image_alone (codes "new") new ++ lines) p fits (sym (append_assoc ((heading raws ∷ []) ++ image_alone (codes "old") old) (image_alone (codes "new") new) lines) ∙ e) in
+      (f.pairs, [], fits.pairs, (image_delimits raws (codes "new") new f.new lines (certificate_lines f.pairs) q behind.new behind.lines_are).1 ∙ sym (append-nil (certificate_lines f.pairs)));
 }
-  where
-    all_three : (pairs : List (ℕ × ℕ)) → both_images old new ++ certificate_lines pairs ≡ lines_of (made_pair old new pairs)
-    all_three pairs = append_assoc ((heading ∷ []) ++ image_alone (codes "old") old) (image_alone (codes "new") new) (certificate_lines pairs) ∙ three_parts old new pairs
 
 -- all of a text was taken
-pub text_taken : (old new : Image) (pairs : List (ℕ × ℕ)) (a b : Place) → HasImageText old → HasImageText new → IsCertificate pairs → HasTaken (both_images old new ++ certificate_lines pairs) a b
+pub text_taken : (raws : Bool) (old new : Image) (pairs : List (ℕ × ℕ)) (a b : Place) → IsImageBy raws old → IsImageBy raws new → IsCertificate pairs → HasTaken (both_images raws old new ++ certificate_lines pairs) a b
     → HasText (made_pair old new pairs) × HasTaken (lines_of (made_pair old new pairs)) a b
-text_taken old new pairs a b p q r taken = (
-  pair_fits old new pairs p q r,
-  subst (λ (ls : Lines). HasTaken ls a b) (append_assoc ((heading ∷ []) ++ image_alone (codes "old") old) (image_alone (codes "new") new) (certificate_lines pairs) ∙ three_parts old new pairs) taken,
-)
+text_taken raws old new pairs a b p q r taken = (pair_fits raws old new pairs p q r, subst (λ (ls : Lines). HasTaken ls a b) (all_parts raws old new pairs p.raws_are) taken)

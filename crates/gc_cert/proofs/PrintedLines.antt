@@ -1,6 +1,6 @@
 -- Lines that are printed one after the other.
 use Rattle.std.proofs.Common.{◌≡◌, ℕ, suc, List, [], ◌∷◌, ◌++◌, map, take, drop, refl, sym, ap, ◌∙◌, append_assoc, Option, subst, length, ◌+◌, ◌<◌, ◌≤◌, get_or}
-use Rattle.std.proofs.lemmas.List.{append-nil, take-append-drop, take_all, take_more}
+use Rattle.std.proofs.lemmas.List.{append-nil, take-append-drop, take_all, take_more, map-append}
 use Rattle.std.proofs.lemmas.List.Concat.{flat_map-append}
 use Rattle.std.specs.Io.KnownBytes.{Appends}
 use Rattle.gc_graph.specs.Lines.{ended, text_of}
@@ -44,10 +44,6 @@ pub none_printed : (a : Bytes) (before : List ℕ) → Prints [] a a before befo
 none_printed a before = subst (λ (t : List ℕ). HasSent a a t before) (sym (append-nil before)) (nothing_sent a before)
 
 -- ---- a line for each value
-
-map-append : {X : Type 0} (f : X → List ℕ) (xs ys : List X) → map f (xs ++ ys) ≡ map f xs ++ map f ys
-map-append f [] ys = refl
-map-append f (x ∷ xs) ys = ap (λ (ls : Lines). f x ∷ ls) (map-append f xs ys)
 
 pub one_printed : {X : Type 0} (f : X → List ℕ) (a b c : Bytes) (xs : List X) (i : ℕ) (d : X) (before mid after : List ℕ) → i < length xs → Prints (map f (take i xs)) a b before mid → Prints (f (get_or xs i d) ∷ []) b c mid after → Prints (map f (take (i + 1) xs)) a c before after
 one_printed f a b c xs i d before mid after lt so_far more =

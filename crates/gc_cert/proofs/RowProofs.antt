@@ -1,15 +1,15 @@
 -- The worked rows.
-use Rattle.std.proofs.Common.{◌≡◌, ◌≢◌, ℕ, ◌≤◌, true, leb, List, [], ◌∷◌, ◌++◌, length, map, refl, sym, ap, ◌∙◌, arith, inl, inr}
+use Rattle.std.proofs.Common.{◌≡◌, ◌≢◌, ℕ, ◌≤◌, Bool, true, false, leb, List, [], ◌∷◌, ◌++◌, length, map, refl, sym, ap, ◌∙◌, arith, inl, inr, get_or}
 use Rattle.std.specs.Prelude.{codes}
 use Rattle.std.specs.Fmt.{digits}
 use Rattle.std.proofs.lemmas.Bool.{leb-true}
 use Rattle.std.proofs.lemmas.List.{append-nil}
 use Rattle.gc_graph.specs.Lines.{newline}
-use Rattle.gc_cert.specs.Grammar.{pair_line, count_line, image_lines, certificate_lines, lines_of, spelling, HasImageText, HasText}
+use Rattle.gc_cert.specs.Grammar.{heading, pair_line, count_line, image_lines, certificate_lines, lines_of, spelling, HasImageText, HasText}
 use Rattle.gc_cert.specs.Faults.{limit, AreFirst, AreWhole}
-use Rattle.gc_cert.specs.Rows.{least_image, least, Rows}
+use Rattle.gc_cert.specs.Rows.{least_image, least, least_with_raws, Rows}
 use Rattle.gc_graph.proofs.LineLemmas.{HasNo-lacks}
-use Rattle.gc_cert.proofs.SameLines.{lines_same, lines_more, image_same, certificate_more, head_of, count_same}
+use Rattle.gc_cert.proofs.SameLines.{lines_same, lines_more, image_same, certificate_more, head_of, heading_same, count_same}
 
 short : (text : List ℕ) → leb (length text) limit ≡ true → length text ≤ limit
 short text e = leb-true (length text) limit e
@@ -18,7 +18,13 @@ image_fits : HasImageText least_image
 image_fits = record { sizes = (omega arith, omega arith, omega arith, omega arith); count = refl; words = (omega arith, tt); roots = omega arith; root_words = (omega arith, tt) }
 
 fits : HasText least
-fits = record { old = image_fits; new = image_fits; pairs = (omega arith, tt) }
+fits = record { old = image_fits; new = image_fits; raws = refl; pairs = (omega arith, tt) }
+
+with_raws_fits : HasText least_with_raws
+with_raws_fits = record { old = one; new = one; raws = refl; pairs = (omega arith, tt) }
+  where
+    one : HasImageText least_with_raws.old
+    one = record { sizes = (omega arith, omega arith, omega arith, omega arith); count = refl; words = (omega arith, tt); roots = omega arith; root_words = (omega arith, tt) }
 
 -- the lines of the least text but its last
 abbrev but_end : List (List ℕ)
@@ -53,22 +59,38 @@ only_end : (l : List ℕ) → codes "end" ≢ l → ¬ AreFirst (but_end ++ l �
 unfolding digits
 only_end l other (g, rest, fits', is) =
     let behind : List (List ℕ) = codes "pairs 0" ∷ l ∷ rest in
-    let all : codes "heappair 1" ∷ image_lines (codes "old") g.old (image_lines (codes "new") g.new (certificate_lines g.pairs ++ [])) ≡ codes "heappair 1" ∷ image_lines (codes "old") least_image (image_lines (codes "new") least_image behind)
+    let all : heading g.old.raws ∷ image_lines (codes "old") g.old (image_lines (codes "new") g.new (certificate_lines g.pairs ++ [])) ≡ codes "heappair 1" ∷ image_lines (codes "old") least_image (image_lines (codes "new") least_image behind)
     = sym (lines_more g []) ∙ append-nil (lines_of g) ∙ is in
-    let old = image_same (codes "old") g.old least_image (image_lines (codes "new") g.new (certificate_lines g.pairs ++ [])) (image_lines (codes "new") least_image behind) fits'.old image_fits
-    (head_of (codes "heappair 1") (codes "heappair 1") (image_lines (codes "old") g.old (image_lines (codes "new") g.new (certificate_lines g.pairs ++ []))) (image_lines (codes "old") least_image (image_lines (codes "new") least_image behind)) all).1 in
-    let new = image_same (codes "new") g.new least_image (certificate_lines g.pairs ++ []) behind fits'.new image_fits old.1 in
+    let first = head_of (heading g.old.raws) (codes "heappair 1") (image_lines (codes "old") g.old (image_lines (codes "new") g.new (certificate_lines g.pairs ++ []))) (image_lines (codes "old") least_image (image_lines (codes "new") least_image behind)) all in
+    let flags = heading_same g.old.raws false first.0 in
+    let old = image_same (codes "old") g.old least_image (image_lines (codes "new") g.new (certificate_lines g.pairs ++ [])) (image_lines (codes "new") least_image behind) fits'.old image_fits flags
+    first.1 in
+    let new = image_same (codes "new") g.new least_image (certificate_lines g.pairs ++ []) behind fits'.new image_fits (sym fits'.raws ∙ flags) old.1 in
     let last = head_of (count_line (codes "pairs") (length g.pairs)) (codes "pairs 0") (map pair_line g.pairs ++ codes "end" ∷ []) (l ∷ rest) (sym (certificate_more g.pairs []) ∙ new.1) in
     other (no_pairs g.pairs l rest (count_same (codes "pairs") (length g.pairs) 0 (omega (arith, fits'.pairs)) (omega arith) last.0) last.1)
+
+abbrev below_three : List ℕ → Bool
+below_three line = leb (get_or line 9 0) 50
+
+no_third : (raws : Bool) → heading raws ≢ codes "heappair 3"
+no_third false e = (let no : true ≡ false = ap below_three e in cc)
+no_third true e = (let no : true ≡ false = ap below_three e in cc)
+
+two_versions : ¬ AreFirst (codes "heappair 3" ∷ [])
+unfolding lines_of
+two_versions (g, rest, fits', is) =
+    no_third g.old.raws (head_of (heading g.old.raws) (codes "heappair 3") (image_lines (codes "old") g.old (image_lines (codes "new") g.new (certificate_lines g.pairs))) rest is).0
 
 pub rows : Rows
 unfolding digits lines_of spelling
 rows = record {
   least_read = (record { fits = fits; spelled = refl }, short (codes "heappair 1\nold 1 1\n0\nroots 1\n0\nnew 1 1\n0\nroots 1\n0\npairs 0\nend\n") refl);
+  raws_read = (record { fits = with_raws_fits; spelled = refl }, short (codes "heappair 2\nold 1 1\n0\nroots 1\n0\nnew 1 1\n0\nroots 1\n0\npairs 0\nend\n") refl);
   without_end = (short (codes "heappair 1\nold 1 1\n0\nroots 1\n0\nnew 1 1\n0\nroots 1\n0\npairs 0\n") refl, record { before = but_end; unfinished = []; parts = refl; no_line = tt; good = at_end.0; not_all = at_end.1 });
   unfinished_end = (short (codes "heappair 1\nold 1 1\n0\nroots 1\n0\nnew 1 1\n0\nroots 1\n0\npairs 0\nend") refl, record { before = but_end; unfinished = codes "end"; parts = refl; no_line = HasNo-lacks newline (codes "end") refl; good = at_end.0; not_all = at_end.1 });
   nothing = (short [] refl, record { before = []; unfinished = []; parts = refl; no_line = tt; good = at_start.0; not_all = at_start.1 });
   no_line = (short (codes "x") refl, record { before = []; unfinished = codes "x"; parts = refl; no_line = HasNo-lacks newline (codes "x") refl; good = at_start.0; not_all = at_start.1 });
+  no_version = (short (codes "heappair 3\n") refl, inl (record { before = []; line = codes "heappair 3"; rest = []; parts = refl; whole_line = HasNo-lacks newline (codes "heappair 3") refl; number = refl; good = at_start.0; wrong = two_versions }));
   behind = (short (codes "heappair 1\nold 1 1\n0\nroots 1\n0\nnew 1 1\n0\nroots 1\n0\npairs 0\nend\nx\n") refl, inr (record { before = but_end ++ codes "end" ∷ []; byte = 120; rest = codes "\n"; parts = refl; number = refl; whole = whole }));
   line_feed_behind = (short (codes "heappair 1\nold 1 1\n0\nroots 1\n0\nnew 1 1\n0\nroots 1\n0\npairs 0\nend\n\n") refl, inr (record { before = but_end ++ codes "end" ∷ []; byte = 10; rest = []; parts = refl; number = refl; whole = whole }));
   long_end = (short (codes "heappair 1\nold 1 1\n0\nroots 1\n0\nnew 1 1\n0\nroots 1\n0\npairs 0\nendx\n") refl, inl (record { before = but_end; line = codes "endx"; rest = []; parts = refl; whole_line = HasNo-lacks newline (codes "endx") refl; number = refl; good = at_end.0; wrong = only_end (codes "endx") (λ e. cc) }));

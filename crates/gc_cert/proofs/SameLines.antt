@@ -1,5 +1,5 @@
 -- Lines of pair texts: none has a line feed inside, and none of two texts begins the other.
-use Rattle.std.proofs.Common.{◌≡◌, ℕ, ◌≤◌, List, [], ◌∷◌, ◌++◌, length, map, true, refl, sym, ap, ◌∙◌, arith, append_assoc}
+use Rattle.std.proofs.Common.{◌≡◌, ℕ, ◌≤◌, Bool, true, false, List, [], ◌∷◌, ◌++◌, length, map, refl, sym, ap, ◌∙◌, arith, append_assoc, get_or, eqb}
 use Rattle.std.specs.Prelude.{codes}
 use Rattle.std.specs.Fmt.{decimal}
 use Rattle.std.specs.List.{AllByRecursion}
@@ -7,7 +7,7 @@ use Rattle.std.proofs.lemmas.List.{append_cancel_left}
 use Rattle.std.proofs.lemmas.Fmt.{decimal_injective}
 use Rattle.gc_graph.specs.Lines.{HasNo, space, newline}
 use Rattle.gc_words.specs.Image.{Image}
-use Rattle.gc_cert.specs.Grammar.{CertifiedPair, pair_line, count_line, size_line, image_lines, certificate_lines, lines_of, IsWord, AreAddresses, HasImageText, HasText}
+use Rattle.gc_cert.specs.Grammar.{CertifiedPair, heading, pair_line, count_line, size_line, image_lines, certificate_lines, lines_of, IsWord, AreAddresses, HasImageText, HasText}
 use Rattle.gc_graph.proofs.LineLemmas.{HasNo-decimal, HasNo-lacks, HasNo-joined, lacks, one_cut}
 
 abbrev pub AreLines : List (List ℕ) → Type 0
@@ -47,10 +47,14 @@ certificate_are_lines pairs le h = (
       (HasNo-lacks newline (codes "end") refl, tt),
 )
 
+heading_line : (raws : Bool) → HasNo newline (heading raws)
+heading_line false = HasNo-lacks newline (codes "heappair 1") refl
+heading_line true = HasNo-lacks newline (codes "heappair 2") refl
+
 pub are_lines : (f : CertifiedPair) → HasText f → AreLines (lines_of f)
 unfolding lines_of
 are_lines f fits = (
-  HasNo-lacks newline (codes "heappair 1") refl,
+  heading_line f.old.raws,
   image_are_lines (codes "old") f.old (image_lines (codes "new") f.new (certificate_lines f.pairs)) refl fits.old
       (image_are_lines (codes "new") f.new (certificate_lines f.pairs) refl fits.new (certificate_are_lines f.pairs fits.pairs.0 fits.pairs.1)),
 )
@@ -82,11 +86,11 @@ same_lines P f one (x ∷ xs) (y ∷ ys) a b p q len e =
     let rest = same_lines P f one xs ys a b p.1 q.1 (omega (arith, len)) h.1 in
     (rw (one x y p.0 q.0 h.0, rest.0) refl, rest.1)
 
-abbrev image_with : ℕ → ℕ → List ℕ → List ℕ → Image
-image_with size end words roots = record { size = size; end = end; words = words; roots = roots }
+abbrev image_with : ℕ → ℕ → List ℕ → List ℕ → Bool → Image
+image_with size end words roots raws = record { size = size; end = end; words = words; roots = roots; raws = raws }
 
-pub image_same : (name : List ℕ) (a b : Image) (x y : List (List ℕ)) → HasImageText a → HasImageText b → image_lines name a x ≡ image_lines name b y → (a ≡ b) × (x ≡ y)
-image_same name a b x y p q e =
+pub image_same : (name : List ℕ) (a b : Image) (x y : List (List ℕ)) → HasImageText a → HasImageText b → a.raws ≡ b.raws → image_lines name a x ≡ image_lines name b y → (a ≡ b) × (x ≡ y)
+image_same name a b x y p q flags e =
     let after_a = count_line (codes "roots") (length a.roots) ∷ (map decimal a.roots ++ x) in
     let after_b = count_line (codes "roots") (length b.roots) ∷ (map decimal b.roots ++ y) in
     let first = head_of (size_line name a.size a.end) (size_line name b.size b.end) (map decimal a.words ++ after_a) (map decimal b.words ++ after_b) e in
@@ -96,8 +100,8 @@ image_same name a b x y p q e =
     let second = head_of (count_line (codes "roots") (length a.roots)) (count_line (codes "roots") (length b.roots)) (map decimal a.roots ++ x) (map decimal b.roots ++ y) words.1 in
     let count = count_same (codes "roots") (length a.roots) (length b.roots) (omega (arith, p.roots)) (omega (arith, q.roots)) second.0 in
     let roots = same_lines IsWord decimal decimal_injective a.roots b.roots x y p.root_words q.root_words count second.1 in (
-      ap (λ (s : ℕ). image_with s a.end a.words a.roots) sizes.0 ∙ ap (λ (n : ℕ). image_with b.size n a.words a.roots) sizes.1 ∙ ap (λ (ws : List ℕ). image_with b.size b.end ws a.roots) words.0
-          ∙ ap (image_with b.size b.end b.words) roots.0,
+      ap (λ (s : ℕ). image_with s a.end a.words a.roots a.raws) sizes.0 ∙ ap (λ (n : ℕ). image_with b.size n a.words a.roots a.raws) sizes.1 ∙ ap (λ (ws : List ℕ). image_with b.size b.end ws a.roots a.raws) words.0
+          ∙ ap (λ (rs : List ℕ). image_with b.size b.end b.words rs a.raws) roots.0 ∙ ap (image_with b.size b.end b.words b.roots) flags,
       roots.1,
     )
 
@@ -121,11 +125,21 @@ image_more name image more x =
     ap (λ (l : List (List ℕ)). size_line name image.size image.end ∷ l) (append_assoc (map decimal image.words) (count_line (codes "roots") (length image.roots) ∷ (map decimal image.roots ++ more)) x
     ∙ ap (λ (l : List (List ℕ)). map decimal image.words ++ count_line (codes "roots") (length image.roots) ∷ l) (append_assoc (map decimal image.roots) more x))
 
-pub lines_more : (f : CertifiedPair) (x : List (List ℕ)) → lines_of f ++ x ≡ codes "heappair 1" ∷ image_lines (codes "old") f.old (image_lines (codes "new") f.new (certificate_lines f.pairs ++ x))
+pub lines_more : (f : CertifiedPair) (x : List (List ℕ)) → lines_of f ++ x ≡ heading f.old.raws ∷ image_lines (codes "old") f.old (image_lines (codes "new") f.new (certificate_lines f.pairs ++ x))
 unfolding lines_of
 lines_more f x =
-    ap (λ (l : List (List ℕ)). codes "heappair 1" ∷ l) (image_more (codes "old") f.old (image_lines (codes "new") f.new (certificate_lines f.pairs)) x
+    ap (λ (l : List (List ℕ)). heading f.old.raws ∷ l) (image_more (codes "old") f.old (image_lines (codes "new") f.new (certificate_lines f.pairs)) x
     ∙ ap (image_lines (codes "old") f.old) (image_more (codes "new") f.new (certificate_lines f.pairs) x))
+
+-- of two first lines the last byte tells which it is
+abbrev version : List ℕ → Bool
+version line = eqb (get_or line 9 0) 50
+
+pub heading_same : (raws other : Bool) → heading raws ≡ heading other → raws ≡ other
+heading_same false false e = refl
+heading_same true true e = refl
+heading_same false true e = absurd (let no : false ≡ true = ap version e in cc)
+heading_same true false e = absurd (let no : true ≡ false = ap version e in cc)
 
 abbrev pair_with : Image → Image → List (ℕ × ℕ) → CertifiedPair
 pair_with old new pairs = record { old = old; new = new; pairs = pairs }
@@ -135,8 +149,9 @@ pub lines_same : (f g : CertifiedPair) (x y : List (List ℕ)) → HasText f →
 lines_same f g x y p q e =
     let f_new = image_lines (codes "new") f.new (certificate_lines f.pairs ++ x) in
     let g_new = image_lines (codes "new") g.new (certificate_lines g.pairs ++ y) in
-    let tail = (head_of (codes "heappair 1") (codes "heappair 1") (image_lines (codes "old") f.old f_new) (image_lines (codes "old") g.old g_new) (sym (lines_more f x) ∙ e ∙ lines_more g y)).1 in
-    let old = image_same (codes "old") f.old g.old f_new g_new p.old q.old tail in
-    let new = image_same (codes "new") f.new g.new (certificate_lines f.pairs ++ x) (certificate_lines g.pairs ++ y) p.new q.new old.1 in
+    let first = head_of (heading f.old.raws) (heading g.old.raws) (image_lines (codes "old") f.old f_new) (image_lines (codes "old") g.old g_new) (sym (lines_more f x) ∙ e ∙ lines_more g y) in
+    let flags = heading_same f.old.raws g.old.raws first.0 in
+    let old = image_same (codes "old") f.old g.old f_new g_new p.old q.old flags first.1 in
+    let new = image_same (codes "new") f.new g.new (certificate_lines f.pairs ++ x) (certificate_lines g.pairs ++ y) p.new q.new (sym p.raws ∙ flags ∙ q.raws) old.1 in
     let pairs = certificate_same f.pairs g.pairs x y p.pairs.0 q.pairs.0 p.pairs.1 q.pairs.1 new.1 in
     (ap (λ (i : Image). pair_with i f.new f.pairs) old.0 ∙ ap (λ (i : Image). pair_with g.old i f.pairs) new.0 ∙ ap (pair_with g.old g.new) pairs.0, pairs.1)

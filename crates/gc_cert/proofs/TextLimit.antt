@@ -1,5 +1,5 @@
 -- What has a text has one that is within the limit.
-use Rattle.std.proofs.Common.{◌≡◌, ℕ, ◌^◌, ◌<◌, ◌≤◌, ◌+◌, ◌*◌, List, [], ◌∷◌, ◌++◌, length, map, refl, ap, ◌∙◌, arith, length-append}
+use Rattle.std.proofs.Common.{◌≡◌, ℕ, ◌^◌, ◌<◌, ◌≤◌, ◌+◌, ◌*◌, Bool, true, false, List, [], ◌∷◌, ◌++◌, length, map, refl, ap, ◌∙◌, arith, length-append}
 use Rattle.std.specs.Prelude.{codes}
 use Rattle.std.specs.Fmt.{decimal}
 use Rattle.std.specs.List.{AllByRecursion}
@@ -7,7 +7,7 @@ use Rattle.std.proofs.lemmas.List.Concat.{flat_map-cons, flat_map-append}
 use Rattle.std.proofs.lemmas.Fmt.{length-decimal-le}
 use Rattle.gc_graph.specs.Lines.{space, newline, ended, text_of}
 use Rattle.gc_words.specs.Image.{Image}
-use Rattle.gc_cert.specs.Grammar.{CertifiedPair, pair_line, count_line, size_line, image_lines, certificate_lines, lines_of, spelling, IsWord, AreAddresses, HasImageText, HasText}
+use Rattle.gc_cert.specs.Grammar.{CertifiedPair, heading, pair_line, count_line, size_line, image_lines, certificate_lines, lines_of, spelling, IsWord, AreAddresses, HasImageText, HasText}
 use Rattle.gc_cert.specs.Faults.{limit, IsReadAs}
 
 bytes : List (List ℕ) → ℕ
@@ -76,11 +76,15 @@ certificate_bytes pairs le small =
     let all = bytes_map AreAddresses pair_line 21 pair_length pairs small in
     omega (arith, bytes_cons (count_line (codes "pairs") (length pairs)) (map pair_line pairs ++ codes "end" ∷ []), count_length (codes "pairs") (length pairs) (omega arith) (omega (arith, le)), bytes_append (map pair_line pairs) (codes "end" ∷ []), all, le, bytes_cons (codes "end") [], bytes_nil)
 
+heading_length : (raws : Bool) → length (heading raws) ≡ 10
+heading_length false = refl
+heading_length true = refl
+
 lines_bytes : (f : CertifiedPair) → HasText f → bytes (lines_of f) ≤ limit
 unfolding lines_of
 lines_bytes f fits =
     let new = image_lines (codes "new") f.new (certificate_lines f.pairs) in
-    omega (arith, bytes_cons (codes "heappair 1") (image_lines (codes "old") f.old new), image_bytes (codes "old") f.old new (omega arith) fits.old, image_bytes (codes "new") f.new (certificate_lines f.pairs) (omega arith) fits.new, certificate_bytes f.pairs fits.pairs.0 fits.pairs.1)
+    omega (arith, heading_length f.old.raws, bytes_cons (heading f.old.raws) (image_lines (codes "old") f.old new), image_bytes (codes "old") f.old new (omega arith) fits.old, image_bytes (codes "new") f.new (certificate_lines f.pairs) (omega arith) fits.new, certificate_bytes f.pairs fits.pairs.0 fits.pairs.1)
 
 pub written_reads : (f : CertifiedPair) → HasText f → IsReadAs f (spelling f)
 unfolding spelling bytes

@@ -7,19 +7,20 @@ use Rattle.std.proofs.lemmas.Bool.{leb-true}
 use Rattle.std.proofs.lemmas.List.{append-nil}
 use Rattle.gc_graph.specs.Lines.{text_of, tokens_of}
 use Rattle.gc_graph.proofs.LineLemmas.{Cut, cut}
-use Rattle.gc_cert.specs.Grammar.{CertifiedPair, pair_line, count_line, size_line, certificate_lines, lines_of, spelling, IsWord, AreAddresses, AreSizes, IsCertificate, HasImageText, HasText, IsTextOf}
-use Rattle.gc_cert.specs.Internal.Grammar.{image_alone}
+use Rattle.gc_cert.specs.Grammar.{CertifiedPair, heading, pair_line, count_line, size_line, certificate_lines, lines_of, spelling, IsWord, AreAddresses, AreSizes, IsCertificate, HasText, IsTextOf}
+use Rattle.gc_cert.specs.Internal.Grammar.{image_alone, IsImageBy}
 use Rattle.gc_cert.specs.Faults.{limit, AreFirst, AreWhole, HasWrongLine, HasByteBehind, IsCutOff, IsPairFaultOf, IsReadAs, MayFail}
 use Rattle.gc_cert.specs.Sections.{Place, start, IsNext, HasTaken}
-use Rattle.gc_cert.specs.Internal.Sections.{Nothing, alone, AreAll, Section, Spelled, Begins, IsWrongAt, IsCutIn, MayStop}
+use Rattle.gc_cert.specs.Internal.Sections.{Nothing, AnyFlag, alone, AreAll, Section, Spelled, Begins, IsWrongAt, IsCutIn, MayStop}
 use Rattle.gc_cert.specs.Parsers.{count_of, sizes_of, pair_of}
-use Rattle.gc_cert.specs.Internal.Parsers.{is_name, is_line, word_in}
+use Rattle.gc_cert.specs.Internal.Parsers.{is_name, is_line, raws_in, word_in}
 use Rattle.gc_cert.specs.declared.fault.PairFault.{PairFault}
 use Rattle.gc_cert.specs.declared.fault.PairFault.TheVariants.{Read, TooLarge, BadLine, EndsEarly, NoMemory}
 use Rattle.gc_cert.proofs.Stops.{Delimits, BeginsWith, taken_then, wrong_within, cut_within}
-use Rattle.gc_cert.proofs.Forms.{IsForm, All-push, alone_delimits, all_delimit, line_wrong, line_cut, line_taken, begins_with_one, push_taken}
-use Rattle.gc_cert.proofs.LineForms.{fixed_form, word_form, count_form, size_form, pair_form}
-use Rattle.gc_cert.proofs.Parts.{none_taken, ImageSection, made_image, image_sizes, image_words, image_count, up_to_count, image_roots, image_taken, image_delimits, CertificateSection, pairs_line, certificate_count, certificate_pairs, up_to_end, certificate_end, certificate_taken, certificate_delimits, TextSection, heading, made_pair, text_heading, text_old, text_new, both_images, text_certificate, text_taken}
+use Rattle.gc_cert.proofs.Forms.{IsForm, alone_delimits, all_delimit, line_wrong, line_cut, line_taken, begins_with_one, push_taken}
+use Rattle.gc_cert.proofs.LineForms.{fixed_form, heading_form, word_form, count_form, size_form, pair_form}
+use Rattle.gc_cert.proofs.Parts.{none_taken, ImageSection, made_image, image_sizes, image_words, image_count, up_to_count, image_roots, image_taken, image_delimits, CertificateSection, pairs_line, certificate_count, certificate_pairs, up_to_end, certificate_end, certificate_taken, certificate_delimits, TextSection, made_pair, text_heading, text_old, text_new, both_images, text_certificate, text_taken}
+use Rattle.gc_graph.proofs.Bounds.{all_push}
 
 -- the text goes no further than some line of the section
 Stops : Section → Place → Type 0
@@ -61,20 +62,20 @@ all_outcome {V} InRange line_of read n p form = go n [] p (omega arith) tt (reco
     go zero vs mid counted all taken = inl (vs, mid, (omega (arith, counted), all), taken)
     go (suc left) vs mid counted all taken =
         next InRange (alone line_of) (Spelled (AreAll InRange n) (map line_of)) (map line_of vs) p mid (alone_delimits InRange line_of read form) (begins_with_one InRange line_of n vs (omega (arith, counted)) all) taken (line_outcome InRange line_of read mid form)
-        (λ v after q more. go left (vs ++ v ∷ []) after (omega (arith, counted, length-append vs (v ∷ []))) (All-push InRange vs v all q) (push_taken line_of vs v p after more))
+        (λ v after q more. go left (vs ++ v ∷ []) after (omega (arith, counted, length-append vs (v ∷ []))) (all_push InRange vs v all q) (push_taken line_of vs v p after more))
 
 -- ---- parts
 
-image_outcome : (name : List ℕ) (p : Place) → is_name name ≡ true → Outcome HasImageText (image_alone name) p
+image_outcome : (raws : Bool) (name : List ℕ) (p : Place) → is_name name ≡ true → Outcome (IsImageBy raws) (image_alone name) p
 unfolding Outcome
-image_outcome name p named =
-    next AreSizes (alone (λ s. size_line name s.0 s.1)) (ImageSection name) [] p p (alone_delimits AreSizes (λ s. size_line name s.0 s.1) (λ line. sizes_of name (tokens_of line)) (size_form name named)) (image_sizes name) (none_taken p)
+image_outcome raws name p named =
+    next AreSizes (alone (λ s. size_line name s.0 s.1)) (ImageSection raws name) [] p p (alone_delimits AreSizes (λ s. size_line name s.0 s.1) (λ line. sizes_of name (tokens_of line)) (size_form name named)) (image_sizes raws name) (none_taken p)
     (line_outcome AreSizes (λ s. size_line name s.0 s.1) (λ line. sizes_of name (tokens_of line)) p (size_form name named)) (λ s a fits first.
-    next (AreAll IsWord s.1) (map decimal) (ImageSection name) (size_line name s.0 s.1 ∷ []) p a (all_delimit IsWord decimal word_in s.1 word_form) (image_words name s fits) first (all_outcome IsWord decimal word_in s.1 a word_form) (λ words b ws second.
-    next (λ n. n ≤ 272) (alone (count_line (codes "roots"))) (ImageSection name) ((size_line name s.0 s.1 ∷ []) ++ map decimal words) p b (alone_delimits (λ n. n ≤ 272) (count_line (codes "roots")) (λ line. count_of (codes "roots") 272 (tokens_of line)) roots)
-    (image_count name s words fits ws) second (line_outcome (λ n. n ≤ 272) (count_line (codes "roots")) (λ line. count_of (codes "roots") 272 (tokens_of line)) b roots) (λ n c le third.
-    next (AreAll IsWord n) (map decimal) (ImageSection name) (up_to_count name s words n) p c (all_delimit IsWord decimal word_in n word_form) (image_roots name s words n fits ws le) third (all_outcome IsWord decimal word_in n c word_form) (λ rs d all last.
-    (let whole = image_taken name s words rs n p d fits ws le all last in inl (made_image s words rs, d, whole.0, whole.1))))))
+    next (AreAll IsWord s.1) (map decimal) (ImageSection raws name) (size_line name s.0 s.1 ∷ []) p a (all_delimit IsWord decimal word_in s.1 word_form) (image_words raws name s fits) first (all_outcome IsWord decimal word_in s.1 a word_form) (λ words b ws second.
+    next (λ n. n ≤ 272) (alone (count_line (codes "roots"))) (ImageSection raws name) ((size_line name s.0 s.1 ∷ []) ++ map decimal words) p b (alone_delimits (λ n. n ≤ 272) (count_line (codes "roots")) (λ line. count_of (codes "roots") 272 (tokens_of line)) roots)
+    (image_count raws name s words fits ws) second (line_outcome (λ n. n ≤ 272) (count_line (codes "roots")) (λ line. count_of (codes "roots") 272 (tokens_of line)) b roots) (λ n c le third.
+    next (AreAll IsWord n) (map decimal) (ImageSection raws name) (up_to_count name s words n) p c (all_delimit IsWord decimal word_in n word_form) (image_roots raws name s words n fits ws le) third (all_outcome IsWord decimal word_in n c word_form) (λ rs d all last.
+    (let whole = image_taken raws name s words rs n p d fits ws le all last in inl (made_image raws s words rs, d, whole.0, whole.1))))))
   where
     roots : IsForm (λ n. n ≤ 272) (count_line (codes "roots")) (λ line. count_of (codes "roots") 272 (tokens_of line))
     roots = count_form (codes "roots") 272 refl (omega arith)
@@ -96,11 +97,11 @@ certificate_outcome p =
 text_outcome : (p : Place) → Outcome HasText lines_of p
 unfolding Outcome
 text_outcome p =
-    next Nothing (alone (λ _. heading)) TextSection [] p p (alone_delimits Nothing (λ _. heading) (is_line heading) (fixed_form heading)) text_heading (none_taken p) (line_outcome Nothing (λ _. heading) (is_line heading) p (fixed_form heading)) (λ _ a _ first.
-    next HasImageText (image_alone (codes "old")) TextSection (heading ∷ []) p a (image_delimits (codes "old")) text_old first (image_outcome (codes "old") a refl) (λ old b p-old second.
-    next HasImageText (image_alone (codes "new")) TextSection ((heading ∷ []) ++ image_alone (codes "old") old) p b (image_delimits (codes "new")) (text_new old p-old) second (image_outcome (codes "new") b refl) (λ new c p-new third.
-    next IsCertificate certificate_lines TextSection (both_images old new) p c certificate_delimits (text_certificate old new p-old p-new) third (certificate_outcome c) (λ pairs d p-pairs last.
-    (let whole = text_taken old new pairs p d p-old p-new p-pairs last in inl (made_pair old new pairs, d, whole.0, whole.1))))))
+    next AnyFlag (alone heading) TextSection [] p p (alone_delimits AnyFlag heading raws_in heading_form) text_heading (none_taken p) (line_outcome AnyFlag heading raws_in p heading_form) (λ raws a _ first.
+    next (IsImageBy raws) (image_alone (codes "old")) TextSection (heading raws ∷ []) p a (image_delimits raws (codes "old")) (text_old raws) first (image_outcome raws (codes "old") a refl) (λ old b p-old second.
+    next (IsImageBy raws) (image_alone (codes "new")) TextSection ((heading raws ∷ []) ++ image_alone (codes "old") old) p b (image_delimits raws (codes "new")) (text_new raws old p-old) second (image_outcome raws (codes "new") b refl) (λ new c p-new third.
+    next IsCertificate certificate_lines TextSection (both_images raws old new) p c certificate_delimits (text_certificate raws old new p-old p-new) third (certificate_outcome c) (λ pairs d p-pairs last.
+    (let whole = text_taken raws old new pairs p d p-old p-new p-pairs last in inl (made_pair old new pairs, d, whole.0, whole.1))))))
 
 -- ---- faults of a text
 

@@ -1,5 +1,5 @@
 -- Two images with the pairs of a certificate, and their one text.
-use Rattle.std.specs.Prelude.{◌≡◌, ℕ, ◌<◌, ◌≤◌, ◌^◌, List, [], ◌∷◌, ◌++◌, length, map, codes}
+use Rattle.std.specs.Prelude.{◌≡◌, ℕ, ◌<◌, ◌≤◌, ◌^◌, Bool, true, false, List, [], ◌∷◌, ◌++◌, length, map, codes}
 use Rattle.std.specs.List.{AllByRecursion}
 use Rattle.std.specs.Fmt.{decimal}
 use Rattle.gc_graph.specs.Limits.{most_words, most_pairs, most_roots}
@@ -13,6 +13,11 @@ pub record CertifiedPair : Type 0 where
   pub pairs : List (ℕ × ℕ)
 
 -- ---- its text, line by line
+
+-- The first line. It says whether headers of raw objects count, in both images.
+abbrev pub heading : Bool → List ℕ
+heading false = codes "heappair 1"
+heading true = codes "heappair 2"
 
 abbrev pub pair_line : ℕ × ℕ → List ℕ
 pair_line p = joined (decimal p.0 ∷ decimal p.1 ∷ [])
@@ -32,7 +37,7 @@ abbrev pub certificate_lines : List (ℕ × ℕ) → List (List ℕ)
 certificate_lines pairs = count_line (codes "pairs") (length pairs) ∷ (map pair_line pairs ++ codes "end" ∷ [])
 
 unfoldable pub lines_of : CertifiedPair → List (List ℕ)
-lines_of f = codes "heappair 1" ∷ image_lines (codes "old") f.old (image_lines (codes "new") f.new (certificate_lines f.pairs))
+lines_of f = heading f.old.raws ∷ image_lines (codes "old") f.old (image_lines (codes "new") f.new (certificate_lines f.pairs))
 
 unfoldable pub spelling : CertifiedPair → List ℕ
 spelling f = text_of (lines_of f)
@@ -62,6 +67,7 @@ pub record HasImageText (image : Image) : Type 0 where
 pub record HasText (f : CertifiedPair) : Type 0 where
   pub old : HasImageText f.old
   pub new : HasImageText f.new
+  pub raws : f.old.raws ≡ f.new.raws
   pub pairs : IsCertificate f.pairs
 
 -- the text of the pair

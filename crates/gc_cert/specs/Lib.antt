@@ -1,3 +1,4 @@
+pub mod Counts
 pub mod FaultTexts
 pub mod Faults
 pub mod Grammar

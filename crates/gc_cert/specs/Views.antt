@@ -9,7 +9,7 @@ use Rattle.gc_cert.specs.declared.image.Image as declared
 use Rattle.gc_cert.specs.declared.image.PairFile.{PairFile}
 
 abbrev pub image_in : declared.Image → Image
-image_in image = record { size = image.size; end = image.end; words = image.words.items; roots = image.roots.items }
+image_in image = record { size = image.size; end = image.end; words = image.words.items; roots = image.roots.items; raws = image.raws }
 
 abbrev pub pair_in : PairFile → CertifiedPair
 pair_in file = record { old = image_in file.old; new = image_in file.new; pairs = map addresses file.pairs.items }

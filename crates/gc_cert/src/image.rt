@@ -10,6 +10,8 @@ pub struct Image {
     /// The words 0 to `end - 1`, links among them.
     pub words: Vec<u64>,
     pub roots: Vec<u64>,
+    /// Whether headers of raw objects count. In a text of version 2 they do.
+    pub raws: bool,
 }
 
 impl Image {
@@ -26,6 +28,7 @@ impl Image {
             end: self.end,
             words: &self.words,
             roots: &self.roots,
+            raws: self.raws,
         }
     }
 }

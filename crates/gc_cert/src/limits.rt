@@ -1,9 +1,10 @@
-ghost use Rattle.std.specs.Prelude.{◌↔◌, ◌≤◌, length, map, IsTrue};
+ghost use Rattle.std.specs.Prelude.{◌≡◌, ◌↔◌, ◌≤◌, length, map, IsTrue};
 ghost use Rattle.std.specs.List.{AllByRecursion};
-ghost use Rattle.gc_graph.specs.Limits.{most_words, most_roots};
+ghost use Rattle.gc_graph.specs.Limits.{most_words, most_roots, most_pairs};
+ghost use Rattle.gc_words.specs.Image.{IsShaped};
 ghost use Rattle.gc_words.specs.Views.{image_of, addresses};
-ghost use Rattle.gc_cert.specs.Grammar.{IsWord, IsCertificate, HasText, HasImageText};
-ghost use Rattle.gc_cert.specs.Internal.Sections.{AreAll};
+ghost use Rattle.gc_cert.specs.Grammar.{IsWord, AreAddresses, HasText, HasImageText};
+ghost use Rattle.gc_cert.specs.Counts.{HasCounts};
 ghost use Rattle.gc_cert.specs.Views.{pair_of};
 
 use gc_words::{ImageRef, MOST_PAIRS, MOST_ROOTS, MOST_WORDS, Pair};
@@ -17,35 +18,36 @@ fn is_size(n: u32) -> bool
 
 /// Whether there are so many words. Each is a word of a text, as each number of its type is.
 fn are_words(words: &[u64], count: u32) -> bool
-    ensures { IsTrue result ↔ AreAll IsWord count words.now }
+    ensures words { AllByRecursion IsWord words.now }
+    ensures count { IsTrue result ↔ (length words.now ≡ count) }
 {
     words.len() == count as usize
 }
 
 /// Whether these are few enough roots.
 fn are_roots(roots: &[u64]) -> bool
-    ensures { IsTrue result ↔ ((length roots.now ≤ most_roots) × AllByRecursion IsWord roots.now) }
+    ensures words { AllByRecursion IsWord roots.now }
+    ensures count { IsTrue result ↔ (length roots.now ≤ most_roots) }
 {
     roots.len() <= MOST_ROOTS
 }
 
 /// Whether these are few enough pairs.
 fn are_pairs(pairs: &[Pair]) -> bool
-    ensures { IsTrue result ↔ IsCertificate (map addresses pairs.now) }
+    ensures addresses { AllByRecursion AreAddresses (map addresses pairs.now) }
+    ensures count { IsTrue result ↔ (length pairs.now ≤ most_pairs) }
 {
-    if pairs.len() > MOST_PAIRS {
-        return false;
-    }
     for pair in pairs {
         // Each is read, so that the proof knows it to be a number of its type; nothing is left to do.
         let (_old, _new) = (pair.old.0, pair.new.0);
     }
-    true
+    pairs.len() <= MOST_PAIRS
 }
 
-/// Whether an image has a text.
+/// Whether an image has a text. A shaped one with few enough roots has one.
 fn image_fits(image: &ImageRef<'_>) -> bool
-    ensures { IsTrue result ↔ HasImageText (image_of image.now) }
+    ensures text { IsTrue result ↔ HasImageText (image_of image.now) }
+    ensures shaped { IsShaped (image_of image.now) → length image.now.roots.now ≤ most_roots → IsTrue result }
 {
     is_size(image.size)
         && is_size(image.end)
@@ -54,9 +56,12 @@ fn image_fits(image: &ImageRef<'_>) -> bool
 }
 
 /// Whether two images and pairs have a text: each number is in the range that the text has for it, and each
-/// image has as many words as its end says. A caller with images of its own asks this before `write_pair`.
+/// image has as many words as its end says, and raw headers count in both images or in none. Shaped images of
+/// which the last holds, with few enough roots and pairs, have one. A caller with images of its own asks this
+/// before `write_pair`.
 pub fn pair_fits(old: ImageRef<'_>, new: ImageRef<'_>, pairs: &[Pair]) -> bool
-    ensures { IsTrue result ↔ HasText (pair_of old.entry new.entry pairs.now) }
+    ensures text { IsTrue result ↔ HasText (pair_of old.entry new.entry pairs.now) }
+    ensures shaped { HasCounts (pair_of old.entry new.entry pairs.now) → IsTrue result }
 {
-    image_fits(&old) && image_fits(&new) && are_pairs(pairs)
+    image_fits(&old) && image_fits(&new) && old.raws == new.raws && are_pairs(pairs)
 }

@@ -1,11 +1,35 @@
-ghost use Rattle.std.specs.Prelude.{◌≡◌, ◌<◌, ◌^◌};
+ghost use Rattle.std.specs.Prelude.{◌≡◌, ◌≤◌, length};
 ghost use Rattle.std.specs.Option.{option_map};
 ghost use Rattle.gc_graph.specs.Lines.{tokens_of};
 ghost use Rattle.gc_words.specs.Views.{addresses};
+ghost use Rattle.gc_cert.specs.Grammar.{heading};
 ghost use Rattle.gc_cert.specs.Parsers.{count_of, sizes_of, pair_of};
+ghost use Rattle.gc_cert.specs.Internal.Parsers.{raws_in};
 
 use gc_graph::text::Tokens;
 use gc_words::{MOST_WORDS, NewAddr, OldAddr, Pair};
+
+/// The first line of a text whose images have raw headers that count, or not.
+pub fn heading(raws: bool) -> &'static [u8]
+    ensures line { result.now ≡ heading raws }
+    ensures short { length result.now ≤ 16 }
+{
+    if raws { b"heappair 2" } else { b"heappair 1" }
+}
+
+/// Whether raw headers count, by the first line of a text.
+#[tactic(auto, unfolding(crate::specs::Internal::Parsers::raws_in))]
+pub fn raws(line: &[u8]) -> Option<bool>
+    ensures { result ≡ raws_in line.now }
+{
+    if line == heading(false) {
+        Some(false)
+    } else if line == heading(true) {
+        Some(true)
+    } else {
+        None
+    }
+}
 
 /// The number behind this name.
 #[tactic(auto, unfolding(crate::specs::Parsers::count_of, gc_graph::specs::Tokens::end_of))]

@@ -2,18 +2,18 @@ ghost use Rattle.std.specs.Prelude.{◌≡◌, ◌≢◌, ◌+◌, ◌≤◌, �
 ghost use Rattle.gc_graph.specs.Streams.{bytes_left, source_failed};
 ghost use Rattle.gc_graph.specs.Lines.{tokens_of};
 ghost use Rattle.gc_words.specs.Views.{addresses};
-ghost use Rattle.gc_cert.specs.Grammar.{pair_line, count_line, size_line, certificate_lines, IsWord, AreAddresses, AreSizes, IsCertificate, HasImageText, HasText, IsTextOf};
-ghost use Rattle.gc_cert.specs.Internal.Grammar.{image_alone};
+ghost use Rattle.gc_cert.specs.Grammar.{heading, pair_line, count_line, size_line, certificate_lines, IsWord, AreAddresses, AreSizes, IsCertificate, HasText, IsTextOf};
+ghost use Rattle.gc_cert.specs.Internal.Grammar.{image_alone, IsImageBy};
 ghost use Rattle.gc_cert.specs.Faults.{limit, IsReadAs, MayFail};
 ghost use Rattle.gc_cert.specs.Internal.Parsers.{is_name};
 ghost use Rattle.gc_cert.specs.Sections.{HasTaken};
-ghost use Rattle.gc_cert.specs.Internal.Sections.{alone, AreAll, Spelled, Nothing, MayStop};
+ghost use Rattle.gc_cert.specs.Internal.Sections.{alone, AreAll, Spelled, Nothing, AnyFlag, MayStop};
 ghost use Rattle.gc_cert.specs.Views.{image_in, pair_in};
 
 use crate::fault::PairFault;
 use crate::image::{Image, PairFile};
 use crate::lines::Lines;
-use crate::parser::{count, pair, sizes};
+use crate::parser::{count, pair, raws, sizes};
 use gc_graph::Source;
 use gc_graph::text::{number, read_all};
 use gc_words::{MOST_PAIRS, MOST_ROOTS, Pair};
@@ -36,6 +36,20 @@ fn take_line(lines: &mut Lines<'_>, wanted: &[u8]) -> Result<(), PairFault>
     } else {
         Err(PairFault::BadLine(lines.number()))
     }
+}
+
+/// Takes the first line, and returns whether raw headers count.
+fn take_heading(lines: &mut Lines<'_>) -> Result<bool, PairFault>
+    ensures { MatchResult result (λ raws. HasTaken (heading raws ∷ []) lines.old lines.new)
+        (λ fault. MayStop (Spelled AnyFlag (alone heading)) fault lines.old) }
+{
+    let Some(line) = lines.line() else {
+        return Err(PairFault::EndsEarly);
+    };
+    let Some(raws) = raws(line) else {
+        return Err(PairFault::BadLine(lines.number()));
+    };
+    Ok(raws)
 }
 
 /// Takes a word of a space.
@@ -136,13 +150,18 @@ fn take_pairs(alloc: Global, lines: &mut Lines<'_>, count: u64) -> Result<Vec<Pa
     Ok(pairs)
 }
 
-/// Takes an image that goes by this name.
-fn take_image(alloc: Global, lines: &mut Lines<'_>, name: &[u8]) -> Result<Image, PairFault>
+/// Takes an image that goes by this name. `raws` is what the first line says of it.
+fn take_image(
+    alloc: Global,
+    lines: &mut Lines<'_>,
+    name: &[u8],
+    raws: bool,
+) -> Result<Image, PairFault>
     requires { is_name name.now ≡ true }
     ensures { MatchResult result
-        (λ image. HasImageText (image_in image)
+        (λ image. IsImageBy raws (image_in image)
         × HasTaken (image_alone name.now (image_in image)) lines.old lines.new)
-        (λ fault. MayStop (Spelled HasImageText (image_alone name.now)) fault lines.old) }
+        (λ fault. MayStop (Spelled (IsImageBy raws) (image_alone name.now)) fault lines.old) }
 {
     let (size, end) = take_sizes(lines, name)?;
     let words = take_words(alloc, lines, u64::from(end))?;
@@ -153,6 +172,7 @@ fn take_image(alloc: Global, lines: &mut Lines<'_>, name: &[u8]) -> Result<Image
         end,
         words,
         roots,
+        raws,
     })
 }
 
@@ -177,9 +197,9 @@ fn spelled_pair(alloc: Global, text: &[u8]) -> Result<PairFile, PairFault>
     ensures unread { result ≢ Err PairFault.Read }
 {
     let mut lines = Lines::new(text);
-    take_line(&mut lines, b"heappair 1")?;
-    let old = take_image(alloc, &mut lines, b"old")?;
-    let new = take_image(alloc, &mut lines, b"new")?;
+    let raws = take_heading(&mut lines)?;
+    let old = take_image(alloc, &mut lines, b"old", raws)?;
+    let new = take_image(alloc, &mut lines, b"new", raws)?;
     let pairs = take_certificate(alloc, &mut lines)?;
     lines.end()?;
     Ok(PairFile { old, new, pairs })

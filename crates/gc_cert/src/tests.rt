@@ -9,6 +9,10 @@ use std::test::Fail;
 /// Two images of no objects.
 const LEAST: &[u8] = b"heappair 1\nold 1 1\n0\nroots 1\n0\nnew 1 1\n0\nroots 1\n0\npairs 0\nend\n";
 
+/// A raw object whose field word no value has.
+const RAW: &[u8] =
+    b"heappair 2\nold 9 4\n0\n50331649\n0\n18446744073709551614\nroots 1\n2\nnew 9 4\n0\n50331649\n0\n18446744073709551614\nroots 1\n2\npairs 1\n1 1\nend\n";
+
 /// One object is kept, and one is left behind.
 const ONE_KEPT: &[u8] =
     b"heappair 1\nold 9 9\n0\n16842754\n0\n0\n0\n16842754\n1\n0\n0\nroots 32\n0\n0\n0\n0\n0\n0\n0\n0\n0\n0\n0\n0\n0\n0\n0\n0\n10\n0\n0\n0\n0\n0\n0\n0\n0\n0\n0\n0\n0\n0\n0\n0\nnew 9 5\n0\n16842754\n5\n0\n0\nroots 32\n0\n0\n0\n0\n0\n0\n0\n0\n0\n0\n0\n0\n0\n0\n0\n0\n2\n0\n0\n0\n0\n0\n0\n0\n0\n0\n0\n0\n0\n0\n0\n0\npairs 1\n5 1\nend\n";
@@ -94,6 +98,7 @@ fn a_text_is_read_as_its_parts(rt: HostRuntime) -> Result<(), Fail> {
     let file = read_pair(rt.alloc(), &mut Source::new(ONE_KEPT))?;
     assert_eq!(rt; (file.old.size, file.old.end), (9, 9));
     assert_eq!(rt; (file.new.size, file.new.end), (9, 5));
+    assert_eq!(rt; (file.old.raws, file.new.raws), (false, false));
     assert_eq!(rt; file.old.words.len(), 9);
     assert_eq!(rt;
         file.new.words.as_slice(),
@@ -116,9 +121,18 @@ fn a_text_is_read_as_its_parts(rt: HostRuntime) -> Result<(), Fail> {
 }
 
 #[test]
+fn the_first_line_says_whether_raw_headers_count(rt: HostRuntime) -> Result<(), Fail> {
+    let file = read_pair(rt.alloc(), &mut Source::new(RAW))?;
+    assert_eq!(rt; (file.old.raws, file.new.raws), (true, true));
+    assert_eq!(rt; file.old.words.get(3).copied(), Some(18446744073709551614));
+    Ok(())
+}
+
+#[test]
 fn what_is_read_is_written_back(rt: HostRuntime) -> Result<(), Fail> {
     assert_eq!(rt; written_back(rt.alloc(), LEAST)?.as_slice(), LEAST);
     assert_eq!(rt; written_back(rt.alloc(), ONE_KEPT)?.as_slice(), ONE_KEPT);
+    assert_eq!(rt; written_back(rt.alloc(), RAW)?.as_slice(), RAW);
     Ok(())
 }
 
@@ -136,9 +150,12 @@ fn each_front_of_a_text_ends_early(rt: HostRuntime) {
 
 #[test]
 fn the_first_bad_line_is_answered(rt: HostRuntime) {
-    let rows: [(&[u8], PairFault); 9] = [
+    let rows: [(&[u8], PairFault); 12] = [
         (b"heappair 9", PairFault::EndsEarly),
         (b"heappair 9\n", PairFault::BadLine(1)),
+        (b"heappair 3\n", PairFault::BadLine(1)),
+        (b"heappair 2 \n", PairFault::BadLine(1)),
+        (b"heappair 2\nold 0 1\n", PairFault::BadLine(2)),
         (b"heappair 1\nold 0 1\n", PairFault::BadLine(2)),
         (b"heappair 1\nold 1 1048577\n", PairFault::BadLine(2)),
         (b"heappair 1\nold 1 1\n00\n", PairFault::BadLine(3)),
@@ -242,8 +259,16 @@ fn what_is_out_of_range_has_no_text(rt: HostRuntime) -> Result<(), Fail> {
         end: 2,
         words: &words,
         roots: &roots[..272],
+        raws: true,
+    };
+    let without = ImageRef {
+        raws: false,
+        ..good
     };
     assert!(rt; pair_fits(good, good, &pairs));
+    assert!(rt; pair_fits(without, without, &pairs));
+    assert!(rt; !pair_fits(good, without, &pairs));
+    assert!(rt; !pair_fits(without, good, &pairs));
     assert!(rt; !pair_fits(good, good, &many));
     let bad = [
         ImageRef { size: 0, ..good },

@@ -2,12 +2,13 @@ ghost use Rattle.std.specs.Prelude.{◌≡◌, ◌∷◌, ◌≤◌, [], true, l
 ghost use Rattle.std.specs.Io.KnownBytes.{Appends};
 ghost use Rattle.gc_graph.specs.Streams.{bytes_written, sink_failed, SendsFront};
 ghost use Rattle.gc_words.specs.Views.{image_of, addresses};
-ghost use Rattle.gc_cert.specs.Grammar.{pair_line, count_line, size_line, certificate_lines, lines_of, spelling, HasText};
+ghost use Rattle.gc_cert.specs.Grammar.{heading, pair_line, count_line, size_line, certificate_lines, lines_of, spelling, HasText};
 ghost use Rattle.gc_cert.specs.Internal.Grammar.{image_alone};
 ghost use Rattle.gc_cert.specs.Internal.PrintedLines.{Prints, PrintsFront};
 ghost use Rattle.gc_cert.specs.Views.{pair_of};
 
 use crate::fault::WriteFault;
+use crate::parser::heading;
 use gc_graph::text::Printer;
 use gc_graph::{Failed, Sink};
 use gc_words::{ImageRef, Pair};
@@ -33,6 +34,21 @@ fn print_line<W: Write>(
     printer.bytes(line);
     printer.bytes(b"\n");
     Ok(())
+}
+
+/// The first line, by whether raw headers count.
+fn print_heading<W: Write>(
+    printer: &mut Printer,
+    writer: &mut Sink<W>,
+    raws: bool,
+) -> Result<(), Failed>
+    ensures ok { OnOk result (Prints (heading raws ∷ [])
+        (bytes_written W.contents writer.old) (bytes_written W.contents writer.new) printer.old printer.new) }
+    ensures err { OnErr result (PrintsFront (heading raws ∷ [])
+        (bytes_written W.contents writer.old) (bytes_written W.contents writer.new) printer.old) }
+    ensures failed { OnErr result (sink_failed writer.new ≡ true) }
+{
+    print_line(printer, writer, heading(raws))
 }
 
 /// A word of a space.
@@ -205,7 +221,7 @@ fn print_text<W: Write>(
         (bytes_written W.contents writer.old) (bytes_written W.contents writer.new) printer.old) }
     ensures failed { OnErr result (sink_failed writer.new ≡ true) }
 {
-    print_line(printer, writer, b"heappair 1")?;
+    print_heading(printer, writer, old.raws)?;
     print_image(printer, writer, b"old", old)?;
     print_image(printer, writer, b"new", new)?;
     print_certificate(printer, writer, pairs)?;

@@ -1,43 +1,23 @@
 -- Pairs entered into the row of partners, one after the other.
-use Rattle.std.proofs.Common.{◌≡◌, ℕ, zero, suc, ◌+◌, ◌<◌, ◌≤◌, Bool, true, false, not, ◌&&◌, ◌||◌, ◌==◌, List, [], ◌∷◌, ◌++◌, length, take, drop, get_or, set, replicate, Option, Some, None, refl, sym, ◌∙◌, ap, subst, inl, inr, arith, length-set, get_or-set_same, get_or-set_other}
+use Rattle.std.proofs.Common.{◌≡◌, ℕ, suc, ◌+◌, ◌<◌, ◌≤◌, Bool, true, false, not, ◌&&◌, ◌||◌, ◌==◌, List, [], ◌∷◌, ◌++◌, length, take, drop, get_or, set, Option, Some, None, refl, sym, ◌∙◌, ap, subst, inl, inr, arith, length-set, get_or-set_same, get_or-set_other}
 use Rattle.std.specs.Prelude.{slice_index, nat_le, IsOk}
 use Rattle.std.specs.List.{list_any}
-use Rattle.std.proofs.lemmas.Bool.{eqb-true, eq-eqb, ne_eqb, lt-leb, cases_eq, cases_Bool, not-false}
-use Rattle.std.proofs.lemmas.List.{map_more, at_drop_more}
+use Rattle.std.proofs.lemmas.Bool.{eqb-true, eq-eqb, ne_eqb, cases_eq, cases_Bool, not-false}
+use Rattle.std.proofs.lemmas.List.{map_more, at_drop_more, take-map}
 use Rattle.std.proofs.lemmas.List.Folds.{list_any-append}
 use Rattle.gc_graph.specs.Correspond.{paired}
 use Rattle.gc_words.specs.Image.{Image, walk_words, is_start}
 use Rattle.gc_words.specs.Views.{addresses}
-use Rattle.gc_words.specs.Fault.{◌or_else◌, when, not_above_last, place_fault, place_faults}
+use Rattle.gc_words.specs.Fault.{◌or_else◌, when, first_over_pairs, not_above_last, place_fault, place_faults}
 use Rattle.gc_words.specs.declared.image.Pair.{Pair}
 use Rattle.gc_words.specs.declared.refusal.Refusal.{Refusal}
 use Rattle.gc_words.specs.declared.refusal.Refusal.TheVariants.{OldNotStart, NewNotStart, NotRising, Twice}
 use Rattle.gc_check.specs.Internal.Tables.{HoldsPartners, entry_fault}
 use Rattle.gc_check.specs.Verdict.{pairs_of}
 use Rattle.gc_check.proofs.StartMarks.{start_within}
-
--- ---- options
-
-pub or_none : {X : Type 0} (x y : Option X) → (x or_else y) ≡ None → (x ≡ None) × (y ≡ None)
-or_none None y e = (refl, e)
-or_none (Some x) y e = cc
-
-pub when_none : (b : Bool) (r : Refusal) → when b r ≡ None → b ≡ false
-when_none true r e = cc
-when_none false r e = refl
+use Rattle.gc_words.proofs.Faults.{or_none, when_none}
 
 -- ---- the row of partners
-
-none_paired : (n a : ℕ) → slice_index (replicate n 0) a ≡ 0
-none_paired zero a = refl
-none_paired (suc n) zero = refl
-none_paired (suc n) (suc a) = none_paired n a
-
-pub holds_none : (n : ℕ) → HoldsPartners (replicate n 0) []
-holds_none n = record {
-  pair = λ a b low. ap (λ m. m == b) (none_paired n a) ∙ ne_eqb 0 b (λ e. omega arith);
-  taken = λ a. ap (λ m. not (m == 0)) (none_paired n a);
-}
 
 or_false : (b : Bool) → (b || false) ≡ b
 or_false true = refl
@@ -88,9 +68,6 @@ holds_one row pairs p inside low free h = record { pair = pair; taken = taken }
 -- the last new address among the pairs; 0, below all starts, where there is none
 abbrev pub EndsAt : List (ℕ × ℕ) → ℕ → Type 0
 EndsAt before last = (n : ℕ) → 1 ≤ n → not_above_last before n ≡ nat_le n last
-
-pub ends_none : EndsAt [] 0
-ends_none n low = sym (lt-leb n 0 (omega arith))
 
 pub ends_one : (before : List (ℕ × ℕ)) (p : ℕ × ℕ) → EndsAt (before ++ p ∷ []) p.1
 ends_one before p n low = push before
@@ -143,25 +120,33 @@ no_entry_fault old new row last k p e =
 
 -- ---- all pairs
 
+-- the first fault of the places from pair k on
+abbrev places_from : Image → Image → List Pair → ℕ → Option Refusal
+places_from old new cert k = first_over_pairs (λ k. place_fault old new (take k (pairs_of cert)) k) k (pairs_of (drop k cert))
+
 -- where the first k pairs of a certificate have been entered
 pub record Entered (old new : Image) (cert : List Pair) (row : List ℕ) (last k : ℕ) : Type 0 where
   pub len : length row ≡ length old.words
   pub held : HoldsPartners row (pairs_of (take k cert))
   pub ends : EndsAt (pairs_of (take k cert)) last
-  pub same : place_faults old new [] 0 (pairs_of cert) ≡ place_faults old new (pairs_of (take k cert)) k (pairs_of (drop k cert))
+  pub same : place_faults old new (pairs_of cert) ≡ places_from old new cert k
 
 -- the next pair
 unrolled : (old new : Image) (cert : List Pair) (k : ℕ) (d : Pair) → k < length cert
-    → let before = pairs_of (take k cert) in place_faults old new before k (pairs_of (drop k cert))
-    ≡ (place_fault old new before k (addresses (get_or cert k d)) or_else place_faults old new (before ++ addresses (get_or cert k d) ∷ []) (suc k) (pairs_of (drop (k + 1) cert)))
-unrolled old new cert k d inside = at_drop_more (λ rest. place_faults old new (pairs_of (take k cert)) k (pairs_of rest)) cert k d inside
+    → places_from old new cert k ≡ (place_fault old new (pairs_of (take k cert)) k (addresses (get_or cert k d)) or_else places_from old new cert (k + 1))
+unrolled old new cert k d inside =
+    at_drop_more (λ rest. first_over_pairs (λ k. place_fault old new (take k (pairs_of cert)) k) k (pairs_of rest)) cert k d inside
+    ∙ (λ i. place_fault old new (take-map addresses k cert i) k (addresses (get_or cert k d)) or_else first_over_pairs (λ k. place_fault old new (take k (pairs_of cert)) k) (next i) (pairs_of (drop (k + 1) cert)))
+  where
+    next : suc k ≡ k + 1
+    next = omega arith
 
 pub entered_fault : (old new : Image) (cert : List Pair) (row : List ℕ) (last k : ℕ) (d : Pair) (refusal : Refusal) → k < length cert → (is_start new.words (addresses (get_or cert k d)).1 ≡ true → 1 ≤ (addresses (get_or cert k d)).1)
-    → Entered old new cert row last k → entry_fault old new row last k (addresses (get_or cert k d)) ≡ Some refusal → place_faults old new [] 0 (pairs_of cert) ≡ Some refusal
+    → Entered old new cert row last k → entry_fault old new row last k (addresses (get_or cert k d)) ≡ Some refusal → place_faults old new (pairs_of cert) ≡ Some refusal
 entered_fault old new cert row last k d refusal inside low s e =
     let p : ℕ × ℕ = addresses (get_or cert k d) in
     s.same ∙ unrolled old new cert k d inside
-    ∙ ap (λ o. o or_else place_faults old new (pairs_of (take k cert) ++ p ∷ []) (suc k) (pairs_of (drop (k + 1) cert))) (sym (entry_is old new row (pairs_of (take k cert)) last k p s.held s.ends low) ∙ e)
+    ∙ ap (λ o. o or_else places_from old new cert (k + 1)) (sym (entry_is old new row (pairs_of (take k cert)) last k p s.held s.ends low) ∙ e)
 
 pub entered_one : (old new : Image) (cert : List Pair) (row : List ℕ) (last k : ℕ) (d : Pair) → k < length cert
     → let p = addresses (get_or cert k d) in (is_start new.words p.1 ≡ true → 1 ≤ p.1) → p.0 < length row
@@ -171,14 +156,12 @@ entered_one old new cert row last k d inside low within s e =
     let before : List (ℕ × ℕ) = pairs_of (take k cert) in
     let placed : Placed old new row p = no_entry_fault old new row last k p e in
     let more : pairs_of (take (k + 1) cert) ≡ before ++ p ∷ [] = map_more addresses cert k d inside in
-    let next : suc k ≡ k + 1 = omega arith in
     record {
       len = length-set row p.0 p.1 ∙ s.len;
       held = subst (HoldsPartners (set row p.0 p.1)) (sym more) (holds_one row before p within (low placed.new_start) placed.free s.held);
       ends = subst (λ pairs. EndsAt pairs p.1) (sym more) (ends_one before p);
       same = s.same ∙ unrolled old new cert k d inside
-          ∙ ap (λ o. o or_else place_faults old new (before ++ p ∷ []) (suc k) (pairs_of (drop (k + 1) cert))) (sym (entry_is old new row before last k p s.held s.ends low) ∙ e)
-          ∙ (λ i. place_faults old new (sym more i) (next i) (pairs_of (drop (k + 1) cert)));
+          ∙ ap (λ o. o or_else places_from old new cert (k + 1)) (sym (entry_is old new row before last k p s.held s.ends low) ∙ e);
     }
 
 -- the pair's old address is a place of the row

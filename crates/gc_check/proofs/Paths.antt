@@ -3,12 +3,11 @@ use Rattle.std.proofs.Common.{◌≡◌, ℕ, suc, zero, true, false, List, [], 
 use Rattle.std.specs.Prelude.{slice_get}
 use Rattle.std.specs.List.{AllZip}
 use Rattle.gc_graph.specs.Graph.{Value, Nil, Num, Ref, Object, Graph, lookup, object_of, field_of, follow, at_path, Reachable}
-use Rattle.gc_graph.specs.Correspond.{paired, correspond, Agree, ObjectsCorrespond, Corresponding}
+use Rattle.gc_graph.specs.Correspond.{paired, correspond, Agree, EqualFieldByField, Corresponding}
 use Rattle.gc_graph.specs.Machine.{Roomy, roomy_step}
 use Rattle.gc_graph.specs.Runs.{replies}
 use Rattle.gc_graph.specs.Graph.{fresh_name}
 use Rattle.gc_graph.specs.declared.command.Op.{Op}
-use Rattle.gc_check.specs.Headline.{EqualFieldByField}
 
 module _ (pairs : List (ℕ × ℕ)) (g h : Graph) (c : Corresponding pairs g h) where
   get_agrees : (vs ws : List Value) (i : ℕ) → AllZip (λ v w. correspond pairs v w ≡ true) vs ws → Agree pairs (slice_get vs i) (slice_get ws i)
@@ -18,8 +17,8 @@ module _ (pairs : List (ℕ × ℕ)) (g h : Graph) (c : Corresponding pairs g h)
   get_agrees (v ∷ vs) (w ∷ ws) zero z = z.0
   get_agrees (v ∷ vs) (w ∷ ws) (suc i) z = get_agrees vs ws i z.1
 
-  object_agrees : (o q : Option Object) (i : ℕ) → ObjectsCorrespond pairs o q → Agree pairs (field_of o i) (field_of q i)
-  object_agrees (Some o) (Some q) i e = get_agrees o.fields q.fields i e.1
+  object_agrees : (o q : Option Object) (i : ℕ) → EqualFieldByField pairs o q → Agree pairs (field_of o i) (field_of q i)
+  object_agrees (Some o) (Some q) i e = get_agrees o.fields q.fields i e.3
   object_agrees (Some o) None i e = absurd e
   object_agrees None q i e = absurd e
 
@@ -60,20 +59,6 @@ module _ (pairs : List (ℕ × ℕ)) (g h : Graph) (c : Corresponding pairs g h)
 
   pub one_replica : (a : ℕ) → Reachable g a → (b : ℕ) × (paired pairs a b ≡ true) × ((d : ℕ) → paired pairs a d ≡ true → d ≡ b)
   one_replica a r = let found : (b : ℕ) × (paired pairs a b ≡ true) = reached_partner a r in (found.0, found.1, λ d p. c.one_right a d found.0 p found.1)
-
-  zip_length : (vs ws : List Value) → AllZip (λ v w. correspond pairs v w ≡ true) vs ws → length vs ≡ length ws
-  zip_length [] [] z = refl
-  zip_length [] (w ∷ ws) z = absurd z
-  zip_length (v ∷ vs) [] z = absurd z
-  zip_length (v ∷ vs) (w ∷ ws) z = ap suc (zip_length vs ws z.1)
-
-  equal_objects : (o q : Option Object) → ObjectsCorrespond pairs o q → EqualFieldByField pairs o q
-  equal_objects (Some o) (Some q) e = (e.0, zip_length o.fields q.fields e.1, e.1)
-  equal_objects (Some o) None e = absurd e
-  equal_objects None q e = absurd e
-
-  pub equal_fields : (a b : ℕ) → paired pairs a b ≡ true → EqualFieldByField pairs (lookup g.objects a) (lookup h.objects b)
-  equal_fields a b p = equal_objects _ _ (c.objects a b p)
 
 -- ---- as many replies as commands
 

@@ -1,29 +1,30 @@
 -- What is known where nothing is wrong with the images and with the places of the pairs.
-use Rattle.std.proofs.Common.{◌≡◌, ℕ, zero, suc, ◌<◌, true, not, ◌==◌, List, [], ◌∷◌, ◌++◌, length, get_or, Option, Some, None, subst, arith, sym, ◌∙◌, refl}
+use Rattle.std.proofs.Common.{◌≡◌, ℕ, zero, suc, ◌<◌, true, false, cond, ap, not, ◌==◌, List, [], ◌∷◌, length, get_or, take, Some, None, subst, arith, sym, ◌∙◌}
 use Rattle.std.specs.Prelude.{IsOk}
 use Rattle.std.specs.List.{list_any}
 use Rattle.std.proofs.lemmas.Bool.{eqb-true, not-false}
 use Rattle.std.proofs.lemmas.List.{get_or-map, length-map}
+use Rattle.gc_words.specs.Word.{words_correspond, field_words_correspond}
+use Rattle.gc_words.specs.declared.header.Header.{Header}
 use Rattle.gc_words.specs.Image.{Image, Block, IsShaped, walk_words, is_start, block_at}
 use Rattle.gc_words.specs.Views.{addresses}
-use Rattle.gc_words.specs.Fault.{◌or_else◌, when, at_place, shape_fault, not_above_last, place_fault, place_faults, table_fault}
+use Rattle.gc_words.specs.Fault.{◌or_else◌, when, at_place, shape_fault, first_over_pairs, not_above_last, place_fault, place_faults, table_fault, first_difference}
 use Rattle.gc_words.specs.declared.image.Pair.{Pair}
-use Rattle.gc_words.specs.declared.refusal.Refusal.{Refusal}
 use Rattle.gc_words.specs.declared.refusal.Refusal.TheVariants.{OldShape, NewShape, RootCount, OldNotStart, NewNotStart, NotRising, Twice}
-use Rattle.gc_words.proofs.Faults.{shaped}
+use Rattle.gc_words.proofs.Faults.{shaped, or_none, when_none, at_place_none}
 use Rattle.gc_words.proofs.Starts.{stands_in}
+use Rattle.gc_words.proofs.Walks.{same_walk}
 use Rattle.gc_check.specs.Internal.Tables.{image_fault}
 use Rattle.gc_check.specs.Verdict.{pairs_of}
-use Rattle.gc_check.proofs.PartnerRow.{or_none, when_none}
-
-at_place_none : (o : Option ℕ) (r : ℕ → Refusal) → at_place o r ≡ None → o ≡ None
-at_place_none None r e = refl
-at_place_none (Some k) r e = cc
 
 pub record Fits (old new : Image) : Type 0 where
   pub old_shaped : IsShaped old
   pub new_shaped : IsShaped new
   pub roots : length old.roots ≡ length new.roots
+
+-- the walk that meets all headers comes to the end, also where those of raw objects do not count
+pub walks : (image : Image) → IsShaped image → IsOk (walk_words image.words)
+walks image shape = subst IsOk (same_walk image.raws image.words shape.walked) shape.walked
 
 pub images_fit : (old new : Image) → image_fault old new ≡ None → Fits old new
 images_fit old new e =
@@ -35,9 +36,9 @@ images_fit old new e =
       roots = eqb-true _ _ (not-false _ (when_none _ _ s2.1));
     }
 
-pub table_parts : (old new : Image) (pairs : List (ℕ × ℕ)) → table_fault old new pairs ≡ None → Fits old new × (place_faults old new [] 0 pairs ≡ None)
+pub table_parts : (old new : Image) (pairs : List (ℕ × ℕ)) → table_fault old new pairs ≡ None → Fits old new × (place_faults old new pairs ≡ None)
 table_parts old new pairs e =
-    let both : (image_fault old new ≡ None) × (place_faults old new [] 0 pairs ≡ None) = or_none _ _ e in
+    let both : (image_fault old new ≡ None) × (place_faults old new pairs ≡ None) = or_none _ _ e in
     (images_fit old new both.0, both.1)
 
 -- ---- pairs join starts
@@ -52,22 +53,26 @@ joins old new before k p e =
     let s1 : (when (not (is_start old.words p.0)) (OldNotStart k) ≡ None) × (when (not (is_start new.words p.1)) (NewNotStart k) ≡ None) = or_none _ _ s2.0 in
     (not-false _ (when_none _ _ s1.0), not-false _ (when_none _ _ s1.1))
 
-all_join : (old new : Image) (before rest : List (ℕ × ℕ)) (k j : ℕ) (d : ℕ × ℕ) → place_faults old new before k rest ≡ None → j < length rest → JoinsStarts old new (get_or rest j d)
-all_join old new before [] k j d e inside = absurd (omega arith)
-all_join old new before (p ∷ rest) k zero d e inside =
-    let both : (place_fault old new before k p ≡ None) × (place_faults old new (before ++ p ∷ []) (suc k) rest ≡ None) = or_none _ _ e in
-    joins old new before k p both.0
-all_join old new before (p ∷ rest) k (suc j) d e inside =
-    let both : (place_fault old new before k p ≡ None) × (place_faults old new (before ++ p ∷ []) (suc k) rest ≡ None) = or_none _ _ e in
-    all_join old new (before ++ p ∷ []) rest (suc k) j d both.1 (omega arith)
+all_join : (old new : Image) (all rest : List (ℕ × ℕ)) (k j : ℕ) (d : ℕ × ℕ) → first_over_pairs (λ k. place_fault old new (take k all) k) k rest ≡ None → j < length rest → JoinsStarts old new (get_or rest j d)
+all_join old new all [] k j d e inside = absurd (omega arith)
+all_join old new all (p ∷ rest) k zero d e inside = joins old new (take k all) k p (or_none _ _ e).0
+all_join old new all (p ∷ rest) k (suc j) d e inside = all_join old new all rest (suc k) j d (or_none _ _ e).1 (omega arith)
 
 pub pair_joins : (old new : Image) (cert : List Pair) (k : ℕ) (d : Pair) → table_fault old new (pairs_of cert) ≡ None → k < length (pairs_of cert) → JoinsStarts old new (addresses (get_or cert k d))
 pair_joins old new cert k d e inside =
-    let parts : Fits old new × (place_faults old new [] 0 (pairs_of cert) ≡ None) = table_parts old new (pairs_of cert) e in
+    let parts : Fits old new × (place_faults old new (pairs_of cert) ≡ None) = table_parts old new (pairs_of cert) e in
     let within : k < length cert = omega (arith, length-map cert addresses) in
-    subst (JoinsStarts old new) (get_or-map addresses cert k d (0, 0) within) (all_join old new [] (pairs_of cert) 0 k (0, 0) parts.1 inside)
+    subst (JoinsStarts old new) (get_or-map addresses cert k d (0, 0) within) (all_join old new (pairs_of cert) (pairs_of cert) 0 k (0, 0) parts.1 inside)
 
 -- ---- objects with one header have as many fields
 
 pub same_length : (old new : List ℕ) (a b : ℕ) (x y : Block) → IsOk (walk_words old) → IsOk (walk_words new) → block_at old a ≡ Some x → block_at new b ≡ Some y → x.header.len ≡ y.header.len → length x.fields ≡ length y.fields
 same_length old new a b x y old_ok new_ok e f same = (stands_in old a x old_ok e).whole.fields ∙ same ∙ sym (stands_in new b y new_ok f).whole.fields
+
+-- ---- raw fields are compared as words, and others as values
+
+pub raw_alike : (h : Header) (pairs : List (ℕ × ℕ)) (old new : List ℕ) → h.raw ≡ true → first_difference (λ v w. v == w) 0 old new ≡ first_difference (field_words_correspond h pairs) 0 old new
+raw_alike h pairs old new e = ap (λ b. first_difference (λ v w. cond b (v == w) (words_correspond pairs v w)) 0 old new) (sym e)
+
+pub value_alike : (h : Header) (pairs : List (ℕ × ℕ)) (old new : List ℕ) → h.raw ≡ false → first_difference (words_correspond pairs) 0 old new ≡ first_difference (field_words_correspond h pairs) 0 old new
+value_alike h pairs old new e = ap (λ b. first_difference (λ v w. cond b (v == w) (words_correspond pairs v w)) 0 old new) (sym e)

@@ -1,17 +1,10 @@
 -- What a certificate that holds promises to those who go on with the new heap.
-use Rattle.std.specs.Prelude.{◌≡◌, ℕ, List, length, take, Option, Some, None, IsTrue}
-use Rattle.std.specs.List.{AllZip}
-use Rattle.gc_graph.specs.Graph.{Object, at_path, Reachable, lookup}
-use Rattle.gc_graph.specs.Correspond.{paired, correspond, Agree}
+use Rattle.std.specs.Prelude.{◌≡◌, ℕ, List, length, take, IsTrue}
+use Rattle.gc_graph.specs.Graph.{at_path, Reachable, lookup}
+use Rattle.gc_graph.specs.Correspond.{paired, Agree, EqualFieldByField}
 use Rattle.gc_graph.specs.Runs.{replies, HasRoom}
 use Rattle.gc_graph.specs.declared.command.Op.{Op}
 use Rattle.gc_words.specs.Image.{Image, graph_of, roomy_of}
-
--- both there, of one kind and length, and their values correspond
-abbrev pub EqualFieldByField : List (ℕ × ℕ) → Option Object → Option Object → Type 0
-EqualFieldByField pairs (Some o) (Some q) = (o.kind ≡ q.kind) × (length o.fields ≡ length q.fields) × AllZip (λ v w. IsTrue (correspond pairs v w)) o.fields q.fields
-EqualFieldByField pairs (Some o) None = ⊥
-EqualFieldByField pairs None q = ⊥
 
 pub record Replicated (old new : Image) (pairs : List (ℕ × ℕ)) : Type 0 where
   -- each path finds nothing in both heaps, or values that correspond

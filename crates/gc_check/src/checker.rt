@@ -39,7 +39,7 @@ pub fn check(alloc: Global, old: ImageRef, new: ImageRef, cert: &[Pair]) -> Resu
 // What is wrong with the objects of the first pair of which anything is.
 fn first_pair_fault(tables: &Tables, count: u32) -> Option<Refusal>
     requires { count ≡ length tables.now.pairs }
-    ensures { result ≡ object_faults tables.now.old tables.now.new tables.now.pairs 0 tables.now.pairs }
+    ensures { result ≡ object_faults tables.now.old tables.now.new tables.now.pairs }
 {
     for k in 0..count {
         if let Some(refusal) = tables.pair_fault(k) {

@@ -28,7 +28,7 @@ fn shape_fault(image: ImageRef) -> Option<u64>
     if image.size < 1 || image.size > MOST_WORDS || image.end < 1 || image.end > image.size {
         return Some(0);
     }
-    match walk(image.words, image.end) {
+    match walk(image.words, image.end, image.raws) {
         Ok(()) => None,
         Err(fault) => Some(fault.at),
     }

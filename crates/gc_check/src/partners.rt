@@ -1,6 +1,6 @@
 //! The pairs of a certificate, entered one after the other into the row of partners.
 
-ghost use Rattle.std.specs.Prelude.{◌≡◌, None, Some, [], length, replicate, IsOk, MatchResult};
+ghost use Rattle.std.specs.Prelude.{◌≡◌, None, Some, length, replicate, IsOk, MatchResult};
 ghost use Rattle.gc_words.specs.Image.{IsShaped, walk_words};
 ghost use Rattle.gc_words.specs.Fault.{place_faults};
 ghost use Rattle.gc_words.specs.Views.{addresses, image_of};
@@ -9,7 +9,7 @@ ghost use Rattle.gc_check.specs.Verdict.{pairs_of, IsRefusalOf};
 
 use crate::starts::Starts;
 use crate::verdict::CheckFault;
-use gc_words::{ImageRef, NewAddr, Pair, Refusal};
+use gc_words::{ImageRef, NewAddr, Pair, Refusal, raws_change_no_objects};
 use std::alloc::Global;
 
 /// The partners by old address, where all pairs are in their places. All three rows are made first.
@@ -23,11 +23,12 @@ pub(crate) fn partners_of(
     requires new_shaped { IsShaped (image_of new) }
     ensures { MatchResult result
         (λ partners.
-        (place_faults (image_of old.entry) (image_of new.entry) [] 0 (pairs_of cert.now) ≡ None)
+        (place_faults (image_of old.entry) (image_of new.entry) (pairs_of cert.now) ≡ None)
         × HoldsPartners partners.items (pairs_of cert.now))
         (IsRefusalOf
-        (place_faults (image_of old.entry) (image_of new.entry) [] 0 (pairs_of cert.now))) }
+        (place_faults (image_of old.entry) (image_of new.entry) (pairs_of cert.now))) }
 {
+    raws_change_no_objects();
     let Ok(old_starts) = Starts::new(alloc, old) else {
         return Err(CheckFault::NoMemory);
     };
@@ -54,9 +55,9 @@ fn enter_pairs(
     requires new_walked { IsOk (walk_words new.now.words) }
     requires empty { partners.old ≡ replicate (length old.now.words) 0 }
     ensures { MatchResult result
-        (λ _. (place_faults old.now new.now [] 0 (pairs_of cert.now) ≡ None)
+        (λ _. (place_faults old.now new.now (pairs_of cert.now) ≡ None)
         × HoldsPartners partners.new (pairs_of cert.now))
-        (λ refusal. place_faults old.now new.now [] 0 (pairs_of cert.now) ≡ Some refusal) }
+        (λ refusal. place_faults old.now new.now (pairs_of cert.now) ≡ Some refusal) }
 {
     // No object starts at 0, so the first new address is above this one.
     let mut last = NewAddr(0);

@@ -2,7 +2,7 @@ use crate::images::image_fault;
 use crate::object::object_at;
 use crate::partners::partners_of;
 use crate::verdict::CheckFault;
-use gc_words::{Addr, ImageRef, Pair, Refusal, Value, decode};
+use gc_words::{Addr, Header, ImageRef, Pair, Refusal, Value, decode};
 use std::alloc::Global;
 use std::marker::Model;
 
@@ -41,7 +41,7 @@ impl<'a> Model for Tables<'a> {
 impl<'a> Tables<'a> {
     ghost use Rattle.std.specs.Prelude.{◌≡◌, ◌<◌, ◌≤◌, ◌^◌, None, length, MatchResult};
     ghost use Rattle.gc_graph.specs.Correspond.{paired};
-    ghost use Rattle.gc_words.specs.Word.{words_correspond};
+    ghost use Rattle.gc_words.specs.Word.{words_correspond, field_words_correspond};
     ghost use Rattle.gc_words.specs.Fault.{table_fault, pair_fault, root_fault, first_difference};
     ghost use Rattle.gc_words.specs.Views.{image_of};
     ghost use Rattle.gc_check.specs.Tables.{pair_at};
@@ -88,7 +88,7 @@ impl<'a> Tables<'a> {
         if old.header != new.header {
             return Some(Refusal::HeaderDiffers { k });
         }
-        match self.first_difference(old.fields, new.fields) {
+        match self.field_difference(old.header, old.fields, new.fields) {
             Some(i) => Some(Refusal::FieldDiffers { k, i }),
             None => None,
         }
@@ -101,6 +101,21 @@ impl<'a> Tables<'a> {
         match self.first_difference(self.old.roots, self.new.roots) {
             Some(slot) => Some(Refusal::RootDiffers { slot }),
             None => None,
+        }
+    }
+
+    // The first field of two objects with this header at which they differ. No word of a raw object is a
+    // reference.
+    #[tactic(auto, using(crate::proofs::Placements::raw_alike, crate::proofs::Placements::value_alike))]
+    fn field_difference(&self, header: Header, old: &[u64], new: &[u64]) -> Option<u64>
+        requires { length old.now ≡ length new.now }
+        ensures { result
+            ≡ first_difference (field_words_correspond header self.now.pairs) 0 old.now new.now }
+    {
+        if header.is_raw() {
+            first_unequal(old, new)
+        } else {
+            self.first_difference(old, new)
         }
     }
 
@@ -148,4 +163,20 @@ impl<'a> Tables<'a> {
         let place = old.0 as usize;
         place < self.partners.len() && self.partners[place] == new.0
     }
+}
+
+ghost use Rattle.std.specs.Prelude.{◌≡◌, ◌==◌, length};
+ghost use Rattle.gc_words.specs.Fault.{first_difference};
+
+// The first place at which two words are not one number. Any word may stand in a raw object.
+fn first_unequal(old: &[u64], new: &[u64]) -> Option<u64>
+    requires { length old.now ≡ length new.now }
+    ensures { result ≡ first_difference (λ v w. v == w) 0 old.now new.now }
+{
+    for i in 0..old.len() {
+        if old[i] != new[i] {
+            return Some(i as u64);
+        }
+    }
+    None
 }

@@ -6,7 +6,7 @@ mod rows;
 use crate::{CheckFault, Refusal, Tables, Verdict, Yes, check, check_text};
 use gc_graph::{Sink, Source};
 use gc_words::{ImageRef, NewAddr, OldAddr, Pair};
-use rows::{few_pairs, many_pairs};
+use rows::{few_pairs, many_pairs, raw_objects};
 use std::alloc::{AllocError, Global};
 use std::process::Abort;
 use std::test::Fail;
@@ -26,6 +26,15 @@ fn image<'a>(size: u32, end: u32, words: &'a [u64], roots: &'a [u64]) -> ImageRe
         end,
         words,
         roots,
+        raws: false,
+    }
+}
+
+/// An image in which headers of raw objects count.
+fn with_raws<'a>(size: u32, end: u32, words: &'a [u64], roots: &'a [u64]) -> ImageRef<'a> {
+    ImageRef {
+        raws: true,
+        ..image(size, end, words, roots)
     }
 }
 
@@ -67,6 +76,12 @@ fn rows_without_pairs_or_with_one(rt: HostRuntime) -> Result<(), Fail> {
 #[test]
 fn rows_of_two_pairs(rt: HostRuntime) -> Result<(), Fail> {
     expect_rows(&rt, rt.alloc(), many_pairs().as_slice())?;
+    Ok(())
+}
+
+#[test]
+fn rows_of_raw_objects(rt: HostRuntime) -> Result<(), Fail> {
+    expect_rows(&rt, rt.alloc(), raw_objects().as_slice())?;
     Ok(())
 }
 

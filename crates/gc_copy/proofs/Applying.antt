@@ -70,16 +70,9 @@ pub oldest_first : (entries : List (ℕ × ℕ)) (entry : ℕ × ℕ) → Some e
 oldest_first [] entry e = absurd (let no : Some entry ≡ None = e in cc)
 oldest_first (d ∷ rest) entry e = let same : d ≡ entry = (let f : Some entry ≡ Some d = e in cc) in λ i. same i ∷ rest
 
-pub oldest_none : (entries : List (ℕ × ℕ)) → None ≡ oldest entries → entries ≡ []
-oldest_none [] e = refl
-oldest_none (d ∷ rest) e = absurd (let no : None ≡ Some d = e in cc)
-
 module _ (heap : HeapWords) (x : CollectionWords) (m : ℕ) (log : Log) (there : slice_get x.logs m ≡ Some log) where
   entries_are : log_at (collection_in x) m ≡ log.entries
   entries_are = ap Rattle.gc_copy.specs.Steps.log_or_nil (entries_at x.logs m log there)
-
-  pub clean : None ≡ oldest log.entries → apply_log (open_state heap x) (collection_in x) m (log_at (collection_in x) m) ≡ (Clean, open_state heap x)
-  clean e = ap (apply_log (open_state heap x) (collection_in x) m) (entries_are ∙ oldest_none log.entries e)
 
   module _ (entry : ℕ × ℕ) (first : Some entry ≡ oldest log.entries) where
     entries_split : log_at (collection_in x) m ≡ entry ∷ drop 1 log.entries

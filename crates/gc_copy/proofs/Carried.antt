@@ -1,9 +1,10 @@
 -- Only what was reachable when a collection began, or was made later, gets a replica.
-use Rattle.std.proofs.Common.{◌≡◌, inl, inr, ⊎_elim, ℕ, suc, ◌+◌, ◌-◌, ◌≤◌, ◌==◌, nat_lt, Bool, true, false, cond, List, [], ◌∷◌, ◌++◌, length, replicate, Option, Some, None, is_some, slice_get, flat_map, refl, ap, sym, ◌∙◌, subst, arith}
+use Rattle.std.proofs.Common.{◌≡◌, inl, inr, ⊎_elim, ℕ, suc, ◌+◌, ◌-◌, ◌≤◌, ◌==◌, nat_lt, Bool, true, false, cond, ◌&&◌, ◌||◌, List, [], ◌∷◌, ◌++◌, length, replicate, Option, Some, None, is_some, slice_get, flat_map, refl, ap, sym, ◌∙◌, subst, arith}
+use Rattle.std.specs.Prelude.{not}
 use Rattle.std.proofs.lemmas.Bool.{cond_both}
 use Rattle.gc_graph.specs.Slots.{place}
-use Rattle.gc_graph.specs.Graph.{Value, Nil, Num, Ref, Object, Graph, lookup, object_of, field_of, root, value_or_nil, follow, Reachable, names_of, set_root, add_object}
-use Rattle.gc_graph.specs.Machine.{Roomy, words_taken, step, roomy_step, get_field, put_field}
+use Rattle.gc_graph.specs.Graph.{Value, Nil, Num, Ref, Object, Graph, lookup, object_of, field_of, root, value_or_nil, follow, Reachable, names_of, set_root, first_value, new_object, add_object}
+use Rattle.gc_graph.specs.Machine.{Roomy, words_taken, step, roomy_step, get_field, is_number, put_field}
 use Rattle.gc_copy.specs.State.{Replica, Collection, State, opening_state, heap_end, new_end, new_free, replica_of, replica_at, pairs_of, moved}
 use Rattle.gc_copy.specs.Steps.{written, logged, mutate, log_at, with_log, fresh_replica, place_replica, with_replica, with_written, write_replica, copy_value, bring_value, bring_up_to_date, if_room, root_target, copy_root, next_field, scan_done, scan_replica, apply_entry, apply_log, is_ready, passes_check, collect_with}
 use Rattle.gc_copy.specs.Runs.{IsEvent, AreEvents, after, state_after}
@@ -22,8 +23,9 @@ use Rattle.gc_copy.specs.declared.step.StepReply.TheVariants.{Busy, Clean, NotRe
 use Rattle.gc_copy.proofs.Lists.{in_push, in_map_from, in_flat_map_from, in_set, in_replicate, in_get, get_in, find_some, all_from_in}
 use Rattle.gc_copy.proofs.Heap.{laid_range, lookup_in, lookup_laid, set_from, written_entry, written_in}
 use Rattle.gc_copy.proofs.Replicas.{pair, replica_in}
-use Rattle.gc_copy.proofs.Steps.{some_of, unreplicated_some}
+use Rattle.gc_copy.proofs.Steps.{unreplicated_some}
 use Rattle.gc_copy.proofs.Runs.{Reached, opening_ok, event_keeps}
+use Rattle.gc_words.proofs.Writes.{some_of}
 
 -- ---- commands
 
@@ -56,7 +58,7 @@ put_closed P g Nil target found i w h r = h
 put_closed P g (Num n) target found i w h r = h
 put_closed P g (Ref a) None found i w h r = h
 put_closed P g (Ref a) (Some o) None i w h r = h
-put_closed P g (Ref a) (Some o) (Some before) i w h r = record {
+put_closed P g (Ref a) (Some o) (Some before) i w h r = cond_both (o.raw && not (is_number w)) _ _ (λ (next : Reply × Graph). LeadsOnlyTo P next.1) (λ t. h) (λ t. record {
   roots = h.roots;
   fields = λ b q k p x l.
       let e = set_from a i w g.objects (b, q) k in
@@ -67,19 +69,24 @@ put_closed P g (Ref a) (Some o) (Some before) i w h r = record {
       let there : In x (written_entry a i w e.0).1.fields = subst (λ (z : ℕ × Object). In x z.1.fields) (sym is) l in
       ⊎_elim (λ y. subst (RefersTo P) y r) (h.fields e.0.0 e.0.1 e.1 (subst P (sym name) p) x) (written_in a i w e.0 x there))
       e.2;
-}
+})
 
-new_closed : (P : ℕ → Type 0) (g : Graph) (d kind len name : ℕ) → LeadsOnlyTo P g → P name → LeadsOnlyTo P (set_root (add_object g name (record { kind = kind; fields = replicate len Nil })) d (Ref name))
-new_closed P g d kind len name h p = record {
+new_closed : (P : ℕ → Type 0) (g : Graph) (raw : Bool) (d kind len name : ℕ) → LeadsOnlyTo P g → P name → LeadsOnlyTo P (set_root (add_object g name (new_object raw kind len)) d (Ref name))
+new_closed P g raw d kind len name h p = record {
   roots = λ w k. ⊎_elim (λ e. subst (RefersTo P) e p) (h.roots w) (in_set w g.roots d (Ref name) k);
   fields = λ a o k q v l. ⊎_elim
       (λ x. h.fields a o x q v l)
-      (λ x. subst (RefersTo P) (in_replicate v Nil len (subst (λ (z : ℕ × Object). In v z.1.fields) (sym x) l)) tt)
-      (in_push (a, o) (name, record { kind = kind; fields = replicate len Nil }) g.objects k);
+      (λ x. subst (RefersTo P) (in_replicate v (first_value raw) len (subst (λ (z : ℕ × Object). In v z.1.fields) (sym x) l)) (first_refers raw))
+      (in_push (a, o) (name, new_object raw kind len) g.objects k);
 }
+  where
+    first_refers : (b : Bool) → RefersTo P (first_value b)
+    first_refers true = tt
+    first_refers false = tt
 
 step_closed : (P : ℕ → Type 0) (g : Graph) (m : ℕ) (op : Op) (name : ℕ) → LeadsOnlyTo P g → P name → LeadsOnlyTo P (step g m op name).1
-step_closed P g m (ops.New d kind len) name h p = new_closed P g (place d m) kind len name h p
+step_closed P g m (ops.New d kind len) name h p = new_closed P g false (place d m) kind len name h p
+step_closed P g m (ops.NewRaw d kind len) name h p = new_closed P g true (place d m) kind len name h p
 step_closed P g m (ops.Num d n) name h p = root_closed P g (place d m) (Num n) h tt
 step_closed P g m (ops.Nil d) name h p = root_closed P g (place d m) Nil h tt
 step_closed P g m (ops.Move d s) name h p = root_closed P g (place d m) (root g (place s m)) h (root_refers P g (place s m) h)
@@ -177,7 +184,7 @@ module _ (P : ℕ → Type 0) (end : ℕ) (s : State) where
       go None e = same_quiet c Clean is refl h
       go (Some r) e =
           let found = find_some (λ (q : Replica). q.place == c.scan_place) c.replicas r e in
-          cond_both (c.scan_field == length r.object.fields) _ _ (Quiet P end)
+          cond_both (r.object.raw || (c.scan_field == length r.object.fields)) _ _ (Quiet P end)
           (λ t. (refl, (h.0, h.1, h.2)))
           (λ t. in_room c Scanned (next_field (bring_up_to_date c s.heap.graph r.original c.scan_field)) is refl h
           (next (bring_up_to_date c s.heap.graph r.original c.scan_field) (λ d x. bring_originals P c d s.heap.graph r.original c.scan_field h.0 h.1 (h.1 r found.0) x)))

@@ -1,7 +1,7 @@
 -- Which answers change something, and that the useful step's does where there is room.
-use Rattle.std.proofs.Common.{◌≡◌, ◌⊎◌, inl, inr, ⊎_elim, ℕ, zero, suc, ◌+◌, ◌==◌, Bool, true, false, not, List, [], ◌∷◌, length, Option, Some, None, is_none, slice_get, refl, ap, sym, ◌∙◌, subst, arith}
+use Rattle.std.proofs.Common.{◌||◌, ◌≡◌, ◌⊎◌, inl, inr, ⊎_elim, ℕ, zero, suc, ◌+◌, ◌==◌, Bool, true, false, not, List, [], ◌∷◌, length, Option, Some, None, is_none, slice_get, refl, ap, sym, ◌∙◌, subst, arith}
 use Rattle.std.specs.List.{list_all}
-use Rattle.std.proofs.lemmas.Bool.{cond-false, cond_both, and_from, eq-eqb}
+use Rattle.std.proofs.lemmas.Bool.{cond-false, cond_both, and_from, eq-eqb, not-true, not-false}
 use Rattle.gc_copy.specs.State.{Replica, Collection, State, new_end, replica_at}
 use Rattle.gc_copy.specs.Steps.{log_or_nil, log_at, if_room, roots_done, root_target, copy_root, scan_done, scan_replica, scan, apply_log, is_empty, is_ready, passes_check, step_in, collect_with, collect, is_change, first_log, apply_or_flip, useful_with, useful_step}
 use Rattle.gc_copy.specs.Belonging.{IsDue, IsOpen, IsOpened, IsState}
@@ -27,7 +27,7 @@ roots_quiet s c (Some name) = room_quiet s Copied _ refl
 
 replica_quiet : (s : State) (c : Collection) (t : Option Replica) → Quiet s (scan_replica s c t)
 replica_quiet s c None = λ e. refl
-replica_quiet s c (Some r) = cond_both (c.scan_field == length r.object.fields) _ _ (Quiet s) (λ t. λ e. absurd cc) (λ t. room_quiet s Scanned _ refl)
+replica_quiet s c (Some r) = cond_both (r.object.raw || (c.scan_field == length r.object.fields)) _ _ (Quiet s) (λ t. λ e. absurd cc) (λ t. room_quiet s Scanned _ refl)
 
 log_quiet : (s : State) (c : Collection) (m : ℕ) (l : List (ℕ × ℕ)) → Quiet s (apply_log s c m l)
 log_quiet s c m [] = λ e. refl
@@ -75,14 +75,10 @@ scan_brings s c k before = subst Brings (sym (cond-false (scan_done c) (Clean, s
     (k.belongs).scan)
   where
     unfinished : scan_done c ≡ false
-    unfinished = go (scan_done c) before
-      where
-        go : (b : Bool) → not b ≡ true → b ≡ false
-        go true h = absurd cc
-        go false h = refl
+    unfinished = not-true (scan_done c) before
 
     one : (r : Replica) → Brings (scan_replica s c (Some r))
-    one r = cond_both (c.scan_field == length r.object.fields) _ _ Brings (λ t. inr refl) (λ t. room_brings s Scanned _ refl)
+    one r = cond_both (r.object.raw || (c.scan_field == length r.object.fields)) _ _ Brings (λ t. inr refl) (λ t. room_brings s Scanned _ refl)
 
 log_brings : (s : State) (c : Collection) (m : ℕ) (l : List (ℕ × ℕ)) → is_empty l ≡ false → Brings (apply_log s c m l)
 log_brings s c m [] h = absurd cc
@@ -102,10 +98,6 @@ no_log ((entry ∷ log) ∷ logs) k h = absurd cc
 pub useful_brings : (s : State) → IsState s → ((collect s (useful_step s)).0 ≡ NoRoom) ⊎ (is_change (collect s (useful_step s)).0 ≡ true)
 useful_brings s h = go s.collection h.collection
   where
-    truth : (b : Bool) → not b ≡ false → b ≡ true
-    truth true e = refl
-    truth false e = absurd cc
-
     logs_bring : (c : Collection) → IsOpened s c → scan_done c ≡ true → roots_done c s.heap.graph ≡ true → (o : Option ℕ) → first_log 0 c.logs ≡ o → Brings (step_in s c (apply_or_flip o))
     logs_bring c k scanned replicated None e =
         inr (ap (λ (next : StepReply × State). is_change next.0) (flips s c h.heap k (and_from _ _ (and_from _ _ (no_log c.logs 0 e) scanned) replicated)))
@@ -120,4 +112,4 @@ useful_brings s h = go s.collection h.collection
         (λ t. roots_bring s c (root_target c s.heap.graph) t)
         (λ f. cond_both (not (scan_done c)) _ _ (λ step. Brings (step_in s c step))
         (λ t. scan_brings s c k t)
-        (λ g. logs_bring c k (truth (scan_done c) g) (truth (roots_done c s.heap.graph) f) (first_log 0 c.logs) refl))
+        (λ g. logs_bring c k (not-false (scan_done c) g) (not-false (roots_done c s.heap.graph) f) (first_log 0 c.logs) refl))

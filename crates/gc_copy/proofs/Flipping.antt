@@ -1,29 +1,34 @@
 -- The end of a collection, as the code makes it.
+use Rattle.gc_copy.proofs.Numbers.{small_corresponding}
+use Rattle.gc_copy.proofs.Replicas.{placed}
+use Rattle.std.specs.Prelude.{◌^◌}
+use Rattle.std.specs.Option.{option_map}
+use Rattle.gc_words.specs.declared.header.Header.{Header}
 use Rattle.std.proofs.Common.{◌≡◌, ⊎_elim, inl, inr, ℕ, suc, zero, ◌+◌, ◌-◌, ◌*◌, ◌/◌, ◌%◌, ◌<◌, ◌≤◌, ◌==◌, ◌||◌, nat_lt, Bool, true, false, cond, List, [], ◌∷◌, map, length, Option, Some, None, All, refl, ap, sym, ◌∙◌, subst, arith}
 use Rattle.std.proofs.lemmas.Bool.{eqb-true, eqb-false, lt-ltb}
 use Rattle.std.proofs.lemmas.List.{length-map}
-use Rattle.gc_graph.specs.Graph.{Value, Nil, Num, Ref, Object}
+use Rattle.gc_graph.specs.Graph.{lookup, Value, Nil, Num, Ref, Object}
 use Rattle.gc_words.specs.Word.{value_of, word_of, field_value, HasAddress}
-use Rattle.gc_words.specs.Image.{Block, blocks, block_in, is_start, object_entry, object_of_block, objects_of}
+use Rattle.gc_words.specs.Image.{field_in, block_at, Block, blocks, block_in, is_start, object_entry, object_of_block, objects_of}
 use Rattle.gc_words.specs.Spelling.{link_at}
 use Rattle.gc_words.specs.Space.{SpaceWords, IsSpace, end_of, free_in, without_links}
-use Rattle.gc_words.specs.Closed.{RefersToStart, IsRootWord, IsFieldWord, HasFieldWords}
-use Rattle.gc_words.proofs.Graphs.{graph_cleared, meaning_back}
+use Rattle.gc_words.specs.Closed.{IsWordOfField, RefersToStart, IsRootWord, IsFieldWord, HasFieldWords}
+use Rattle.gc_words.proofs.Graphs.{object_found, graph_cleared, meaning_back}
 use Rattle.gc_words.proofs.Spelled.{cleared}
 use Rattle.gc_words.proofs.Links.{link_cleared}
 use Rattle.gc_words.proofs.Ends.{end_cleared}
-use Rattle.gc_words.proofs.References.{closed_objects}
+use Rattle.gc_words.proofs.References.{closed_field_read, closed_objects}
 use Rattle.gc_heap.specs.Heap.{HeapWords, IsHeap, graph_in}
 use Rattle.gc_copy.specs.State.{Collection, State, new_objects, new_end, new_free, new_graph, moved, pairs_of}
 use Rattle.gc_copy.specs.Steps.{is_ready, flip, flipped, with_collection}
 use Rattle.gc_copy.specs.Members.{In}
-use Rattle.gc_copy.specs.Belonging.{IsNamed, RefersTo, IsSpaceGraph}
+use Rattle.gc_copy.specs.Belonging.{IsSmall, IsNamed, RefersTo, IsSpaceGraph}
 use Rattle.gc_copy.specs.Words.{CollectionWords, IsCollection, collection_in, idle_state, open_state, BelongsTo, HasNoLinks, new_root_words}
 use Rattle.gc_copy.specs.declared.step.StepReply.{StepReply}
 use Rattle.gc_copy.specs.declared.step.StepReply.TheVariants.{Flipped, Dropped}
-use Rattle.gc_copy.proofs.Lists.{in_map, in_map_from, all_from_in}
+use Rattle.gc_copy.proofs.Lists.{in_get, in_map, in_map_from, all_from_in}
 use Rattle.gc_copy.proofs.Words.{heap_graph}
-use Rattle.gc_copy.proofs.Steps.{IsReady, ready_parts, new_heap}
+use Rattle.gc_copy.proofs.Steps.{replica_field, IsReady, ready_parts, new_heap}
 use Rattle.gc_copy.proofs.Images.{named_address}
 use Rattle.gc_copy.proofs.Flips.{flips}
 use Rattle.gc_copy.proofs.Spaces.{in_start, new_objects_are, new_end_is}
@@ -44,6 +49,20 @@ dropped heap c is =
     λ i. (Dropped, record { mutators = heap.mutators; size = heap.space.size; heap = record { graph = sym graph i; free = heap.space.size - sym end i }; collection = None })
 
 -- ---- words that refer to objects
+
+-- a heap's raw words are small
+raw_words_small : (heap : HeapWords) → IsHeap heap → (a : ℕ) (o : Object) → lookup (graph_in heap).objects a ≡ Some o → o.raw ≡ true → (v : Value) → In v o.fields → IsSmall v
+raw_words_small heap is a o found raw v m = from (block_at heap.space.words a) refl (sym (object_found heap.space.words a) ∙ found)
+  where
+    from : (y : Option Block) → block_at heap.space.words a ≡ y → option_map object_of_block y ≡ Some o → IsSmall v
+    from None e f = absurd (let no : None ≡ Some o = f in cc)
+    from (Some b) e f =
+        let same : object_of_block b ≡ o = (let s : Some (object_of_block b) ≡ Some o = f in cc) in
+        let header : b.header.raw ≡ true = ap (λ (q : Object). q.raw) same ∙ raw in
+        let w = in_map_from (field_value b.header) v b.fields (subst (λ (q : Object). In v q.fields) (sym same) m) in
+        let i = in_get w.0 b.fields w.1 in
+        let small : w.0 < 2 ^ 63 = subst (λ r. IsWordOfField r heap.space.words w.0) header (closed_field_read heap.space.words heap.roots a i.0 w.0 b is.closed e (ap (λ y. field_in y i.0) e ∙ i.1)) in
+        subst IsSmall (ap (λ r. cond r (Num w.0) (value_of w.0)) (sym header) ∙ w.2) small
 
 word_fine : (words : List ℕ) (w : ℕ) → ((a : ℕ) → IsNamed (objects_of words) a → (1 ≤ a) × (a < 1048576)) → RefersTo (IsNamed (objects_of words)) (value_of w) → IsRootWord words w
 word_fine words w address named = by (w == 0) refl (w % 2 == 1) refl named
@@ -101,10 +120,30 @@ module _ (heap : HeapWords) (x : CollectionWords) (heap_is : IsHeap heap) (is : 
       let rest = roots_back vs (λ w l. h w (inr l)) in
       λ i. e i ∷ rest i
 
+  -- a raw word is that of an original
+  raw_small : (e : ℕ × Block) → In e (blocks x.space.words) → e.1.header.raw ≡ true → (w : ℕ) → In w e.1.fields → w < 2 ^ 63
+  raw_small e l raw w m =
+      let o : In (object_entry e) (new_objects (collection_in x)) = subst (In (object_entry e)) (sym (new_objects_are x)) (in_map object_entry e (blocks x.space.words) l) in
+      let r = in_map_from placed (object_entry e) (collection_in x).replicas o in
+      let ok = (k.belongs).replicas r.0 r.1 in
+      let value : field_value e.1.header w ≡ Num w = ap (λ b. cond b (Num w) (value_of w)) raw in
+      let there : In (Num w) r.0.object.fields = subst (λ v. In v r.0.object.fields) value (subst (λ (y : ℕ × Object). In (field_value e.1.header w) y.1.fields) (sym r.2) (in_map (field_value e.1.header) w e.1.fields m)) in
+      let f = replica_field (graph_in heap) (collection_in x) k.belongs parts r.0 r.1 (Num w) there in
+      let was : ok.original.raw ≡ true = sym ok.raw ∙ (ap (λ (y : ℕ × Object). y.1.raw) r.2 ∙ raw) in
+      small_corresponding (pairs_of (collection_in x)) f.0 (Num w) f.2 (raw_words_small heap heap_is r.0.original ok.original ok.found was f.0 f.1)
+
+  field_fine : (h : Header) (w : ℕ) → (h.raw ≡ true → w < 2 ^ 63) → RefersTo (IsNamed (objects_of x.space.words)) (field_value h w) → IsFieldWord x.space.words h w
+  field_fine h w small refers = go h.raw refl refers
+    where
+      go : (raw : Bool) → h.raw ≡ raw → RefersTo (IsNamed (objects_of x.space.words)) (cond raw (Num w) (value_of w)) → IsWordOfField raw x.space.words w
+      go true is refers = small is
+      go false is refers = word_fine x.space.words w address refers
+
   field_words : (e : ℕ × Block) → In e (blocks x.space.words) → HasFieldWords x.space.words e.1
   field_words e l = all_from_in (IsFieldWord x.space.words e.1.header) e.1.fields (λ w m.
       let o : In (object_entry e) (new_objects (collection_in x)) = subst (In (object_entry e)) (sym (new_objects_are x)) (in_map object_entry e (blocks x.space.words) l) in
-      word_fine x.space.words w address (here (value_of w) ((new_ok.objects e.0 (object_of_block e.1) o).fields (value_of w) (in_map (field_value e.1.header) w e.1.fields m))))
+      field_fine e.1.header w (λ raw. raw_small e l raw w m)
+      (here (field_value e.1.header w) ((new_ok.objects e.0 (object_of_block e.1) o).fields (field_value e.1.header w) (in_map (field_value e.1.header) w e.1.fields m))))
 
   root_words : (w : ℕ) → In w (new_root_words heap (collection_in x)) → IsRootWord x.space.words w
   root_words w l =
@@ -112,9 +151,6 @@ module _ (heap : HeapWords) (x : CollectionWords) (heap_is : IsHeap heap) (is : 
       let refers = here v.0 (new_ok.roots v.0 v.1) in
       let back : value_of w ≡ v.0 = ap value_of (sym v.2) ∙ (meaning_back v.0 (has_address v.0 refers)).1 in
       word_fine x.space.words w address (subst (RefersTo (IsNamed (objects_of x.space.words))) (sym back) refers)
-
-  after : HeapWords
-  after = record heap { space = without_links x.space; roots = new_root_words heap (collection_in x) }
 
   pub flipped_sound : IsHeap (record heap { space = without_links x.space; roots = new_root_words heap (collection_in x) })
   flipped_sound = record {

@@ -1,14 +1,16 @@
 -- A collection that is ready has a certificate.
-use Rattle.std.proofs.Common.{◌≡◌, ◌≢◌, inl, inr, ⊎_elim, ℕ, zero, suc, ◌+◌, ◌-◌, ◌<◌, ◌≤◌, ◌==◌, true, List, [], ◌∷◌, map, length, get_or, Option, Some, None, is_none, slice_get, AllPairs, IsTrue, refl, ap, sym, ◌∙◌, subst, arith}
+use Rattle.std.proofs.Common.{◌≡◌, ◌≢◌, inl, inr, ⊎_elim, ℕ, zero, suc, ◌+◌, ◌-◌, ◌<◌, ◌≤◌, ◌==◌, Bool, true, false, cond, ◌||◌, List, [], ◌∷◌, map, length, get_or, Option, Some, None, is_none, slice_get, AllPairs, IsTrue, refl, ap, sym, ◌∙◌, subst, arith}
 use Rattle.std.specs.List.{AllZip}
 use Rattle.std.proofs.lemmas.Option.{slice_get-get_or}
 use Rattle.std.proofs.lemmas.Bool.{cond-true, cond_both}
-use Rattle.gc_graph.specs.Graph.{Value, Graph}
+use Rattle.gc_graph.specs.Graph.{Value, Nil, Num, Ref, Graph}
+use Rattle.gc_graph.specs.Machine.{is_number}
+use Rattle.gc_words.specs.declared.header.Header.{Header}
 use Rattle.gc_graph.specs.Correspond.{correspond}
-use Rattle.gc_words.specs.Word.{read_value, word_of, words_correspond, read_correspond}
+use Rattle.gc_words.specs.Word.{read_value, word_of, words_correspond, field_words_correspond, read_correspond}
 use Rattle.gc_words.specs.Image.{block_at}
 use Rattle.gc_words.specs.Certificate.{BlocksCorrespond, Certified}
-use Rattle.gc_copy.specs.Linked.{object_block, object_header, field_word, image_of_graph, linked_image}
+use Rattle.gc_copy.specs.Linked.{object_block, object_header, number_of, field_word, image_of_graph, linked_image}
 use Rattle.gc_copy.specs.State.{Replica, Collection, State, new_free, pairs_of, moved, new_graph, replica_at}
 use Rattle.gc_copy.specs.Steps.{log_at, scan_done, is_ready, flipped, passes_check, flip, if_room, copy_root, root_target, scan_replica, apply_log, collect_with, collect}
 use Rattle.gc_copy.specs.Members.{In, Distinct}
@@ -19,7 +21,7 @@ use Rattle.gc_copy.specs.declared.step.StepReply.{StepReply}
 use Rattle.gc_copy.specs.declared.step.StepReply.TheVariants.{Copied, Scanned, Applied, Refused, Flipped}
 use Rattle.gc_copy.proofs.Lists.{in_map, in_map_from, get_in, all_from_in}
 use Rattle.gc_copy.proofs.Heap.{refers_map, laid_range, lookup_in, lookup_laid}
-use Rattle.gc_copy.proofs.Replicas.{pair, placed, end_of, IsPlace, refers_corresponding, moved_corresponds}
+use Rattle.gc_copy.proofs.Replicas.{pair, placed, replicas_end, IsPlace, refers_corresponding, moved_corresponds}
 use Rattle.gc_copy.proofs.Steps.{IsReady, roots_replicated, place_named, ready_parts, none_due, replica_refers, new_heap}
 use Rattle.gc_copy.proofs.Images.{graph_back, IsAddress, read_back, image_shaped, block_is, named_address}
 use Rattle.gc_words.specs.Image.{graph_of}
@@ -34,13 +36,33 @@ pub words_of_corresponding : (pairs : List (ℕ × ℕ)) (v w : Value) → Refer
 words_of_corresponding pairs v w f g h =
     ap (λ o. read_correspond pairs o (read_value (word_of w))) (read_back v f) ∙ (ap (read_correspond pairs (Some v)) (read_back w g) ∙ h)
 
-fields_zip : (pairs : List (ℕ × ℕ)) (f : Value → ℕ) (g : Value → ℕ) (vs ws : List Value) → length vs ≡ length ws
-    → ((i : ℕ) (v w : Value) → slice_get vs i ≡ Some v → slice_get ws i ≡ Some w → words_correspond pairs (f v) (g w) ≡ true)
-    → AllZip (λ v w. IsTrue (words_correspond pairs v w)) (map f vs) (map g ws)
-fields_zip pairs f g [] [] len h = tt
-fields_zip pairs f g [] (w ∷ ws) len h = absurd (omega arith)
-fields_zip pairs f g (v ∷ vs) [] len h = absurd (omega arith)
-fields_zip pairs f g (v ∷ vs) (w ∷ ws) len h = (h 0 v w refl refl, fields_zip pairs f g vs ws (omega arith) (λ i x y k l. h (suc i) x y k l))
+fields_zip : (alike : ℕ → ℕ → Bool) (f : Value → ℕ) (g : Value → ℕ) (vs ws : List Value) → length vs ≡ length ws
+    → ((i : ℕ) (v w : Value) → slice_get vs i ≡ Some v → slice_get ws i ≡ Some w → alike (f v) (g w) ≡ true)
+    → AllZip (λ v w. IsTrue (alike v w)) (map f vs) (map g ws)
+fields_zip alike f g [] [] len h = tt
+fields_zip alike f g [] (w ∷ ws) len h = absurd (omega arith)
+fields_zip alike f g (v ∷ vs) [] len h = absurd (omega arith)
+fields_zip alike f g (v ∷ vs) (w ∷ ws) len h = (h 0 v w refl refl, fields_zip alike f g vs ws (omega arith) (λ i x y k l. h (suc i) x y k l))
+
+-- those of two fields, of objects that are both raw or both not
+field_words_of_corresponding : (h k : Header) (pairs : List (ℕ × ℕ)) (v w : Value) → k.raw ≡ h.raw → (h.raw ≡ true → is_number v ≡ true) → RefersTo IsAddress v → RefersTo IsAddress w → correspond pairs v w ≡ true
+    → field_words_correspond h pairs (field_word h v) (field_word k w) ≡ true
+field_words_of_corresponding h k pairs v w same number f g agree = go h.raw refl
+  where
+    numbers : (v w : Value) → is_number v ≡ true → correspond pairs v w ≡ true → (number_of v == number_of w) ≡ true
+    numbers Nil w n e = absurd cc
+    numbers (Num a) Nil n e = absurd cc
+    numbers (Num a) (Num b) n e = e
+    numbers (Num a) (Ref b) n e = absurd cc
+    numbers (Ref a) w n e = absurd cc
+
+    go : (b : Bool) → h.raw ≡ b → field_words_correspond h pairs (field_word h v) (field_word k w) ≡ true
+    go true is =
+        (λ i. cond (is i) (cond (is i) (number_of v) (word_of v) == cond ((same ∙ is) i) (number_of w) (word_of w)) (words_correspond pairs (cond (is i) (number_of v) (word_of v)) (cond ((same ∙ is) i) (number_of w) (word_of w))))
+        ∙ numbers v w (number is) agree
+    go false is =
+        (λ i. cond (is i) (cond (is i) (number_of v) (word_of v) == cond ((same ∙ is) i) (number_of w) (word_of w)) (words_correspond pairs (cond (is i) (number_of v) (word_of v)) (cond ((same ∙ is) i) (number_of w) (word_of w))))
+        ∙ words_of_corresponding pairs v w f g agree
 
 roots_zip : (pairs : List (ℕ × ℕ)) (f : Value → Value) (vs : List Value) → ((v : Value) → In v vs → words_correspond pairs (word_of v) (word_of (f v)) ≡ true)
     → AllZip (λ v w. IsTrue (words_correspond pairs v w)) (map word_of vs) (map word_of (map f vs))
@@ -81,7 +103,7 @@ certified links links' size free g c h k same ready = record {
   new_shaped = image_shaped links' c.size (new_free c) new new_ok;
   objects = all_from_in (λ (p : ℕ × ℕ). BlocksCorrespond pairs (block_at (linked_image links size g).words p.0) (block_at (linked_image links' c.size new).words p.1)) pairs
       (λ p l. let r = in_map_from pair p c.replicas l in subst (λ (q : ℕ × ℕ). BlocksCorrespond pairs (block_at (linked_image links size g).words q.0) (block_at (linked_image links' c.size new).words q.1)) r.2 (blocks_correspond r.0 r.1));
-  rising = pairs_rise 1 c.replicas (end_of c.replicas) k.laid;
+  rising = pairs_rise 1 c.replicas (replicas_end c.replicas) k.laid;
   once = pairs_once c.replicas k.once;
   roots = roots_zip pairs (moved c) g.roots (λ v l.
       let f = h.roots v l in
@@ -111,14 +133,14 @@ certified links links' size free g c h k same ready = record {
         let old_block = block_is links size free g r.original ok.original h ok.found in
         let there = lookup_laid 1 (map placed c.replicas) (c.size - new_free c) r.place r.object new_ok.laid (in_map placed r c.replicas l) in
         let new_block = block_is links' c.size (new_free c) new r.place r.object new_ok there in
-        let zip = fields_zip pairs (field_word (object_header ok.original)) (field_word (object_header r.object)) ok.original.fields r.object.fields (sym ok.len) (λ i v w x y.
-        words_of_corresponding pairs v w
+        let zip = fields_zip (field_words_correspond (object_header ok.original) pairs) (field_word (object_header ok.original)) (field_word (object_header r.object)) ok.original.fields r.object.fields (sym ok.len) (λ i v w x y.
+        field_words_of_corresponding (object_header ok.original) (object_header r.object) pairs v w ok.raw (λ raw. h.numbers r.original ok.original ok.found raw v (get_in v ok.original.fields i x))
         (refers_map (IsNamed g.objects) IsAddress old_address v (was.fields v (get_in v ok.original.fields i x)))
         (refers_map (IsPlace pairs) IsAddress new_address w (replica_refers size free g c h k ready r l w (get_in w r.object.fields i y)))
         (⊎_elim (λ d. absurd (none_due g.objects g c r i k ready l d)) (λ e. e) (ok.current i v w x y))) in
         subst (λ b. BlocksCorrespond pairs b (block_at (linked_image links' c.size new).words r.place)) (sym old_block)
         (subst (BlocksCorrespond pairs (Some (object_block ok.original))) (sym new_block)
-        ((λ i. record { kind = sym ok.kind i; len = sym ok.len i }), zip))
+        ((λ i. record { raw = sym ok.raw i; kind = sym ok.kind i; len = sym ok.len i }), zip))
 
 -- so the graphs of both spaces correspond
 pub corresponding_graphs : (size free : ℕ) (g : Graph) (c : Collection) → IsSpaceGraph size free g → Belongs g.objects c → c.size ≤ 1048576 → IsReady g c → Corresponding (pairs_of c) g (new_graph c g.roots)
@@ -148,7 +170,7 @@ not_refused s step h = go s.collection step h.collection
 
     scan : (c : Collection) (t : Option Replica) → (scan_replica s c t).0 ≢ Refused
     scan c None = λ e. cc e
-    scan c (Some r) = cond_both (c.scan_field == _) _ _ (λ (next : StepReply × State). next.0 ≢ Refused) (λ t. λ e. cc e) (λ t. room_not_refused s Scanned _ (λ e. cc e))
+    scan c (Some r) = cond_both (r.object.raw || (c.scan_field == _)) _ _ (λ (next : StepReply × State). next.0 ≢ Refused) (λ t. λ e. cc e) (λ t. room_not_refused s Scanned _ (λ e. cc e))
 
     apply : (c : Collection) (m : ℕ) (l : List (ℕ × ℕ)) → (apply_log s c m l).0 ≢ Refused
     apply c m [] = λ e. cc e

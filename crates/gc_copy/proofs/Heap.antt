@@ -1,5 +1,5 @@
 -- A heap whose objects stand back to back and whose references are their addresses.
-use Rattle.std.proofs.Common.{◌≡◌, ◌≢◌, ◌⊎◌, inl, inr, ⊎_elim, ℕ, ◌+◌, ◌≤◌, ◌==◌, true, false, cond, List, [], ◌∷◌, ◌++◌, length, Some, slice_get, refl, ap, sym, ◌∙◌, subst, arith, length-set}
+use Rattle.std.proofs.Common.{◌≡◌, ◌≢◌, ◌⊎◌, inl, inr, ⊎_elim, ℕ, ◌+◌, ◌≤◌, ◌==◌, true, false, cond, List, [], ◌∷◌, ◌++◌, length, Some, None, slice_get, refl, ap, sym, ◌∙◌, subst, arith, length-set}
 use Rattle.std.proofs.lemmas.Bool.{cases_Bool, cond-true, cond-false, eqb-true, eqb-false, eq-eqb, ne_eqb}
 use Rattle.gc_graph.specs.Graph.{Value, Nil, Num, Ref, Object, lookup, with_field, set_field}
 use Rattle.gc_copy.specs.State.{objects_end}
@@ -116,9 +116,21 @@ written_kind name i v e = ⊎_elim
     (λ f. ap (λ (o : Object). o.kind) (cond-false (e.0 == name) (with_field e.1 i v) e.1 f))
     (cases_Bool (e.0 == name))
 
+pub written_raw : (name i : ℕ) (v : Value) (e : ℕ × Object) → (written_entry name i v e).1.raw ≡ e.1.raw
+written_raw name i v e = ⊎_elim
+    (λ t. ap (λ (o : Object). o.raw) (cond-true (e.0 == name) (with_field e.1 i v) e.1 t))
+    (λ f. ap (λ (o : Object). o.raw) (cond-false (e.0 == name) (with_field e.1 i v) e.1 f))
+    (cases_Bool (e.0 == name))
+
 pub written_in : (name i : ℕ) (v : Value) (e : ℕ × Object) (w : Value) → In w (written_entry name i v e).1.fields → (v ≡ w) ⊎ In w e.1.fields
 written_in name i v e w h = ⊎_elim
     (λ t. in_set w e.1.fields i v (subst (λ (o : Object). In w o.fields) (cond-true (e.0 == name) (with_field e.1 i v) e.1 t) h))
+    (λ f. inr (subst (λ (o : Object). In w o.fields) (cond-false (e.0 == name) (with_field e.1 i v) e.1 f) h))
+    (cases_Bool (e.0 == name))
+
+pub written_here : (name i : ℕ) (v : Value) (e : ℕ × Object) (w : Value) → In w (written_entry name i v e).1.fields → ((e.0 ≡ name) × (v ≡ w)) ⊎ In w e.1.fields
+written_here name i v e w h = ⊎_elim
+    (λ t. ⊎_elim (λ x. inl (eqb-true e.0 name t, x)) (λ x. inr x) (in_set w e.1.fields i v (subst (λ (o : Object). In w o.fields) (cond-true (e.0 == name) (with_field e.1 i v) e.1 t) h)))
     (λ f. inr (subst (λ (o : Object). In w o.fields) (cond-false (e.0 == name) (with_field e.1 i v) e.1 f) h))
     (cases_Bool (e.0 == name))
 
@@ -156,6 +168,30 @@ lookup_written name i v (e ∷ rest) a o h = ⊎_elim there (beside (λ k. looku
         (λ g. let n : e.0 ≢ a = eqb-false e.0 a g in
         lookup_there e (set_field rest name i v) a n ∙ more (sym (lookup_there e rest a n) ∙ h))
         (cases_Bool (e.0 == a))
+
+pub lookup_set_none : (objects : List (ℕ × Object)) (name i : ℕ) (v : Value) (a : ℕ) → lookup objects a ≡ None → lookup (set_field objects name i v) a ≡ None
+lookup_set_none [] name i v a h = refl
+lookup_set_none (e ∷ rest) name i v a h = ⊎_elim
+    (λ s. absurd (let no : Some e.1 ≡ None = sym (lookup_here e rest a (eqb-true e.0 a s)) ∙ h in cc))
+    (λ f. let n : e.0 ≢ a = eqb-false e.0 a f in
+    let later : lookup rest a ≡ None = sym (lookup_there e rest a n) ∙ h in
+    ⊎_elim
+    (λ t. ap (λ l. lookup l a) (cond-true (e.0 == name) ((e.0, with_field e.1 i v) ∷ rest) (e ∷ set_field rest name i v) t) ∙ (lookup_there (e.0, with_field e.1 i v) rest a n ∙ later))
+    (λ t. ap (λ l. lookup l a) (cond-false (e.0 == name) ((e.0, with_field e.1 i v) ∷ rest) (e ∷ set_field rest name i v) t) ∙ (lookup_there e (set_field rest name i v) a n ∙ lookup_set_none rest name i v a later))
+    (cases_Bool (e.0 == name)))
+    (cases_Bool (e.0 == a))
+
+-- the object behind all others
+pub pushed_last : (objects : List (ℕ × Object)) (a name : ℕ) (o q : Object) → lookup objects a ≡ None → lookup (objects ++ (name, o) ∷ []) a ≡ Some q → o ≡ q
+pushed_last [] a name o q none h = ⊎_elim
+    (λ t. cc (sym (cond-true (name == a) (Some o) None t) ∙ h))
+    (λ f. absurd (let no : None ≡ Some q = sym (cond-false (name == a) (Some o) None f) ∙ h in cc))
+    (cases_Bool (name == a))
+pushed_last (e ∷ rest) a name o q none h = ⊎_elim
+    (λ s. absurd (let no : Some e.1 ≡ None = sym (lookup_here e rest a (eqb-true e.0 a s)) ∙ none in cc))
+    (λ f. let n : e.0 ≢ a = eqb-false e.0 a f in
+    pushed_last rest a name o q (sym (lookup_there e rest a n) ∙ none) (sym (lookup_there e (rest ++ (name, o) ∷ []) a n) ∙ h))
+    (cases_Bool (e.0 == a))
 
 -- an entry that was there, or is written
 abbrev pub WasEntry : ℕ → ℕ → Value → List (ℕ × Object) → ℕ × Object → Type 0

@@ -1,18 +1,19 @@
 -- The image of a heap: its objects are met by the walk, and its words mean the heap's values.
-use Rattle.std.proofs.Common.{◌≡◌, ⊎_elim, inl, inr, is_ok, ℕ, ◌+◌, ◌-◌, ◌<◌, ◌≤◌, ◌==◌, List, [], ◌∷◌, map, length, Some, Ok, refl, ap, sym, ◌∙◌, arith, length-append}
+use Rattle.std.proofs.Common.{◌≡◌, ⊎_elim, inl, inr, is_ok, ℕ, ◌+◌, ◌-◌, ◌<◌, ◌≤◌, ◌==◌, Bool, true, false, cond, List, [], ◌∷◌, map, length, Some, Ok, refl, ap, sym, ◌∙◌, arith, length-append}
 use Rattle.std.proofs.lemmas.Bool.{cases_Bool, cond-true, cond-false}
 use Rattle.std.proofs.lemmas.List.{length-map}
 use Rattle.gc_graph.specs.Graph.{Value, Nil, Num, Ref, Object, Graph, lookup}
+use Rattle.gc_graph.specs.Machine.{is_number}
 use Rattle.gc_words.specs.Word.{value_of, read_value, word_of, field_value, HasAddress}
 use Rattle.gc_words.specs.Image.{walk_words, IsShaped, ok_or_nil, blocks, block_in, block_at, object_entry, graph_of}
 use Rattle.gc_words.specs.Spelling.{block_words, spelled_from, LaidOut}
 use Rattle.gc_words.specs.declared.header.Header.{Header}
 use Rattle.gc_words.proofs.Graphs.{value_read_back, meaning_back}
 use Rattle.gc_words.proofs.Spelled.{walk_spelled}
-use Rattle.gc_copy.specs.Linked.{object_header, field_word, object_block, block_entry, linked_space, linked_image}
+use Rattle.gc_copy.specs.Linked.{object_header, number_of, field_word, object_block, block_entry, linked_space, linked_image}
 use Rattle.gc_copy.specs.Members.{In}
 use Rattle.gc_copy.specs.Belonging.{Laid, IsNamed, RefersTo, IsSpaceGraph}
-use Rattle.gc_copy.proofs.Heap.{refers_map, laid_range}
+use Rattle.gc_copy.proofs.Heap.{refers_map, laid_range, lookup_laid}
 
 -- ---- words
 
@@ -88,11 +89,23 @@ named_address size free g a h n =
 
 -- ---- the graph of the image
 
-values_back : (h : Header) (P : ℕ → Type 0) (vs : List Value) → ((a : ℕ) → P a → IsAddress a) → ((v : Value) → In v vs → RefersTo P v) → map (field_value h) (map (field_word h) vs) ≡ vs
-values_back h P [] f ok = refl
-values_back h P (v ∷ vs) f ok =
-    let e : value_of (word_of v) ≡ v = value_back v (refers_map P IsAddress f v (ok v (inl refl))) in
-    let r = values_back h P vs f (λ w k. ok w (inr k)) in
+number_back : (v : Value) → is_number v ≡ true → Num (number_of v) ≡ v
+number_back Nil h = absurd cc
+number_back (Num n) h = refl
+number_back (Ref a) h = absurd cc
+
+field_back : (h : Header) (v : Value) → (h.raw ≡ true → is_number v ≡ true) → RefersTo IsAddress v → field_value h (field_word h v) ≡ v
+field_back h v number f = go h.raw refl
+  where
+    go : (b : Bool) → h.raw ≡ b → field_value h (field_word h v) ≡ v
+    go true is = (λ i. cond (is i) (Num (cond (is i) (number_of v) (word_of v))) (value_of (cond (is i) (number_of v) (word_of v)))) ∙ number_back v (number is)
+    go false is = (λ i. cond (is i) (Num (cond (is i) (number_of v) (word_of v))) (value_of (cond (is i) (number_of v) (word_of v)))) ∙ value_back v f
+
+values_back : (h : Header) (P : ℕ → Type 0) (vs : List Value) → ((a : ℕ) → P a → IsAddress a) → ((v : Value) → In v vs → RefersTo P v) → ((v : Value) → In v vs → h.raw ≡ true → is_number v ≡ true) → map (field_value h) (map (field_word h) vs) ≡ vs
+values_back h P [] f ok numbers = refl
+values_back h P (v ∷ vs) f ok numbers =
+    let e : field_value h (field_word h v) ≡ v = field_back h v (numbers v (inl refl)) (refers_map P IsAddress f v (ok v (inl refl))) in
+    let r = values_back h P vs f (λ w k. ok w (inr k)) (λ w k. numbers w (inr k)) in
     λ i. e i ∷ r i
 
 roots_back : (P : ℕ → Type 0) (vs : List Value) → ((a : ℕ) → P a → IsAddress a) → ((v : Value) → In v vs → RefersTo P v) → map value_of (map word_of vs) ≡ vs
@@ -108,7 +121,7 @@ objects_back [] ok = refl
 objects_back (e ∷ rest) ok =
     let x = ok e (inl refl) in
     let r = objects_back rest (λ d k. ok d (inr k)) in
-    λ i. (e.0, record { kind = e.1.kind; fields = x i }) ∷ r i
+    λ i. (e.0, record { raw = e.1.raw; kind = e.1.kind; fields = x i }) ∷ r i
 
 -- the image has the heap's graph
 pub graph_back : (links : ℕ → ℕ) (size free : ℕ) (g : Graph) → IsSpaceGraph size free g → graph_of (linked_image links size g) ≡ g
@@ -117,6 +130,6 @@ graph_back links size free g h =
     let b = blocks_are links size free g h in
     let os : map object_entry (blocks (linked_space links size g.objects).words) ≡ g.objects =
     ap (map object_entry) b
-    ∙ objects_back g.objects (λ e k. values_back (object_header e.1) (IsNamed g.objects) e.1.fields address (h.objects e.0 e.1 k).fields) in
+    ∙ objects_back g.objects (λ e k. values_back (object_header e.1) (IsNamed g.objects) e.1.fields address (h.objects e.0 e.1 k).fields (λ v l raw. h.numbers e.0 e.1 (lookup_laid 1 g.objects (size - free) e.0 e.1 h.laid k) raw v l)) in
     let rs = roots_back (IsNamed g.objects) g.roots address h.roots in
     λ i. record { objects = os i; roots = rs i }

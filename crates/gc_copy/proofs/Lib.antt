@@ -1,4 +1,5 @@
 pub mod Lists
+pub mod Beginning
 pub mod Heap
 pub mod Commands
 pub mod Numbers
@@ -23,4 +24,5 @@ pub mod Applying
 pub mod ObjectWalks
 pub mod Flipping
 pub mod LinkedImages
+pub mod Dropping
 pub mod Mutating

@@ -30,7 +30,7 @@ use Rattle.gc_copy.proofs.Spaces.{in_start, new_objects_are}
 -- ---- links
 
 -- the same words, where the links of all objects are the same
-spelled_agree : (links others : ℕ → ℕ) (bs : List (ℕ × Block)) → ((e : ℕ × Block) → In e bs → links e.0 ≡ others e.0) → flat_map (λ e. block_words (links e.0) e.1) bs ≡ flat_map (λ (e : ℕ × Block). block_words (others e.0) e.1) bs
+pub spelled_agree : (links others : ℕ → ℕ) (bs : List (ℕ × Block)) → ((e : ℕ × Block) → In e bs → links e.0 ≡ others e.0) → flat_map (λ e. block_words (links e.0) e.1) bs ≡ flat_map (λ (e : ℕ × Block). block_words (others e.0) e.1) bs
 spelled_agree links others [] h = refl
 spelled_agree links others (e ∷ bs) h =
     let here = h e (inl refl) in
@@ -50,14 +50,14 @@ pub old_shown : (heap : HeapWords) (c : CollectionWords) → IsHeap heap → Bel
 old_shown heap c is k =
     let all = links_told heap.space (old_links (collection_in c)) is.space (λ e l. k.links e.0 (in_start heap.space.words e l)) in
     let rs = words_back heap.roots in
-    λ i. record { size = heap.space.size; end = length (all i); words = all i; roots = sym rs i }
+    λ i. record { size = heap.space.size; end = length (all i); words = all i; roots = sym rs i; raws = true }
 
 pub new_shown : (heap : HeapWords) (c : CollectionWords) → IsCollection c → BelongsTo heap c → image_with c.space (new_root_words heap (collection_in c)) ≡ new_image (open_state heap c) (collection_in c)
 new_shown heap c is k =
     let told : (e : ℕ × Block) → In e (blocks c.space.words) → link_at c.space.words e.0 ≡ new_links (collection_in c) e.0
     = λ e l. sym (ap original_or_zero (found_by_place (IsDue (collection_in c)) (graph_in heap).objects (collection_in c) k.belongs (replica_entry c.space.words e) (in_map (replica_entry c.space.words) e (blocks c.space.words) l))) in
     let all = links_told c.space (new_links (collection_in c)) is.space told ∙ ap (λ os. spelled (new_links (collection_in c)) (map block_entry os)) (sym (new_objects_are c)) in
-    λ i. record { size = c.space.size; end = length (all i); words = all i; roots = new_root_words heap (collection_in c) }
+    λ i. record { size = c.space.size; end = length (all i); words = all i; roots = new_root_words heap (collection_in c); raws = true }
 
 pub shown_certified : (heap : HeapWords) (c : CollectionWords) → IsHeap heap → IsCollection c → BelongsTo heap c → is_ready (collection_in c) (graph_in heap) ≡ true
     → Certified (image_of heap) (image_with c.space (new_root_words heap (collection_in c))) (pairs_of (collection_in c))
@@ -106,7 +106,7 @@ nothing_left heap c k = record { belongs = same; links = k.links; logs = k.logs 
     same : Belongs (graph_in heap).objects (collection_in c)
     same = belongs_from (IsDue (collection_in c)) (graph_in heap).objects (collection_in c)
         (replicas_due (graph_in heap).objects c.space.size _ (IsDue (collection_in c)) (collection_in c).replicas (its_replicas _ (graph_in heap).objects (collection_in c) k.belongs) (λ r l i w d. ⊎_elim (λ x. x) (λ x. absurd x) d))
-        (k.belongs).scan (k.belongs).entries
+        (k.belongs).scan (k.belongs).entries (k.belongs).numbers
 
 -- no link comes from a command
 pub no_links_kept : (heap new : HeapWords) → HasNoLinks heap → KeepsLinks heap.space.words new.space.words → HasNoLinks new

@@ -1,5 +1,5 @@
 -- What the links of a collection's two spaces tell.
-use Rattle.std.proofs.Common.{◌≡◌, inl, inr, ⊎_elim, ℕ, ◌+◌, ◌==◌, true, false, List, [], ◌∷◌, map, length, Option, Some, None, is_none, refl, ap, sym, ◌∙◌, subst, arith}
+use Rattle.std.proofs.Common.{Bool, ◌≡◌, inl, inr, ⊎_elim, ℕ, ◌+◌, ◌==◌, true, false, List, [], ◌∷◌, map, length, Option, Some, None, is_none, refl, ap, sym, ◌∙◌, subst, arith}
 use Rattle.std.proofs.lemmas.Bool.{cases_Bool, cond-true, cond-false, eqb-true, eqb-false, eq-eqb, ne_eqb}
 use Rattle.gc_graph.specs.Graph.{Value, Ref, Object, set_field, with_field}
 use Rattle.gc_copy.specs.State.{Replica, Collection, new_objects, replica_of, replica_at, moved, moved_name}
@@ -9,7 +9,7 @@ use Rattle.gc_copy.specs.Belonging.{Laid, BelongsBy}
 use Rattle.gc_copy.specs.Linked.{place_or_zero, original_or_zero, old_links, new_links}
 use Rattle.gc_copy.proofs.Lists.{in_map, find_some, find_exists}
 use Rattle.gc_copy.proofs.Heap.{laid_range}
-use Rattle.gc_copy.proofs.Replicas.{placed, end_of, replica_in, replica_exists}
+use Rattle.gc_copy.proofs.Replicas.{placed, replicas_end, replica_in, replica_exists}
 use Rattle.gc_copy.proofs.Steps.{same_place}
 
 same_original : (replicas : List Replica) (r s : Replica) → Distinct (map (λ q. q.original) replicas) → In r replicas → In s replicas → r.original ≡ s.original → r ≡ s
@@ -49,7 +49,7 @@ written_objects name place i v at (q ∷ rest) end l f = ⊎_elim
     (λ n. here n ∷ others n) ∙ sym (cond-false (q.place == place) ((q.place, with_field q.object i v) ∷ map placed rest) (placed q ∷ set_field (map placed rest) place i v) t))
     (cases_Bool (q.place == place))
 
-module _ (Due : ℕ → ℕ → ℕ → Type 0) (objects : List (ℕ × Object)) (c : Collection) (h : BelongsBy Due objects c) where
+module _ (Due : Bool → ℕ → ℕ → ℕ → Type 0) (objects : List (ℕ × Object)) (c : Collection) (h : BelongsBy Due objects c) where
   pub found_by_name : (r : Replica) → In r c.replicas → replica_of c r.original ≡ Some r
   found_by_name r k =
       let s = replica_exists c r k in
@@ -60,7 +60,7 @@ module _ (Due : ℕ → ℕ → ℕ → Type 0) (objects : List (ℕ × Object))
   found_by_place r k =
       let s = find_exists (λ (q : Replica). q.place == r.place) c.replicas r k (eq-eqb r.place r.place refl) in
       let f = find_some (λ (q : Replica). q.place == r.place) c.replicas s.0 s.1 in
-      s.1 ∙ ap Some (same_place 1 c.replicas (end_of c.replicas) s.0 r h.laid f.0 k (eqb-true s.0.place r.place f.1))
+      s.1 ∙ ap Some (same_place 1 c.replicas (replicas_end c.replicas) s.0 r h.laid f.0 k (eqb-true s.0.place r.place f.1))
 
   pub zero_tells : (a : ℕ) → (old_links c a == 0) ≡ is_none (replica_of c a)
   zero_tells a = go (replica_of c a) refl
@@ -69,15 +69,15 @@ module _ (Due : ℕ → ℕ → ℕ → Type 0) (objects : List (ℕ × Object))
       go None e = refl
       go (Some r) e =
           let f = replica_in c a r e in
-          let range = laid_range 1 (map placed c.replicas) (end_of c.replicas) (placed r) h.laid (in_map placed r c.replicas f.0) in
+          let range = laid_range 1 (map placed c.replicas) (replicas_end c.replicas) (placed r) h.laid (in_map placed r c.replicas f.0) in
           ne_eqb r.place 0 (omega arith)
 
   pub write_is_set : (name i : ℕ) (v : Value) (r : Replica) → replica_of c name ≡ Some r → new_objects (write_replica c name i v) ≡ set_field (new_objects c) r.place i v
   write_is_set name i v r e =
       let f = replica_in c name r e in
-      written_objects name r.place i v 1 c.replicas (end_of c.replicas) h.laid (λ q k. ⊎_elim
+      written_objects name r.place i v 1 c.replicas (replicas_end c.replicas) h.laid (λ q k. ⊎_elim
       (λ t. t ∙ sym (eq-eqb q.place r.place (ap (λ (p : Replica). p.place) (same_original c.replicas q r h.once k f.0 (eqb-true q.original name t ∙ sym f.1)))))
-      (λ t. t ∙ sym (ne_eqb q.place r.place (λ x. eqb-false q.original name t (ap (λ (p : Replica). p.original) (same_place 1 c.replicas (end_of c.replicas) q r h.laid k f.0 x) ∙ f.1))))
+      (λ t. t ∙ sym (ne_eqb q.place r.place (λ x. eqb-false q.original name t (ap (λ (p : Replica). p.original) (same_place 1 c.replicas (replicas_end c.replicas) q r h.laid k f.0 x) ∙ f.1))))
       (cases_Bool (q.original == name)))
 
   pub old_link_is : (a : ℕ) (r : Replica) → replica_of c a ≡ Some r → moved c (Ref a) ≡ Ref (old_links c a)

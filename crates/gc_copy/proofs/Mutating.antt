@@ -47,12 +47,14 @@ nothing_put g m s t i replies.Full other = refl
 nothing_put g m s t i replies.Made other = refl
 nothing_put g m s t i replies.NoObject other = refl
 nothing_put g m s t i replies.NoField other = refl
+nothing_put g m s t i replies.NoNumber other = refl
 nothing_put g m s t i (replies.Saw view) other = refl
 nothing_put g m s t i replies.Yes other = refl
 nothing_put g m s t i replies.No other = refl
 
 nothing : (g : Graph) (m : ℕ) (op : Op) (reply : Reply) → reply ≢ replies.Done → written g m op reply ≡ []
 nothing g m (ops.New d kind len) reply other = refl
+nothing g m (ops.NewRaw d kind len) reply other = refl
 nothing g m (ops.Num d n) reply other = refl
 nothing g m (ops.Nil d) reply other = refl
 nothing g m (ops.Move d s) reply other = refl
@@ -67,6 +69,7 @@ wrote_by_reply g m op replies.Full o e = nothing g m op replies.Full (λ no. cc 
 wrote_by_reply g m op replies.Made o e = nothing g m op replies.Made (λ no. cc no)
 wrote_by_reply g m op replies.NoObject o e = nothing g m op replies.NoObject (λ no. cc no)
 wrote_by_reply g m op replies.NoField o e = nothing g m op replies.NoField (λ no. cc no)
+wrote_by_reply g m op replies.NoNumber o e = nothing g m op replies.NoNumber (λ no. cc no)
 wrote_by_reply g m op (replies.Saw view) o e = nothing g m op (replies.Saw view) (λ no. cc no)
 wrote_by_reply g m op replies.Yes o e = nothing g m op replies.Yes (λ no. cc no)
 wrote_by_reply g m op replies.No o e = nothing g m op replies.No (λ no. cc no)

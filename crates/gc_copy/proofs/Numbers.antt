@@ -1,11 +1,13 @@
 -- Numbers stay below 2^63.
-use Rattle.std.proofs.Common.{◌≡◌, ⊎_elim, ℕ, ◌<◌, ◌^◌, true, List, Option, Some, None, slice_get, refl, sym, subst}
-use Rattle.std.proofs.lemmas.Bool.{eqb-true}
+use Rattle.std.proofs.Common.{◌≡◌, ⊎_elim, ℕ, ◌<◌, ◌^◌, Bool, true, false, ◌&&◌, arith, List, Option, Some, None, slice_get, refl, sym, subst}
+use Rattle.std.specs.Prelude.{not}
+use Rattle.std.proofs.lemmas.Bool.{eqb-true, cond_both}
 use Rattle.gc_graph.specs.Slots.{place}
-use Rattle.gc_graph.specs.Graph.{Value, Nil, Num, Ref, Object, Graph, lookup, object_of, field_of, root, value_or_nil, set_root, add_object, new_object}
+use Rattle.gc_graph.specs.Graph.{Value, Nil, Num, Ref, Object, Graph, lookup, object_of, field_of, root, value_or_nil, set_root, add_object, first_value, new_object}
 use Rattle.gc_graph.specs.Correspond.{correspond}
-use Rattle.gc_graph.specs.Machine.{step, get_field, put_field}
+use Rattle.gc_graph.specs.Machine.{step, get_field, is_number, put_field}
 use Rattle.gc_graph.specs.Range.{IsCommand}
+use Rattle.gc_graph.specs.declared.reply.Reply.{Reply}
 use Rattle.gc_graph.specs.declared.command.Op.{Op}
 use Rattle.gc_graph.specs.declared.command.Op.TheVariants as ops
 use Rattle.gc_copy.specs.State.{Replica, Collection, replica_of, moved, moved_name}
@@ -43,25 +45,30 @@ small_put g Nil target found i w h s = h
 small_put g (Num n) target found i w h s = h
 small_put g (Ref a) None found i w h s = h
 small_put g (Ref a) (Some o) None i w h s = h
-small_put g (Ref a) (Some o) (Some before) i w h s = record {
+small_put g (Ref a) (Some o) (Some before) i w h s = cond_both (o.raw && not (is_number w)) _ _ (λ (next : Reply × Graph). HasSmallNumbers next.1) (λ t. h) (λ t. record {
   fields = λ b q k x l. let e = set_from a i w g.objects (b, q) k in ⊎_elim
       (λ same. h.fields e.0.0 e.0.1 e.1 x (subst (λ (z : ℕ × Object). In x z.1.fields) (sym same) l))
       (λ is. ⊎_elim (λ y. subst IsSmall y s) (h.fields e.0.0 e.0.1 e.1 x) (written_in a i w e.0 x (subst (λ (z : ℕ × Object). In x z.1.fields) (sym is) l)))
       e.2;
   roots = h.roots;
-}
+})
 
-small_new : (g : Graph) (d kind len name : ℕ) → HasSmallNumbers g → HasSmallNumbers (set_root (add_object g name (new_object kind len)) d (Ref name))
-small_new g d kind len name h = record {
+small_new : (g : Graph) (raw : Bool) (d kind len name : ℕ) → HasSmallNumbers g → HasSmallNumbers (set_root (add_object g name (new_object raw kind len)) d (Ref name))
+small_new g raw d kind len name h = record {
   fields = λ a o k v l. ⊎_elim
       (λ x. h.fields a o x v l)
-      (λ x. subst IsSmall (in_replicate v Nil len (subst (λ (z : ℕ × Object). In v z.1.fields) (sym x) l)) tt)
-      (in_push (a, o) (name, new_object kind len) g.objects k);
+      (λ x. subst IsSmall (in_replicate v (first_value raw) len (subst (λ (z : ℕ × Object). In v z.1.fields) (sym x) l)) (first_small raw))
+      (in_push (a, o) (name, new_object raw kind len) g.objects k);
   roots = λ w k. ⊎_elim (λ e. subst IsSmall e tt) (h.roots w) (in_set w g.roots d (Ref name) k);
 }
+  where
+    first_small : (b : Bool) → IsSmall (first_value b)
+    first_small true = omega arith
+    first_small false = tt
 
 pub step_small : (g : Graph) (m : ℕ) (op : Op) (name : ℕ) → HasSmallNumbers g → IsCommand op → HasSmallNumbers (step g m op name).1
-step_small g m (ops.New d kind len) name h r = small_new g (place d m) kind len name h
+step_small g m (ops.New d kind len) name h r = small_new g false (place d m) kind len name h
+step_small g m (ops.NewRaw d kind len) name h r = small_new g true (place d m) kind len name h
 step_small g m (ops.Num d n) name h r = small_root g (place d m) (Num n) h r.1
 step_small g m (ops.Nil d) name h r = small_root g (place d m) Nil h tt
 step_small g m (ops.Move d s) name h r = small_root g (place d m) (root g (place s m)) h (root_small g (place s m) h)

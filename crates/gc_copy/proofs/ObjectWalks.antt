@@ -66,9 +66,6 @@ start_met words at done m less =
     let p : Passing words at n.0 done = passing words at n.0 done m less n.1 in
     in_start words (at, p.block) p.found
 
-pub all_met : (words : List ℕ) (at : ℕ) (done : List (ℕ × Block)) → Met words at done → length words ≤ at → done ≡ blocks words
-all_met words at done m past = sym (m.split ∙ ap (λ r. done ++ ok_or_nil r) (at_end words at past) ∙ append-nil done)
-
 -- ---- what loops keep
 
 abbrev pub Counts : List ℕ → ℕ → ℕ → Type 0

@@ -1,24 +1,25 @@
 -- A heap of words with a collection of words, as a state, and what keeps them together.
+use Rattle.gc_words.proofs.Blocks.{block_there}
 use Rattle.std.proofs.Common.{◌≡◌, ◌≢◌, ⊎_elim, inl, ℕ, ◌+◌, ◌-◌, ◌<◌, ◌≤◌, ◌==◌, nat_lt, Bool, true, false, cond, List, [], ◌∷◌, ◌++◌, map, length, Option, Some, None, Result, Ok, Err, is_some, refl, ap, sym, ◌∙◌, subst, arith}
 use Rattle.std.specs.List.{find}
-use Rattle.std.proofs.lemmas.Bool.{cases_Bool, cases_lt, cond-true, cond-false, eqb-true, eqb-false, eq-eqb, ne_eqb, le-ltb, lt-ltb}
+use Rattle.std.proofs.lemmas.Bool.{cases_Bool, cases_lt, cond-true, cond-false, cond_both, eqb-true, eqb-false, eq-eqb, ne_eqb, le-ltb, lt-ltb}
 use Rattle.std.proofs.lemmas.List.{length-map}
 use Rattle.std.specs.Option.{option_map}
-use Rattle.std.specs.Prelude.{◌^◌, IsSome, OnOk, OnErr, slice_get}
+use Rattle.std.specs.Prelude.{IsOk, ◌^◌, IsSome, OnOk, OnErr, slice_get}
 use Rattle.gc_words.proofs.References.{closed_field_read}
-use Rattle.gc_heap.proofs.Commands.{named}
-use Rattle.gc_graph.specs.Graph.{Value, Nil, Num, Ref, Object, Graph, lookup, field_of, new_object}
-use Rattle.gc_words.specs.Word.{IsHeader, HasAddress, word_of, field_value}
+use Rattle.gc_heap.proofs.Commands.{none_of, named}
+use Rattle.gc_graph.specs.Graph.{Value, Nil, Num, Ref, Object, Graph, lookup, field_of}
+use Rattle.gc_words.specs.Word.{HasAddress, word_of, field_value}
 use Rattle.gc_words.specs.Word.{value_of}
-use Rattle.gc_words.specs.Image.{Block, block_in, block_at, is_start, header_at, field_in, field_at, object_of_block, objects_of}
-use Rattle.gc_words.specs.Spelling.{link_at}
+use Rattle.gc_words.specs.Image.{walk_words, Block, fresh_block, header_of, block_in, block_at, is_start, header_at, field_in, field_at, object_of_block, objects_of}
+use Rattle.gc_words.specs.Spelling.{link_at, IsBlock}
 use Rattle.gc_words.specs.Layout.{link_place, field_place}
-use Rattle.gc_words.specs.Space.{SpaceWords, IsSpace, HasRoom, end_of, free_in, with_object, with_word}
-use Rattle.gc_words.specs.Closed.{RefersToStart, IsRootWord}
+use Rattle.gc_words.specs.Space.{SpaceWords, IsSpace, HasRoomFor, end_of, free_in, with_block, with_word}
+use Rattle.gc_words.specs.Closed.{RefersToStart, IsRootWord, IsWordOfField}
 use Rattle.gc_words.specs.declared.header.Header.{Header}
 use Rattle.gc_words.specs.Walking.{StandsIn}
 use Rattle.gc_words.proofs.Starts.{stands_in}
-use Rattle.gc_words.proofs.Writes.{link_written}
+use Rattle.gc_words.proofs.Writes.{CanPlaceBlock, some_of, can_place_fresh, link_written}
 use Rattle.gc_words.proofs.Links.{link_written_there, link_written_beside}
 use Rattle.gc_words.proofs.Graphs.{object_found, field_found, graph_link, meaning_back}
 use Rattle.gc_words.proofs.Fields.{block_of_header}
@@ -34,13 +35,13 @@ use Rattle.gc_copy.proofs.Heap.{laid_range, lookup_laid}
 use Rattle.gc_copy.specs.Belonging.{IsDue, Belongs, IsOpen, IsOpened}
 use Rattle.gc_copy.proofs.Replicas.{placed, with_written_pair, replica_in}
 use Rattle.gc_copy.specs.Words.{CollectionWords, IsCollection, entries_of, replicas_in, collection_in, state_of, open_state, LinksReplicas, BelongsTo}
-use Rattle.gc_copy.specs.Internal.Words.{HasReplicaOf, KeepsGraph, KeepsRest}
+use Rattle.gc_copy.specs.Internal.Words.{replica_block, HasReplicaOf, KeepsGraph, KeepsRest}
 use Rattle.gc_copy.specs.declared.step.Step.{Step}
 use Rattle.gc_copy.specs.declared.step.Step.TheVariants as steps
 use Rattle.gc_copy.specs.declared.step.StepReply.{StepReply}
-use Rattle.gc_copy.proofs.Steps.{some_of, none_of, open_keeps, placing_keeps, bringing_keeps}
+use Rattle.gc_copy.proofs.Steps.{open_keeps, placing_keeps, bringing_keeps}
 use Rattle.gc_copy.proofs.Words.{word_back}
-use Rattle.gc_copy.proofs.Spaces.{fresh_at, space_placed, space_written, new_objects_are, new_end_is}
+use Rattle.gc_copy.proofs.Spaces.{replica_at_end, replica_block_object, space_placed, space_written, new_objects_are, new_end_is}
 
 -- ---- the heap, links apart
 
@@ -157,6 +158,20 @@ links_placed heap c r is start links none a there = ⊎_elim
     link_written_beside heap.space r.original r.place a (eqb-false r.original a f) ∙ links a old ∙ sym (ap place_or_zero found))
     (cases_Bool (r.original == a))
 
+can_place_replica : (s : SpaceWords) (b : Block) → IsSpace s → IsBlock b → HasRoomFor s b.header.len → CanPlaceBlock s (replica_block b)
+can_place_replica s b shaped whole room = cond_both b.header.raw b (fresh_block b.header) (CanPlaceBlock s)
+    (λ t. record { shaped = shaped; whole = whole; room = room })
+    (λ t. can_place_fresh s b.header (record { shaped = shaped; header = whole.header; room = room }))
+
+-- the replica then starts at the old end
+pub placed_start : (s one : SpaceWords) (words : List ℕ) (a place : ℕ) → IsSpace s → IsOk (walk_words words) → is_start words a ≡ true → ((h : Header) → header_at words a ≡ Some h → HasRoomFor s h.len)
+    → ((b : Block) → block_at words a ≡ Some b → one ≡ with_block s (replica_block b)) → place ≡ end_of s → is_start one.words place ≡ true
+placed_start s one words a place shaped walked start room made at =
+    let b = some_of (block_at words a) start in
+    let whole = (stands_in words a b.0 walked b.1).whole in
+    let can = can_place_replica s b.0 shaped whole (room b.0.header (ap header_of b.1)) in
+    (λ i. is_start (made b.0 b.1 i).words (at i)) ∙ ap is_some (block_there s (replica_block b.0) can)
+
 pub record Placing (heap new : HeapWords) (c next : CollectionWords) (name : ℕ) : Type 0 where
   pub sound : IsCollection next
   pub placed : place_replica (collection_in c) name (lookup (graph_in heap).objects name) ≡ Some (collection_in next)
@@ -165,7 +180,7 @@ pub record Placing (heap new : HeapWords) (c next : CollectionWords) (name : ℕ
   pub rest : KeepsRest c next
 
 module _ (heap : HeapWords) (c : CollectionWords) (name : ℕ) (h : Header) (heap_is : IsHeap heap) (is : IsCollection c) (header : header_at heap.space.words name ≡ Some h) where
-  block : (b : Block) × (block_at heap.space.words name ≡ Some b) × (b.header ≡ h)
+  abbrev pub block : (b : Block) × (block_at heap.space.words name ≡ Some b) × (b.header ≡ h)
   block = block_of_header heap.space.words name h header
 
   object : Object
@@ -180,7 +195,7 @@ module _ (heap : HeapWords) (c : CollectionWords) (name : ℕ) (h : Header) (hea
   free : new_free (collection_in c) ≡ free_in c.space
   free = ap (λ n. c.space.size - n) (new_end_is c is.space)
 
-  pub full : (HasRoom c.space h.len → ⊥) → place_replica (collection_in c) name (lookup (graph_in heap).objects name) ≡ None
+  pub full : (HasRoomFor c.space h.len → ⊥) → place_replica (collection_in c) name (lookup (graph_in heap).objects name) ≡ None
   full none =
       ap (place_replica (collection_in c) name) found
       ∙ cond-true (nat_lt (new_free (collection_in c)) (length (object_of_block block.0).fields + 2)) None _
@@ -189,14 +204,11 @@ module _ (heap : HeapWords) (c : CollectionWords) (name : ℕ) (h : Header) (hea
   stands : StandsIn heap.space.words name block.0
   stands = stands_in heap.space.words name block.0 (heap_is.space).walked block.1
 
-  head : IsHeader h
-  head = subst IsHeader block.2 (stands.whole).header
-
   small : name < 2 ^ 32
   small = let fits = stands.fits in let count = (heap_is.space).count in let high = (heap_is.space).end_high in let size = (heap_is.space).size_high in omega arith
 
-  pub placing : BelongsTo heap c → is_start heap.space.words name ≡ true → replica_of (collection_in c) name ≡ None → HasRoom c.space h.len
-      → Placing heap (record heap { space = with_word heap.space (link_place name) (end_of c.space) }) c (record c { space = with_word (with_object c.space h) (link_place (end_of c.space)) name }) name
+  pub placing : BelongsTo heap c → is_start heap.space.words name ≡ true → replica_of (collection_in c) name ≡ None → HasRoomFor c.space h.len
+      → Placing heap (record heap { space = with_word heap.space (link_place name) (end_of c.space) }) c (record c { space = with_word (with_block c.space (replica_block block.0)) (link_place (end_of c.space)) name }) name
   placing k start none room = record {
     sound = record {
       space = made.0;
@@ -204,36 +216,36 @@ module _ (heap : HeapWords) (c : CollectionWords) (name : ℕ) (h : Header) (hea
       originals = λ r l. ⊎_elim
           (λ old. is.originals r old)
           (λ new. subst (λ n. n < 2 ^ 32) (ap (λ (q : Replica). q.original) new) small)
-          (in_push r (fresh_at c.space h name) (replicas_in c.space.words) (subst (In r) made.1 l));
+          (in_push r (replica_at_end c.space (replica_block block.0) name) (replicas_in c.space.words) (subst (In r) made.1 l));
     };
     placed = step;
     belongs = closed heap next_heap c next (linked_heap heap name (end_of c.space) heap_is start) k refl
         (placing_keeps (open_state heap c) (collection_in c) (collection_in next) name (opened heap c is k) none step)
-        (subst (LinksReplicas next_heap) (sym grown) (links_placed heap (collection_in c) (fresh_at c.space h name) heap_is start k.links none));
+        (subst (LinksReplicas next_heap) (sym grown) (links_placed heap (collection_in c) (replica_at_end c.space (replica_block block.0) name) heap_is start k.links none));
     graph = linked_heap heap name (end_of c.space) heap_is start;
     rest = record { size = refl; logs = refl; scan_place = refl; scan_field = refl };
   }
     where
       next : CollectionWords
-      next = record c { space = with_word (with_object c.space h) (link_place (end_of c.space)) name }
+      next = record c { space = with_word (with_block c.space (replica_block block.0)) (link_place (end_of c.space)) name }
 
       next_heap : HeapWords
       next_heap = record heap { space = with_word heap.space (link_place name) (end_of c.space) }
 
-      made : IsSpace (next.space) × (replicas_in next.space.words ≡ replicas_in c.space.words ++ fresh_at c.space h name ∷ [])
-      made = space_placed c.space h name (record { shaped = is.space; header = head; room = room })
+      made : IsSpace (next.space) × (replicas_in next.space.words ≡ replicas_in c.space.words ++ replica_at_end c.space (replica_block block.0) name ∷ [])
+      made = space_placed c.space (replica_block block.0) name (can_place_replica c.space block.0 is.space stands.whole (subst (λ (k : Header). HasRoomFor c.space k.len) (sym block.2) room))
 
-      grown : collection_in next ≡ record (collection_in c) { replicas = replicas_in c.space.words ++ fresh_at c.space h name ∷ [] }
+      grown : collection_in next ≡ record (collection_in c) { replicas = replicas_in c.space.words ++ replica_at_end c.space (replica_block block.0) name ∷ [] }
       grown = λ i. record (collection_in c) { replicas = made.1 i }
 
       fits : nat_lt (new_free (collection_in c)) (length (object_of_block block.0).fields + 2) ≡ false
       fits = le-ltb _ _ (omega (arith, room, count, free))
 
-      same : fresh_replica name (new_end (collection_in c)) (object_of_block block.0) ≡ fresh_at c.space h name
+      same : fresh_replica name (new_end (collection_in c)) (object_of_block block.0) ≡ replica_at_end c.space (replica_block block.0) name
       same =
           let end = new_end_is c is.space in
-          let kind : block.0.header.kind ≡ h.kind = ap (λ (k : Header). k.kind) block.2 in
-          λ i. record { original = name; place = end i; object = new_object (kind i) (count i) }
+          let object = replica_block_object block.0 stands.whole in
+          λ i. record { original = name; place = end i; object = sym object i }
 
       step : place_replica (collection_in c) name (lookup (graph_in heap).objects name) ≡ Some (collection_in next)
       step =
@@ -273,31 +285,32 @@ pub record Bringing (c next : CollectionWords) (name i : ℕ) (v : Value) : Type
   pub rest : KeepsRest c next
 
 -- the replica's field word as written by the code
-pub bringing : (objects : List (ℕ × Object)) (c : CollectionWords) (name i w place : ℕ) → IsCollection c → Belongs objects (collection_in c) → option_map (λ r. r.place) (replica_of (collection_in c) name) ≡ Some place → IsSome (field_at c.space.words place i)
-    → Bringing c (record c { space = with_word c.space (field_place place i) w }) name i (value_of w)
-bringing objects c name i w place is belongs found there = from (replica_of (collection_in c) name) refl found
+pub bringing : (objects : List (ℕ × Object)) (c : CollectionWords) (name i w place : ℕ) (v : Value) → IsCollection c → Belongs objects (collection_in c) → option_map (λ r. r.place) (replica_of (collection_in c) name) ≡ Some place → IsSome (field_at c.space.words place i)
+    → ((r : Replica) → replica_of (collection_in c) name ≡ Some r → cond r.object.raw (Num w) (value_of w) ≡ v)
+    → Bringing c (record c { space = with_word c.space (field_place place i) w }) name i v
+bringing objects c name i w place v is belongs found there means = from (replica_of (collection_in c) name) refl found
   where
-    at : (r : Replica) → replica_of (collection_in c) name ≡ Some r → IsSome (field_at c.space.words r.place i) → Bringing c (record c { space = with_word c.space (field_place r.place i) w }) name i (value_of w)
+    at : (r : Replica) → replica_of (collection_in c) name ≡ Some r → IsSome (field_at c.space.words r.place i) → Bringing c (record c { space = with_word c.space (field_place r.place i) w }) name i v
     at r e there =
-        let made = space_written (IsDue (collection_in c)) objects c name i w r is.space belongs e there in
+        let made = space_written (IsDue (collection_in c)) objects c name i w r v is.space belongs e there (means r e) in
         record {
           sound = record {
             space = made.0;
             logs = is.logs;
             originals = λ q l.
-                let k = in_map_from (with_written name i (value_of w)) q (replicas_in c.space.words) (subst (In q) made.1 l) in
-                let o : k.0.original ≡ q.original = ap (λ (p : ℕ × ℕ). p.0) (sym (with_written_pair name i (value_of w) k.0)) ∙ ap (λ (p : Replica). p.original) k.2 in
+                let k = in_map_from (with_written name i v) q (replicas_in c.space.words) (subst (In q) made.1 l) in
+                let o : k.0.original ≡ q.original = ap (λ (p : ℕ × ℕ). p.0) (sym (with_written_pair name i v k.0)) ∙ ap (λ (p : Replica). p.original) k.2 in
                 subst (λ n. n < 2 ^ 32) o (is.originals k.0 k.1);
           };
           copied = λ j. record (collection_in c) { replicas = made.1 j };
           rest = record { size = refl; logs = refl; scan_place = refl; scan_field = refl };
         }
 
-    from : (o : Option Replica) → replica_of (collection_in c) name ≡ o → option_map (λ r. r.place) o ≡ Some place → Bringing c (record c { space = with_word c.space (field_place place i) w }) name i (value_of w)
+    from : (o : Option Replica) → replica_of (collection_in c) name ≡ o → option_map (λ r. r.place) o ≡ Some place → Bringing c (record c { space = with_word c.space (field_place place i) w }) name i v
     from None e f = absurd (let no : None ≡ Some place = f in cc)
     from (Some r) e f =
         let p : r.place ≡ place = (let s : Some r.place ≡ Some place = f in cc) in
-        subst (λ n. Bringing c (record c { space = with_word c.space (field_place n i) w }) name i (value_of w)) p (at r e (subst (λ n. IsSome (field_at c.space.words n i)) (sym p) there))
+        subst (λ n. Bringing c (record c { space = with_word c.space (field_place n i) w }) name i v) p (at r e (subst (λ n. IsSome (field_at c.space.words n i)) (sym p) there))
 
 -- ---- fields
 
@@ -344,6 +357,15 @@ field_of_replica heap c name i place belongs found there = from (replica_of (col
         subst (λ n. IsSome (field_at c.space.words n i)) p
         (field_present c.space.words r.place i r.object (replica_object (graph_in heap).objects c r belongs l.0) (let same = ok.len in omega arith))
 
+-- it is raw or not as its original is
+pub replica_raw : (heap : HeapWords) (c : CollectionWords) (name i w : ℕ) (r : Replica) (raw : Bool) → Belongs (graph_in heap).objects (collection_in c) → replica_of (collection_in c) name ≡ Some r → field_at heap.space.words name i ≡ Some w
+    → ((h : Header) → header_at heap.space.words name ≡ Some h → h.raw ≡ raw) → r.object.raw ≡ raw
+replica_raw heap c name i w r raw belongs e field is =
+    let l = replica_in (collection_in c) name r e in
+    let ok = belongs.replicas r l.0 in
+    let b = block_of_object heap.space.words name ok.original (subst (λ n. lookup (graph_in heap).objects n ≡ Some ok.original) l.1 ok.found) in
+    ok.raw ∙ sym (ap (λ (o : Object). o.raw) b.2) ∙ is b.0.header (ap header_of b.1)
+
 -- ---- moved values
 
 -- a replica stands at an address
@@ -362,13 +384,27 @@ moved_address objects c (Ref a) is belongs h =
     let l = replica_in (collection_in c) a r.0 r.1 in
     subst (λ o. HasAddress (moved_name o a)) (sym r.1) (replica_address objects c r.0 is belongs l.0)
 
--- what stands in the field of a heap's object
-pub field_value_is : (heap : HeapWords) (name i w : ℕ) → field_at heap.space.words name i ≡ Some w → field_of (lookup (graph_in heap).objects name) i ≡ Some (value_of w)
-field_value_is heap name i w e = from (block_at heap.space.words name) refl e
+header_of_field : (words : List ℕ) (name i w : ℕ) → field_at words name i ≡ Some w → (h : Header) × (header_at words name ≡ Some h)
+header_of_field words name i w e = from (block_at words name) refl e
   where
-    from : (x : Option Block) → block_at heap.space.words name ≡ x → field_in x i ≡ Some w → field_of (lookup (graph_in heap).objects name) i ≡ Some (value_of w)
+    from : (x : Option Block) → block_at words name ≡ x → field_in x i ≡ Some w → (h : Header) × (header_at words name ≡ Some h)
     from None f g = absurd (let no : None ≡ Some w = g in cc)
-    from (Some b) f g = field_found heap.space.words name i b f ∙ ap (option_map (field_value b.header)) e
+    from (Some b) f g = (b.header, ap header_of f)
+
+-- what stands in the field of a heap's object
+pub field_value_is : (heap : HeapWords) (name i w : ℕ) (h : Header) → header_at heap.space.words name ≡ Some h → field_at heap.space.words name i ≡ Some w → field_of (lookup (graph_in heap).objects name) i ≡ Some (field_value h w)
+field_value_is heap name i w h header e =
+    let b = block_of_header heap.space.words name h header in
+    field_found heap.space.words name i b.0 b.1 ∙ ap (option_map (field_value b.0.header)) e ∙ ap (λ (k : Header). Some (field_value k w)) b.2
+
+-- an object that is not raw holds values
+pub plain_value : (h : Header) (w : ℕ) → h.raw ≡ false → field_value h w ≡ value_of w
+plain_value h w plain = ap (λ b. cond b (Num w) (value_of w)) plain
+
+pub plain_value_is : (heap : HeapWords) (name i w : ℕ) → ((h : Header) → header_at heap.space.words name ≡ Some h → h.raw ≡ false) → field_at heap.space.words name i ≡ Some w → field_of (lookup (graph_in heap).objects name) i ≡ Some (value_of w)
+plain_value_is heap name i w plain e =
+    let h = header_of_field heap.space.words name i w e in
+    field_value_is heap name i w h.0 h.1 e ∙ ap Some (plain_value h.0 w (plain h.0 h.1))
 
 -- the definition's step, put together from the code's: the target first, then the field
 pub brought : (g : Graph) (c one : Collection) (name i : ℕ) (v : Value) → field_of (lookup g.objects name) i ≡ Some v → with_replica c g v ≡ Some one
@@ -437,11 +473,13 @@ link_tells heap c a link is k start e = from (replica_of (collection_in c) a) re
 
 -- the placing as the code does it: with what each call said of its part
 pub placing_done : (heap new : HeapWords) (c next : CollectionWords) (name end link place : ℕ) (h : Header) (one : SpaceWords) → IsHeap heap → IsCollection c → BelongsTo heap c → is_start heap.space.words name ≡ true → replica_of (collection_in c) name ≡ None
-    → header_at heap.space.words name ≡ Some h → HasRoom c.space h.len
-    → end ≡ end_of c.space → one ≡ with_object c.space h → link ≡ name → next ≡ record c { space = with_word one (link_place end) link } → place ≡ end → new ≡ record heap { space = with_word heap.space (link_place name) place }
+    → header_at heap.space.words name ≡ Some h → HasRoomFor c.space h.len
+    → end ≡ end_of c.space → ((b : Block) → block_at heap.space.words name ≡ Some b → one ≡ with_block c.space (replica_block b)) → link ≡ name → next ≡ record c { space = with_word one (link_place end) link } → place ≡ end → new ≡ record heap { space = with_word heap.space (link_place name) place }
     → Placing heap new c next name
 placing_done heap new c next name end link place h one heap_is is k start none header room at made linked after there heap_after =
-    let next_is : next ≡ record c { space = with_word (with_object c.space h) (link_place (end_of c.space)) name } = after ∙ (λ i. record c { space = with_word (made i) (link_place (at i)) (linked i) }) in
+    let b = block_of_header heap.space.words name h header in
+    let placed_one : one ≡ with_block c.space (replica_block b.0) = made b.0 b.1 in
+    let next_is : next ≡ record c { space = with_word (with_block c.space (replica_block b.0)) (link_place (end_of c.space)) name } = after ∙ (λ i. record c { space = with_word (placed_one i) (link_place (at i)) (linked i) }) in
     let new_is : new ≡ record heap { space = with_word heap.space (link_place name) (end_of c.space) } = heap_after ∙ ap (λ n. record heap { space = with_word heap.space (link_place name) n }) (there ∙ at) in
     let done = placing heap c name h heap_is is header k start none room in
     subst (λ x. Placing heap x c next name) (sym new_is) (subst (λ x. Placing heap (record heap { space = with_word heap.space (link_place name) (end_of c.space) }) c x name) (sym next_is) done)
@@ -461,12 +499,12 @@ if_err P (Err e) h = h
 pub has_placed : (c next : Collection) (w a : ℕ) (o : Option Object) → Some a ≡ name_of (value_of w) → place_replica c a o ≡ Some next → HasReplicaOf next (value_of w)
 has_placed c next w a o e p = subst (HasReplicaOf next) (sym (named (value_of w) a e)) (placed_has c next a o p)
 
-pub field_word_is : (heap : HeapWords) (name i w : ℕ) → IsHeap heap → field_at heap.space.words name i ≡ Some w → IsRootWord heap.space.words w
-field_word_is heap name i w is e = from (block_at heap.space.words name) refl e
+pub field_word_is : (heap : HeapWords) (name i w : ℕ) → IsHeap heap → ((h : Header) → header_at heap.space.words name ≡ Some h → h.raw ≡ false) → field_at heap.space.words name i ≡ Some w → IsRootWord heap.space.words w
+field_word_is heap name i w is plain e = from (block_at heap.space.words name) refl e
   where
     from : (x : Option Block) → block_at heap.space.words name ≡ x → field_in x i ≡ Some w → IsRootWord heap.space.words w
     from None f g = absurd (let no : None ≡ Some w = g in cc)
-    from (Some b) f g = closed_field_read heap.space.words heap.roots name i w b is.closed f e
+    from (Some b) f g = subst (λ raw. IsWordOfField raw heap.space.words w) (plain b.header (ap header_of f)) (closed_field_read heap.space.words heap.roots name i w b is.closed f e)
 
 pub field_kept : (old new : HeapWords) (a i : ℕ) → KeepsGraph old new → field_at new.space.words a i ≡ field_at old.space.words a i
 field_kept old new a i k = ap (λ bs. field_in (block_in bs a) i) k.blocks
@@ -480,7 +518,7 @@ pub record Brought (heap new : HeapWords) (c next : CollectionWords) (name i : �
   pub rest : KeepsRest c next
 
 -- `c` is the collection before, `one` that in which what the field refers to has its replica, and `x` is its parts
-module _ (heap new : HeapWords) (c one x : CollectionWords) (name i w place : ℕ) (heap_is : IsHeap heap) (is : IsCollection x) (seen : x ≡ one) (k : BelongsTo new one) (graph : KeepsGraph heap new) (rest : KeepsRest c one)
+module _ (heap new : HeapWords) (c one x : CollectionWords) (name i w place : ℕ) (heap_is : IsHeap heap) (plain : (h : Header) → header_at heap.space.words name ≡ Some h → h.raw ≡ false) (is : IsCollection x) (seen : x ≡ one) (k : BelongsTo new one) (graph : KeepsGraph heap new) (rest : KeepsRest c one)
     (field : field_at heap.space.words name i ≡ Some w) (target : with_replica (collection_in c) (graph_in heap) (value_of w) ≡ Some (collection_in one)) (has : HasReplicaOf (collection_in one) (value_of w))
     (replica : option_map (λ r. r.place) (replica_of (collection_in c) name) ≡ Some place) where
   belongs_here : BelongsTo new x
@@ -495,16 +533,19 @@ module _ (heap new : HeapWords) (c one x : CollectionWords) (name i w place : �
   field_new : field_at new.space.words name i ≡ Some w
   field_new = field_kept heap new name i graph ∙ field
 
+  plain_new : (h : Header) → header_at new.space.words name ≡ Some h → h.raw ≡ false
+  plain_new h e = plain h (sym (ap (λ bs. header_of (block_in bs name)) graph.blocks) ∙ e)
+
   pub present : IsSome (field_at x.space.words place i)
   present = field_of_replica new x name i place belongs_here.belongs replica_here (ap is_some field_new)
 
   pub brought_words : (moved_word : ℕ) → moved_word ≡ word_of (moved (collection_in one) (value_of w)) → (next : CollectionWords) → next ≡ record x { space = with_word x.space (field_place place i) moved_word } → Brought heap new c next name i
   brought_words moved_word moved_is next after = subst (λ y. Brought heap new c y name i) (sym after) (record {
     sound = made.sound;
-    brought = brought (graph_in heap) (collection_in c) (collection_in x) name i (value_of w) (field_value_is heap name i w field) (subst (λ y. with_replica (collection_in c) (graph_in heap) (value_of w) ≡ Some (collection_in y)) (sym seen) target) ∙ ap Some (sym copied);
+    brought = brought (graph_in heap) (collection_in c) (collection_in x) name i (value_of w) (plain_value_is heap name i w plain field) (subst (λ y. with_replica (collection_in c) (graph_in heap) (value_of w) ≡ Some (collection_in y)) (sym seen) target) ∙ ap Some (sym copied);
     belongs = closed new new x after_words (same_graph new) belongs_here refl
         (bringing_keeps (open_state new x) (collection_in x) (collection_in after_words) name i (opened new x is belongs_here)
-        (brought (graph_in new) (collection_in x) (collection_in x) name i (value_of w) (field_value_is new name i w field_new) (replicated_already (collection_in x) (graph_in new) w has_here) ∙ ap Some (sym copied)))
+        (brought (graph_in new) (collection_in x) (collection_in x) name i (value_of w) (plain_value_is new name i w plain_new field_new) (replicated_already (collection_in x) (graph_in new) w has_here) ∙ ap Some (sym copied)))
         (λ a start. (belongs_here.links) a start ∙ sym (links_written (collection_in x) name i a (moved (collection_in x) (value_of w))) ∙ sym (ap (λ d. old_links d a) copied));
     rest = subst (λ (y : CollectionWords). KeepsRest c (record y { space = with_word y.space (field_place place i) moved_word })) (sym seen) (record { size = rest.size; logs = rest.logs; scan_place = rest.scan_place; scan_field = rest.scan_field });
   })
@@ -513,7 +554,8 @@ module _ (heap new : HeapWords) (c one x : CollectionWords) (name i w place : �
       after_words = record x { space = with_word x.space (field_place place i) moved_word }
 
       made : Bringing x after_words name i (value_of moved_word)
-      made = bringing (graph_in new).objects x name i moved_word place is belongs_here.belongs replica_here present
+      made = bringing (graph_in new).objects x name i moved_word place (value_of moved_word) is belongs_here.belongs replica_here present
+          (λ r e. ap (λ b. cond b (Num moved_word) (value_of moved_word)) (replica_raw new x name i w r false belongs_here.belongs e field_new plain_new))
 
       value_is : value_of moved_word ≡ moved (collection_in x) (value_of w)
       value_is =
@@ -522,6 +564,43 @@ module _ (heap new : HeapWords) (c one x : CollectionWords) (name i w place : �
 
       copied : collection_in after_words ≡ write_replica (collection_in x) name i (moved (collection_in x) (value_of w))
       copied = made.copied ∙ ap (write_replica (collection_in x) name i) value_is
+
+-- the same of a raw field, whose word is copied
+module _ (heap : HeapWords) (c x : CollectionWords) (name i w place : ℕ) (heap_is : IsHeap heap) (raw : (h : Header) → header_at heap.space.words name ≡ Some h → h.raw ≡ true) (is : IsCollection x) (seen : x ≡ c) (k : BelongsTo heap c)
+    (field : field_at heap.space.words name i ≡ Some w) (replica : option_map (λ r. r.place) (replica_of (collection_in c) name) ≡ Some place) where
+  belongs_raw : BelongsTo heap x
+  belongs_raw = subst (BelongsTo heap) (sym seen) k
+
+  replica_here_raw : option_map (λ r. r.place) (replica_of (collection_in x) name) ≡ Some place
+  replica_here_raw = subst (λ y. option_map (λ (r : Replica). r.place) (replica_of (collection_in y) name) ≡ Some place) (sym seen) replica
+
+  pub raw_present : IsSome (field_at x.space.words place i)
+  raw_present = field_of_replica heap x name i place belongs_raw.belongs replica_here_raw (ap is_some field)
+
+  number : field_of (lookup (graph_in heap).objects name) i ≡ Some (Num w)
+  number =
+      let h = header_of_field heap.space.words name i w field in
+      field_value_is heap name i w h.0 h.1 field ∙ ap (λ b. Some (cond b (Num w) (value_of w))) (raw h.0 h.1)
+
+  pub copied_words : (next : CollectionWords) → next ≡ record x { space = with_word x.space (field_place place i) w } → Brought heap heap c next name i
+  copied_words next after = subst (λ y. Brought heap heap c y name i) (sym after) (subst (λ y. Brought heap heap y after_words name i) seen (record {
+    sound = made.sound;
+    brought = step;
+    belongs = closed heap heap x after_words (same_graph heap) belongs_raw refl
+        (bringing_keeps (open_state heap x) (collection_in x) (collection_in after_words) name i (opened heap x is belongs_raw) step)
+        (λ a start. (belongs_raw.links) a start ∙ sym (links_written (collection_in x) name i a (Num w)) ∙ sym (ap (λ d. old_links d a) made.copied));
+    rest = record { size = refl; logs = refl; scan_place = refl; scan_field = refl };
+  }))
+    where
+      after_words : CollectionWords
+      after_words = record x { space = with_word x.space (field_place place i) w }
+
+      made : Bringing x after_words name i (Num w)
+      made = bringing (graph_in heap).objects x name i w place (Num w) is belongs_raw.belongs replica_here_raw raw_present
+          (λ r e. ap (λ b. cond b (Num w) (value_of w)) (replica_raw heap x name i w r true belongs_raw.belongs e field raw))
+
+      step : bring_up_to_date (collection_in x) (graph_in heap) name i ≡ Some (collection_in after_words)
+      step = ap (bring_value (collection_in x) (graph_in heap) name i) number ∙ ap Some (sym made.copied)
 
 -- a word that refers to nothing is its own
 pub unmoved : (c : Collection) (w : ℕ) → None ≡ name_of (value_of w) → w ≡ word_of (moved c (value_of w))

@@ -1,14 +1,15 @@
 -- The replicas of an open collection, and which of their fields are up to date.
-use Rattle.std.proofs.Common.{◌≡◌, ◌⊎◌, inl, inr, ⊎_elim, ℕ, ◌+◌, ◌<◌, ◌≤◌, ◌==◌, true, ◌&&◌, List, [], ◌∷◌, ◌++◌, map, length, Some, slice_get, refl, ap, sym, ◌∙◌, subst, arith, length-set}
-use Rattle.std.proofs.lemmas.Bool.{cases_Bool, cond-true, cond-false, eqb-true, eqb-false, eq-eqb, and_from, and_parts, or_cases, or_left, or_right}
+use Rattle.std.proofs.Common.{◌≡◌, ◌⊎◌, inl, inr, ⊎_elim, ℕ, ◌+◌, ◌<◌, ◌≤◌, ◌==◌, Bool, true, false, ◌&&◌, List, [], ◌∷◌, ◌++◌, map, length, Some, slice_get, refl, ap, sym, ◌∙◌, subst, arith, length-set}
+use Rattle.std.proofs.lemmas.Bool.{cases_Bool, cond-true, cond-false, cond_both, eqb-true, eqb-false, eq-eqb, and_from, and_parts, or_cases, or_left, or_right}
 use Rattle.std.proofs.lemmas.List.{length-replicate, map-append}
-use Rattle.gc_graph.specs.Graph.{Value, Nil, Num, Ref, Object, lookup, with_field}
+use Rattle.gc_graph.specs.Graph.{Value, Nil, Num, Ref, Object, lookup, new_object, with_field}
+use Rattle.gc_graph.specs.Machine.{is_number}
 use Rattle.gc_graph.specs.Correspond.{paired, correspond}
-use Rattle.gc_copy.specs.State.{Replica, Collection, objects_end, replica_of, pairs_of, moved, moved_name}
+use Rattle.gc_copy.specs.State.{Replica, Collection, objects_end, replica_of, pairs_of, moved, moved_name, fresh_object}
 use Rattle.gc_copy.specs.Steps.{with_written, fresh_replica}
 use Rattle.gc_copy.specs.Members.{In, Distinct}
 use Rattle.gc_copy.specs.Belonging.{Laid, RefersTo, IsReplica}
-use Rattle.gc_copy.proofs.Lists.{in_left, in_push, in_map, in_map_from, get_past, get_set, find_some, find_exists, distinct_push, map_same}
+use Rattle.gc_copy.proofs.Lists.{in_left, in_push, in_map, in_map_from, get_in, get_past, get_set, find_some, find_exists, distinct_push, map_same}
 use Rattle.gc_copy.proofs.Heap.{laid_push, laid_end_is, end_push}
 use Rattle.gc_copy.proofs.Commands.{Evolves}
 
@@ -60,20 +61,20 @@ pair r = (r.original, r.place)
 abbrev pub placed : Replica → ℕ × Object
 placed r = (r.place, r.object)
 
-abbrev pub end_of : List Replica → ℕ
-end_of replicas = objects_end 1 (map placed replicas)
+abbrev pub replicas_end : List Replica → ℕ
+replicas_end replicas = objects_end 1 (map placed replicas)
 
 -- what a collection that belongs to a heap says of its replicas
-pub record AreReplicas (objects : List (ℕ × Object)) (size : ℕ) (Due : ℕ → ℕ → ℕ → Type 0) (replicas : List Replica) : Type 0 where
-  pub laid : Laid 1 (map placed replicas) (end_of replicas)
-  pub room : end_of replicas ≤ size
+pub record AreReplicas (objects : List (ℕ × Object)) (size : ℕ) (Due : Bool → ℕ → ℕ → ℕ → Type 0) (replicas : List Replica) : Type 0 where
+  pub laid : Laid 1 (map placed replicas) (replicas_end replicas)
+  pub room : replicas_end replicas ≤ size
   pub once : Distinct (map (λ r. r.original) replicas)
   pub each : (r : Replica) → In r replicas → IsReplica objects (map pair replicas) Due r
 
 -- ---- when the heap changes
 
-pub replicas_evolve : (before later : List (ℕ × Object)) (size : ℕ) (Due Due' : ℕ → ℕ → ℕ → Type 0) (Touched : ℕ → ℕ → Type 0) (replicas : List Replica)
-    → AreReplicas before size Due replicas → Evolves before later Touched → ((p a i : ℕ) → Due p a i → Due' p a i) → ((p a i : ℕ) → Touched a i → Due' p a i)
+pub replicas_evolve : (before later : List (ℕ × Object)) (size : ℕ) (Due Due' : Bool → ℕ → ℕ → ℕ → Type 0) (Touched : ℕ → ℕ → Type 0) (replicas : List Replica)
+    → AreReplicas before size Due replicas → Evolves before later Touched → ((raw : Bool) (p a i : ℕ) → Due raw p a i → Due' raw p a i) → ((raw : Bool) (p a i : ℕ) → Touched a i → Due' raw p a i)
     → AreReplicas later size Due' replicas
 replicas_evolve before later size Due Due' Touched replicas h evolves weaker touched = record { laid = h.laid; room = h.room; once = h.once; each = each }
   where
@@ -83,19 +84,20 @@ replicas_evolve before later size Due Due' Touched replicas h evolves weaker tou
         let still = evolves r.original ok.original ok.found in record {
           original = still.now;
           found = still.found;
+          raw = ok.raw ∙ sym still.raw;
           kind = ok.kind ∙ sym still.kind;
           len = ok.len ∙ sym still.len;
           current = λ i v w x y. ⊎_elim
-              (λ s. ⊎_elim (λ d. inl (weaker r.place r.original i d)) (λ e. inr e) (ok.current i v w s y))
-              (λ t. inl (touched r.place r.original i t))
+              (λ s. ⊎_elim (λ d. inl (weaker r.object.raw r.place r.original i d)) (λ e. inr e) (ok.current i v w s y))
+              (λ t. inl (touched r.object.raw r.place r.original i t))
               (still.fields i v x);
         }
 
 -- ---- when fewer fields are due, by what is known of the replicas
 
-pub replicas_due : (objects : List (ℕ × Object)) (size : ℕ) (Due Due' : ℕ → ℕ → ℕ → Type 0) (replicas : List Replica)
+pub replicas_due : (objects : List (ℕ × Object)) (size : ℕ) (Due Due' : Bool → ℕ → ℕ → ℕ → Type 0) (replicas : List Replica)
     → AreReplicas objects size Due replicas
-    → ((r : Replica) → In r replicas → (i : ℕ) → i < length r.object.fields → Due r.place r.original i → Due' r.place r.original i)
+    → ((r : Replica) → In r replicas → (i : ℕ) → i < length r.object.fields → Due r.object.raw r.place r.original i → Due' r.object.raw r.place r.original i)
     → AreReplicas objects size Due' replicas
 replicas_due objects size Due Due' replicas h f = record { laid = h.laid; room = h.room; once = h.once; each = each }
   where
@@ -104,6 +106,7 @@ replicas_due objects size Due Due' replicas h f = record { laid = h.laid; room =
         let ok = h.each r k in record {
           original = ok.original;
           found = ok.found;
+          raw = ok.raw;
           kind = ok.kind;
           len = ok.len;
           current = λ i v w x y. ⊎_elim (λ d. inl (f r k i (get_past r.object.fields i w y) d)) (λ e. inr e) (ok.current i v w x y);
@@ -111,22 +114,38 @@ replicas_due objects size Due Due' replicas h f = record { laid = h.laid; room =
 
 -- ---- when a replica is placed
 
-pub replicas_place : (objects : List (ℕ × Object)) (size : ℕ) (Due : ℕ → ℕ → ℕ → Type 0) (replicas : List Replica) (name : ℕ) (object : Object)
+number_corresponds : (pairs : List (ℕ × ℕ)) (v : Value) → is_number v ≡ true → correspond pairs v v ≡ true
+number_corresponds pairs Nil h = absurd cc
+number_corresponds pairs (Num n) h = eq-eqb n n refl
+number_corresponds pairs (Ref a) h = absurd cc
+
+-- a fresh replica is as large as its original, of its kind, and raw or not as it is
+pub fresh_length : (o : Object) → length (fresh_object o).fields ≡ length o.fields
+fresh_length o = cond_both o.raw o (new_object false o.kind (length o.fields)) (λ (q : Object). length q.fields ≡ length o.fields) (λ t. refl) (λ t. length-replicate (length o.fields) Nil)
+
+pub fresh_kind : (o : Object) → (fresh_object o).kind ≡ o.kind
+fresh_kind o = cond_both o.raw o (new_object false o.kind (length o.fields)) (λ (q : Object). q.kind ≡ o.kind) (λ t. refl) (λ t. refl)
+
+pub fresh_raw : (o : Object) → (fresh_object o).raw ≡ o.raw
+fresh_raw o = cond_both o.raw o (new_object false o.kind (length o.fields)) (λ (q : Object). q.raw ≡ o.raw) (λ t. refl) (λ f. sym f)
+
+pub replicas_place : (objects : List (ℕ × Object)) (size : ℕ) (Due : Bool → ℕ → ℕ → ℕ → Type 0) (replicas : List Replica) (name : ℕ) (object : Object)
     → AreReplicas objects size Due replicas → lookup objects name ≡ Some object → (In name (map (λ r. r.original) replicas) → ⊥)
-    → end_of replicas + (length object.fields + 2) ≤ size
-    → ((i : ℕ) → Due (end_of replicas) name i)
-    → AreReplicas objects size Due (replicas ++ fresh_replica name (end_of replicas) object ∷ [])
-replicas_place objects size Due replicas name object h found new fits due = record {
-  laid = subst (λ l. Laid 1 l (end_of (replicas ++ new_one ∷ []))) (sym (map-append placed replicas (new_one ∷ []))) (laid_push 1 (map placed replicas) (end_of replicas) (placed new_one) (end_of (replicas ++ new_one ∷ [])) h.laid refl ends);
-  room = omega (arith, ends, length-replicate (length object.fields) Nil);
+    → replicas_end replicas + (length object.fields + 2) ≤ size
+    → ((v : Value) → In v object.fields → object.raw ≡ true → is_number v ≡ true)
+    → ((i : ℕ) → Due false (replicas_end replicas) name i)
+    → AreReplicas objects size Due (replicas ++ fresh_replica name (replicas_end replicas) object ∷ [])
+replicas_place objects size Due replicas name object h found new fits numbers due = record {
+  laid = subst (λ l. Laid 1 l (replicas_end (replicas ++ new_one ∷ []))) (sym (map-append placed replicas (new_one ∷ []))) (laid_push 1 (map placed replicas) (replicas_end replicas) (placed new_one) (replicas_end (replicas ++ new_one ∷ [])) h.laid refl ends);
+  room = omega (arith, ends, fresh_length object);
   once = subst Distinct (sym (map-append (λ (r : Replica). r.original) replicas (new_one ∷ []))) (distinct_push (map (λ r. r.original) replicas) name h.once new);
   each = λ r k. subst (λ l. IsReplica objects l Due r) (sym (map-append pair replicas (new_one ∷ []))) (⊎_elim (old r) (λ e. subst (IsReplica objects (map pair replicas ++ pair new_one ∷ []) Due) e newest) (in_push r new_one replicas k));
 }
   where
     new_one : Replica
-    new_one = fresh_replica name (end_of replicas) object
+    new_one = fresh_replica name (replicas_end replicas) object
 
-    ends : end_of (replicas ++ new_one ∷ []) ≡ end_of replicas + (length new_one.object.fields + 2)
+    ends : replicas_end (replicas ++ new_one ∷ []) ≡ replicas_end replicas + (length new_one.object.fields + 2)
     ends = ap (objects_end 1) (map-append placed replicas (new_one ∷ [])) ∙ end_push 1 (map placed replicas) (placed new_one)
 
     more : (p : ℕ × ℕ) → In p (map pair replicas) → In p (map pair replicas ++ pair new_one ∷ [])
@@ -136,18 +155,27 @@ replicas_place objects size Due replicas name object h found new fits due = reco
     old r k = let ok = h.each r k in record {
       original = ok.original;
       found = ok.found;
+      raw = ok.raw;
       kind = ok.kind;
       len = ok.len;
       current = λ i v w x y. ⊎_elim (λ d. inl d) (λ e. inr (corresponds_more (map pair replicas) (map pair replicas ++ pair new_one ∷ []) more v w e)) (ok.current i v w x y);
     }
 
+    at_once : (b : Bool) → object.raw ≡ b → (i : ℕ) (v w : Value) → slice_get object.fields i ≡ Some v → slice_get (fresh_object object).fields i ≡ Some w → Due object.raw (replicas_end replicas) name i ⊎ (correspond (map pair replicas ++ pair new_one ∷ []) v w ≡ true)
+    at_once false e i v w x y = inl (subst (λ b. Due b (replicas_end replicas) name i) (sym e) (due i))
+    at_once true e i v w x y =
+        let whole : fresh_object object ≡ object = cond-true object.raw object _ e in
+        let same : v ≡ w = cc (sym x ∙ (sym (ap (λ (o : Object). slice_get o.fields i) whole) ∙ y)) in
+        inr (subst (λ u. correspond (map pair replicas ++ pair new_one ∷ []) v u ≡ true) same (number_corresponds (map pair replicas ++ pair new_one ∷ []) v (numbers v (get_in v object.fields i x) e)))
+
     newest : IsReplica objects (map pair replicas ++ pair new_one ∷ []) Due new_one
     newest = record {
       original = object;
       found = found;
-      kind = refl;
-      len = length-replicate (length object.fields) Nil;
-      current = λ i v w x y. inl (due i);
+      raw = fresh_raw object;
+      kind = fresh_kind object;
+      len = fresh_length object;
+      current = λ i v w x y. subst (λ b. Due b (replicas_end replicas) name i ⊎ (correspond (map pair replicas ++ pair new_one ∷ []) v w ≡ true)) (sym (fresh_raw object)) (at_once object.raw refl i v w x y);
     }
 
 -- ---- when a field is written
@@ -175,14 +203,14 @@ laid_written name i w at (r ∷ rest) end h =
 pub pairs_written : (name i : ℕ) (w : Value) (replicas : List Replica) → map pair (map (with_written name i w) replicas) ≡ map pair replicas
 pairs_written name i w replicas = map_same pair (with_written name i w) (with_written_pair name i w) replicas
 
-pub replicas_write : (objects : List (ℕ × Object)) (size : ℕ) (Due Due' : ℕ → ℕ → ℕ → Type 0) (replicas : List Replica) (name i : ℕ) (object : Object) (v w : Value)
+pub replicas_write : (objects : List (ℕ × Object)) (size : ℕ) (Due Due' : Bool → ℕ → ℕ → ℕ → Type 0) (replicas : List Replica) (name i : ℕ) (object : Object) (v w : Value)
     → AreReplicas objects size Due replicas → lookup objects name ≡ Some object → slice_get object.fields i ≡ Some v
     → correspond (map pair replicas) v w ≡ true
-    → ((p a j : ℕ) → Due p a j → ((a ≡ name) × (j ≡ i)) ⊎ Due' p a j)
-    → AreReplicas objects size Due' (map (with_written name i w) replicas) × (end_of (map (with_written name i w) replicas) ≡ end_of replicas)
+    → ((raw : Bool) (p a j : ℕ) → Due raw p a j → ((a ≡ name) × (j ≡ i)) ⊎ Due' raw p a j)
+    → AreReplicas objects size Due' (map (with_written name i w) replicas) × (replicas_end (map (with_written name i w) replicas) ≡ replicas_end replicas)
 replicas_write objects size Due Due' replicas name i object v w h found is agrees due = (
   record {
-    laid = subst (λ e. Laid 1 (map placed (map (with_written name i w) replicas)) e) (sym ends) (laid_written name i w 1 replicas (end_of replicas) h.laid);
+    laid = subst (λ e. Laid 1 (map placed (map (with_written name i w) replicas)) e) (sym ends) (laid_written name i w 1 replicas (replicas_end replicas) h.laid);
     room = let r = h.room in omega (arith, ends);
     once = subst Distinct (sym (map_same (λ (r : Replica). r.original) (with_written name i w) (λ r. ap (λ (q : ℕ × ℕ). q.0) (with_written_pair name i w r)) replicas)) h.once;
     each = λ r k. let o = in_map_from (with_written name i w) r replicas k in
@@ -191,8 +219,8 @@ replicas_write objects size Due Due' replicas name i object v w h found is agree
   ends,
 )
   where
-    ends : end_of (map (with_written name i w) replicas) ≡ end_of replicas
-    ends = laid_end_is 1 (map placed (map (with_written name i w) replicas)) (end_of replicas) (laid_written name i w 1 replicas (end_of replicas) h.laid)
+    ends : replicas_end (map (with_written name i w) replicas) ≡ replicas_end replicas
+    ends = laid_end_is 1 (map placed (map (with_written name i w) replicas)) (replicas_end replicas) (laid_written name i w 1 replicas (replicas_end replicas) h.laid)
 
     each : (r : Replica) → In r replicas → IsReplica objects (map pair replicas) Due' (with_written name i w r)
     each r k =
@@ -204,13 +232,14 @@ replicas_write objects size Due Due' replicas name i object v w h found is agree
         record {
           original = ok.original;
           found = ok.found;
+          raw = ok.raw;
           kind = ok.kind;
           len = length-set r.object.fields i w ∙ ok.len;
           current = λ j x y p q. ⊎_elim
               (λ e. let same : v ≡ x = cc (sym is ∙ (sym (ap (λ (b : Object). slice_get b.fields i) o) ∙ (sym (ap (slice_get ok.original.fields) e.0) ∙ p))) in
               inr (subst (λ z. correspond (map pair replicas) x z ≡ true) e.1 (subst (λ z. correspond (map pair replicas) z w ≡ true) same agrees)))
               (λ e. ⊎_elim
-              (λ d. ⊎_elim (λ b. absurd (e.0 b.1)) (λ b. inl b) (due r.place r.original j d))
+              (λ d. ⊎_elim (λ b. absurd (e.0 b.1)) (λ b. inl b) (due r.object.raw r.place r.original j d))
               (λ b. inr b)
               (ok.current j x y p e.1))
               (get_set r.object.fields i j w y q);
@@ -219,10 +248,11 @@ replicas_write objects size Due Due' replicas name i object v w h found is agree
         record {
           original = ok.original;
           found = ok.found;
+          raw = ok.raw;
           kind = ok.kind;
           len = ok.len;
           current = λ j x y p q. ⊎_elim
-              (λ d. ⊎_elim (λ b. absurd (eqb-false r.original name f b.0)) (λ b. inl b) (due r.place r.original j d))
+              (λ d. ⊎_elim (λ b. absurd (eqb-false r.original name f b.0)) (λ b. inl b) (due r.object.raw r.place r.original j d))
               (λ b. inr b)
               (ok.current j x y p q);
         }))

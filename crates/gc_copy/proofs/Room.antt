@@ -1,5 +1,5 @@
 -- Each original has one replica of its own size, so the new space has room for all.
-use Rattle.std.proofs.Common.{◌≡◌, ◌≢◌, inl, inr, ⊎_elim, ℕ, ◌+◌, ◌-◌, ◌≤◌, ◌==◌, nat_lt, false, List, [], ◌∷◌, map, length, Option, Some, None, is_some, slice_get, flat_map, sum_by, refl, ap, sym, ◌∙◌, subst, arith}
+use Rattle.std.proofs.Common.{◌≡◌, ◌≢◌, inl, inr, ⊎_elim, ℕ, ◌+◌, ◌-◌, ◌≤◌, ◌==◌, nat_lt, Bool, false, ◌||◌, List, [], ◌∷◌, map, length, Option, Some, None, is_some, slice_get, flat_map, sum_by, refl, ap, sym, ◌∙◌, subst, arith}
 use Rattle.std.proofs.lemmas.Bool.{cases_Bool, cond-true, cond-false, cond_both, eqb-true, eqb-false, le-ltb}
 use Rattle.std.proofs.lemmas.List.{length-map}
 use Rattle.std.proofs.lemmas.List.Sums.{sum_by-cons}
@@ -17,9 +17,10 @@ use Rattle.gc_copy.specs.declared.step.StepReply.{StepReply}
 use Rattle.gc_copy.specs.declared.step.StepReply.TheVariants.{NoRoom, Copied, Scanned, Applied}
 use Rattle.gc_copy.proofs.Lists.{in_flat_map_from, get_in}
 use Rattle.gc_copy.proofs.Heap.{lookup_here, lookup_there, lookup_named, lookup_in}
-use Rattle.gc_copy.proofs.Replicas.{placed, end_of, AreReplicas}
+use Rattle.gc_copy.proofs.Replicas.{placed, replicas_end, AreReplicas}
 use Rattle.gc_copy.proofs.Words.{heap_graph}
-use Rattle.gc_copy.proofs.Steps.{none_of, its_replicas, unnamed, unreplicated_some}
+use Rattle.gc_copy.proofs.Steps.{its_replicas, unnamed, unreplicated_some}
+use Rattle.gc_heap.proofs.Commands.{none_of}
 
 abbrev weight_of : Option Object → ℕ
 weight_of None = 0
@@ -70,8 +71,8 @@ replicas_weigh objects at (r ∷ rest) h =
     omega (arith, here, others, sum_by-cons (weight objects) r.original (map (λ (q : Replica). q.original) rest))
 
 -- there is room for a replica of one more object
-pub room_for : (size free new_size : ℕ) (g : Graph) (Due : ℕ → ℕ → ℕ → Type 0) (replicas : List Replica) (name : ℕ) (o : Object) → IsSpaceGraph size free g → size ≤ new_size → AreReplicas g.objects new_size Due replicas → lookup g.objects name ≡ Some o → (In name (map (λ r. r.original) replicas) → ⊥)
-    → end_of replicas + (length o.fields + 2) ≤ new_size
+pub room_for : (size free new_size : ℕ) (g : Graph) (Due : Bool → ℕ → ℕ → ℕ → Type 0) (replicas : List Replica) (name : ℕ) (o : Object) → IsSpaceGraph size free g → size ≤ new_size → AreReplicas g.objects new_size Due replicas → lookup g.objects name ≡ Some o → (In name (map (λ r. r.original) replicas) → ⊥)
+    → replicas_end replicas + (length o.fields + 2) ≤ new_size
 room_for size free new_size g Due replicas name o h larger k found new =
     let fit = weights_fit 1 g.objects (size - free) (name ∷ map (λ (r : Replica). r.original) replicas) h.laid (new, k.once) in
     let all = sum_by-cons (weight g.objects) name (map (λ (r : Replica). r.original) replicas) in
@@ -83,7 +84,7 @@ room_for size free new_size g Due replicas name o h larger k found new =
 -- ---- no step lacks room
 
 module _ (s : State) (h : IsSpaceGraph s.size s.heap.free s.heap.graph) where
-  placed_there : (c : Collection) (Due : ℕ → ℕ → ℕ → Type 0) (name : ℕ) → s.size ≤ c.size → AreReplicas s.heap.graph.objects c.size Due c.replicas → replica_of c name ≡ None → IsNamed s.heap.graph.objects name → place_replica c name (lookup s.heap.graph.objects name) ≢ None
+  placed_there : (c : Collection) (Due : Bool → ℕ → ℕ → ℕ → Type 0) (name : ℕ) → s.size ≤ c.size → AreReplicas s.heap.graph.objects c.size Due c.replicas → replica_of c name ≡ None → IsNamed s.heap.graph.objects name → place_replica c name (lookup s.heap.graph.objects name) ≢ None
   placed_there c Due name same k none named =
       let o = lookup_named s.heap.graph.objects name named in
       let fits = room_for s.size s.heap.free c.size s.heap.graph Due c.replicas name o.0 h same k o.1 (unnamed c name none) in
@@ -91,7 +92,7 @@ module _ (s : State) (h : IsSpaceGraph s.size s.heap.free s.heap.graph) where
       let is = ap (place_replica c name) o.1 ∙ cond-false (nat_lt (new_free c) (length o.0.fields + 2)) None _ roomy in
       λ e. cc (sym is ∙ e)
 
-  replicated_there : (c : Collection) (Due : ℕ → ℕ → ℕ → Type 0) (v : Value) → s.size ≤ c.size → AreReplicas s.heap.graph.objects c.size Due c.replicas → RefersTo (IsNamed s.heap.graph.objects) v → with_replica c s.heap.graph v ≢ None
+  replicated_there : (c : Collection) (Due : Bool → ℕ → ℕ → ℕ → Type 0) (v : Value) → s.size ≤ c.size → AreReplicas s.heap.graph.objects c.size Due c.replicas → RefersTo (IsNamed s.heap.graph.objects) v → with_replica c s.heap.graph v ≢ None
   replicated_there c Due Nil same k f = λ e. cc e
   replicated_there c Due (Num n) same k f = λ e. cc e
   replicated_there c Due (Ref a) same k f = ⊎_elim
@@ -99,7 +100,7 @@ module _ (s : State) (h : IsSpaceGraph s.size s.heap.free s.heap.graph) where
       (λ t. λ e. placed_there c Due a same k (none_of (replica_of c a) t) f (sym (cond-false (is_some (replica_of c a)) (Some c) (place_replica c a (lookup s.heap.graph.objects a)) t) ∙ e))
       (cases_Bool (is_some (replica_of c a)))
 
-  brought_there : (c : Collection) (Due : ℕ → ℕ → ℕ → Type 0) (name i : ℕ) → s.size ≤ c.size → AreReplicas s.heap.graph.objects c.size Due c.replicas → bring_up_to_date c s.heap.graph name i ≢ None
+  brought_there : (c : Collection) (Due : Bool → ℕ → ℕ → ℕ → Type 0) (name i : ℕ) → s.size ≤ c.size → AreReplicas s.heap.graph.objects c.size Due c.replicas → bring_up_to_date c s.heap.graph name i ≢ None
   brought_there c Due name i same k = go (lookup s.heap.graph.objects name) refl
     where
       copied : (v : Value) (d : Option Collection) → d ≢ None → copy_value d name i v ≢ None
@@ -133,7 +134,7 @@ module _ (s : State) (h : IsSpaceGraph s.size s.heap.free s.heap.graph) where
 
   scans : (c : Collection) → IsOpened s c → s.size ≤ c.size → (t : Option Replica) → (scan_replica s c t).0 ≢ NoRoom
   scans c k same None = λ x. cc x
-  scans c k same (Some r) = cond_both (c.scan_field == length r.object.fields) _ _ (λ (next : StepReply × State). next.0 ≢ NoRoom)
+  scans c k same (Some r) = cond_both (r.object.raw || (c.scan_field == length r.object.fields)) _ _ (λ (next : StepReply × State). next.0 ≢ NoRoom)
       (λ t. λ x. cc x)
       (λ t. in_room Scanned (next_field (bring_up_to_date c s.heap.graph r.original c.scan_field)) (next (bring_up_to_date c s.heap.graph r.original c.scan_field) (brought_there c (IsDue c) r.original c.scan_field same (its_replicas (IsDue c) s.heap.graph.objects c k.belongs))) (λ x. cc x))
     where

@@ -17,38 +17,10 @@ use Rattle.gc_copy.proofs.Steps.{roots_replicated}
 abbrev pub found_from : Collection → List ℕ → ℕ → Option ℕ
 found_from c words i = first_unreplicated c (flat_map names_of (map value_of (drop i words)))
 
-first_of_both : (c : Collection) (xs ys : List ℕ) → first_unreplicated c xs ≡ None → first_unreplicated c (xs ++ ys) ≡ first_unreplicated c ys
-first_of_both c [] ys e = refl
-first_of_both c (x ∷ xs) ys e = by (is_some (replica_of c x)) (first_of_both c xs ys) e
-  where
-    by : (b : Bool) → (first_unreplicated c xs ≡ None → first_unreplicated c (xs ++ ys) ≡ first_unreplicated c ys) → cond b (first_unreplicated c xs) (Some x) ≡ None
-        → cond b (first_unreplicated c (xs ++ ys)) (Some x) ≡ first_unreplicated c ys
-    by true rest e = rest e
-    by false rest e = absurd (let no : Some x ≡ None = e in cc)
-
-first_of_first : (c : Collection) (xs ys : List ℕ) (a : ℕ) → first_unreplicated c xs ≡ Some a → first_unreplicated c (xs ++ ys) ≡ Some a
-first_of_first c [] ys a e = absurd (let no : None ≡ Some a = e in cc)
-first_of_first c (x ∷ xs) ys a e = by (is_some (replica_of c x)) (first_of_first c xs ys a) e
-  where
-    by : (b : Bool) → (first_unreplicated c xs ≡ Some a → first_unreplicated c (xs ++ ys) ≡ Some a) → cond b (first_unreplicated c xs) (Some x) ≡ Some a → cond b (first_unreplicated c (xs ++ ys)) (Some x) ≡ Some a
-    by true rest e = rest e
-    by false rest e = e
-
-opened : (c : Collection) (words : List ℕ) (i : ℕ) → i < length words → found_from c words i ≡ first_unreplicated c (names_of (value_of (get_or words i 0)) ++ flat_map names_of (map value_of (drop (i + 1) words)))
-opened c words i h = ap (λ ws. first_unreplicated c (flat_map names_of (map value_of ws))) (drop_more words i 0 h)
-
 -- ---- moving them
 
 abbrev pub moved_to : Collection → ℕ → ℕ
 moved_to c w = word_of (moved c (value_of w))
-
-pub one_more : (c : Collection) (done words : List ℕ) (i x : ℕ) → i < length words → done ++ map (moved_to c) (drop i words) ≡ map (moved_to c) words → x ≡ moved_to c (get_or words i 0)
-    → (done ++ x ∷ []) ++ map (moved_to c) (drop (i + 1) words) ≡ map (moved_to c) words
-one_more c done words i x h e is =
-    append_assoc done (x ∷ []) (map (moved_to c) (drop (i + 1) words))
-    ∙ ap (λ y. done ++ y ∷ map (moved_to c) (drop (i + 1) words)) is
-    ∙ ap (λ ws. done ++ map (moved_to c) ws) (sym (drop_more words i 0 h))
-    ∙ e
 
 pub all_moved : (heap : HeapWords) (c : Collection) → map (moved_to c) heap.roots ≡ new_root_words heap c
 all_moved heap c = by heap.roots

@@ -1,5 +1,5 @@
 -- Every state that a run reaches is as it has to be.
-use Rattle.std.proofs.Common.{◌≡◌, ℕ, ◌≤◌, ◌==◌, List, [], ◌∷◌, Option, Some, None, refl, sym, ◌∙◌, subst, arith}
+use Rattle.std.proofs.Common.{◌||◌, ◌≡◌, ℕ, ◌≤◌, ◌==◌, List, [], ◌∷◌, Option, Some, None, refl, sym, ◌∙◌, subst, arith}
 use Rattle.std.proofs.lemmas.Bool.{cond_both}
 use Rattle.std.proofs.lemmas.List.{length-replicate}
 use Rattle.gc_graph.specs.Slots.{roots_of}
@@ -30,6 +30,7 @@ opening_ok size mutators low high = record {
     laid = omega arith;
     objects = λ a o k. absurd k;
     roots = λ v k. subst (RefersTo (IsNamed [])) (in_replicate v Nil (roots_of mutators) k) tt;
+    numbers = λ a o found. absurd (let no : None ≡ Some o = found in cc);
   };
   numbers = record { fields = λ a o k. absurd k; roots = λ v k. subst IsSmall (in_replicate v Nil (roots_of mutators) k) tt };
   roots = length-replicate (roots_of mutators) Nil;
@@ -46,7 +47,7 @@ root_count s c (Some name) = room_count s Copied _
 
 scan_count : (s : State) (c : Collection) (t : Option Replica) → (scan_replica s c t).1.mutators ≡ s.mutators
 scan_count s c None = refl
-scan_count s c (Some r) = cond_both (c.scan_field == _) _ _ (λ (next : StepReply × State). next.1.mutators ≡ s.mutators) (λ t. refl) (λ t. room_count s Scanned _)
+scan_count s c (Some r) = cond_both (r.object.raw || (c.scan_field == _)) _ _ (λ (next : StepReply × State). next.1.mutators ≡ s.mutators) (λ t. refl) (λ t. room_count s Scanned _)
 
 apply_count : (s : State) (c : Collection) (m : ℕ) (l : List (ℕ × ℕ)) → (apply_log s c m l).1.mutators ≡ s.mutators
 apply_count s c m [] = refl

@@ -1,10 +1,11 @@
 -- The scan, as the code makes it.
-use Rattle.std.proofs.Common.{◌≡◌, ⊎_elim, ℕ, suc, ◌+◌, ◌<◌, ◌≤◌, ◌==◌, true, false, length, Some, None, refl, ap, sym, ◌∙◌, subst, arith}
+use Rattle.gc_words.proofs.Starts.{stands_in}
+use Rattle.std.proofs.Common.{◌≡◌, ⊎_elim, ℕ, suc, ◌+◌, ◌<◌, ◌≤◌, ◌==◌, ◌||◌, ◌⊎◌, Bool, true, false, length, Some, None, refl, ap, sym, ◌∙◌, subst, arith}
 use Rattle.std.specs.Prelude.{◌^◌, IsSome}
 use Rattle.std.specs.Option.{option_map}
-use Rattle.std.proofs.lemmas.Bool.{cond-true, cond-false, eq-eqb, ne_eqb, eqb-false}
+use Rattle.std.proofs.lemmas.Bool.{cond-true, cond-false, eq-eqb, ne_eqb, eqb-false, or_left, or_right}
 use Rattle.gc_graph.specs.Graph.{Object, lookup}
-use Rattle.gc_words.specs.Image.{is_start, header_at, field_at, object_of_block, objects_of}
+use Rattle.gc_words.specs.Image.{Block, block_at, is_start, header_at, field_at, object_of_block, objects_of}
 use Rattle.gc_words.specs.Spelling.{link_at}
 use Rattle.gc_words.specs.declared.header.Header.{Header}
 use Rattle.gc_words.proofs.Fields.{block_of_header}
@@ -23,13 +24,14 @@ use Rattle.gc_copy.proofs.Links.{found_by_name, found_by_place}
 use Rattle.gc_copy.proofs.Spaces.{in_start, replica_start}
 use Rattle.gc_copy.proofs.OpenCollection.{state_kept, same_graph, after_step, field_present, replica_object}
 
+neither : (a b : Bool) → a ≡ false → b ≡ false → (a || b) ≡ false
+neither true b e f = absurd cc
+neither false b e f = f
+
 module _ (heap : HeapWords) (x : CollectionWords) (is : IsCollection x) (k : BelongsTo heap x) (more : scan_done (collection_in x) ≡ false) where
   -- the replica at the scan pointer
   at : (r : Replica) × In r (replicas_in x.space.words) × (r.place ≡ x.scan_place) × (x.scan_field ≤ length r.object.fields)
   at = ⊎_elim (λ s. s) (λ s. absurd (eqb-false x.scan_place (new_end (collection_in x)) more s.0)) (k.belongs).scan
-
-  one : Replica
-  one = at.0
 
   found : replica_at (collection_in x) x.scan_place ≡ Some at.0
   found = subst (λ n. replica_at (collection_in x) n ≡ Some at.0) at.2 (found_by_place (IsDue (collection_in x)) (graph_in heap).objects (collection_in x) k.belongs at.0 at.1)
@@ -44,12 +46,27 @@ module _ (heap : HeapWords) (x : CollectionWords) (is : IsCollection x) (k : Bel
       let e = replica_start x.space.words at.0 at.1 in
       ap (link_at x.space.words) (sym (ap (λ (r : Replica). r.place) e.2 ∙ at.2)) ∙ ap (λ (r : Replica). r.original) e.2
 
-  count : (h : Header) → header_at x.space.words x.scan_place ≡ Some h → length at.0.object.fields ≡ h.len
-  count h e =
+  stands_there : (h : Header) → header_at x.space.words x.scan_place ≡ Some h → (b : Block) × (block_at x.space.words x.scan_place ≡ Some b) × (b.header ≡ h) × (object_of_block b ≡ at.0.object)
+  stands_there h e =
       let b = block_of_header x.space.words x.scan_place h e in
       let o : lookup (objects_of x.space.words) x.scan_place ≡ Some at.0.object = subst (λ n. lookup (objects_of x.space.words) n ≡ Some at.0.object) at.2 (replica_object (graph_in heap).objects x at.0 k.belongs at.1) in
-      let same : object_of_block b.0 ≡ at.0.object = (let s : Some (object_of_block b.0) ≡ Some at.0.object = sym (object_found x.space.words x.scan_place ∙ ap (option_map object_of_block) b.1) ∙ o in cc) in
-      sym (ap (λ (o : Object). length o.fields) same) ∙ fields_counted x.space.words x.scan_place b.0 (is.space).walked b.1 ∙ ap (λ (h : Header). h.len) b.2
+      (b.0, b.1, b.2, (let s : Some (object_of_block b.0) ≡ Some at.0.object = sym (object_found x.space.words x.scan_place ∙ ap (option_map object_of_block) b.1) ∙ o in cc))
+
+  count : (h : Header) → header_at x.space.words x.scan_place ≡ Some h → length at.0.object.fields ≡ h.len
+  count h e =
+      let b = stands_there h e in
+      sym (ap (λ (o : Object). length o.fields) b.3) ∙ fields_counted x.space.words x.scan_place b.0 (is.space).walked b.1 ∙ ap (λ (h : Header). h.len) b.2
+
+  -- as each header that a word is
+  pub len_small : (h : Header) → header_at x.space.words x.scan_place ≡ Some h → h.len < 65536
+  len_small h e =
+      let b = stands_there h e in
+      subst (λ (h : Header). h.len < 65536) b.2 ((stands_in x.space.words x.scan_place b.0 (is.space).walked b.1).whole.header).len
+
+  raw_is : (h : Header) → header_at x.space.words x.scan_place ≡ Some h → at.0.object.raw ≡ h.raw
+  raw_is h e =
+      let b = stands_there h e in
+      sym (ap (λ (o : Object). o.raw) b.3) ∙ ap (λ (h : Header). h.raw) b.2
 
   pub small : link_at x.space.words x.scan_place < 2 ^ 32
   small = subst (λ n. n < 2 ^ 32) (sym original) (is.originals at.0 at.1)
@@ -73,45 +90,48 @@ module _ (heap : HeapWords) (x : CollectionWords) (is : IsCollection x) (k : Bel
   pub next_small : (h : Header) → header_at x.space.words x.scan_place ≡ Some h → (x.scan_field ≡ h.len → ⊥) → x.scan_field + 1 ≤ h.len
   next_small h e other = let n = count h e in let most = at.3 in omega (arith, n, other)
 
-  passes : (h : Header) → header_at x.space.words x.scan_place ≡ Some h → x.scan_field ≡ h.len → scan (open_state heap x) (collection_in x) ≡ (Passed, with_collection (open_state heap x) (Some (next_object (collection_in x) at.0)))
+  passes : (h : Header) → header_at x.space.words x.scan_place ≡ Some h → (h.raw ≡ true) ⊎ (x.scan_field ≡ h.len) → scan (open_state heap x) (collection_in x) ≡ (Passed, with_collection (open_state heap x) (Some (next_object (collection_in x) at.0)))
   passes h e all =
       cond-false (scan_done (collection_in x)) (Clean, open_state heap x) (scan_replica (open_state heap x) (collection_in x) (replica_at (collection_in x) x.scan_place)) more
       ∙ ap (scan_replica (open_state heap x) (collection_in x)) found
-      ∙ cond-true (x.scan_field == length at.0.object.fields) _ _ (eq-eqb x.scan_field (length at.0.object.fields) (all ∙ sym (count h e)))
+      ∙ cond-true (at.0.object.raw || (x.scan_field == length at.0.object.fields)) _ _ (⊎_elim
+      (λ raw. or_left at.0.object.raw (x.scan_field == length at.0.object.fields) (raw_is h e ∙ raw))
+      (λ same. or_right at.0.object.raw (x.scan_field == length at.0.object.fields) (eq-eqb x.scan_field (length at.0.object.fields) (same ∙ sym (count h e))))
+      all)
 
-  pub passed : (h : Header) → header_at x.space.words x.scan_place ≡ Some h → x.scan_field ≡ h.len → (place : ℕ) → place ≡ x.scan_place + (h.len + 2)
+  pub passed : (h : Header) → header_at x.space.words x.scan_place ≡ Some h → (h.raw ≡ true) ⊎ (x.scan_field ≡ h.len) → (place : ℕ) → place ≡ x.scan_place + (h.len + 2)
       → scan (open_state heap x) (collection_in x) ≡ (Passed, open_state heap (record x { scan_place = place; scan_field = 0 }))
   passed h e all place is_there =
       let p : x.scan_place + (length at.0.object.fields + 2) ≡ place = ap (λ n. x.scan_place + (n + 2)) (count h e) ∙ sym is_there in
       passes h e all ∙ ap (λ n. (Passed, open_state heap (record x { scan_place = n; scan_field = 0 }))) p
 
-  pub passed_belongs : (h : Header) → header_at x.space.words x.scan_place ≡ Some h → x.scan_field ≡ h.len → (place : ℕ) → place ≡ x.scan_place + (h.len + 2) → BelongsTo heap (record x { scan_place = place; scan_field = 0 })
+  pub passed_belongs : (h : Header) → header_at x.space.words x.scan_place ≡ Some h → (h.raw ≡ true) ⊎ (x.scan_field ≡ h.len) → (place : ℕ) → place ≡ x.scan_place + (h.len + 2) → BelongsTo heap (record x { scan_place = place; scan_field = 0 })
   passed_belongs h e all place is_there = after_step heap heap x (record x { scan_place = place; scan_field = 0 }) steps.Scan Passed (λ no. cc no) is k (same_graph heap) refl (passed h e all place is_there) k.links
 
-  scans : (h : Header) → header_at x.space.words x.scan_place ≡ Some h → (x.scan_field ≡ h.len → ⊥) → scan (open_state heap x) (collection_in x) ≡ if_room (open_state heap x) Scanned (next_field (bring_up_to_date (collection_in x) (graph_in heap) (link_at x.space.words x.scan_place) x.scan_field))
-  scans h e other =
+  scans : (h : Header) → header_at x.space.words x.scan_place ≡ Some h → h.raw ≡ false → (x.scan_field ≡ h.len → ⊥) → scan (open_state heap x) (collection_in x) ≡ if_room (open_state heap x) Scanned (next_field (bring_up_to_date (collection_in x) (graph_in heap) (link_at x.space.words x.scan_place) x.scan_field))
+  scans h e plain other =
       cond-false (scan_done (collection_in x)) (Clean, open_state heap x) (scan_replica (open_state heap x) (collection_in x) (replica_at (collection_in x) x.scan_place)) more
       ∙ ap (scan_replica (open_state heap x) (collection_in x)) found
-      ∙ cond-false (x.scan_field == length at.0.object.fields) _ _ (ne_eqb x.scan_field (length at.0.object.fields) (λ s. other (s ∙ count h e)))
+      ∙ cond-false (at.0.object.raw || (x.scan_field == length at.0.object.fields)) _ _ (neither at.0.object.raw (x.scan_field == length at.0.object.fields) (raw_is h e ∙ plain) (ne_eqb x.scan_field (length at.0.object.fields) (λ s. other (s ∙ count h e))))
       ∙ ap (λ a. if_room (open_state heap x) Scanned (next_field (bring_up_to_date (collection_in x) (graph_in heap) a x.scan_field))) (sym original)
 
-  pub no_room : (h : Header) → header_at x.space.words x.scan_place ≡ Some h → (x.scan_field ≡ h.len → ⊥) → bring_up_to_date (collection_in x) (graph_in heap) (link_at x.space.words x.scan_place) x.scan_field ≡ None
+  pub no_room : (h : Header) → header_at x.space.words x.scan_place ≡ Some h → h.raw ≡ false → (x.scan_field ≡ h.len → ⊥) → bring_up_to_date (collection_in x) (graph_in heap) (link_at x.space.words x.scan_place) x.scan_field ≡ None
       → scan (open_state heap x) (collection_in x) ≡ (NoRoom, open_state heap x)
-  no_room h e other none = scans h e other ∙ ap (λ o. if_room (open_state heap x) Scanned (next_field o)) none
+  no_room h e plain other none = scans h e plain other ∙ ap (λ o. if_room (open_state heap x) Scanned (next_field o)) none
 
   -- `after` is the collection in which the field is up to date
-  pub scanned : (h : Header) → header_at x.space.words x.scan_place ≡ Some h → (x.scan_field ≡ h.len → ⊥) → (new : HeapWords) (after : CollectionWords) → KeepsGraph heap new → KeepsRest x after
+  pub scanned : (h : Header) → header_at x.space.words x.scan_place ≡ Some h → h.raw ≡ false → (x.scan_field ≡ h.len → ⊥) → (new : HeapWords) (after : CollectionWords) → KeepsGraph heap new → KeepsRest x after
       → bring_up_to_date (collection_in x) (graph_in heap) (link_at x.space.words x.scan_place) x.scan_field ≡ Some (collection_in after)
       → scan (open_state heap x) (collection_in x) ≡ (Scanned, open_state new (record after { scan_field = x.scan_field + 1 }))
-  scanned h e other new after graph rest brought =
+  scanned h e plain other new after graph rest brought =
       let field : suc after.scan_field ≡ x.scan_field + 1 = (let s = rest.scan_field in omega arith) in
-      scans h e other
+      scans h e plain other
       ∙ ap (λ o. if_room (open_state heap x) Scanned (next_field o)) brought
       ∙ ap (λ n. (Scanned, open_state heap (record after { scan_field = n }))) field
       ∙ ap (λ s. (Scanned, s)) (sym (state_kept heap new (Some (collection_in (record after { scan_field = x.scan_field + 1 }))) graph))
 
-  pub scanned_belongs : (h : Header) → header_at x.space.words x.scan_place ≡ Some h → (x.scan_field ≡ h.len → ⊥) → (new : HeapWords) (after : CollectionWords) → KeepsGraph heap new → KeepsRest x after → BelongsTo new after
+  pub scanned_belongs : (h : Header) → header_at x.space.words x.scan_place ≡ Some h → h.raw ≡ false → (x.scan_field ≡ h.len → ⊥) → (new : HeapWords) (after : CollectionWords) → KeepsGraph heap new → KeepsRest x after → BelongsTo new after
       → bring_up_to_date (collection_in x) (graph_in heap) (link_at x.space.words x.scan_place) x.scan_field ≡ Some (collection_in after)
       → BelongsTo new (record after { scan_field = x.scan_field + 1 })
-  scanned_belongs h e other new after graph rest belongs brought =
-      after_step heap new x (record after { scan_field = x.scan_field + 1 }) steps.Scan Scanned (λ no. cc no) is k graph (ap length rest.logs) (scanned h e other new after graph rest brought) belongs.links
+  scanned_belongs h e plain other new after graph rest belongs brought =
+      after_step heap new x (record after { scan_field = x.scan_field + 1 }) steps.Scan Scanned (λ no. cc no) is k graph (ap length rest.logs) (scanned h e plain other new after graph rest brought) belongs.links

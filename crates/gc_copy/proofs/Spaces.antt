@@ -1,28 +1,30 @@
 -- The replicas that the words of a space are, and what writes do to them.
-use Rattle.std.proofs.Common.{◌≡◌, ⊎_elim, inl, inr, ℕ, ◌-◌, ◌==◌, true, false, List, [], ◌∷◌, ◌++◌, map, Option, Some, None, is_some, refl, ap, sym, ◌∙◌, subst, arith}
+use Rattle.std.proofs.Common.{◌≡◌, ⊎_elim, inl, inr, ℕ, ◌-◌, ◌==◌, Bool, true, false, cond, length, List, [], ◌∷◌, ◌++◌, map, Option, Some, None, is_some, refl, ap, sym, ◌∙◌, subst, arith}
 use Rattle.std.specs.Prelude.{IsSome}
 use Rattle.std.proofs.lemmas.Bool.{cases_Bool, cond-true, cond-false, eq-eqb}
-use Rattle.std.proofs.lemmas.List.{map-append}
-use Rattle.gc_graph.specs.Graph.{Object, set_field, new_object}
-use Rattle.gc_words.specs.Word.{value_of}
+use Rattle.std.proofs.lemmas.List.{length-map, map-append}
+use Rattle.gc_graph.specs.Graph.{Value, Num, Object, lookup, set_field, new_object}
+use Rattle.gc_words.specs.Word.{value_of, field_value}
 use Rattle.gc_words.specs.Image.{Block, blocks, block_in, block_at, is_start, field_at, fresh_block, set_block, object_of_block, object_entry, objects_of}
-use Rattle.gc_words.specs.Spelling.{link_at}
+use Rattle.gc_words.specs.Spelling.{link_at, IsBlock}
 use Rattle.gc_words.specs.Layout.{link_place, field_place}
-use Rattle.gc_words.specs.Space.{SpaceWords, IsSpace, CanPlace, end_of, free_in, with_object, with_word}
-use Rattle.gc_words.specs.declared.header.Header.{Header}
+use Rattle.gc_words.specs.Space.{SpaceWords, IsSpace, end_of, free_in, with_block, with_word}
 use Rattle.gc_words.proofs.Walks.{objects_set}
-use Rattle.gc_words.proofs.Writes.{placed, field_written, link_written}
-use Rattle.gc_words.proofs.Blocks.{none_at_end, placed_block}
+use Rattle.gc_words.proofs.Writes.{CanPlaceBlock, block_placed, field_written, link_written}
+use Rattle.gc_words.proofs.Blocks.{none_at_end, block_there}
 use Rattle.gc_words.proofs.Links.{link_placed_beside, link_beside_field, link_written_there, link_written_beside}
-use Rattle.gc_words.proofs.Graphs.{fresh_object}
-use Rattle.gc_copy.specs.State.{Replica, Collection, new_objects, new_end, replica_of}
+use Rattle.gc_words.proofs.Graphs.{object_found}
+use Rattle.gc_words.proofs.Graphs.{fresh_object as new_block_object}
+use Rattle.gc_copy.specs.State.{Replica, Collection, new_objects, new_end, replica_of, fresh_object}
 use Rattle.gc_copy.specs.Steps.{with_written, write_replica}
 use Rattle.gc_copy.specs.Words.{CollectionWords, replica_entry, replicas_in, collection_in}
+use Rattle.gc_copy.specs.Internal.Words.{replica_block}
+use Rattle.std.specs.Option.{option_map}
 use Rattle.gc_copy.specs.Members.{In}
 use Rattle.gc_copy.specs.Belonging.{BelongsBy}
-use Rattle.gc_copy.proofs.Lists.{map_same, in_map_from}
-use Rattle.gc_copy.proofs.Heap.{laid_end_is}
-use Rattle.gc_copy.proofs.Replicas.{with_written_pair}
+use Rattle.gc_copy.proofs.Lists.{map_same, in_map, in_map_from}
+use Rattle.gc_copy.proofs.Heap.{laid_end_is, lookup_laid}
+use Rattle.gc_copy.proofs.Replicas.{placed, with_written_pair, replica_in}
 use Rattle.gc_copy.proofs.Links.{write_is_set}
 use Rattle.gc_copy.proofs.Words.{objects_laid}
 
@@ -34,10 +36,6 @@ map_agree f g (x ∷ xs) h =
     let here = h x (inl refl) in
     let rest = map_agree f g xs (λ y k. h y (inr k)) in
     λ i. here i ∷ rest i
-
-map_twice : {X Y Z : Type 0} (f : Y → Z) (g : X → Y) (xs : List X) → map f (map g xs) ≡ map (λ x. f (g x)) xs
-map_twice f g [] = refl
-map_twice f g (x ∷ xs) = let rest = map_twice f g xs in λ i. f (g x) ∷ rest i
 
 abbrev placed_of : Replica → ℕ × Object
 placed_of r = (r.place, r.object)
@@ -94,24 +92,24 @@ entry_agrees words others e h = λ i. record { original = h i; place = e.0; obje
 
 -- ---- a replica is placed
 
-abbrev pub fresh_at : SpaceWords → Header → ℕ → Replica
-fresh_at s h name = record { original = name; place = end_of s; object = new_object h.kind h.len }
+abbrev pub replica_at_end : SpaceWords → Block → ℕ → Replica
+replica_at_end s b name = record { original = name; place = end_of s; object = object_of_block b }
 
-pub space_placed : (s : SpaceWords) (h : Header) (name : ℕ) → CanPlace s h
-    → let after = with_word (with_object s h) (link_place (end_of s)) name in IsSpace after × (replicas_in after.words ≡ replicas_in s.words ++ fresh_at s h name ∷ [])
-space_placed s h name can = (linked.0, each)
+pub space_placed : (s : SpaceWords) (b : Block) (name : ℕ) → CanPlaceBlock s b
+    → let after = with_word (with_block s b) (link_place (end_of s)) name in IsSpace after × (replicas_in after.words ≡ replicas_in s.words ++ replica_at_end s b name ∷ [])
+space_placed s b name can = (linked.0, each)
   where
-    one : IsSpace (with_object s h) × (blocks (with_object s h).words ≡ blocks s.words ++ (end_of s, fresh_block h) ∷ [])
-    one = placed s h can
+    one : IsSpace (with_block s b) × (blocks (with_block s b).words ≡ blocks s.words ++ (end_of s, b) ∷ [])
+    one = block_placed s b can
 
-    start : is_start (with_object s h).words (end_of s) ≡ true
-    start = ap is_some (placed_block s h can)
+    start : is_start (with_block s b).words (end_of s) ≡ true
+    start = ap is_some (block_there s b can)
 
-    linked : IsSpace (with_word (with_object s h) (link_place (end_of s)) name) × (blocks (with_word (with_object s h) (link_place (end_of s)) name).words ≡ blocks (with_object s h).words)
-    linked = link_written (with_object s h) (end_of s) name one.0 start
+    linked : IsSpace (with_word (with_block s b) (link_place (end_of s)) name) × (blocks (with_word (with_block s b) (link_place (end_of s)) name).words ≡ blocks (with_block s b).words)
+    linked = link_written (with_block s b) (end_of s) name one.0 start
 
     words : List ℕ
-    words = (with_word (with_object s h) (link_place (end_of s)) name).words
+    words = (with_word (with_block s b) (link_place (end_of s)) name).words
 
     apart : (e : ℕ × Block) → In e (blocks s.words) → end_of s ≡ e.0 → ⊥
     apart e k same =
@@ -120,20 +118,31 @@ space_placed s h name can = (linked.0, each)
         let no : true ≡ false = sym there ∙ gone in absurd cc
 
     link_kept : (e : ℕ × Block) → In e (blocks s.words) → link_at words e.0 ≡ link_at s.words e.0
-    link_kept e k = link_written_beside (with_object s h) (end_of s) name e.0 (apart e k) ∙ link_placed_beside s h e.0 can.shaped (in_start s.words e k)
+    link_kept e k = link_written_beside (with_block s b) (end_of s) name e.0 (apart e k) ∙ link_placed_beside s b e.0 can.shaped (in_start s.words e k)
 
-    last : replica_entry words (end_of s, fresh_block h) ≡ fresh_at s h name
+    last : replica_entry words (end_of s, b) ≡ replica_at_end s b name
     last =
-        let link = link_written_there (with_object s h) (end_of s) name one.0 start in
-        let object = fresh_object h in
-        λ i. record { original = link i; place = end_of s; object = object i }
+        let link = link_written_there (with_block s b) (end_of s) name one.0 start in
+        λ i. record { original = link i; place = end_of s; object = object_of_block b }
 
-    each : replicas_in words ≡ replicas_in s.words ++ fresh_at s h name ∷ []
+    each : replicas_in words ≡ replicas_in s.words ++ replica_at_end s b name ∷ []
     each =
         ap (map (replica_entry words)) (linked.1 ∙ one.1)
-        ∙ map-append (replica_entry words) (blocks s.words) ((end_of s, fresh_block h) ∷ [])
-        ∙ ap (λ rs. rs ++ replica_entry words (end_of s, fresh_block h) ∷ []) (map_agree (replica_entry words) (replica_entry s.words) (blocks s.words) (λ e k. entry_agrees words s.words e (link_kept e k)))
+        ∙ map-append (replica_entry words) (blocks s.words) ((end_of s, b) ∷ [])
+        ∙ ap (λ rs. rs ++ replica_entry words (end_of s, b) ∷ []) (map_agree (replica_entry words) (replica_entry s.words) (blocks s.words) (λ e k. entry_agrees words s.words e (link_kept e k)))
         ∙ ap (λ r. replicas_in s.words ++ r ∷ []) last
+
+-- what a replica is placed as
+pub replica_block_object : (b : Block) → IsBlock b → object_of_block (replica_block b) ≡ fresh_object (object_of_block b)
+replica_block_object b whole = go b.header.raw refl
+  where
+    go : (raw : Bool) → b.header.raw ≡ raw → object_of_block (replica_block b) ≡ fresh_object (object_of_block b)
+    go true is = ap object_of_block (cond-true b.header.raw b (fresh_block b.header) is) ∙ sym (cond-true b.header.raw (object_of_block b) (new_object false b.header.kind (length (object_of_block b).fields)) is)
+    go false is =
+        ap object_of_block (cond-false b.header.raw b (fresh_block b.header) is)
+        ∙ new_block_object b.header
+        ∙ ap (λ raw. new_object raw b.header.kind b.header.len) is
+        ∙ sym (cond-false b.header.raw (object_of_block b) (new_object false b.header.kind (length (object_of_block b).fields)) is ∙ ap (λ n. new_object false b.header.kind n) (length-map b.fields (field_value b.header) ∙ whole.fields))
 
 -- ---- a field is written
 
@@ -149,10 +158,10 @@ in_places bs p k =
     let e = in_map_from (λ (e : ℕ × Block). e.0) p bs k in
     subst (λ n. is_some (block_in bs n) ≡ true) e.2 (in_block bs e.0 e.1)
 
-pub space_written : (Due : ℕ → ℕ → ℕ → Type 0) (objects : List (ℕ × Object)) (c : CollectionWords) (name i w : ℕ) (r : Replica)
-    → IsSpace c.space → BelongsBy Due objects (collection_in c) → replica_of (collection_in c) name ≡ Some r → IsSome (field_at c.space.words r.place i)
-    → let after = with_word c.space (field_place r.place i) w in IsSpace after × (replicas_in after.words ≡ (write_replica (collection_in c) name i (value_of w)).replicas)
-space_written Due objects c name i w r is belongs found there = (done.0, replicas_same (replicas_in words) (write_replica (collection_in c) name i (value_of w)).replicas same_originals same_objects)
+pub space_written : (Due : Bool → ℕ → ℕ → ℕ → Type 0) (objects : List (ℕ × Object)) (c : CollectionWords) (name i w : ℕ) (r : Replica) (v : Value)
+    → IsSpace c.space → BelongsBy Due objects (collection_in c) → replica_of (collection_in c) name ≡ Some r → IsSome (field_at c.space.words r.place i) → cond r.object.raw (Num w) (value_of w) ≡ v
+    → let after = with_word c.space (field_place r.place i) w in IsSpace after × (replicas_in after.words ≡ (write_replica (collection_in c) name i v).replicas)
+space_written Due objects c name i w r v is belongs found there means = (done.0, replicas_same (replicas_in words) (write_replica (collection_in c) name i v).replicas same_originals same_objects)
   where
     done : IsSpace (with_word c.space (field_place r.place i) w) × (blocks (with_word c.space (field_place r.place i) w).words ≡ set_block (blocks c.space.words) r.place i w)
     done = field_written c.space r.place i w is there
@@ -163,13 +172,13 @@ space_written Due objects c name i w r is belongs found there = (done.0, replica
     places : map (λ (e : ℕ × Block). e.0) (blocks words) ≡ map (λ (e : ℕ × Block). e.0) (blocks c.space.words)
     places = ap (map (λ (e : ℕ × Block). e.0)) done.1 ∙ places_set (blocks c.space.words) r.place i w
 
-    same_originals : map (λ (r : Replica). r.original) (replicas_in words) ≡ map (λ (r : Replica). r.original) (write_replica (collection_in c) name i (value_of w)).replicas
+    same_originals : map (λ (r : Replica). r.original) (replicas_in words) ≡ map (λ (r : Replica). r.original) (write_replica (collection_in c) name i v).replicas
     same_originals =
         originals_at words (blocks words)
         ∙ ap (map (link_at words)) places
         ∙ map_agree (link_at words) (link_at c.space.words) (map (λ (e : ℕ × Block). e.0) (blocks c.space.words)) (λ p k. link_beside_field c.space r.place i w p is there (in_places (blocks c.space.words) p k))
         ∙ sym (originals_at c.space.words (blocks c.space.words))
-        ∙ sym (map_same (λ (q : Replica). q.original) (with_written name i (value_of w)) (λ q. ap (λ (x : ℕ × ℕ). x.0) (with_written_pair name i (value_of w) q)) (replicas_in c.space.words))
+        ∙ sym (map_same (λ (q : Replica). q.original) (with_written name i v) (λ q. ap (λ (x : ℕ × ℕ). x.0) (with_written_pair name i v q)) (replicas_in c.space.words))
 
     block : (b : Block) × (block_at c.space.words r.place ≡ Some b)
     block = from (block_at c.space.words r.place) refl there
@@ -178,10 +187,17 @@ space_written Due objects c name i w r is belongs found there = (done.0, replica
         from None e h = absurd cc
         from (Some b) e h = (b, e)
 
-    same_objects : map placed_of (replicas_in words) ≡ map placed_of (write_replica (collection_in c) name i (value_of w)).replicas
+    same_object : object_of_block block.0 ≡ r.object
+    same_object =
+        let l = replica_in (collection_in c) name r found in
+        let there = subst (λ os. lookup os r.place ≡ Some r.object) (new_objects_are c) (lookup_laid 1 (new_objects (collection_in c)) (new_end (collection_in c)) r.place r.object belongs.laid (in_map placed r (replicas_in c.space.words) l.0)) in
+        (let s : Some (object_of_block block.0) ≡ Some r.object = sym (object_found c.space.words r.place ∙ ap (option_map object_of_block) block.1) ∙ there in cc)
+
+    same_objects : map placed_of (replicas_in words) ≡ map placed_of (write_replica (collection_in c) name i v).replicas
     same_objects =
         placed_at words (blocks words)
         ∙ ap (map object_entry) done.1
         ∙ objects_set (blocks c.space.words) r.place i w block.0 block.1
-        ∙ ap (λ os. set_field os r.place i (value_of w)) (sym (new_objects_are c))
-        ∙ sym (write_is_set Due objects (collection_in c) belongs name i (value_of w) r found)
+        ∙ ap (set_field (objects_of c.space.words) r.place i) (ap (λ (o : Object). cond o.raw (Num w) (value_of w)) same_object ∙ means)
+        ∙ ap (λ os. set_field os r.place i v) (sym (new_objects_are c))
+        ∙ sym (write_is_set Due objects (collection_in c) belongs name i v r found)

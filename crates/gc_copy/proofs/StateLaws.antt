@@ -1,5 +1,5 @@
 -- The laws, of states and of every run.
-use Rattle.std.proofs.Common.{◌≡◌, ◌≢◌, ◌⊎◌, inl, inr, ⊎_elim, ℕ, ◌+◌, ◌-◌, ◌*◌, ◌<◌, ◌≤◌, ◌==◌, true, false, nat_lt, List, [], ◌∷◌, ◌++◌, map, length, Option, Some, None, ◌↔◌, refl, ap, sym, ◌∙◌, subst, arith}
+use Rattle.std.proofs.Common.{◌||◌, ◌≡◌, ◌≢◌, ◌⊎◌, inl, inr, ⊎_elim, ℕ, ◌+◌, ◌-◌, ◌*◌, ◌<◌, ◌≤◌, ◌==◌, true, false, nat_lt, List, [], ◌∷◌, ◌++◌, map, length, Option, Some, None, ◌↔◌, refl, ap, sym, ◌∙◌, subst, arith}
 use Rattle.std.proofs.lemmas.Bool.{cases_Bool, cond-true, cond-false, cond_both, eqb-false, ltb-false}
 use Rattle.std.proofs.lemmas.List.{length-map}
 use Rattle.gc_graph.specs.Graph.{Object, Graph}
@@ -21,8 +21,8 @@ use Rattle.gc_copy.specs.declared.step.Step.{Step}
 use Rattle.gc_copy.specs.declared.step.Step.TheVariants as steps
 use Rattle.gc_copy.specs.declared.step.StepReply.{StepReply}
 use Rattle.gc_copy.specs.declared.step.StepReply.TheVariants.{Clean, Scanned}
-use Rattle.gc_copy.proofs.Commands.{unchanged, step_keeps, step_evolves, field_stays, written_there, full_writes_nothing}
-use Rattle.gc_copy.proofs.Replicas.{pair, placed, end_of, replicas_due}
+use Rattle.gc_copy.proofs.Commands.{step_numbers, unchanged, step_keeps, step_evolves, field_stays, written_there, full_writes_nothing}
+use Rattle.gc_copy.proofs.Replicas.{pair, placed, replicas_end, replicas_due}
 use Rattle.gc_copy.proofs.Steps.{open_keeps, ready_parts, its_replicas, belongs_from, belongs_but, belongs_noted}
 use Rattle.gc_copy.proofs.Links.{found_by_place}
 use Rattle.gc_copy.proofs.Runs.{run_ok}
@@ -57,7 +57,7 @@ room_unclean s None = λ e. cc e
 room_unclean s (Some d) = λ e. cc e
 
 scan_unclean : (s : State) (c : Collection) (r : Replica) → (scan_replica s c (Some r)).0 ≢ Clean
-scan_unclean s c r = cond_both (c.scan_field == length r.object.fields) _ _ (λ (next : StepReply × State). next.0 ≢ Clean)
+scan_unclean s c r = cond_both (r.object.raw || (c.scan_field == length r.object.fields)) _ _ (λ (next : StepReply × State). next.0 ≢ Clean)
     (λ t. λ e. cc e)
     (λ t. room_unclean s (next_field (bring_up_to_date c s.heap.graph r.original c.scan_field)))
 
@@ -88,7 +88,7 @@ two_words at (e ∷ rest) end h = let r = two_words (at + (length e.1.fields + 2
 pub has_few_pairs : (s : State) → IsState s → HasFewPairs s
 has_few_pairs s h c is =
     let k : IsOpened s c = subst (IsOpen s) is h.collection in
-    let t = two_words 1 (map placed c.replicas) (end_of c.replicas) (k.belongs).laid in
+    let t = two_words 1 (map placed c.replicas) (replicas_end c.replicas) (k.belongs).laid in
     let room = (k.belongs).room in let same = k.size in
     omega (arith, t, length-map c.replicas placed, length-map c.replicas pair)
 
@@ -105,8 +105,8 @@ pub command_kept : (h : Roomy) (c : Collection) (m : ℕ) (op : Op) (name : ℕ)
     → (let next = roomy_step h m op name in BelongsBut (λ a i. In (a, i) (written h.graph m op next.0)) next.1.graph.objects c)
 command_kept h c m op name belongs =
     cond_both (nat_lt h.free (words_taken op)) _ _ (λ (next : Reply × Roomy). BelongsBut (λ a i. In (a, i) (written h.graph m op next.0)) next.1.graph.objects c)
-    (λ full. belongs_but h.graph.objects h.graph.objects c (λ a i. In (a, i) (written h.graph m op Full)) belongs (unchanged h.graph.objects _))
-    (λ fits. belongs_but h.graph.objects (step h.graph m op name).1.objects c (λ a i. In (a, i) (written h.graph m op (step h.graph m op name).0)) belongs (step_evolves h.graph m op name))
+    (λ full. belongs_but h.graph.objects h.graph.objects c (λ a i. In (a, i) (written h.graph m op Full)) belongs (unchanged h.graph.objects _) belongs.numbers)
+    (λ fits. belongs_but h.graph.objects (step h.graph m op name).1.objects c (λ a i. In (a, i) (written h.graph m op (step h.graph m op name).0)) belongs (step_evolves h.graph m op name) (step_numbers h.graph m op name belongs.numbers))
 
 -- the field that a command writes is one of the heap
 pub field_there : (h : Roomy) (m : ℕ) (op : Op) (name a i : ℕ)
@@ -120,11 +120,11 @@ pub notes : (objects : List (ℕ × Object)) (c : Collection) (m a i : ℕ) → 
     → Belongs objects (with_log c m (log_at c m ++ (a, i) ∷ []))
 notes objects c m a i within there h =
     belongs_noted objects c m ((a, i) ∷ []) within
-    (belongs_from (λ p b j. IsDue c p b j ⊎ In {X = ℕ × ℕ} (b, j) ((a, i) ∷ [])) objects c
-    (replicas_due objects c.size (λ p b j. IsDue c p b j ⊎ ((b ≡ a) × (j ≡ i))) (λ p b j. IsDue c p b j ⊎ In {X = ℕ × ℕ} (b, j) ((a, i) ∷ [])) c.replicas
-    (its_replicas (λ p b j. IsDue c p b j ⊎ ((b ≡ a) × (j ≡ i))) objects c h)
+    (belongs_from (λ raw p b j. IsDue c raw p b j ⊎ In {X = ℕ × ℕ} (b, j) ((a, i) ∷ [])) objects c
+    (replicas_due objects c.size (λ raw p b j. IsDue c raw p b j ⊎ ((b ≡ a) × (j ≡ i))) (λ raw p b j. IsDue c raw p b j ⊎ In {X = ℕ × ℕ} (b, j) ((a, i) ∷ [])) c.replicas
+    (its_replicas (λ raw p b j. IsDue c raw p b j ⊎ ((b ≡ a) × (j ≡ i))) objects c h)
     (λ r l j x d. ⊎_elim (λ y. inl y) (λ y. inr (inl (λ n. (sym y.0 n, sym y.1 n)))) d))
-    h.scan h.entries)
+    h.scan h.entries h.numbers)
     (λ b j x. ⊎_elim (λ e. subst (λ (p : ℕ × ℕ). HasField objects p.0 p.1) e there) (λ y. absurd y) x)
 
 -- ---- the steps of an open collection

@@ -1,20 +1,23 @@
 -- The heap that words spell.
-use Rattle.std.proofs.Common.{◌≡◌, ⊎_elim, inl, inr, ℕ, ◌+◌, ◌-◌, ◌/◌, ◌%◌, ◌<◌, ◌==◌, Bool, true, false, cond, List, [], ◌∷◌, map, length, get_or, Some, is_some, All, refl, ap, sym, ◌∙◌, subst, arith, length-append}
+use Rattle.std.proofs.Common.{◌≡◌, ⊎_elim, inl, inr, ℕ, ◌+◌, ◌-◌, ◌/◌, ◌%◌, ◌<◌, ◌==◌, Bool, true, false, cond, List, [], ◌∷◌, map, length, get_or, Option, Some, None, is_some, All, refl, ap, sym, ◌∙◌, subst, arith, length-append}
 use Rattle.std.proofs.lemmas.Bool.{cases_Bool, cond-false, eqb-true, eqb-false}
 use Rattle.std.proofs.lemmas.List.{length-map}
 use Rattle.std.proofs.lemmas.Option.{slice_get-get_or}
 use Rattle.gc_graph.specs.Graph.{Value, Nil, Num, Ref, Object}
 use Rattle.gc_words.specs.Word.{value_of, word_of, field_value}
-use Rattle.gc_words.specs.Image.{Block, blocks, block_in, object_of_block, object_entry, objects_of}
+use Rattle.gc_words.specs.Image.{Block, blocks, block_in, block_at, object_of_block, object_entry, objects_of}
 use Rattle.gc_words.specs.Spelling.{block_words, spelled, spelled_from, link_at, IsBlock, LaidOut}
 use Rattle.gc_words.specs.Space.{SpaceWords, IsSpace, free_in}
-use Rattle.gc_words.specs.Closed.{RefersToStart, IsRootWord, IsFieldWord, HasFieldWords}
+use Rattle.gc_words.specs.Closed.{RefersToStart, IsRootWord, IsWordOfField, IsFieldWord, HasFieldWords}
 use Rattle.gc_words.specs.declared.header.Header.{Header}
+use Rattle.std.specs.Option.{option_map}
+use Rattle.gc_graph.specs.Machine.{is_number}
+use Rattle.gc_words.proofs.Graphs.{object_found}
 use Rattle.gc_words.proofs.Spelled.{spelled_words, laid_out_words}
 use Rattle.gc_heap.specs.Heap.{HeapWords, IsHeap, image_of, graph_in}
-use Rattle.gc_copy.specs.Linked.{field_word, object_header, block_entry, linked_image}
+use Rattle.gc_copy.specs.Linked.{number_of, field_word, object_header, block_entry, linked_image}
 use Rattle.gc_copy.specs.Members.{In}
-use Rattle.gc_copy.specs.Belonging.{Laid, IsNamed, RefersTo, IsObject, IsSpaceGraph}
+use Rattle.gc_copy.specs.Belonging.{Laid, IsNamed, RefersTo, IsObject, HasRawNumbers, IsSpaceGraph}
 use Rattle.gc_copy.proofs.Lists.{in_map, in_map_from, in_get, get_past}
 
 -- an element of a list of which all is true
@@ -66,6 +69,13 @@ module _ (space : SpaceWords) (is : IsSpace space) where
   value_refers (Num n) h = tt
   value_refers (Ref a) h = let b = block_found_in (blocks space.words) a h in (object_of_block b.0, in_map object_entry (a, b.0) (blocks space.words) b.1)
 
+  field_refers : (h : Header) (w : ℕ) → IsFieldWord space.words h w → RefersTo (IsNamed (objects_of space.words)) (field_value h w)
+  field_refers h w is = go h.raw is
+    where
+      go : (raw : Bool) → IsWordOfField raw space.words w → RefersTo (IsNamed (objects_of space.words)) (cond raw (Num w) (value_of w))
+      go true is = tt
+      go false is = value_refers (value_of w) is.start
+
   block_object : (e : ℕ × Block) → In e (blocks space.words) → HasFieldWords space.words e.1 → IsObject (objects_of space.words) (object_of_block e.1)
   block_object e k words =
       let whole = laid_whole 1 (blocks space.words) e laid k in record {
@@ -73,7 +83,7 @@ module _ (space : SpaceWords) (is : IsSpace space) where
         len = let l = (whole.header).len in let n = whole.fields in omega (arith, length-map e.1.fields (field_value e.1.header));
         fields = λ v x.
             let w = in_map_from (field_value e.1.header) v e.1.fields x in
-            subst (RefersTo (IsNamed (objects_of space.words))) w.2 (value_refers (value_of w.0) (in_all (IsFieldWord space.words e.1.header) e.1.fields w.0 words w.1).start);
+            subst (RefersTo (IsNamed (objects_of space.words))) w.2 (field_refers e.1.header w.0 (in_all (IsFieldWord space.words e.1.header) e.1.fields w.0 words w.1));
       }
 
 -- ---- words and values
@@ -94,17 +104,24 @@ words_back (w ∷ ws) =
     let r = words_back ws in
     λ i. e i ∷ r i
 
+field_word_back : (h : Header) (w : ℕ) → field_word h (field_value h w) ≡ w
+field_word_back h w = go h.raw refl
+  where
+    go : (raw : Bool) → h.raw ≡ raw → field_word h (field_value h w) ≡ w
+    go true is = λ i. cond (is i) (number_of (cond (is i) (Num w) (value_of w))) (word_of (cond (is i) (Num w) (value_of w)))
+    go false is = (λ i. cond (is i) (number_of (cond (is i) (Num w) (value_of w))) (word_of (cond (is i) (Num w) (value_of w)))) ∙ word_back w
+
 field_words_back : (h : Header) (fields : List ℕ) → map (field_word h) (map (field_value h) fields) ≡ fields
 field_words_back h [] = refl
 field_words_back h (w ∷ ws) =
-    let e = word_back w in
+    let e = field_word_back h w in
     let r = field_words_back h ws in
     λ i. e i ∷ r i
 
 block_back : (b : Block) → IsBlock b → (block_entry (0, object_of_block b)).1 ≡ b
 block_back b whole =
     let len : length (map (field_value b.header) b.fields) ≡ b.header.len = length-map b.fields (field_value b.header) ∙ whole.fields in
-    let same : object_header (object_of_block b) ≡ b.header = λ i. record { kind = b.header.kind; len = len i } in
+    let same : object_header (object_of_block b) ≡ b.header = λ i. record { raw = b.header.raw; kind = b.header.kind; len = len i } in
     let fields = field_words_back b.header b.fields in
     λ i. record { header = same i; fields = fields i }
 
@@ -126,6 +143,20 @@ space_spelled space is =
 
 -- ---- a heap of such words
 
+-- whatever the words are, those of raw objects are numbers
+pub words_numbers : (words : List ℕ) → HasRawNumbers (objects_of words)
+words_numbers words a o found raw v k = from (block_at words a) (sym (object_found words a) ∙ found)
+  where
+    number : (h : Header) (w : ℕ) → h.raw ≡ true → is_number (field_value h w) ≡ true
+    number h w is = ap (λ b. is_number (cond b (Num w) (value_of w))) is
+
+    from : (x : Option Block) → option_map object_of_block x ≡ Some o → is_number v ≡ true
+    from None e = absurd (let no : None ≡ Some o = e in cc)
+    from (Some b) e =
+        let same : object_of_block b ≡ o = (let s : Some (object_of_block b) ≡ Some o = e in cc) in
+        let w = in_map_from (field_value b.header) v b.fields (subst (λ (x : Object). In v x.fields) (sym same) k) in
+        subst (λ u. is_number u ≡ true) w.2 (number b.header w.0 (ap (λ (x : Object). x.raw) same ∙ raw))
+
 pub heap_graph : (heap : HeapWords) → IsHeap heap → IsSpaceGraph heap.space.size (free_in heap.space) (graph_in heap)
 heap_graph heap is = record {
   high = (is.space).size_high;
@@ -138,10 +169,11 @@ heap_graph heap is = record {
   roots = λ v k.
       let w = in_map_from value_of v heap.roots k in
       subst (RefersTo (IsNamed (objects_of heap.space.words))) w.2 (value_refers heap.space is.space (value_of w.0) (in_all (IsRootWord heap.space.words) heap.roots w.0 (is.closed).roots w.1).start);
+  numbers = words_numbers heap.space.words;
 }
 
 pub heap_image : (heap : HeapWords) → IsHeap heap → image_of heap ≡ linked_image (link_at heap.space.words) heap.space.size (graph_in heap)
 heap_image heap is =
     let all = space_spelled heap.space is.space in
     let rs = words_back heap.roots in
-    λ i. record { size = heap.space.size; end = length (all i); words = all i; roots = sym rs i }
+    λ i. record { size = heap.space.size; end = length (all i); words = all i; roots = sym rs i; raws = true }

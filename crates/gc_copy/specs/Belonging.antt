@@ -1,8 +1,9 @@
 -- What a heap is whose names are addresses, and when a collection belongs to it.
-use Rattle.std.specs.Prelude.{◌≡◌, ◌⊎◌, ℕ, ◌-◌, ◌<◌, ◌≤◌, ◌^◌, List, [], ◌∷◌, length, map, Option, Some, None, slice_get, IsTrue, ⊤}
+use Rattle.std.specs.Prelude.{◌≡◌, ◌⊎◌, ℕ, Bool, true, false, ◌-◌, ◌<◌, ◌≤◌, ◌^◌, List, [], ◌∷◌, length, map, Option, Some, None, slice_get, IsTrue, ⊤}
 use Rattle.gc_graph.specs.Limits.{most_words, kinds, lengths}
 use Rattle.gc_graph.specs.Slots.{roots_of}
 use Rattle.gc_graph.specs.Graph.{Value, Nil, Num, Ref, Object, Graph, lookup}
+use Rattle.gc_graph.specs.Machine.{is_number}
 use Rattle.gc_graph.specs.Correspond.{correspond}
 use Rattle.gc_words.specs.Layout.{next_place}
 use Rattle.gc_copy.specs.State.{Replica, Collection, State, new_objects, new_end, pairs_of}
@@ -31,6 +32,10 @@ pub record IsObject (objects : List (ℕ × Object)) (o : Object) : Type 0 where
   pub len : length o.fields < lengths
   pub fields : (v : Value) → In v o.fields → RefersTo (IsNamed objects) v
 
+-- the fields of raw objects are numbers
+abbrev pub HasRawNumbers : List (ℕ × Object) → Type 0
+HasRawNumbers objects = (a : ℕ) (o : Object) → lookup objects a ≡ Some o → o.raw ≡ true → (v : Value) → In v o.fields → IsTrue (is_number v)
+
 -- a graph whose names are the addresses of its objects in a space of this size with so many free words
 pub record IsSpaceGraph (size free : ℕ) (g : Graph) : Type 0 where
   pub high : size ≤ most_words
@@ -38,6 +43,7 @@ pub record IsSpaceGraph (size free : ℕ) (g : Graph) : Type 0 where
   pub laid : Laid 1 g.objects (size - free)
   pub objects : (a : ℕ) (o : Object) → In (a, o) g.objects → IsObject g.objects o
   pub roots : (v : Value) → In v g.roots → RefersTo (IsNamed g.objects) v
+  pub numbers : HasRawNumbers g.objects
 
 -- a number is below 2^63
 abbrev pub IsSmall : Value → Type 0
@@ -59,19 +65,20 @@ IsUnscanned c p i = (c.scan_place < p) ⊎ ((c.scan_place ≡ p) × (c.scan_fiel
 abbrev pub IsLogged : Collection → ℕ → ℕ → Type 0
 IsLogged c a i = (k : ℕ) × In (a, i) (log_at c k)
 
--- Field i of object a and of its replica, at place p, may differ so far.
-abbrev pub IsDue : Collection → ℕ → ℕ → ℕ → Type 0
-IsDue c p a i = IsUnscanned c p i ⊎ IsLogged c a i
+-- Field i of object a and of its replica, at place p, may differ so far. Those of a raw object count as scanned.
+abbrev pub IsDue : Collection → Bool → ℕ → ℕ → ℕ → Type 0
+IsDue c raw p a i = ((raw ≡ false) × IsUnscanned c p i) ⊎ IsLogged c a i
 
 -- ---- collections
 
--- a replica has its original's kind and length, and corresponding fields where they are not due
-pub record IsReplica (objects : List (ℕ × Object)) (pairs : List (ℕ × ℕ)) (Due : ℕ → ℕ → ℕ → Type 0) (r : Replica) : Type 0 where
+-- a replica is raw or not as its original is, has its kind and length, and corresponding fields where they are not due
+pub record IsReplica (objects : List (ℕ × Object)) (pairs : List (ℕ × ℕ)) (Due : Bool → ℕ → ℕ → ℕ → Type 0) (r : Replica) : Type 0 where
   pub original : Object
   pub found : lookup objects r.original ≡ Some original
+  pub raw : r.object.raw ≡ original.raw
   pub kind : r.object.kind ≡ original.kind
   pub len : length r.object.fields ≡ length original.fields
-  pub current : (i : ℕ) (v w : Value) → slice_get original.fields i ≡ Some v → slice_get r.object.fields i ≡ Some w → Due r.place r.original i ⊎ IsTrue (correspond pairs v w)
+  pub current : (i : ℕ) (v w : Value) → slice_get original.fields i ≡ Some v → slice_get r.object.fields i ≡ Some w → Due r.object.raw r.place r.original i ⊎ IsTrue (correspond pairs v w)
 
 -- at a field of a replica or at the end of one, or behind the last
 abbrev pub IsScanPlace : ℕ → ℕ → Collection → Type 0
@@ -82,13 +89,14 @@ HasField objects a i = (o : Object) × (lookup objects a ≡ Some o) × (i < len
 
 -- A collection of these objects, where the fields that are due may differ: the replicas are back to back in
 -- the new space, each object has one at most, and a log entry names a field.
-pub record BelongsBy (Due : ℕ → ℕ → ℕ → Type 0) (objects : List (ℕ × Object)) (c : Collection) : Type 0 where
+pub record BelongsBy (Due : Bool → ℕ → ℕ → ℕ → Type 0) (objects : List (ℕ × Object)) (c : Collection) : Type 0 where
   pub laid : Laid 1 (new_objects c) (new_end c)
   pub room : new_end c ≤ c.size
   pub once : Distinct (map (λ r. r.original) c.replicas)
   pub replicas : (r : Replica) → In r c.replicas → IsReplica objects (pairs_of c) Due r
   pub scan : IsScanPlace c.scan_place c.scan_field c
   pub entries : (a i : ℕ) → IsLogged c a i → HasField objects a i
+  pub numbers : HasRawNumbers objects
 
 -- a field that is neither unscanned nor logged is up to date
 abbrev pub Belongs : List (ℕ × Object) → Collection → Type 0
@@ -96,7 +104,7 @@ Belongs objects c = BelongsBy (IsDue c) objects c
 
 -- it belongs but for the fields of which E holds
 abbrev pub BelongsBut : (ℕ → ℕ → Type 0) → List (ℕ × Object) → Collection → Type 0
-BelongsBut E objects c = BelongsBy (λ p a i. IsDue c p a i ⊎ E a i) objects c
+BelongsBut E objects c = BelongsBy (λ raw p a i. IsDue c raw p a i ⊎ E a i) objects c
 
 -- ---- states
 

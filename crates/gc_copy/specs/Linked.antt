@@ -1,6 +1,6 @@
 -- The image of a graph whose names are addresses, with links as spaces have them. No definition reads a link.
-use Rattle.std.specs.Prelude.{ℕ, List, length, map, Option, Some, None}
-use Rattle.gc_graph.specs.Graph.{Value, Object, Graph}
+use Rattle.std.specs.Prelude.{ℕ, if◌then◌else◌, List, length, map, Option, Some, None}
+use Rattle.gc_graph.specs.Graph.{Value, Num, Object, Graph}
 use Rattle.gc_words.specs.Word.{word_of}
 use Rattle.gc_words.specs.Image.{Block, Image}
 use Rattle.gc_words.specs.Spelling.{spelled, no_links}
@@ -9,11 +9,16 @@ use Rattle.gc_words.specs.declared.header.Header.{Header}
 use Rattle.gc_copy.specs.State.{Replica, Collection, State, replica_of, replica_at, new_graph}
 
 abbrev pub object_header : Object → Header
-object_header object = record { kind = object.kind; len = length object.fields }
+object_header object = record { raw = object.raw; kind = object.kind; len = length object.fields }
+
+-- the number that a value is
+abbrev pub number_of : Value → ℕ
+number_of (Num n) = n
+number_of v = 0
 
 -- the word for a field of an object with this header
 abbrev pub field_word : Header → Value → ℕ
-field_word h v = word_of v
+field_word h v = if h.raw then number_of v else word_of v
 
 -- an object as it stands in a space
 abbrev pub object_block : Object → Block

@@ -1,9 +1,9 @@
 -- Worked rows: events in a space of so many words, and their answers.
-use Rattle.std.specs.Prelude.{◌≡◌, ℕ, List, [], ◌∷◌, ◌++◌, Option, Some, None}
+use Rattle.std.specs.Prelude.{true, ◌≡◌, ℕ, List, [], ◌∷◌, ◌++◌, Option, Some, None}
 use Rattle.gc_graph.specs.Slots.{own_slot, shared_slot}
 use Rattle.gc_graph.specs.declared.command.Op.{Op}
 use Rattle.gc_graph.specs.declared.command.Op.TheVariants as ops
-use Rattle.gc_graph.specs.declared.reply.Reply.TheVariants.{Full, Made, Done, Saw, Yes, No}
+use Rattle.gc_graph.specs.declared.reply.Reply.TheVariants.{Full, Made, Done, NoField, NoNumber, Saw, Yes, No}
 use Rattle.gc_graph.specs.declared.reply.View.TheVariants as views
 use Rattle.gc_words.specs.Image.{Image}
 use Rattle.gc_copy.specs.State.{Collection, State, opening_state, pairs_of}
@@ -71,6 +71,11 @@ pub record Rows : Type 0 where
       ∷ scan ∷ scan ∷ scan ∷ scan ∷ scan ∷ scan ∷ flip ∷ first (ops.Get (own_slot 4) (own_slot 0) 0) ∷ first (ops.Get (own_slot 4) (own_slot 4) 0) ∷ first (ops.Same (own_slot 4) (own_slot 0)) ∷ first (ops.Same (own_slot 4) (own_slot 1)) ∷ [])
       ≡ Mutator Made ∷ Mutator Made ∷ Mutator Done ∷ Mutator Done ∷ Mutator Done ∷ Collector Begun ∷ Collector Copied ∷ Collector Copied ∷ Collector Clean
       ∷ Collector Scanned ∷ Collector Scanned ∷ Collector Passed ∷ Collector Scanned ∷ Collector Passed ∷ Collector Clean ∷ Collector (Flipped 2) ∷ Mutator (Saw (views.Obj 2 1)) ∷ Mutator (Saw (views.Obj 1 2)) ∷ Mutator Yes ∷ Mutator No ∷ []
+  -- a raw object is copied whole, and written while the collection is open
+  pub raw_object : answers_of_one 16 (first (ops.NewRaw (own_slot 0) 7 2) ∷ first (ops.Look (own_slot 0)) ∷ first (ops.Get (own_slot 1) (own_slot 0) 1) ∷ first (ops.Put (own_slot 0) 0 (own_slot 2)) ∷ first (ops.Put (own_slot 0) 2 (own_slot 2)) ∷ first (ops.Num (own_slot 1) 8)
+      ∷ first (ops.Put (own_slot 0) 0 (own_slot 1)) ∷ begin ∷ roots ∷ first (ops.Num (own_slot 1) 10) ∷ first (ops.Put (own_slot 0) 1 (own_slot 1)) ∷ scan ∷ scan ∷ flip ∷ apply 0 ∷ flip ∷ first (ops.Get (own_slot 2) (own_slot 0) 0) ∷ first (ops.Get (own_slot 2) (own_slot 0) 1) ∷ [])
+      ≡ Mutator Made ∷ Mutator (Saw (views.RawObj 7 2)) ∷ Mutator (Saw (views.Num 0)) ∷ Mutator NoNumber ∷ Mutator NoField ∷ Mutator Done
+      ∷ Mutator Done ∷ Collector Begun ∷ Collector Copied ∷ Mutator Done ∷ Mutator Done ∷ Collector Passed ∷ Collector Clean ∷ Collector NotReady ∷ Collector Applied ∷ Collector (Flipped 1) ∷ Mutator (Saw (views.Num 8)) ∷ Mutator (Saw (views.Num 10)) ∷ []
   pub entry_without_a_replica : answers_of_one 32 (first (ops.New (own_slot 0) 1 1) ∷ begin ∷ first (ops.Put (own_slot 0) 0 (own_slot 0)) ∷ apply 0 ∷ apply 0 ∷ roots ∷ scan ∷ scan ∷ flip ∷ first (ops.Get (own_slot 1) (own_slot 0) 0) ∷ first (ops.Same (own_slot 0) (own_slot 1)) ∷ [])
       ≡ Mutator Made ∷ Collector Begun ∷ Mutator Done ∷ Collector Applied ∷ Collector Clean ∷ Collector Copied ∷ Collector Scanned ∷ Collector Passed ∷ Collector (Flipped 1) ∷ Mutator (Saw (views.Obj 1 1)) ∷ Mutator Yes ∷ []
   pub link_left_over : answers_of_one 16 (scan ∷ apply 0 ∷ roots ∷ flip ∷ give_up ∷ first (ops.New (own_slot 0) 2 1) ∷ begin ∷ begin ∷ roots ∷ first (ops.Put (own_slot 0) 0 (own_slot 0)) ∷ give_up ∷ begin ∷ apply 0 ∷ roots ∷ scan ∷ scan ∷ flip ∷ [])
@@ -112,7 +117,7 @@ sixteen word = word ∷ 0 ∷ 0 ∷ 0 ∷ 0 ∷ 0 ∷ 0 ∷ 0 ∷ 0 ∷ 0 ∷ 0 
 
 pub record FlipPairRows : Type 0 where
   pub exactly_full : flip_pair_after 9 (first (ops.New (own_slot 0) 1 2) ∷ first (ops.New (own_slot 0) 1 2) ∷ begin ∷ roots ∷ scan ∷ scan ∷ scan ∷ []) ≡ Some (record {
-    old = record { size = 9; end = 9; words = 0 ∷ 16842754 ∷ 0 ∷ 0 ∷ 0 ∷ 16842754 ∷ 1 ∷ 0 ∷ 0 ∷ []; roots = sixteen 0 ++ sixteen 10 };
-    new = record { size = 9; end = 5; words = 0 ∷ 16842754 ∷ 5 ∷ 0 ∷ 0 ∷ []; roots = sixteen 0 ++ sixteen 2 };
+    old = record { size = 9; end = 9; words = 0 ∷ 16842754 ∷ 0 ∷ 0 ∷ 0 ∷ 16842754 ∷ 1 ∷ 0 ∷ 0 ∷ []; roots = sixteen 0 ++ sixteen 10; raws = true };
+    new = record { size = 9; end = 5; words = 0 ∷ 16842754 ∷ 5 ∷ 0 ∷ 0 ∷ []; roots = sixteen 0 ++ sixteen 2; raws = true };
     pairs = (5, 1) ∷ [];
   })

@@ -1,5 +1,5 @@
 -- What a heap with a collector consists of, seen without links. Names are addresses.
-use Rattle.std.specs.Prelude.{ℕ, ◌-◌, ◌==◌, List, [], ◌∷◌, length, map, Option, Some, None}
+use Rattle.std.specs.Prelude.{ℕ, false, ◌-◌, ◌==◌, if◌then◌else◌, List, [], ◌∷◌, length, map, Option, Some, None}
 use Rattle.std.specs.List.{find}
 use Rattle.gc_words.specs.Layout.{next_place}
 use Rattle.gc_graph.specs.Graph.{Value, Nil, Num, Ref, Object, Graph, new_object}
@@ -74,9 +74,9 @@ moved c Nil = Nil
 moved c (Num n) = Num n
 moved c (Ref name) = moved_name (replica_of c name) name
 
--- an object as its replica is placed: all fields nil
+-- an object as its replica is placed: a raw one as it is, another with all fields nil
 abbrev pub fresh_object : Object → Object
-fresh_object object = new_object object.kind (length object.fields)
+fresh_object object = if object.raw then object else new_object false object.kind (length object.fields)
 
 -- the new space as a graph, with these roots moved there
 abbrev pub new_graph : Collection → List Value → Graph

@@ -1,5 +1,5 @@
 -- What a mutator's command and each step of the collector answer and leave.
-use Rattle.std.specs.Prelude.{ℕ, suc, ◌==◌, nat_lt, Bool, true, false, ◌&&◌, not, if◌then◌else◌, List, [], ◌∷◌, ◌++◌, length, map, replicate, slice_get, slice_set, Option, Some, None, is_none, is_some, ⊤}
+use Rattle.std.specs.Prelude.{ℕ, suc, ◌==◌, nat_lt, Bool, true, false, ◌&&◌, ◌||◌, not, if◌then◌else◌, List, [], ◌∷◌, ◌++◌, length, map, replicate, slice_get, slice_set, Option, Some, None, is_none, is_some, ⊤}
 use Rattle.std.specs.List.{list_all, flat_map}
 use Rattle.gc_words.specs.Layout.{next_place}
 use Rattle.gc_graph.specs.Slots.{place}
@@ -140,11 +140,11 @@ next_field None = None
 next_field (Some c) = Some (record c { scan_field = suc c.scan_field })
 
 -- The replica at the scan pointer; before the new end there always is one where a collection belongs to its
--- heap.
+-- heap. A raw one was copied whole when it was placed.
 abbrev pub scan_replica : State → Collection → Option Replica → StepReply × State
 scan_replica s c None = (Clean, s)
 scan_replica s c (Some r) =
-    if c.scan_field == length r.object.fields then (Passed, with_collection s (Some (next_object c r)))
+    if r.object.raw || (c.scan_field == length r.object.fields) then (Passed, with_collection s (Some (next_object c r)))
     else if_room s Scanned (next_field (bring_up_to_date c s.heap.graph r.original c.scan_field))
 
 -- one field, or the step to the next object

@@ -18,7 +18,7 @@ ghost use Rattle.gc_copy.specs.State.{Replica, Collection, State, opening_state,
 ghost use Rattle.gc_copy.specs.Linked.{linked_image, old_links, new_links, old_image, new_image};
 ghost use Rattle.gc_copy.specs.Steps.{written, log_at, with_log, with_collection, write_replica, fresh_collection, mutate, collect, is_change, is_ready, useful_step};
 ghost use Rattle.gc_copy.specs.Members.{In};
-ghost use Rattle.gc_copy.specs.Belonging.{IsSpaceGraph, HasField, Belongs, BelongsBut, IsOpened, IsOpen, IsState};
+ghost use Rattle.gc_copy.specs.Belonging.{HasRawNumbers, IsSpaceGraph, HasField, Belongs, BelongsBut, IsOpened, IsOpen, IsState};
 ghost use Rattle.gc_copy.specs.Runs.{IsStep, InEveryRun};
 ghost use Rattle.gc_copy.specs.Passing.{HasImage, PassesWhereReady, NeverRefused, AlwaysHasRoom, ScansToTheEnd, HasFewPairs};
 ghost use Rattle.gc_copy.specs.Carried.{CarriesOnlyKept, NamesOnlyKept};
@@ -36,7 +36,7 @@ pub fn worked_rows()
 /// A collection that has just begun belongs to any heap. A command keeps the heap, and belonging but for
 /// the field that it writes, which is one of the heap; an entry in a log that names this field restores it.
 pub fn belonging_is_kept()
-    ensures begins { (objects : List (ℕ × Object)) (mutators size : ℕ)
+    ensures begins { (objects : List (ℕ × Object)) (mutators size : ℕ) → HasRawNumbers objects
         → 1 ≤ size → Belongs objects (fresh_collection mutators size) }
     ensures heaps { (size : ℕ) (heap : Roomy) (m : ℕ) (op : Op)
         → IsSpaceGraph size heap.free heap.graph → IsCommand op

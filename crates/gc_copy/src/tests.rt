@@ -105,6 +105,51 @@ fn write_while_scanning(rt: HostRuntime) -> Result<(), Fail> {
 }
 
 #[test]
+fn raw_object_is_written_while_it_is_copied(rt: HostRuntime) -> Result<(), Fail> {
+    let r0 = Slot::own(0).ok_or("slot")?;
+    let r1 = Slot::own(1).ok_or("slot")?;
+    let r2 = Slot::own(2).ok_or("slot")?;
+    let eight = Number::new(8).ok_or("number")?;
+    let ten = Number::new(10).ok_or("number")?;
+    let new = Op::NewRaw {
+        d: r0,
+        kind: 7,
+        len: 2,
+    };
+    let mut heap = empty(rt.alloc(), 16, 1)?;
+    assert_eq!(rt; command(&mut heap, 0, &new), Reply::Made);
+    assert_eq!(rt;
+        command(&mut heap, 0, &Op::Num { d: r1, n: eight }),
+        Reply::Done
+    );
+    let put = Op::Put { s: r0, i: 0, t: r1 };
+    assert_eq!(rt; command(&mut heap, 0, &put), Reply::Done);
+    let mut collection = Collection::begin(rt.alloc(), &heap)?;
+    assert_eq!(rt; collection.roots(&mut heap), StepReply::Copied);
+    let num = Op::Num { d: r1, n: ten };
+    assert_eq!(rt; mutate(&mut collection, &mut heap, 0, &num)?, Reply::Done);
+    let refused = Op::Put { s: r0, i: 1, t: r2 };
+    assert_eq!(rt;
+        mutate(&mut collection, &mut heap, 0, &refused)?,
+        Reply::NoNumber
+    );
+    assert_eq!(rt; collection.next_log(), None);
+    let put = Op::Put { s: r0, i: 1, t: r1 };
+    assert_eq!(rt; mutate(&mut collection, &mut heap, 0, &put)?, Reply::Done);
+    assert_eq!(rt; collection.scan(&mut heap), StepReply::Passed);
+    assert_eq!(rt; collection.scan(&mut heap), StepReply::Clean);
+    assert!(rt; !collection.ready(&heap));
+    assert_eq!(rt; collection.apply_log(0, &mut heap), StepReply::Applied);
+    let (_, roots) = flip(rt.alloc(), collection, &mut heap)?;
+    assert_eq!(rt; roots.get(16).copied(), Some(2));
+    let first = Op::Get { d: r2, s: r0, i: 0 };
+    assert_eq!(rt; heap.apply(0, &first), Reply::Saw(View::Num(eight)));
+    let second = Op::Get { d: r2, s: r0, i: 1 };
+    assert_eq!(rt; heap.apply(0, &second), Reply::Saw(View::Num(ten)));
+    Ok(())
+}
+
+#[test]
 fn log_across_two_mutators(rt: HostRuntime) -> Result<(), Fail> {
     let g0 = Slot::shared(0).ok_or("slot")?;
     let r0 = Slot::own(0).ok_or("slot")?;

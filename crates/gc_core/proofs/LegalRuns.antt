@@ -70,6 +70,7 @@ module _ (s : State) (ok : IsState s) where
 
 full_makes : (op : Op) (free : ℕ) → free < words_taken op → MakesObject op
 full_makes (ops.New d kind len) free h = tt
+full_makes (ops.NewRaw d kind len) free h = tt
 full_makes (ops.Num d n) free h = absurd (omega arith)
 full_makes (ops.Nil d) free h = absurd (omega arith)
 full_makes (ops.Move d s) free h = absurd (omega arith)

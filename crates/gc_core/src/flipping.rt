@@ -132,12 +132,14 @@ fn carry_out(heap: &mut Heap, collection: Collection, draft: Draft, copies: Opti
         end: old_space.end(),
         words: old_space.into_words(),
         roots: old_roots,
+        raws: true,
     };
     let new = Image {
         size,
         end,
         words,
         roots,
+        raws: true,
     };
     let pair = Some(PairFile { old, new, pairs });
     Flip { reply, pair }

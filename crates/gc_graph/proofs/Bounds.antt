@@ -1,13 +1,15 @@
 -- What stays below the next name, and short.
-use Rattle.std.proofs.Common.{◌≡◌, ℕ, suc, zero, ◌+◌, ◌<◌, true, false, cond, ◌||◌, ◌==◌, List, [], ◌∷◌, ◌++◌, map, length, Option, Some, None, refl, ◌∙◌, ap, subst, arith}
-use Rattle.std.specs.Prelude.{slice_get, slice_set, replicate, ⊤}
+use Rattle.std.proofs.Common.{◌≡◌, ℕ, suc, zero, ◌+◌, ◌<◌, Bool, true, false, cond, ◌&&◌, ◌||◌, ◌==◌, List, [], ◌∷◌, ◌++◌, map, length, Option, Some, None, refl, ◌∙◌, ap, subst, arith}
+use Rattle.std.specs.Prelude.{slice_get, slice_set, replicate, not, ⊤}
 use Rattle.std.specs.List.{AllByRecursion, flat_map, list_any}
 use Rattle.std.proofs.lemmas.List.{length-set, length-replicate}
 use Rattle.std.proofs.lemmas.Bool.{ne_eqb}
 use Rattle.gc_graph.specs.Slots.{place, roots_of}
-use Rattle.gc_graph.specs.Graph.{Value, Nil, Num, Ref, Object, Graph, opening, lookup, object_of, field_of, root, set_root, set_field, with_field, new_object, add_object, value_or_nil, names_of, IsUnused}
-use Rattle.gc_graph.specs.Machine.{get_field, put_field, step, MakesObject}
+use Rattle.gc_graph.specs.Graph.{Value, Nil, Num, Ref, Object, Graph, opening, lookup, object_of, field_of, root, set_root, set_field, with_field, first_value, new_object, add_object, value_or_nil, names_of, IsUnused}
+use Rattle.gc_graph.specs.Machine.{get_field, is_number, put_field, step, MakesObject}
 use Rattle.gc_graph.specs.Bounded.{ValueBelow, AreBelow, AreShort}
+use Rattle.gc_graph.specs.declared.reply.Reply.{Reply}
+use Rattle.gc_graph.specs.declared.reply.Reply.TheVariants.{Done, NoNumber}
 use Rattle.gc_graph.specs.declared.command.Op.{Op}
 use Rattle.gc_graph.specs.declared.command.Op.TheVariants as ops
 
@@ -62,9 +64,13 @@ all_set P [] i x a p = tt
 all_set P (y ∷ xs) zero x a p = (p, a.1)
 all_set P (y ∷ xs) (suc i) x a p = (a.0, all_set P xs i x a.1 p)
 
-pub nils_below : (n k : ℕ) → AllByRecursion (ValueBelow n) (replicate k Nil)
-nils_below n zero = tt
-nils_below n (suc k) = (tt, nils_below n k)
+first_below : (n : ℕ) (raw : Bool) → ValueBelow n (first_value raw)
+first_below n true = tt
+first_below n false = tt
+
+pub all_below : (n k : ℕ) (v : Value) → ValueBelow n v → AllByRecursion (ValueBelow n) (replicate k v)
+all_below n zero v below = tt
+all_below n (suc k) v below = (below, all_below n k v below)
 
 -- ---- values that are there
 
@@ -134,10 +140,14 @@ put_below n g Nil o f i v below h = below
 put_below n g (Num m) o f i v below h = below
 put_below n g (Ref name) None f i v below h = below
 put_below n g (Ref name) (Some o) None i v below h = below
-put_below n g (Ref name) (Some o) (Some before) i v below h = record { keys = set_keys n g.objects name i v below.keys; fields = set_fields n g.objects name i v h below.fields; roots = below.roots }
+put_below n g (Ref name) (Some o) (Some before) i v below h = elim (o.raw && not (is_number v)) as (λ refused. AreBelow n (cond {A = Reply × Graph} refused (NoNumber, g) (Done, record g { objects = set_field g.objects name i v })).1) [
+  | true ↦ below
+  | false ↦ record { keys = set_keys n g.objects name i v below.keys; fields = set_fields n g.objects name i v h below.fields; roots = below.roots }
+]
 
 pub step_below : (n : ℕ) (g : Graph) (m : ℕ) (op : Op) (name : ℕ) → (MakesObject op → ⊥) → AreBelow n g → AreBelow n (step g m op name).1
 step_below n g m (ops.New d kind len) name makes_none below = absurd (makes_none tt)
+step_below n g m (ops.NewRaw d kind len) name makes_none below = absurd (makes_none tt)
 step_below n g m (ops.Num d x) name makes_none below = root_set n g (place d m) (Num x) below tt
 step_below n g m (ops.Nil d) name makes_none below = root_set n g (place d m) Nil below tt
 step_below n g m (ops.Move d s) name makes_none below = root_set n g (place d m) (root g (place s m)) below (value_at n g.roots (place s m) below.roots)
@@ -160,10 +170,14 @@ put_short g Nil o f i v short = short
 put_short g (Num m) o f i v short = short
 put_short g (Ref name) None f i v short = short
 put_short g (Ref name) (Some o) None i v short = short
-put_short g (Ref name) (Some o) (Some before) i v short = set_short g.objects name i v short
+put_short g (Ref name) (Some o) (Some before) i v short = elim (o.raw && not (is_number v)) as (λ refused. AreShort (cond {A = Reply × Graph} refused (NoNumber, g) (Done, record g { objects = set_field g.objects name i v })).1) [
+  | true ↦ short
+  | false ↦ set_short g.objects name i v short
+]
 
 pub step_short : (g : Graph) (m : ℕ) (op : Op) (name : ℕ) → (MakesObject op → ⊥) → AreShort g → AreShort (step g m op name).1
 step_short g m (ops.New d kind len) name makes_none short = absurd (makes_none tt)
+step_short g m (ops.NewRaw d kind len) name makes_none short = absurd (makes_none tt)
 step_short g m (ops.Num d x) name makes_none short = short
 step_short g m (ops.Nil d) name makes_none short = short
 step_short g m (ops.Move d s) name makes_none short = short
@@ -174,18 +188,18 @@ step_short g m (ops.Look s) name makes_none short = short
 
 -- ---- a new object under the next name
 
-pub make_below : (n : ℕ) (g : Graph) (p kind len : ℕ) → AreBelow n g → AreBelow (n + 1) (set_root (add_object g n (new_object kind len)) p (Ref n))
-make_below n g p kind len below = record {
-  keys = all_push (λ (e : ℕ × Object). e.0 < n + 1) g.objects (n, new_object kind len) (all_weaker _ _ g.objects (λ e h. omega arith) below.keys) (omega arith);
-  fields = all_push (λ (e : ℕ × Object). AllByRecursion (ValueBelow (n + 1)) e.1.fields) g.objects (n, new_object kind len)
-      (all_weaker _ _ g.objects (λ e h. all_weaker _ _ e.1.fields (later n) h) below.fields) (nils_below (n + 1) len);
+pub make_below : (n : ℕ) (g : Graph) (raw : Bool) (p kind len : ℕ) → AreBelow n g → AreBelow (n + 1) (set_root (add_object g n (new_object raw kind len)) p (Ref n))
+make_below n g raw p kind len below = record {
+  keys = all_push (λ (e : ℕ × Object). e.0 < n + 1) g.objects (n, new_object raw kind len) (all_weaker _ _ g.objects (λ e h. omega arith) below.keys) (omega arith);
+  fields = all_push (λ (e : ℕ × Object). AllByRecursion (ValueBelow (n + 1)) e.1.fields) g.objects (n, new_object raw kind len)
+      (all_weaker _ _ g.objects (λ e h. all_weaker _ _ e.1.fields (later n) h) below.fields) (all_below (n + 1) len (first_value raw) (first_below (n + 1) raw));
   roots = all_set (ValueBelow (n + 1)) g.roots p (Ref n) (all_weaker _ _ g.roots (later n) below.roots) (omega arith);
 }
 
-pub make_short : (n : ℕ) (g : Graph) (p kind len : ℕ) → len < 65536 → AreShort g → AreShort (set_root (add_object g n (new_object kind len)) p (Ref n))
-make_short n g p kind len small short = all_push (λ (e : ℕ × Object). length e.1.fields < 65536) g.objects (n, new_object kind len) short (let same : length (replicate len Nil) ≡ len = length-replicate len Nil in omega arith)
+pub make_short : (n : ℕ) (g : Graph) (raw : Bool) (p kind len : ℕ) → len < 65536 → AreShort g → AreShort (set_root (add_object g n (new_object raw kind len)) p (Ref n))
+make_short n g raw p kind len small short = all_push (λ (e : ℕ × Object). length e.1.fields < 65536) g.objects (n, new_object raw kind len) short (let same : length (replicate len (first_value raw)) ≡ len = length-replicate len (first_value raw) in omega arith)
 
 -- ---- nothing yet
 
 pub opening_below : (mutators : ℕ) → AreBelow 0 (opening mutators)
-opening_below mutators = record { keys = tt; fields = tt; roots = nils_below 0 (roots_of mutators) }
+opening_below mutators = record { keys = tt; fields = tt; roots = all_below 0 (roots_of mutators) Nil tt }

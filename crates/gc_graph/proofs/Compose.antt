@@ -125,7 +125,7 @@ module _ (ps qs : List (ℕ × ℕ)) (g h k : Graph) (first : Matched ps g h) (s
   objects_both None p q a b = absurd a
   objects_both (Some o) None q a b = absurd a
   objects_both (Some o) (Some p) None a b = absurd b
-  objects_both (Some o) (Some p) (Some q) a b = (a.0 ∙ b.0, zip_both o.fields p.fields q.fields a.1 b.1)
+  objects_both (Some o) (Some p) (Some q) a b = (a.0 ∙ b.0, a.1 ∙ b.1, zip_both o.fields p.fields q.fields a.2 b.2)
 
   pub composed : Matched (joined ps qs) g k
   composed = record {

@@ -2,7 +2,7 @@
 use Rattle.std.proofs.Common.{◌≡◌, ℕ, ◌^◌, ◌<◌, ◌≤◌, Bool, true, false, eqb, leb, not, ◌&&◌, List, [], ◌∷◌, ◌++◌, length, get_or, refl, ap, ◌∙◌, arith, suc, inl, inr, ◌⊎◌}
 use Rattle.std.specs.Fmt.{decimal}
 use Rattle.std.specs.List.{AllByRecursion}
-use Rattle.std.proofs.lemmas.Bool.{and_parts, eqb-true, eqb-false, ne_eqb, leb-true}
+use Rattle.std.proofs.lemmas.Bool.{and_parts, eqb-true, eqb-false, leb-true, not-true}
 use Rattle.std.proofs.lemmas.List.Splits.{join_with_byte-slice_split}
 use Rattle.gc_graph.specs.Lines.{HasNo, space, newline, joined, tokens_of}
 use Rattle.gc_graph.proofs.Decimals.{decimal_are_digits}
@@ -53,19 +53,11 @@ abbrev pub lacks : ℕ → List ℕ → Bool
 lacks c [] = true
 lacks c (b ∷ bs) = not (eqb b c) && lacks c bs
 
-not_true : (b : Bool) → not b ≡ true → b ≡ false
-not_true true e = cc
-not_true false e = refl
-
 pub HasNo-lacks : (c : ℕ) (text : List ℕ) → lacks c text ≡ true → HasNo c text
 HasNo-lacks c [] e = tt
 HasNo-lacks c (b ∷ text) e =
     let p = and_parts (not (eqb b c)) (lacks c text) e in
-    (eqb-false b c (not_true (eqb b c) p.0), HasNo-lacks c text p.1)
-
-pub lacks-HasNo : (c : ℕ) (text : List ℕ) → HasNo c text → lacks c text ≡ true
-lacks-HasNo c [] h = refl
-lacks-HasNo c (b ∷ text) h = rw (ne_eqb b c h.0, lacks-HasNo c text h.1) refl
+    (eqb-false b c (not-true (eqb b c) p.0), HasNo-lacks c text p.1)
 
 -- ---- cutting at a byte
 

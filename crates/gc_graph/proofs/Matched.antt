@@ -1,19 +1,23 @@
 -- Commands keep two graphs matched, and their replies are the same.
 use Rattle.std.proofs.Common.{◌≡◌, ℕ, suc, zero, Bool, true, false, cond, ◌&&◌, ◌||◌, ◌==◌, List, [], ◌∷◌, ◌++◌, map, length, replicate, Option, Some, None, is_some, refl, sym, ◌∙◌, ap, subst, inl, inr}
-use Rattle.std.specs.Prelude.{slice_get}
+use Rattle.std.specs.Prelude.{slice_get, not}
 use Rattle.std.specs.List.{AllZip, AllByRecursion, flat_map, list_any}
-use Rattle.std.proofs.lemmas.Bool.{eqb-true, eqb-false, eq-eqb, ne_eqb, cases_Bool, both_ways, and_from}
+use Rattle.std.proofs.lemmas.Bool.{eqb-true, eqb-false, eq-eqb, ne_eqb, cases_Bool, both_ways, and_from, and_right}
 use Rattle.gc_graph.specs.Slots.{place}
-use Rattle.gc_graph.specs.Graph.{Value, Nil, Num, Ref, Object, Graph, lookup, object_of, field_of, value_or_nil, root, set_root, add_object, set_field, names_of, IsUnused}
-use Rattle.gc_graph.specs.Machine.{view_of, view_of_object, same, get_field, put_field, step}
-use Rattle.gc_graph.specs.Correspond.{paired, correspond, ObjectsCorrespond, Corresponding}
+use Rattle.gc_graph.specs.Graph.{Value, Nil, Num, Ref, Object, Graph, lookup, object_of, field_of, value_or_nil, root, set_root, first_value, new_object, add_object, set_field, names_of, IsUnused}
+use Rattle.gc_graph.specs.Machine.{view_of, view_of_object, same, is_number, get_field, put_field, step}
+use Rattle.gc_graph.specs.Correspond.{paired, correspond, EqualFieldByField, Corresponding}
 use Rattle.gc_graph.proofs.Matching.{Alike, nils, numbers, partners, without_objects, ObjectsAlike, Matched}
 use Rattle.gc_graph.specs.declared.command.Op.{Op}
 use Rattle.gc_graph.specs.declared.command.Op.TheVariants as ops
 use Rattle.gc_graph.specs.declared.reply.Reply.{Reply}
-use Rattle.gc_graph.specs.declared.reply.Reply.TheVariants.{Saw, Yes, No}
+use Rattle.gc_graph.specs.declared.reply.Reply.TheVariants.{Made, Done, NoNumber, Saw, Yes, No}
 use Rattle.gc_graph.specs.declared.reply.View.TheVariants as views
 use Rattle.gc_graph.proofs.Lookups.{paired_cases, paired_more, paired_here, lookup_push_other, lookup_push_same, with_field_option, lookup_set_same, lookup_set_other, lookup_set_none, zip_weaker, zip_map, zip_set, Together, zip_get, zip_length, any_append, Avoids, avoids_each, not_a_key, FieldsAvoid, fields_avoid}
+
+first_alike : (pairs : List (ℕ × ℕ)) (os qs : List (ℕ × Object)) (raw : Bool) → Alike pairs os qs (first_value raw) (first_value raw)
+first_alike pairs os qs true = numbers 0
+first_alike pairs os qs false = nils
 
 -- the same reply, and graphs that are matched again
 abbrev pub AlikeAfter : Reply × Graph → Reply × Graph → Type 0
@@ -32,7 +36,7 @@ module _ (pairs : List (ℕ × ℕ)) (g h : Graph) (matched : Matched pairs g h)
   -- ---- objects
 
   abbrev pub BothOrNone : Option Object → Option Object → Type 0
-  BothOrNone o q = Together (λ o q. (o.kind ≡ q.kind) × AllZip (Alike pairs g.objects h.objects) o.fields q.fields) o q
+  BothOrNone o q = Together (λ o q. (o.raw ≡ q.raw) × (o.kind ≡ q.kind) × AllZip (Alike pairs g.objects h.objects) o.fields q.fields) o q
 
   together : (o q : Option Object) → ObjectsAlike pairs g.objects h.objects o q → BothOrNone o q
   together (Some o) (Some q) a = a
@@ -54,7 +58,7 @@ module _ (pairs : List (ℕ × ℕ)) (g h : Graph) (matched : Matched pairs g h)
   field_alike None None i t = tt
   field_alike None (Some q) i t = absurd t
   field_alike (Some o) None i t = absurd t
-  field_alike (Some o) (Some q) i t = zip_get _ o.fields q.fields i t.1
+  field_alike (Some o) (Some q) i t = zip_get _ o.fields q.fields i t.2
 
   -- ---- what is seen
 
@@ -62,7 +66,7 @@ module _ (pairs : List (ℕ × ℕ)) (g h : Graph) (matched : Matched pairs g h)
   object_view None None t = refl
   object_view None (Some q) t = absurd t
   object_view (Some o) None t = absurd t
-  object_view (Some o) (Some q) t = let n : length o.fields ≡ length q.fields = zip_length _ o.fields q.fields t.1 in λ i. views.Obj (t.0 i) (n i)
+  object_view (Some o) (Some q) t = let n : length o.fields ≡ length q.fields = zip_length _ o.fields q.fields t.2 in λ i. cond (t.0 i) (views.RawObj (t.1 i) (n i)) (views.Obj (t.1 i) (n i))
 
   pub view_alike : {v w : Value} → Alike pairs g.objects h.objects v w → view_of g.objects v ≡ view_of h.objects w
   view_alike nils = refl
@@ -106,13 +110,9 @@ module _ (pairs : List (ℕ × ℕ)) (g h : Graph) (matched : Matched pairs g h)
       let b_not_y : (b == y) ≡ false = ne_eqb b y (λ e. both_ways _ right (ap (λ n. is_some (lookup h.objects n)) (sym e) ∙ there.1)) in
       ap (λ t. t && is_some (lookup g.objects a)) a_not_x ∙ sym (ap (λ t. t && is_some (lookup h.objects b)) b_not_y)
 
-  and_false : (x y : Bool) → y ≡ false → (x && y) ≡ false
-  and_false true y e = e
-  and_false false y e = refl
-
   gone : (a b x y : ℕ) → lookup g.objects a ≡ None → lookup h.objects b ≡ None
       → ((a == x) && is_some (lookup g.objects a)) ≡ ((b == y) && is_some (lookup h.objects b))
-  gone a b x y e f = and_false (a == x) (is_some (lookup g.objects a)) (absent _ e) ∙ sym (and_false (b == y) (is_some (lookup h.objects b)) (absent _ f))
+  gone a b x y e f = and_right (a == x) (is_some (lookup g.objects a)) (absent _ e) ∙ sym (and_right (b == y) (is_some (lookup h.objects b)) (absent _ f))
 
   pub same_alike : {v w v' w' : Value} → Alike pairs g.objects h.objects v w → Alike pairs g.objects h.objects v' w' → same g.objects v v' ≡ same h.objects w w'
   same_alike nils nils = refl
@@ -158,12 +158,12 @@ module _ (pairs : List (ℕ × ℕ)) (g h : Graph) (matched : Matched pairs g h)
     still (without_objects x y e f) = without_objects x y (lookup_set_none g.objects n i v x e) (lookup_set_none h.objects n' i w y f)
 
     still_objects : (o q : Option Object) → ObjectsAlike pairs g.objects h.objects o q → ObjectsAlike pairs left right o q
-    still_objects (Some o) (Some q) b = (b.0, zip_map _ _ o.fields q.fields (λ x y. still) b.1)
+    still_objects (Some o) (Some q) b = (b.0, b.1, zip_map _ _ o.fields q.fields (λ x y. still) b.2)
     still_objects (Some o) None b = absurd b
     still_objects None q b = absurd b
 
     written_objects : (o q : Option Object) → ObjectsAlike pairs g.objects h.objects o q → ObjectsAlike pairs left right (with_field_option o i v) (with_field_option q i w)
-    written_objects (Some o) (Some q) b = (b.0, zip_set _ o.fields q.fields i v w (still a) (zip_map _ _ o.fields q.fields (λ x y. still) b.1))
+    written_objects (Some o) (Some q) b = (b.0, b.1, zip_set _ o.fields q.fields i v w (still a) (zip_map _ _ o.fields q.fields (λ x y. still) b.2))
     written_objects (Some o) None b = absurd b
     written_objects None q b = absurd b
 
@@ -192,7 +192,7 @@ module _ (pairs : List (ℕ × ℕ)) (g h : Graph) (matched : Matched pairs g h)
     }
 
   -- a new object on each side, under names that occur nowhere
-  module _ (a b : ℕ) (unused : IsUnused g a) (unused' : IsUnused h b) (o : Object) (nil_fields : AllByRecursion (λ v. v ≡ Nil) o.fields) where
+  module _ (a b : ℕ) (unused : IsUnused g a) (unused' : IsUnused h b) (o : Object) (first_fields : AllByRecursion (λ v. v ≡ first_value o.raw) o.fields) where
     abbrev more : List (ℕ × ℕ)
     more = (a, b) ∷ pairs
 
@@ -216,7 +216,7 @@ module _ (pairs : List (ℕ × ℕ)) (g h : Graph) (matched : Matched pairs g h)
     newer s t (without_objects x y e f) = without_objects x y (lookup_push_other g.objects a o x (ref_differs a x s) ∙ e) (lookup_push_other h.objects b o y (ref_differs b y t) ∙ f)
 
     newer_objects : (p q : Option Object) → FieldsAvoid a p → FieldsAvoid b q → ObjectsAlike pairs g.objects h.objects p q → ObjectsAlike more left_more right_more p q
-    newer_objects (Some p) (Some q) s t c = (c.0, zip_weaker _ _ (Avoids a) (Avoids b) p.fields q.fields (λ x y. newer) s t c.1)
+    newer_objects (Some p) (Some q) s t c = (c.0, c.1, zip_weaker _ _ (Avoids a) (Avoids b) p.fields q.fields (λ x y. newer) s t c.2)
     newer_objects (Some p) None s t c = absurd c
     newer_objects None q s t c = absurd c
 
@@ -255,15 +255,15 @@ module _ (pairs : List (ℕ × ℕ)) (g h : Graph) (matched : Matched pairs g h)
     right_unpaired : (x : ℕ) → paired pairs x b ≡ true → ⊥
     right_unpaired x q = nothing_there' _ _ (matched.objects x b q) right_absent
 
-    zip_nil : (vs : List Value) → AllByRecursion (λ v. v ≡ Nil) vs → AllZip (Alike more left_more right_more) vs vs
-    zip_nil [] e = tt
-    zip_nil (v ∷ vs) e = (subst (λ x. Alike more left_more right_more x x) (sym e.0) nils, zip_nil vs e.1)
+    zip_first : (vs : List Value) → AllByRecursion (λ v. v ≡ first_value o.raw) vs → AllZip (Alike more left_more right_more) vs vs
+    zip_first [] e = tt
+    zip_first (v ∷ vs) e = (subst (λ x. Alike more left_more right_more x x) (sym e.0) (first_alike more left_more right_more o.raw), zip_first vs e.1)
 
     each_newer : (x y : ℕ) → paired more x y ≡ true → ObjectsAlike more left_more right_more (lookup left_more x) (lookup right_more y)
     each_newer x y q = elim (paired_cases (a, b) pairs x y q) [
       | inl here ↦ (let at : ObjectsAlike more left_more right_more (lookup left_more a) (lookup right_more b)
           = subst (λ r. ObjectsAlike more left_more right_more r (lookup right_more b)) (sym (lookup_push_same g.objects a o left_absent))
-          (subst (λ r. ObjectsAlike more left_more right_more (Some o) r) (sym (lookup_push_same h.objects b o right_absent)) (refl, zip_nil o.fields nil_fields)) in
+          (subst (λ r. ObjectsAlike more left_more right_more (Some o) r) (sym (lookup_push_same h.objects b o right_absent)) (refl, refl, zip_first o.fields first_fields)) in
           subst (λ m. ObjectsAlike more left_more right_more (lookup left_more m) (lookup right_more y)) here.0 (subst (λ m. ObjectsAlike more left_more right_more (lookup left_more a) (lookup right_more m)) here.1 at))
       | inr later ↦ (let xa : (a == x) ≡ false = ne_eqb a x (λ e. left_unpaired y (subst (λ m. paired pairs m y ≡ true) (sym e) later)) in
           let yb : (b == y) ≡ false = ne_eqb b y (λ e. right_unpaired x (subst (λ m. paired pairs x m ≡ true) (sym e) later)) in
@@ -298,9 +298,9 @@ module _ (pairs : List (ℕ × ℕ)) (g h : Graph) (matched : Matched pairs g h)
       ];
     }
 
-all_nil : (n : ℕ) → AllByRecursion (λ v. v ≡ Nil) (replicate n Nil)
-all_nil zero = tt
-all_nil (suc n) = (refl, all_nil n)
+all_first : (raw : Bool) (n : ℕ) → AllByRecursion (λ v. v ≡ first_value raw) (replicate n (first_value raw))
+all_first raw zero = tt
+all_first raw (suc n) = (refl, all_first raw n)
 
 module _ (pairs : List (ℕ × ℕ)) (g h : Graph) (matched : Matched pairs g h) where
   get_alike : (d : ℕ) (o q : Option Object) (v w : Option Value) → BothOrNone pairs g h matched o q → Together (Alike pairs g.objects h.objects) v w
@@ -313,6 +313,21 @@ module _ (pairs : List (ℕ × ℕ)) (g h : Graph) (matched : Matched pairs g h)
   get_alike d (Some o) (Some q) (Some v) None t u = absurd u
   get_alike d (Some o) (Some q) (Some v) (Some w) t u = (ap Saw (view_alike pairs g h matched u), pairs, matched_root pairs g h matched d u)
 
+  number_alike : {x y : Value} → Alike pairs g.objects h.objects x y → is_number x ≡ is_number y
+  number_alike nils = refl
+  number_alike (numbers n) = refl
+  number_alike (partners a b p) = refl
+  number_alike (without_objects a b e f) = refl
+
+  -- what a write leaves that may be refused
+  abbrev pub written : Graph → Bool → ℕ → ℕ → Value → Reply × Graph
+  written g refused n i x = cond refused (NoNumber, g) (Done, record g { objects = set_field g.objects n i x })
+
+  written_alike : (refused : Bool) (n n' i : ℕ) (x y : Value) → paired pairs n n' ≡ true → Alike pairs g.objects h.objects x y
+      → AlikeAfter (written g refused n i x) (written h refused n' i y)
+  written_alike true n n' i x y p a = (refl, pairs, matched)
+  written_alike false n n' i x y p a = (refl, pairs, matched_field pairs g h matched n n' i x y p a)
+
   put_partners : (n n' i : ℕ) (o q : Option Object) (v w : Option Value) (x y : Value) → paired pairs n n' ≡ true → BothOrNone pairs g h matched o q
       → Together (Alike pairs g.objects h.objects) v w → Alike pairs g.objects h.objects x y
       → AlikeAfter (put_field g (Ref n) o v i x) (put_field h (Ref n') q w i y)
@@ -322,7 +337,10 @@ module _ (pairs : List (ℕ × ℕ)) (g h : Graph) (matched : Matched pairs g h)
   put_partners n n' i (Some o) (Some q) None None x y p t u a = (refl, pairs, matched)
   put_partners n n' i (Some o) (Some q) None (Some w) x y p t u a = absurd u
   put_partners n n' i (Some o) (Some q) (Some v) None x y p t u a = absurd u
-  put_partners n n' i (Some o) (Some q) (Some v) (Some w) x y p t u a = (refl, pairs, matched_field pairs g h matched n n' i x y p a)
+  put_partners n n' i (Some o) (Some q) (Some v) (Some w) x y p t u a =
+      subst (λ refused. AlikeAfter (written g (o.raw && not (is_number x)) n i x) (written h refused n' i y))
+      (λ j. t.0 j && not (number_alike a j))
+      (written_alike (o.raw && not (is_number x)) n n' i x y p a)
 
   put_nothing : (n n' i : ℕ) (o q : Option Object) (x y : Value) → o ≡ None → q ≡ None
       → AlikeAfter (put_field g (Ref n) o (field_of o i) i x) (put_field h (Ref n') q (field_of q i) i y)
@@ -339,11 +357,16 @@ module _ (pairs : List (ℕ × ℕ)) (g h : Graph) (matched : Matched pairs g h)
       put_partners n n' i (lookup g.objects n) (lookup h.objects n') _ _ _ _ p both (field_alike pairs g h matched _ _ i both) a
   put_alike i (without_objects n n' e f) a = put_nothing n n' i (lookup g.objects n) (lookup h.objects n') _ _ e f
 
+  made_alike : (raw : Bool) (p kind len a b : ℕ) → IsUnused g a → IsUnused h b
+      → (let o = new_object raw kind len in AlikeAfter (Made, set_root (add_object g a o) p (Ref a)) (Made, set_root (add_object h b o) p (Ref b)))
+  made_alike raw p kind len a b u u' =
+      let o : Object = new_object raw kind len in
+      let new : Matched ((a, b) ∷ pairs) (add_object g a o) (add_object h b o) = matched_new pairs g h matched a b u u' o (all_first raw len) in
+      (refl, (a, b) ∷ pairs, matched_root ((a, b) ∷ pairs) (add_object g a o) (add_object h b o) new p (partners a b (paired_here a b pairs)))
+
   pub step_alike : (m : ℕ) (op : Op) (a b : ℕ) → IsUnused g a → IsUnused h b → AlikeAfter (step g m op a) (step h m op b)
-  step_alike m (ops.New d kind len) a b u u' =
-      let o : Object = record { kind = kind; fields = replicate len Nil } in
-      let new : Matched ((a, b) ∷ pairs) (add_object g a o) (add_object h b o) = matched_new pairs g h matched a b u u' o (all_nil len) in
-      (refl, (a, b) ∷ pairs, matched_root ((a, b) ∷ pairs) (add_object g a o) (add_object h b o) new (place d m) (partners a b (paired_here a b pairs)))
+  step_alike m (ops.New d kind len) a b u u' = made_alike false (place d m) kind len a b u u'
+  step_alike m (ops.NewRaw d kind len) a b u u' = made_alike true (place d m) kind len a b u u'
   step_alike m (ops.Num d n) a b u u' = (refl, pairs, matched_root pairs g h matched (place d m) (numbers n))
   step_alike m (ops.Nil d) a b u u' = (refl, pairs, matched_root pairs g h matched (place d m) nils)
   step_alike m (ops.Move d s) a b u u' = (refl, pairs, matched_root pairs g h matched (place d m) (root_alike pairs g h matched (place s m)))
@@ -373,8 +396,8 @@ zip_alike pairs os qs [] (w ∷ ws) z = absurd z
 zip_alike pairs os qs (v ∷ vs) [] z = absurd z
 zip_alike pairs os qs (v ∷ vs) (w ∷ ws) z = (alike_of pairs os qs v w z.0, zip_alike pairs os qs vs ws z.1)
 
-objects_alike : (pairs : List (ℕ × ℕ)) (os qs : List (ℕ × Object)) (o q : Option Object) → ObjectsCorrespond pairs o q → ObjectsAlike pairs os qs o q
-objects_alike pairs os qs (Some o) (Some q) c = (c.0, zip_alike pairs os qs o.fields q.fields c.1)
+objects_alike : (pairs : List (ℕ × ℕ)) (os qs : List (ℕ × Object)) (o q : Option Object) → EqualFieldByField pairs o q → ObjectsAlike pairs os qs o q
+objects_alike pairs os qs (Some o) (Some q) c = (c.0, c.1, zip_alike pairs os qs o.fields q.fields c.3)
 objects_alike pairs os qs (Some o) None c = absurd c
 objects_alike pairs os qs None q c = absurd c
 

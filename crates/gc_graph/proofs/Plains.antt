@@ -11,8 +11,8 @@ use Rattle.std.proofs.lemmas.Map.Steps.{set_value_same}
 use Rattle.std.specs.Vec.{with_item}
 use Rattle.std.proofs.Common.{is_some}
 use Rattle.std.proofs.lemmas.Bool.{lt-ltb, le-ltb, eq-eqb, ne_eqb, cases_order}
-use Rattle.std.specs.Prelude.{slice_get, slice_set, get_or, replicate}
-use Rattle.gc_graph.specs.Graph.{Value, Nil, Object, Graph, lookup, object_of, field_of, set_root, set_field, with_field, value_or_nil}
+use Rattle.std.specs.Prelude.{slice_get, slice_set, replicate}
+use Rattle.gc_graph.specs.Graph.{Value, Nil, Object, Graph, lookup, object_of, field_of, set_root, set_field, with_field}
 use Rattle.gc_graph.specs.Machine.{view_of, get_field}
 use Rattle.gc_graph.specs.declared.reply.View.{View}
 use Rattle.gc_graph.specs.declared.reply.Reply.{Reply}
@@ -51,14 +51,9 @@ pushed (e ∷ es) k r all =
     ∙ ap (λ b. match_ordering (cond b Equal Greater) ((k, r) ∷ e ∷ es) ((e.0, r) ∷ es) (e ∷ insert_entry nat_cmp es k r)) (ne_eqb k e.0 (λ q. omega arith))
     ∙ ap (λ xs. e ∷ xs) (pushed es k r all.1)
 
-pub root_held : (items : List PlainValue) (p : ℕ) (h : PlainValue) → p < length items → h ≡ get_or items p h → value_or_nil (slice_get (map plain_value items) p) ≡ plain_value h
-root_held [] p h l e = absurd (omega arith)
-root_held (x ∷ items) zero h l e = ap plain_value (sym e)
-root_held (x ∷ items) (suc p) h l e = root_held items p h (omega arith) e
-
-pub held_nils : (n : ℕ) → map plain_value (replicate n held.Nil) ≡ replicate n Nil
-held_nils zero = refl
-held_nils (suc n) = ap (λ vs. Nil ∷ vs) (held_nils n)
+pub held_each : (n : ℕ) (v : PlainValue) → map plain_value (replicate n v) ≡ replicate n (plain_value v)
+held_each zero v = refl
+held_each (suc n) v = ap (λ vs. plain_value v ∷ vs) (held_each n v)
 
 pub entries_push : (es : List (ℕ × Record)) (e : ℕ × Record) → objects_of (es ++ e ∷ []) ≡ objects_of es ++ named_object e ∷ []
 entries_push [] e = refl
@@ -74,22 +69,22 @@ object_short (x ∷ os) q o all e =
 
 -- ---- a field written
 
-written_object : (r : Record) (i : ℕ) (v : PlainValue) → object_of_record (record { kind = r.kind; fields = with_item r.fields i v }) ≡ with_field (object_of_record r) i (plain_value v)
-written_object r i v = (let fields : map plain_value (slice_set r.fields.items i v) ≡ slice_set (map plain_value r.fields.items) i (plain_value v) = map-set plain_value r.fields.items i v in λ j. record { kind = r.kind; fields = fields j })
+written_object : (r : Record) (i : ℕ) (v : PlainValue) → object_of_record (record { raw = r.raw; kind = r.kind; fields = with_item r.fields i v }) ≡ with_field (object_of_record r) i (plain_value v)
+written_object r i v = (let fields : map plain_value (slice_set r.fields.items i v) ≡ slice_set (map plain_value r.fields.items) i (plain_value v) = map-set plain_value r.fields.items i v in λ j. record { raw = r.raw; kind = r.kind; fields = fields j })
 
 pub written_entries : (es : List (ℕ × Record)) (q i : ℕ) (r : Record) (v : PlainValue) → entries.lookup (tree.is_at (nat_cmp q)) es ≡ Some r
-    → objects_of (entries.set_value (tree.is_at (nat_cmp q)) es (record { kind = r.kind; fields = with_item r.fields i v })) ≡ set_field (objects_of es) q i (plain_value v)
+    → objects_of (entries.set_value (tree.is_at (nat_cmp q)) es (record { raw = r.raw; kind = r.kind; fields = with_item r.fields i v })) ≡ set_field (objects_of es) q i (plain_value v)
 written_entries [] q i r v e = absurd (let no : None ≡ Some r = e in cc)
 written_entries (x ∷ es) q i r v e =
     elim (x.0 == q) as (λ b. is_eq (nat_cmp q x.0) ≡ b
-    → objects_of (cond (is_eq (nat_cmp q x.0)) ((x.0, record { kind = r.kind; fields = with_item r.fields i v }) ∷ es) (x ∷ entries.set_value (tree.is_at (nat_cmp q)) es (record { kind = r.kind; fields = with_item r.fields i v })))
+    → objects_of (cond (is_eq (nat_cmp q x.0)) ((x.0, record { raw = r.raw; kind = r.kind; fields = with_item r.fields i v }) ∷ es) (x ∷ entries.set_value (tree.is_at (nat_cmp q)) es (record { raw = r.raw; kind = r.kind; fields = with_item r.fields i v })))
     ≡ cond b ((x.0, with_field (object_of_record x.1) i (plain_value v)) ∷ objects_of es) (named_object x ∷ set_field (objects_of es) q i (plain_value v))) [
       | true ↦ λ at. (let found : Some x.1 ≡ Some r = sym (ap (λ b. cond b (Some x.1) (entries.lookup (tree.is_at (nat_cmp q)) es)) at) ∙ e in
           let same : x.1 ≡ r = cc in
-          ap (λ b. objects_of (cond b ((x.0, record { kind = r.kind; fields = with_item r.fields i v }) ∷ es) (x ∷ entries.set_value (tree.is_at (nat_cmp q)) es (record { kind = r.kind; fields = with_item r.fields i v })))) at
+          ap (λ b. objects_of (cond b ((x.0, record { raw = r.raw; kind = r.kind; fields = with_item r.fields i v }) ∷ es) (x ∷ entries.set_value (tree.is_at (nat_cmp q)) es (record { raw = r.raw; kind = r.kind; fields = with_item r.fields i v })))) at
           ∙ ap (λ o. (x.0, o) ∷ objects_of es) (written_object r i v ∙ ap (λ r. with_field (object_of_record r) i (plain_value v)) (sym same)))
       | false ↦ λ at. (let later : entries.lookup (tree.is_at (nat_cmp q)) es ≡ Some r = sym (ap (λ b. cond b (Some x.1) (entries.lookup (tree.is_at (nat_cmp q)) es)) at) ∙ e in
-          ap (λ b. objects_of (cond b ((x.0, record { kind = r.kind; fields = with_item r.fields i v }) ∷ es) (x ∷ entries.set_value (tree.is_at (nat_cmp q)) es (record { kind = r.kind; fields = with_item r.fields i v })))) at
+          ap (λ b. objects_of (cond b ((x.0, record { raw = r.raw; kind = r.kind; fields = with_item r.fields i v }) ∷ es) (x ∷ entries.set_value (tree.is_at (nat_cmp q)) es (record { raw = r.raw; kind = r.kind; fields = with_item r.fields i v })))) at
           ∙ ap (λ os. named_object x ∷ os) (written_entries es q i r v later))
     ] (at_key q x.0)
 

@@ -51,7 +51,7 @@ zip_itself R (x ∷ xs) each = (each x, zip_itself R xs each)
 
 object_itself : (pairs : List (ℕ × ℕ)) (os : List (ℕ × Object)) (o : Option Object) → ((v : Value) → Alike pairs os os v v) → is_some o ≡ true → ObjectsAlike pairs os os o o
 object_itself pairs os None each e = absurd (let no : false ≡ true = e in cc)
-object_itself pairs os (Some o) each e = (refl, zip_itself _ o.fields each)
+object_itself pairs os (Some o) each e = (refl, refl, zip_itself _ o.fields each)
 
 pub matched_itself : (g : Graph) → Matched (own_pairs g.objects) g g
 matched_itself g = record {

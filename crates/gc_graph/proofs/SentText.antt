@@ -1,23 +1,9 @@
 -- A text that goes out piece by piece.
-use Rattle.std.proofs.Common.{◌≡◌, ℕ, List, [], ◌++◌, take, drop, refl, sym, ap, ◌∙◌, append_assoc, Option, Some, None, subst, length, ◌-◌, arith}
-use Rattle.std.proofs.lemmas.List.{append-nil, take-append-drop, take_all, length-drop}
-use Rattle.std.specs.Io.KnownBytes.{Appends, Keeps}
+use Rattle.std.proofs.Common.{◌≡◌, ℕ, List, [], ◌++◌, take, drop, refl, sym, ap, ◌∙◌, append_assoc, Option, subst, length, ◌-◌, arith}
+use Rattle.std.proofs.lemmas.List.{take-append-drop, take_all, length-drop}
+use Rattle.std.specs.Io.KnownBytes.{Appends}
 use Rattle.gc_graph.specs.Streams.{SendsFront, HasSent}
-
-Appends-nil : (old : Option (List ℕ)) → Appends old old []
-Appends-nil None = tt
-Appends-nil (Some xs) = sym (append-nil xs)
-
-Appends-then : (old mid new : Option (List ℕ)) (xs ys : List ℕ) → Appends old mid xs → Appends mid new ys → Appends old new (xs ++ ys)
-Appends-then None mid new xs ys p q = tt
-Appends-then (Some a) None new xs ys p q = absurd p
-Appends-then (Some a) (Some b) None xs ys p q = absurd q
-Appends-then (Some a) (Some b) (Some c) xs ys p q = q ∙ ap (λ (t : List ℕ). t ++ ys) p ∙ append_assoc a xs ys
-
-Keeps-appends : (old new : Option (List ℕ)) → Keeps old new → Appends old new []
-Keeps-appends None new k = tt
-Keeps-appends (Some a) None k = k
-Keeps-appends (Some a) (Some b) k = k ∙ sym (append-nil a)
+use Rattle.std.proofs.KnownBytes.{Appends-nil, Appends-trans}
 
 -- nothing went out
 pub nothing_sent : (old : Option (List ℕ)) (text : List ℕ) → HasSent old old text text
@@ -27,7 +13,7 @@ more_sent : (old mid new : Option (List ℕ)) (text rest : List ℕ) (count : �
 more_sent old mid new text rest count so_far more = record {
   front = so_far.front ++ take count rest;
   parts = so_far.parts ∙ ap (λ (t : List ℕ). so_far.front ++ t) (sym (take-append-drop count rest)) ∙ sym (append_assoc so_far.front (take count rest) (drop count rest));
-  out = Appends-then old mid new so_far.front (take count rest) so_far.out more;
+  out = Appends-trans old mid new so_far.front (take count rest) so_far.out more;
 }
 
 -- one write, with the rest as a slice gives it
@@ -41,12 +27,12 @@ pub sent_then : (a b c : Option (List ℕ)) (text waiting mid more rest : List �
 sent_then a b c text waiting mid more rest first second is = record {
   front = first.front ++ second.front;
   parts = ap (λ (t : List ℕ). t ++ more) (first.parts ∙ ap (λ (t : List ℕ). first.front ++ t) second.parts ∙ sym (append_assoc first.front second.front mid)) ∙ append_assoc (first.front ++ second.front) mid more ∙ ap (λ (t : List ℕ). (first.front ++ second.front) ++ t) (sym is);
-  out = Appends-then a b c first.front second.front first.out second.out;
+  out = Appends-trans a b c first.front second.front first.out second.out;
 }
 
 -- what waited goes out, or a front of it
 pub sent_at_last : (a b c : Option (List ℕ)) (text waiting : List ℕ) → HasSent a b text waiting → Appends b c waiting → Appends a c text
-sent_at_last a b c text waiting first out = subst (Appends a c) (sym first.parts) (Appends-then a b c first.front waiting first.out out)
+sent_at_last a b c text waiting first out = subst (Appends a c) (sym first.parts) (Appends-trans a b c first.front waiting first.out out)
 
 -- a front of what waits, and so of a text that goes on
 pub front_sent : (a b c : Option (List ℕ)) (text waiting more : List ℕ) → HasSent a b text waiting → SendsFront b c waiting → SendsFront a c (text ++ more)
@@ -54,5 +40,5 @@ front_sent a b c text waiting more first (front, rest, parts, out) = (
   first.front ++ front,
   rest ++ more,
   ap (λ (t : List ℕ). t ++ more) (first.parts ∙ ap (λ (t : List ℕ). first.front ++ t) parts ∙ sym (append_assoc first.front front rest)) ∙ append_assoc (first.front ++ front) rest more,
-  Appends-then a b c first.front front first.out out,
+  Appends-trans a b c first.front front first.out out,
 )

@@ -1,5 +1,5 @@
 -- Values of two graphs that stand for each other under a set of pairs of names.
-use Rattle.std.specs.Prelude.{◌≡◌, ℕ, ◌==◌, Bool, true, false, ◌&&◌, List, Option, Some, None, IsTrue, ⊤}
+use Rattle.std.specs.Prelude.{◌≡◌, ℕ, ◌==◌, Bool, true, false, ◌&&◌, List, length, Option, Some, None, IsTrue, ⊤}
 use Rattle.std.specs.List.{list_any, AllZip}
 use Rattle.gc_graph.specs.Graph.{Value, Nil, Num, Ref, Object, Graph, lookup}
 
@@ -25,16 +25,16 @@ Agree pairs None (Some w) = ⊥
 Agree pairs (Some v) None = ⊥
 Agree pairs (Some v) (Some w) = IsTrue (correspond pairs v w)
 
--- two objects, each of which has to be there, of one kind and with fields that correspond number by number
-abbrev pub ObjectsCorrespond : List (ℕ × ℕ) → Option Object → Option Object → Type 0
-ObjectsCorrespond pairs (Some o) (Some q) = (o.kind ≡ q.kind) × AllZip (λ v w. IsTrue (correspond pairs v w)) o.fields q.fields
-ObjectsCorrespond pairs (Some o) None = ⊥
-ObjectsCorrespond pairs None q = ⊥
+-- two objects, both of which exist, are both raw or both not, have one kind and one length, and their values correspond
+abbrev pub EqualFieldByField : List (ℕ × ℕ) → Option Object → Option Object → Type 0
+EqualFieldByField pairs (Some o) (Some q) = (o.raw ≡ q.raw) × (o.kind ≡ q.kind) × (length o.fields ≡ length q.fields) × AllZip (λ v w. IsTrue (correspond pairs v w)) o.fields q.fields
+EqualFieldByField pairs (Some o) None = ⊥
+EqualFieldByField pairs None q = ⊥
 
 -- Roots correspond, and objects that are paired; no name has two partners. Only objects that are paired
 -- are spoken of: what no root leads to need not have a partner.
 pub record Corresponding (pairs : List (ℕ × ℕ)) (g h : Graph) : Type 0 where
   pub roots : AllZip (λ v w. IsTrue (correspond pairs v w)) g.roots h.roots
-  pub objects : (a b : ℕ) → IsTrue (paired pairs a b) → ObjectsCorrespond pairs (lookup g.objects a) (lookup h.objects b)
+  pub objects : (a b : ℕ) → IsTrue (paired pairs a b) → EqualFieldByField pairs (lookup g.objects a) (lookup h.objects b)
   pub one_right : (a b c : ℕ) → IsTrue (paired pairs a b) → IsTrue (paired pairs a c) → b ≡ c
   pub one_left : (a b c : ℕ) → IsTrue (paired pairs a c) → IsTrue (paired pairs b c) → a ≡ b

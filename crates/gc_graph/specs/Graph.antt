@@ -1,5 +1,5 @@
 -- The object graph that a mutator sees: named objects, and roots.
-use Rattle.std.specs.Prelude.{◌≡◌, ℕ, suc, ◌==◌, if◌then◌else◌, max, List, [], ◌∷◌, ◌++◌, map, replicate, slice_get, slice_set, Option, Some, None, IsFalse}
+use Rattle.std.specs.Prelude.{◌≡◌, ℕ, suc, ◌==◌, Bool, true, false, if◌then◌else◌, max, List, [], ◌∷◌, ◌++◌, map, replicate, slice_get, slice_set, Option, Some, None, IsFalse}
 use Rattle.std.specs.Option.{option_to_list}
 use Rattle.std.specs.List.{flat_map, list_any, fold}
 use Rattle.gc_graph.specs.Slots.{roots_of}
@@ -10,7 +10,9 @@ pub data Value : Type 0 where
   Num : (n : ℕ) → Value
   Ref : (name : ℕ) → Value
 
+-- The fields of a raw object are numbers, and no one looks for references in them.
 pub record Object : Type 0 where
+  pub raw : Bool
   pub kind : ℕ
   pub fields : List Value
 
@@ -90,9 +92,14 @@ fresh_name g = fold (λ least name. max least (suc name)) 0 (names_in g)
 
 -- ---- changes
 
--- an object of this kind, all of whose fields are nil
-abbrev pub new_object : ℕ → ℕ → Object
-new_object kind len = record { kind = kind; fields = replicate len Nil }
+-- what the fields of a new object hold: zero if it is raw, else nil
+abbrev pub first_value : Bool → Value
+first_value true = Num 0
+first_value false = Nil
+
+-- a new object of this kind with so many fields
+abbrev pub new_object : Bool → ℕ → ℕ → Object
+new_object raw kind len = record { raw = raw; kind = kind; fields = replicate len (first_value raw) }
 
 -- the graph with this value at this place of the roots
 abbrev pub set_root : Graph → ℕ → Value → Graph

@@ -1,18 +1,18 @@
 -- What a command does to a graph, and the same with a bound on the words in use.
-use Rattle.std.specs.Prelude.{ℕ, suc, ◌+◌, ◌-◌, ◌==◌, nat_lt, Bool, true, false, ◌&&◌, if◌then◌else◌, List, length, ◌≡◌, ◌≤◌, ⊤, Option, Some, None, is_some}
+use Rattle.std.specs.Prelude.{ℕ, suc, ◌+◌, ◌-◌, ◌==◌, nat_lt, Bool, true, false, ◌&&◌, not, if◌then◌else◌, List, length, ◌≡◌, ◌≤◌, ⊤, Option, Some, None, is_some}
 use Rattle.gc_graph.specs.Slots.{place, roots_of}
 use Rattle.gc_graph.specs.Graph.{Value, Nil, Num, Ref, Object, Graph, opening, object_of, field_of, root, set_root, new_object, add_object, set_field, lookup, IsUnused}
 use Rattle.gc_graph.specs.declared.command.Op.{Op}
 use Rattle.gc_graph.specs.declared.command.Op.TheVariants as ops
 use Rattle.gc_graph.specs.declared.reply.Reply.{Reply}
-use Rattle.gc_graph.specs.declared.reply.Reply.TheVariants.{Full, Made, Done, NoObject, NoField, Saw, Yes, No}
+use Rattle.gc_graph.specs.declared.reply.Reply.TheVariants.{Full, Made, Done, NoObject, NoField, NoNumber, Saw, Yes, No}
 use Rattle.gc_graph.specs.declared.reply.View.{View}
 use Rattle.gc_graph.specs.declared.reply.View.TheVariants as views
 
--- an object is shown by its kind and length
+-- an object is shown by its kind and length, and by whether it is raw
 abbrev pub view_of_object : Option Object → View
 view_of_object None = views.Nil
-view_of_object (Some object) = views.Obj object.kind (length object.fields)
+view_of_object (Some object) = if object.raw then views.RawObj object.kind (length object.fields) else views.Obj object.kind (length object.fields)
 
 -- a name that has no object is shown as nil
 abbrev pub view_of : List (ℕ × Object) → Value → View
@@ -38,16 +38,23 @@ get_field g d None found = (NoObject, g)
 get_field g d (Some object) None = (NoField, g)
 get_field g d (Some object) (Some v) = (Saw (view_of g.objects v), set_root g d v)
 
--- `put`: what `s` holds, what it refers to, and its field as it was
+abbrev pub is_number : Value → Bool
+is_number (Num n) = true
+is_number v = false
+
+-- `put`: what `s` holds, what it refers to, and its field as it was; a raw object takes numbers alone
 abbrev pub put_field : Graph → Value → Option Object → Option Value → ℕ → Value → Reply × Graph
-put_field g (Ref name) (Some object) (Some before) i v = (Done, record g { objects = set_field g.objects name i v })
+put_field g (Ref name) (Some object) (Some before) i v =
+    if object.raw && not (is_number v) then (NoNumber, g)
+    else (Done, record g { objects = set_field g.objects name i v })
 put_field g (Ref name) (Some object) None i v = (NoField, g)
 put_field g target target_object found i v = (NoObject, g)
 
 -- The reply to mutator m's command and the graph that it leaves. `name` is one that occurs nowhere in the
--- graph; only `New` uses it.
+-- graph; only `New` and `NewRaw` use it.
 abbrev pub step : Graph → ℕ → Op → ℕ → Reply × Graph
-step g m (ops.New d kind len) name = (Made, set_root (add_object g name (new_object kind len)) (place d m) (Ref name))
+step g m (ops.New d kind len) name = (Made, set_root (add_object g name (new_object false kind len)) (place d m) (Ref name))
+step g m (ops.NewRaw d kind len) name = (Made, set_root (add_object g name (new_object true kind len)) (place d m) (Ref name))
 step g m (ops.Num d n) name = (Done, set_root g (place d m) (Num n))
 step g m (ops.Nil d) name = (Done, set_root g (place d m) Nil)
 step g m (ops.Move d s) name = (Done, set_root g (place d m) (root g (place s m)))
@@ -59,13 +66,8 @@ step g m (ops.Look s) name = (Saw (view_of g.objects (root g (place s m))), g)
 -- the command makes an object
 abbrev pub MakesObject : Op → Type 0
 MakesObject (ops.New d kind len) = ⊤
-MakesObject (ops.Num d n) = ⊥
-MakesObject (ops.Nil d) = ⊥
-MakesObject (ops.Move d s) = ⊥
-MakesObject (ops.Get d s i) = ⊥
-MakesObject (ops.Put s i t) = ⊥
-MakesObject (ops.Same s t) = ⊥
-MakesObject (ops.Look s) = ⊥
+MakesObject (ops.NewRaw d kind len) = ⊤
+MakesObject op = ⊥
 
 -- ---- with a bound on the words in use
 
@@ -80,13 +82,8 @@ object_words len = len + 2
 -- the words that a command takes
 abbrev pub words_taken : Op → ℕ
 words_taken (ops.New d kind len) = object_words len
-words_taken (ops.Num d n) = 0
-words_taken (ops.Nil d) = 0
-words_taken (ops.Move d s) = 0
-words_taken (ops.Get d s i) = 0
-words_taken (ops.Put s i t) = 0
-words_taken (ops.Same s t) = 0
-words_taken (ops.Look s) = 0
+words_taken (ops.NewRaw d kind len) = object_words len
+words_taken op = 0
 
 -- `Full`, with nothing changed, exactly where the free words do not suffice
 abbrev pub roomy_step : Roomy → ℕ → Op → ℕ → Reply × Roomy

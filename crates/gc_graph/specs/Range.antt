@@ -10,6 +10,7 @@ IsSlot s = s.index < slots_each
 
 abbrev pub IsCommand : Op → Type 0
 IsCommand (ops.New d kind len) = IsSlot d × (kind < kinds) × (len < lengths)
+IsCommand (ops.NewRaw d kind len) = IsSlot d × (kind < kinds) × (len < lengths)
 IsCommand (ops.Num d n) = IsSlot d × (n < 2 ^ 63)
 IsCommand (ops.Nil d) = IsSlot d
 IsCommand (ops.Move d s) = IsSlot d × IsSlot s

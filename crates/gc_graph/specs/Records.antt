@@ -12,7 +12,7 @@ plain_value (held.Num n) = Num n
 plain_value (held.Ref name) = Ref name
 
 abbrev pub object_of_record : Record → Object
-object_of_record r = record { kind = r.kind; fields = map plain_value r.fields.items }
+object_of_record r = record { raw = r.raw; kind = r.kind; fields = map plain_value r.fields.items }
 
 abbrev pub named_object : ℕ × Record → ℕ × Object
 named_object e = (e.0, object_of_record e.1)

@@ -6,7 +6,7 @@ use Rattle.gc_graph.specs.Runs.{replies}
 use Rattle.gc_graph.specs.declared.command.Op.{Op}
 use Rattle.gc_graph.specs.declared.command.Op.TheVariants as ops
 use Rattle.gc_graph.specs.declared.reply.Reply.{Reply}
-use Rattle.gc_graph.specs.declared.reply.Reply.TheVariants.{Full, Made, Done, NoObject, NoField, Saw, Yes, No}
+use Rattle.gc_graph.specs.declared.reply.Reply.TheVariants.{Full, Made, Done, NoObject, NoField, NoNumber, Saw, Yes, No}
 use Rattle.gc_graph.specs.declared.reply.View.TheVariants as views
 
 -- the replies to the first mutator's commands
@@ -24,3 +24,5 @@ pub record Rows : Type 0 where
       ∷ ops.New (own_slot 0) 9 1 ∷ ops.Get (own_slot 1) (own_slot 0) 1 ∷ ops.Put (own_slot 0) 1 (own_slot 0) ∷ ops.Put (own_slot 0) 0 (own_slot 0) ∷ ops.Get (own_slot 1) (own_slot 0) 0 ∷ ops.Same (own_slot 0) (own_slot 1)
       ∷ ops.Move (shared_slot 0) (own_slot 1) ∷ ops.Look (shared_slot 0) ∷ [])
       ≡ NoObject ∷ Done ∷ NoObject ∷ No ∷ Yes ∷ Made ∷ NoField ∷ NoField ∷ Done ∷ Saw (views.Obj 9 1) ∷ Yes ∷ Done ∷ Saw (views.Obj 9 1) ∷ []
+  pub raw_object : replies_of_one 16 (ops.NewRaw (own_slot 0) 7 2 ∷ ops.Look (own_slot 0) ∷ ops.Get (own_slot 1) (own_slot 0) 1 ∷ ops.Put (own_slot 0) 0 (own_slot 2) ∷ ops.Put (own_slot 0) 2 (own_slot 2) ∷ ops.Num (own_slot 1) 8 ∷ ops.Put (own_slot 0) 0 (own_slot 1) ∷ ops.Get (own_slot 2) (own_slot 0) 0 ∷ [])
+      ≡ Made ∷ Saw (views.RawObj 7 2) ∷ Saw (views.Num 0) ∷ NoNumber ∷ NoField ∷ Done ∷ Done ∷ Saw (views.Num 8) ∷ []

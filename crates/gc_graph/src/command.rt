@@ -6,6 +6,8 @@ use crate::slot::Slot;
 pub enum Op {
     /// A new object of this kind with `len` fields, all nil; `d` takes a reference to it.
     New { d: Slot, kind: u8, len: u16 },
+    /// The same with fields that are plain numbers, all 0, which no one scans.
+    NewRaw { d: Slot, kind: u8, len: u16 },
     /// `d` takes the number.
     Num { d: Slot, n: Number },
     /// `d` takes nil.

@@ -32,6 +32,12 @@ impl Number {
         }
     }
 
+    pub(crate) fn zero() -> Number
+        ensures { result ≡ 0 }
+    {
+        Number { value: 0 }
+    }
+
     /// The number as a `u64`.
     pub fn get(self) -> u64
         ensures value { result ≡ self }

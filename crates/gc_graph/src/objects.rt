@@ -1,7 +1,7 @@
 ghost use Rattle.std.specs.Prelude.{◌≡◌, ◌+◌, ◌<◌, ◌≤◌, Some, IfOk, OnErr, is_some, length, if◌then◌else◌};
 ghost use Rattle.std.specs.Option.{option_map};
 ghost use Rattle.gc_graph.specs.Limits.{lengths};
-ghost use Rattle.gc_graph.specs.Graph.{object_of, lookup, field_of, root as root_in, set_root, set_field, new_object, add_object};
+ghost use Rattle.gc_graph.specs.Graph.{object_of, lookup, field_of, root as root_in, set_root, set_field, first_value, new_object, add_object};
 ghost use Rattle.gc_graph.specs.Machine.{view_of, view_of_object, same as same_in, get_field, put_field};
 ghost use Rattle.gc_graph.specs.Bounded.{AreBelow, AreShort};
 ghost use Rattle.gc_graph.specs.Records.{plain_value, object_of_record, objects_of, graph_of};
@@ -23,6 +23,7 @@ pub enum PlainValue {
 /// An object.
 #[derive(Debug, Drop)]
 pub struct Record {
+    raw: bool,
     kind: u8,
     fields: Vec<PlainValue>,
 }
@@ -38,10 +39,24 @@ impl Record {
         requires { length self.now.fields.items < lengths }
         ensures { result ≡ view_of_object (Some (object_of_record self.now)) }
     {
-        View::Obj {
-            kind: self.kind,
-            len: self.fields.len() as u16,
+        let kind = self.kind;
+        let len = self.fields.len() as u16;
+        if self.raw {
+            View::RawObj { kind, len }
+        } else {
+            View::Obj { kind, len }
         }
+    }
+}
+
+/// What the fields of a new object hold.
+fn first_value(raw: bool) -> PlainValue
+    ensures { plain_value result ≡ first_value raw }
+{
+    if raw {
+        PlainValue::Num(Number::zero())
+    } else {
+        PlainValue::Nil
     }
 }
 
@@ -100,15 +115,22 @@ impl Objects {
         Reply::Done
     }
 
-    /// A new object with nil fields, under a name above all that name an object.
-    pub fn add(&mut self, alloc: Global, name: u64, kind: u8, len: u16) -> Result<(), AllocError>
+    /// A new object, under a name above all that name an object.
+    pub fn add(
+        &mut self,
+        alloc: Global,
+        name: u64,
+        raw: bool,
+        kind: u8,
+        len: u16,
+    ) -> Result<(), AllocError>
         requires { AreBelow name (graph_of self.old) }
-        ensures ok { IfOk result (λ _. graph_of self.new ≡ add_object (graph_of self.old) name (new_object kind len)) }
+        ensures ok { IfOk result (λ _. graph_of self.new ≡ add_object (graph_of self.old) name (new_object raw kind len)) }
         ensures roots { length self.new.roots.items ≡ length self.old.roots.items }
         ensures err { OnErr result (graph_of self.new ≡ graph_of self.old) }
     {
-        let fields = vec![in alloc; PlainValue::Nil; usize::from(len)]?;
-        let _ = self.records.insert(name, Record { kind, fields })?;
+        let fields = vec![in alloc; first_value(raw); usize::from(len)]?;
+        let _ = self.records.insert(name, Record { raw, kind, fields })?;
         Ok(())
     }
 
@@ -181,13 +203,16 @@ impl Objects {
         let PlainValue::Ref(name) = target else {
             return Reply::NoObject;
         };
-        if record_of(&self.records, name).is_none() {
+        let Some(record) = record_of(&self.records, name) else {
             return Reply::NoObject;
+        };
+        if record.field(i).is_none() {
+            return Reply::NoField;
         }
-        if write_field(&mut self.records, name, i, value) {
-            Reply::Done
-        } else {
-            Reply::NoField
+        if record.raw && !matches!(value, PlainValue::Num(_)) {
+            return Reply::NoNumber;
         }
+        let _ = write_field(&mut self.records, name, i, value);
+        Reply::Done
     }
 }

@@ -78,7 +78,8 @@ impl Plain {
         ensures only_new { IsErr result → MakesObject op.now }
     {
         match *op {
-            Op::New { d, kind, len } => self.make(d.place(m), kind, len),
+            Op::New { d, kind, len } => self.make(d.place(m), false, kind, len),
+            Op::NewRaw { d, kind, len } => self.make(d.place(m), true, kind, len),
             Op::Num { d, n } => Ok(self.objects.set(d.place(m), PlainValue::Num(n))),
             Op::Nil { d } => Ok(self.objects.set(d.place(m), PlainValue::Nil)),
             Op::Move { d, s } => {
@@ -107,9 +108,9 @@ impl Plain {
     }
 
     /// Makes an object in a root, if there is room.
-    fn make(&mut self, place: usize, kind: u8, len: u16) -> Result<Reply, NoMemory>
+    fn make(&mut self, place: usize, raw: bool, kind: u8, len: u16) -> Result<Reply, NoMemory>
         requires { place < length self.old.graph.roots }
-        ensures ok { IfOk result (λ reply. Makes self.old place kind len reply self.new) }
+        ensures ok { IfOk result (λ reply. Makes self.old place raw kind len reply self.new) }
         ensures err { OnErr result (self.new ≡ self.old) }
     {
         let taken = object_words(len);
@@ -117,7 +118,7 @@ impl Plain {
             return Ok(Reply::Full);
         }
         let name = self.next_name;
-        let Ok(()) = self.objects.add(self.alloc, name, kind, len) else {
+        let Ok(()) = self.objects.add(self.alloc, name, raw, kind, len) else {
             return Err(NoMemory);
         };
         let _ = self.objects.set(place, PlainValue::Ref(name));

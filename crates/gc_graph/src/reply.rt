@@ -6,6 +6,8 @@ pub enum View {
     Nil,
     Num(Number),
     Obj { kind: u8, len: u16 },
+    /// An object whose fields are plain numbers.
+    RawObj { kind: u8, len: u16 },
 }
 
 /// The answer to a mutator's command.
@@ -21,6 +23,8 @@ pub enum Reply {
     NoObject,
     /// The object has no such field, and nothing changed.
     NoField,
+    /// The object is raw and the value is no number, and nothing changed.
+    NoNumber,
     /// This was seen.
     Saw(View),
     /// The two are the same.

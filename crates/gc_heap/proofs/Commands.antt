@@ -1,15 +1,15 @@
 -- Commands on a heap of words, as commands on its graph.
 use Rattle.std.proofs.Common.{◌≡◌, ℕ, suc, zero, ◌<◌, Bool, true, false, cond, ◌==◌, List, [], ◌∷◌, length, Option, Some, None, is_some, refl, sym, ◌∙◌, ap, subst, inl, inr, arith}
-use Rattle.std.specs.Prelude.{slice_get, slice_index, slice_set, get_or}
+use Rattle.std.specs.Prelude.{not, ◌&&◌, slice_get, slice_index, slice_set, get_or}
 use Rattle.std.specs.Option.{option_map}
 use Rattle.std.proofs.lemmas.Bool.{eqb-true, eq-eqb, cases_Bool, and_from, and_parts}
 use Rattle.gc_graph.specs.Graph.{Value, Nil, Num, Ref, Object, Graph, lookup, object_of, field_of, root, set_root, set_field}
-use Rattle.gc_graph.specs.Machine.{view_of, same, get_field, put_field}
+use Rattle.gc_graph.specs.Machine.{view_of, same, get_field, is_number, put_field}
 use Rattle.gc_graph.specs.declared.reply.Reply.{Reply}
-use Rattle.gc_graph.specs.declared.reply.Reply.TheVariants.{Done, NoField, Saw}
+use Rattle.gc_graph.specs.declared.reply.Reply.TheVariants.{Done, NoField, NoNumber, Saw}
 use Rattle.gc_graph.specs.declared.reply.View.{View}
 use Rattle.gc_words.specs.Word.{value_of, word_of, field_value}
-use Rattle.gc_words.specs.Image.{Block, block_at, field_at, is_start, objects_of, object_of_block}
+use Rattle.gc_words.specs.Image.{Block, block_at, header_of, header_at, field_at, is_start, objects_of, object_of_block}
 use Rattle.gc_words.specs.Layout.{field_place}
 use Rattle.gc_words.specs.Space.{with_object, with_word, end_of, CanPlace}
 use Rattle.gc_words.specs.declared.header.Header.{Header}
@@ -71,7 +71,7 @@ points h s a w heap less read name =
 field_value_at : (h : HeapWords) (s a i : ℕ) (p : Points h s a) → field_of (object_of (graph_in h).objects (root (graph_in h) s)) i ≡ option_map (field_value p.block.header) (field_at h.space.words a i)
 field_value_at h s a i p = ap (λ v. field_of (object_of (graph_in h).objects v) i) p.target ∙ field_found h.space.words a i p.block p.found
 
-none_of : (o : Option ℕ) → is_some o ≡ false → o ≡ None
+pub none_of : {X : Type 0} (o : Option X) → is_some o ≡ false → o ≡ None
 none_of None e = refl
 none_of (Some x) e = absurd (let no : true ≡ false = e in cc)
 
@@ -83,15 +83,20 @@ got_no_field h d s a i p none =
     sym (ap (λ f. get_field (graph_in h) d (object_of (graph_in h).objects (root (graph_in h) s)) f) (field_value_at h s a i p ∙ ap (option_map (field_value p.block.header)) (none_of (field_at h.space.words a i) none))
     ∙ ap (λ o. get_field (graph_in h) d o None) p.object)
 
-pub got : (h : HeapWords) (d s a i w : ℕ) (view : View) → Points h s a → field_at h.space.words a i ≡ Some w → view ≡ view_of (graph_in h).objects (value_of w)
+pub got : (h : HeapWords) (d s a i f w : ℕ) (view : View) (p : Points h s a) → field_at h.space.words a i ≡ Some f → value_of w ≡ field_value p.block.header f → view ≡ view_of (graph_in h).objects (value_of w)
     → let object = object_of (graph_in h).objects (root (graph_in h) s) in
     ◌≡◌ {A = Reply × Graph} (Saw view, graph_in (record h { roots = slice_set h.roots d w })) (get_field (graph_in h) d object (field_of object i))
-got h d s a i w view p read seen =
+got h d s a i f w view p read means seen =
     let taken : graph_in (record h { roots = slice_set h.roots d w }) ≡ set_root (graph_in h) d (value_of w) = graph_root h.space d w h.roots in
     let there : get_field (graph_in h) d (object_of (graph_in h).objects (root (graph_in h) s)) (field_of (object_of (graph_in h).objects (root (graph_in h) s)) i) ≡ (Saw (view_of (graph_in h).objects (value_of w)), set_root (graph_in h) d (value_of w))
-    = ap (λ f. get_field (graph_in h) d (object_of (graph_in h).objects (root (graph_in h) s)) f) (field_value_at h s a i p ∙ ap (option_map (field_value p.block.header)) read)
+    = ap (λ f. get_field (graph_in h) d (object_of (graph_in h).objects (root (graph_in h) s)) f) (field_value_at h s a i p ∙ ap (option_map (field_value p.block.header)) read ∙ ap (λ v. Some v) (sym means))
     ∙ ap (λ o. get_field (graph_in h) d o (Some (value_of w))) p.object in
     (λ k. (Saw (seen k), taken k)) ∙ sym there
+
+-- ---- the header that is read there
+
+pub header_is : (h : HeapWords) (s a : ℕ) (g : Header) (p : Points h s a) → header_at h.space.words a ≡ Some g → p.block.header ≡ g
+header_is h s a g p read = (let both : Some p.block.header ≡ Some g = sym (ap header_of p.found) ∙ read in cc)
 
 -- ---- put
 
@@ -102,19 +107,31 @@ put_no_field h s a i v p none =
     ∙ ap (λ o. put_field (graph_in h) (root (graph_in h) s) o None i v) p.object
     ∙ ap (λ r. put_field (graph_in h) r (Some (object_of_block p.block)) None i v) p.target)
 
-pub put_done : (h : HeapWords) (s a i w : ℕ) (v : Value) → IsHeap h → Points h s a → is_some (field_at h.space.words a i) ≡ true → v ≡ value_of w
+-- where the field is there, the object takes the value unless it is raw and the value is no number
+abbrev pub written : HeapWords → ℕ → ℕ → Bool → Value → Reply × Graph
+written h a i refused v = cond refused (NoNumber, graph_in h) (Done, record (graph_in h) { objects = set_field (objects_of h.space.words) a i v })
+
+put_there : (h : HeapWords) (s a i : ℕ) (v : Value) (p : Points h s a) → is_some (field_at h.space.words a i) ≡ true
+    → let object = object_of (graph_in h).objects (root (graph_in h) s) in
+    put_field (graph_in h) (root (graph_in h) s) object (field_of object i) i v ≡ written h a i (p.block.header.raw && not (is_number v)) v
+put_there h s a i v p some =
+    let before : (x : ℕ) × (field_at h.space.words a i ≡ Some x) = some_of (field_at h.space.words a i) some in
+    ap (λ f. put_field (graph_in h) (root (graph_in h) s) (object_of (graph_in h).objects (root (graph_in h) s)) f i v) (field_value_at h s a i p ∙ ap (option_map (field_value p.block.header)) before.1)
+    ∙ ap (λ o. put_field (graph_in h) (root (graph_in h) s) o (Some (field_value p.block.header before.0)) i v) p.object
+    ∙ ap (λ r. put_field (graph_in h) r (Some (object_of_block p.block)) (Some (field_value p.block.header before.0)) i v) p.target
+
+pub put_refused : (h : HeapWords) (s a i : ℕ) (v : Value) (p : Points h s a) → is_some (field_at h.space.words a i) ≡ true → (p.block.header.raw && not (is_number v)) ≡ true
+    → let object = object_of (graph_in h).objects (root (graph_in h) s) in ◌≡◌ {A = Reply × Graph} (NoNumber, graph_in h) (put_field (graph_in h) (root (graph_in h) s) object (field_of object i) i v)
+put_refused h s a i v p some none = sym (put_there h s a i v p some ∙ ap (λ b. written h a i b v) none)
+
+pub put_done : (h : HeapWords) (s a i w : ℕ) (v : Value) (p : Points h s a) → IsHeap h → is_some (field_at h.space.words a i) ≡ true → (p.block.header.raw && not (is_number v)) ≡ false → v ≡ field_value p.block.header w
     → let object = object_of (graph_in h).objects (root (graph_in h) s) in
     ◌≡◌ {A = Reply × Graph} (Done, graph_in (record h { space = with_word h.space (field_place a i) w })) (put_field (graph_in h) (root (graph_in h) s) object (field_of object i) i v)
-put_done h s a i w v heap p some value =
-    let before : (x : ℕ) × (field_at h.space.words a i ≡ Some x) = some_of (field_at h.space.words a i) some in
-    let written : graph_in (record h { space = with_word h.space (field_place a i) w }) ≡ record (graph_in h) { objects = set_field (objects_of h.space.words) a i (value_of w) }
+put_done h s a i w v p heap some taken value =
+    let written_field : graph_in (record h { space = with_word h.space (field_place a i) w }) ≡ record (graph_in h) { objects = set_field (objects_of h.space.words) a i (field_value p.block.header w) }
     = graph_field h.space a i w p.block h.roots heap.space some p.found in
-    let there : put_field (graph_in h) (root (graph_in h) s) (object_of (graph_in h).objects (root (graph_in h) s)) (field_of (object_of (graph_in h).objects (root (graph_in h) s)) i) i v
-    ≡ (Done, record (graph_in h) { objects = set_field (objects_of h.space.words) a i v })
-    = ap (λ f. put_field (graph_in h) (root (graph_in h) s) (object_of (graph_in h).objects (root (graph_in h) s)) f i v) (field_value_at h s a i p ∙ ap (option_map (field_value p.block.header)) before.1)
-    ∙ ap (λ o. put_field (graph_in h) (root (graph_in h) s) o (Some (field_value p.block.header before.0)) i v) p.object
-    ∙ ap (λ r. put_field (graph_in h) r (Some (object_of_block p.block)) (Some (field_value p.block.header before.0)) i v) p.target in
-    (λ k. (Done, (written ∙ ap (λ x. record (graph_in h) { objects = set_field (objects_of h.space.words) a i x }) (sym value)) k)) ∙ sym there
+    (λ k. (Done, (written_field ∙ ap (λ x. record (graph_in h) { objects = set_field (objects_of h.space.words) a i x }) (sym value)) k))
+    ∙ sym (put_there h s a i v p some ∙ ap (λ b. written h a i b v) taken)
 
 -- ---- what stays a heap
 

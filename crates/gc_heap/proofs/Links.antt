@@ -2,7 +2,7 @@
 use Rattle.std.proofs.Common.{◌≡◌, ℕ, List, Option, Some, None, true, false, ◌==◌, is_some, sym, ◌∙◌, ap, subst, inl, inr}
 use Rattle.std.specs.Prelude.{IsSome}
 use Rattle.std.proofs.lemmas.Bool.{eqb-true, eqb-false, cases_Bool}
-use Rattle.gc_words.specs.Image.{Block, block_at, is_start, field_at, field_in}
+use Rattle.gc_words.specs.Image.{Block, fresh_block, block_at, is_start, field_at, field_in}
 use Rattle.gc_words.specs.Spelling.{link_at}
 use Rattle.gc_words.specs.Layout.{field_place}
 use Rattle.gc_words.specs.Space.{SpaceWords, IsSpace, CanPlace, end_of, with_object, with_word}
@@ -17,9 +17,9 @@ differs words others x same old new = (let no : true ≡ false = sym new ∙ ap 
 
 pub links_placed : (s : SpaceWords) (h : Header) → CanPlace s h → KeepsLinks s.words (with_object s h).words
 links_placed s h can = record {
-  kept = λ start there. link_placed_beside s h start can.shaped there;
+  kept = λ start there. link_placed_beside s (fresh_block h) start can.shaped there;
   fresh = λ start old new. elim (cases_Bool (end_of s == start)) [
-    | inl last ↦ subst (λ x. link_at (with_object s h).words x ≡ 0) (eqb-true (end_of s) start last) (link_placed s h)
+    | inl last ↦ subst (λ x. link_at (with_object s h).words x ≡ 0) (eqb-true (end_of s) start last) (link_placed s (fresh_block h))
     | inr other ↦ absurd (differs s.words (with_object s h).words start (placed_beside s h start can (eqb-false (end_of s) start other)) old new)
   ];
 }

@@ -1,7 +1,7 @@
 -- Commands on a heap of words, as steps of the roomy machine.
-use Rattle.std.proofs.Common.{◌≡◌, ℕ, ◌+◌, ◌-◌, ◌<◌, ◌≤◌, cond, length, sym, ◌∙◌, ap, arith}
+use Rattle.std.proofs.Common.{◌≡◌, ℕ, ◌+◌, ◌-◌, ◌<◌, ◌≤◌, Bool, cond, length, sym, ◌∙◌, ap, arith}
 use Rattle.std.specs.Prelude.{slice_index, slice_set}
-use Rattle.std.proofs.lemmas.Bool.{lt-ltb, le-ltb}
+use Rattle.std.proofs.lemmas.Bool.{le-ltb}
 use Rattle.gc_graph.specs.Slots.{SlotName, place}
 use Rattle.gc_graph.specs.Graph.{Value, Ref, root, set_root, add_object, new_object}
 use Rattle.gc_graph.specs.Machine.{step, roomy_step, view_of, MakesObject}
@@ -11,7 +11,7 @@ use Rattle.gc_graph.specs.declared.command.Op.TheVariants as ops
 use Rattle.gc_graph.specs.declared.reply.Reply.{Reply}
 use Rattle.gc_graph.specs.declared.reply.Reply.TheVariants.{Full, Made, Done, Saw}
 use Rattle.gc_graph.specs.declared.reply.View.{View}
-use Rattle.gc_graph.proofs.Stepping.{in_place, with_free}
+use Rattle.gc_graph.proofs.Stepping.{in_place, with_free, new_command, new_step}
 use Rattle.gc_words.specs.Word.{value_of, word_of}
 use Rattle.gc_words.specs.Space.{CanPlace, end_of, free_in, with_object}
 use Rattle.gc_words.specs.declared.header.Header.{Header}
@@ -44,30 +44,26 @@ abbrev pub with_new : HeapWords → ℕ → Header → HeapWords
 with_new h p header = record h { space = with_object h.space header; roots = slice_set h.roots p (word_of (Ref (end_of h.space))) }
 
 new_graph : (h : HeapWords) (p : ℕ) (header : Header) → IsHeap h → CanPlace h.space header
-    → graph_in (with_new h p header) ≡ set_root (add_object (graph_in h) (end_of h.space) (new_object header.kind header.len)) p (Ref (end_of h.space))
+    → graph_in (with_new h p header) ≡ set_root (add_object (graph_in h) (end_of h.space) (new_object header.raw header.kind header.len)) p (Ref (end_of h.space))
 new_graph h p header heap can =
     let low : 1 ≤ length h.space.words = heap.space.end_low in
     let high : h.space.size ≤ 1048576 = heap.space.size_high in
     let value : value_of (word_of (Ref (end_of h.space))) ≡ Ref (end_of h.space) = meaning (word_of (Ref (end_of h.space))) (Ref (end_of h.space)) (value_read_back (Ref (end_of h.space)) (low, omega arith)) in
     graph_root (with_object h.space header) p (word_of (Ref (end_of h.space))) h.roots
     ∙ ap (λ g. set_root g p (value_of (word_of (Ref (end_of h.space))))) (graph_placed h.space header h.roots can)
-    ∙ ap (set_root (add_object (graph_in h) (end_of h.space) (new_object header.kind header.len)) p) value
+    ∙ ap (set_root (add_object (graph_in h) (end_of h.space) (new_object header.raw header.kind header.len)) p) value
 
 -- the heap with it is what the roomy machine leaves
-abbrev pub MakesAtEnd : HeapWords → ℕ → ℕ → ℕ → Reply → HeapWords → Type 0
-MakesAtEnd h p kind len reply new = (reply, roomy_in new) ≡ make_object (roomy_in h) p kind len (end_of h.space)
+abbrev pub MakesAtEnd : HeapWords → ℕ → Bool → ℕ → ℕ → Reply → HeapWords → Type 0
+MakesAtEnd h p raw kind len reply new = (reply, roomy_in new) ≡ make_object (roomy_in h) p raw kind len (end_of h.space)
 
-pub full : (h : HeapWords) (p kind len : ℕ) → free_in h.space < len + 2 → MakesAtEnd h p kind len Full h
-full h p kind len short = sym (ap (λ b. cond b (Full, roomy_in h) (Made, record { graph = set_root (add_object (graph_in h) (end_of h.space) (new_object kind len)) p (Ref (end_of h.space)); free = free_in h.space - (len + 2) })) (lt-ltb _ _ short))
+pub made : (h : HeapWords) (p : ℕ) (raw : Bool) (kind len : ℕ) → IsHeap h → CanPlace h.space (record { raw = raw; kind = kind; len = len }) → MakesAtEnd h p raw kind len Made (with_new h p (record { raw = raw; kind = kind; len = len }))
+made h p raw kind len heap can =
+    (λ i. (Made, record { graph = new_graph h p (record { raw = raw; kind = kind; len = len }) heap can i; free = free_placed h.space (record { raw = raw; kind = kind; len = len }) i }))
+    ∙ sym (ap (λ b. cond b (Full, roomy_in h) (Made, record { graph = set_root (add_object (graph_in h) (end_of h.space) (new_object raw kind len)) p (Ref (end_of h.space)); free = free_in h.space - (len + 2) })) (le-ltb _ _ can.room))
 
-pub made : (h : HeapWords) (p kind len : ℕ) → IsHeap h → CanPlace h.space (record { kind = kind; len = len }) → MakesAtEnd h p kind len Made (with_new h p (record { kind = kind; len = len }))
-made h p kind len heap can =
-    (λ i. (Made, record { graph = new_graph h p (record { kind = kind; len = len }) heap can i; free = free_placed h.space (record { kind = kind; len = len }) i }))
-    ∙ sym (ap (λ b. cond b (Full, roomy_in h) (Made, record { graph = set_root (add_object (graph_in h) (end_of h.space) (new_object kind len)) p (Ref (end_of h.space)); free = free_in h.space - (len + 2) })) (le-ltb _ _ can.room))
-
-pub makes_at : (h new : HeapWords) (m : ℕ) (op : Op) (d : SlotName) (p kind len : ℕ) (reply : Reply) → op ≡ ops.New d kind len → p ≡ place d m
-    → MakesAtEnd h p kind len reply new → roomy_step (roomy_in h) m op (end_of h.space) ≡ (reply, roomy_in new)
-makes_at h new m op d p kind len reply is at makes =
+pub makes_at : (h new : HeapWords) (m : ℕ) (op : Op) (d : SlotName) (p : ℕ) (raw : Bool) (kind len : ℕ) (reply : Reply) → op ≡ new_command raw d kind len → p ≡ place d m
+    → MakesAtEnd h p raw kind len reply new → roomy_step (roomy_in h) m op (end_of h.space) ≡ (reply, roomy_in new)
+makes_at h new m op d p raw kind len reply is at makes =
     ap (λ o. roomy_step (roomy_in h) m o (end_of h.space)) is
-    ∙ ap (λ p. make_object (roomy_in h) p kind len (end_of h.space)) (sym at)
-    ∙ sym makes
+    ∙ new_step (roomy_in h) (roomy_in new) m d raw kind len (end_of h.space) reply (makes ∙ ap (λ p. make_object (roomy_in h) p raw kind len (end_of h.space)) at)

@@ -1,9 +1,22 @@
-use crate::reading::{has_field, view};
+ghost use Rattle.std.specs.Prelude.{◌≡◌};
+
+use crate::reading::{field_word, has_field, root_word, view};
 use gc_graph::{NoMemory, Op, Reply, Slot, root_count};
 use gc_words::{Addr, Header, ImageRef, NewAddr, OldAddr, Space, Value, encode, target_of};
 use std::alloc::Global;
 use std::marker::Model;
 use std::mem;
+
+/// The header of a new object.
+fn header_of(raw: bool, kind: u8, len: u16) -> Header
+    ensures { result ≡ record { raw = raw; kind = kind; len = len } }
+{
+    if raw {
+        Header::new_raw(kind, len)
+    } else {
+        Header::new(kind, len)
+    }
+}
 
 /// The heap that mutators work on: objects in a space, and the roots of 1 to 16 mutators. Its space and its
 /// roots are made at once; no command takes memory.
@@ -71,6 +84,7 @@ impl Heap {
             end: self.space.end(),
             words: self.space.words(),
             roots: &self.roots,
+            raws: true,
         }
     }
 
@@ -122,7 +136,8 @@ impl Heap {
         // Here the prover learns how many roots there are.
         let _ = &self.roots;
         match *op {
-            Op::New { d, kind, len } => self.make(d.place(m), kind, len),
+            Op::New { d, kind, len } => self.make(d.place(m), false, kind, len),
+            Op::NewRaw { d, kind, len } => self.make(d.place(m), true, kind, len),
             Op::Num { d, n } => self.set(d.place(m), encode(Value::Num(n))),
             Op::Nil { d } => self.set(d.place(m), encode(Value::Nil)),
             Op::Move { d, s } => {
@@ -171,9 +186,9 @@ impl Heap {
     }
 
     /// A new object in a root, where it has room.
-    fn make(&mut self, place: usize, kind: u8, len: u16) -> Reply
+    fn make(&mut self, place: usize, raw: bool, kind: u8, len: u16) -> Reply
         requires { place < length self.old.roots }
-        ensures step { (result, roomy_in self.new) ≡ make_object (roomy_in self.old) place kind len (end_of self.old.space) }
+        ensures step { (result, roomy_in self.new) ≡ make_object (roomy_in self.old) place raw kind len (end_of self.old.space) }
         ensures links { KeepsLinks self.old.space.words self.new.space.words }
         ensures size { self.new.space.size ≡ self.old.space.size }
         ensures mutators { self.new.mutators ≡ self.old.mutators }
@@ -182,7 +197,7 @@ impl Heap {
         if !self.space.has_room(len) {
             return Reply::Full;
         }
-        let at = self.space.place(Header::new(kind, len));
+        let at = self.space.place(header_of(raw, kind, len));
         self.roots[place] = encode(Value::Ref(at));
         Reply::Made
     }
@@ -216,7 +231,8 @@ impl Heap {
         if !has_field(&self.space, at, i) {
             return Reply::NoField;
         }
-        let word = self.space.field(at, i);
+        let field = self.space.field(at, i);
+        let word = root_word(&self.space, self.space.header(at), field);
         self.roots[d] = word;
         Reply::Saw(view(&self.space, word))
     }
@@ -240,7 +256,9 @@ impl Heap {
         if !has_field(&self.space, at, i) {
             return Reply::NoField;
         }
-        let word = self.roots[t];
+        let Some(word) = field_word(&self.space, self.space.header(at), self.roots[t]) else {
+            return Reply::NoNumber;
+        };
         self.space.set_field(at, i, word);
         Reply::Done
     }

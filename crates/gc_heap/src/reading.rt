@@ -1,15 +1,16 @@
 //! What is read of words, in a space in which all references are to starts.
 
-ghost use Rattle.std.specs.Prelude.{◌≡◌, ◌↔◌, Some, IsTrue, IsSome};
+ghost use Rattle.std.specs.Prelude.{◌≡◌, ◌↔◌, Some, IsTrue, IsSome, IfSome, is_none, not, ◌&&◌, ◌<◌, ◌^◌};
 ghost use Rattle.std.specs.Option.{option_map};
-ghost use Rattle.gc_graph.specs.Machine.{view_of};
-ghost use Rattle.gc_words.specs.Word.{is_value, value_of};
+ghost use Rattle.gc_graph.specs.Graph.{Num};
+ghost use Rattle.gc_graph.specs.Machine.{view_of, is_number};
+ghost use Rattle.gc_words.specs.Word.{is_value, value_of, field_value};
 ghost use Rattle.gc_words.specs.Image.{is_start, field_at, objects_of};
 ghost use Rattle.gc_words.specs.Space.{IsSpace};
-ghost use Rattle.gc_words.specs.Closed.{IsRootWord};
+ghost use Rattle.gc_words.specs.Closed.{IsRootWord, IsFieldWord};
 
 use gc_graph::View;
-use gc_words::{Addr, Space, Value, decode};
+use gc_words::{Addr, Header, Space, Value, decode};
 
 /// Whether the object that starts here has a field `i`.
 pub fn has_field(space: &Space, at: Addr, i: u16) -> bool
@@ -34,10 +35,55 @@ pub fn view(space: &Space, word: u64) -> View
         Value::Num(n) => View::Num(*n),
         Value::Ref(at) => {
             let header = space.header(*at);
-            View::Obj {
-                kind: header.kind(),
-                len: header.len(),
+            let kind = header.kind();
+            let len = header.len();
+            if header.is_raw() {
+                View::RawObj { kind, len }
+            } else {
+                View::Obj { kind, len }
             }
         }
+    }
+}
+
+/// The root word for what a field word of an object with this header means.
+pub fn root_word(space: &Space, header: Header, field: u64) -> u64
+    requires { IsFieldWord space.now.words header field }
+    ensures value { value_of result ≡ field_value header field }
+    ensures word { IsRootWord space.now.words result }
+{
+    if header.is_raw() {
+        2 * field + 1
+    } else {
+        field
+    }
+}
+
+/// The field word of an object with this header for what a root word means; None where a raw object would take what is
+/// no number.
+pub fn field_word(space: &Space, header: Header, word: u64) -> Option<u64>
+    requires { IsRootWord space.now.words word }
+    ensures refused { is_none result ≡ (header.raw && not (is_number (value_of word))) }
+    ensures value { IfSome result (λ field. field_value header field ≡ value_of word) }
+    ensures word { IfSome result (λ field. IsFieldWord space.now.words header field) }
+{
+    if header.is_raw() {
+        number_of(word)
+    } else {
+        Some(word)
+    }
+}
+
+/// The number that a word is.
+fn number_of(word: u64) -> Option<u64>
+    requires { IsTrue (is_value word) }
+    ensures refused { is_none result ≡ not (is_number (value_of word)) }
+    ensures value { IfSome result (λ n. Num n ≡ value_of word) }
+    ensures bound { IfSome result (λ n. n < 2 ^ 63) }
+{
+    let value = decode(word)?;
+    match &value {
+        Value::Num(n) => Some(n.get()),
+        _ => None,
     }
 }

@@ -100,6 +100,46 @@ fn greatest_number(rt: HostRuntime) -> Result<(), Fail> {
 }
 
 #[test]
+fn raw_object_holds_numbers(rt: HostRuntime) -> Result<(), Fail> {
+    let r0 = Slot::own(0).ok_or("slot")?;
+    let r1 = Slot::own(1).ok_or("slot")?;
+    let r2 = Slot::own(2).ok_or("slot")?;
+    let zero = Number::new(0).ok_or("number")?;
+    let most = Number::new(9223372036854775807).ok_or("number")?;
+    let commands = [
+        Op::NewRaw {
+            d: r0,
+            kind: 7,
+            len: 2,
+        },
+        Op::Look { s: r0 },
+        Op::Get { d: r1, s: r0, i: 1 },
+        Op::Put { s: r0, i: 0, t: r2 },
+        Op::Put { s: r0, i: 0, t: r0 },
+        Op::Put { s: r0, i: 2, t: r2 },
+        Op::Num { d: r1, n: most },
+        Op::Put { s: r0, i: 0, t: r1 },
+        Op::Get { d: r2, s: r0, i: 0 },
+    ];
+    let expected = [
+        Reply::Made,
+        Reply::Saw(View::RawObj { kind: 7, len: 2 }),
+        Reply::Saw(View::Num(zero)),
+        Reply::NoNumber,
+        Reply::NoNumber,
+        Reply::NoField,
+        Reply::Done,
+        Reply::Done,
+        Reply::Saw(View::Num(most)),
+    ];
+    let replies = replies(rt.alloc(), 16, &commands)?;
+    assert_eq!(rt; replies.as_slice(), expected.as_slice());
+    let plain = plain_replies(rt.alloc(), 16, &commands)?;
+    assert_eq!(rt; plain.as_slice(), expected.as_slice());
+    Ok(())
+}
+
+#[test]
 fn refusals_change_nothing(rt: HostRuntime) -> Result<(), Fail> {
     let r0 = Slot::own(0).ok_or("slot")?;
     let r1 = Slot::own(1).ok_or("slot")?;

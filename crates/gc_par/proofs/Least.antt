@@ -6,7 +6,7 @@ use Rattle.std.proofs.lemmas.List.FromFn.{get_or-map-range_with_len, length-map-
 use Rattle.rayon.specs.Lists.{IsLeast}
 use Rattle.rayon.proofs.ToStd.{IsLeast-All}
 use Rattle.gc_words.specs.Image.{Image}
-use Rattle.gc_words.specs.Fault.{◌or_else◌, pair_fault, object_faults}
+use Rattle.gc_words.specs.Fault.{◌or_else◌, first_over_pairs, pair_fault, object_faults}
 use Rattle.gc_words.specs.declared.refusal.Refusal.{Refusal}
 use Rattle.gc_check.specs.Tables.{Checked}
 use Rattle.gc_par.specs.Internal.Least.{fault_at, place_or, IsFirst}
@@ -62,10 +62,10 @@ module _ (fault : ℕ → Option Refusal) (n : ℕ) where
 
 module _ (old new : Image) (all : List (ℕ × ℕ)) where
   none_from : (k : ℕ) (rest : List (ℕ × ℕ)) → ((j i : ℕ) → i ≡ k + j → j < length rest → pair_fault old new all i (get_or rest j (0, 0)) ≡ None)
-      → object_faults old new all k rest ≡ None
+      → first_over_pairs (pair_fault old new all) k rest ≡ None
   none_from k [] none = refl
   none_from k (p ∷ rest) none =
-      ap (λ o. o or_else object_faults old new all (suc k) rest) (none 0 k (omega arith) (omega arith))
+      ap (λ o. o or_else first_over_pairs (pair_fault old new all) (suc k) rest) (none 0 k (omega arith) (omega arith))
       ∙ none_from (suc k) rest (λ j i is inside. none (suc j) i (omega arith) (omega arith))
 
   some_first : (o q : Option Refusal) → is_some o ≡ true → o or_else q ≡ o
@@ -75,25 +75,25 @@ module _ (old new : Image) (all : List (ℕ × ℕ)) where
   first_from : (k m at : ℕ) (rest : List (ℕ × ℕ)) → at ≡ k + m → m < length rest
       → ((j i : ℕ) → i ≡ k + j → j < m → pair_fault old new all i (get_or rest j (0, 0)) ≡ None)
       → is_some (pair_fault old new all at (get_or rest m (0, 0))) ≡ true
-      → object_faults old new all k rest ≡ pair_fault old new all at (get_or rest m (0, 0))
+      → first_over_pairs (pair_fault old new all) k rest ≡ pair_fault old new all at (get_or rest m (0, 0))
   first_from k m at [] is inside none some = absurd (omega arith)
   first_from k zero at (p ∷ rest) is inside none some =
       let same : at ≡ k = omega arith in
-      subst (λ i. object_faults old new all k (p ∷ rest) ≡ pair_fault old new all i p) (sym same)
-      (some_first (pair_fault old new all k p) (object_faults old new all (suc k) rest) (subst (λ i. is_some (pair_fault old new all i p) ≡ true) same some))
+      subst (λ i. first_over_pairs (pair_fault old new all) k (p ∷ rest) ≡ pair_fault old new all i p) (sym same)
+      (some_first (pair_fault old new all k p) (first_over_pairs (pair_fault old new all) (suc k) rest) (subst (λ i. is_some (pair_fault old new all i p) ≡ true) same some))
   first_from k (suc m) at (p ∷ rest) is inside none some =
-      ap (λ o. o or_else object_faults old new all (suc k) rest) (none 0 k (omega arith) (omega arith))
+      ap (λ o. o or_else first_over_pairs (pair_fault old new all) (suc k) rest) (none 0 k (omega arith) (omega arith))
       ∙ first_from (suc k) m at rest (omega arith) (omega arith) (λ j i is inside. none (suc j) i (omega arith) (omega arith)) some
 
 pub first_has_first_fault : (c : Checked) (n m : ℕ) → n ≡ length c.pairs → IsFirst (fault_at c) n m → m < n
-    → fault_at c m ≡ object_faults c.old c.new c.pairs 0 c.pairs
+    → fault_at c m ≡ object_faults c.old c.new c.pairs
 first_has_first_fault c n m all first inside =
     sym (first_from c.old c.new c.pairs 0 m m c.pairs (omega arith) (omega arith)
     (λ j i is below. let same : i ≡ j = omega arith in subst (λ i. pair_fault c.old c.new c.pairs i (get_or c.pairs j (0, 0)) ≡ None) (sym same) (first.before j below))
     (first.here inside))
 
 pub none_has_no_fault : (c : Checked) (n m : ℕ) → n ≡ length c.pairs → IsFirst (fault_at c) n m → n ≤ m
-    → None ≡ object_faults c.old c.new c.pairs 0 c.pairs
+    → None ≡ object_faults c.old c.new c.pairs
 none_has_no_fault c n m all first past =
     sym (none_from c.old c.new c.pairs 0 c.pairs
     (λ j i is below. let same : i ≡ j = omega arith in subst (λ i. pair_fault c.old c.new c.pairs i (get_or c.pairs j (0, 0)) ≡ None) (sym same) (first.before j (omega arith))))

@@ -51,7 +51,7 @@ pub fn check_par(
 #[tactic(auto, using(crate::proofs::Least::first_has_first_fault))]
 fn first_pair_fault(rt: &(impl Threads + Sync), tables: &Tables, count: u32) -> Option<Refusal>
     requires { count ≡ length tables.now.pairs }
-    ensures { result ≡ object_faults tables.now.old tables.now.new tables.now.pairs 0 tables.now.pairs }
+    ensures { result ≡ object_faults tables.now.old tables.now.new tables.now.pairs }
 {
     let first = first_faulty(rt, tables, count);
     if first < count {

@@ -3,6 +3,7 @@ pub mod SeatNumbers
 pub mod Equality
 pub mod ScriptEvents
 pub mod Players
+pub mod PossibleReceipts
 pub mod SeatEntries
 pub mod RunHistory
 pub mod WorkedRows

@@ -28,13 +28,13 @@ IsUsefulStep (Collect step) (Useful reply) = ⊤
 -- ---- in a history
 
 -- an event of the collector
-abbrev pub is_step : Event → Bool
-is_step (Mutate m op) = false
-is_step (Collect step) = true
+abbrev pub is_collect : Event → Bool
+is_collect (Mutate m op) = false
+is_collect (Collect step) = true
 
 -- the entries of the collector, in order
 abbrev pub steps_of : List Entry → List Entry
-steps_of entries = filter (λ entry. is_step entry.event) entries
+steps_of entries = filter (λ entry. is_collect entry.event) entries
 
 -- The world has this size and a mutator for each script. The commands of mutator m are script m, in order, and the
 -- collector made so many steps, all as useful ones.

@@ -1,10 +1,13 @@
 -- Openings, their seats, and what a call adds to one.
-use Rattle.std.specs.Prelude.{◌≡◌, ℕ, ◌+◌, ◌≤◌, Bool, nat_lt, List, [], ◌∷◌, ◌++◌, ⊤}
+use Rattle.std.specs.Prelude.{◌≡◌, ℕ, ◌+◌, ◌≤◌, Bool, nat_lt, List, [], ◌∷◌, ◌++◌, length, ⊤}
 use Rattle.gc_graph.specs.Limits.{most_words}
 use Rattle.gc_copy.specs.declared.step.Step.{Step}
 use Rattle.gc_copy.specs.declared.step.Step.TheVariants.{BeginSized, Apply}
 use Rattle.gc_copy.specs.declared.event.Event.{Event}
 use Rattle.gc_copy.specs.declared.event.Answer.{Answer}
+use Rattle.gc_world.specs.declared.entry.Entry.{Entry}
+use Rattle.gc_world.specs.History.{IsHistory}
+use Rattle.gc_world.specs.World.{entry_of}
 use Rattle.gc_shared.specs.declared.seat.Receipt.{Receipt}
 
 -- what a Shared was opened with
@@ -32,10 +35,20 @@ fresh mutators n = record { number = n; is_mutator = nat_lt n mutators; receipts
 abbrev pub receipt : ℕ → Event → Answer → Receipt
 receipt place event answer = record { place = place; event = event; answer = answer }
 
--- the seat has got one receipt, at some place, with this event and answer
-abbrev pub AddsReceipt : SeatValue → SeatValue → Event → Answer → Type 0
-AddsReceipt before after event answer =
-    (place : ℕ) × (after ≡ record before { receipts = before.receipts ++ receipt place event answer ∷ [] })
+-- Some world can give this receipt. It has a history of which the receipt's place is the length, and in whose state
+-- the event gets this answer, so that the history goes on with both.
+pub record IsPossible (r : Receipt) : Type 0 where
+  pub size : ℕ
+  pub mutators : ℕ
+  pub earlier : List Entry
+  pub place : length earlier ≡ r.place
+  pub goes_on : IsHistory size mutators (earlier ++ entry_of r.event r.answer ∷ [])
+
+-- the seat has one receipt more, with this event and answer, and some world can give it
+pub record AddsReceipt (before after : SeatValue) (event : Event) (answer : Answer) : Type 0 where
+  pub place : ℕ
+  pub added : after ≡ record before { receipts = before.receipts ++ receipt place event answer ∷ [] }
+  pub possible : IsPossible (receipt place event answer)
 
 -- ---- steps
 

@@ -110,8 +110,8 @@ impl Shared {
         if m >= world.mutators() {
             return Err(CallFault::NotAMutator);
         }
-        let place = world.history().len();
         let reply = world.mutate(m, op)?;
+        let place = world.history().len() - 1;
         drop(world);
         let event = Event::Mutate { m, op: *op };
         let answer = Answer::of_mutator(&reply);
@@ -153,8 +153,8 @@ impl Shared {
         if !is_step(step, world.mutators()) {
             return Err(CallFault::NoSuchMutator);
         }
-        let place = world.history().len();
         let reply = world.collect_par(rt, step)?;
+        let place = world.history().len() - 1;
         drop(world);
         let event = Event::Collect(step);
         let answer = Answer::Collector(reply);
@@ -184,8 +184,8 @@ impl Shared {
         }
         seat.receipts.reserve(1)?;
         let mut world = self.world.lock(rt);
-        let place = world.history().len();
         let (step, reply) = world.collect_useful(rt)?;
+        let place = world.history().len() - 1;
         drop(world);
         let event = Event::Collect(step);
         let answer = Answer::Useful(reply);

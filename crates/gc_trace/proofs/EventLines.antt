@@ -22,6 +22,7 @@ HasNo-slot c s low fits = (elim s.shared as (λ (b : Bool). cond b 103 114 ≢ c
 AllHaveNo-op : (c : ℕ) (op : Op) → c < 48 → IsCommand op → AllHaveNo c (op_tokens op)
 unfolding op_tokens
 AllHaveNo-op c (ops.New d kind len) low fits = (HasNo-name c (codes "new") low refl, (HasNo-slot c d low fits.0, (HasNo-decimal c kind low (omega (arith, fits.1)), (HasNo-decimal c len low (omega (arith, fits.2)), tt))))
+AllHaveNo-op c (ops.NewRaw d kind len) low fits = (HasNo-name c (codes "raw") low refl, (HasNo-slot c d low fits.0, (HasNo-decimal c kind low (omega (arith, fits.1)), (HasNo-decimal c len low (omega (arith, fits.2)), tt))))
 AllHaveNo-op c (ops.Num d n) low fits = (HasNo-name c (codes "num") low refl, (HasNo-slot c d low fits.0, (HasNo-decimal c n low (omega (arith, fits.1)), tt)))
 AllHaveNo-op c (ops.Nil d) low fits = (HasNo-name c (codes "nil") low refl, (HasNo-slot c d low fits, tt))
 AllHaveNo-op c (ops.Move d s) low fits = (HasNo-name c (codes "move") low refl, (HasNo-slot c d low fits.0, (HasNo-slot c s low fits.1, tt)))

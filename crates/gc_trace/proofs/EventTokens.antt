@@ -15,8 +15,8 @@ use Rattle.gc_copy.specs.declared.step.Step.{Step}
 use Rattle.gc_copy.specs.declared.step.Step.TheVariants as steps
 use Rattle.gc_copy.specs.declared.event.Event.{Event}
 use Rattle.gc_copy.specs.declared.event.Event.TheVariants.{Mutate, Collect}
-use Rattle.gc_trace.specs.Parsers.{slot_of, slot_at, new_of, num_of, nil_of, move_of, get_of, put_of, same_of, look_of, op_of, begin_of, apply_of, step_of, command_of, collect_of, event_of, version_at, sizes_of}
-use Rattle.gc_trace.specs.Grammar.{newest, slot, op_tokens, step_tokens, event_tokens, version_tokens, size_tokens, version_of, IsEvent, IsHeading}
+use Rattle.gc_trace.specs.Parsers.{slot_of, slot_at, new_of, raw_of, num_of, nil_of, move_of, get_of, put_of, same_of, look_of, op_of, begin_of, apply_of, step_of, command_of, collect_of, event_of, version_at, sizes_of}
+use Rattle.gc_trace.specs.Grammar.{newest, slot, op_tokens, step_tokens, event_tokens, version_tokens, size_tokens, op_version, step_version, IsEvent, IsHeading}
 
 slot_again : (s : SlotName) → IsSlot s → slot_of (slot s) ≡ Some s
 unfolding slot_of slot
@@ -30,20 +30,27 @@ slot_at_again : (s : SlotName) (tokens : Tokens) → IsSlot s → slot_at (slot 
 unfolding slot_at
 slot_at_again s tokens fits = rw (slot_again s fits) refl
 
-op_again : (op : Op) → IsCommand op → op_of (op_tokens op) ≡ Some op
+raw_again : (version kind len : ℕ) (d : SlotName) → IsCommand (ops.NewRaw d kind len) → 3 ≤ version → raw_of version (slot d ∷ decimal kind ∷ decimal len ∷ []) ≡ Some (ops.NewRaw d kind len)
+unfolding raw_of
+raw_again version kind len d fits known =
+    let has_raws : ltb version 3 ≡ false = le-ltb version 3 known in
+    rw (has_raws, slot_at_again d (decimal kind ∷ decimal len ∷ []) fits.0, number_at_again 255 kind (decimal len ∷ []) (omega (arith, fits.1)) (omega (arith, fits.1)), number_at_again 65535 len [] (omega (arith, fits.2)) (omega (arith, fits.2)), end_again (ops.NewRaw d kind len)) refl
+
+op_again : (version : ℕ) (op : Op) → IsCommand op → op_version op ≤ version → op_of version (op_tokens op) ≡ Some op
 unfolding op_of op_tokens new_of num_of nil_of move_of get_of put_of same_of look_of
-op_again (ops.New d kind len) fits =
+op_again version (ops.New d kind len) fits known =
     rw (slot_at_again d (decimal kind ∷ decimal len ∷ []) fits.0, number_at_again 255 kind (decimal len ∷ []) (omega (arith, fits.1)) (omega (arith, fits.1)), number_at_again 65535 len [] (omega (arith, fits.2)) (omega (arith, fits.2)), end_again (ops.New d kind len)) refl
-op_again (ops.Num d n) fits =
+op_again version (ops.NewRaw d kind len) fits known = raw_again version kind len d fits known
+op_again version (ops.Num d n) fits known =
     rw (slot_at_again d (decimal n ∷ []) fits.0, number_at_again 9223372036854775807 n [] (omega (arith, fits.1)) (omega (arith, fits.1)), end_again (ops.Num d n)) refl
-op_again (ops.Nil d) fits = rw (slot_at_again d [] fits, end_again (ops.Nil d)) refl
-op_again (ops.Move d s) fits = rw (slot_at_again d (slot s ∷ []) fits.0, slot_at_again s [] fits.1, end_again (ops.Move d s)) refl
-op_again (ops.Get d s i) fits =
+op_again version (ops.Nil d) fits known = rw (slot_at_again d [] fits, end_again (ops.Nil d)) refl
+op_again version (ops.Move d s) fits known = rw (slot_at_again d (slot s ∷ []) fits.0, slot_at_again s [] fits.1, end_again (ops.Move d s)) refl
+op_again version (ops.Get d s i) fits known =
     rw (slot_at_again d (slot s ∷ decimal i ∷ []) fits.0, slot_at_again s (decimal i ∷ []) fits.1, number_at_again 65535 i [] (omega (arith, fits.2)) (omega (arith, fits.2)), end_again (ops.Get d s i)) refl
-op_again (ops.Put s i t) fits =
+op_again version (ops.Put s i t) fits known =
     rw (slot_at_again s (decimal i ∷ slot t ∷ []) fits.0, number_at_again 65535 i (slot t ∷ []) (omega (arith, fits.1)) (omega (arith, fits.1)), slot_at_again t [] fits.2, end_again (ops.Put s i t)) refl
-op_again (ops.Same s t) fits = rw (slot_at_again s (slot t ∷ []) fits.0, slot_at_again t [] fits.1, end_again (ops.Same s t)) refl
-op_again (ops.Look s) fits = rw (slot_at_again s [] fits, end_again (ops.Look s)) refl
+op_again version (ops.Same s t) fits known = rw (slot_at_again s (slot t ∷ []) fits.0, slot_at_again t [] fits.1, end_again (ops.Same s t)) refl
+op_again version (ops.Look s) fits known = rw (slot_at_again s [] fits, end_again (ops.Look s)) refl
 
 sized_again : (version size : ℕ) → 2 ≤ version → 1 ≤ size → size ≤ 1048576 → begin_of version (decimal size ∷ []) ≡ Some (steps.BeginSized size)
 unfolding begin_of
@@ -52,7 +59,7 @@ sized_again version size sized some few =
     let positive : eqb size 0 ≡ false = ne_eqb size 0 (omega (arith, some)) in
     rw (known, number_at_again 1048576 size [] few (omega (arith, few)), positive, end_again (steps.BeginSized size)) refl
 
-step_again : (version : ℕ) (step : Step) → IsStep 16 step → version_of (Collect step) ≤ version → step_of version (step_tokens step) ≡ Some step
+step_again : (version : ℕ) (step : Step) → IsStep 16 step → step_version step ≤ version → step_of version (step_tokens step) ≡ Some step
 unfolding step_of step_tokens apply_of begin_of
 step_again version steps.Begin fits known = refl
 step_again version (steps.BeginSized size) fits known = sized_again version size known fits.0 fits.1
@@ -64,7 +71,7 @@ step_again version steps.Drop fits known = rw (end_again steps.Drop) refl
 
 pub event_again : (version : ℕ) (event : Event) → IsEvent version event → event_of version (event_tokens event) ≡ Some event
 unfolding event_of event_tokens command_of collect_of
-event_again version (Mutate m op) fits = rw (number_at_again 15 m (op_tokens op) (omega (arith, fits.range.0)) (omega (arith, fits.range.0)), op_again op fits.range.1) refl
+event_again version (Mutate m op) fits = rw (number_at_again 15 m (op_tokens op) (omega (arith, fits.range.0)) (omega (arith, fits.range.0)), op_again version op fits.range.1 fits.known) refl
 event_again version (Collect step) fits = rw (step_again version step fits.range fits.known) refl
 
 pub version_again : (version size mutators : ℕ) → IsHeading version size mutators → version_at (version_tokens version) ≡ Some version

@@ -1,8 +1,12 @@
 -- The pairs of a run's flips.
 use Rattle.std.proofs.Common.{◌≡◌, ℕ, suc, ◌+◌, ◌<◌, ◌≤◌, List, ◌∷◌, drop, length, map, get_or, refl, sym, ap, ◌∙◌, arith, subst, Option, Some, None, inl, inr, ◌⊎◌}
-use Rattle.std.specs.Prelude.{slice_get}
+use Rattle.std.specs.Prelude.{slice_get, IfSome}
+use Rattle.std.specs.Option.{option_map}
 use Rattle.std.proofs.lemmas.List.{drop_more, length-map}
 use Rattle.gc_cert.specs.Grammar.{CertifiedPair}
+use Rattle.gc_cert.specs.Counts.{HasCounts}
+use Rattle.gc_cert.specs.Views.{pair_in}
+use Rattle.gc_cert.specs.declared.image.PairFile.{PairFile}
 use Rattle.gc_words.specs.Word.{word_of}
 use Rattle.gc_copy.specs.State.{State, Collection, moved}
 use Rattle.gc_copy.specs.Steps.{collect}
@@ -15,7 +19,6 @@ use Rattle.gc_core.specs.Flip.{flip_pair, open_pair, kept_after, IsCertified}
 use Rattle.gc_copy.specs.declared.event.Event.{Event}
 use Rattle.gc_copy.specs.declared.event.Event.TheVariants.{Mutate, Collect}
 use Rattle.gc_trace.specs.Flips.{flip_at, with_flip, flips}
-use Rattle.gc_trace.specs.Internal.Flips.{HasCounts}
 
 -- ---- what is kept
 
@@ -39,6 +42,7 @@ counts_of : (s : State) (c : Collection) → IsState s → HasFewPairs s → s.m
 counts_of s c ok small few is certified = record {
   old = certified.old_shaped;
   new = certified.new_shaped;
+  raws = refl;
   old_roots = omega (arith, length-map s.heap.graph.roots word_of, ok.roots, few);
   new_roots = omega (arith, length-map (map (moved c) s.heap.graph.roots) word_of, length-map s.heap.graph.roots (moved c), ok.roots, few);
   pairs = small c is;
@@ -54,6 +58,12 @@ kept_counts s (Some c) pair ok small few is certified found =
 pub flip_counts : (s : State) (event : Event) (pair : CertifiedPair) → IsState s → HasFewPairs s → s.mutators ≤ 16 → IsCertified pair → flip_at s event ≡ Some pair → HasCounts pair
 flip_counts s (Mutate m op) pair ok small few certified is = absurd cc
 flip_counts s (Collect step) pair ok small few certified is = kept_counts s s.collection pair ok small few refl certified (kept_by_reply s (collect s step).0 pair is)
+
+-- so has the pair that was taken after an event, if there is one
+pub taken_counts : (s : State) (event : Event) (taken : Option PairFile) → IsState s → HasFewPairs s → s.mutators ≤ 16 → option_map pair_in taken ≡ flip_at s event
+    → IfSome taken (λ file. IsCertified (pair_in file)) → IfSome taken (λ file. HasCounts (pair_in file))
+taken_counts s event None ok small few is certified = tt
+taken_counts s event (Some file) ok small few is certified = flip_counts s event (pair_in file) ok small few certified (sym is)
 
 -- ---- the n-th flip
 

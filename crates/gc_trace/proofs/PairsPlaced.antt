@@ -1,5 +1,5 @@
 -- Each pair of a flip was placed by a step of its own, so that a history has no more pairs than events.
-use Rattle.std.proofs.Common.{◌≡◌, ℕ, ◌+◌, ◌≤◌, ◌==◌, List, [], ◌∷◌, length, Option, Some, None, is_some, nat_lt, refl, ap, arith, length-append}
+use Rattle.std.proofs.Common.{◌≡◌, ℕ, ◌+◌, ◌≤◌, ◌==◌, ◌||◌, List, [], ◌∷◌, length, Option, Some, None, is_some, nat_lt, refl, ap, arith, length-append}
 use Rattle.std.specs.List.{sum_by}
 use Rattle.std.proofs.lemmas.Bool.{cond_both}
 use Rattle.std.proofs.lemmas.List.{length-map}
@@ -72,7 +72,7 @@ field_goes_on (Some c) = refl
 
 object_scanned : (s : State) (c : Collection) (r : Option Replica) → s.collection ≡ Some c → PlacesOne (length c.replicas) (scan_replica s c r)
 object_scanned s c None e = unchanged s (Some c) Clean e refl
-object_scanned s c (Some r) e = cond_both (c.scan_field == length r.object.fields) _ _ (PlacesOne (length c.replicas)) (λ t. omega arith)
+object_scanned s c (Some r) e = cond_both (r.object.raw || (c.scan_field == length r.object.fields)) _ _ (PlacesOne (length c.replicas)) (λ t. omega arith)
     (λ t. let o = bring_up_to_date c s.heap.graph r.original c.scan_field in
     room_places (length c.replicas) s Scanned (next_field o) refl (ap replicas_in e) (omega (arith, field_goes_on o, brought_up c s.heap.graph r.original c.scan_field)))
 

@@ -1,5 +1,5 @@
 -- What is read of tokens is what the grammar says.
-use Rattle.std.proofs.Common.{◌≡◌, ℕ, ◌≤◌, Bool, true, false, cond, eqb, ltb, sym, List, [], ◌∷◌, refl, ap, ◌∙◌, arith, Some, None, subst, inl, inr, ◌⊎◌}
+use Rattle.std.proofs.Common.{◌≡◌, ℕ, ◌≤◌, Bool, true, false, cond, eqb, ltb, sym, List, [], ◌∷◌, refl, ap, ◌∙◌, arith, Option, Some, None, subst, inl, inr, ◌⊎◌}
 use Rattle.std.specs.Prelude.{codes}
 use Rattle.std.specs.Fmt.{decimal}
 use Rattle.std.proofs.lemmas.Bool.{eqb-true, ltb-false}
@@ -16,8 +16,8 @@ use Rattle.gc_copy.specs.declared.step.Step.{Step}
 use Rattle.gc_copy.specs.declared.step.Step.TheVariants as steps
 use Rattle.gc_copy.specs.declared.event.Event.{Event}
 use Rattle.gc_copy.specs.declared.event.Event.TheVariants.{Mutate, Collect}
-use Rattle.gc_trace.specs.Parsers.{slot_of, slot_at, new_of, num_of, nil_of, move_of, get_of, put_of, same_of, look_of, op_of, begin_of, apply_of, step_of, command_of, collect_of, event_of, version_at, sizes_of}
-use Rattle.gc_trace.specs.Grammar.{newest, slot, op_tokens, step_tokens, event_tokens, version_tokens, size_tokens, version_of, IsEvent}
+use Rattle.gc_trace.specs.Parsers.{slot_of, slot_at, new_of, raw_of, num_of, nil_of, move_of, get_of, put_of, same_of, look_of, op_of, begin_of, apply_of, step_of, command_of, collect_of, event_of, version_at, sizes_of}
+use Rattle.gc_trace.specs.Grammar.{newest, slot, op_tokens, step_tokens, event_tokens, version_tokens, size_tokens, op_version, step_version, IsEvent}
 
 own_or_shared : Bool → ℕ → SlotName
 own_or_shared b i = record { shared = b; index = i }
@@ -45,12 +45,12 @@ slot_at_found (token ∷ tokens) x e =
     let s = slot_found token b.0 b.1 in
     subst (λ (y : SlotName × Tokens). (token ∷ tokens ≡ slot y.0 ∷ y.1) × IsSlot y.0) (some_is (b.0, tokens) x b.2) (ap (λ (w : List ℕ). w ∷ tokens) s.0, s.1)
 
-abbrev IsRead : Op → Tokens → Type 0
-IsRead op tokens = (tokens ≡ op_tokens op) × IsCommand op
+abbrev IsRead : ℕ → Op → Tokens → Type 0
+IsRead version op tokens = (tokens ≡ op_tokens op) × IsCommand op × (op_version op ≤ version)
 
-new_found : (tokens : Tokens) (op : Op) → new_of tokens ≡ Some op → IsRead op (codes "new" ∷ tokens)
+new_found : (version : ℕ) (tokens : Tokens) (op : Op) → 1 ≤ version → new_of tokens ≡ Some op → IsRead version op (codes "new" ∷ tokens)
 unfolding new_of op_tokens
-new_found tokens op e =
+new_found version tokens op known e =
     let a0 = bind_some (slot_at tokens) (λ x0. number_at 255 x0.1 >>= λ x1. number_at 65535 x1.1 >>= λ x2. end_of (ops.New x0.0 x1.0 x2.0) x2.1) op e in
     let a1 = bind_some (number_at 255 a0.0.1) (λ x1. number_at 65535 x1.1 >>= λ x2. end_of (ops.New a0.0.0 x1.0 x2.0) x2.1) op a0.2 in
     let a2 = bind_some (number_at 65535 a1.0.1) (λ x2. end_of (ops.New a0.0.0 a1.0.0 x2.0) x2.1) op a1.2 in
@@ -58,39 +58,62 @@ new_found tokens op e =
     let w0 = slot_at_found tokens a0.0 a0.1 in
     let w1 = number_at_found 255 a0.0.1 a1.0 a1.1 in
     let w2 = number_at_found 65535 a1.0.1 a2.0 a2.1 in
-    subst (λ (o : Op). IsRead o (codes "new" ∷ tokens)) z.1 (onto (codes "new") (w0.0 ∙ onto (slot a0.0.0) (w1.0 ∙ onto (decimal a1.0.0) (w2.0 ∙ onto (decimal a2.0.0) z.0))), (w0.1, omega (arith, w1.1), omega (arith, w2.1)))
+    subst (λ (o : Op). IsRead version o (codes "new" ∷ tokens)) z.1 (onto (codes "new") (w0.0 ∙ onto (slot a0.0.0) (w1.0 ∙ onto (decimal a1.0.0) (w2.0 ∙ onto (decimal a2.0.0) z.0))), (w0.1, omega (arith, w1.1), omega (arith, w2.1)), known)
 
-num_found : (tokens : Tokens) (op : Op) → num_of tokens ≡ Some op → IsRead op (codes "num" ∷ tokens)
+abbrev raw_tail : Tokens → Option Op
+raw_tail tokens = slot_at tokens >>= λ x0. number_at 255 x0.1 >>= λ x1. number_at 65535 x1.1 >>= λ x2. end_of (ops.NewRaw x0.0 x1.0 x2.0) x2.1
+
+raw_tail_found : (version : ℕ) (tokens : Tokens) (op : Op) → 3 ≤ version → raw_tail tokens ≡ Some op → IsRead version op (codes "raw" ∷ tokens)
+unfolding op_tokens
+raw_tail_found version tokens op known e =
+    let a0 = bind_some (slot_at tokens) (λ x0. number_at 255 x0.1 >>= λ x1. number_at 65535 x1.1 >>= λ x2. end_of (ops.NewRaw x0.0 x1.0 x2.0) x2.1) op e in
+    let a1 = bind_some (number_at 255 a0.0.1) (λ x1. number_at 65535 x1.1 >>= λ x2. end_of (ops.NewRaw a0.0.0 x1.0 x2.0) x2.1) op a0.2 in
+    let a2 = bind_some (number_at 65535 a1.0.1) (λ x2. end_of (ops.NewRaw a0.0.0 a1.0.0 x2.0) x2.1) op a1.2 in
+    let z = end_found (ops.NewRaw a0.0.0 a1.0.0 a2.0.0) a2.0.1 op a2.2 in
+    let w0 = slot_at_found tokens a0.0 a0.1 in
+    let w1 = number_at_found 255 a0.0.1 a1.0 a1.1 in
+    let w2 = number_at_found 65535 a1.0.1 a2.0 a2.1 in
+    subst (λ (o : Op). IsRead version o (codes "raw" ∷ tokens)) z.1 (onto (codes "raw") (w0.0 ∙ onto (slot a0.0.0) (w1.0 ∙ onto (decimal a1.0.0) (w2.0 ∙ onto (decimal a2.0.0) z.0))), (w0.1, omega (arith, w1.1), omega (arith, w2.1)), known)
+
+raw_found : (version : ℕ) (tokens : Tokens) (op : Op) → raw_of version tokens ≡ Some op → IsRead version op (codes "raw" ∷ tokens)
+unfolding raw_of
+raw_found version tokens op e = by_version (ltb version 3) refl e
+  where
+    by_version : (b : Bool) → ltb version 3 ≡ b → cond b None (raw_tail tokens) ≡ Some op → IsRead version op (codes "raw" ∷ tokens)
+    by_version true is e = absurd cc
+    by_version false is e = raw_tail_found version tokens op (ltb-false version 3 is) e
+
+num_found : (version : ℕ) (tokens : Tokens) (op : Op) → 1 ≤ version → num_of tokens ≡ Some op → IsRead version op (codes "num" ∷ tokens)
 unfolding num_of op_tokens
-num_found tokens op e =
+num_found version tokens op known e =
     let a0 = bind_some (slot_at tokens) (λ x0. number_at 9223372036854775807 x0.1 >>= λ x1. end_of (ops.Num x0.0 x1.0) x1.1) op e in
     let a1 = bind_some (number_at 9223372036854775807 a0.0.1) (λ x1. end_of (ops.Num a0.0.0 x1.0) x1.1) op a0.2 in
     let z = end_found (ops.Num a0.0.0 a1.0.0) a1.0.1 op a1.2 in
     let w0 = slot_at_found tokens a0.0 a0.1 in
     let w1 = number_at_found 9223372036854775807 a0.0.1 a1.0 a1.1 in
-    subst (λ (o : Op). IsRead o (codes "num" ∷ tokens)) z.1 (onto (codes "num") (w0.0 ∙ onto (slot a0.0.0) (w1.0 ∙ onto (decimal a1.0.0) z.0)), (w0.1, omega (arith, w1.1)))
+    subst (λ (o : Op). IsRead version o (codes "num" ∷ tokens)) z.1 (onto (codes "num") (w0.0 ∙ onto (slot a0.0.0) (w1.0 ∙ onto (decimal a1.0.0) z.0)), (w0.1, omega (arith, w1.1)), known)
 
-nil_found : (tokens : Tokens) (op : Op) → nil_of tokens ≡ Some op → IsRead op (codes "nil" ∷ tokens)
+nil_found : (version : ℕ) (tokens : Tokens) (op : Op) → 1 ≤ version → nil_of tokens ≡ Some op → IsRead version op (codes "nil" ∷ tokens)
 unfolding nil_of op_tokens
-nil_found tokens op e =
+nil_found version tokens op known e =
     let a0 = bind_some (slot_at tokens) (λ x0. end_of (ops.Nil x0.0) x0.1) op e in
     let z = end_found (ops.Nil a0.0.0) a0.0.1 op a0.2 in
     let w0 = slot_at_found tokens a0.0 a0.1 in
-    subst (λ (o : Op). IsRead o (codes "nil" ∷ tokens)) z.1 (onto (codes "nil") (w0.0 ∙ onto (slot a0.0.0) z.0), w0.1)
+    subst (λ (o : Op). IsRead version o (codes "nil" ∷ tokens)) z.1 (onto (codes "nil") (w0.0 ∙ onto (slot a0.0.0) z.0), w0.1, known)
 
-move_found : (tokens : Tokens) (op : Op) → move_of tokens ≡ Some op → IsRead op (codes "move" ∷ tokens)
+move_found : (version : ℕ) (tokens : Tokens) (op : Op) → 1 ≤ version → move_of tokens ≡ Some op → IsRead version op (codes "move" ∷ tokens)
 unfolding move_of op_tokens
-move_found tokens op e =
+move_found version tokens op known e =
     let a0 = bind_some (slot_at tokens) (λ x0. slot_at x0.1 >>= λ x1. end_of (ops.Move x0.0 x1.0) x1.1) op e in
     let a1 = bind_some (slot_at a0.0.1) (λ x1. end_of (ops.Move a0.0.0 x1.0) x1.1) op a0.2 in
     let z = end_found (ops.Move a0.0.0 a1.0.0) a1.0.1 op a1.2 in
     let w0 = slot_at_found tokens a0.0 a0.1 in
     let w1 = slot_at_found a0.0.1 a1.0 a1.1 in
-    subst (λ (o : Op). IsRead o (codes "move" ∷ tokens)) z.1 (onto (codes "move") (w0.0 ∙ onto (slot a0.0.0) (w1.0 ∙ onto (slot a1.0.0) z.0)), (w0.1, w1.1))
+    subst (λ (o : Op). IsRead version o (codes "move" ∷ tokens)) z.1 (onto (codes "move") (w0.0 ∙ onto (slot a0.0.0) (w1.0 ∙ onto (slot a1.0.0) z.0)), (w0.1, w1.1), known)
 
-get_found : (tokens : Tokens) (op : Op) → get_of tokens ≡ Some op → IsRead op (codes "get" ∷ tokens)
+get_found : (version : ℕ) (tokens : Tokens) (op : Op) → 1 ≤ version → get_of tokens ≡ Some op → IsRead version op (codes "get" ∷ tokens)
 unfolding get_of op_tokens
-get_found tokens op e =
+get_found version tokens op known e =
     let a0 = bind_some (slot_at tokens) (λ x0. slot_at x0.1 >>= λ x1. number_at 65535 x1.1 >>= λ x2. end_of (ops.Get x0.0 x1.0 x2.0) x2.1) op e in
     let a1 = bind_some (slot_at a0.0.1) (λ x1. number_at 65535 x1.1 >>= λ x2. end_of (ops.Get a0.0.0 x1.0 x2.0) x2.1) op a0.2 in
     let a2 = bind_some (number_at 65535 a1.0.1) (λ x2. end_of (ops.Get a0.0.0 a1.0.0 x2.0) x2.1) op a1.2 in
@@ -98,11 +121,11 @@ get_found tokens op e =
     let w0 = slot_at_found tokens a0.0 a0.1 in
     let w1 = slot_at_found a0.0.1 a1.0 a1.1 in
     let w2 = number_at_found 65535 a1.0.1 a2.0 a2.1 in
-    subst (λ (o : Op). IsRead o (codes "get" ∷ tokens)) z.1 (onto (codes "get") (w0.0 ∙ onto (slot a0.0.0) (w1.0 ∙ onto (slot a1.0.0) (w2.0 ∙ onto (decimal a2.0.0) z.0))), (w0.1, w1.1, omega (arith, w2.1)))
+    subst (λ (o : Op). IsRead version o (codes "get" ∷ tokens)) z.1 (onto (codes "get") (w0.0 ∙ onto (slot a0.0.0) (w1.0 ∙ onto (slot a1.0.0) (w2.0 ∙ onto (decimal a2.0.0) z.0))), (w0.1, w1.1, omega (arith, w2.1)), known)
 
-put_found : (tokens : Tokens) (op : Op) → put_of tokens ≡ Some op → IsRead op (codes "put" ∷ tokens)
+put_found : (version : ℕ) (tokens : Tokens) (op : Op) → 1 ≤ version → put_of tokens ≡ Some op → IsRead version op (codes "put" ∷ tokens)
 unfolding put_of op_tokens
-put_found tokens op e =
+put_found version tokens op known e =
     let a0 = bind_some (slot_at tokens) (λ x0. number_at 65535 x0.1 >>= λ x1. slot_at x1.1 >>= λ x2. end_of (ops.Put x0.0 x1.0 x2.0) x2.1) op e in
     let a1 = bind_some (number_at 65535 a0.0.1) (λ x1. slot_at x1.1 >>= λ x2. end_of (ops.Put a0.0.0 x1.0 x2.0) x2.1) op a0.2 in
     let a2 = bind_some (slot_at a1.0.1) (λ x2. end_of (ops.Put a0.0.0 a1.0.0 x2.0) x2.1) op a1.2 in
@@ -110,46 +133,47 @@ put_found tokens op e =
     let w0 = slot_at_found tokens a0.0 a0.1 in
     let w1 = number_at_found 65535 a0.0.1 a1.0 a1.1 in
     let w2 = slot_at_found a1.0.1 a2.0 a2.1 in
-    subst (λ (o : Op). IsRead o (codes "put" ∷ tokens)) z.1 (onto (codes "put") (w0.0 ∙ onto (slot a0.0.0) (w1.0 ∙ onto (decimal a1.0.0) (w2.0 ∙ onto (slot a2.0.0) z.0))), (w0.1, omega (arith, w1.1), w2.1))
+    subst (λ (o : Op). IsRead version o (codes "put" ∷ tokens)) z.1 (onto (codes "put") (w0.0 ∙ onto (slot a0.0.0) (w1.0 ∙ onto (decimal a1.0.0) (w2.0 ∙ onto (slot a2.0.0) z.0))), (w0.1, omega (arith, w1.1), w2.1), known)
 
-same_found : (tokens : Tokens) (op : Op) → same_of tokens ≡ Some op → IsRead op (codes "same" ∷ tokens)
+same_found : (version : ℕ) (tokens : Tokens) (op : Op) → 1 ≤ version → same_of tokens ≡ Some op → IsRead version op (codes "same" ∷ tokens)
 unfolding same_of op_tokens
-same_found tokens op e =
+same_found version tokens op known e =
     let a0 = bind_some (slot_at tokens) (λ x0. slot_at x0.1 >>= λ x1. end_of (ops.Same x0.0 x1.0) x1.1) op e in
     let a1 = bind_some (slot_at a0.0.1) (λ x1. end_of (ops.Same a0.0.0 x1.0) x1.1) op a0.2 in
     let z = end_found (ops.Same a0.0.0 a1.0.0) a1.0.1 op a1.2 in
     let w0 = slot_at_found tokens a0.0 a0.1 in
     let w1 = slot_at_found a0.0.1 a1.0 a1.1 in
-    subst (λ (o : Op). IsRead o (codes "same" ∷ tokens)) z.1 (onto (codes "same") (w0.0 ∙ onto (slot a0.0.0) (w1.0 ∙ onto (slot a1.0.0) z.0)), (w0.1, w1.1))
+    subst (λ (o : Op). IsRead version o (codes "same" ∷ tokens)) z.1 (onto (codes "same") (w0.0 ∙ onto (slot a0.0.0) (w1.0 ∙ onto (slot a1.0.0) z.0)), (w0.1, w1.1), known)
 
-look_found : (tokens : Tokens) (op : Op) → look_of tokens ≡ Some op → IsRead op (codes "look" ∷ tokens)
+look_found : (version : ℕ) (tokens : Tokens) (op : Op) → 1 ≤ version → look_of tokens ≡ Some op → IsRead version op (codes "look" ∷ tokens)
 unfolding look_of op_tokens
-look_found tokens op e =
+look_found version tokens op known e =
     let a0 = bind_some (slot_at tokens) (λ x0. end_of (ops.Look x0.0) x0.1) op e in
     let z = end_found (ops.Look a0.0.0) a0.0.1 op a0.2 in
     let w0 = slot_at_found tokens a0.0 a0.1 in
-    subst (λ (o : Op). IsRead o (codes "look" ∷ tokens)) z.1 (onto (codes "look") (w0.0 ∙ onto (slot a0.0.0) z.0), w0.1)
+    subst (λ (o : Op). IsRead version o (codes "look" ∷ tokens)) z.1 (onto (codes "look") (w0.0 ∙ onto (slot a0.0.0) z.0), w0.1, known)
 
-op_found : (tokens : Tokens) (op : Op) → op_of tokens ≡ Some op → IsRead op tokens
+op_found : (version : ℕ) (tokens : Tokens) (op : Op) → 1 ≤ version → op_of version tokens ≡ Some op → IsRead version op tokens
 unfolding op_of
-op_found [] op e = absurd cc
-op_found (name ∷ tokens) op e =
-    name_case (λ (w : List ℕ). IsRead op (w ∷ tokens)) name (codes "new") (new_of tokens) _ op e (new_found tokens op) (λ e1. name_case (λ (w : List ℕ). IsRead op (w ∷ tokens)) name (codes "num") (num_of tokens) _ op e1 (num_found tokens op) (λ e2. name_case (λ (w : List ℕ). IsRead op (w ∷ tokens)) name (codes "nil") (nil_of tokens) _ op e2 (nil_found tokens op) (λ e3. name_case (λ (w : List ℕ). IsRead op (w ∷ tokens)) name (codes "move") (move_of tokens) _ op e3 (move_found tokens op) (λ e4. name_case (λ (w : List ℕ). IsRead op (w ∷ tokens)) name (codes "get") (get_of tokens) _ op e4 (get_found tokens op) (λ e5. name_case (λ (w : List ℕ). IsRead op (w ∷ tokens)) name (codes "put") (put_of tokens) _ op e5 (put_found tokens op) (λ e6. name_case (λ (w : List ℕ). IsRead op (w ∷ tokens)) name (codes "same") (same_of tokens) _ op e6 (same_found tokens op) (λ e7. name_case (λ (w : List ℕ). IsRead op (w ∷ tokens)) name (codes "look") (look_of tokens) _ op e7 (look_found tokens op) (λ e9. absurd cc))))))))
+op_found version [] op known e = absurd cc
+op_found version (name ∷ tokens) op known e =
+    let P = λ (w : List ℕ). IsRead version op (w ∷ tokens) in
+    name_case P name (codes "new") (new_of tokens) _ op e (new_found version tokens op known) (λ e1. name_case P name (codes "raw") (raw_of version tokens) _ op e1 (raw_found version tokens op) (λ e2. name_case P name (codes "num") (num_of tokens) _ op e2 (num_found version tokens op known) (λ e3. name_case P name (codes "nil") (nil_of tokens) _ op e3 (nil_found version tokens op known) (λ e4. name_case P name (codes "move") (move_of tokens) _ op e4 (move_found version tokens op known) (λ e5. name_case P name (codes "get") (get_of tokens) _ op e5 (get_found version tokens op known) (λ e6. name_case P name (codes "put") (put_of tokens) _ op e6 (put_found version tokens op known) (λ e7. name_case P name (codes "same") (same_of tokens) _ op e7 (same_found version tokens op known) (λ e8. name_case P name (codes "look") (look_of tokens) _ op e8 (look_found version tokens op known) (λ e9. absurd cc)))))))))
 
 abbrev IsReadEvent : ℕ → Event → Tokens → Type 0
 IsReadEvent version event tokens = (tokens ≡ event_tokens event) × IsEvent version event
 
-command_found : (version : ℕ) (tokens : Tokens) (event : Event) → 1 ≤ version → command_of tokens ≡ Some event → IsReadEvent version event (codes "m" ∷ tokens)
+command_found : (version : ℕ) (tokens : Tokens) (event : Event) → 1 ≤ version → command_of version tokens ≡ Some event → IsReadEvent version event (codes "m" ∷ tokens)
 unfolding command_of event_tokens
 command_found version tokens event known e =
-    let a = bind_some (number_at 15 tokens) (λ m. op_of m.1 >>= λ op. Some (Mutate m.0 op)) event e in
-    let b = bind_some (op_of a.0.1) (λ op. Some (Mutate a.0.0 op)) event a.2 in
+    let a = bind_some (number_at 15 tokens) (λ m. op_of version m.1 >>= λ op. Some (Mutate m.0 op)) event e in
+    let b = bind_some (op_of version a.0.1) (λ op. Some (Mutate a.0.0 op)) event a.2 in
     let w = number_at_found 15 tokens a.0 a.1 in
-    let op = op_found a.0.1 b.0 b.1 in
-    subst (λ (x : Event). IsReadEvent version x (codes "m" ∷ tokens)) (some_is (Mutate a.0.0 b.0) event b.2) (onto (codes "m") (w.0 ∙ onto (decimal a.0.0) op.0), record { range = (omega (arith, w.1), op.1); known = known })
+    let op = op_found version a.0.1 b.0 known b.1 in
+    subst (λ (x : Event). IsReadEvent version x (codes "m" ∷ tokens)) (some_is (Mutate a.0.0 b.0) event b.2) (onto (codes "m") (w.0 ∙ onto (decimal a.0.0) op.0), record { range = (omega (arith, w.1), op.1); known = op.2 })
 
 abbrev IsReadStep : ℕ → Step → Tokens → Type 0
-IsReadStep version step tokens = (tokens ≡ step_tokens step) × IsStep 16 step × (version_of (Collect step) ≤ version)
+IsReadStep version step tokens = (tokens ≡ step_tokens step) × IsStep 16 step × (step_version step ≤ version)
 
 sized_found : (version : ℕ) (tokens : Tokens) (step : Step) → 2 ≤ version → (number_at 1048576 tokens >>= λ size. cond (eqb size.0 0) None (end_of (steps.BeginSized size.0) size.1)) ≡ Some step → IsReadStep version step (codes "begin" ∷ tokens)
 unfolding step_tokens
@@ -178,7 +202,7 @@ apply_found version tokens step known e =
     subst (λ (s : Step). IsReadStep version s (codes "apply" ∷ tokens)) z.1 (onto (codes "apply") (w.0 ∙ onto (decimal a.0.0) z.0), omega (arith, w.1), known)
 
 -- a step of one token
-alone_found : (version : ℕ) (name : List ℕ) (tokens : Tokens) (wanted step : Step) → step_tokens wanted ≡ name ∷ [] → IsStep 16 wanted → version_of (Collect wanted) ≤ version → end_of wanted tokens ≡ Some step → IsReadStep version step (name ∷ tokens)
+alone_found : (version : ℕ) (name : List ℕ) (tokens : Tokens) (wanted step : Step) → step_tokens wanted ≡ name ∷ [] → IsStep 16 wanted → step_version wanted ≤ version → end_of wanted tokens ≡ Some step → IsReadStep version step (name ∷ tokens)
 alone_found version name tokens wanted step alone fits known e =
     let z = end_found wanted tokens step e in
     subst (λ (s : Step). IsReadStep version s (name ∷ tokens)) z.1 (onto name z.0 ∙ sym alone, fits, known)
@@ -202,7 +226,7 @@ unfolding event_of
 event_found version [] event known e = absurd cc
 event_found version (letter ∷ tokens) event known e =
     let P = λ (w : List ℕ). IsReadEvent version event (w ∷ tokens) in
-    name_case P letter (codes "m") (command_of tokens) _ event e (command_found version tokens event known) (λ e1. name_case P letter (codes "c") (collect_of version tokens) None event e1 (collect_found version tokens event known) (λ e2. absurd cc))
+    name_case P letter (codes "m") (command_of version tokens) _ event e (command_found version tokens event known) (λ e1. name_case P letter (codes "c") (collect_of version tokens) None event e1 (collect_found version tokens event known) (λ e2. absurd cc))
 
 pub version_found : (tokens : Tokens) (v : ℕ) → version_at tokens ≡ Some v → (tokens ≡ version_tokens v) × (1 ≤ v) × (v ≤ newest)
 unfolding version_at version_tokens

@@ -13,9 +13,9 @@ use Rattle.gc_graph.proofs.LineLemmas.{lacks, HasNo-lacks}
 use Rattle.gc_copy.specs.declared.event.Event.TheVariants.{Mutate, Collect}
 use Rattle.gc_trace.specs.Grammar.{Recording, slot, op_tokens, step_tokens, event_tokens, event_line, version_tokens, size_tokens, heading, spelling, IsTextOf}
 use Rattle.gc_trace.specs.Faults.{limit, BeginsWithNoEvent, IsTraceFaultOf}
-use Rattle.gc_trace.specs.Parsers.{slot_of, slot_at, new_of, num_of, look_of, op_of, begin_of, apply_of, step_of, command_of, collect_of, event_of, version_at, sizes_of}
+use Rattle.gc_trace.specs.Parsers.{slot_of, slot_at, new_of, raw_of, num_of, look_of, op_of, begin_of, apply_of, step_of, command_of, collect_of, event_of, version_at, sizes_of}
 use Rattle.gc_trace.specs.Replies.{view_tokens, reply_tokens, step_reply_tokens, answer_tokens}
-use Rattle.gc_trace.specs.Rows.{small, TextRows, SizedRows, LineRows}
+use Rattle.gc_trace.specs.Rows.{small, TextRows, SizedRows, RawRows, LineRows}
 use Rattle.gc_trace.specs.declared.fault.TraceFault.TheVariants.{BadHeader, BadLine}
 use Rattle.gc_trace.proofs.FrontFaults.{no_line, no_event, no_first, no_version, no_second, no_sizes}
 
@@ -30,7 +30,7 @@ short text e = leb-true (length text) limit e
 abbrev first : ℕ → List ℕ
 first version = heading version 8 1
 
-opening_text : (version : ℕ) → 1 ≤ version → version ≤ 2 → IsTextOf (small version []) (first version)
+opening_text : (version : ℕ) → 1 ≤ version → version ≤ 3 → IsTextOf (small version []) (first version)
 unfolding spelling
 opening_text version low high = record { recording = record { heading = (low, high, omega arith, omega arith, omega arith, omega arith); events = tt }; spelled = sym (append-nil (first version)) }
 
@@ -42,7 +42,7 @@ unfolding digits slot op_tokens event_tokens event_line version_tokens size_toke
 nil_text = record { recording = record { heading = (omega arith, omega arith, omega arith, omega arith, omega arith, omega arith); events = ((record { range = (omega arith, omega arith); known = omega arith }, (omega arith, omega arith)), tt) }; spelled = refl }
 
 -- line 3 is bad
-third : (version : ℕ) (rest : List ℕ) → 1 ≤ version → version ≤ 2 → rest ≢ [] → BeginsWithNoEvent version rest → leb (length (first version ++ rest)) limit ≡ true → IsTraceFaultOf (BadLine 3) (first version ++ rest)
+third : (version : ℕ) (rest : List ℕ) → 1 ≤ version → version ≤ 3 → rest ≢ [] → BeginsWithNoEvent version rest → leb (length (first version ++ rest)) limit ≡ true → IsTraceFaultOf (BadLine 3) (first version ++ rest)
 third version rest low high some none small-enough = (short (first version ++ rest) small-enough, (small version [], rest, record { lines = first version; good = opening_text version low high; parts = refl; number = refl }, some, none))
 
 some_line : (line : List ℕ) → ended line ≢ []
@@ -50,7 +50,7 @@ some_line [] e = cc
 some_line (b ∷ line) e = cc
 
 -- the whole of line 3 is bad
-third_line : (version : ℕ) (line : List ℕ) → 1 ≤ version → version ≤ 2 → lacks newline line ≡ true → event_of version (tokens_of line) ≡ None → leb (length (first version ++ ended line)) limit ≡ true → IsTraceFaultOf (BadLine 3) (first version ++ ended line)
+third_line : (version : ℕ) (line : List ℕ) → 1 ≤ version → version ≤ 3 → lacks newline line ≡ true → event_of version (tokens_of line) ≡ None → leb (length (first version ++ ended line)) limit ≡ true → IsTraceFaultOf (BadLine 3) (first version ++ ended line)
 third_line version line low high h none small-enough = third version (ended line) low high (some_line line) (no_event version (ended line) line [] refl (HasNo-lacks newline line h) none) small-enough
 
 -- line 2 is bad
@@ -108,10 +108,32 @@ sized_rows = record {
   low = third_line 2 (codes "c begin 0") (omega arith) (omega arith) refl refl refl;
   high = third_line 2 (codes "c begin 1048577") (omega arith) (omega arith) refl refl refl;
   not_in_first = third_line 1 (codes "c begin 12") (omega arith) (omega arith) refl refl refl;
-  no_third = (
-    short (codes "heaptrace 3\nspace 8 mutators 1\n") refl,
-    no_version (codes "heaptrace 3\nspace 8 mutators 1\n") (codes "heaptrace 3") (codes "space 8 mutators 1\n") refl (HasNo-lacks newline (codes "heaptrace 3") refl) refl,
-  );
   least = refl;
   lower = refl;
+}
+
+raw_text : IsTextOf (small 3 (Mutate 0 (ops.NewRaw (own_slot 0) 7 2) ∷ [])) (codes "heaptrace 3\nspace 8 mutators 1\nm 0 raw r0 7 2\n")
+unfolding digits slot op_tokens event_tokens event_line version_tokens size_tokens heading spelling
+raw_text = record {
+  recording = record {
+    heading = (omega arith, omega arith, omega arith, omega arith, omega arith, omega arith);
+    events = ((record { range = (omega arith, (omega arith, omega arith, omega arith)); known = omega arith }, (omega arith, (omega arith, omega arith, omega arith))), tt);
+  };
+  spelled = refl;
+}
+
+pub raw_rows : RawRows
+unfolding digits slot op_tokens step_tokens event_tokens event_line version_tokens size_tokens heading spelling view_tokens reply_tokens step_reply_tokens answer_tokens number_of slot_of number_at slot_at token_at end_of raw_of op_of command_of event_of version_at
+raw_rows = record {
+  read = (raw_text, short (codes "heaptrace 3\nspace 8 mutators 1\nm 0 raw r0 7 2\n") refl);
+  long = third_line 3 (codes "m 0 raw r0 7 65536") (omega arith) (omega arith) refl refl refl;
+  not_in_first = third_line 1 (codes "m 0 raw r0 7 2") (omega arith) (omega arith) refl refl refl;
+  not_in_second = third_line 2 (codes "m 0 raw r0 7 2") (omega arith) (omega arith) refl refl refl;
+  no_fourth = (
+    short (codes "heaptrace 4\nspace 8 mutators 1\n") refl,
+    no_version (codes "heaptrace 4\nspace 8 mutators 1\n") (codes "heaptrace 4") (codes "space 8 mutators 1\n") refl (HasNo-lacks newline (codes "heaptrace 4") refl) refl,
+  );
+  least = refl;
+  played = refl;
+  replies = refl;
 }

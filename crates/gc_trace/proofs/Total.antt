@@ -19,6 +19,7 @@ use Rattle.gc_trace.specs.declared.fault.TraceFault.TheVariants.{TooLarge, BadHe
 use Rattle.gc_trace.proofs.ParsedTokens.{event_found, version_found, sizes_found}
 use Rattle.gc_trace.proofs.FrontFaults.{no_line, no_event, no_first, no_version, no_second, no_sizes}
 use Rattle.gc_trace.proofs.OneReading.{event_line-more, heading-more}
+use Rattle.gc_graph.proofs.Bounds.{all_push}
 
 dec_le : (m n : ℕ) → (m ≤ n) ⊎ (m ≤ n → ⊥)
 dec_le m n = at (leb m n) refl
@@ -63,10 +64,6 @@ one_heading text first rest second body v s m parts e parts' k =
       parts ∙ ap (λ (l : List ℕ). l ++ newline ∷ rest) (sym one) ∙ ap (λ (l : List ℕ). joined (version_tokens v) ++ newline ∷ l) (parts' ∙ ap (λ (l : List ℕ). l ++ newline ∷ body) (sym two)) ∙ sym (heading-more v s m body),
     )
 
-All-push : {A : Type 0} (P : A → Type 0) (xs : List A) (y : A) → AllByRecursion P xs → P y → AllByRecursion P (xs ++ y ∷ [])
-All-push P [] y h p = (p, tt)
-All-push P (x ∷ xs) y h p = (h.0, All-push P xs y h.1 p)
-
 -- a recording of these parts
 abbrev pub made_of : ℕ → ℕ → ℕ → List Event → Recording
 made_of version size mutators events = record { version = version; size = size; mutators = mutators; events = events }
@@ -90,7 +87,7 @@ good_more text n v s m events rest e after so_far fits of is =
     record {
       lines = so_far.lines ++ event_line e;
       good = record {
-        recording = record { heading = so_far.good.recording.heading; events = All-push (λ event. IsEvent v event × IsOf m event) events e so_far.good.recording.events (fits, of) };
+        recording = record { heading = so_far.good.recording.heading; events = all_push (λ event. IsEvent v event × IsOf m event) events e so_far.good.recording.events (fits, of) };
         spelled = ap (λ (l : List ℕ). l ++ event_line e) so_far.good.spelled ∙ append_assoc (heading v s m) (flat_map event_line events) (event_line e) ∙ ap (λ (l : List ℕ). heading v s m ++ l) (sym more);
       };
       parts = so_far.parts ∙ ap (λ (l : List ℕ). so_far.lines ++ l) is ∙ sym (append_assoc so_far.lines (event_line e) after);

@@ -27,6 +27,7 @@ slot s = (if s.shared then 103 else 114) ∷ decimal s.index
 
 unfoldable pub op_tokens : Op → List (List ℕ)
 op_tokens (ops.New d kind len) = codes "new" ∷ slot d ∷ decimal kind ∷ decimal len ∷ []
+op_tokens (ops.NewRaw d kind len) = codes "raw" ∷ slot d ∷ decimal kind ∷ decimal len ∷ []
 op_tokens (ops.Num d n) = codes "num" ∷ slot d ∷ decimal n ∷ []
 op_tokens (ops.Nil d) = codes "nil" ∷ slot d ∷ []
 op_tokens (ops.Move d s) = codes "move" ∷ slot d ∷ slot s ∷ []
@@ -68,21 +69,24 @@ spelling t = heading t.version t.size t.mutators ++ flat_map event_line t.events
 
 -- the newest version that is read
 abbrev pub newest : ℕ
-newest = 2
+newest = 3
 
 abbrev pub IsHeading : ℕ → ℕ → ℕ → Type 0
 IsHeading version size mutators = (1 ≤ version) × (version ≤ newest) × (1 ≤ size) × (size ≤ most_words) × (1 ≤ mutators) × (mutators ≤ most_mutators)
 
--- the version that brought the event's line: a collection's own size came with the second
+-- the version that brought the command's line: raw objects came with the third
+abbrev pub op_version : Op → ℕ
+op_version (ops.NewRaw d kind len) = 3
+op_version op = 1
+
+-- the version that brought the step's line: a collection's own size came with the second
+abbrev pub step_version : Step → ℕ
+step_version (steps.BeginSized size) = 2
+step_version step = 1
+
 abbrev pub version_of : Event → ℕ
-version_of (Mutate m op) = 1
-version_of (Collect steps.Begin) = 1
-version_of (Collect (steps.BeginSized size)) = 2
-version_of (Collect steps.Roots) = 1
-version_of (Collect steps.Scan) = 1
-version_of (Collect (steps.Apply k)) = 1
-version_of (Collect steps.Flip) = 1
-version_of (Collect steps.Drop) = 1
+version_of (Mutate m op) = op_version op
+version_of (Collect step) = step_version step
 
 -- an event of the version's grammar, whoever the mutators are
 pub record IsEvent (version : ℕ) (event : Event) : Type 0 where

@@ -32,6 +32,14 @@ new_of tokens = do
   len ← number_at 65535 kind.1
   end_of (ops.New d.0 kind.0 len.0) len.1
 
+-- a raw object, from the third version on
+unfoldable pub raw_of : ℕ → Tokens → Option Op
+raw_of version tokens = if nat_lt version 3 then None else (do
+  d ← slot_at tokens
+  kind ← number_at 255 d.1
+  len ← number_at 65535 kind.1
+  end_of (ops.NewRaw d.0 kind.0 len.0) len.1)
+
 unfoldable pub num_of : Tokens → Option Op
 num_of tokens = do
   d ← slot_at tokens
@@ -74,10 +82,11 @@ look_of tokens = do
   s ← slot_at tokens
   end_of (ops.Look s.0) s.1
 
-unfoldable pub op_of : Tokens → Option Op
-op_of [] = None
-op_of (name ∷ tokens) =
+unfoldable pub op_of : ℕ → Tokens → Option Op
+op_of version [] = None
+op_of version (name ∷ tokens) =
     if bytes_eq name (codes "new") then new_of tokens
+    else if bytes_eq name (codes "raw") then raw_of version tokens
     else if bytes_eq name (codes "num") then num_of tokens
     else if bytes_eq name (codes "nil") then nil_of tokens
     else if bytes_eq name (codes "move") then move_of tokens
@@ -87,10 +96,10 @@ op_of (name ∷ tokens) =
     else if bytes_eq name (codes "look") then look_of tokens
     else None
 
-unfoldable pub command_of : Tokens → Option Event
-command_of tokens = do
+unfoldable pub command_of : ℕ → Tokens → Option Event
+command_of version tokens = do
   mutator ← number_at 15 tokens
-  op ← op_of mutator.1
+  op ← op_of version mutator.1
   Some (Mutate mutator.0 op)
 
 -- a collection takes the size of the mutators' space, or, from the second version on, this one
@@ -125,7 +134,7 @@ collect_of version tokens = do
 unfoldable pub event_of : ℕ → Tokens → Option Event
 event_of version [] = None
 event_of version (letter ∷ tokens) =
-    if bytes_eq letter (codes "m") then command_of tokens
+    if bytes_eq letter (codes "m") then command_of version tokens
     else if bytes_eq letter (codes "c") then collect_of version tokens
     else None
 

@@ -4,7 +4,7 @@ use Rattle.std.specs.List.{flat_map}
 use Rattle.std.specs.Fmt.{decimal}
 use Rattle.gc_graph.specs.Lines.{line}
 use Rattle.gc_graph.specs.declared.reply.Reply.{Reply}
-use Rattle.gc_graph.specs.declared.reply.Reply.TheVariants.{Full, Made, Done, NoObject, NoField, Saw, Yes, No}
+use Rattle.gc_graph.specs.declared.reply.Reply.TheVariants.{Full, Made, Done, NoObject, NoField, NoNumber, Saw, Yes, No}
 use Rattle.gc_graph.specs.declared.reply.View.{View}
 use Rattle.gc_graph.specs.declared.reply.View.TheVariants as views
 use Rattle.gc_copy.specs.declared.event.Answer.{Answer}
@@ -16,6 +16,7 @@ unfoldable pub view_tokens : View → List (List ℕ)
 view_tokens views.Nil = codes "nil" ∷ []
 view_tokens (views.Num n) = codes "num" ∷ decimal n ∷ []
 view_tokens (views.Obj kind len) = codes "obj" ∷ decimal kind ∷ decimal len ∷ []
+view_tokens (views.RawObj kind len) = codes "raw" ∷ decimal kind ∷ decimal len ∷ []
 
 unfoldable pub reply_tokens : Reply → List (List ℕ)
 reply_tokens Full = codes "full" ∷ []
@@ -23,6 +24,7 @@ reply_tokens Made = codes "made" ∷ []
 reply_tokens Done = codes "done" ∷ []
 reply_tokens NoObject = codes "no" ∷ codes "object" ∷ []
 reply_tokens NoField = codes "no" ∷ codes "field" ∷ []
+reply_tokens NoNumber = codes "no" ∷ codes "number" ∷ []
 reply_tokens (Saw view) = codes "saw" ∷ view_tokens view
 reply_tokens Yes = codes "yes" ∷ []
 reply_tokens No = codes "no" ∷ []

@@ -1,14 +1,11 @@
-ghost use Rattle.std.specs.Prelude.{◌≡◌, ◌≤◌, ◌-◌, None, IfOk, OnOk, IfSome, map};
-ghost use Rattle.std.specs.List.{AllByRecursion};
+ghost use Rattle.std.specs.Prelude.{◌≡◌, ◌≤◌, ◌-◌, None, IfOk, OnOk, IfSome};
 ghost use Rattle.std.specs.Option.{option_map};
 ghost use Rattle.gc_graph.specs.Limits.{most_mutators};
-ghost use Rattle.gc_words.specs.Views.{addresses};
-ghost use Rattle.gc_cert.specs.Grammar.{IsWord, AreAddresses, HasText};
+ghost use Rattle.gc_cert.specs.Counts.{HasCounts};
 ghost use Rattle.gc_cert.specs.Views.{pair_in};
 ghost use Rattle.gc_copy.specs.Runs.{IsEvent, after};
 ghost use Rattle.gc_world.specs.World.{present};
 ghost use Rattle.gc_trace.specs.Flips.{flip_at, nth_flip};
-ghost use Rattle.gc_trace.specs.Internal.Flips.{HasCounts};
 ghost use Rattle.gc_trace.specs.Grammar.{IsRecording};
 ghost use Rattle.gc_trace.specs.Internal.WorldRuns.{KeepsNone};
 ghost use Rattle.gc_trace.specs.Views.{recording};
@@ -18,37 +15,8 @@ use crate::trace::Trace;
 use gc_cert::PairFile;
 use gc_copy::scans_and_pairs_are_bounded;
 use gc_graph::NoMemory;
-use gc_words::Pair;
 use gc_world::{Event, World, runs_keep_states};
 use std::alloc::Global;
-
-/// Each is a word of a text, as each number of its type is: here the prover learns it.
-fn are_words(words: &[u64])
-    ensures { AllByRecursion IsWord words.now }
-{
-    let _ = words;
-}
-
-/// Both addresses of each pair are numbers of their type: here the prover learns it.
-fn are_pairs(pairs: &[Pair])
-    ensures { AllByRecursion AreAddresses (map addresses pairs.now) }
-{
-    for pair in pairs {
-        let (_old, _new) = (pair.old.0, pair.new.0);
-    }
-}
-
-/// The pair of a flip has a text: here the prover learns it.
-fn has_text(file: &PairFile)
-    requires { HasCounts (pair_in file.now) }
-    ensures { HasText (pair_in file.now) }
-{
-    are_words(&file.old.words);
-    are_words(&file.old.roots);
-    are_words(&file.new.words);
-    are_words(&file.new.roots);
-    are_pairs(&file.pairs);
-}
 
 /// Lets the event happen in a world that keeps no pair, and takes the pair of the flip that it is, if it is one.
 fn flip_in(world: &mut World, event: &Event) -> Result<Option<PairFile>, NoMemory>
@@ -56,7 +24,7 @@ fn flip_in(world: &mut World, event: &Event) -> Result<Option<PairFile>, NoMemor
     requires few { world.old.mutators ≤ most_mutators }
     requires none { world.old.kept ≡ None }
     ensures flip { IfOk result (λ kept. option_map pair_in kept ≡ flip_at (present world.old) event.now) }
-    ensures text { IfOk result (λ kept. IfSome kept (λ file. HasText (pair_in file))) }
+    ensures counts { IfOk result (λ kept. IfSome kept (λ file. HasCounts (pair_in file))) }
     ensures happened { OnOk result (KeepsNone world.old event.now world.new) }
 {
     runs_keep_states();
@@ -67,11 +35,7 @@ fn flip_in(world: &mut World, event: &Event) -> Result<Option<PairFile>, NoMemor
         Ok(()) => {}
         Err(fault) => return Err(fault),
     }
-    let kept = world.take_flip();
-    if let Some(file) = &kept {
-        has_text(file);
-    }
-    Ok(kept)
+    Ok(world.take_flip())
 }
 
 /// The pair of the trace's n-th flip, counted from 1, if there are so many.
@@ -79,7 +43,7 @@ pub fn nth_flip(alloc: Global, trace: &Trace, n: u32) -> Result<Option<PairFile>
     requires trace { IsRecording (recording trace.now) }
     requires some { 1 ≤ n }
     ensures flip { IfOk result (λ found. option_map pair_in found ≡ nth_flip n (recording trace.now)) }
-    ensures text { IfOk result (λ found. IfSome found (λ file. HasText (pair_in file))) }
+    ensures counts { IfOk result (λ found. IfSome found (λ file. HasCounts (pair_in file))) }
 {
     let mut world = World::open(alloc, trace.size, trace.mutators)?;
     let mut before = n - 1;

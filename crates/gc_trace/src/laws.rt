@@ -7,7 +7,7 @@ ghost use Rattle.gc_copy.specs.declared.event.Event.{Event};
 ghost use Rattle.gc_trace.specs.Grammar.{Recording, IsTextOf, IsOf, spelling, written};
 ghost use Rattle.gc_trace.specs.Faults.{limit, IsTraceFaultOf, IsReadAs};
 ghost use Rattle.gc_trace.specs.Plays.{answers};
-ghost use Rattle.gc_trace.specs.Rows.{TextRows, SizedRows, LineRows};
+ghost use Rattle.gc_trace.specs.Rows.{TextRows, SizedRows, RawRows, LineRows};
 ghost use Rattle.gc_trace.specs.Report.{report_of};
 ghost use Rattle.gc_trace.specs.ReportRows.{ReportRows};
 ghost use Rattle.gc_copy.specs.Runs.{commands_of};
@@ -37,6 +37,7 @@ pub fn written_is_read()
 pub fn worked_rows()
     ensures texts { TextRows }
     ensures sized { SizedRows }
+    ensures raws { RawRows }
     ensures lines { LineRows }
 {}
 

@@ -1,7 +1,7 @@
 ghost use Rattle.std.specs.Prelude.{◌≡◌, None, Some, MatchOption};
 ghost use Rattle.gc_graph.specs.Lines.{tokens_of};
 ghost use Rattle.gc_graph.specs.Tokens.{end_of};
-ghost use Rattle.gc_trace.specs.Parsers.{slot_of, slot_at, new_of, num_of, nil_of, move_of, get_of, put_of, same_of, look_of, op_of, begin_of, apply_of, step_of, command_of, collect_of, event_of, version_at, sizes_of};
+ghost use Rattle.gc_trace.specs.Parsers.{slot_of, slot_at, new_of, raw_of, num_of, nil_of, move_of, get_of, put_of, same_of, look_of, op_of, begin_of, apply_of, step_of, command_of, collect_of, event_of, version_at, sizes_of};
 
 use gc_copy::Step;
 use gc_graph::text::{Tokens, number};
@@ -10,10 +10,13 @@ use gc_words::MOST_WORDS;
 use gc_world::Event;
 
 /// The newest version of the text.
-const NEWEST: u64 = 2;
+const NEWEST: u64 = 3;
 
 /// The version from which on a collection may have a size of its own.
 const SIZED: u8 = 2;
+
+/// The version from which on there are raw objects.
+const RAW: u8 = 3;
 
 /// The slot that the token names.
 #[tactic(auto, unfolding(crate::specs::Parsers::slot_of))]
@@ -59,6 +62,19 @@ fn new_op(mut tokens: Tokens<'_>) -> Option<Op>
     let kind = tokens.number(255)? as u8;
     let len = tokens.number(65535)? as u16;
     whole(&tokens, Op::New { d, kind, len })
+}
+
+#[tactic(auto, unfolding(crate::specs::Parsers::raw_of))]
+fn raw_op(version: u8, mut tokens: Tokens<'_>) -> Option<Op>
+    ensures { result ≡ raw_of version tokens.entry }
+{
+    if version < RAW {
+        return None;
+    }
+    let d = slot(&mut tokens)?;
+    let kind = tokens.number(255)? as u8;
+    let len = tokens.number(65535)? as u16;
+    whole(&tokens, Op::NewRaw { d, kind, len })
 }
 
 #[tactic(auto, unfolding(crate::specs::Parsers::num_of))]
@@ -126,12 +142,14 @@ fn look_op(mut tokens: Tokens<'_>) -> Option<Op>
 
 /// The command of these tokens.
 #[tactic(auto, unfolding(crate::specs::Parsers::op_of))]
-fn op(mut tokens: Tokens<'_>) -> Option<Op>
-    ensures { result ≡ op_of tokens.entry }
+fn op(version: u8, mut tokens: Tokens<'_>) -> Option<Op>
+    ensures { result ≡ op_of version tokens.entry }
 {
     let name = tokens.next_token()?;
     if name == b"new".as_slice() {
         new_op(tokens)
+    } else if name == b"raw".as_slice() {
+        raw_op(version, tokens)
     } else if name == b"num".as_slice() {
         num_op(tokens)
     } else if name == b"nil".as_slice() {
@@ -153,11 +171,11 @@ fn op(mut tokens: Tokens<'_>) -> Option<Op>
 
 /// The mutator and the command of these tokens.
 #[tactic(auto, unfolding(crate::specs::Parsers::command_of))]
-fn command(mut tokens: Tokens<'_>) -> Option<Event>
-    ensures { result ≡ command_of tokens.entry }
+fn command(version: u8, mut tokens: Tokens<'_>) -> Option<Event>
+    ensures { result ≡ command_of version tokens.entry }
 {
     let m = tokens.number(15)? as u8;
-    let op = op(tokens)?;
+    let op = op(version, tokens)?;
     Some(Event::Mutate { m, op })
 }
 
@@ -227,7 +245,7 @@ pub fn event(version: u8, line: &[u8]) -> Option<Event>
     let mut tokens = Tokens::new(line);
     let letter = tokens.next_token()?;
     if letter == b"m".as_slice() {
-        command(tokens)
+        command(version, tokens)
     } else if letter == b"c".as_slice() {
         collect(version, tokens)
     } else {

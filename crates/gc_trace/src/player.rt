@@ -12,7 +12,7 @@ use crate::reader::read_trace;
 use crate::replies::write_replies;
 use crate::report::{Report, report_of, write_report};
 use crate::run::run_trace;
-use gc_cert::write_pair;
+use gc_cert::{pair_fits, write_pair};
 use gc_graph::{Sink, Source};
 use gc_world::World;
 use std::alloc::Global;
@@ -138,7 +138,11 @@ pub fn play_pair<R: Read, W: Write>(
     let Some(file) = nth_flip(alloc, &trace, n)? else {
         return Err(PlayFault::NoSuchFlip);
     };
-    match write_pair(writer, file.old.as_ref(), file.new.as_ref(), &file.pairs) {
+    let old = file.old.as_ref();
+    let new = file.new.as_ref();
+    let fits = pair_fits(old, new, &file.pairs);
+    prove!(fits);
+    match write_pair(writer, old, new, &file.pairs) {
         Ok(()) => Ok(()),
         Err(_) => Err(PlayFault::Write),
     }

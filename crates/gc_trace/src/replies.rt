@@ -34,6 +34,13 @@ fn print_view(printer: &mut Printer, view: &View)
             printer.number(u64::from(*len));
             printer.bytes(b"\n");
         }
+        View::RawObj { kind, len } => {
+            printer.bytes(b"saw raw ");
+            printer.number(u64::from(*kind));
+            printer.bytes(b" ");
+            printer.number(u64::from(*len));
+            printer.bytes(b"\n");
+        }
     }
 }
 
@@ -49,6 +56,7 @@ fn print_reply(printer: &mut Printer, reply: &Reply)
         Reply::Done => printer.bytes(b"done\n"),
         Reply::NoObject => printer.bytes(b"no object\n"),
         Reply::NoField => printer.bytes(b"no field\n"),
+        Reply::NoNumber => printer.bytes(b"no number\n"),
         Reply::Saw(view) => print_view(printer, view),
         Reply::Yes => printer.bytes(b"yes\n"),
         Reply::No => printer.bytes(b"no\n"),

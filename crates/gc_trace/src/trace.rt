@@ -3,7 +3,7 @@ use gc_world::Event;
 /// What mutators and the collector do in a space.
 #[derive(Debug, Drop)]
 pub struct Trace {
-    /// The version of its text, 1 or 2. Version 2 has collections with a size of their own.
+    /// The version of its text, 1 to 3. Version 2 adds collections with a size of their own, version 3 raw objects.
     pub version: u8,
     /// The words of the space, 1 to 1048576.
     pub size: u32,

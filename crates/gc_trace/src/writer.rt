@@ -66,6 +66,12 @@ fn print_command(printer: &mut Printer, m: u8, op: &Op)
             number_token(printer, u64::from(kind));
             number_token(printer, u64::from(len));
         }
+        Op::NewRaw { d, kind, len } => {
+            printer.bytes(b" raw");
+            slot_token(printer, d);
+            number_token(printer, u64::from(kind));
+            number_token(printer, u64::from(len));
+        }
         Op::Num { d, n } => {
             printer.bytes(b" num");
             slot_token(printer, d);
@@ -158,6 +164,10 @@ fn version_of(event: &Event) -> u8
     ensures { result ≡ version_of event.now }
 {
     match event {
+        Event::Mutate {
+            op: Op::NewRaw { .. },
+            ..
+        } => 3,
         Event::Collect(Step::BeginSized(_)) => 2,
         _ => 1,
     }

@@ -4,11 +4,11 @@ use Rattle.std.specs.Prelude.{slice_get, slice_set, IsSome}
 use Rattle.std.proofs.lemmas.Bool.{eqb-true, eq-eqb, ne_eqb}
 use Rattle.gc_words.specs.Image.{Block, fresh_block, blocks, block_in, block_at, field_in, field_at, with_field_word, set_block}
 use Rattle.gc_words.specs.Layout.{field_place}
-use Rattle.gc_words.specs.Space.{SpaceWords, IsSpace, end_of, CanPlace, with_object, with_word}
+use Rattle.gc_words.specs.Space.{SpaceWords, IsSpace, end_of, CanPlace, with_block, with_object, with_word}
 use Rattle.gc_words.specs.Walking.{StandsIn}
 use Rattle.gc_words.specs.declared.header.Header.{Header}
 use Rattle.gc_words.proofs.Starts.{stands_in}
-use Rattle.gc_words.proofs.Writes.{FieldRead, field_read, placed, field_written}
+use Rattle.gc_words.proofs.Writes.{CanPlaceBlock, FieldRead, field_read, block_placed, can_place_fresh, field_written}
 
 -- ---- no object stands at the end
 
@@ -35,11 +35,17 @@ beside_push : (bs : List (ℕ × Block)) (a x : ℕ) (b : Block) → (a ≡ x �
 beside_push [] a x b other = ap (λ t. cond t (Some b) None) (ne_eqb a x other)
 beside_push (entry ∷ bs) a x b other = ap (cond (entry.0 == x) (Some entry.1)) (beside_push bs a x b other)
 
+pub block_there : (s : SpaceWords) (b : Block) → CanPlaceBlock s b → block_at (with_block s b).words (end_of s) ≡ Some b
+block_there s b can = ap (λ bs. block_in bs (end_of s)) (block_placed s b can).1 ∙ at_push (blocks s.words) (end_of s) b (none_at_end s can.shaped)
+
+pub block_beside : (s : SpaceWords) (b : Block) (x : ℕ) → CanPlaceBlock s b → (end_of s ≡ x → ⊥) → block_at (with_block s b).words x ≡ block_at s.words x
+block_beside s b x can other = ap (λ bs. block_in bs x) (block_placed s b can).1 ∙ beside_push (blocks s.words) (end_of s) x b other
+
 pub placed_block : (s : SpaceWords) (h : Header) → CanPlace s h → block_at (with_object s h).words (end_of s) ≡ Some (fresh_block h)
-placed_block s h can = ap (λ bs. block_in bs (end_of s)) (placed s h can).1 ∙ at_push (blocks s.words) (end_of s) (fresh_block h) (none_at_end s can.shaped)
+placed_block s h can = block_there s (fresh_block h) (can_place_fresh s h can)
 
 pub placed_beside : (s : SpaceWords) (h : Header) (x : ℕ) → CanPlace s h → (end_of s ≡ x → ⊥) → block_at (with_object s h).words x ≡ block_at s.words x
-placed_beside s h x can other = ap (λ bs. block_in bs x) (placed s h can).1 ∙ beside_push (blocks s.words) (end_of s) x (fresh_block h) other
+placed_beside s h x can other = block_beside s (fresh_block h) x (can_place_fresh s h can) other
 
 -- ---- a field written
 

@@ -7,7 +7,7 @@ use Rattle.gc_words.specs.Word.{IsHeader, header_word}
 use Rattle.gc_words.specs.Image.{Block, walk_words, header_of, header_at, fresh_block, blocks, block_at, is_start, field_at, set_block}
 use Rattle.gc_words.specs.Spelling.{block_words, spelled, no_links}
 use Rattle.gc_words.specs.Layout.{field_place, link_place, next_place}
-use Rattle.gc_words.specs.Space.{SpaceWords, IsSpace, end_of, HasRoom, CanPlace, with_object, with_word, without_links}
+use Rattle.gc_words.specs.Space.{SpaceWords, IsSpace, end_of, HasRoomFor, CanPlace, with_object, with_word, without_links}
 use Rattle.gc_words.specs.declared.header.Header.{Header}
 use Rattle.gc_graph.specs.Machine.{object_words}
 use Rattle.gc_words.specs.Walking.{next_of, next_after, StandsIn}
@@ -91,12 +91,12 @@ room_filled r u old pushed new h n l ok push total one made =
     ∙ ap (λ xs. xs ++ 0 ∷ replicate h.len 0) push
     ∙ append_assoc old (header_word h ∷ []) (0 ∷ replicate h.len 0)
 
-pub object_placed : {E : Type 0} (r : Result (Unit {0}) E) (u : Unit {0}) (s t : SpaceWords) (pushed new : List ℕ) (h : Header) (n l : ℕ) → s ≡ t → IsSpace s → IsHeader h → HasRoom t h.len
+pub object_placed : {E : Type 0} (r : Result (Unit {0}) E) (u : Unit {0}) (s t : SpaceWords) (pushed new : List ℕ) (h : Header) (n l : ℕ) → s ≡ t → IsSpace s → IsHeader h → HasRoomFor t h.len
     → r ≡ Ok u → pushed ≡ s.words ++ header_word h ∷ [] → n ≡ end_of s + object_words h.len → l ≡ end_of s + 1 → new ≡ cond (is_ok r) (take n pushed ++ replicate (n - l) 0) pushed
     → Places (record { size = s.size; words = new }) t h
 object_placed r u s t pushed new h n l same space is room ok push total one made =
     let filled : new ≡ s.words ++ block_words 0 (fresh_block h) = room_filled r u s.words pushed new h n l ok push total one made in
-    let can : CanPlace s h = record { shaped = space; header = is; room = subst (λ (s : SpaceWords). HasRoom s h.len) (sym same) room } in
+    let can : CanPlace s h = record { shaped = space; header = is; room = subst (λ (s : SpaceWords). HasRoomFor s h.len) (sym same) room } in
     let done : IsSpace (with_object s h) × (blocks (with_object s h).words ≡ blocks s.words ++ (end_of s, fresh_block h) ∷ []) = placed s h can in
     subst (λ words. Places (record { size = s.size; words = words }) t h) (sym filled)
     (record {

@@ -3,8 +3,9 @@ use Rattle.std.proofs.Common.{◌≡◌, ℕ, suc, zero, ◌<◌, Bool, true, fa
 use Rattle.std.specs.Prelude.{slice_index_or}
 use Rattle.std.specs.List.{AllZip}
 use Rattle.std.proofs.lemmas.Bool.{eqb-true, cases_order, and_parts, or_cases}
-use Rattle.gc_graph.specs.Graph.{Value, Object, lookup}
-use Rattle.gc_graph.specs.Correspond.{paired, correspond, ObjectsCorrespond, Corresponding}
+use Rattle.std.proofs.lemmas.List.Elements.{length_all_zip}
+use Rattle.gc_graph.specs.Graph.{Value, Num, Object, lookup}
+use Rattle.gc_graph.specs.Correspond.{paired, correspond, EqualFieldByField, Corresponding}
 use Rattle.gc_words.specs.Word.{value_of, is_value, read_correspond, words_correspond, field_value, field_words_correspond}
 use Rattle.gc_words.specs.Image.{Image, Block, block_in, block_at, blocks, object_of_block, object_entry, graph_of}
 use Rattle.gc_words.specs.Certificate.{BlocksCorrespond, Certified}
@@ -21,7 +22,11 @@ pub values_correspond : (pairs : List (ℕ × ℕ)) (v w : ℕ) → words_corres
 values_correspond pairs v w e = both_values pairs (is_value v) (is_value w) (value_of v) (value_of w) e
 
 pub field_values_correspond : (h : Header) (pairs : List (ℕ × ℕ)) (v w : ℕ) → field_words_correspond h pairs v w ≡ true → correspond pairs (field_value h v) (field_value h w) ≡ true
-field_values_correspond h pairs v w e = values_correspond pairs v w e
+field_values_correspond h pairs v w e = go h.raw e
+  where
+    go : (raw : Bool) → cond raw (v == w) (words_correspond pairs v w) ≡ true → correspond pairs (cond raw (Num v) (value_of v)) (cond raw (Num w) (value_of w)) ≡ true
+    go true e = e
+    go false e = values_correspond pairs v w e
 
 zip_of_maps : {A B C D : Type 0} (R : A → B → Type 0) (S : C → D → Type 0) (f : A → C) (g : B → D) (xs : List A) (ys : List B) → ((x : A) (y : B) → R x y → S (f x) (g y)) → AllZip R xs ys → AllZip S (map f xs) (map g ys)
 zip_of_maps R S f g [] [] each z = tt
@@ -43,12 +48,12 @@ lookup_of_blocks (entry ∷ bs) a =
       | false ↦ lookup_of_blocks bs a
     ]
 
-objects_of_blocks : (pairs : List (ℕ × ℕ)) (o q : Option Block) → BlocksCorrespond pairs o q → ObjectsCorrespond pairs (object_option o) (object_option q)
-objects_of_blocks pairs (Some a) (Some b) c = (
-  ap (λ h. h.kind) c.0,
-  zip_of_maps _ _ (field_value a.header) (field_value b.header) a.fields b.fields
-      (λ v w e. subst (λ h. correspond pairs (field_value a.header v) (field_value h w) ≡ true) c.0 (field_values_correspond a.header pairs v w e)) c.1,
-)
+objects_of_blocks : (pairs : List (ℕ × ℕ)) (o q : Option Block) → BlocksCorrespond pairs o q → EqualFieldByField pairs (object_option o) (object_option q)
+objects_of_blocks pairs (Some a) (Some b) c =
+    let fields : AllZip (λ v w. correspond pairs v w ≡ true) (map (field_value a.header) a.fields) (map (field_value b.header) b.fields)
+    = zip_of_maps _ _ (field_value a.header) (field_value b.header) a.fields b.fields
+    (λ v w e. subst (λ h. correspond pairs (field_value a.header v) (field_value h w) ≡ true) c.0 (field_values_correspond a.header pairs v w e)) c.1 in
+    (ap (λ h. h.raw) c.0, ap (λ h. h.kind) c.0, length_all_zip _ _ _ fields, fields)
 objects_of_blocks pairs (Some a) None c = absurd c
 objects_of_blocks pairs None q c = absurd c
 
@@ -88,13 +93,13 @@ module _ (old new : Image) (pairs : List (ℕ × ℕ)) (certified : Certified ol
         | inr (inr more) ↦ absurd (not_below _ _ c (ap (λ p. p.1) (l.2 (a, c))) (ap (λ p. p.1) (k.2 (a, c))) (certified.rising l.0 k.0 (a, c) more k.1))
       ]
 
-  objects : (a b : ℕ) → paired pairs a b ≡ true → ObjectsCorrespond pairs (lookup (graph_of old).objects a) (lookup (graph_of new).objects b)
+  objects : (a b : ℕ) → paired pairs a b ≡ true → EqualFieldByField pairs (lookup (graph_of old).objects a) (lookup (graph_of new).objects b)
   objects a b p =
       let k : (k : ℕ) × (k < length pairs) × ((d : ℕ × ℕ) → slice_index_or pairs k d ≡ (a, b)) = place_of pairs a b p in
       let there : BlocksCorrespond pairs (block_at old.words a) (block_at new.words b)
       = subst (λ (p : ℕ × ℕ). BlocksCorrespond pairs (block_at old.words p.0) (block_at new.words p.1)) (k.2 (a, b)) (certified.objects k.0 (a, b) k.1) in
-      subst (λ o. ObjectsCorrespond pairs o (lookup (graph_of new).objects b)) (sym (lookup_of_blocks (blocks old.words) a))
-      (subst (λ q. ObjectsCorrespond pairs (object_option (block_in (blocks old.words) a)) q) (sym (lookup_of_blocks (blocks new.words) b))
+      subst (λ o. EqualFieldByField pairs o (lookup (graph_of new).objects b)) (sym (lookup_of_blocks (blocks old.words) a))
+      (subst (λ q. EqualFieldByField pairs (object_option (block_in (blocks old.words) a)) q) (sym (lookup_of_blocks (blocks new.words) b))
       (objects_of_blocks pairs _ _ there))
 
   pub corresponding : Corresponding pairs (graph_of old) (graph_of new)

@@ -1,23 +1,24 @@
 -- There is no first fault exactly where the certificate holds.
-use Rattle.std.proofs.Common.{◌≡◌, ℕ, suc, ◌<◌, Bool, true, false, cond, not, ◌&&◌, ◌==◌, List, [], ◌∷◌, ◌++◌, length, get_or, Option, Some, None, Result, Ok, Err, is_some, refl, sym, ◌∙◌, ap, subst, arith, append_assoc, append-nil}
+use Rattle.std.proofs.Common.{◌≡◌, ℕ, suc, ◌<◌, Bool, true, false, cond, not, ◌&&◌, ◌==◌, List, [], ◌∷◌, ◌++◌, length, get_or, take, Option, Some, None, Result, Ok, Err, is_some, refl, sym, ◌∙◌, ap, subst, arith, append_assoc, append-nil}
 use Rattle.std.specs.Prelude.{◌≢◌, slice_index, nat_le, IsOk}
 use Rattle.std.specs.List.{All, AllPairs, AllZip, AllByRecursion, list_any}
 use Rattle.std.proofs.lemmas.Bool.{eqb-true, eq-eqb, ne_eqb, leb-true, leb-false, le-leb, lt-leb, and_parts, and_from, both_ways, not-false}
-use Rattle.std.proofs.lemmas.List.{get_or_append_left, get_or_at}
-use Rattle.std.proofs.lemmas.List.Elements.{All-nil, All-cons, All-head, All-tail, All-push, All-weaker, recursion_from_All}
+use Rattle.std.proofs.lemmas.List.{get_or_append_left, get_or_at, length-append}
+use Rattle.std.proofs.Math.Seq.{take-append_seam}
+use Rattle.std.proofs.lemmas.List.Elements.{All-nil, All-cons, All-head, All-tail, All-push, All-weaker, recursion_from_All, length_all_zip}
 use Rattle.std.proofs.lemmas.List.Quantifiers.{all_pairs_push}
 use Rattle.std.proofs.lemmas.List.Folds.{list_any_none, list_any_at}
 use Rattle.gc_words.specs.Word.{words_correspond, field_words_correspond}
-use Rattle.gc_words.specs.Image.{Image, Block, IsShaped, block_at, is_start, walk_words}
+use Rattle.gc_words.specs.Image.{Image, Block, IsShaped, block_at, is_start, walk_all}
 use Rattle.gc_words.specs.declared.header.Header.{Header}
 use Rattle.gc_words.specs.Certificate.{BlocksCorrespond, Certified}
-use Rattle.gc_words.specs.Fault.{◌or_else◌, when, at_place, fault_of_walk, words_fault, has_size, shape_fault, not_above_last, place_fault, place_faults, table_fault, first_difference, same_header, block_fault, pair_fault, object_faults, root_fault, first_fault}
+use Rattle.gc_words.specs.Fault.{◌or_else◌, when, at_place, fault_of_walk, words_fault, has_size, shape_fault, not_above_last, place_fault, first_over_pairs, place_faults, table_fault, first_difference, same_bool, same_header, block_fault, pair_fault, object_faults, root_fault, first_fault}
 use Rattle.gc_words.specs.declared.refusal.Refusal.{Refusal}
 use Rattle.gc_words.specs.declared.refusal.Refusal.TheVariants.{OldShape, NewShape, RootCount, OldNotStart, NewNotStart, NotRising, Twice, HeaderDiffers, FieldDiffers, RootDiffers}
 
 -- ---- options
 
-or_none : {X : Type 0} (x y : Option X) → (x or_else y) ≡ None → (x ≡ None) × (y ≡ None)
+pub or_none : {X : Type 0} (x y : Option X) → (x or_else y) ≡ None → (x ≡ None) × (y ≡ None)
 or_none None y e = (refl, e)
 or_none (Some x) y e = cc
 
@@ -25,7 +26,7 @@ none_or : {X : Type 0} (x y : Option X) → x ≡ None → y ≡ None → (x or_
 none_or None y e f = f
 none_or (Some x) y e f = cc
 
-when_none : (b : Bool) (r : Refusal) → when b r ≡ None → b ≡ false
+pub when_none : (b : Bool) (r : Refusal) → when b r ≡ None → b ≡ false
 when_none true r e = cc
 when_none false r e = refl
 
@@ -33,7 +34,7 @@ none_when : (b : Bool) (r : Refusal) → b ≡ false → when b r ≡ None
 none_when true r e = cc
 none_when false r e = refl
 
-at_place_none : (o : Option ℕ) (r : ℕ → Refusal) → at_place o r ≡ None → o ≡ None
+pub at_place_none : (o : Option ℕ) (r : ℕ → Refusal) → at_place o r ≡ None → o ≡ None
 at_place_none None r e = refl
 at_place_none (Some k) r e = cc
 
@@ -61,8 +62,8 @@ none_walk (Err at) e = cc
 
 pub shaped : (image : Image) → shape_fault image ≡ None → IsShaped image
 shaped image e =
-    let parts : (has_size image ≡ true) × (words_fault image.end image.words ≡ None) = if_none (has_size image) _ 0 e in
-    let words : (((length image.words == image.end) && (slice_index image.words 0 == 0)) ≡ true) × (fault_of_walk (walk_words image.words) ≡ None) = if_none _ _ 0 parts.1 in
+    let parts : (has_size image ≡ true) × (words_fault image.raws image.end image.words ≡ None) = if_none (has_size image) _ 0 e in
+    let words : (((length image.words == image.end) && (slice_index image.words 0 == 0)) ≡ true) × (fault_of_walk (walk_all image.raws image.words) ≡ None) = if_none _ _ 0 parts.1 in
     let frame : ((length image.words == image.end) ≡ true) × ((slice_index image.words 0 == 0) ≡ true) = and_parts _ _ words.0 in
     let p3 : ((nat_le 1 image.size && nat_le image.size 1048576 && nat_le 1 image.end) ≡ true) × (nat_le image.end image.size ≡ true) = and_parts _ _ parts.0 in
     let p2 : ((nat_le 1 image.size && nat_le image.size 1048576) ≡ true) × (nat_le 1 image.end ≡ true) = and_parts _ _ p3.0 in
@@ -79,7 +80,7 @@ shaped image e =
 
 pub no_shape_fault : (image : Image) → IsShaped image → shape_fault image ≡ None
 no_shape_fault image s =
-    none_if (has_size image) (words_fault image.end image.words) 0
+    none_if (has_size image) (words_fault image.raws image.end image.words) 0
     (and_from _ _ (and_from _ _ (and_from _ _ (le-leb _ _ s.size_low) (le-leb _ _ s.size_high)) (le-leb _ _ s.end_low)) (le-leb _ _ s.end_high))
     (none_if ((length image.words == image.end) && (slice_index image.words 0 == 0)) _ 0 (and_from _ _ (eq-eqb _ _ s.count) (eq-eqb _ _ s.reserved)) (none_walk _ s.walked))
 
@@ -113,17 +114,30 @@ no_place_fault old new before k p e =
     let s1 : (when (not (is_start old.words p.0)) (OldNotStart k) ≡ None) × (when (not (is_start new.words p.1)) (NewNotStart k) ≡ None) = or_none _ _ s2.0 in
     (not-false _ (when_none _ _ s1.0), not-false _ (when_none _ _ s1.1), when_none _ _ s2.1, when_none _ _ s3.1)
 
-pub no_place_faults : (old new : Image) (rest before : List (ℕ × ℕ)) (k : ℕ) → AllPairs Later before → LastIsHighest before → place_faults old new before k rest ≡ None
-    → AllPairs Later (before ++ rest) × All (λ p. (is_start old.words p.0 ≡ true) × (is_start new.words p.1 ≡ true)) rest
-no_place_faults old new [] before k pairs highest e = (subst (AllPairs Later) (sym (append-nil before)) pairs, All-nil _)
-no_place_faults old new (p ∷ rest) before k pairs highest e =
-    let both : (place_fault old new before k p ≡ None) × (place_faults old new (before ++ p ∷ []) (suc k) rest ≡ None) = or_none _ _ e in
-    let at : (is_start old.words p.0 ≡ true) × (is_start new.words p.1 ≡ true) × (not_above_last before p.1 ≡ false) × (list_any (λ q. q.0 == p.0) before ≡ false) = no_place_fault old new before k p both.0 in
+-- the first k of all pairs, and one more
+pub first_taken : (all before rest : List (ℕ × ℕ)) (k : ℕ) → before ++ rest ≡ all → length before ≡ k → take k all ≡ before
+first_taken all before rest k whole count = (λ i. take (sym count i) (sym whole i)) ∙ take-append_seam before rest
+
+pub one_longer : (before : List (ℕ × ℕ)) (p : ℕ × ℕ) (k : ℕ) → length before ≡ k → length (before ++ p ∷ []) ≡ suc k
+one_longer before p k count = omega (arith, length-append before (p ∷ []), count)
+
+-- of the places from pair k on
+abbrev pub place_faults_from : Image → Image → List (ℕ × ℕ) → ℕ → List (ℕ × ℕ) → Option Refusal
+place_faults_from old new all k rest = first_over_pairs (λ k. place_fault old new (take k all) k) k rest
+
+pub no_place_faults : (old new : Image) (all rest before : List (ℕ × ℕ)) (k : ℕ) → before ++ rest ≡ all → length before ≡ k → AllPairs Later before → LastIsHighest before
+    → place_faults_from old new all k rest ≡ None → AllPairs Later all × All (λ p. (is_start old.words p.0 ≡ true) × (is_start new.words p.1 ≡ true)) rest
+no_place_faults old new all [] before k whole count pairs highest e = (subst (AllPairs Later) (sym (append-nil before) ∙ whole) pairs, All-nil _)
+no_place_faults old new all (p ∷ rest) before k whole count pairs highest e =
+    let both : (place_fault old new (take k all) k p ≡ None) × (place_faults_from old new all (suc k) rest ≡ None) = or_none _ _ e in
+    let at : (is_start old.words p.0 ≡ true) × (is_start new.words p.1 ≡ true) × (not_above_last before p.1 ≡ false) × (list_any (λ q. q.0 == p.0) before ≡ false)
+    = no_place_fault old new before k p (subst (λ some. place_fault old new some k p ≡ None) (first_taken all before (p ∷ rest) k whole count) both.0) in
     let below : All (λ q. q.1 < p.1) before = highest p.1 at.2 in
     let other : All (λ q. q.0 ≢ p.0) before = none_same before p.0 at.3 in
     let pushed : AllPairs Later (before ++ p ∷ []) = all_pairs_push Later before p pairs (λ i d h. (other i d h, below i d h)) in
-    let ih : AllPairs Later ((before ++ p ∷ []) ++ rest) × All (λ p. (is_start old.words p.0 ≡ true) × (is_start new.words p.1 ≡ true)) rest = no_place_faults old new rest (before ++ p ∷ []) (suc k) pushed (pushed_highest before p below) both.1 in
-    (subst (AllPairs Later) (append_assoc before (p ∷ []) rest) ih.0, All-cons (λ p. (is_start old.words p.0 ≡ true) × (is_start new.words p.1 ≡ true)) p rest (at.0, at.1) ih.1)
+    let ih : AllPairs Later all × All (λ p. (is_start old.words p.0 ≡ true) × (is_start new.words p.1 ≡ true)) rest
+    = no_place_faults old new all rest (before ++ p ∷ []) (suc k) (append_assoc before (p ∷ []) rest ∙ whole) (one_longer before p k count) pushed (pushed_highest before p below) both.1 in
+    (ih.0, All-cons (λ p. (is_start old.words p.0 ≡ true) × (is_start new.words p.1 ≡ true)) p rest (at.0, at.1) ih.1)
 
 -- each before p is related to it
 before_each : (before rest : List (ℕ × ℕ)) (p : ℕ × ℕ) → AllPairs Later (before ++ p ∷ rest) → All (λ q. Later q p) before
@@ -141,17 +155,19 @@ above_all [] n h = refl
 above_all (p ∷ []) n h = lt-leb n p.1 h.0
 above_all (p ∷ q ∷ rest) n h = above_all (q ∷ rest) n h.1
 
-places_hold : (old new : Image) (rest before : List (ℕ × ℕ)) (k : ℕ) → AllPairs Later (before ++ rest) → All (λ p. (is_start old.words p.0 ≡ true) × (is_start new.words p.1 ≡ true)) rest
-    → place_faults old new before k rest ≡ None
-places_hold old new [] before k pairs starts = refl
-places_hold old new (p ∷ rest) before k pairs starts =
-    let each : All (λ q. Later q p) before = before_each before rest p pairs in
+places_hold : (old new : Image) (all rest before : List (ℕ × ℕ)) (k : ℕ) → before ++ rest ≡ all → length before ≡ k → AllPairs Later all → All (λ p. (is_start old.words p.0 ≡ true) × (is_start new.words p.1 ≡ true)) rest
+    → place_faults_from old new all k rest ≡ None
+places_hold old new all [] before k whole count pairs starts = refl
+places_hold old new all (p ∷ rest) before k whole count pairs starts =
+    let each : All (λ q. Later q p) before = before_each before rest p (subst (AllPairs Later) (sym whole) pairs) in
     let start : (is_start old.words p.0 ≡ true) × (is_start new.words p.1 ≡ true) = All-head (λ p. (is_start old.words p.0 ≡ true) × (is_start new.words p.1 ≡ true)) p rest starts in
     let below : AllByRecursion (λ q. q.1 < p.1) before = recursion_from_All (λ q. q.1 < p.1) before (All-weaker (λ q. Later q p) (λ q. q.1 < p.1) (λ q h. h.1) before each) in
     let once : list_any (λ q. q.0 == p.0) before ≡ false = list_any_none (λ q. q.0 == p.0) before (All-weaker (λ q. Later q p) (λ q. (q.0 == p.0) ≡ false) (λ q h. ne_eqb _ _ h.0) before each) in
-    none_or (place_fault old new before k p) (place_faults old new (before ++ p ∷ []) (suc k) rest)
-    (none_or _ _ (none_or _ _ (none_or _ _ (none_when _ _ (ap not start.0)) (none_when _ _ (ap not start.1))) (none_when _ _ (above_all before p.1 below))) (none_when _ _ once))
-    (places_hold old new rest (before ++ p ∷ []) (suc k) (subst (AllPairs Later) (sym (append_assoc before (p ∷ []) rest)) pairs) (All-tail (λ p. (is_start old.words p.0 ≡ true) × (is_start new.words p.1 ≡ true)) p rest starts))
+    let here : place_fault old new before k p ≡ None
+    = none_or _ _ (none_or _ _ (none_or _ _ (none_when _ _ (ap not start.0)) (none_when _ _ (ap not start.1))) (none_when _ _ (above_all before p.1 below))) (none_when _ _ once) in
+    none_or (place_fault old new (take k all) k p) (place_faults_from old new all (suc k) rest)
+    (subst (λ some. place_fault old new some k p ≡ None) (sym (first_taken all before (p ∷ rest) k whole count)) here)
+    (places_hold old new all rest (before ++ p ∷ []) (suc k) (append_assoc before (p ∷ []) rest ∙ whole) (one_longer before p k count) pairs (All-tail (λ p. (is_start old.words p.0 ≡ true) × (is_start new.words p.1 ≡ true)) p rest starts))
 
 -- ---- pairs: their objects, and roots
 
@@ -169,15 +185,26 @@ difference_none alike i [] (w ∷ ws) z = absurd z
 difference_none alike i (v ∷ vs) [] z = absurd z
 difference_none alike i (v ∷ vs) (w ∷ ws) z = none_if (alike v w) _ i z.0 (difference_none alike (suc i) vs ws z.1)
 
+bool_same : (a b : Bool) → same_bool a b ≡ true → a ≡ b
+bool_same true b e = sym e
+bool_same false true e = absurd (let no : false ≡ true = e in cc)
+bool_same false false e = refl
+
+same_bool_itself : (a : Bool) → same_bool a a ≡ true
+same_bool_itself true = refl
+same_bool_itself false = refl
+
 pub header_same : (g h : Header) → same_header g h ≡ true → g ≡ h
 header_same g h e =
-    let parts : ((g.kind == h.kind) ≡ true) × ((g.len == h.len) ≡ true) = and_parts _ _ e in
-    let k : g.kind ≡ h.kind = eqb-true _ _ parts.0 in
+    let parts : ((same_bool g.raw h.raw && (g.kind == h.kind)) ≡ true) × ((g.len == h.len) ≡ true) = and_parts _ _ e in
+    let front : (same_bool g.raw h.raw ≡ true) × ((g.kind == h.kind) ≡ true) = and_parts _ _ parts.0 in
+    let r : g.raw ≡ h.raw = bool_same g.raw h.raw front.0 in
+    let k : g.kind ≡ h.kind = eqb-true _ _ front.1 in
     let l : g.len ≡ h.len = eqb-true _ _ parts.1 in
-    λ i. record { kind = k i; len = l i }
+    λ i. record { raw = r i; kind = k i; len = l i }
 
 pub same_header_of : (g h : Header) → g ≡ h → same_header g h ≡ true
-same_header_of g h e = and_from _ _ (eq-eqb _ _ (ap (λ h. h.kind) e)) (eq-eqb _ _ (ap (λ h. h.len) e))
+same_header_of g h e = and_from _ _ (and_from _ _ (subst (λ (h : Header). same_bool g.raw h.raw ≡ true) e (same_bool_itself g.raw)) (eq-eqb _ _ (ap (λ h. h.kind) e))) (eq-eqb _ _ (ap (λ h. h.len) e))
 
 pub no_block_fault : (pairs : List (ℕ × ℕ)) (k : ℕ) (o q : Option Block) → is_some o ≡ true → is_some q ≡ true → block_fault pairs k o q ≡ None → BlocksCorrespond pairs o q
 no_block_fault pairs k (Some a) (Some b) s t e =
@@ -203,32 +230,26 @@ module _ (old new : Image) (pairs : List (ℕ × ℕ)) where
   abbrev pub Object : ℕ × ℕ → Type 0
   Object p = BlocksCorrespond pairs (block_at old.words p.0) (block_at new.words p.1)
 
-  pub no_object_faults : (k : ℕ) (rest : List (ℕ × ℕ)) → All Start rest → object_faults old new pairs k rest ≡ None → All Object rest
+  pub no_object_faults : (k : ℕ) (rest : List (ℕ × ℕ)) → All Start rest → first_over_pairs (pair_fault old new pairs) k rest ≡ None → All Object rest
   no_object_faults k [] starts e = All-nil Object
   no_object_faults k (p ∷ rest) starts e =
-      let both : (pair_fault old new pairs k p ≡ None) × (object_faults old new pairs (suc k) rest ≡ None) = or_none _ _ e in
+      let both : (pair_fault old new pairs k p ≡ None) × (first_over_pairs (pair_fault old new pairs) (suc k) rest ≡ None) = or_none _ _ e in
       let start : Start p = All-head Start p rest starts in
       All-cons Object p rest (no_block_fault pairs k _ _ start.0 start.1 both.0) (no_object_faults (suc k) rest (All-tail Start p rest starts) both.1)
 
-  object_faults_none : (k : ℕ) (rest : List (ℕ × ℕ)) → All Object rest → object_faults old new pairs k rest ≡ None
+  object_faults_none : (k : ℕ) (rest : List (ℕ × ℕ)) → All Object rest → first_over_pairs (pair_fault old new pairs) k rest ≡ None
   object_faults_none k [] objects = refl
   object_faults_none k (p ∷ rest) objects = none_or _ _ (block_fault_none pairs k _ _ (All-head Object p rest objects)) (object_faults_none (suc k) rest (All-tail Object p rest objects))
 
-  length_zip : (R : ℕ → ℕ → Type 0) (vs ws : List ℕ) → AllZip R vs ws → length vs ≡ length ws
-  length_zip R [] [] z = refl
-  length_zip R [] (w ∷ ws) z = absurd z
-  length_zip R (v ∷ vs) [] z = absurd z
-  length_zip R (v ∷ vs) (w ∷ ws) z = ap suc (length_zip R vs ws z.1)
-
   pub certified_of_no_fault : first_fault old new pairs ≡ None → Certified old new pairs
   certified_of_no_fault e =
-      let s5 : ((table_fault old new pairs or_else object_faults old new pairs 0 pairs) ≡ None) × (root_fault old new pairs ≡ None) = or_none _ _ e in
-      let s4 : (table_fault old new pairs ≡ None) × (object_faults old new pairs 0 pairs ≡ None) = or_none _ _ s5.0 in
+      let s5 : ((table_fault old new pairs or_else object_faults old new pairs) ≡ None) × (root_fault old new pairs ≡ None) = or_none _ _ e in
+      let s4 : (table_fault old new pairs ≡ None) × (object_faults old new pairs ≡ None) = or_none _ _ s5.0 in
       let s3 : ((at_place (shape_fault old) (λ at. OldShape at) or_else at_place (shape_fault new) (λ at. NewShape at) or_else when (not (length old.roots == length new.roots)) RootCount) ≡ None)
-      × (place_faults old new [] 0 pairs ≡ None) = or_none _ _ s4.0 in
+      × (place_faults old new pairs ≡ None) = or_none _ _ s4.0 in
       let s2 : ((at_place (shape_fault old) (λ at. OldShape at) or_else at_place (shape_fault new) (λ at. NewShape at)) ≡ None) × (when (not (length old.roots == length new.roots)) RootCount ≡ None) = or_none _ _ s3.0 in
       let s1 : (at_place (shape_fault old) (λ at. OldShape at) ≡ None) × (at_place (shape_fault new) (λ at. NewShape at) ≡ None) = or_none _ _ s2.0 in
-      let places : AllPairs Later pairs × All Start pairs = no_place_faults old new pairs [] 0 (λ i j d h l. absurd (omega arith)) (λ n e. All-nil (λ q. q.1 < n)) s3.1 in
+      let places : AllPairs Later pairs × All Start pairs = no_place_faults old new pairs pairs [] 0 refl refl (λ i j d h l. absurd (omega arith)) (λ n e. All-nil (λ q. q.1 < n)) s3.1 in
       record {
         old_shaped = shaped old (at_place_none (shape_fault old) (λ at. OldShape at) s1.0);
         new_shaped = shaped new (at_place_none (shape_fault new) (λ at. NewShape at) s1.1);
@@ -244,7 +265,7 @@ module _ (old new : Image) (pairs : List (ℕ × ℕ)) where
       (none_or _ _ (none_or _ _ (none_or _ _
       (none_at_place _ (λ at. OldShape at) (no_shape_fault old c.old_shaped))
       (none_at_place _ (λ at. NewShape at) (no_shape_fault new c.new_shaped)))
-      (none_when _ _ (ap not (eq-eqb _ _ (length_zip _ old.roots new.roots c.roots)))))
-      (places_hold old new pairs [] 0 (λ i j d h l. (c.once i j d h l, c.rising i j d h l)) (All-weaker Object Start (λ p b. both_there pairs _ _ b) pairs c.objects)))
+      (none_when _ _ (ap not (eq-eqb _ _ (length_all_zip _ old.roots new.roots c.roots)))))
+      (places_hold old new pairs pairs [] 0 refl refl (λ i j d h l. (c.once i j d h l, c.rising i j d h l)) (All-weaker Object Start (λ p b. both_there pairs _ _ b) pairs c.objects)))
       (object_faults_none 0 pairs c.objects))
       (none_at_place _ (λ slot. RootDiffers slot) (difference_none (words_correspond pairs) 0 old.roots new.roots c.roots))

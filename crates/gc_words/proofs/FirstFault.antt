@@ -1,36 +1,33 @@
 -- Which conditions hold before the first fault.
-use Rattle.std.proofs.Common.{◌≡◌, ℕ, suc, ◌+◌, ◌<◌, Bool, true, false, cond, not, ◌==◌, List, [], ◌∷◌, ◌++◌, length, Option, Some, None, refl, sym, ◌∙◌, ap, subst, arith, append_assoc, append-nil}
+use Rattle.std.proofs.Common.{◌≡◌, ℕ, suc, ◌<◌, Bool, true, false, cond, not, ◌==◌, List, [], ◌∷◌, ◌++◌, length, Option, Some, None, refl, sym, ◌∙◌, ap, subst, arith, append_assoc}
 use Rattle.std.specs.Prelude.{◌≢◌}
-use Rattle.std.specs.List.{All, AllPairs, list_any}
-use Rattle.std.proofs.lemmas.Bool.{eq-eqb, eqb-true, eqb-false, ne_eqb, both_ways, not-false}
-use Rattle.std.proofs.lemmas.List.{length-append}
+use Rattle.std.specs.List.{All, list_any}
+use Rattle.std.proofs.lemmas.Bool.{eqb-true, eqb-false, ne_eqb, both_ways}
 use Rattle.std.proofs.lemmas.List.Elements.{All-nil, All-head, All-tail, All-push, All-weaker, recursion_from_All}
 use Rattle.std.proofs.lemmas.List.Quantifiers.{all_pairs_push}
 use Rattle.std.proofs.lemmas.List.Folds.{list_any_none}
 use Rattle.gc_words.specs.Word.{words_correspond, field_words_correspond}
-use Rattle.gc_words.specs.Image.{Image, Block, IsShaped, block_at, is_start}
+use Rattle.gc_words.specs.Image.{Image, Block, block_at, is_start}
 use Rattle.gc_words.specs.Certificate.{BlocksCorrespond}
-use Rattle.gc_words.specs.Fault.{◌or_else◌, when, at_place, shape_fault, not_above_last, place_faults, first_difference, same_header, block_fault, pair_fault, object_faults, root_fault, first_fault, PairAt, AreComparable, ArePlaced, ObjectsMatch, HeadersDiffer, FieldsDifferAt, PlaceFails, ObjectFails, IsFirstFault}
+use Rattle.gc_words.specs.Fault.{◌or_else◌, when, at_place, shape_fault, first_over_pairs, not_above_last, place_fault, place_faults, first_difference, same_header, block_fault, pair_fault, object_faults, first_fault, PairAt, AreComparable, ArePlaced, ObjectsMatch, HeadersDiffer, FieldsDifferAt, PlaceFails, ObjectFails, IsFirstFault}
 use Rattle.gc_words.specs.declared.refusal.Refusal.{Refusal}
 use Rattle.gc_words.specs.declared.refusal.Refusal.TheVariants.{OldShape, NewShape, RootCount, OldNotStart, NewNotStart, NotRising, Twice, HeaderDiffers, FieldDiffers, RootDiffers}
-use Rattle.gc_words.proofs.Faults.{shaped, LastIsHighest, pushed_highest, none_same, above_all, Later, no_block_fault, header_same, same_header_of, no_place_faults, no_object_faults}
+use Rattle.gc_words.proofs.Faults.{shaped, LastIsHighest, pushed_highest, none_same, above_all, Later, no_block_fault, header_same, same_header_of, first_taken, one_longer, place_faults_from, no_place_faults, no_object_faults}
 
 -- ---- places
 
-module _ (old new : Image) where
+module _ (old new : Image) (pairs : List (ℕ × ℕ)) where
   abbrev Start : ℕ × ℕ → Type 0
   Start p = (is_start old.words p.0 ≡ true) × (is_start new.words p.1 ≡ true)
 
-  place_fails : (r : Refusal) (rest before : List (ℕ × ℕ)) (k : ℕ) → length before ≡ k → ArePlaced old new before → LastIsHighest before
-      → place_faults old new before k rest ≡ Some r → PlaceFails old new (before ++ rest) r
-  place_fails r [] before k count placed highest e = absurd cc
-  place_fails r (p ∷ rest) before k count placed highest e =
-      go (λ starts fc fd f. place_fails r rest (before ++ p ∷ []) (suc k) longer (next starts fc fd) (pushed_highest before p (highest p.1 fc)) f)
-      (is_start old.words p.0) refl (is_start new.words p.1) refl (not_above_last before p.1) refl (list_any (λ q. q.0 == p.0) before) refl e
+  place_fails : (r : Refusal) (rest before : List (ℕ × ℕ)) (k : ℕ) → before ++ rest ≡ pairs → length before ≡ k → ArePlaced old new before → LastIsHighest before
+      → place_faults_from old new pairs k rest ≡ Some r → PlaceFails old new pairs r
+  place_fails r [] before k whole count placed highest e = absurd cc
+  place_fails r (p ∷ rest) before k whole count placed highest e =
+      go (λ starts fc fd f. place_fails r rest (before ++ p ∷ []) (suc k) (append_assoc before (p ∷ []) rest ∙ whole) (one_longer before p k count) (next starts fc fd) (pushed_highest before p (highest p.1 fc)) f)
+      (is_start old.words p.0) refl (is_start new.words p.1) refl (not_above_last before p.1) refl (list_any (λ q. q.0 == p.0) before) refl
+      (subst (λ some. (place_fault old new some k p or_else place_faults_from old new pairs (suc k) rest) ≡ Some r) (first_taken pairs before (p ∷ rest) k whole count) e)
     where
-      longer : length (before ++ p ∷ []) ≡ suc k
-      longer = omega (arith, length-append before (p ∷ []), count)
-
       next : Start p → not_above_last before p.1 ≡ false → list_any (λ q. q.0 == p.0) before ≡ false → ArePlaced old new (before ++ p ∷ [])
       next starts fc fd = record {
         starts = All-push Start before p placed.starts starts;
@@ -39,23 +36,23 @@ module _ (old new : Image) where
 
       Again : Type 0
       Again = Start p → not_above_last before p.1 ≡ false → list_any (λ q. q.0 == p.0) before ≡ false
-          → place_faults old new (before ++ p ∷ []) (suc k) rest ≡ Some r → PlaceFails old new ((before ++ p ∷ []) ++ rest) r
+          → place_faults_from old new pairs (suc k) rest ≡ Some r → PlaceFails old new pairs r
 
-      at : (P : List (ℕ × ℕ) → ℕ × ℕ → Type 0) → P before p → PairAt (before ++ p ∷ rest) k P
-      at P h = record { before = before; pair = p; rest = rest; whole = refl; place = count; holds = h }
+      at : (P : List (ℕ × ℕ) → ℕ × ℕ → Type 0) → P before p → PairAt pairs k P
+      at P h = record { before = before; pair = p; rest = rest; whole = sym whole; place = count; holds = h }
 
       go : Again → (a : Bool) → is_start old.words p.0 ≡ a → (b : Bool) → is_start new.words p.1 ≡ b → (c : Bool) → not_above_last before p.1 ≡ c → (d : Bool) → list_any (λ q. q.0 == p.0) before ≡ d
-          → ((when (not a) (OldNotStart k) or_else when (not b) (NewNotStart k) or_else when c (NotRising k) or_else when d (Twice k)) or_else place_faults old new (before ++ p ∷ []) (suc k) rest) ≡ Some r
-          → PlaceFails old new (before ++ p ∷ rest) r
-      go again false fa b fb c fc d fd e = let same : OldNotStart k ≡ r = cc e in subst (PlaceFails old new (before ++ p ∷ rest)) same (at _ (placed, fa))
-      go again true fa false fb c fc d fd e = let same : NewNotStart k ≡ r = cc e in subst (PlaceFails old new (before ++ p ∷ rest)) same (at _ (placed, fa, fb))
+          → ((when (not a) (OldNotStart k) or_else when (not b) (NewNotStart k) or_else when c (NotRising k) or_else when d (Twice k)) or_else place_faults_from old new pairs (suc k) rest) ≡ Some r
+          → PlaceFails old new pairs r
+      go again false fa b fb c fc d fd e = let same : OldNotStart k ≡ r = cc e in subst (PlaceFails old new pairs) same (at _ (placed, fa))
+      go again true fa false fb c fc d fd e = let same : NewNotStart k ≡ r = cc e in subst (PlaceFails old new pairs) same (at _ (placed, fa, fb))
       go again true fa true fb true fc d fd e =
           let same : NotRising k ≡ r = cc e in
-          subst (PlaceFails old new (before ++ p ∷ rest)) same (at _ (placed, fa, fb, λ below. both_ways (not_above_last before p.1) (above_all before p.1 (recursion_from_All (λ q. q.1 < p.1) before below)) fc))
+          subst (PlaceFails old new pairs) same (at _ (placed, fa, fb, λ below. both_ways (not_above_last before p.1) (above_all before p.1 (recursion_from_All (λ q. q.1 < p.1) before below)) fc))
       go again true fa true fb false fc true fd e =
           let same : Twice k ≡ r = cc e in
-          subst (PlaceFails old new (before ++ p ∷ rest)) same (at _ (placed, fa, fb, highest p.1 fc, λ once. both_ways (list_any (λ q. q.0 == p.0) before) (list_any_none (λ q. q.0 == p.0) before (All-weaker (λ q. q.0 ≢ p.0) (λ q. (q.0 == p.0) ≡ false) (λ q h. ne_eqb _ _ h) before once)) fd))
-      go again true fa true fb false fc false fd e = subst (λ all. PlaceFails old new all r) (append_assoc before (p ∷ []) rest) (again (fa, fb) fc fd e)
+          subst (PlaceFails old new pairs) same (at _ (placed, fa, fb, highest p.1 fc, λ once. both_ways (list_any (λ q. q.0 == p.0) before) (list_any_none (λ q. q.0 == p.0) before (All-weaker (λ q. q.0 ≢ p.0) (λ q. (q.0 == p.0) ≡ false) (λ q h. ne_eqb _ _ h) before once)) fd))
+      go again true fa true fb false fc false fd e = again (fa, fb) fc fd e
 
 -- ---- objects
 
@@ -82,18 +79,15 @@ module _ (old new : Image) (pairs : List (ℕ × ℕ)) where
   block_fails k (Some a) None r e = absurd cc
   block_fails k None b r e = absurd cc
 
-  object_fails : (r : Refusal) (rest before : List (ℕ × ℕ)) (k : ℕ) → length before ≡ k → All (Start old new) rest → ObjectsMatch old new pairs before
-      → object_faults old new pairs k rest ≡ Some r → (whole : List (ℕ × ℕ)) → whole ≡ before ++ rest → pairs ≡ whole → ObjectFails old new pairs r
+  object_fails : (r : Refusal) (rest before : List (ℕ × ℕ)) (k : ℕ) → length before ≡ k → All (Start old new pairs) rest → ObjectsMatch old new pairs before
+      → first_over_pairs (pair_fault old new pairs) k rest ≡ Some r → (whole : List (ℕ × ℕ)) → whole ≡ before ++ rest → pairs ≡ whole → ObjectFails old new pairs r
   object_fails r [] before k count starts match e whole is all = absurd cc
   object_fails r (p ∷ rest) before k count starts match e whole is all =
-      go (λ match f. object_fails r rest (before ++ p ∷ []) (suc k) longer (All-tail (Start old new) p rest starts) match f whole (is ∙ sym (append_assoc before (p ∷ []) rest)) all)
+      go (λ match f. object_fails r rest (before ++ p ∷ []) (suc k) (one_longer before p k count) (All-tail (Start old new pairs) p rest starts) match f whole (is ∙ sym (append_assoc before (p ∷ []) rest)) all)
       (pair_fault old new pairs k p) refl e
     where
-      longer : length (before ++ p ∷ []) ≡ suc k
-      longer = omega (arith, length-append before (p ∷ []), count)
-
-      start : Start old new p
-      start = All-head (Start old new) p rest starts
+      start : Start old new pairs p
+      start = All-head (Start old new pairs) p rest starts
 
       at : (P : List (ℕ × ℕ) → ℕ × ℕ → Type 0) → (j : ℕ) → j ≡ k → P before p → PairAt pairs j P
       at P j same h = record { before = before; pair = p; rest = rest; whole = all ∙ is; place = count ∙ sym same; holds = h }
@@ -110,21 +104,21 @@ module _ (old new : Image) (pairs : List (ℕ × ℕ)) where
       fails (Twice n) h = absurd h
       fails (RootDiffers n) h = absurd h
 
-      go : (ObjectsMatch old new pairs (before ++ p ∷ []) → object_faults old new pairs (suc k) rest ≡ Some r → ObjectFails old new pairs r)
-          → (f : Option Refusal) → pair_fault old new pairs k p ≡ f → (f or_else object_faults old new pairs (suc k) rest) ≡ Some r → ObjectFails old new pairs r
+      go : (ObjectsMatch old new pairs (before ++ p ∷ []) → first_over_pairs (pair_fault old new pairs) (suc k) rest ≡ Some r → ObjectFails old new pairs r)
+          → (f : Option Refusal) → pair_fault old new pairs k p ≡ f → (f or_else first_over_pairs (pair_fault old new pairs) (suc k) rest) ≡ Some r → ObjectFails old new pairs r
       go again None f e = again (All-push Object before p match (no_block_fault pairs k _ _ start.0 start.1 f)) e
       go again (Some q) f e = let same : q ≡ r = cc e in fails r (block_fails k _ _ r (f ∙ ap (λ x. Some x) same))
 
   -- ---- all of them
 
   pub first_fails : (r : Refusal) → first_fault old new pairs ≡ Some r → IsFirstFault old new pairs r
-  first_fails r e = go (shape_fault old) refl (shape_fault new) refl (length old.roots == length new.roots) refl (place_faults old new [] 0 pairs) refl (object_faults old new pairs 0 pairs) refl (first_difference (words_correspond pairs) 0 old.roots new.roots) refl e
+  first_fails r e = go (shape_fault old) refl (shape_fault new) refl (length old.roots == length new.roots) refl (place_faults old new pairs) refl (object_faults old new pairs) refl (first_difference (words_correspond pairs) 0 old.roots new.roots) refl e
     where
-      placed : place_faults old new [] 0 pairs ≡ None → ArePlaced old new pairs
-      placed f = let both = no_place_faults old new pairs [] 0 (λ i j d h l. absurd (omega arith)) (λ n e. All-nil (λ q. q.1 < n)) f in record { starts = both.1; later = both.0 }
+      placed : place_faults old new pairs ≡ None → ArePlaced old new pairs
+      placed f = let both = no_place_faults old new pairs pairs [] 0 refl refl (λ i j d h l. absurd (omega arith)) (λ n e. All-nil (λ q. q.1 < n)) f in record { starts = both.1; later = both.0 }
 
       none_placed : ArePlaced old new []
-      none_placed = record { starts = All-nil (Start old new); later = λ i j d h l. absurd (omega arith) }
+      none_placed = record { starts = All-nil (Start old new pairs); later = λ i j d h l. absurd (omega arith) }
 
       from_places : AreComparable old new → (q : Refusal) → PlaceFails old new pairs q → IsFirstFault old new pairs q
       from_places c (OldNotStart k) h = (c, h)
@@ -154,7 +148,7 @@ module _ (old new : Image) (pairs : List (ℕ × ℕ)) where
       comparable o n c = record { old_shaped = shaped old o; new_shaped = shaped new n; roots = eqb-true _ _ c }
 
       go : (o : Option ℕ) → shape_fault old ≡ o → (n : Option ℕ) → shape_fault new ≡ n → (c : Bool) → (length old.roots == length new.roots) ≡ c
-          → (p : Option Refusal) → place_faults old new [] 0 pairs ≡ p → (b : Option Refusal) → object_faults old new pairs 0 pairs ≡ b
+          → (p : Option Refusal) → place_faults old new pairs ≡ p → (b : Option Refusal) → object_faults old new pairs ≡ b
           → (d : Option ℕ) → first_difference (words_correspond pairs) 0 old.roots new.roots ≡ d
           → ((at_place o (λ at. OldShape at) or_else at_place n (λ at. NewShape at) or_else when (not c) RootCount or_else p) or_else b or_else at_place d (λ slot. RootDiffers slot)) ≡ Some r
           → IsFirstFault old new pairs r
@@ -163,7 +157,7 @@ module _ (old new : Image) (pairs : List (ℕ × ℕ)) where
       go None fo None fn false fc p fp b fb d fd e = let same : RootCount ≡ r = cc e in subst (IsFirstFault old new pairs) same (shaped old fo, shaped new fn, eqb-false _ _ fc)
       go None fo None fn true fc (Some q) fp b fb d fd e =
           let same : q ≡ r = cc e in
-          from_places (comparable fo fn fc) r (place_fails old new r pairs [] 0 refl none_placed (λ n e. All-nil (λ q. q.1 < n)) (fp ∙ ap (λ x. Some x) same))
+          from_places (comparable fo fn fc) r (place_fails old new pairs r pairs [] 0 refl refl none_placed (λ n e. All-nil (λ q. q.1 < n)) (fp ∙ ap (λ x. Some x) same))
       go None fo None fn true fc None fp (Some q) fb d fd e =
           let same : q ≡ r = cc e in
           from_objects (comparable fo fn fc) (placed fp) r (object_fails r pairs [] 0 refl (placed fp).starts (All-nil Object) (fb ∙ ap (λ x. Some x) same) pairs refl refl)

@@ -4,7 +4,7 @@ use Rattle.std.specs.Prelude.{nat_lt, slice_get, slice_index, slice_set, IsSome,
 use Rattle.std.specs.Option.{option_map}
 use Rattle.std.proofs.lemmas.Bool.{eqb-true, eqb-false, eq-eqb, ne_eqb, ltb-true, lt-ltb, cases_Bool, or_cases}
 use Rattle.std.proofs.lemmas.List.{map-append, map-set}
-use Rattle.gc_graph.specs.Graph.{Value, Nil, Num, Ref, Object, Graph, lookup, new_object, add_object, set_field, set_root, field_of, value_or_nil}
+use Rattle.gc_graph.specs.Graph.{Value, Nil, Num, Ref, Object, Graph, lookup, first_value, new_object, add_object, set_field, set_root, field_of, value_or_nil}
 use Rattle.gc_words.specs.Word.{value_of, is_value, read_value, word_of, HasAddress, field_value}
 use Rattle.gc_words.specs.Image.{Block, fresh_block, blocks, block_in, block_at, field_at, field_in, is_start, object_of_block, object_entry, objects_of, graph_of}
 use Rattle.gc_words.specs.Layout.{field_place, link_place}
@@ -107,19 +107,22 @@ graph_empty size count = ap (λ vs. record { objects = []; roots = vs }) (roots_
 
 -- ---- writes
 
--- a new object's fields are all nil
-pub fresh_object : (h : Header) → object_of_block (fresh_block h) ≡ new_object h.kind h.len
-fresh_object h = ap (λ fs. record { kind = h.kind; fields = fs }) (nils h.len)
+pub fresh_object : (h : Header) → object_of_block (fresh_block h) ≡ new_object h.raw h.kind h.len
+fresh_object h = ap (λ fs. record { raw = h.raw; kind = h.kind; fields = fs }) (each h.len)
   where
-    nils : (n : ℕ) → map (field_value h) (replicate n 0) ≡ replicate n Nil
-    nils zero = refl
-    nils (suc n) = ap (λ vs. Nil ∷ vs) (nils n)
+    zero_word : (raw : Bool) → cond raw (Num 0) (value_of 0) ≡ first_value raw
+    zero_word true = refl
+    zero_word false = refl
+
+    each : (n : ℕ) → map (field_value h) (replicate n 0) ≡ replicate n (first_value h.raw)
+    each zero = refl
+    each (suc n) = λ i. zero_word h.raw i ∷ each n i
 
 graph_with : (roots : List ℕ) (os qs : List (ℕ × Object)) → os ≡ qs → ◌≡◌ {A = Graph} (record { objects = os; roots = map value_of roots }) (record { objects = qs; roots = map value_of roots })
 graph_with roots os qs e = ap (λ os. record { objects = os; roots = map value_of roots }) e
 
 pub graph_placed : (s : SpaceWords) (h : Header) (roots : List ℕ) → CanPlace s h
-    → graph_of (image_with (with_object s h) roots) ≡ add_object (graph_of (image_with s roots)) (end_of s) (new_object h.kind h.len)
+    → graph_of (image_with (with_object s h) roots) ≡ add_object (graph_of (image_with s roots)) (end_of s) (new_object h.raw h.kind h.len)
 graph_placed s h roots can =
     graph_with roots _ _ (ap (map object_entry) (placed s h can).1 ∙ map-append object_entry (blocks s.words) ((end_of s, fresh_block h) ∷ [])
     ∙ ap (λ o. objects_of s.words ++ (end_of s, o) ∷ []) (fresh_object h))

@@ -5,9 +5,9 @@ use Rattle.std.proofs.lemmas.Bool.{eqb-true, cases_Bool, cases_lt}
 use Rattle.std.proofs.lemmas.List.{get_or_append_left, get_or-append-add, get_or-set_same, get_or-set_other}
 use Rattle.gc_words.specs.Word.{header_word}
 use Rattle.gc_words.specs.Image.{Block, blocks, block_in, block_at, is_start, field_at}
-use Rattle.gc_words.specs.Spelling.{link_at, no_links, LaidOut}
+use Rattle.gc_words.specs.Spelling.{block_words, link_at, no_links, LaidOut}
 use Rattle.gc_words.specs.Layout.{field_place, link_place}
-use Rattle.gc_words.specs.Space.{SpaceWords, IsSpace, end_of, with_object, with_word, without_links}
+use Rattle.gc_words.specs.Space.{SpaceWords, IsSpace, end_of, with_block, with_word, without_links}
 use Rattle.gc_words.specs.declared.header.Header.{Header}
 use Rattle.gc_words.proofs.Starts.{stands_in}
 use Rattle.gc_words.proofs.Writes.{FieldRead, field_read, some_of}
@@ -54,11 +54,11 @@ link_within s x space start =
 
 -- ---- an object placed
 
-pub link_placed : (s : SpaceWords) (h : Header) → link_at (with_object s h).words (end_of s) ≡ 0
-link_placed s h = get_or-append-add s.words (header_word h ∷ 0 ∷ replicate h.len 0) 1 0
+pub link_placed : (s : SpaceWords) (b : Block) → link_at (with_block s b).words (end_of s) ≡ 0
+link_placed s b = get_or-append-add s.words (block_words 0 b) 1 0
 
-pub link_placed_beside : (s : SpaceWords) (h : Header) (x : ℕ) → IsSpace s → is_start s.words x ≡ true → link_at (with_object s h).words x ≡ link_at s.words x
-link_placed_beside s h x space start = get_or_append_left s.words (header_word h ∷ 0 ∷ replicate h.len 0) 0 (x + 1) (link_within s x space start)
+pub link_placed_beside : (s : SpaceWords) (b : Block) (x : ℕ) → IsSpace s → is_start s.words x ≡ true → link_at (with_block s b).words x ≡ link_at s.words x
+link_placed_beside s b x space start = get_or_append_left s.words (block_words 0 b) 0 (x + 1) (link_within s x space start)
 
 -- ---- a field written
 

@@ -1,5 +1,5 @@
 -- Images in which every reference is to a start.
-use Rattle.std.proofs.Common.{◌≡◌, ℕ, suc, zero, ◌+◌, ◌<◌, ◌≤◌, true, false, cond, ◌==◌, List, [], ◌∷◌, ◌++◌, map, length, replicate, Some, None, is_some, refl, sym, ◌∙◌, ap, subst, arith}
+use Rattle.std.proofs.Common.{◌≡◌, ℕ, suc, zero, ◌+◌, ◌<◌, ◌≤◌, Bool, true, false, cond, ◌==◌, List, [], ◌∷◌, ◌++◌, map, length, replicate, Some, None, is_some, refl, sym, ◌∙◌, ap, subst, arith}
 use Rattle.std.specs.Prelude.{slice_get, slice_set, IsOk, IsSome}
 use Rattle.std.specs.List.{All, AllByRecursion, flat_map}
 use Rattle.std.proofs.lemmas.Bool.{eq-eqb, ne_eqb}
@@ -10,7 +10,7 @@ use Rattle.gc_words.specs.Word.{value_of, HasAddress, is_value, word_of, field_v
 use Rattle.gc_words.specs.Image.{Block, fresh_block, walk_words, blocks, block_in, block_at, field_in, field_at, is_start, with_field_word, set_block, object_of_block, object_entry, objects_of, graph_of}
 use Rattle.gc_words.specs.Layout.{field_place}
 use Rattle.gc_words.specs.Space.{SpaceWords, IsSpace, empty_space, end_of, free_in, CanPlace, with_object, with_word, image_with}
-use Rattle.gc_words.specs.Closed.{RefersToStart, IsRootWord, IsFieldWord, HasFieldWords, IsClosed}
+use Rattle.gc_words.specs.Closed.{RefersToStart, IsRootWord, IsWordOfField, IsFieldWord, HasFieldWords, IsClosed}
 use Rattle.gc_words.specs.Walking.{StandsIn}
 use Rattle.gc_words.specs.declared.header.Header.{Header}
 use Rattle.gc_words.proofs.Walks.{Walked, First, first}
@@ -66,7 +66,11 @@ module _ (s : SpaceWords) (space : IsSpace s) where
   root_names w is = names_below (value_of w) is.start
 
   field_names : (h : Header) (w : ℕ) → IsFieldWord s.words h w → All Below (names_of (field_value h w))
-  field_names h w is = root_names w is
+  field_names h w is = go h.raw is
+    where
+      go : (raw : Bool) → IsWordOfField raw s.words w → All Below (names_of (cond raw (Num w) (value_of w)))
+      go true is = All-nil Below
+      go false is = root_names w is
 
   block_names : (b : Block) → HasFieldWords s.words b → All Below (flat_map names_of (object_of_block b).fields)
   block_names b has = All-flat_map Below names_of (map (field_value b.header) b.fields)
@@ -112,7 +116,11 @@ kept_root : (words others : List ℕ) → KeepsStarts words others → (w : ℕ)
 kept_root words others keeps w is = record { value = is.value; start = kept_reference words others keeps (value_of w) is.start }
 
 kept_field : (words others : List ℕ) → KeepsStarts words others → (h : Header) (w : ℕ) → IsFieldWord words h w → IsFieldWord others h w
-kept_field words others keeps h w is = kept_root words others keeps w is
+kept_field words others keeps h w is = go h.raw is
+  where
+    go : (raw : Bool) → IsWordOfField raw words w → IsWordOfField raw others w
+    go true small = small
+    go false is = kept_root words others keeps w is
 
 kept_block : (words others : List ℕ) → KeepsStarts words others → (b : Block) → HasFieldWords words b → HasFieldWords others b
 kept_block words others keeps b has = All-weaker (IsFieldWord words b.header) (IsFieldWord others b.header) (kept_field words others keeps b.header) b.fields has
@@ -146,7 +154,11 @@ start_last (entry ∷ bs) a b =
 
 -- an object all of whose field words are 0
 fresh_has : (words : List ℕ) (h : Header) → HasFieldWords words (fresh_block h)
-fresh_has words h = All-replicate (IsFieldWord words h) h.len 0 (record { value = refl; start = tt })
+fresh_has words h = All-replicate (IsFieldWord words h) h.len 0 (zero_word h.raw)
+  where
+    zero_word : (raw : Bool) → IsWordOfField raw words 0
+    zero_word true = omega arith
+    zero_word false = record { value = refl; start = tt }
 
 module _ (s : SpaceWords) (h : Header) (can : CanPlace s h) where
   abbrev after : List ℕ

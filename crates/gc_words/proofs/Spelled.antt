@@ -1,5 +1,5 @@
 -- The words of a space are spelled by its objects and their links.
-use Rattle.std.proofs.Common.{◌≡◌, ℕ, suc, zero, ◌+◌, ◌≤◌, cond, ◌==◌, List, [], ◌∷◌, ◌++◌, length, get_or, drop, Some, None, Ok, refl, sym, ◌∙◌, ap, subst, inl, inr, arith, length-append}
+use Rattle.std.proofs.Common.{◌≡◌, ℕ, suc, zero, ◌+◌, ◌≤◌, true, cond, ◌==◌, List, [], ◌∷◌, ◌++◌, length, get_or, drop, Some, None, Ok, refl, sym, ◌∙◌, ap, subst, inl, inr, arith, length-append}
 use Rattle.std.specs.Prelude.{IsOk, slice_index}
 use Rattle.std.proofs.lemmas.Bool.{eqb-true, cases_Bool}
 use Rattle.std.proofs.lemmas.List.{take_at, drop_at, drop-drop, drop_more, take-append-drop, get_or-append-add}
@@ -31,7 +31,7 @@ laid_out (v ∷ ws) zero at bs room w =
 
 -- ---- what is laid out is walked
 
-walk_block : (at link : ℕ) (b : Block) (rest : List ℕ) → IsBlock b → walk 0 at (block_words link b ++ rest) ≡ with_front (at, b) (walk 0 (at + (b.header.len + 2)) rest)
+walk_block : (at link : ℕ) (b : Block) (rest : List ℕ) → IsBlock b → walk true 0 at (block_words link b ++ rest) ≡ with_front (at, b) (walk true 0 (at + (b.header.len + 2)) rest)
 walk_block at link b rest is =
     let h : Header = b.header in
     let words : List ℕ = link ∷ (b.fields ++ rest) in
@@ -41,11 +41,11 @@ walk_block at link b rest is =
     let one : h.len + 1 ≡ suc h.len = omega arith in
     let behind : drop (h.len + 1) words ≡ rest = ap (λ n. drop n words) one ∙ drop_at b.fields rest h.len count in
     let place : suc at + (h.len + 1) ≡ at + (h.len + 2) = omega arith in
-    object_result at (header_word h) words h (read_back h is.header) room
-    ∙ (λ i. with_front (at, record { header = h; fields = fields i }) (passed (h.len + 1) (suc at) words room i))
-    ∙ (λ i. with_front (at, b) (walk 0 (place i) (behind i)))
+    object_result true at (header_word h) words h (read_back h is.header) room
+    ∙ (λ i. with_front (at, record { header = h; fields = fields i }) (passed true (h.len + 1) (suc at) words room i))
+    ∙ (λ i. with_front (at, b) (walk true 0 (place i) (behind i)))
 
-pub walk_spelled : (entries : List (ℕ × Block)) (links : ℕ → ℕ) (at : ℕ) → LaidOut at entries → walk 0 at (spelled_from links entries) ≡ Ok entries
+pub walk_spelled : (entries : List (ℕ × Block)) (links : ℕ → ℕ) (at : ℕ) → LaidOut at entries → walk true 0 at (spelled_from links entries) ≡ Ok entries
 walk_spelled [] links at laid = refl
 walk_spelled (entry ∷ rest) links at laid =
     walk_block at (links entry.0) entry.1 (spelled_from links rest) laid.1

@@ -57,12 +57,12 @@ stands (v ∷ ws) zero at bs a b w e =
       | inr other ↦ later v ws at a b (stands ws (f.0.len + 1) (suc at) f.3 a b f.4 (sym (ap (λ t. cond t (Some here) (block_in f.3 a)) other) ∙ found))
     ]
 
+pub ok_is : (r : Result (List (ℕ × Block)) ℕ) → IsOk r → r ≡ Ok (ok_or_nil r)
+ok_is (Ok xs) e = refl
+ok_is (Err at) e = absurd (let no : false ≡ true = e in cc)
+
 pub walked_blocks : (words : List ℕ) → IsOk (walk_words words) → walk_words words ≡ Ok (blocks words)
-walked_blocks words e = ok_of (walk_words words) e
-  where
-    ok_of : (r : Result (List (ℕ × Block)) ℕ) → IsOk r → r ≡ Ok (ok_or_nil r)
-    ok_of (Ok xs) e = refl
-    ok_of (Err at) e = absurd (let no : false ≡ true = e in cc)
+walked_blocks words e = ok_is (walk_words words) e
 
 -- ---- in a whole space
 

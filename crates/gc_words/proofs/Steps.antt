@@ -4,21 +4,22 @@ use Rattle.std.specs.Prelude.{nat_le, slice_index, slice_set, IsOk, IsSome}
 use Rattle.std.specs.List.{AllByRecursion}
 use Rattle.std.proofs.lemmas.Bool.{eq-eqb, ne_eqb, leb-true, leb-false, cases_eq, and_from}
 use Rattle.std.proofs.lemmas.List.{drop_more, drop-drop, drop-set-lt, drop-set-add, drop-take, drop_all, take-append-drop, take-set-le, take-take}
-use Rattle.gc_words.specs.Word.{read_header, header_word}
-use Rattle.gc_words.specs.Image.{Block, walk, with_front, walk_words, ok_or_nil, block_in}
+use Rattle.gc_words.specs.Word.{header_in, header_word}
+use Rattle.gc_words.specs.Image.{Block, walk, with_front, walk_all, ok_or_nil, block_in}
 use Rattle.gc_words.specs.Spelling.{block_words, spelled_from, no_links}
 use Rattle.gc_words.specs.Fault.{fault_of_walk, words_fault}
-use Rattle.gc_words.specs.Walking.{next_after, next_of, walk_from, block_from, StepsTo}
+use Rattle.gc_words.specs.Walking.{next_after, next_in, next_of, walk_on, walk_from, block_from, StepsIn, StepsTo}
 use Rattle.gc_words.specs.declared.header.Header.{Header}
 use Rattle.gc_words.proofs.Writes.{some_of}
 use Rattle.gc_words.proofs.Walks.{fields_in, starts_above, object_result, no_object, no_room, written_back}
+use Rattle.gc_words.proofs.Starts.{ok_is}
 
 -- ---- words of an object are passed over
 
-pub passed : (k at : ℕ) (ws : List ℕ) → k ≤ length ws → walk k at ws ≡ walk 0 (at + k) (drop k ws)
-passed zero at ws h = ap (λ n. walk 0 n ws) (omega arith)
-passed (suc k) at [] h = absurd (omega arith)
-passed (suc k) at (w ∷ ws) h = passed k (suc at) ws (omega arith) ∙ ap (λ n. walk 0 n (drop k ws)) (omega arith)
+pub passed : (raws : Bool) (k at : ℕ) (ws : List ℕ) → k ≤ length ws → walk raws k at ws ≡ walk raws 0 (at + k) (drop k ws)
+passed raws zero at ws h = ap (λ n. walk raws 0 n ws) (omega arith)
+passed raws (suc k) at [] h = absurd (omega arith)
+passed raws (suc k) at (w ∷ ws) h = passed raws k (suc at) ws (omega arith) ∙ ap (λ n. walk raws 0 n (drop k ws)) (omega arith)
 
 -- ---- one object
 
@@ -29,14 +30,14 @@ opened words at h = drop_more words at 0 h
 rest_length : (words : List ℕ) (at : ℕ) → at < length words → length (drop (at + 1) words) ≡ length words - (at + 1)
 rest_length words at h = length-drop (at + 1) words
 
-pub step : (words : List ℕ) (at next : ℕ) → at < length words → next_of words at ≡ Some next → StepsTo words at next
-step words at next inside e = from (read_header (slice_index words at)) refl e
+pub step : (raws : Bool) (words : List ℕ) (at next : ℕ) → at < length words → next_in raws words at ≡ Some next → StepsIn raws words at next
+step raws words at next inside e = from (header_in raws (slice_index words at)) refl e
   where
     fits : (h : Header) (b : Bool) → nat_le (h.len + 2) (length words - at) ≡ b → cond b (Some (at + (h.len + 2))) None ≡ Some next → (h.len + 2 ≤ length words - at) × (at + (h.len + 2) ≡ next)
     fits h true t e = (leb-true _ _ t, (let same : at + (h.len + 2) ≡ next = cc in same))
     fits h false t e = absurd (let no : None ≡ Some next = e in cc)
 
-    from : (o : Option Header) → read_header (slice_index words at) ≡ o → next_after at o (length words - at) ≡ Some next → StepsTo words at next
+    from : (o : Option Header) → header_in raws (slice_index words at) ≡ o → next_after at o (length words - at) ≡ Some next → StepsIn raws words at next
     from None is e = absurd (let no : None ≡ Some next = e in cc)
     from (Some h) is e =
         let f : (h.len + 2 ≤ length words - at) × (at + (h.len + 2) ≡ next) = fits h (nat_le (h.len + 2) (length words - at)) refl e in
@@ -53,40 +54,40 @@ step words at next inside e = from (read_header (slice_index words at)) refl e
           word = is;
           place = n;
           within = (let r : h.len + 2 ≤ length words - at = f.0 in omega arith);
-          walk_is = ap (walk 0 at) (opened words at inside)
-              ∙ object_result at (slice_index words at) rest h is room
-              ∙ ap (with_front (at, record { header = h; fields = fields_in h rest })) (passed (h.len + 1) (suc at) rest room
-              ∙ ap (λ xs. walk 0 (suc at + (h.len + 1)) xs) (drop-drop (h.len + 1) (at + 1) words ∙ ap (λ n. drop n words) past)
-              ∙ ap (λ n. walk 0 n (drop next words)) at_next)
-              ∙ ap (λ fs. with_front (at, record { header = h; fields = fs }) (walk_from words next)) fields;
+          walk_is = ap (walk raws 0 at) (opened words at inside)
+              ∙ object_result raws at (slice_index words at) rest h is room
+              ∙ ap (with_front (at, record { header = h; fields = fields_in h rest })) (passed raws (h.len + 1) (suc at) rest room
+              ∙ ap (λ xs. walk raws 0 (suc at + (h.len + 1)) xs) (drop-drop (h.len + 1) (at + 1) words ∙ ap (λ n. drop n words) past)
+              ∙ ap (λ n. walk raws 0 n (drop next words)) at_next)
+              ∙ ap (λ fs. with_front (at, record { header = h; fields = fs }) (walk_on raws words next)) fields;
         }
 
-pub no_step : (words : List ℕ) (at : ℕ) → at < length words → next_of words at ≡ None → walk_from words at ≡ Err at
-no_step words at inside e = from (read_header (slice_index words at)) refl e
+pub no_step : (raws : Bool) (words : List ℕ) (at : ℕ) → at < length words → next_in raws words at ≡ None → walk_on raws words at ≡ Err at
+no_step raws words at inside e = from (header_in raws (slice_index words at)) refl e
   where
     unfit : (h : Header) (b : Bool) → nat_le (h.len + 2) (length words - at) ≡ b → cond b (Some (at + (h.len + 2))) None ≡ None → length words - at < h.len + 2
     unfit h true t e = absurd (let no : Some (at + (h.len + 2)) ≡ None = e in cc)
     unfit h false t e = leb-false _ _ t
 
-    from : (o : Option Header) → read_header (slice_index words at) ≡ o → next_after at o (length words - at) ≡ None → walk_from words at ≡ Err at
-    from None is e = ap (walk 0 at) (opened words at inside) ∙ no_object at (slice_index words at) (drop (at + 1) words) is
+    from : (o : Option Header) → header_in raws (slice_index words at) ≡ o → next_after at o (length words - at) ≡ None → walk_on raws words at ≡ Err at
+    from None is e = ap (walk raws 0 at) (opened words at inside) ∙ no_object raws at (slice_index words at) (drop (at + 1) words) is
     from (Some h) is e =
         let less : length words - at < h.len + 2 = unfit h (nat_le (h.len + 2) (length words - at)) refl e in
         let count : length (drop (at + 1) words) ≡ length words - (at + 1) = rest_length words at inside in
-        ap (walk 0 at) (opened words at inside) ∙ no_room at (slice_index words at) (drop (at + 1) words) h is (omega arith)
+        ap (walk raws 0 at) (opened words at inside) ∙ no_room raws at (slice_index words at) (drop (at + 1) words) h is (omega arith)
 
 -- a walk that comes to its end goes on from each object
 pub has_next : (words : List ℕ) (at : ℕ) → at < length words → IsOk (walk_from words at) → IsSome (next_of words at)
 has_next words at inside ok = from (next_of words at) refl
   where
     from : (o : Option ℕ) → next_of words at ≡ o → is_some o ≡ true
-    from None e = absurd (let no : false ≡ true = sym (ap is_ok (no_step words at inside e)) ∙ ok in cc)
+    from None e = absurd (let no : false ≡ true = sym (ap is_ok (no_step true words at inside e)) ∙ ok in cc)
     from (Some next) e = refl
 
 -- ---- what is behind the last object
 
 pub at_end : (words : List ℕ) (at : ℕ) → length words ≤ at → walk_from words at ≡ Ok []
-at_end words at h = ap (walk 0 at) (drop_all at words h)
+at_end words at h = ap (walk true 0 at) (drop_all at words h)
 
 -- ---- a walk's fault
 
@@ -94,14 +95,14 @@ pub fault_behind : (x : ℕ × Block) (r : Result (List (ℕ × Block)) ℕ) →
 fault_behind x (Ok xs) = refl
 fault_behind x (Err at) = refl
 
-pub same_fault : (words : List ℕ) (at next : ℕ) → at < length words → next_of words at ≡ Some next → fault_of_walk (walk_from words at) ≡ fault_of_walk (walk_from words next)
-same_fault words at next inside e =
-    let s : StepsTo words at next = step words at next inside e in
-    ap fault_of_walk s.walk_is ∙ fault_behind _ (walk_from words next)
+pub same_fault : (raws : Bool) (words : List ℕ) (at next : ℕ) → at < length words → next_in raws words at ≡ Some next → fault_of_walk (walk_on raws words at) ≡ fault_of_walk (walk_on raws words next)
+same_fault raws words at next inside e =
+    let s : StepsIn raws words at next = step raws words at next inside e in
+    ap fault_of_walk s.walk_is ∙ fault_behind _ (walk_on raws words next)
 
 -- words as many as they should be, the first of them 0
-pub framed : (end : ℕ) (words : List ℕ) → length words ≡ end → slice_index words 0 ≡ 0 → words_fault end words ≡ fault_of_walk (walk_from words 1)
-framed end words count reserved = ap (λ b. cond b (fault_of_walk (walk_words words)) (Some 0)) (and_from _ _ (eq-eqb _ _ count) (eq-eqb _ _ reserved))
+pub framed : (raws : Bool) (end : ℕ) (words : List ℕ) → length words ≡ end → slice_index words 0 ≡ 0 → words_fault raws end words ≡ fault_of_walk (walk_on raws words 1)
+framed raws end words count reserved = ap (λ b. cond b (fault_of_walk (walk_all raws words)) (Some 0)) (and_from _ _ (eq-eqb _ _ count) (eq-eqb _ _ reserved))
 
 -- ---- the objects behind one
 
@@ -116,7 +117,7 @@ pub record Behind (words : List ℕ) (at next : ℕ) : Type 0 where
 
 pub behind : (words : List ℕ) (at next : ℕ) → at < length words → IsOk (walk_from words at) → next_of words at ≡ Some next → Behind words at next
 behind words at next inside ok e =
-    let s : StepsTo words at next = step words at next inside e in
+    let s : StepsTo words at next = step true words at next inside e in
     let b : IsOk (walk_from words next) × (ok_or_nil (with_front (at, block_from words at s.header) (walk_from words next)) ≡ (at, block_from words at s.header) ∷ ok_or_nil (walk_from words next))
     = ok_behind _ (walk_from words next) (subst IsOk s.walk_is ok) in
     record { step = s; walked = b.0; objects = ap ok_or_nil s.walk_is ∙ b.1 }
@@ -145,10 +146,6 @@ none_above : (bs : List (ℕ × Block)) (low place : ℕ) → place < low → Al
 none_above [] low place h all = refl
 none_above (b ∷ bs) low place h all =
     ap (λ t. cond t (Some b.1) (block_in bs place)) (ne_eqb b.0 place (λ same. let l : low ≤ b.0 = all.0 in omega arith)) ∙ none_above bs low place h all.1
-
-ok_is : (r : Result (List (ℕ × Block)) ℕ) → IsOk r → r ≡ Ok (ok_or_nil r)
-ok_is (Ok xs) e = refl
-ok_is (Err at) e = absurd (let no : false ≡ true = e in cc)
 
 pub no_start_below : (words : List ℕ) (at place : ℕ) → place < at → IsOk (walk_from words at) → has_start_from words at place ≡ false
 no_start_below words at place below ok =
@@ -180,7 +177,7 @@ cleared_step words at next inside ok e =
     let place : next ≡ at + (h.len + 2) = b.step.place in
     let within : next ≤ length words = b.step.within in
     let kept : drop next after ≡ drop next words = drop-set-lt next words (at + 1) 0 (omega arith) in
-    let same : walk_from after next ≡ walk_from words next = ap (walk 0 next) kept in
+    let same : walk_from after next ≡ walk_from words next = ap (walk true 0 next) kept in
     let word : header_word h ≡ slice_index words at = (written_back (slice_index words at) h b.step.word).1 in
     let two : at + 1 + 1 ≡ at + 2 = omega arith in
     let rest : List ℕ = drop (at + 2) words in

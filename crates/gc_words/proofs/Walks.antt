@@ -1,54 +1,80 @@
 -- What writes do to the walk over a space.
 use Rattle.std.proofs.Common.{◌≡◌, ℕ, suc, zero, ◌+◌, ◌-◌, ◌*◌, ◌/◌, ◌%◌, ◌<◌, ◌≤◌, Bool, true, false, cond, ◌&&◌, ◌==◌, List, [], ◌∷◌, ◌++◌, map, length, take, drop, Option, Some, None, Result, Ok, Err, refl, sym, ◌∙◌, ap, subst, inl, inr, arith, length-append, length-set}
-use Rattle.std.specs.Prelude.{nat_lt, nat_le, slice_set, ⊤}
+use Rattle.std.specs.Prelude.{IsOk, nat_lt, nat_le, slice_set, ⊤}
 use Rattle.std.specs.List.{AllByRecursion}
-use Rattle.std.proofs.lemmas.Bool.{eqb-true, leb-true, le-leb, lt-leb, lt-ltb, and_from, and_parts, ltb-true, cases_Bool}
+use Rattle.std.proofs.lemmas.Bool.{eqb-true, leb-true, le-leb, lt-leb, lt-ltb, le-ltb, and_from, and_parts, ltb-true, cases_Bool}
 use Rattle.std.proofs.lemmas.List.{take-append-le, drop-append-le, take_all, map-set}
 use Rattle.gc_graph.specs.Graph.{set_field, with_field}
-use Rattle.gc_words.specs.Word.{IsHeader, header_word, read_header, field_value}
-use Rattle.gc_words.specs.Image.{Block, walk, object_at, with_front, block_in, set_block, object_of_block, object_entry}
+use Rattle.gc_words.specs.Word.{IsHeader, least_header, is_header_word, header_by, header_word, read_header, unless_raw, header_in, field_value}
+use Rattle.gc_words.specs.Image.{Block, walk, walk_all, walk_words, object_at, with_front, block_in, set_block, object_of_block, object_entry}
 use Rattle.gc_words.specs.declared.header.Header.{Header}
 
 -- ---- headers are read back
 
-quotient : (kind len : ℕ) → kind < 256 → len < 65536 → (16777216 + 65536 * kind + len - 16777216) / 65536 ≡ kind
-quotient kind len k l = omega arith
+quotient : (raw : Bool) (kind len : ℕ) → kind < 256 → len < 65536 → (least_header raw + 65536 * kind + len - least_header raw) / 65536 ≡ kind
+quotient true kind len k l = omega arith
+quotient false kind len k l = omega arith
 
-remainder : (kind len : ℕ) → kind < 256 → len < 65536 → (16777216 + 65536 * kind + len) % 65536 ≡ len
-remainder kind len k l = omega arith
+remainder : (raw : Bool) (kind len : ℕ) → kind < 256 → len < 65536 → (least_header raw + 65536 * kind + len) % 65536 ≡ len
+remainder true kind len k l = omega arith
+remainder false kind len k l = omega arith
+
+by_back : (raw : Bool) (kind len : ℕ) → kind < 256 → len < 65536 → header_by raw (least_header raw + 65536 * kind + len) ≡ record { raw = raw; kind = kind; len = len }
+by_back raw kind len k l = λ i. record { raw = raw; kind = quotient raw kind len k l i; len = remainder raw kind len k l i }
+
+is_word : (raw : Bool) (kind len : ℕ) → kind < 256 → len < 65536 → is_header_word raw (least_header raw + 65536 * kind + len) ≡ true
+is_word true kind len k l = and_from _ _ (le-leb 50331648 (50331648 + 65536 * kind + len) (omega arith)) (lt-ltb (50331648 + 65536 * kind + len) 67108864 (omega arith))
+is_word false kind len k l = and_from _ _ (le-leb 16777216 (16777216 + 65536 * kind + len) (omega arith)) (lt-ltb (16777216 + 65536 * kind + len) 33554432 (omega arith))
+
+no_plain_word : (w : ℕ) → 33554432 ≤ w → is_header_word false w ≡ false
+no_plain_word w high = go (nat_le 16777216 w) (nat_lt w 33554432) (le-ltb _ _ high)
+  where
+    go : (a b : Bool) → b ≡ false → (a && b) ≡ false
+    go true b e = e
+    go false b e = refl
+
+read_by : (raw : Bool) (kind len : ℕ) → kind < 256 → len < 65536 → read_header (least_header raw + 65536 * kind + len) ≡ Some (record { raw = raw; kind = kind; len = len })
+read_by false kind len k l =
+    let w : ℕ = 16777216 + 65536 * kind + len in
+    ap (λ b. cond b (Some (header_by false w)) (cond (is_header_word true w) (Some (header_by true w)) None)) (is_word false kind len k l)
+    ∙ ap (λ h. Some h) (by_back false kind len k l)
+read_by true kind len k l =
+    let w : ℕ = 50331648 + 65536 * kind + len in
+    ap (λ b. cond b (Some (header_by false w)) (cond (is_header_word true w) (Some (header_by true w)) None)) (no_plain_word w (omega arith))
+    ∙ ap (λ b. cond b (Some (header_by true w)) None) (is_word true kind len k l)
+    ∙ ap (λ h. Some h) (by_back true kind len k l)
 
 pub read_back : (h : Header) → IsHeader h → read_header (header_word h) ≡ Some h
-read_back h is =
-    let k : h.kind < 256 = is.kind in
-    let l : h.len < 65536 = is.len in
-    let low : nat_le 16777216 (header_word h) ≡ true = le-leb _ _ (omega arith) in
-    let high : nat_lt (header_word h) 33554432 ≡ true = lt-ltb _ _ (omega arith) in
-    let q : (header_word h - 16777216) / 65536 ≡ h.kind = quotient h.kind h.len k l in
-    let r : header_word h % 65536 ≡ h.len = remainder h.kind h.len k l in
-    ap (λ b. cond b (Some (record { kind = (header_word h - 16777216) / 65536; len = header_word h % 65536 })) None) (and_from _ _ low high)
-    ∙ (λ i. Some (record { kind = q i; len = r i }))
+read_back h is = read_by h.raw h.kind h.len is.kind is.len
 
 -- a word that is read as a header is that header's word
 pub written_back : (w : ℕ) (h : Header) → read_header w ≡ Some h → IsHeader h × (header_word h ≡ w)
-written_back w h e = from (nat_le 16777216 w && nat_lt w 33554432) refl e
+written_back w h e = from (is_header_word false w) refl (is_header_word true w) refl e
   where
-    read : Header
-    read = record { kind = (w - 16777216) / 65536; len = w % 65536 }
-
-    known : 16777216 ≤ w → w < 33554432 → IsHeader read × (header_word read ≡ w)
-    known low high = (record { kind = omega arith; len = omega arith }, omega arith)
-
-    from : (b : Bool) → (nat_le 16777216 w && nat_lt w 33554432) ≡ b → cond b (Some read) None ≡ Some h → IsHeader h × (header_word h ≡ w)
-    from true t e =
+    known : (raw : Bool) → is_header_word raw w ≡ true → IsHeader (header_by raw w) × (header_word (header_by raw w) ≡ w)
+    known true t =
+        let both : (nat_le 50331648 w ≡ true) × (nat_lt w 67108864 ≡ true) = and_parts _ _ t in
+        let low : 50331648 ≤ w = leb-true _ _ both.0 in
+        let high : w < 67108864 = ltb-true _ _ both.1 in
+        (record { kind = omega arith; len = omega arith }, omega arith)
+    known false t =
         let both : (nat_le 16777216 w ≡ true) × (nat_lt w 33554432 ≡ true) = and_parts _ _ t in
-        let same : read ≡ h = cc in
-        subst (λ (h : Header). IsHeader h × (header_word h ≡ w)) same (known (leb-true _ _ both.0) (ltb-true _ _ both.1))
-    from false t e = absurd (let no : None ≡ Some h = e in cc)
+        let low : 16777216 ≤ w = leb-true _ _ both.0 in
+        let high : w < 33554432 = ltb-true _ _ both.1 in
+        (record { kind = omega arith; len = omega arith }, omega arith)
+
+    is_it : (raw : Bool) → is_header_word raw w ≡ true → header_by raw w ≡ h → IsHeader h × (header_word h ≡ w)
+    is_it raw t same = subst (λ (h : Header). IsHeader h × (header_word h ≡ w)) same (known raw t)
+
+    from : (b : Bool) → is_header_word false w ≡ b → (c : Bool) → is_header_word true w ≡ c → cond b (Some (header_by false w)) (cond c (Some (header_by true w)) None) ≡ Some h → IsHeader h × (header_word h ≡ w)
+    from true t c u e = is_it false t (let same : header_by false w ≡ h = cc in same)
+    from false t true u e = is_it true u (let same : header_by true w ≡ h = cc in same)
+    from false t false u e = absurd (let no : None ≡ Some h = e in cc)
 
 -- ---- the walk, one object at a time
 
 abbrev pub Walked : ℕ → ℕ → List ℕ → List (ℕ × Block) → Type 0
-Walked inside at ws bs = walk inside at ws ≡ Ok bs
+Walked inside at ws bs = walk true inside at ws ≡ Ok bs
 
 abbrev pub fields_in : Header → List ℕ → List ℕ
 fields_in h words = take h.len (drop 1 words)
@@ -63,37 +89,73 @@ guard_ok false x at bs e = cc
 
 -- where the walk meets a header it is one, there is room, and the rest is walked
 abbrev pub First : ℕ → List ℕ → List (ℕ × Block) → Option Header → Type 0
-First at words bs h? = (h : Header) × (h? ≡ Some h) × (h.len + 1 ≤ length words) × (rest : List (ℕ × Block)) × (walk (h.len + 1) (suc at) words ≡ Ok rest) × (bs ≡ (at, record { header = h; fields = fields_in h words }) ∷ rest)
+First at words bs h? = (h : Header) × (h? ≡ Some h) × (h.len + 1 ≤ length words) × (rest : List (ℕ × Block)) × (walk true (h.len + 1) (suc at) words ≡ Ok rest) × (bs ≡ (at, record { header = h; fields = fields_in h words }) ∷ rest)
 
-first_of_object : (at : ℕ) (words : List ℕ) (bs : List (ℕ × Block)) (h : Option Header) → object_at at h words (λ inside. walk inside (suc at) words) ≡ Ok bs → First at words bs h
+first_of_object : (at : ℕ) (words : List ℕ) (bs : List (ℕ × Block)) (h : Option Header) → object_at at h words (λ inside. walk true inside (suc at) words) ≡ Ok bs → First at words bs h
 first_of_object at words bs None e = absurd (let no : Err at ≡ Ok bs = e in cc)
 first_of_object at words bs (Some h) e =
-    let room : (nat_le (h.len + 1) (length words) ≡ true) × (with_front (at, record { header = h; fields = fields_in h words }) (walk (h.len + 1) (suc at) words) ≡ Ok bs) = guard_ok _ _ at bs e in
-    let front : (rest : List (ℕ × Block)) × (walk (h.len + 1) (suc at) words ≡ Ok rest) × (bs ≡ (at, record { header = h; fields = fields_in h words }) ∷ rest) = front_ok _ _ bs room.1 in
+    let room : (nat_le (h.len + 1) (length words) ≡ true) × (with_front (at, record { header = h; fields = fields_in h words }) (walk true (h.len + 1) (suc at) words) ≡ Ok bs) = guard_ok _ _ at bs e in
+    let front : (rest : List (ℕ × Block)) × (walk true (h.len + 1) (suc at) words ≡ Ok rest) × (bs ≡ (at, record { header = h; fields = fields_in h words }) ∷ rest) = front_ok _ _ bs room.1 in
     (h, refl, leb-true _ _ room.0, front.0, front.1, front.2)
 
 pub first : (at w : ℕ) (words : List ℕ) (bs : List (ℕ × Block)) → Walked 0 at (w ∷ words) bs → First at words bs (read_header w)
 first at w words bs e = first_of_object at words bs (read_header w) e
 
 -- the walk of one object and of what is behind it
-pub object_result : (at w : ℕ) (words : List ℕ) (h : Header) → read_header w ≡ Some h → h.len + 1 ≤ length words
-    → walk 0 at (w ∷ words) ≡ with_front (at, record { header = h; fields = fields_in h words }) (walk (h.len + 1) (suc at) words)
-object_result at w words h is room =
-    ap (λ h. object_at at h words (λ inside. walk inside (suc at) words)) is
-    ∙ ap (λ b. cond b (with_front (at, record { header = h; fields = fields_in h words }) (walk (h.len + 1) (suc at) words)) (Err at)) (le-leb _ _ room)
+pub object_result : (raws : Bool) (at w : ℕ) (words : List ℕ) (h : Header) → header_in raws w ≡ Some h → h.len + 1 ≤ length words
+    → walk raws 0 at (w ∷ words) ≡ with_front (at, record { header = h; fields = fields_in h words }) (walk raws (h.len + 1) (suc at) words)
+object_result raws at w words h is room =
+    ap (λ h. object_at at h words (λ inside. walk raws inside (suc at) words)) is
+    ∙ ap (λ b. cond b (with_front (at, record { header = h; fields = fields_in h words }) (walk raws (h.len + 1) (suc at) words)) (Err at)) (le-leb _ _ room)
 
-pub object_walked : (at w : ℕ) (words : List ℕ) (h : Header) (rest : List (ℕ × Block)) → read_header w ≡ Some h → h.len + 1 ≤ length words → walk (h.len + 1) (suc at) words ≡ Ok rest
+pub object_walked : (at w : ℕ) (words : List ℕ) (h : Header) (rest : List (ℕ × Block)) → read_header w ≡ Some h → h.len + 1 ≤ length words → walk true (h.len + 1) (suc at) words ≡ Ok rest
     → Walked 0 at (w ∷ words) ((at, record { header = h; fields = fields_in h words }) ∷ rest)
-object_walked at w words h rest is room e = object_result at w words h is room ∙ ap (with_front (at, record { header = h; fields = fields_in h words })) e
+object_walked at w words h rest is room e = object_result true at w words h is room ∙ ap (with_front (at, record { header = h; fields = fields_in h words })) e
 
 -- where no object is, or it does not fit
-pub no_object : (at w : ℕ) (words : List ℕ) → read_header w ≡ None → walk 0 at (w ∷ words) ≡ Err at
-no_object at w words is = ap (λ h. object_at at h words (λ inside. walk inside (suc at) words)) is
+pub no_object : (raws : Bool) (at w : ℕ) (words : List ℕ) → header_in raws w ≡ None → walk raws 0 at (w ∷ words) ≡ Err at
+no_object raws at w words is = ap (λ h. object_at at h words (λ inside. walk raws inside (suc at) words)) is
 
-pub no_room : (at w : ℕ) (words : List ℕ) (h : Header) → read_header w ≡ Some h → length words < h.len + 1 → walk 0 at (w ∷ words) ≡ Err at
-no_room at w words h is less =
-    ap (λ h. object_at at h words (λ inside. walk inside (suc at) words)) is
-    ∙ ap (λ b. cond b (with_front (at, record { header = h; fields = fields_in h words }) (walk (h.len + 1) (suc at) words)) (Err at)) (lt-leb _ _ less)
+pub no_room : (raws : Bool) (at w : ℕ) (words : List ℕ) (h : Header) → header_in raws w ≡ Some h → length words < h.len + 1 → walk raws 0 at (w ∷ words) ≡ Err at
+no_room raws at w words h is less =
+    ap (λ h. object_at at h words (λ inside. walk raws inside (suc at) words)) is
+    ∙ ap (λ b. cond b (with_front (at, record { header = h; fields = fields_in h words }) (walk raws (h.len + 1) (suc at) words)) (Err at)) (lt-leb _ _ less)
+
+-- ---- where headers of raw objects do not count
+
+not_raw : (o : Option Header) (h : Header) → unless_raw o ≡ Some h → o ≡ Some h
+not_raw None h e = absurd (let no : None ≡ Some h = e in cc)
+not_raw (Some g) h e = go g.raw e
+  where
+    go : (b : Bool) → cond b None (Some g) ≡ Some h → Some g ≡ Some h
+    go true e = absurd (let no : None ≡ Some h = e in cc)
+    go false e = e
+
+pub header_counted : (raws : Bool) (w : ℕ) (h : Header) → header_in raws w ≡ Some h → read_header w ≡ Some h
+header_counted true w h e = e
+header_counted false w h e = not_raw (read_header w) h e
+
+-- a walk that comes to its end without them is the walk with them
+pub walk_counted : (raws : Bool) (ws : List ℕ) (inside at : ℕ) (bs : List (ℕ × Block)) → walk raws inside at ws ≡ Ok bs → Walked inside at ws bs
+walk_counted raws [] inside at bs e = e
+walk_counted raws (w ∷ ws) (suc inside) at bs e = walk_counted raws ws inside (suc at) bs e
+walk_counted raws (w ∷ ws) zero at bs e = go (header_in raws w) refl e (λ inside rest walked. walk_counted raws ws inside (suc at) rest walked)
+  where
+    go : (o : Option Header) → header_in raws w ≡ o → object_at at o ws (λ inside. walk raws inside (suc at) ws) ≡ Ok bs
+        → ((inside : ℕ) (rest : List (ℕ × Block)) → walk raws inside (suc at) ws ≡ Ok rest → Walked inside (suc at) ws rest) → Walked 0 at (w ∷ ws) bs
+    go None is e behind = absurd (let no : Err at ≡ Ok bs = e in cc)
+    go (Some h) is e behind =
+        let room : (nat_le (h.len + 1) (length ws) ≡ true) × (with_front (at, record { header = h; fields = fields_in h ws }) (walk raws (h.len + 1) (suc at) ws) ≡ Ok bs) = guard_ok _ _ at bs e in
+        let front : (rest : List (ℕ × Block)) × (walk raws (h.len + 1) (suc at) ws ≡ Ok rest) × (bs ≡ (at, record { header = h; fields = fields_in h ws }) ∷ rest) = front_ok _ _ bs room.1 in
+        object_walked at w ws h front.0 (header_counted raws w h is) (leb-true _ _ room.0) (behind (h.len + 1) front.0 front.1)
+        ∙ ap (λ bs. Ok bs) (sym front.2)
+
+pub same_walk : (raws : Bool) (words : List ℕ) → IsOk (walk_all raws words) → walk_all raws words ≡ walk_words words
+same_walk raws words ok = go (walk_all raws words) refl ok
+  where
+    go : (r : Result (List (ℕ × Block)) ℕ) → walk_all raws words ≡ r → IsOk r → walk_all raws words ≡ walk_words words
+    go (Ok bs) is e = is ∙ sym (walk_counted raws (drop 1 words) 0 1 bs is)
+    go (Err at) is e = absurd (let no : false ≡ true = e in cc)
 
 -- ---- starts are where they can be
 
@@ -120,7 +182,7 @@ alone at h link fields is n =
     object_walked at (header_word h) (link ∷ fields) h [] (read_back h is) (omega arith) (past (h.len + 1) (suc at) (link ∷ fields) (omega arith))
     ∙ ap (λ fs. Ok ((at, record { header = h; fields = fs }) ∷ [])) (take_all h.len fields (omega arith))
   where
-    past : (k at : ℕ) (xs : List ℕ) → length xs ≡ k → walk k at xs ≡ Ok []
+    past : (k at : ℕ) (xs : List ℕ) → length xs ≡ k → walk true k at xs ≡ Ok []
     past zero at [] e = refl
     past (suc k) at [] e = refl
     past zero at (x ∷ xs) e = absurd (omega arith)
@@ -157,7 +219,7 @@ walk_placed (w ∷ ws) zero at bs h link fields is n room e =
 -- ---- words inside an object
 
 -- a word that belongs to an earlier object is passed over
-inside_set : (ws : List ℕ) (inside at p v : ℕ) → p < inside → walk inside at (slice_set ws p v) ≡ walk inside at ws
+inside_set : (ws : List ℕ) (inside at p v : ℕ) → p < inside → walk true inside at (slice_set ws p v) ≡ walk true inside at ws
 inside_set [] inside at p v h = refl
 inside_set (w ∷ ws) zero at p v h = absurd (omega arith)
 inside_set (w ∷ ws) (suc inside) at zero v h = refl
@@ -183,16 +245,16 @@ set_past_take (suc n) [] i v h = refl
 set_past_take (suc n) (w ∷ ws) zero v h = absurd (omega arith)
 set_past_take (suc n) (w ∷ ws) (suc i) v h = ap (λ xs. w ∷ xs) (set_past_take n ws i v (omega arith))
 
-abbrev pub HasField : Option Block → ℕ → Type 0
-HasField None i = ⊥
-HasField (Some b) i = i < b.header.len
+abbrev pub BlockHasField : Option Block → ℕ → Type 0
+BlockHasField None i = ⊥
+BlockHasField (Some b) i = i < b.header.len
 
-first_key : (bs : List (ℕ × Block)) (a low : ℕ) (i : ℕ) → AllByRecursion (λ b. low ≤ b.0) bs → HasField (block_in bs a) i → low ≤ a
+first_key : (bs : List (ℕ × Block)) (a low : ℕ) (i : ℕ) → AllByRecursion (λ b. low ≤ b.0) bs → BlockHasField (block_in bs a) i → low ≤ a
 first_key [] a low i all h = absurd h
 first_key (b ∷ bs) a low i all h =
     elim (cases_Bool (b.0 == a)) [
       | inl here ↦ (let same : b.0 ≡ a = eqb-true _ _ here in let l : low ≤ b.0 = all.0 in omega arith)
-      | inr other ↦ first_key bs a low i all.1 (subst (λ t. HasField (cond t (Some b.1) (block_in bs a)) i) other h)
+      | inr other ↦ first_key bs a low i all.1 (subst (λ t. BlockHasField (cond t (Some b.1) (block_in bs a)) i) other h)
     ]
 
 abbrev pred_of : ℕ → ℕ
@@ -208,7 +270,7 @@ fields_past h ws zero v l = absurd (omega arith)
 fields_past h ws (suc p) v l = ap (take h.len) (drop_one_set ws p v) ∙ set_past_take h.len (drop 1 ws) p v (omega arith)
 
 -- a field word: p counts from the first word here, and field i of the object at a stands two words behind a
-pub walk_field : (ws : List ℕ) (inside at : ℕ) (bs : List (ℕ × Block)) (a i p v : ℕ) → at + p ≡ a + 2 + i → HasField (block_in bs a) i → Walked inside at ws bs → Walked inside at (slice_set ws p v) (set_block bs a i v)
+pub walk_field : (ws : List ℕ) (inside at : ℕ) (bs : List (ℕ × Block)) (a i p v : ℕ) → at + p ≡ a + 2 + i → BlockHasField (block_in bs a) i → Walked inside at ws bs → Walked inside at (slice_set ws p v) (set_block bs a i v)
 walk_field [] inside at [] a i p v e h w = absurd h
 walk_field [] inside at (b ∷ bs) a i p v e h w = cc
 walk_field (x ∷ ws) (suc inside) at bs a i zero v e h w =
@@ -220,7 +282,7 @@ walk_field (x ∷ ws) zero at bs a i p v e h w =
     elim (cases_Bool (at == a)) [
       | inl here ↦ (let same : at ≡ a = eqb-true _ _ here in
           let two : p ≡ suc (suc i) = omega arith in
-          let small : i < f.0.len = subst (λ t. HasField (cond t (Some b) (block_in f.3 a)) i) here (subst (λ bs. HasField (block_in bs a) i) f.5 h) in
+          let small : i < f.0.len = subst (λ t. BlockHasField (cond t (Some b) (block_in f.3 a)) i) here (subst (λ bs. BlockHasField (block_in bs a) i) f.5 h) in
           let fields : fields_in f.0 (slice_set ws (suc i) v) ≡ slice_set (fields_in f.0 ws) i v = ap (take f.0.len) (drop_one_set ws i v) ∙ take_set_in f.0.len (drop 1 ws) i v in
           let sized : length (slice_set ws (suc i) v) ≡ length ws = length-set ws (suc i) v in
           subst (λ p. Walked 0 at (slice_set (x ∷ ws) p v) (set_block bs a i v)) (sym two)
@@ -228,7 +290,7 @@ walk_field (x ∷ ws) zero at bs a i p v e h w =
           ∙ (λ j. Ok ((at, record { header = f.0; fields = fields j }) ∷ f.3))
           ∙ sym (ap (λ t. Ok (cond t ((at, record { header = f.0; fields = slice_set (fields_in f.0 ws) i v }) ∷ f.3) ((at, b) ∷ set_block f.3 a i v))) here)
           ∙ ap (λ bs. Ok (set_block bs a i v)) (sym f.5)))
-      | inr other ↦ (let later : HasField (block_in f.3 a) i = subst (λ t. HasField (cond t (Some b) (block_in f.3 a)) i) other (subst (λ bs. HasField (block_in bs a) i) f.5 h) in
+      | inr other ↦ (let later : BlockHasField (block_in f.3 a) i = subst (λ t. BlockHasField (cond t (Some b) (block_in f.3 a)) i) other (subst (λ bs. BlockHasField (block_in bs a) i) f.5 h) in
           let low : suc at + (f.0.len + 1) ≤ a = first_key f.3 a (suc at + (f.0.len + 1)) i (starts_above ws (f.0.len + 1) (suc at) f.3 f.4) later in
           let back : p ≡ suc (pred_of p) = suc_pred p (omega arith) in
           let ih : Walked (f.0.len + 1) (suc at) (slice_set ws (pred_of p) v) (set_block f.3 a i v) = walk_field ws (f.0.len + 1) (suc at) f.3 a i (pred_of p) v (omega arith) later f.4 in
@@ -297,7 +359,7 @@ objects_set (x ∷ bs) a i v b e =
     ≡ cond t ((x.0, with_field (object_of_block x.1) i (field_value b.header v)) ∷ map object_entry bs) (object_entry x ∷ set_field (map object_entry bs) a i (field_value b.header v))) [
       | true ↦ λ e. (let same : x.1 ≡ b = cc in
           let fields : map (field_value x.1.header) (slice_set x.1.fields i v) ≡ slice_set (map (field_value x.1.header) x.1.fields) i (field_value x.1.header v) = map-set (field_value x.1.header) x.1.fields i v in
-          (λ j. (x.0, record { kind = x.1.header.kind; fields = fields j }) ∷ map object_entry bs)
+          (λ j. (x.0, record { raw = x.1.header.raw; kind = x.1.header.kind; fields = fields j }) ∷ map object_entry bs)
           ∙ ap (λ (b : Block). (x.0, with_field (object_of_block x.1) i (field_value b.header v)) ∷ map object_entry bs) same)
       | false ↦ λ e. ap (λ os. object_entry x ∷ os) (objects_set bs a i v b e)
     ] e

@@ -6,11 +6,18 @@ use Rattle.std.proofs.lemmas.Option.{slice_get-get_or, slice_get_within}
 use Rattle.gc_words.specs.Word.{read_header, header_word}
 use Rattle.gc_words.specs.Image.{Block, fresh_block, walk_words, HasShape, ok_or_nil, blocks, block_at, is_start, header_of, header_at, field_in, field_at, set_block}
 use Rattle.gc_words.specs.Layout.{field_place, link_place}
-use Rattle.gc_words.specs.Space.{SpaceWords, IsSpace, end_of, CanPlace, with_object, with_word}
+use Rattle.gc_words.specs.Space.{SpaceWords, IsSpace, HasRoomFor, end_of, CanPlace, with_block, with_object, with_word}
+use Rattle.gc_words.specs.Spelling.{IsBlock}
 use Rattle.gc_words.specs.Walking.{StandsIn}
 use Rattle.gc_words.specs.declared.header.Header.{Header}
-use Rattle.gc_words.proofs.Walks.{walk_placed, walk_field, walk_link, HasField, IsThere}
+use Rattle.gc_words.proofs.Walks.{walk_placed, walk_field, walk_link, BlockHasField, IsThere}
 use Rattle.gc_words.proofs.Starts.{stands_in, walked_blocks}
+
+-- this object can be placed
+pub record CanPlaceBlock (space : SpaceWords) (b : Block) : Type 0 where
+  pub shaped : IsSpace space
+  pub whole : IsBlock b
+  pub room : HasRoomFor space b.header.len
 
 pub some_of : {X : Type 0} (o : Option X) → is_some o ≡ true → (x : X) × (o ≡ Some x)
 some_of None e = absurd (let no : false ≡ true = e in cc)
@@ -83,35 +90,47 @@ space_of size words bs low high bound reserved walked = (
   ap ok_or_nil walked,
 )
 
-pub placed : (s : SpaceWords) (h : Header) → CanPlace s h
-    → IsSpace (with_object s h) × (blocks (with_object s h).words ≡ blocks s.words ++ (end_of s, fresh_block h) ∷ [])
-placed s h can = in_words s.words can.shaped can.room
+pub block_placed : (s : SpaceWords) (b : Block) → CanPlaceBlock s b
+    → IsSpace (with_block s b) × (blocks (with_block s b).words ≡ blocks s.words ++ (end_of s, b) ∷ [])
+block_placed s b can = in_words s.words can.shaped can.room
   where
-    in_words : (words : List ℕ) → HasShape s.size (length words) words → h.len + 2 ≤ s.size - length words
-        → IsSpace (record { size = s.size; words = words ++ header_word h ∷ 0 ∷ replicate h.len 0 }) × (blocks (words ++ header_word h ∷ 0 ∷ replicate h.len 0) ≡ blocks words ++ (length words, fresh_block h) ∷ [])
+    h : Header
+    h = b.header
+
+    in_words : (words : List ℕ) → HasShape true s.size (length words) words → h.len + 2 ≤ s.size - length words
+        → IsSpace (record { size = s.size; words = words ++ header_word h ∷ 0 ∷ b.fields }) × (blocks (words ++ header_word h ∷ 0 ∷ b.fields) ≡ blocks words ++ (length words, b) ∷ [])
     in_words [] shape room = absurd (let low : 1 ≤ 0 = shape.end_low in omega arith)
     in_words (w ∷ ws) shape room =
-        let walked : walk_words (w ∷ (ws ++ header_word h ∷ 0 ∷ replicate h.len 0)) ≡ Ok (blocks (w ∷ ws) ++ (1 + length ws, fresh_block h) ∷ [])
-        = walk_placed ws 0 1 (blocks (w ∷ ws)) h 0 (replicate h.len 0) can.header (length-replicate h.len 0) (omega arith) (walked_blocks (w ∷ ws) shape.walked) in
+        let count : length b.fields ≡ h.len = (can.whole).fields in
+        let walked : walk_words (w ∷ (ws ++ header_word h ∷ 0 ∷ b.fields)) ≡ Ok (blocks (w ∷ ws) ++ (1 + length ws, b) ∷ [])
+        = walk_placed ws 0 1 (blocks (w ∷ ws)) h 0 b.fields (can.whole).header count (omega arith) (walked_blocks (w ∷ ws) shape.walked) in
         let two : suc (suc h.len) ≡ h.len + 2 = omega arith in
-        let longer : length (ws ++ header_word h ∷ 0 ∷ replicate h.len 0) ≡ length ws + (h.len + 2)
-        = length-append ws (header_word h ∷ 0 ∷ replicate h.len 0) ∙ ap (λ n. length ws + suc (suc n)) (length-replicate h.len 0) ∙ ap (λ n. length ws + n) two in
+        let longer : length (ws ++ header_word h ∷ 0 ∷ b.fields) ≡ length ws + (h.len + 2)
+        = length-append ws (header_word h ∷ 0 ∷ b.fields) ∙ ap (λ n. length ws + suc (suc n)) count ∙ ap (λ n. length ws + n) two in
         let high : suc (length ws) ≤ s.size = shape.end_high in
         let there : 1 + length ws ≡ suc (length ws) = omega arith in
-        space_of s.size (w ∷ (ws ++ header_word h ∷ 0 ∷ replicate h.len 0)) _ (omega arith) (omega arith) shape.size_high shape.reserved
-        (walked ∙ ap (λ n. Ok (blocks (w ∷ ws) ++ (n, fresh_block h) ∷ [])) there)
+        space_of s.size (w ∷ (ws ++ header_word h ∷ 0 ∷ b.fields)) _ (omega arith) (omega arith) shape.size_high shape.reserved
+        (walked ∙ ap (λ n. Ok (blocks (w ∷ ws) ++ (n, b) ∷ [])) there)
+
+-- a new object can be placed as a block
+pub can_place_fresh : (s : SpaceWords) (h : Header) → CanPlace s h → CanPlaceBlock s (fresh_block h)
+can_place_fresh s h can = record { shaped = can.shaped; whole = record { header = can.header; fields = length-replicate h.len 0 }; room = can.room }
+
+pub placed : (s : SpaceWords) (h : Header) → CanPlace s h
+    → IsSpace (with_object s h) × (blocks (with_object s h).words ≡ blocks s.words ++ (end_of s, fresh_block h) ∷ [])
+placed s h can = block_placed s (fresh_block h) (can_place_fresh s h can)
 
 pub field_written : (s : SpaceWords) (a i w : ℕ) → IsSpace s → IsSome (field_at s.words a i)
     → IsSpace (with_word s (field_place a i) w) × (blocks (with_word s (field_place a i) w).words ≡ set_block (blocks s.words) a i w)
 field_written s a i w space some = in_words s.words space (field_read s.words a i space.walked some)
   where
-    in_words : (words : List ℕ) → HasShape s.size (length words) words → FieldRead words a i
+    in_words : (words : List ℕ) → HasShape true s.size (length words) words → FieldRead words a i
         → IsSpace (record { size = s.size; words = slice_set words (field_place a i) w }) × (blocks (slice_set words (field_place a i) w) ≡ set_block (blocks words) a i w)
     in_words [] shape f = absurd (let low : 1 ≤ 0 = shape.end_low in omega arith)
     in_words (v ∷ ws) shape f =
         let place : suc (a + 1 + i) ≡ field_place a i = omega arith in
         let walked : walk_words (v ∷ slice_set ws (a + 1 + i) w) ≡ Ok (set_block (blocks (v ∷ ws)) a i w)
-        = walk_field ws 0 1 (blocks (v ∷ ws)) a i (a + 1 + i) w (omega arith) (subst (λ o. HasField o i) (sym f.found) f.has_field) (walked_blocks (v ∷ ws) shape.walked) in
+        = walk_field ws 0 1 (blocks (v ∷ ws)) a i (a + 1 + i) w (omega arith) (subst (λ o. BlockHasField o i) (sym f.found) f.has_field) (walked_blocks (v ∷ ws) shape.walked) in
         let same : length (slice_set ws (a + 1 + i) w) ≡ length ws = length-set ws (a + 1 + i) w in
         let high : suc (length ws) ≤ s.size = shape.end_high in
         subst (λ p. IsSpace (record { size = s.size; words = slice_set (v ∷ ws) p w }) × (blocks (slice_set (v ∷ ws) p w) ≡ set_block (blocks (v ∷ ws)) a i w)) place
@@ -125,7 +144,7 @@ link_written s a w space start = in_words s.words space start
     there None e = absurd (let no : false ≡ true = e in cc)
     there (Some b) e = tt
 
-    in_words : (words : List ℕ) → HasShape s.size (length words) words → is_start words a ≡ true
+    in_words : (words : List ℕ) → HasShape true s.size (length words) words → is_start words a ≡ true
         → IsSpace (record { size = s.size; words = slice_set words (link_place a) w }) × (blocks (slice_set words (link_place a) w) ≡ blocks words)
     in_words [] shape start = absurd (let low : 1 ≤ 0 = shape.end_low in omega arith)
     in_words (v ∷ ws) shape start =

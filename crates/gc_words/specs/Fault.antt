@@ -1,9 +1,9 @@
 -- The first condition of a certificate that fails.
-use Rattle.std.specs.Prelude.{◌≡◌, ◌≢◌, ◌<◌, IsTrue, ℕ, suc, ◌==◌, nat_le, Bool, true, false, ◌&&◌, not, if◌then◌else◌, List, [], ◌∷◌, ◌++◌, length, slice_index, Option, Some, None, Result, Ok, Err}
+use Rattle.std.specs.Prelude.{◌≡◌, ◌≢◌, ◌<◌, IsTrue, ℕ, suc, ◌==◌, nat_le, Bool, true, false, ◌&&◌, not, if◌then◌else◌, List, [], ◌∷◌, ◌++◌, length, take, slice_index, Option, Some, None, Result, Ok, Err}
 use Rattle.std.specs.List.{All, AllPairs, list_any}
 use Rattle.gc_graph.specs.Limits.{most_words}
 use Rattle.gc_words.specs.Word.{words_correspond, field_words_correspond}
-use Rattle.gc_words.specs.Image.{Image, Block, IsShaped, walk_words, block_at, is_start}
+use Rattle.gc_words.specs.Image.{Image, Block, IsShaped, walk_all, block_at, is_start}
 use Rattle.gc_words.specs.Certificate.{BlocksCorrespond}
 use Rattle.gc_words.specs.declared.header.Header.{Header}
 use Rattle.gc_words.specs.declared.refusal.Refusal.{Refusal}
@@ -30,14 +30,21 @@ fault_of_walk (Ok found) = None
 fault_of_walk (Err at) = Some at
 
 -- of a space's words, whatever its size
-abbrev pub words_fault : ℕ → List ℕ → Option ℕ
-words_fault end words = if (length words == end) && (slice_index words 0 == 0) then fault_of_walk (walk_words words) else Some 0
+abbrev pub words_fault : Bool → ℕ → List ℕ → Option ℕ
+words_fault raws end words = if (length words == end) && (slice_index words 0 == 0) then fault_of_walk (walk_all raws words) else Some 0
 
 abbrev pub has_size : Image → Bool
 has_size image = nat_le 1 image.size && nat_le image.size most_words && nat_le 1 image.end && nat_le image.end image.size
 
 abbrev pub shape_fault : Image → Option ℕ
-shape_fault image = if has_size image then words_fault image.end image.words else Some 0
+shape_fault image = if has_size image then words_fault image.raws image.end image.words else Some 0
+
+-- ---- pairs
+
+-- the fault of the first pair that has one, where the pairs are counted from k
+abbrev pub first_over_pairs : (ℕ → ℕ × ℕ → Option Refusal) → ℕ → List (ℕ × ℕ) → Option Refusal
+first_over_pairs fault k [] = None
+first_over_pairs fault k (p ∷ rest) = fault k p or_else first_over_pairs fault (suc k) rest
 
 -- ---- the table of pairs: shapes, the number of roots, and where pairs stand
 
@@ -55,16 +62,15 @@ place_fault old new before k p =
     or_else when (not_above_last before p.1) (NotRising k)
     or_else when (list_any (λ q. q.0 == p.0) before) (Twice k)
 
-abbrev pub place_faults : Image → Image → List (ℕ × ℕ) → ℕ → List (ℕ × ℕ) → Option Refusal
-place_faults old new before k [] = None
-place_faults old new before k (p ∷ rest) = place_fault old new before k p or_else place_faults old new (before ++ p ∷ []) (suc k) rest
+abbrev pub place_faults : Image → Image → List (ℕ × ℕ) → Option Refusal
+place_faults old new pairs = first_over_pairs (λ k. place_fault old new (take k pairs) k) 0 pairs
 
 abbrev pub table_fault : Image → Image → List (ℕ × ℕ) → Option Refusal
 table_fault old new pairs =
     at_place (shape_fault old) (λ at. OldShape at)
     or_else at_place (shape_fault new) (λ at. NewShape at)
     or_else when (not (length old.roots == length new.roots)) RootCount
-    or_else place_faults old new [] 0 pairs
+    or_else place_faults old new pairs
 
 -- ---- objects
 
@@ -75,8 +81,12 @@ first_difference alike i [] (w ∷ ws) = Some i
 first_difference alike i (v ∷ vs) [] = Some i
 first_difference alike i (v ∷ vs) (w ∷ ws) = if alike v w then first_difference alike (suc i) vs ws else Some i
 
+abbrev pub same_bool : Bool → Bool → Bool
+same_bool true b = b
+same_bool false b = not b
+
 abbrev pub same_header : Header → Header → Bool
-same_header g h = (g.kind == h.kind) && (g.len == h.len)
+same_header g h = same_bool g.raw h.raw && (g.kind == h.kind) && (g.len == h.len)
 
 abbrev pub block_fault : List (ℕ × ℕ) → ℕ → Option Block → Option Block → Option Refusal
 block_fault pairs k (Some a) (Some b) =
@@ -89,10 +99,8 @@ block_fault pairs k None b = None
 abbrev pub pair_fault : Image → Image → List (ℕ × ℕ) → ℕ → ℕ × ℕ → Option Refusal
 pair_fault old new pairs k p = block_fault pairs k (block_at old.words p.0) (block_at new.words p.1)
 
--- of those from pair k on
-abbrev pub object_faults : Image → Image → List (ℕ × ℕ) → ℕ → List (ℕ × ℕ) → Option Refusal
-object_faults old new pairs k [] = None
-object_faults old new pairs k (p ∷ rest) = pair_fault old new pairs k p or_else object_faults old new pairs (suc k) rest
+abbrev pub object_faults : Image → Image → List (ℕ × ℕ) → Option Refusal
+object_faults old new pairs = first_over_pairs (pair_fault old new pairs) 0 pairs
 
 -- ---- roots
 
@@ -101,7 +109,7 @@ root_fault old new pairs = at_place (first_difference (words_correspond pairs) 0
 
 -- in this order
 abbrev pub first_fault : Image → Image → List (ℕ × ℕ) → Option Refusal
-first_fault old new pairs = table_fault old new pairs or_else object_faults old new pairs 0 pairs or_else root_fault old new pairs
+first_fault old new pairs = table_fault old new pairs or_else object_faults old new pairs or_else root_fault old new pairs
 
 -- ---- the first fault as a relation
 

@@ -1,9 +1,9 @@
 -- The words of a space: a reserved word, and then objects back to back. An image has root words beside them.
-use Rattle.std.specs.Prelude.{◌≡◌, ℕ, zero, suc, ◌+◌, ◌-◌, ◌≤◌, ◌==◌, nat_le, Bool, if◌then◌else◌, List, [], ◌∷◌, length, take, drop, map, replicate, slice_get, slice_index, slice_set, Option, Some, None, Result, Ok, Err, IsOk, is_some}
+use Rattle.std.specs.Prelude.{◌≡◌, ℕ, zero, suc, ◌+◌, ◌-◌, ◌≤◌, ◌==◌, nat_le, Bool, true, if◌then◌else◌, List, [], ◌∷◌, length, take, drop, map, replicate, slice_get, slice_index, slice_set, Option, Some, None, Result, Ok, Err, IsOk, is_some}
 use Rattle.gc_graph.specs.Limits.{most_words}
 use Rattle.gc_graph.specs.Graph.{Object, Graph}
 use Rattle.gc_graph.specs.Machine.{Roomy}
-use Rattle.gc_words.specs.Word.{read_header, value_of, field_value}
+use Rattle.gc_words.specs.Word.{header_in, value_of, field_value}
 use Rattle.gc_words.specs.declared.header.Header.{Header}
 
 -- an object as it stands in a space, without its link
@@ -28,26 +28,31 @@ object_at at (Some h) words others =
     if nat_le (h.len + 1) (length words) then with_front (at, record { header = h; fields = take h.len (drop 1 words) }) (others (h.len + 1)) else Err at
 
 -- The objects among the words from place `at` on, with their places, where the first `inside` words still
--- belong to an earlier object; or the first place whose word is no header or whose object runs past the end.
-abbrev pub walk : ℕ → ℕ → List ℕ → Result (List (ℕ × Block)) ℕ
-walk inside at [] = Ok []
-walk zero at (w ∷ words) = object_at at (read_header w) words (λ inside. walk inside (suc at) words)
-walk (suc inside) at (w ∷ words) = walk inside (suc at) words
+-- belong to an earlier object; or the first place whose word is no header or whose object runs past the end. `raws`
+-- says whether headers of raw objects count.
+abbrev pub walk : Bool → ℕ → ℕ → List ℕ → Result (List (ℕ × Block)) ℕ
+walk raws inside at [] = Ok []
+walk raws zero at (w ∷ words) = object_at at (header_in raws w) words (λ inside. walk raws inside (suc at) words)
+walk raws (suc inside) at (w ∷ words) = walk raws inside (suc at) words
 
--- the walk over all words of a space
+-- the walk over all words of a space, or of an image
+abbrev pub walk_all : Bool → List ℕ → Result (List (ℕ × Block)) ℕ
+walk_all raws words = walk raws 0 1 (drop 1 words)
+
+-- where all headers count
 abbrev pub walk_words : List ℕ → Result (List (ℕ × Block)) ℕ
-walk_words words = walk 0 1 (drop 1 words)
+walk_words words = walk_all true words
 
 -- A space of so many words is shaped: `end` is the first place that no object takes, and there are as many
 -- words; the first of them is reserved, and the walk over the others comes to the end.
-pub record HasShape (size end : ℕ) (words : List ℕ) : Type 0 where
+pub record HasShape (raws : Bool) (size end : ℕ) (words : List ℕ) : Type 0 where
   pub size_low : 1 ≤ size
   pub size_high : size ≤ most_words
   pub end_low : 1 ≤ end
   pub end_high : end ≤ size
   pub count : length words ≡ end
   pub reserved : slice_index words 0 ≡ 0
-  pub walked : IsOk (walk_words words)
+  pub walked : IsOk (walk_all raws words)
 
 -- ---- objects by their starts
 
@@ -55,7 +60,8 @@ abbrev pub ok_or_nil : {X : Type 0} → Result (List X) ℕ → List X
 ok_or_nil (Ok xs) = xs
 ok_or_nil (Err at) = []
 
--- the objects among the words of a space, by their starts
+-- The objects among the words of a space, by their starts. An image in which headers of raw objects do not count has
+-- none of them if it is shaped, and so the same objects.
 abbrev pub blocks : List ℕ → List (ℕ × Block)
 blocks words = ok_or_nil (walk_words words)
 
@@ -97,18 +103,19 @@ set_block (entry ∷ rest) place i w = if entry.0 == place then (entry.0, with_f
 
 -- ---- images and their graphs
 
--- Words beyond `end` do not exist. Links are among the words.
+-- Words beyond `end` do not exist. Links are among the words. `raws` says whether headers of raw objects count.
 pub record Image : Type 0 where
   pub size : ℕ
   pub end : ℕ
   pub words : List ℕ
   pub roots : List ℕ
+  pub raws : Bool
 
 abbrev pub IsShaped : Image → Type 0
-IsShaped image = HasShape image.size image.end image.words
+IsShaped image = HasShape image.raws image.size image.end image.words
 
 abbrev pub object_of_block : Block → Object
-object_of_block b = record { kind = b.header.kind; fields = map (field_value b.header) b.fields }
+object_of_block b = record { raw = b.header.raw; kind = b.header.kind; fields = map (field_value b.header) b.fields }
 
 abbrev pub object_entry : ℕ × Block → ℕ × Object
 object_entry entry = (entry.0, object_of_block entry.1)

@@ -1,5 +1,5 @@
 -- Vectors and worked rows.
-use Rattle.std.specs.Prelude.{◌≡◌, ℕ, List, [], ◌∷◌, Some, None}
+use Rattle.std.specs.Prelude.{◌≡◌, ℕ, true, false, List, [], ◌∷◌, Some, None}
 use Rattle.gc_graph.specs.Graph.{Nil, Num, Ref}
 use Rattle.gc_words.specs.Word.{read_header, read_value}
 use Rattle.gc_words.specs.Image.{Image}
@@ -18,15 +18,22 @@ pub record WordRows : Type 0 where
   pub even_greatest : read_value 18446744073709551614 ≡ None
   pub greatest_number : read_value 18446744073709551615 ≡ Some (Num 9223372036854775807)
   pub low : read_header 16777215 ≡ None
-  pub least : read_header 16777216 ≡ Some (record { kind = 0; len = 0 })
-  pub one_field : read_header 16777217 ≡ Some (record { kind = 0; len = 1 })
-  pub next_kind : read_header 16842752 ≡ Some (record { kind = 1; len = 0 })
-  pub kind_one : read_header 16842754 ≡ Some (record { kind = 1; len = 2 })
-  pub greatest : read_header 33554431 ≡ Some (record { kind = 255; len = 65535 })
+  pub least : read_header 16777216 ≡ Some (record { raw = false; kind = 0; len = 0 })
+  pub one_field : read_header 16777217 ≡ Some (record { raw = false; kind = 0; len = 1 })
+  pub next_kind : read_header 16842752 ≡ Some (record { raw = false; kind = 1; len = 0 })
+  pub kind_one : read_header 16842754 ≡ Some (record { raw = false; kind = 1; len = 2 })
+  pub greatest : read_header 33554431 ≡ Some (record { raw = false; kind = 255; len = 65535 })
   pub high : read_header 33554432 ≡ None
+  pub raw_low : read_header 50331647 ≡ None
+  pub raw_least : read_header 50331648 ≡ Some (record { raw = true; kind = 0; len = 0 })
+  pub raw_greatest : read_header 67108863 ≡ Some (record { raw = true; kind = 255; len = 65535 })
+  pub raw_high : read_header 67108864 ≡ None
 
 abbrev image : ℕ → ℕ → List ℕ → List ℕ → Image
-image size end words roots = record { size = size; end = end; words = words; roots = roots }
+image size end words roots = record { size = size; end = end; words = words; roots = roots; raws = false }
+
+abbrev with_raws : ℕ → ℕ → List ℕ → List ℕ → Image
+with_raws size end words roots = record { size = size; end = end; words = words; roots = roots; raws = true }
 
 pub record PairRows : Type 0 where
   pub nothing : first_fault (image 1 1 (0 ∷ []) (0 ∷ [])) (image 1 1 (0 ∷ []) (0 ∷ [])) [] ≡ None
@@ -47,3 +54,9 @@ pub record PairRows : Type 0 where
   pub no_value : first_fault (image 8 4 (0 ∷ 16777217 ∷ 0 ∷ 2097152 ∷ []) (2 ∷ [])) (image 8 4 (0 ∷ 16777217 ∷ 0 ∷ 2097152 ∷ []) (2 ∷ [])) ((1, 1) ∷ []) ≡ Some (FieldDiffers 0 0)
   pub swapped : first_fault (image 8 5 (0 ∷ 16777216 ∷ 0 ∷ 16842752 ∷ 0 ∷ []) (2 ∷ 6 ∷ [])) (image 8 5 (0 ∷ 16842752 ∷ 0 ∷ 16777216 ∷ 0 ∷ []) (6 ∷ 2 ∷ [])) ((3, 1) ∷ (1, 3) ∷ []) ≡ None
   pub old_shape : first_fault (image 8 4 (0 ∷ 16777216 ∷ 0 ∷ 5 ∷ []) []) (image 8 1 (0 ∷ []) []) [] ≡ Some (OldShape 3)
+  pub raw_without_raws : first_fault (image 8 3 (0 ∷ 50331648 ∷ 0 ∷ []) (2 ∷ [])) (image 8 3 (0 ∷ 50331648 ∷ 0 ∷ []) (2 ∷ [])) ((1, 1) ∷ []) ≡ Some (OldShape 1)
+  pub raw_with_raws : first_fault (with_raws 8 3 (0 ∷ 50331648 ∷ 0 ∷ []) (2 ∷ [])) (with_raws 8 3 (0 ∷ 50331648 ∷ 0 ∷ []) (2 ∷ [])) ((1, 1) ∷ []) ≡ None
+  pub raw_words_alike : first_fault (with_raws 9 4 (0 ∷ 50331649 ∷ 0 ∷ 18 ∷ []) (2 ∷ [])) (with_raws 9 4 (0 ∷ 50331649 ∷ 0 ∷ 18 ∷ []) (2 ∷ [])) ((1, 1) ∷ []) ≡ None
+  pub raw_words_differ : first_fault (with_raws 9 4 (0 ∷ 50331649 ∷ 0 ∷ 18 ∷ []) (2 ∷ [])) (with_raws 9 4 (0 ∷ 50331649 ∷ 0 ∷ 8 ∷ []) (2 ∷ [])) ((1, 1) ∷ []) ≡ Some (FieldDiffers 0 0)
+  pub raw_word_no_value : first_fault (with_raws 9 4 (0 ∷ 50331649 ∷ 0 ∷ 18446744073709551614 ∷ []) (2 ∷ [])) (with_raws 9 4 (0 ∷ 50331649 ∷ 0 ∷ 18446744073709551614 ∷ []) (2 ∷ [])) ((1, 1) ∷ []) ≡ None
+  pub raw_and_not : first_fault (with_raws 8 3 (0 ∷ 16777216 ∷ 0 ∷ []) (2 ∷ [])) (with_raws 8 3 (0 ∷ 50331648 ∷ 0 ∷ []) (2 ∷ [])) ((1, 1) ∷ []) ≡ Some (HeaderDiffers 0)

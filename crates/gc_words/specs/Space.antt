@@ -1,9 +1,9 @@
 -- A space as contracts see it, and what its calls do to it.
-use Rattle.std.specs.Prelude.{ℕ, ◌-◌, ◌≤◌, List, [], ◌∷◌, ◌++◌, length, slice_set}
+use Rattle.std.specs.Prelude.{ℕ, true, ◌-◌, ◌≤◌, List, [], ◌∷◌, ◌++◌, length, slice_set}
 use Rattle.gc_graph.specs.Machine.{object_words}
 use Rattle.gc_words.specs.Layout.{link_place, field_place}
 use Rattle.gc_words.specs.Word.{IsHeader}
-use Rattle.gc_words.specs.Image.{Image, HasShape, blocks, fresh_block}
+use Rattle.gc_words.specs.Image.{Image, Block, HasShape, blocks, fresh_block}
 use Rattle.gc_words.specs.Spelling.{block_words, spelled, no_links}
 use Rattle.gc_words.specs.declared.header.Header.{Header}
 
@@ -13,7 +13,7 @@ pub record SpaceWords : Type 0 where
   pub words : List ℕ
 
 abbrev pub IsSpace : SpaceWords → Type 0
-IsSpace space = HasShape space.size (length space.words) space.words
+IsSpace space = HasShape true space.size (length space.words) space.words
 
 -- without objects
 abbrev pub empty_space : ℕ → SpaceWords
@@ -28,18 +28,22 @@ abbrev pub free_in : SpaceWords → ℕ
 free_in space = space.size - end_of space
 
 -- an object with so many fields can be placed
-abbrev pub HasRoom : SpaceWords → ℕ → Type 0
-HasRoom space len = object_words len ≤ free_in space
+abbrev pub HasRoomFor : SpaceWords → ℕ → Type 0
+HasRoomFor space len = object_words len ≤ free_in space
 
 -- an object with this header can be placed
 pub record CanPlace (space : SpaceWords) (h : Header) : Type 0 where
   pub shaped : IsSpace space
   pub header : IsHeader h
-  pub room : HasRoom space h.len
+  pub room : HasRoomFor space h.len
 
--- with one object more, at the old end: link 0, all field words 0
+-- with one object more, at the old end, whose link is 0
+abbrev pub with_block : SpaceWords → Block → SpaceWords
+with_block space b = record space { words = space.words ++ block_words 0 b }
+
+-- with a new one, all of whose field words are 0
 abbrev pub with_object : SpaceWords → Header → SpaceWords
-with_object space h = record space { words = space.words ++ block_words 0 (fresh_block h) }
+with_object space h = with_block space (fresh_block h)
 
 -- with one word changed
 abbrev pub with_word : SpaceWords → ℕ → ℕ → SpaceWords
@@ -58,4 +62,4 @@ without_links space = record space { words = spelled no_links (blocks space.word
 
 -- a space with roots beside it
 abbrev pub image_with : SpaceWords → List ℕ → Image
-image_with space roots = record { size = space.size; end = end_of space; words = space.words; roots = roots }
+image_with space roots = record { size = space.size; end = end_of space; words = space.words; roots = roots; raws = true }

@@ -14,7 +14,7 @@ graph_value (variants.Num n) = Num n
 graph_value (variants.Ref address) = Ref address.0
 
 abbrev pub image_of : ImageRef → Image
-image_of image = record { size = image.size; end = image.end; words = image.words.now; roots = image.roots.now }
+image_of image = record { size = image.size; end = image.end; words = image.words.now; roots = image.roots.now; raws = image.raws }
 
 -- (old address, new address)
 abbrev pub addresses : Pair → ℕ × ℕ

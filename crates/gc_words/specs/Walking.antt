@@ -1,8 +1,8 @@
 -- The walk over a space's words, one object at a time, as loops make it.
-use Rattle.std.specs.Prelude.{◌≡◌, ℕ, ◌-◌, ◌≤◌, nat_le, if◌then◌else◌, List, length, take, drop, slice_index, Option, Some, None, Result}
+use Rattle.std.specs.Prelude.{◌≡◌, ℕ, ◌-◌, ◌≤◌, nat_le, Bool, true, if◌then◌else◌, List, length, take, drop, slice_index, Option, Some, None, Result}
 use Rattle.gc_graph.specs.Machine.{object_words}
 use Rattle.gc_words.specs.Layout.{fields_place, next_place}
-use Rattle.gc_words.specs.Word.{read_header}
+use Rattle.gc_words.specs.Word.{read_header, header_in}
 use Rattle.gc_words.specs.Image.{Block, walk, with_front}
 use Rattle.gc_words.specs.Spelling.{IsBlock}
 use Rattle.gc_words.specs.declared.header.Header.{Header}
@@ -11,25 +11,35 @@ abbrev pub next_after : ℕ → Option Header → ℕ → Option ℕ
 next_after at None room = None
 next_after at (Some h) room = if nat_le (object_words h.len) room then Some (next_place at h.len) else None
 
--- the place behind the object that starts at a place
+-- the place behind the object that starts at a place, where headers of raw objects count or not
+abbrev pub next_in : Bool → List ℕ → ℕ → Option ℕ
+next_in raws words at = next_after at (header_in raws (slice_index words at)) (length words - at)
+
+-- where they count
 abbrev pub next_of : List ℕ → ℕ → Option ℕ
-next_of words at = next_after at (read_header (slice_index words at)) (length words - at)
+next_of words at = next_in true words at
 
 -- the walk from a place on at which an object starts
+abbrev pub walk_on : Bool → List ℕ → ℕ → Result (List (ℕ × Block)) ℕ
+walk_on raws words at = walk raws 0 at (drop at words)
+
 abbrev pub walk_from : List ℕ → ℕ → Result (List (ℕ × Block)) ℕ
-walk_from words at = walk 0 at (drop at words)
+walk_from words at = walk_on true words at
 
 -- an object with this header, as it stands at a place of the words
 abbrev pub block_from : List ℕ → ℕ → Header → Block
 block_from words at h = record { header = h; fields = take h.len (drop (fields_place at) words) }
 
 -- one object is met here, and the walk goes on behind it
-pub record StepsTo (words : List ℕ) (at next : ℕ) : Type 0 where
+pub record StepsIn (raws : Bool) (words : List ℕ) (at next : ℕ) : Type 0 where
   pub header : Header
-  pub word : read_header (slice_index words at) ≡ Some header
+  pub word : header_in raws (slice_index words at) ≡ Some header
   pub place : next ≡ next_place at header.len
   pub within : next ≤ length words
-  pub walk_is : walk_from words at ≡ with_front (at, block_from words at header) (walk_from words next)
+  pub walk_is : walk_on raws words at ≡ with_front (at, block_from words at header) (walk_on raws words next)
+
+abbrev pub StepsTo : List ℕ → ℕ → ℕ → Type 0
+StepsTo words at next = StepsIn true words at next
 
 -- the object stands at a place of the words
 pub record StandsIn (words : List ℕ) (place : ℕ) (b : Block) : Type 0 where

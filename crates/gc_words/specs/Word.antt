@@ -1,5 +1,5 @@
 -- What words mean: headers of objects, and values.
-use Rattle.std.specs.Prelude.{ℕ, ◌+◌, ◌-◌, ◌*◌, ◌/◌, ◌%◌, ◌<◌, ◌≤◌, ◌==◌, nat_lt, nat_le, Bool, false, ◌&&◌, ◌||◌, if◌then◌else◌, List, Option, Some, None, ⊤}
+use Rattle.std.specs.Prelude.{ℕ, ◌+◌, ◌-◌, ◌*◌, ◌/◌, ◌%◌, ◌<◌, ◌≤◌, ◌==◌, nat_lt, nat_le, Bool, true, false, ◌&&◌, ◌||◌, if◌then◌else◌, List, Option, Some, None, ⊤}
 use Rattle.gc_graph.specs.Limits.{most_words, kinds, lengths}
 use Rattle.gc_graph.specs.Graph.{Value, Nil, Num, Ref}
 use Rattle.gc_graph.specs.Correspond.{correspond}
@@ -10,20 +10,37 @@ pub record IsHeader (h : Header) : Type 0 where
   pub kind : h.kind < kinds
   pub len : h.len < lengths
 
--- the word of kind 0 without fields
-abbrev pub least_header : ℕ
-least_header = 16777216
+-- the header words of objects that are raw or not: the least of them, of kind 0 without fields
+abbrev pub least_header : Bool → ℕ
+least_header false = 16777216
+least_header true = 50331648
 
--- the least word above all header words
-abbrev pub past_headers : ℕ
-past_headers = least_header + kinds * lengths
+-- and the least word above them
+abbrev pub past_headers : Bool → ℕ
+past_headers raw = least_header raw + kinds * lengths
 
 abbrev pub header_word : Header → ℕ
-header_word h = least_header + lengths * h.kind + h.len
+header_word h = least_header h.raw + lengths * h.kind + h.len
+
+abbrev pub is_header_word : Bool → ℕ → Bool
+is_header_word raw w = nat_le (least_header raw) w && nat_lt w (past_headers raw)
+
+abbrev pub header_by : Bool → ℕ → Header
+header_by raw w = record { raw = raw; kind = (w - least_header raw) / lengths; len = w % lengths }
 
 -- the header that a word is
 abbrev pub read_header : ℕ → Option Header
-read_header w = if nat_le least_header w && nat_lt w past_headers then Some (record { kind = (w - least_header) / lengths; len = w % lengths }) else None
+read_header w = if is_header_word false w then Some (header_by false w) else if is_header_word true w then Some (header_by true w) else None
+
+-- a header that counts where those of raw objects do not
+abbrev pub unless_raw : Option Header → Option Header
+unless_raw None = None
+unless_raw (Some h) = if h.raw then None else Some h
+
+-- the header that a word is, where those of raw objects count or not
+abbrev pub header_in : Bool → ℕ → Option Header
+header_in true w = read_header w
+header_in false w = unless_raw (read_header w)
 
 -- Zero is nil, an odd word a number, any other even word a name.
 abbrev pub value_of : ℕ → Value
@@ -48,9 +65,9 @@ HasAddress Nil = ⊤
 HasAddress (Num n) = ⊤
 HasAddress (Ref a) = (1 ≤ a) × (a < most_words)
 
--- what a field word of an object with this header means in a graph
+-- what a field word of an object with this header means in a graph: each word of a raw object is a number
 abbrev pub field_value : Header → ℕ → Value
-field_value h w = value_of w
+field_value h w = if h.raw then Num w else value_of w
 
 -- ---- words that stand for each other
 
@@ -63,6 +80,6 @@ read_correspond pairs (Some v) (Some w) = correspond pairs v w
 abbrev pub words_correspond : List (ℕ × ℕ) → ℕ → ℕ → Bool
 words_correspond pairs v w = read_correspond pairs (read_value v) (read_value w)
 
--- the same for field words of objects with this header
+-- the same for field words of objects with this header; those of raw objects have to be equal
 abbrev pub field_words_correspond : Header → List (ℕ × ℕ) → ℕ → ℕ → Bool
-field_words_correspond h pairs v w = words_correspond pairs v w
+field_words_correspond h pairs v w = if h.raw then v == w else words_correspond pairs v w

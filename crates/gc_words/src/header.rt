@@ -1,36 +1,63 @@
-ghost use Rattle.std.specs.Prelude.{◌≡◌, Some};
-ghost use Rattle.gc_words.specs.Word.{read_header, header_word};
+ghost use Rattle.std.specs.Prelude.{◌≡◌, true, false, Some};
+ghost use Rattle.gc_words.specs.Word.{read_header, header_in, header_word};
 
-/// What stands first in an object: its kind and its number of fields.
+/// What stands first in an object: its kind, its number of fields, and whether these are plain numbers, so that the
+/// object is raw.
 #[derive(Clone, Copy, Debug, PartialEq, Eq)]
 pub struct Header {
+    raw: bool,
     kind: u8,
     len: u16,
 }
 
-/// The word of kind 0 without fields, the least header word.
+/// The least header word: kind 0 without fields.
 const FIRST: u64 = 16_777_216;
 
-/// The least word above all header words.
-const PAST: u64 = 33_554_432;
+/// The least header word of a raw object.
+const FIRST_RAW: u64 = 50_331_648;
+
+/// How many words are headers, of raw objects or of the others.
+const HEADERS: u64 = 16_777_216;
 
 /// The distance between the words of two kinds, as many as there are lengths.
 const LENGTHS: u64 = 65_536;
 
 impl Header {
     pub fn new(kind: u8, len: u16) -> Header
-        ensures { result ≡ record { kind = kind; len = len } }
+        ensures { result ≡ record { raw = false; kind = kind; len = len } }
     {
-        Header { kind, len }
+        Header {
+            raw: false,
+            kind,
+            len,
+        }
+    }
+
+    /// The header of a raw object.
+    pub fn new_raw(kind: u8, len: u16) -> Header
+        ensures { result ≡ record { raw = true; kind = kind; len = len } }
+    {
+        Header {
+            raw: true,
+            kind,
+            len,
+        }
     }
 
     /// The header that a word is; None for a word that is no header.
     pub fn read(word: u64) -> Option<Header>
         ensures { result ≡ read_header word }
     {
-        if (FIRST..PAST).contains(&word) {
+        if (FIRST..FIRST + HEADERS).contains(&word) {
             Some(Header {
+                raw: false,
                 kind: ((word - FIRST) / LENGTHS) as u8,
+                len: (word % LENGTHS) as u16,
+            })
+        } else if (FIRST_RAW..FIRST_RAW + HEADERS).contains(&word) {
+            Some(Header {
+                raw: true,
+                kind: ((word - FIRST_RAW) / LENGTHS) as u8,
                 len: (word % LENGTHS) as u16,
             })
         } else {
@@ -38,12 +65,31 @@ impl Header {
         }
     }
 
+    /// The header that a word is, where those of raw objects count or not.
+    pub(crate) fn read_in(word: u64, raws: bool) -> Option<Header>
+        ensures { result ≡ header_in raws word }
+    {
+        let header = Header::read(word)?;
+        if header.raw && !raws {
+            return None;
+        }
+        Some(header)
+    }
+
     /// The word that is read as this header.
     pub fn word(self) -> u64
         ensures word { result ≡ header_word self }
         ensures read_back { read_header result ≡ Some self }
     {
-        FIRST + LENGTHS * u64::from(self.kind) + u64::from(self.len)
+        let first = if self.raw { FIRST_RAW } else { FIRST };
+        first + LENGTHS * u64::from(self.kind) + u64::from(self.len)
+    }
+
+    /// Whether the fields are plain numbers.
+    pub fn is_raw(self) -> bool
+        ensures { result ≡ self.raw }
+    {
+        self.raw
     }
 
     pub fn kind(self) -> u8

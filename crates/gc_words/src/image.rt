@@ -16,6 +16,8 @@ pub struct ImageRef<'a> {
     /// The words 0 to `end - 1`, links among them.
     pub words: &'a [u64],
     pub roots: &'a [u64],
+    /// Whether headers of raw objects count. Heaps have raw objects.
+    pub raws: bool,
 }
 
 /// An object of an old space and its replica in a new one.

@@ -1,11 +1,11 @@
 //! What follows from the definitions: the crates above cite these calls.
 
-ghost use Rattle.std.specs.Prelude.{◌≡◌, ◌≢◌, ◌<◌, ◌≤◌, ◌↔◌, ◌+◌, ◌-◌, ◌++◌, ◌∷◌, [], ℕ, List, length, Some, None, Ok, Err, IsOk, IsSome, IsTrue, replicate, slice_get, slice_index, slice_set};
+ghost use Rattle.std.specs.Prelude.{◌≡◌, ◌≢◌, ◌<◌, ◌≤◌, ◌↔◌, ◌+◌, ◌-◌, ◌++◌, ◌∷◌, [], ℕ, Bool, List, length, Some, None, Ok, Err, IsOk, IsSome, IsTrue, replicate, slice_get, slice_index, slice_set};
 ghost use Rattle.std.specs.Option.{option_map};
 ghost use Rattle.gc_graph.specs.Graph.{Value, Nil, Ref, IsUnused, lookup, field_of, root, new_object, add_object, set_field, set_root};
 ghost use Rattle.gc_graph.specs.Correspond.{Corresponding};
 ghost use Rattle.gc_words.specs.Word.{IsHeader, HasAddress, header_word, read_header, word_of, is_value, value_of, read_value, field_value};
-ghost use Rattle.gc_words.specs.Image.{Block, Image, IsShaped, walk_words, blocks, block_in, block_at, is_start, header_at, field_at, fresh_block, with_field_word, set_block, objects_of, object_of_block, graph_of};
+ghost use Rattle.gc_words.specs.Image.{Block, Image, IsShaped, walk_all, walk_words, blocks, block_in, block_at, is_start, header_at, field_at, fresh_block, with_field_word, set_block, objects_of, object_of_block, graph_of};
 ghost use Rattle.gc_words.specs.Spelling.{LaidOut, spelled, link_at};
 ghost use Rattle.gc_words.specs.Space.{SpaceWords, IsSpace, CanPlace, empty_space, end_of, free_in, with_object, with_field_at, with_link, without_links, image_with};
 ghost use Rattle.gc_words.specs.Walking.{next_of, walk_from, StepsTo, StandsIn};
@@ -43,6 +43,12 @@ pub fn first_fault_is_first()
 pub fn certified_graphs_correspond()
     ensures { (old new : Image) (pairs : List (ℕ × ℕ))
         → Certified old new pairs → Corresponding pairs (graph_of old) (graph_of new) }
+{}
+
+/// A walk that comes to its end where headers of raw objects do not count meets the same objects where they count.
+pub fn raws_change_no_objects()
+    ensures { (raws : Bool) (words : List ℕ)
+        → IsOk (walk_all raws words) → walk_all raws words ≡ walk_words words }
 {}
 
 /// What is written as a word is read back, and only a word that is written so is read.
@@ -195,7 +201,7 @@ pub fn graphs_of_spaces()
 pub fn graphs_after_writes()
     ensures placed { (space : SpaceWords) (h : Header) (roots : List ℕ) → CanPlace space h
         → graph_of (image_with (with_object space h) roots)
-        ≡ add_object (graph_of (image_with space roots)) (end_of space) (new_object h.kind h.len) }
+        ≡ add_object (graph_of (image_with space roots)) (end_of space) (new_object h.raw h.kind h.len) }
     ensures field { (space : SpaceWords) (start i word : ℕ) (b : Block) (roots : List ℕ)
         → IsSpace space → IsSome (field_at space.words start i) → block_at space.words start ≡ Some b
         → graph_of (image_with (with_field_at space start i word) roots)

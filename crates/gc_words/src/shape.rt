@@ -1,6 +1,6 @@
 ghost use Rattle.std.specs.Prelude.{◌≡◌, ◌<◌, ◌≤◌, None, Some, MatchResult, length};
 ghost use Rattle.gc_words.specs.Fault.{words_fault};
-ghost use Rattle.gc_words.specs.Walking.{next_of};
+ghost use Rattle.gc_words.specs.Walking.{next_of, next_in};
 
 use crate::header::Header;
 use gc_graph::object_words;
@@ -15,12 +15,13 @@ pub struct ShapeFault {
     pub at: u64,
 }
 
-/// Whether these are the words of a space up to its end: a reserved 0, and from 1 on objects back to back.
-pub fn walk(words: &[u64], end: u32) -> Result<(), ShapeFault>
+/// Whether these are the words of a space up to its end: a reserved 0, and from 1 on objects back to back. `raws` says
+/// whether headers of raw objects count.
+pub fn walk(words: &[u64], end: u32, raws: bool) -> Result<(), ShapeFault>
     requires { 1 ≤ end }
     ensures { MatchResult result
-        (λ _. words_fault end words.now ≡ None)
-        (λ fault. words_fault end words.now ≡ Some fault.at) }
+        (λ _. words_fault raws end words.now ≡ None)
+        (λ fault. words_fault raws end words.now ≡ Some fault.at) }
 {
     let len = words.len();
     if len != end as usize || words[0] != 0 {
@@ -28,7 +29,7 @@ pub fn walk(words: &[u64], end: u32) -> Result<(), ShapeFault>
     }
     let mut at = 1;
     while at < len {
-        match next_start(words, at) {
+        match next_in(words, at, raws) {
             Some(next) => at = next,
             None => return Err(ShapeFault { at: at as u64 }),
         }
@@ -42,7 +43,15 @@ pub fn next_start(words: &[u64], at: usize) -> Option<usize>
     requires { at < length words.now }
     ensures { result ≡ next_of words.now at }
 {
-    let header = Header::read(words[at])?;
+    next_in(words, at, true)
+}
+
+// The same, where headers of raw objects count or not.
+fn next_in(words: &[u64], at: usize, raws: bool) -> Option<usize>
+    requires { at < length words.now }
+    ensures { result ≡ next_in raws words.now at }
+{
+    let header = Header::read_in(words[at], raws)?;
     let taken = object_words(header.len()) as usize;
     if taken <= words.len() - at {
         Some(at + taken)

@@ -30,11 +30,12 @@ impl Model for Space {
 impl Space {
     ghost use Rattle.std.specs.Prelude.{◌≡◌, ◌<◌, ◌≤◌, ◌+◌, ◌∷◌, ◌++◌, [], ◌↔◌, Some, IsTrue, IsSome, IfOk};
     ghost use Rattle.gc_graph.specs.Limits.{most_words};
-    ghost use Rattle.gc_words.specs.Image.{blocks, block_at, is_start, header_at, field_at, set_block, fresh_block};
+    ghost use Rattle.gc_words.specs.Image.{Block, blocks, block_at, is_start, header_at, field_at, set_block, fresh_block};
     ghost use Rattle.gc_words.specs.Spelling.{link_at};
     ghost use Rattle.gc_words.specs.Layout.{next_place};
     ghost use Rattle.gc_words.specs.Walking.{next_of};
-    ghost use Rattle.gc_words.specs.Space.{IsSpace, empty_space, end_of, free_in, HasRoom, with_object, with_field_at, with_link, without_links};
+    ghost use Rattle.gc_words.specs.declared.header.Header.{Header};
+    ghost use Rattle.gc_words.specs.Space.{IsSpace, empty_space, end_of, free_in, HasRoomFor, with_block, with_object, with_field_at, with_link, without_links};
 
     /// A space of so many words, without objects.
     pub fn new(alloc: Global, size: u32) -> Result<Space, NoMemory>
@@ -92,14 +93,14 @@ impl Space {
 
     /// Whether an object with so many fields can be placed.
     pub fn has_room(&self, len: u16) -> bool
-        ensures { IsTrue result ↔ HasRoom self.now len }
+        ensures { IsTrue result ↔ HasRoomFor self.now len }
     {
         object_words(len) <= self.free()
     }
 
     /// Places an object at the end, with link 0 and all field words 0, and gives its address.
     pub fn place(&mut self, header: Header) -> Addr
-        requires { HasRoom self.old header.len }
+        requires { HasRoomFor self.old header.len }
         ensures at { result.0 ≡ end_of self.old }
         ensures words { self.new ≡ with_object self.old header }
         ensures objects { blocks self.new.words
@@ -112,6 +113,22 @@ impl Space {
         self.words.push_reserved(header.word());
         // `new` has made the room, so this cannot fail.
         self.words.resize(end, 0).unwrap();
+        Addr(start as u32)
+    }
+
+    /// Places a copy of another space's object at the end, with its field words and link 0, and gives its address.
+    pub fn place_copy(&mut self, from: &Space, at: Addr) -> Addr
+        requires start { IsTrue (is_start from.now.words at.0) }
+        requires room { (h : Header) → header_at from.now.words at.0 ≡ Some h → HasRoomFor self.old h.len }
+        ensures at { result.0 ≡ end_of self.old }
+        ensures words { (b : Block) → block_at from.now.words at.0 ≡ Some b → self.new ≡ with_block self.old b }
+        ensures shaped { IsSpace self.new }
+    {
+        let start = self.words.len();
+        self.words.push_reserved(from.header(at).word());
+        self.words.push_reserved(0);
+        // `new` has made the room, so this cannot fail.
+        self.words.extend_from_slice(from.fields(at)).unwrap();
         Addr(start as u32)
     }
 
@@ -131,6 +148,17 @@ impl Space {
         ensures shaped { IsSpace self.now }
     {
         Addr(next_start(&self.words, at.0 as usize).unwrap() as u32)
+    }
+
+    /// The field words of the object that starts here.
+    pub fn fields(&self, at: Addr) -> &[u64]
+        requires { IsTrue (is_start self.now.words at.0) }
+        ensures value { (b : Block) → block_at self.now.words at.0 ≡ Some b → result.now ≡ b.fields }
+        ensures shaped { IsSpace self.now }
+    {
+        let start = field_index(at, 0);
+        let end = start + usize::from(self.header(at).len());
+        &self.words[start..end]
     }
 
     /// Field word `i` of the object that starts here.

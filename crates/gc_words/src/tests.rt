@@ -50,6 +50,47 @@ fn words_are_headers(rt: HostRuntime) {
     }
 }
 
+#[test]
+fn words_are_headers_of_raw_objects(rt: HostRuntime) {
+    for (word, header) in [
+        (50331647, None),
+        (50331648, Some((0, 0))),
+        (67108863, Some((255, 65535))),
+        (67108864, None),
+    ] {
+        let read = Header::read(word);
+        assert_eq!(rt; read.map(|h| (h.kind(), h.len())), header, "at {word}");
+        if let Some((kind, len)) = header {
+            let raw = Header::new_raw(kind, len);
+            assert!(rt; raw.is_raw() && !Header::new(kind, len).is_raw());
+            assert_eq!(rt; raw.word(), word);
+        }
+    }
+}
+
+#[test]
+fn raw_headers_count_where_they_should(rt: HostRuntime) {
+    let words = [0, 50331649, 0, 18];
+    assert_eq!(rt; walk(&words, 4, true), Ok(()));
+    assert_eq!(rt; walk(&words, 4, false), Err(ShapeFault { at: 1 }));
+}
+
+/// A copy has the field words, whatever they look like, and no link.
+#[test]
+fn raw_object_is_copied(rt: HostRuntime) -> Result<(), Fail> {
+    let mut from = Space::new(rt.alloc(), 9)?;
+    let at = from.place(Header::new_raw(7, 2));
+    from.set_field(at, 0, 2);
+    from.set_field(at, 1, 9223372036854775807);
+    from.set_link(at, 5);
+    let mut space = Space::new(rt.alloc(), 9)?;
+    let copy = space.place_copy(&from, at);
+    assert_eq!(rt; copy.0, 1);
+    let words = [0, 50790402, 0, 2, 9223372036854775807];
+    assert_eq!(rt; space.words(), words.as_slice());
+    Ok(())
+}
+
 /// An exactly full space: an object of two fields, and one that refers to it by a field and a link.
 #[test]
 fn space_is_filled(rt: HostRuntime) -> Result<(), Fail> {
@@ -97,7 +138,7 @@ fn walks_find_the_first_fault(rt: HostRuntime) {
         ([0, 16777217, 0].as_slice(), 3, Some(1)),
         ([0, 16777216, 0, 5].as_slice(), 4, Some(3)),
     ] {
-        let walked = walk(words, end);
+        let walked = walk(words, end, true);
         assert_eq!(rt; walked.err(), fault.map(|at| ShapeFault { at }), "at {end}");
     }
 }

@@ -1,6 +1,5 @@
 use crate::entry::Entry;
 use crate::laws::histories_grow;
-use crate::range::command_is_in_range;
 use gc_cert::PairFile;
 use gc_check::{Checks, Sequential};
 use gc_copy::{Answer, Event, Step, StepReply};
@@ -93,12 +92,9 @@ impl World {
         ensures refused { OnErr result (self.new ≡ self.old) }
     {
         histories_grow();
-        command_is_in_range(op);
         make_room(&mut self.history)?;
         let reply = self.heap.mutate(m, op)?;
-        let event = Event::Mutate { m, op: *op };
-        let answer = Answer::of_mutator(&reply);
-        self.history.push_reserved(Entry { event, answer });
+        record_command(&mut self.history, m, *op, &reply);
         Ok(reply)
     }
 
@@ -225,6 +221,7 @@ impl World {
 
 ghost use Rattle.std.specs.Prelude.{◌≡◌, ◌≢◌, ◌<◌, ◌++◌, ◌∷◌, [], IfOk, OnOk, OnErr, vec_len, vec_capacity};
 ghost use Rattle.std.specs.Option.{option_map};
+ghost use Rattle.gc_graph.specs.Range.{IsCommand};
 ghost use Rattle.gc_cert.specs.Views.{pair_in};
 ghost use Rattle.gc_copy.specs.Steps.{collect};
 ghost use Rattle.gc_copy.specs.Runs.{IsStep};
@@ -244,6 +241,18 @@ fn make_room(history: &mut Vec<Entry>) -> Result<(), NoMemory>
         Ok(()) => Ok(()),
         Err(_) => Err(NoMemory),
     }
+}
+
+// Appends a command to the history, which has room for it. The command is in range, as its type has it.
+fn record_command(history: &mut Vec<Entry>, m: u8, op: Op, reply: &Reply)
+    requires { vec_len history.old < vec_capacity history.old }
+    ensures entry { history.new.items
+        ≡ history.old.items ++ entry_of (Event.Mutate m op) (Answer.Mutator reply.now) ∷ [] }
+    ensures command { IsCommand op }
+{
+    let event = Event::Mutate { m, op };
+    let answer = Answer::of_mutator(reply);
+    history.push_reserved(Entry { event, answer });
 }
 
 // Appends a step to the history, which has room for it.

@@ -21,15 +21,8 @@ none_taken : takes command_line ([] ∷ []) ≡ true
 unfolding clap_on_literals
 none_taken = refl
 
-none_found : subcommand_of command_line ([] ∷ []) ≡ None
-unfolding clap_on_literals
-none_found = refl
-
 pub no_arguments_taken : (arguments : List Text) → drop 1 arguments ≡ [] → takes command_line arguments ≡ true
 no_arguments_taken arguments e = ap (λ (rest : List Text). takes command_line ([] ∷ rest)) e ∙ none_taken
-
-no_arguments_found : (arguments : List Text) → drop 1 arguments ≡ [] → subcommand_of command_line arguments ≡ None
-no_arguments_found arguments e = ap (λ (rest : List Text). subcommand_of command_line ([] ∷ rest)) e ∙ none_found
 
 -- ---- a subcommand and a path
 

@@ -1,4 +1,5 @@
 mod checks;
+mod collected_heaps;
 mod collections;
 mod heaps;
 mod marks;

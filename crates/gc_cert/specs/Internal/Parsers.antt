@@ -1,7 +1,8 @@
 -- Tokens and lines of a pair text that the parsers test.
-use Rattle.std.specs.Prelude.{ℕ, ◌&&◌, Bool, true, nat_le, List, [], ◌∷◌, Option, Some, None, if◌then◌else◌}
+use Rattle.std.specs.Prelude.{ℕ, ◌&&◌, Bool, true, false, nat_le, List, [], ◌∷◌, Option, Some, None, if◌then◌else◌}
 use Rattle.std.specs.Str.{bytes_eq}
 use Rattle.gc_graph.specs.Tokens.{number_of}
+use Rattle.gc_cert.specs.Grammar.{heading}
 
 -- each byte is above the digits, and so none is a space or a line feed
 abbrev pub is_name : List ℕ → Bool
@@ -11,6 +12,10 @@ is_name (b ∷ bs) = nat_le 58 b && is_name bs
 -- this very line
 unfoldable pub is_line : List ℕ → List ℕ → Option (Unit {0})
 is_line wanted line = if bytes_eq line wanted then Some tt else None
+
+-- whether raw headers count, by a first line
+unfoldable pub raws_in : List ℕ → Option Bool
+raws_in line = if bytes_eq line (heading false) then Some false else if bytes_eq line (heading true) then Some true else None
 
 -- a word of a space or of its roots
 abbrev pub word_in : List ℕ → Option ℕ

@@ -1,5 +1,5 @@
 -- The sections of a pair text: what each spells, how it begins, and where it goes wrong.
-use Rattle.std.specs.Prelude.{◌≡◌, ℕ, ◌+◌, ⊤, List, [], ◌∷◌, ◌++◌, length}
+use Rattle.std.specs.Prelude.{◌≡◌, ℕ, ◌+◌, ⊤, Bool, List, [], ◌∷◌, ◌++◌, length}
 use Rattle.std.specs.List.{AllByRecursion}
 use Rattle.gc_graph.specs.Lines.{newline, HasNo, text_of}
 use Rattle.gc_cert.specs.declared.fault.PairFault.{PairFault}
@@ -25,6 +25,10 @@ AreAll InRange n vs = (length vs ≡ n) × AllByRecursion InRange vs
 -- the value of a line that says nothing but that it stands there
 abbrev pub Nothing : Unit {0} → Type 0
 Nothing u = Unit {0}
+
+-- the value of a first line, which is in range whatever it says
+abbrev pub AnyFlag : Bool → Type 0
+AnyFlag raws = Unit {0}
 
 -- the first lines of a section
 abbrev pub Begins : Section → List (List ℕ) → Type 0

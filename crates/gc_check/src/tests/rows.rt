@@ -1,6 +1,6 @@
 //! Small pairs of images, with what the rules say of them.
 
-use super::{Row, image, refused, yes};
+use super::{Row, image, refused, with_raws, yes};
 use crate::Refusal;
 
 /// A row whose images are alone, or whose certificate has one pair.
@@ -130,6 +130,51 @@ pub(super) fn many_pairs() -> [Row; 5] {
             new: image(8, 1, &[0], &[]),
             pairs: &[],
             answer: refused(Refusal::OldShape { at: 3 }),
+        },
+    ]
+}
+
+/// Rows of a raw object, or of a word that looks like one.
+pub(super) fn raw_objects() -> [Row; 6] {
+    [
+        // The headers of raw objects do not count.
+        Row {
+            old: image(8, 3, &[0, 50331648, 0], &[2]),
+            new: image(8, 3, &[0, 50331648, 0], &[2]),
+            pairs: &[(1, 1)],
+            answer: refused(Refusal::OldShape { at: 1 }),
+        },
+        Row {
+            old: with_raws(8, 3, &[0, 50331648, 0], &[2]),
+            new: with_raws(8, 3, &[0, 50331648, 0], &[2]),
+            pairs: &[(1, 1)],
+            answer: yes(1),
+        },
+        // A raw word is the number 18 and no reference to 9.
+        Row {
+            old: with_raws(9, 4, &[0, 50331649, 0, 18], &[2]),
+            new: with_raws(9, 4, &[0, 50331649, 0, 18], &[2]),
+            pairs: &[(1, 1)],
+            answer: yes(1),
+        },
+        Row {
+            old: with_raws(9, 4, &[0, 50331649, 0, 18], &[2]),
+            new: with_raws(9, 4, &[0, 50331649, 0, 8], &[2]),
+            pairs: &[(1, 1)],
+            answer: refused(Refusal::FieldDiffers { k: 0, i: 0 }),
+        },
+        // A raw word need not be a value.
+        Row {
+            old: with_raws(9, 4, &[0, 50331649, 0, 18446744073709551614], &[2]),
+            new: with_raws(9, 4, &[0, 50331649, 0, 18446744073709551614], &[2]),
+            pairs: &[(1, 1)],
+            answer: yes(1),
+        },
+        Row {
+            old: with_raws(8, 3, &[0, 16777216, 0], &[2]),
+            new: with_raws(8, 3, &[0, 50331648, 0], &[2]),
+            pairs: &[(1, 1)],
+            answer: refused(Refusal::HeaderDiffers { k: 0 }),
         },
     ]
 }

@@ -1,8 +1,8 @@
 -- What the private steps keep of a heap and of a collection, and words whose targets have replicas.
-use Rattle.std.specs.Prelude.{◌≡◌, ℕ, IsSome, ⊤}
+use Rattle.std.specs.Prelude.{◌≡◌, ℕ, if◌then◌else◌, IsSome, ⊤}
 use Rattle.gc_graph.specs.Graph.{Value, Nil, Num, Ref}
 use Rattle.gc_words.specs.Word.{value_of}
-use Rattle.gc_words.specs.Image.{blocks}
+use Rattle.gc_words.specs.Image.{Block, fresh_block, blocks}
 use Rattle.gc_heap.specs.Heap.{HeapWords, roomy_in}
 use Rattle.gc_copy.specs.State.{Collection, replica_of}
 use Rattle.gc_copy.specs.Words.{CollectionWords}
@@ -15,6 +15,10 @@ HasReplicaOf c (Ref name) = IsSome (replica_of c name)
 
 abbrev pub HasReplicaWord : Collection → ℕ → Type 0
 HasReplicaWord c word = HasReplicaOf c (value_of word)
+
+-- an object as its replica is placed: a raw one as it is, another with all field words 0
+abbrev pub replica_block : Block → Block
+replica_block b = if b.header.raw then b else fresh_block b.header
 
 -- links apart, the heap stays as it is
 pub record KeepsGraph (old new : HeapWords) : Type 0 where

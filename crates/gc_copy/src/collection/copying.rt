@@ -1,9 +1,11 @@
-ghost use Rattle.std.specs.Prelude.{◌≤◌, ◌<◌, IfSome, ◌≡◌, OnOk, OnErr, Some, None, IsTrue, IsSome};
+ghost use Rattle.std.specs.Prelude.{◌≤◌, ◌<◌, IfSome, ◌≡◌, OnOk, OnErr, Some, None, true, false, IsTrue, IsSome};
 ghost use Rattle.std.specs.Option.{option_map};
 ghost use Rattle.gc_graph.specs.Limits.{most_words};
 ghost use Rattle.gc_graph.specs.Graph.{lookup};
 ghost use Rattle.gc_words.specs.Word.{value_of, word_of};
-ghost use Rattle.gc_words.specs.Image.{is_start, field_at};
+ghost use Rattle.gc_words.specs.Image.{Block, block_at, is_start, header_at, field_at};
+ghost use Rattle.gc_words.specs.Space.{IsSpace, HasRoomFor, end_of, with_block};
+ghost use Rattle.gc_words.specs.declared.header.Header.{Header};
 ghost use Rattle.gc_words.specs.Closed.{IsRootWord};
 ghost use Rattle.gc_heap.specs.Heap.{graph_in};
 ghost use Rattle.gc_copy.specs.State.{replica_of as replica_in, moved};
@@ -11,12 +13,12 @@ ghost use Rattle.gc_copy.specs.Steps.{place_replica as placed_in, with_replica a
 ghost use Rattle.gc_copy.specs.Steps.{bring_up_to_date as brought_in, apply_entry as applied_in};
 ghost use Rattle.gc_copy.specs.Entries.{entry_in};
 ghost use Rattle.gc_copy.specs.Words.{collection_in, BelongsTo};
-ghost use Rattle.gc_copy.specs.Internal.Words.{HasReplicaWord, KeepsGraph, KeepsRest};
+ghost use Rattle.gc_copy.specs.Internal.Words.{replica_block, HasReplicaWord, KeepsGraph, KeepsRest};
 
 use super::Collection;
 use crate::log::LogEntry;
 use gc_heap::Heap;
-use gc_words::{Addr, NewAddr, OldAddr, Value, encode, target_of};
+use gc_words::{Addr, NewAddr, OldAddr, Space, Value, encode, target_of};
 
 /// A replica has to be placed, and the new space has no room for it.
 #[derive(Debug, Drop)]
@@ -56,7 +58,7 @@ impl Collection {
         }
     }
 
-    /// Places a fresh replica at the new end: the original's header, all fields nil.
+    /// Places a fresh replica at the new end: the original's header, all fields nil, but those of a raw object as they are.
     pub(super) fn place_replica(&mut self, heap: &mut Heap, original: OldAddr) -> Result<(), NoRoom>
         requires belongs { BelongsTo heap.old self.old }
         requires start { IsTrue (is_start heap.old.space.words original.0) }
@@ -73,7 +75,7 @@ impl Collection {
         if !self.space.has_room(header.len()) {
             return Err(NoRoom);
         }
-        let replica = self.space.place(header);
+        let replica = place_fresh(&mut self.space, heap, original);
         self.space.set_link(replica, u64::from(original.0));
         heap.set_link(original, NewAddr(replica.0));
         Ok(())
@@ -103,7 +105,7 @@ impl Collection {
     }
 
     /// Reads the original's present field and writes the same nil or number, or the reference to the target's
-    /// replica, into the replica.
+    /// replica, into the replica. The word of a raw field is copied.
     pub(super) fn bring_up_to_date(
         &mut self,
         heap: &mut Heap,
@@ -114,6 +116,49 @@ impl Collection {
         requires belongs { BelongsTo heap.old self.old }
         requires field { IsSome (field_at heap.old.space.words original.0 field) }
         requires replica { option_map (λ r. r.place) (replica_in (collection_in self.old) original.0) ≡ Some replica.0 }
+        ensures brought { OnOk result (brought_in (collection_in self.old) (graph_in heap.old) original.0 field
+            ≡ Some (collection_in self.new)) }
+        ensures full { OnErr result ((brought_in (collection_in self.old) (graph_in heap.old) original.0 field ≡ None)
+            × (self.new ≡ self.old) × (heap.new ≡ heap.old)) }
+        ensures belongs { BelongsTo heap.new self.new }
+        ensures graph { KeepsGraph heap.old heap.new }
+        ensures rest { KeepsRest self.old self.new }
+    {
+        if heap.space().header(Addr(original.0)).is_raw() {
+            self.copy_field(heap, original, replica, field);
+            Ok(())
+        } else {
+            self.move_field(heap, original, replica, field)
+        }
+    }
+
+    /// The same of an object that is raw.
+    fn copy_field(&mut self, heap: &Heap, original: OldAddr, replica: NewAddr, field: u16)
+        requires belongs { BelongsTo heap.now self.old }
+        requires field { IsSome (field_at heap.now.space.words original.0 field) }
+        requires replica { option_map (λ r. r.place) (replica_in (collection_in self.old) original.0) ≡ Some replica.0 }
+        requires raw { (h : Header) → header_at heap.now.space.words original.0 ≡ Some h → h.raw ≡ true }
+        ensures brought { brought_in (collection_in self.old) (graph_in heap.now) original.0 field
+            ≡ Some (collection_in self.new) }
+        ensures belongs { BelongsTo heap.now self.new }
+        ensures rest { KeepsRest self.old self.new }
+    {
+        let word = heap.space().field(Addr(original.0), field);
+        self.space.set_field(Addr(replica.0), field, word);
+    }
+
+    /// The same of an object that is not.
+    fn move_field(
+        &mut self,
+        heap: &mut Heap,
+        original: OldAddr,
+        replica: NewAddr,
+        field: u16,
+    ) -> Result<(), NoRoom>
+        requires belongs { BelongsTo heap.old self.old }
+        requires field { IsSome (field_at heap.old.space.words original.0 field) }
+        requires replica { option_map (λ r. r.place) (replica_in (collection_in self.old) original.0) ≡ Some replica.0 }
+        requires plain { (h : Header) → header_at heap.old.space.words original.0 ≡ Some h → h.raw ≡ false }
         ensures brought { OnOk result (brought_in (collection_in self.old) (graph_in heap.old) original.0 field
             ≡ Some (collection_in self.new)) }
         ensures full { OnErr result ((brought_in (collection_in self.old) (graph_in heap.old) original.0 field ≡ None)
@@ -145,5 +190,22 @@ impl Collection {
             Some(replica) => self.bring_up_to_date(heap, entry.object, replica, entry.field),
             None => Ok(()),
         }
+    }
+}
+
+/// Places what a replica holds at first, and gives its address.
+fn place_fresh(space: &mut Space, heap: &Heap, original: OldAddr) -> Addr
+    requires start { IsTrue (is_start heap.now.space.words original.0) }
+    requires room { (h : Header) → header_at heap.now.space.words original.0 ≡ Some h → HasRoomFor space.old h.len }
+    ensures at { result.0 ≡ end_of space.old }
+    ensures words { (b : Block) → block_at heap.now.space.words original.0 ≡ Some b
+        → space.new ≡ with_block space.old (replica_block b) }
+    ensures shaped { IsSpace space.new }
+{
+    let header = heap.space().header(Addr(original.0));
+    if header.is_raw() {
+        space.place_copy(heap.space(), Addr(original.0))
+    } else {
+        space.place(header)
     }
 }

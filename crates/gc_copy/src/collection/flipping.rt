@@ -12,7 +12,7 @@ use super::Collection;
 use crate::pairs::linked_pairs;
 use gc_graph::NoMemory;
 use gc_heap::Heap;
-use gc_words::{ImageRef, Pair, Space};
+use gc_words::{Addr, ImageRef, NewAddr, OldAddr, Pair, Space};
 use std::alloc::Global;
 
 impl Collection {
@@ -34,6 +34,7 @@ impl Collection {
             end: self.space.end(),
             words: self.space.words(),
             roots,
+            raws: true,
         }
     }
 
@@ -58,7 +59,9 @@ impl Collection {
         heap.replace(space, roots)
     }
 
-    /// Gives the new space and the logs up, and clears the old space's links.
+    /// Ends the collection without a flip: frees the new space (to-space) and the logs, and clears the old space's
+    /// links. Only originals have a link, and each replica's link names its original. So the work is in the
+    /// replicas that were placed, and not in the objects of the heap.
     pub fn drop_into(self, heap: &mut Heap)
         requires { BelongsTo heap.old self }
         ensures step { collect (open_state heap.old self) Step.Drop ≡ (StepReply.Dropped, idle_state heap.new) }
@@ -68,6 +71,11 @@ impl Collection {
     {
         // Here the prover learns that the heap is sound.
         let _ = heap.space();
-        heap.clear_links();
+        let mut at = Addr(1);
+        while at.0 < self.space.end() {
+            let original = OldAddr(self.space.link(at) as u32);
+            heap.set_link(original, NewAddr(0));
+            at = self.space.next_start(at);
+        }
     }
 }

@@ -1,4 +1,4 @@
-ghost use Rattle.std.specs.Prelude.{IsTrue, ◌≡◌, ◌≢◌, ◌<◌, ◌≤◌};
+ghost use Rattle.std.specs.Prelude.{IsTrue, ◌≡◌, ◌≢◌, ◌<◌, ◌≤◌, ◌==◌, ◌||◌};
 ghost use Rattle.gc_words.specs.Space.{image_with};
 ghost use Rattle.gc_words.specs.Certificate.{Certified};
 ghost use Rattle.gc_heap.specs.Heap.{image_of, graph_in};
@@ -13,7 +13,7 @@ use super::copying::NoRoom;
 use crate::laws::{images_show_links, room_suffices};
 use crate::step::StepReply;
 use gc_heap::Heap;
-use gc_words::{NewAddr, OldAddr};
+use gc_words::{Header, NewAddr, OldAddr};
 
 impl Collection {
     /// Replicates the target of the first root whose target has no replica: `Copied`, `NoRoom`, or `Clean` where
@@ -39,7 +39,7 @@ impl Collection {
     }
 
     /// Brings the field at the scan pointer up to date: `Scanned`, or `NoRoom`; or goes on to the next replica:
-    /// `Passed`. `Clean` where all is scanned.
+    /// `Passed`, at once from a raw one. `Clean` where all is scanned.
     pub fn scan(&mut self, heap: &mut Heap) -> StepReply
         requires { BelongsTo heap.old self.old }
         ensures step { collect (open_state heap.old self.old) Step.Scan ≡ (result, open_state heap.new self.new) }
@@ -55,7 +55,8 @@ impl Collection {
         }
         let at = self.scan_place;
         let field = self.scan_field;
-        if field == self.space.header(at).len() {
+        let header = self.space.header(at);
+        if is_scanned(header, field) {
             self.scan_place = self.space.next_start(at);
             self.scan_field = 0;
             return StepReply::Passed;
@@ -118,4 +119,11 @@ impl Collection {
         let _ = &self.space;
         self.next_log().is_none() && self.scan_done() && self.roots_done(heap)
     }
+}
+
+/// Whether nothing is left to scan from this field on: of a raw object nothing ever is.
+fn is_scanned(header: Header, field: u16) -> bool
+    ensures { result ≡ (header.raw || (field == header.len)) }
+{
+    header.is_raw() || field == header.len()
 }

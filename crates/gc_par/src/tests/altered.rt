@@ -176,6 +176,26 @@ fn cycle_of_two(rt: HostRuntime) -> Result<(), Fail> {
     expect_agreement_on_pairs(&rt, rt.alloc(), flip)
 }
 
+/// A raw object whose words look like references, or like no value, and one that refers to it.
+#[test]
+fn raw_words_are_no_references(rt: HostRuntime) -> Result<(), Fail> {
+    let words = [0, 50397186, 1, 18, 18446744073709551614, 16777217, 5, 2];
+    let roots = roots(2, 10, 0, 0);
+    let both = ImageRef {
+        raws: true,
+        ..image(32, &words, &roots)
+    };
+    let flip = Flip {
+        old: both,
+        new: both,
+        pairs: &[pair(1, 1), pair(5, 5)],
+    };
+    expect_answer(&rt, rt.alloc(), flip, Ok(Yes { pairs: 2 }))?;
+    expect_agreement_on_words(&rt, rt.alloc(), flip)?;
+    expect_agreement_on_roots(&rt, rt.alloc(), flip)?;
+    expect_agreement_on_pairs(&rt, rt.alloc(), flip)
+}
+
 /// One object is kept, at another address, and one is left behind. The first own slot alone is not nil.
 fn one_kept<'a>(old_roots: &'a [u64; 32], new_roots: &'a [u64; 32]) -> Flip<'a> {
     Flip {

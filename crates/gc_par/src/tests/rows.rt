@@ -1,7 +1,7 @@
 //! Small pairs of images as texts, with their verdicts.
 
+use super::changed;
 use super::slow_check::slow_check;
-use super::{changed, image};
 use crate::check_par;
 use gc_cert::{PairFile, read_pair};
 use gc_check::{Yes, check};
@@ -85,15 +85,49 @@ pub(super) const ROWS: [(&str, &str); 18] = [
     ),
 ];
 
-/// The text of a row.
-pub(super) fn text_of(alloc: Global, lines: &str) -> Result<String, AllocError> {
-    let text = format!(in alloc; "heappair 1/{lines}/end/")?;
+/// Texts of either version with raw objects, or with words that look like their headers.
+pub(super) const RAW_ROWS: [(u32, &str, &str); 6] = [
+    (
+        1,
+        "old 8 3/0/50331648/0/roots 1/2/new 8 3/0/50331648/0/roots 1/2/pairs 1/1 1",
+        "refused 1 OldShape 1\n",
+    ),
+    (
+        2,
+        "old 8 3/0/50331648/0/roots 1/2/new 8 3/0/50331648/0/roots 1/2/pairs 1/1 1",
+        "yes 1\n",
+    ),
+    (
+        2,
+        "old 9 4/0/50331649/0/18/roots 1/2/new 9 4/0/50331649/0/18/roots 1/2/pairs 1/1 1",
+        "yes 1\n",
+    ),
+    (
+        2,
+        "old 9 4/0/50331649/0/18/roots 1/2/new 9 4/0/50331649/0/8/roots 1/2/pairs 1/1 1",
+        "refused 9 FieldDiffers 0 0\n",
+    ),
+    (
+        2,
+        "old 9 4/0/50331649/0/18446744073709551614/roots 1/2/new 9 4/0/50331649/0/18446744073709551614/roots 1/2/pairs 1/1 1",
+        "yes 1\n",
+    ),
+    (
+        2,
+        "old 8 3/0/16777216/0/roots 1/2/new 8 3/0/50331648/0/roots 1/2/pairs 1/1 1",
+        "refused 8 HeaderDiffers 0\n",
+    ),
+];
+
+/// The text of a row, in this version.
+pub(super) fn text_of(alloc: Global, version: u32, lines: &str) -> Result<String, AllocError> {
+    let text = format!(in alloc; "heappair {version}/{lines}/end/")?;
     text.replace(alloc, '/', "\n")
 }
 
 /// The pair that the text of a row spells.
-fn read_row(alloc: Global, lines: &str) -> Result<PairFile, Fail> {
-    let text = text_of(alloc, lines)?;
+fn read_row(alloc: Global, version: u32, lines: &str) -> Result<PairFile, Fail> {
+    let text = text_of(alloc, version, lines)?;
     Ok(read_pair(alloc, &mut Source::new(text.as_bytes()))?)
 }
 
@@ -102,7 +136,7 @@ fn read_row(alloc: Global, lines: &str) -> Result<PairFile, Fail> {
 fn pairs_that_are_read_get_yes(rt: HostRuntime) -> Result<(), Fail> {
     let alloc = rt.alloc();
     for (row, pairs) in [(0, 0), (9, 1), (16, 2)] {
-        let file = read_row(alloc, ROWS[row].0)?;
+        let file = read_row(alloc, 1, ROWS[row].0)?;
         let (old, new) = (file.old.as_ref(), file.new.as_ref());
         assert_eq!(rt; file.pairs.len(), pairs as usize);
         assert_eq!(rt; check(alloc, old, new, &file.pairs), Ok(Yes { pairs }));
@@ -115,7 +149,9 @@ fn pairs_that_are_read_get_yes(rt: HostRuntime) -> Result<(), Fail> {
 }
 
 /// Words that may stand anywhere in the rows.
-const WORDS: [u64; 9] = [0, 1, 2, 3, 6, 16777216, 16777217, 16842752, 2097152];
+const WORDS: [u64; 11] = [
+    0, 1, 2, 3, 6, 16777216, 16777217, 16842752, 2097152, 50331648, 50331649,
+];
 
 /// Both checkers give the slow one's answer.
 fn expect_slow_answer(
@@ -131,6 +167,14 @@ fn expect_slow_answer(
     assert_eq!(rt; check_par(rt, alloc, old, new, cert), expected);
 }
 
+fn with_words<'a>(image: ImageRef<'a>, words: &'a [u64]) -> ImageRef<'a> {
+    ImageRef { words, ..image }
+}
+
+fn with_roots<'a>(image: ImageRef<'a>, roots: &'a [u64]) -> ImageRef<'a> {
+    ImageRef { roots, ..image }
+}
+
 /// Answers the pair with another word at one place of the old words and roots, and then of the new ones.
 fn expect_neighbours(
     rt: &(impl Threads + Sync + Abort),
@@ -142,16 +186,16 @@ fn expect_neighbours(
 ) -> Result<(), AllocError> {
     let words = changed(alloc, old.words, &[change])?;
     let roots = changed(alloc, old.roots, &[change])?;
-    let other = image(old.size, words.as_slice(), old.roots);
+    let other = with_words(old, words.as_slice());
     expect_slow_answer(rt, alloc, other, new, cert);
-    let other = image(old.size, old.words, roots.as_slice());
+    let other = with_roots(old, roots.as_slice());
     expect_slow_answer(rt, alloc, other, new, cert);
 
     let words = changed(alloc, new.words, &[change])?;
     let roots = changed(alloc, new.roots, &[change])?;
-    let other = image(new.size, words.as_slice(), new.roots);
+    let other = with_words(new, words.as_slice());
     expect_slow_answer(rt, alloc, old, other, cert);
-    let other = image(new.size, new.words, roots.as_slice());
+    let other = with_roots(new, roots.as_slice());
     expect_slow_answer(rt, alloc, old, other, cert);
     Ok(())
 }
@@ -159,8 +203,22 @@ fn expect_neighbours(
 #[test]
 fn changed_rows_are_answered_alike(rt: HostRuntime) -> Result<(), Fail> {
     for (lines, _) in ROWS {
-        let file = read_row(rt.alloc(), lines)?;
+        let file = read_row(rt.alloc(), 1, lines)?;
         for place in 0..7 {
+            for word in WORDS {
+                let (old, new) = (file.old.as_ref(), file.new.as_ref());
+                expect_neighbours(&rt, rt.alloc(), old, new, &file.pairs, (place, word))?;
+            }
+        }
+    }
+    Ok(())
+}
+
+#[test]
+fn raw_objects_are_compared_word_by_word(rt: HostRuntime) -> Result<(), Fail> {
+    for (version, lines, _) in RAW_ROWS {
+        let file = read_row(rt.alloc(), version, lines)?;
+        for place in 0..4 {
             for word in WORDS {
                 let (old, new) = (file.old.as_ref(), file.new.as_ref());
                 expect_neighbours(&rt, rt.alloc(), old, new, &file.pairs, (place, word))?;

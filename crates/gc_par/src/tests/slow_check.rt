@@ -52,7 +52,7 @@ fn shape(image: ImageRef) -> Option<u64> {
             inside -= 1;
             continue;
         }
-        match Header::read(image.words[at]) {
+        match header_in(image, image.words[at]) {
             Some(header) if at + 2 + usize::from(header.len()) <= image.words.len() => {
                 inside = usize::from(header.len()) + 1;
             }
@@ -60,6 +60,15 @@ fn shape(image: ImageRef) -> Option<u64> {
         }
     }
     None
+}
+
+// Headers of raw objects count in some images.
+fn header_in(image: ImageRef, word: u64) -> Option<Header> {
+    let header = Header::read(word)?;
+    if header.is_raw() && !image.raws {
+        return None;
+    }
+    Some(header)
 }
 
 fn is_start(words: &[u64], place: u32) -> bool {
@@ -100,10 +109,16 @@ fn objects(old: ImageRef, new: ImageRef, cert: &[Pair], k: u64, pair: Pair) -> O
     if Some(&header) != new.words.get(new_at) {
         return Some(Refusal::HeaderDiffers { k });
     }
-    for i in 0..usize::from(Header::read(header)?.len()) {
+    let header = Header::read(header)?;
+    for i in 0..usize::from(header.len()) {
         let v = old.words.get(old_at + 2 + i).copied().unwrap_or(0);
         let w = new.words.get(new_at + 2 + i).copied().unwrap_or(0);
-        if !correspond(cert, v, w) {
+        let alike = if header.is_raw() {
+            v == w
+        } else {
+            correspond(cert, v, w)
+        };
+        if !alike {
             return Some(Refusal::FieldDiffers { k, i: i as u64 });
         }
     }

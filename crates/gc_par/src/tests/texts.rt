@@ -1,6 +1,6 @@
 //! The lines that `check_text` and `check_text_par` write, and the faults that they name.
 
-use super::rows::{ROWS, text_of};
+use super::rows::{RAW_ROWS, ROWS, text_of};
 use crate::check_text_par;
 use gc_cert::PairFault;
 use gc_check::{RunFault, Verdict, check_text};
@@ -49,10 +49,22 @@ pub(super) fn line<R: Read + Drop>(
 #[test]
 fn texts_get_their_lines(rt: HostRuntime) -> Result<(), Fail> {
     for (lines, answer) in ROWS {
-        let text = text_of(rt.alloc(), lines)?;
+        let text = text_of(rt.alloc(), 1, lines)?;
         for check in TEXT_CHECKS {
             let found = line(&rt, check, rt.alloc(), text.as_bytes())?;
             assert_eq!(rt; found.as_slice(), answer.as_bytes(), "of {lines}");
+        }
+    }
+    Ok(())
+}
+
+#[test]
+fn texts_with_raw_objects_get_their_lines(rt: HostRuntime) -> Result<(), Fail> {
+    for (version, lines, answer) in RAW_ROWS {
+        let text = text_of(rt.alloc(), version, lines)?;
+        for check in TEXT_CHECKS {
+            let found = line(&rt, check, rt.alloc(), text.as_bytes())?;
+            assert_eq!(rt; found.as_slice(), answer.as_bytes(), "of {version} {lines}");
         }
     }
     Ok(())

@@ -119,6 +119,49 @@ fn a_write_is_seen(rt: HostRuntime) -> Result<(), Fail> {
     Ok(())
 }
 
+/// The first mutator writes 5 into the second field of a new shared raw object. The second one reads that field, and
+/// tries to write a reference into the first.
+fn write_and_read_raw() -> Result<([Op; 3], [Op; 2]), Fail> {
+    let g0 = Slot::shared(0).ok_or("slot")?;
+    let r0 = Slot::own(0).ok_or("slot")?;
+    let r1 = Slot::own(1).ok_or("slot")?;
+    let five = Number::new(5).ok_or("number")?;
+    let writes = [
+        Op::NewRaw {
+            d: g0,
+            kind: 1,
+            len: 2,
+        },
+        Op::Num { d: r0, n: five },
+        Op::Put { s: g0, i: 1, t: r0 },
+    ];
+    let reads = [
+        Op::Get { d: r1, s: g0, i: 1 },
+        Op::Put { s: g0, i: 0, t: g0 },
+    ];
+    Ok((writes, reads))
+}
+
+#[test]
+fn a_write_to_a_raw_object_is_seen(rt: HostRuntime) -> Result<(), Fail> {
+    let _named = View::Nil;
+    let (writes, reads) = write_and_read_raw()?;
+    let scripts = two(rt.alloc(), &writes, &reads)?;
+    let gate = WaitsForWrite {
+        rt: &rt,
+        written: AtomicBool::new(false),
+    };
+    let world = run_threads(&rt, rt.alloc(), 64, scripts, 40, &gate)?;
+    assert_eq!(rt; world.history().len(), 45);
+    assert!(rt; answers_of(&world, 0, Answer::Mutator(Reply::Made)) == 1);
+    assert!(rt; answers_of(&world, 0, Answer::Mutator(Reply::Done)) == 2);
+    let five = Number::new(5).ok_or("number")?;
+    let saw_five = Answer::Mutator(Reply::Saw(View::Num(five)));
+    assert!(rt; answers_of(&world, 1, saw_five) == 1);
+    assert!(rt; answers_of(&world, 1, Answer::Mutator(Reply::NoNumber)) == 1);
+    Ok(())
+}
+
 /// How often this answer was given to a command of mutator m.
 fn answers_of(world: &World, m: u8, answer: Answer) -> u32 {
     let mut count: u32 = 0;

@@ -3,8 +3,8 @@ ghost use Rattle.std.specs.Prelude.{◌≤◌};
 use crate::tests::rows::{
     COLLECT_WHEN_FULL, CYCLE_OF_TWO, ENTRY_WITHOUT_ROOM, LINK_LEFT_OVER, LOG_ACROSS_TWO_MUTATORS,
     LOG_ENTRY_WITHOUT_A_REPLICA, NO_EVENTS, NOTHING_IS_FREED, NOTHING_TO_COPY,
-    ROOT_MADE_AFTER_THE_SCAN, ROOT_WITHOUT_ROOM, Row, SCAN_WITHOUT_ROOM, SECOND_COLLECTION,
-    SMALLER_SPACE, WRITE_WHILE_SCANNING,
+    RAW_WORDS_KEEP_NOTHING, RAW_WRITTEN_WHILE_COPIED, ROOT_MADE_AFTER_THE_SCAN, ROOT_WITHOUT_ROOM,
+    Row, SCAN_WITHOUT_ROOM, SECOND_COLLECTION, SMALLER_SPACE, WRITE_WHILE_SCANNING,
 };
 use crate::tests::streams::{End, Narrow, Slow};
 use crate::{PlayFault, TraceFault, play_pair};
@@ -15,7 +15,7 @@ use std::test::Fail;
 
 /// The pair of a collection when the space was full: one object of two was kept, and the other is left behind.
 pub const ONE_KEPT: &[u8] = b"\
-    heappair 1\n\
+    heappair 2\n\
     old 9 9\n0\n16842754\n0\n0\n0\n16842754\n1\n0\n0\n\
     roots 32\n0\n0\n0\n0\n0\n0\n0\n0\n0\n0\n0\n0\n0\n0\n0\n0\n10\n0\n0\n0\n0\n0\n0\n0\n0\n0\n0\n0\n0\n0\n0\n0\n\
     new 9 5\n0\n16842754\n5\n0\n0\n\
@@ -24,16 +24,25 @@ pub const ONE_KEPT: &[u8] = b"\
 
 /// Two objects, both of them kept. Each replica has the address of its original, and so the link of each is its own.
 const BOTH_KEPT: &[u8] = b"\
-    heappair 1\n\
+    heappair 2\n\
     old 9 7\n0\n16842754\n1\n0\n0\n16777216\n5\n\
     roots 32\n0\n0\n0\n0\n0\n0\n0\n0\n0\n0\n0\n0\n0\n0\n0\n0\n2\n10\n0\n0\n0\n0\n0\n0\n0\n0\n0\n0\n0\n0\n0\n0\n\
     new 9 7\n0\n16842754\n1\n0\n0\n16777216\n5\n\
     roots 32\n0\n0\n0\n0\n0\n0\n0\n0\n0\n0\n0\n0\n0\n0\n0\n0\n2\n10\n0\n0\n0\n0\n0\n0\n0\n0\n0\n0\n0\n0\n0\n0\n\
     pairs 2\n1 1\n5 5\nend\n";
 
+/// A raw object. Its words are the numbers themselves, and its replica has them as they are.
+const RAW_KEPT: &[u8] = b"\
+    heappair 2\n\
+    old 16 5\n0\n50790402\n1\n8\n10\n\
+    roots 32\n0\n0\n0\n0\n0\n0\n0\n0\n0\n0\n0\n0\n0\n0\n0\n0\n2\n21\n0\n0\n0\n0\n0\n0\n0\n0\n0\n0\n0\n0\n0\n0\n\
+    new 16 5\n0\n50790402\n1\n8\n10\n\
+    roots 32\n0\n0\n0\n0\n0\n0\n0\n0\n0\n0\n0\n0\n0\n0\n0\n0\n2\n21\n0\n0\n0\n0\n0\n0\n0\n0\n0\n0\n0\n0\n0\n0\n\
+    pairs 1\n1 1\nend\n";
+
 /// Two spaces without objects.
 const NONE_KEPT: &[u8] = b"\
-    heappair 1\n\
+    heappair 2\n\
     old 8 1\n0\n\
     roots 32\n0\n0\n0\n0\n0\n0\n0\n0\n0\n0\n0\n0\n0\n0\n0\n0\n0\n0\n0\n0\n0\n0\n0\n0\n0\n0\n0\n0\n0\n0\n0\n0\n\
     new 8 1\n0\n\
@@ -41,7 +50,7 @@ const NONE_KEPT: &[u8] = b"\
     pairs 0\nend\n";
 
 /// The rows with a flip, and how many pairs their first one has.
-const FIRST_FLIPS: [(Row, u32); 13] = [
+const FIRST_FLIPS: [(Row, u32); 15] = [
     (COLLECT_WHEN_FULL, 1),
     (WRITE_WHILE_SCANNING, 1),
     (LOG_ACROSS_TWO_MUTATORS, 1),
@@ -55,6 +64,8 @@ const FIRST_FLIPS: [(Row, u32); 13] = [
     (SMALLER_SPACE, 1),
     (SCAN_WITHOUT_ROOM, 1),
     (ENTRY_WITHOUT_ROOM, 1),
+    (RAW_WRITTEN_WHILE_COPIED, 1),
+    (RAW_WORDS_KEEP_NOTHING, 1),
 ];
 
 /// The text of the pair that the trace's n-th flip has.
@@ -76,6 +87,10 @@ fn the_pair_of_a_flip_is_written(rt: HostRuntime) -> Result<(), Fail> {
     assert_eq!(rt;
         pair_text(alloc, 1, NOTHING_TO_COPY.trace)?.as_slice(),
         NONE_KEPT
+    );
+    assert_eq!(rt;
+        pair_text(alloc, 1, RAW_WRITTEN_WHILE_COPIED.trace)?.as_slice(),
+        RAW_KEPT
     );
     Ok(())
 }

@@ -7,7 +7,7 @@ use gc_world::Event;
 use std::test::Fail;
 
 /// Texts, parted by slashes in place of line feeds, and the first fault of each.
-const BAD_TEXTS: [(&str, TraceFault); 18] = [
+const BAD_TEXTS: [(&str, TraceFault); 21] = [
     ("", TraceFault::BadHeader),
     ("heaptrace 1/space 0 mutators 1/", TraceFault::BadHeader),
     ("heaptrace 1/space 8 mutators 17/", TraceFault::BadHeader),
@@ -64,7 +64,19 @@ const BAD_TEXTS: [(&str, TraceFault); 18] = [
         "heaptrace 1/space 8 mutators 1/c begin 12/",
         TraceFault::BadLine(3),
     ),
-    ("heaptrace 3/space 8 mutators 1/", TraceFault::BadHeader),
+    (
+        "heaptrace 1/space 8 mutators 1/m 0 raw r0 7 2/",
+        TraceFault::BadLine(3),
+    ),
+    (
+        "heaptrace 2/space 8 mutators 1/m 0 raw r0 7 2/",
+        TraceFault::BadLine(3),
+    ),
+    (
+        "heaptrace 3/space 8 mutators 1/m 0 raw r0 7 65536/",
+        TraceFault::BadLine(3),
+    ),
+    ("heaptrace 4/space 8 mutators 1/", TraceFault::BadHeader),
 ];
 
 #[test]
@@ -105,6 +117,26 @@ fn a_collection_may_have_its_size_in_the_second_version(rt: HostRuntime) -> Resu
     assert_eq!(rt; trace.version, 2);
     assert_eq!(rt; trace.events.len(), 2);
     assert_eq!(rt; trace.events[0], Event::Collect(Step::Begin));
+    assert_eq!(rt; trace.events[1], Event::Collect(Step::BeginSized(12)));
+    Ok(())
+}
+
+#[test]
+fn raw_objects_are_read_in_the_third_version(rt: HostRuntime) -> Result<(), Fail> {
+    let text = b"heaptrace 3\nspace 8 mutators 1\nm 0 raw r1 7 65535\nc begin 12\n";
+    let trace = read_trace(rt.alloc(), &mut Source::new(text.as_slice()))?;
+    assert_eq!(rt; trace.version, 3);
+    assert_eq!(rt; trace.events.len(), 2);
+    let d = Slot::own(1).ok_or("slot")?;
+    let raw = Event::Mutate {
+        m: 0,
+        op: Op::NewRaw {
+            d,
+            kind: 7,
+            len: 65535,
+        },
+    };
+    assert_eq!(rt; trace.events[0], raw);
     assert_eq!(rt; trace.events[1], Event::Collect(Step::BeginSized(12)));
     Ok(())
 }

@@ -1,7 +1,7 @@
 ghost use Rattle.std.specs.Prelude.{◌≡◌, IfOk};
 
 use crate::report::NOTHING;
-use crate::tests::rows::{COLLECT_WHEN_FULL, NO_EVENTS, ROWS};
+use crate::tests::rows::{COLLECT_WHEN_FULL, NO_EVENTS, RAW_WORDS_KEEP_NOTHING, ROWS};
 use crate::tests::streams::{End, Narrow, Slow};
 use crate::tests::worlds::{command, step, useful};
 use crate::{PlayFault, Report, TraceFault, play, play_report, report_of, write_report};
@@ -150,6 +150,15 @@ fn the_report_of_a_play_is_written_alone(rt: HostRuntime) -> Result<(), Fail> {
         flips 0\npairs 0\ndropped 0\nrefused 0\nend 1\nfree 7\n";
     let found = reported(rt.alloc(), NO_EVENTS.trace)?;
     assert_eq!(rt; found.as_slice(), nothing.as_slice());
+    Ok(())
+}
+
+#[test]
+fn raw_objects_are_counted_as_others(rt: HostRuntime) -> Result<(), Fail> {
+    let want = b"events 13\nmade 2\nfull 1\nbegun 1\ncopied 1\nscanned 0\napplied 0\n\
+        flips 1\npairs 1\ndropped 0\nrefused 0\nend 4\nfree 0\n";
+    let found = reported(rt.alloc(), RAW_WORDS_KEEP_NOTHING.trace)?;
+    assert_eq!(rt; found.as_slice(), want.as_slice());
     Ok(())
 }
 

@@ -201,8 +201,29 @@ pub const ENTRY_WITHOUT_ROOM: Row = Row {
         applied\nclean\nflipped 1\n",
 };
 
+/// A raw object takes numbers alone, and is written before it is copied and after.
+pub const RAW_WRITTEN_WHILE_COPIED: Row = Row {
+    name: "raw_written_while_copied",
+    trace: b"heaptrace 3\nspace 16 mutators 1\nm 0 raw r0 7 2\nm 0 look r0\nm 0 get r1 r0 1\n\
+        m 0 put r0 0 r2\nm 0 put r0 2 r2\nm 0 num r1 8\nm 0 put r0 0 r1\nc begin\nc roots\n\
+        m 0 num r1 10\nm 0 put r0 1 r1\nc scan\nc scan\nc flip\nc apply 0\nc flip\n\
+        m 0 get r2 r0 0\nm 0 get r2 r0 1\n",
+    replies: b"made\nsaw raw 7 2\nsaw num 0\nno number\nno field\ndone\ndone\nbegun\ncopied\n\
+        done\ndone\npassed\nclean\nnot ready\napplied\nflipped 1\nsaw num 8\nsaw num 10\n",
+};
+
+/// A raw field whose word would be a reference to an object keeps no object, and a collection may choose its size.
+pub const RAW_WORDS_KEEP_NOTHING: Row = Row {
+    name: "raw_words_keep_nothing",
+    trace: b"heaptrace 3\nspace 16 mutators 1\nm 0 new r0 1 0\nm 0 raw r1 0 1\nm 0 num r2 2\n\
+        m 0 put r1 0 r2\nm 0 nil r0\nc begin 4\nc roots\nc roots\nc scan\nc scan\nc flip\n\
+        m 0 get r3 r1 0\nm 0 raw r4 0 0\n",
+    replies: b"made\nmade\ndone\ndone\ndone\nbegun\ncopied\nclean\npassed\nclean\nflipped 1\n\
+        saw num 2\nfull\n",
+};
+
 /// All of them.
-pub const ROWS: [Row; 21] = [
+pub const ROWS: [Row; 23] = [
     NO_ROOM_AT_ALL,
     ONE_OBJECT_FILLS_THE_SPACE,
     GREATEST_NUMBER,
@@ -224,4 +245,6 @@ pub const ROWS: [Row; 21] = [
     SMALLER_SPACE,
     SCAN_WITHOUT_ROOM,
     ENTRY_WITHOUT_ROOM,
+    RAW_WRITTEN_WHILE_COPIED,
+    RAW_WORDS_KEEP_NOTHING,
 ];

@@ -42,7 +42,7 @@ fn worked_rows_are_written_as_they_stand(rt: HostRuntime) -> Result<(), Fail> {
 }
 
 #[test]
-fn each_command_has_its_line(rt: HostRuntime) -> Result<(), Fail> {
+fn each_command_has_its_line_in_the_least_version(rt: HostRuntime) -> Result<(), Fail> {
     let alloc = rt.alloc();
     let _named: Option<Op> = None;
     let r0 = Slot::own(0).ok_or("slot")?;
@@ -55,23 +55,31 @@ fn each_command_has_its_line(rt: HostRuntime) -> Result<(), Fail> {
         kind: 255,
         len: 65535,
     };
-    for (op, line) in [
-        (new, "m 15 new r0 255 65535"),
+    let raw = Op::NewRaw {
+        d: g10,
+        kind: 255,
+        len: 65535,
+    };
+    for (op, version, line) in [
+        (new, 1, "m 15 new r0 255 65535"),
+        (raw, 3, "m 15 raw g10 255 65535"),
         (
             Op::Num {
                 d: r15,
                 n: greatest,
             },
+            1,
             "m 15 num r15 9223372036854775807",
         ),
-        (Op::Nil { d: g10 }, "m 15 nil g10"),
-        (Op::Move { d: g0, s: r15 }, "m 15 move g0 r15"),
+        (Op::Nil { d: g10 }, 1, "m 15 nil g10"),
+        (Op::Move { d: g0, s: r15 }, 1, "m 15 move g0 r15"),
         (
             Op::Get {
                 d: r0,
                 s: g10,
                 i: 0,
             },
+            1,
             "m 15 get r0 g10 0",
         ),
         (
@@ -80,13 +88,14 @@ fn each_command_has_its_line(rt: HostRuntime) -> Result<(), Fail> {
                 i: 7,
                 t: r15,
             },
+            1,
             "m 15 put g0 7 r15",
         ),
-        (Op::Same { s: r15, t: g0 }, "m 15 same r15 g0"),
-        (Op::Look { s: g10 }, "m 15 look g10"),
+        (Op::Same { s: r15, t: g0 }, 1, "m 15 same r15 g0"),
+        (Op::Look { s: g10 }, 1, "m 15 look g10"),
     ] {
         let found = written_alone(alloc, Event::Mutate { m: 15, op })?;
-        let want = format!(in alloc; "heaptrace 1\nspace 9 mutators 16\n{line}\n")?;
+        let want = format!(in alloc; "heaptrace {version}\nspace 9 mutators 16\n{line}\n")?;
         assert_eq!(rt; found.as_slice(), want.as_bytes());
     }
     Ok(())
@@ -115,9 +124,18 @@ fn each_step_has_its_line_in_the_least_version(rt: HostRuntime) -> Result<(), Fa
 
 #[test]
 fn a_version_that_no_line_needs_is_not_written(rt: HostRuntime) -> Result<(), Fail> {
-    let text = b"heaptrace 2\nspace 8 mutators 3\nc begin\nm 2 nil g3\n";
-    let want = b"heaptrace 1\nspace 8 mutators 3\nc begin\nm 2 nil g3\n";
-    assert_eq!(rt; written_back(rt.alloc(), text)?.as_slice(), want.as_slice());
+    for (version, least, lines) in [
+        (2, 1, "c begin\nm 2 nil g3\n"),
+        (3, 1, "c begin\nm 2 nil g3\n"),
+        (3, 2, "m 2 nil g3\nc begin 8\n"),
+        (3, 3, "m 2 raw g3 0 1\nc begin 8\nm 1 new r0 0 0\n"),
+    ] {
+        let alloc = rt.alloc();
+        let text = format!(in alloc; "heaptrace {version}\nspace 8 mutators 3\n{lines}")?;
+        let want = format!(in alloc; "heaptrace {least}\nspace 8 mutators 3\n{lines}")?;
+        let found = written_back(alloc, text.as_bytes())?;
+        assert_eq!(rt; found.as_slice(), want.as_bytes());
+    }
     Ok(())
 }
 

@@ -13,10 +13,22 @@ const YES: &[u8] = b"heappair 1\nold 8 5\n0\n16777216\n0\n16777216\n0\nroots 1\n
 const REFUSED: &[u8] = b"heappair 1\nold 8 3\n0\n16777216\n0\nroots 1\n2\n\
     new 8 3\n0\n16842752\n0\nroots 1\n2\npairs 1\n1 1\nend\n";
 
+/// A raw object, whose header the first version does not know. Its word would be a reference to no object.
+const RAW: &[u8] = b"heappair 2\nold 9 4\n0\n50331649\n0\n18\nroots 1\n2\n\
+    new 9 4\n0\n50331649\n0\n18\nroots 1\n2\npairs 1\n1 1\nend\n";
+
+/// The same as a text of the first version.
+const RAW_IN_THE_FIRST: &[u8] = b"heappair 1\nold 9 4\n0\n50331649\n0\n18\nroots 1\n2\n\
+    new 9 4\n0\n50331649\n0\n18\nroots 1\n2\npairs 1\n1 1\nend\n";
+
 #[test]
 fn verdicts_have_their_lines_and_statuses(rt: HostRuntime) -> Result<(), Fail> {
-    let refused: &[u8] = b"refused 8 HeaderDiffers 0\n";
-    for (text, line, status) in [(YES, b"yes 1\n".as_slice(), 0), (REFUSED, refused, 1)] {
+    for (text, line, status) in [
+        (YES, b"yes 1\n".as_slice(), 0),
+        (REFUSED, b"refused 8 HeaderDiffers 0\n".as_slice(), 1),
+        (RAW, b"yes 1\n".as_slice(), 0),
+        (RAW_IN_THE_FIRST, b"refused 1 OldShape 1\n".as_slice(), 1),
+    ] {
         let mut sink = Sink::new(Vec::new(rt.alloc()));
         let found = check_from(&rt, rt.alloc(), &mut Source::new(text), &mut sink);
         assert_eq!(rt; found, Ok(status));

@@ -1,4 +1,4 @@
-use super::traces::COLLECT_WHEN_FULL;
+use super::traces::{COLLECT_WHEN_FULL, RAW};
 use crate::commands::report_from;
 use crate::faults::Fault;
 use gc_graph::{Sink, Source};
@@ -11,6 +11,17 @@ fn traces_have_their_report_and_status(rt: HostRuntime) -> Result<(), Fail> {
         flips 1\npairs 1\ndropped 0\nrefused 0\nend 7\nfree 2\n";
     let mut sink = Sink::new(Vec::new(rt.alloc()));
     let found = report_from(rt.alloc(), &mut Source::new(COLLECT_WHEN_FULL), &mut sink);
+    assert_eq!(rt; found, Ok(0));
+    assert_eq!(rt; sink.into_inner().as_slice(), want.as_slice());
+    Ok(())
+}
+
+#[test]
+fn raw_objects_are_counted_as_others(rt: HostRuntime) -> Result<(), Fail> {
+    let want = b"events 12\nmade 1\nfull 0\nbegun 1\ncopied 1\nscanned 0\napplied 1\n\
+        flips 1\npairs 1\ndropped 0\nrefused 0\nend 5\nfree 3\n";
+    let mut sink = Sink::new(Vec::new(rt.alloc()));
+    let found = report_from(rt.alloc(), &mut Source::new(RAW), &mut sink);
     assert_eq!(rt; found, Ok(0));
     assert_eq!(rt; sink.into_inner().as_slice(), want.as_slice());
     Ok(())

@@ -1,6 +1,6 @@
 //! Scripts in threads: what is recorded is a trace of the same scripts, and plays to the same replies.
 
-use super::traces::FULL;
+use super::traces::{FULL, RAW};
 use crate::commands::{ThreadsRunFault, threads_from, threads_run};
 use crate::faults::Fault;
 use gc_graph::{Number, Reply, Sink, Source, View};
@@ -31,6 +31,19 @@ fn one_script_and_no_turn_is_the_trace_itself(rt: HostRuntime) -> Result<(), Fai
     Ok(())
 }
 
+/// The mutator's commands alone are made, in their order.
+#[test]
+fn raw_objects_are_recorded_in_the_third_version(rt: HostRuntime) -> Result<(), Fail> {
+    let mut sink = Sink::new(Vec::new(rt.alloc()));
+    let found = threads_from(&rt, rt.alloc(), 0, &mut Source::new(RAW), &mut sink);
+    assert_eq!(rt; found, Ok(0));
+    let want = b"heaptrace 3\nspace 8 mutators 1\n\
+        m 0 raw r0 7 2\nm 0 put r0 0 r0\nm 0 num r1 8\nm 0 put r0 0 r1\nm 0 put r0 1 r1\n\
+        m 0 look r0\nm 0 get r2 r0 1\n";
+    assert_eq!(rt; sink.into_inner().as_slice(), want.as_slice());
+    Ok(())
+}
+
 /// The trace that is recorded of both scripts and forty turns of the collector.
 fn recorded(rt: &(impl Threads + Wait + Abort + Sync), alloc: Global) -> Result<Vec<u8>, Fail> {
     let _named = View::Nil;
@@ -42,7 +55,7 @@ fn recorded(rt: &(impl Threads + Wait + Abort + Sync), alloc: Global) -> Result<
     Ok(sink.into_inner())
 }
 
-fn is_step(event: &Event) -> bool {
+fn is_collect(event: &Event) -> bool {
     matches!(event, Event::Collect(_))
 }
 
@@ -54,7 +67,11 @@ fn what_is_recorded_has_the_scripts_and_the_turns(rt: HostRuntime) -> Result<(),
     assert_eq!(rt; trace.size, given.size);
     let scripts = scripts_of(rt.alloc(), &trace)?;
     assert!(rt; scripts == scripts_of(rt.alloc(), &given)?);
-    let steps = trace.events.iter().filter(|event| is_step(event)).count();
+    let steps = trace
+        .events
+        .iter()
+        .filter(|event| is_collect(event))
+        .count();
     assert_eq!(rt; steps, 40);
     Ok(())
 }

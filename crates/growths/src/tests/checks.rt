@@ -18,6 +18,7 @@ fn image<'a>(size: u32, words: &'a [u64], roots: &'a [u64]) -> ImageRef<'a> {
         end: u32::try_from(words.len()).unwrap_or(0),
         words,
         roots,
+        raws: false,
     }
 }
 

@@ -67,6 +67,23 @@ fn plain_apply(rt: HostRuntime) -> Result<(), Fail> {
 }
 
 #[test]
+fn plain_apply_raw(rt: HostRuntime) -> Result<(), Fail> {
+    let _named = View::Nil;
+    let r0 = Slot::own(0).ok_or("slot")?;
+    let new = Op::NewRaw {
+        d: r0,
+        kind: 3,
+        len: 5,
+    };
+    let mut plain = Plain::new(rt.alloc(), 8, 1)?;
+    assert_eq!(rt; apply(rt.alloc(), &mut plain, &new)?, Reply::Made);
+    assert_eq!(rt; plain.free(), 0);
+    let look = plain.apply(0, &Op::Look { s: r0 });
+    assert_eq!(rt; look, Ok(Reply::Saw(View::RawObj { kind: 3, len: 5 })));
+    Ok(())
+}
+
+#[test]
 fn space_new(rt: HostRuntime) -> Result<(), Fail> {
     fence(rt.alloc())?;
     let mut made = Space::new(rt.alloc(), 9);

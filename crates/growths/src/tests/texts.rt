@@ -10,7 +10,7 @@ pub const COLLECT_WHEN_FULL: &[u8] = b"\
 
 /// The pair text of its flip.
 pub const ONE_KEPT: &[u8] = b"\
-    heappair 1\n\
+    heappair 2\n\
     old 9 9\n0\n16842754\n0\n0\n0\n16842754\n1\n0\n0\n\
     roots 32\n0\n0\n0\n0\n0\n0\n0\n0\n0\n0\n0\n0\n0\n0\n0\n0\n10\n0\n0\n0\n0\n0\n0\n0\n0\n0\n0\n0\n0\n0\n0\n0\n\
     new 9 5\n0\n16842754\n5\n0\n0\n\

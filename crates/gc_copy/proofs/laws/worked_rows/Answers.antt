@@ -9,6 +9,7 @@ returns c = record {
     log_across_two_mutators = refl;
     root_made_after_the_scan = refl;
     cycle_of_two = refl;
+    raw_object = refl;
     entry_without_a_replica = refl;
     link_left_over = refl;
     nothing_to_copy = refl;

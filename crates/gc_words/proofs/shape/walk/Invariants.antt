@@ -1,11 +1,11 @@
 use Rattle.std.proofs.Common.{◌≡◌, ◌-◌, length}
 use Rattle.gc_words.specs.Fault.{fault_of_walk}
-use Rattle.gc_words.specs.Walking.{walk_from}
+use Rattle.gc_words.specs.Walking.{walk_on}
 use Rattle.gc_words.proofs.shape.walk.Given as goal
 
 -- what the rest of the walk finds is what the whole walk finds
 abbrev pub invariant-loop-at : goal.invariant-loop-at
-invariant-loop-at l = fault_of_walk (walk_from l.words 1) ≡ fault_of_walk (walk_from l.words l.at)
+invariant-loop-at l = fault_of_walk (walk_on l.raws l.words 1) ≡ fault_of_walk (walk_on l.raws l.words l.at)
 
 abbrev pub decreases-loop-at : goal.decreases-loop-at
 decreases-loop-at l = length l.words - l.at

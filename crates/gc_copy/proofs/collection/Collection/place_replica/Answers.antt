@@ -1,31 +1,41 @@
-use Rattle.std.proofs.Common.{◌≡◌, true, false, Some, None, refl, ap, sym, ◌∙◌, subst}
+use Rattle.std.proofs.Common.{◌≡◌, ℕ, List, true, false, Some, None, refl, ap, sym, ◌∙◌, subst}
 use Rattle.gc_graph.specs.Graph.{lookup}
 use Rattle.gc_words.specs.Image.{header_at}
-use Rattle.gc_words.specs.Space.{HasRoom}
+use Rattle.gc_words.specs.declared.header.Header.{Header}
+use Rattle.gc_words.specs.Space.{HasRoomFor}
 use Rattle.gc_heap.specs.Heap.{graph_in}
 use Rattle.gc_copy.specs.State.{replica_of}
 use Rattle.gc_copy.specs.Steps.{place_replica}
 use Rattle.gc_copy.specs.Words.{CollectionWords, collection_in, BelongsTo}
 use Rattle.gc_copy.specs.Internal.Words.{KeepsRest}
-use Rattle.gc_copy.proofs.OpenCollection.{Placing, placing_done, full}
+use Rattle.gc_copy.proofs.OpenCollection.{Placing, placed_start, placing_done, full}
 use Rattle.gc_copy.proofs.collection.Collection.place_replica.Goals as goal
+
+same_header : (words : List ℕ) (a : ℕ) (g h : Header) → header_at words a ≡ Some g → header_at words a ≡ Some h → g ≡ h
+same_header words a g h e f = (let both : Some g ≡ Some h = sym e ∙ f in cc)
 
 pub returns-then-not-has_room-clause-full : goal.returns-then-not-has_room-clause-full
 returns-then-not-has_room-clause-full c =
     let x : CollectionWords = record { space = c.self.inside.space; logs = c.self.inside.logs.items; scan_place = c.self.inside.scan_place.0; scan_field = c.self.inside.scan_field } in
     let header : header_at c.args.heap.now.space.words c.args.original.0 ≡ Some c.header-header.result = subst (λ (s : Rattle.gc_words.specs.Space.SpaceWords). header_at s.words c.args.original.0 ≡ Some c.header-header.result) c.space.ensures.value c.header-header.ensures in
-    let none : HasRoom x.space c.header-header.result.len → ⊥ = λ r. (let no : false ≡ true = sym c.if-not-has_room.true ∙ c.has_room.ensures.1 (subst (HasRoom x.space) (sym c.len.ensures) r) in absurd cc) in
+    let none : HasRoomFor x.space c.header-header.result.len → ⊥ = λ r. (let no : false ≡ true = sym c.if-not-has_room.true ∙ c.has_room.ensures.1 (subst (HasRoomFor x.space) (sym c.len.ensures) r) in absurd cc) in
     (subst (λ y. place_replica (collection_in y) c.args.original.0 (lookup (graph_in c.args.heap.now).objects c.args.original.0) ≡ None) c.self.view_is (full c.args.heap.now x c.args.original.0 c.header-header.result c.space.ensures.sound c.self.invariant header none), refl, refl)
+
+pub set_link-requires : goal.set_link-requires
+set_link-requires c =
+    placed_start c.self.inside.space c.place_fresh-replica.new.space c.args.heap.now.space.words c.args.original.0 c.place_fresh-replica.result.0 c.self.invariant.space (c.space.ensures.sound.space).walked c.requires.start
+    (λ h e. subst (HasRoomFor c.self.inside.space) (ap (λ (g : Header). g.len) (same_header c.args.heap.now.space.words c.args.original.0 c.header-header.result h (subst (λ (s : Rattle.gc_words.specs.Space.SpaceWords). header_at s.words c.args.original.0 ≡ Some c.header-header.result) c.space.ensures.value c.header-header.ensures) e)) (subst (HasRoomFor c.self.inside.space) c.len.ensures (c.has_room.ensures.0 c.if-not-has_room.false)))
+    c.place_fresh-replica.ensures.words c.place_fresh-replica.ensures.at
 
 made : (c : goal.After-set_link-2) → Placing c.args.heap.now c.set_link-2.new.self (record { space = c.self.inside.space; logs = c.self.inside.logs.items; scan_place = c.self.inside.scan_place.0; scan_field = c.self.inside.scan_field })
     (record { space = c.set_link.new.self; logs = c.self.inside.logs.items; scan_place = c.self.inside.scan_place.0; scan_field = c.self.inside.scan_field }) c.args.original.0
 made c =
     let x : CollectionWords = record { space = c.self.inside.space; logs = c.self.inside.logs.items; scan_place = c.self.inside.scan_place.0; scan_field = c.self.inside.scan_field } in
     let header : header_at c.args.heap.now.space.words c.args.original.0 ≡ Some c.header-header.result = subst (λ (s : Rattle.gc_words.specs.Space.SpaceWords). header_at s.words c.args.original.0 ≡ Some c.header-header.result) c.space.ensures.value c.header-header.ensures in
-    let room : HasRoom x.space c.header-header.result.len = subst (HasRoom x.space) c.len.ensures (c.has_room.ensures.0 c.if-not-has_room.false) in
-    placing_done c.args.heap.now c.set_link-2.new.self x (record x { space = c.set_link.new.self }) c.args.original.0 c.place-replica.result.0 c.from.result c.place-replica.result.0 c.header-header.result c.place-replica.new.self
+    let room : HasRoomFor x.space c.header-header.result.len = subst (HasRoomFor x.space) c.len.ensures (c.has_room.ensures.0 c.if-not-has_room.false) in
+    placing_done c.args.heap.now c.set_link-2.new.self x (record x { space = c.set_link.new.self }) c.args.original.0 c.place_fresh-replica.result.0 c.from.result c.place_fresh-replica.result.0 c.header-header.result c.place_fresh-replica.new.space
     c.space.ensures.sound c.self.invariant (subst (BelongsTo c.args.heap.now) (sym c.self.view_is) c.requires.belongs) c.requires.start (subst (λ y. replica_of (collection_in y) c.args.original.0 ≡ None) (sym c.self.view_is) c.requires.missing)
-    header room c.place-replica.ensures.at c.place-replica.ensures.words c.from.ensures (ap (λ (s : Rattle.gc_words.specs.Space.SpaceWords). record x { space = s }) c.set_link.ensures.words) refl c.set_link-2.ensures.words
+    header room c.place_fresh-replica.ensures.at c.place_fresh-replica.ensures.words c.from.ensures (ap (λ (s : Rattle.gc_words.specs.Space.SpaceWords). record x { space = s }) c.set_link.ensures.words) refl c.set_link-2.ensures.words
 
 pub invariant_of-self : goal.invariant_of-self
 invariant_of-self c = (made c).sound

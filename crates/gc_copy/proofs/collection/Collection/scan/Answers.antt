@@ -1,4 +1,5 @@
-use Rattle.std.proofs.Common.{rules, ◌≡◌, ℕ, ◌+◌, ◌<◌, false, Some, None, ap, sym, ◌∙◌, subst, arith}
+use Rattle.std.proofs.lemmas.Bool.{eqb-true, eqb-false}
+use Rattle.std.proofs.Common.{rules, ◌≡◌, ◌⊎◌, inl, inr, ℕ, ◌+◌, ◌<◌, ◌==◌, ◌||◌, Bool, true, false, Some, None, refl, ap, sym, ◌∙◌, subst, arith}
 use Rattle.std.specs.Prelude.{◌^◌, IsSome}
 use Rattle.std.specs.Option.{option_map}
 use Rattle.gc_words.specs.Image.{field_at}
@@ -11,11 +12,20 @@ use Rattle.gc_copy.specs.Internal.Words.{KeepsRest}
 use Rattle.gc_copy.specs.declared.step.Step.TheVariants as steps
 use Rattle.gc_copy.specs.declared.step.StepReply.{StepReply}
 use Rattle.gc_copy.specs.declared.step.StepReply.TheVariants.{Passed, Scanned, NoRoom}
-use Rattle.gc_copy.proofs.Scanning.{start, small, replica, field_there, next_small, passed, passed_belongs, no_room, scanned, scanned_belongs}
+use Rattle.gc_copy.proofs.Scanning.{start, small, len_small, replica, field_there, next_small, passed, passed_belongs, no_room, scanned, scanned_belongs}
 use Rattle.gc_copy.proofs.collection.Collection.scan.Goals as goal
 
-pub header-requires : goal.header-requires
-header-requires c =
+-- what is asked before a field is scanned
+scanned_by : (raw : Bool) (field len : ℕ) → (raw || (field == len)) ≡ true → (raw ≡ true) ⊎ (field ≡ len)
+scanned_by true field len e = inl refl
+scanned_by false field len e = inr (eqb-true field len e)
+
+not_scanned : (raw : Bool) (field len : ℕ) → (raw || (field == len)) ≡ false → (raw ≡ false) × (field ≡ len → ⊥)
+not_scanned true field len e = absurd cc
+not_scanned false field len e = (refl, eqb-false field len e)
+
+pub header-header-requires : goal.header-header-requires
+header-header-requires c =
     let x : CollectionWords = record { space = c.self.inside.space; logs = c.self.inside.logs.items; scan_place = c.self.inside.scan_place.0; scan_field = c.self.inside.scan_field } in
     let k : BelongsTo c.args.heap.now x = subst (BelongsTo c.args.heap.now) (sym c.self.view_is) c.requires in
     let more : scan_done (collection_in x) ≡ false = ap (λ (y : CollectionWords). scan_done (collection_in y)) c.self.view_is ∙ sym c.scan_done.ensures ∙ c.if-scan_done.false in
@@ -28,22 +38,20 @@ next_start-self-inside-requires c =
     let more : scan_done (collection_in x) ≡ false = ap (λ (y : CollectionWords). scan_done (collection_in y)) c.self.view_is ∙ sym c.scan_done.ensures ∙ c.if-scan_done.false in
     start c.args.heap.now x c.self.invariant k more
 
-pub returns-then-field-len-clause-step : goal.returns-then-field-len-clause-step
-returns-then-field-len-clause-step c =
+pub returns-then-is_scanned-clause-step : goal.returns-then-is_scanned-clause-step
+returns-then-is_scanned-clause-step c =
     let x : CollectionWords = record { space = c.self.inside.space; logs = c.self.inside.logs.items; scan_place = c.self.inside.scan_place.0; scan_field = c.self.inside.scan_field } in
     let k : BelongsTo c.args.heap.now x = subst (BelongsTo c.args.heap.now) (sym c.self.view_is) c.requires in
     let more : scan_done (collection_in x) ≡ false = ap (λ (y : CollectionWords). scan_done (collection_in y)) c.self.view_is ∙ sym c.scan_done.ensures ∙ c.if-scan_done.false in
-    let len : c.len.result ≡ c.header.result.len = c.len.ensures in
     subst (λ y. scan (open_state c.args.heap.now y) (collection_in y) ≡ (Passed, open_state c.args.heap.now (record x { scan_place = c.next_start-self-inside.result.0; scan_field = 0 }))) c.self.view_is
-    (passed c.args.heap.now x c.self.invariant k more c.header.result c.header.ensures (c.if-field-len.true ∙ len) c.next_start-self-inside.result.0 (c.next_start-self-inside.ensures.place c.header.result c.header.ensures))
+    (passed c.args.heap.now x c.self.invariant k more c.header-header.result c.header-header.ensures (scanned_by c.header-header.result.raw c.self.inside.scan_field c.header-header.result.len (sym c.is_scanned.ensures ∙ c.if-is_scanned.true)) c.next_start-self-inside.result.0 (c.next_start-self-inside.ensures.place c.header-header.result c.header-header.ensures))
 
-pub returns-then-field-len-clause-belongs : goal.returns-then-field-len-clause-belongs
-returns-then-field-len-clause-belongs c =
+pub returns-then-is_scanned-clause-belongs : goal.returns-then-is_scanned-clause-belongs
+returns-then-is_scanned-clause-belongs c =
     let x : CollectionWords = record { space = c.self.inside.space; logs = c.self.inside.logs.items; scan_place = c.self.inside.scan_place.0; scan_field = c.self.inside.scan_field } in
     let k : BelongsTo c.args.heap.now x = subst (BelongsTo c.args.heap.now) (sym c.self.view_is) c.requires in
     let more : scan_done (collection_in x) ≡ false = ap (λ (y : CollectionWords). scan_done (collection_in y)) c.self.view_is ∙ sym c.scan_done.ensures ∙ c.if-scan_done.false in
-    let len : c.len.result ≡ c.header.result.len = c.len.ensures in
-    passed_belongs c.args.heap.now x c.self.invariant k more c.header.result c.header.ensures (c.if-field-len.true ∙ len) c.next_start-self-inside.result.0 (c.next_start-self-inside.ensures.place c.header.result c.header.ensures)
+    passed_belongs c.args.heap.now x c.self.invariant k more c.header-header.result c.header-header.ensures (scanned_by c.header-header.result.raw c.self.inside.scan_field c.header-header.result.len (sym c.is_scanned.ensures ∙ c.if-is_scanned.true)) c.next_start-self-inside.result.0 (c.next_start-self-inside.ensures.place c.header-header.result c.header-header.ensures)
 
 pub overflow_cast-original : goal.overflow_cast-original
 overflow_cast-original c =
@@ -58,9 +66,8 @@ bring_up_to_date-requires-clause-field c =
     let x : CollectionWords = record { space = c.self.inside.space; logs = c.self.inside.logs.items; scan_place = c.self.inside.scan_place.0; scan_field = c.self.inside.scan_field } in
     let k : BelongsTo c.args.heap.now x = subst (BelongsTo c.args.heap.now) (sym c.self.view_is) c.requires in
     let more : scan_done (collection_in x) ≡ false = ap (λ (y : CollectionWords). scan_done (collection_in y)) c.self.view_is ∙ sym c.scan_done.ensures ∙ c.if-scan_done.false in
-    let len : c.len.result ≡ c.header.result.len = c.len.ensures in
     subst (λ a. IsSome (field_at c.args.heap.now.space.words a c.self.inside.scan_field)) (sym c.link.ensures)
-    (field_there c.args.heap.now x c.self.invariant k more c.header.result c.header.ensures (λ same. c.if-field-len.false (same ∙ sym len)))
+    (field_there c.args.heap.now x c.self.invariant k more c.header-header.result c.header-header.ensures (not_scanned c.header-header.result.raw c.self.inside.scan_field c.header-header.result.len (sym c.is_scanned.ensures ∙ c.if-is_scanned.false)).1)
 
 pub bring_up_to_date-requires-clause-replica : goal.bring_up_to_date-requires-clause-replica
 bring_up_to_date-requires-clause-replica c =
@@ -75,9 +82,8 @@ overflow_add-self c =
     let x : CollectionWords = record { space = c.self.inside.space; logs = c.self.inside.logs.items; scan_place = c.self.inside.scan_place.0; scan_field = c.self.inside.scan_field } in
     let k : BelongsTo c.args.heap.now x = subst (BelongsTo c.args.heap.now) (sym c.self.view_is) c.requires in
     let more : scan_done (collection_in x) ≡ false = ap (λ (y : CollectionWords). scan_done (collection_in y)) c.self.view_is ∙ sym c.scan_done.ensures ∙ c.if-scan_done.false in
-    let len : c.len.result ≡ c.header.result.len = c.len.ensures in
-    let most = next_small c.args.heap.now x c.self.invariant k more c.header.result c.header.ensures (λ same. c.if-field-len.false (same ∙ sym len)) in
-    let fits : c.self.inside.scan_field + 1 < 2 ^ 16 = (let t = c.len.type_inv in omega (arith, most, len, t)) in
+    let most = next_small c.args.heap.now x c.self.invariant k more c.header-header.result c.header-header.ensures (not_scanned c.header-header.result.raw c.self.inside.scan_field c.header-header.result.len (sym c.is_scanned.ensures ∙ c.if-is_scanned.false)).1 in
+    let fits : c.self.inside.scan_field + 1 < 2 ^ 16 = (let t = len_small c.args.heap.now x c.self.invariant k more c.header-header.result c.header-header.ensures in omega (arith, most, t)) in
     search rules
 
 -- what a call said of whole collections, of their parts
@@ -93,23 +99,23 @@ returns-in-Ok-clause-step c =
     let x : CollectionWords = record { space = c.self.inside.space; logs = c.self.inside.logs.items; scan_place = c.self.inside.scan_place.0; scan_field = c.self.inside.scan_field } in
     let k : BelongsTo c.args.heap.now x = subst (BelongsTo c.args.heap.now) (sym c.self.view_is) c.requires in
     let more : scan_done (collection_in x) ≡ false = ap (λ (y : CollectionWords). scan_done (collection_in y)) c.self.view_is ∙ sym c.scan_done.ensures ∙ c.if-scan_done.false in
-    let other : c.self.inside.scan_field ≡ c.header.result.len → ⊥ = λ same. c.if-field-len.false (same ∙ sym c.len.ensures) in
+    let left = not_scanned c.header-header.result.raw c.self.inside.scan_field c.header-header.result.len (sym c.is_scanned.ensures ∙ c.if-is_scanned.false) in
     let after : CollectionWords = record { space = c.self-2.inside.space; logs = c.self-2.inside.logs.items; scan_place = c.self-2.inside.scan_place.0; scan_field = c.self-2.inside.scan_field } in
     let rest : KeepsRest x after = kept x c.args.self.now after c.bring_up_to_date.new.self c.self.view_is c.self-2.view_is c.in-Ok.ensures.rest in
     let brought = brought_here c.args.heap.now x c.args.self.now after c.bring_up_to_date.new.self c.link.result (link_at x.space.words x.scan_place) x.scan_field c.self.view_is c.self-2.view_is c.link.ensures c.in-Ok.ensures.brought in
     subst (λ y. scan (open_state c.args.heap.now y) (collection_in y) ≡ (Scanned, open_state c.bring_up_to_date.new.heap (record after { scan_field = c.self.inside.scan_field + 1 }))) c.self.view_is
-    (scanned c.args.heap.now x c.self.invariant k more c.header.result c.header.ensures other c.bring_up_to_date.new.heap after c.in-Ok.ensures.graph rest brought)
+    (scanned c.args.heap.now x c.self.invariant k more c.header-header.result c.header-header.ensures left.0 left.1 c.bring_up_to_date.new.heap after c.in-Ok.ensures.graph rest brought)
 
 pub returns-in-Ok-clause-belongs : goal.returns-in-Ok-clause-belongs
 returns-in-Ok-clause-belongs c =
     let x : CollectionWords = record { space = c.self.inside.space; logs = c.self.inside.logs.items; scan_place = c.self.inside.scan_place.0; scan_field = c.self.inside.scan_field } in
     let k : BelongsTo c.args.heap.now x = subst (BelongsTo c.args.heap.now) (sym c.self.view_is) c.requires in
     let more : scan_done (collection_in x) ≡ false = ap (λ (y : CollectionWords). scan_done (collection_in y)) c.self.view_is ∙ sym c.scan_done.ensures ∙ c.if-scan_done.false in
-    let other : c.self.inside.scan_field ≡ c.header.result.len → ⊥ = λ same. c.if-field-len.false (same ∙ sym c.len.ensures) in
+    let left = not_scanned c.header-header.result.raw c.self.inside.scan_field c.header-header.result.len (sym c.is_scanned.ensures ∙ c.if-is_scanned.false) in
     let after : CollectionWords = record { space = c.self-2.inside.space; logs = c.self-2.inside.logs.items; scan_place = c.self-2.inside.scan_place.0; scan_field = c.self-2.inside.scan_field } in
     let rest : KeepsRest x after = kept x c.args.self.now after c.bring_up_to_date.new.self c.self.view_is c.self-2.view_is c.in-Ok.ensures.rest in
     let brought = brought_here c.args.heap.now x c.args.self.now after c.bring_up_to_date.new.self c.link.result (link_at x.space.words x.scan_place) x.scan_field c.self.view_is c.self-2.view_is c.link.ensures c.in-Ok.ensures.brought in
-    scanned_belongs c.args.heap.now x c.self.invariant k more c.header.result c.header.ensures other c.bring_up_to_date.new.heap after c.in-Ok.ensures.graph rest
+    scanned_belongs c.args.heap.now x c.self.invariant k more c.header-header.result c.header-header.ensures left.0 left.1 c.bring_up_to_date.new.heap after c.in-Ok.ensures.graph rest
     (subst (BelongsTo c.bring_up_to_date.new.heap) (sym c.self-2.view_is) c.in-Ok.ensures.belongs) brought
 
 pub returns-in-Err-clause-step : goal.returns-in-Err-clause-step
@@ -117,12 +123,12 @@ returns-in-Err-clause-step c =
     let x : CollectionWords = record { space = c.self.inside.space; logs = c.self.inside.logs.items; scan_place = c.self.inside.scan_place.0; scan_field = c.self.inside.scan_field } in
     let k : BelongsTo c.args.heap.now x = subst (BelongsTo c.args.heap.now) (sym c.self.view_is) c.requires in
     let more : scan_done (collection_in x) ≡ false = ap (λ (y : CollectionWords). scan_done (collection_in y)) c.self.view_is ∙ sym c.scan_done.ensures ∙ c.if-scan_done.false in
-    let other : c.self.inside.scan_field ≡ c.header.result.len → ⊥ = λ same. c.if-field-len.false (same ∙ sym c.len.ensures) in
+    let left = not_scanned c.header-header.result.raw c.self.inside.scan_field c.header-header.result.len (sym c.is_scanned.ensures ∙ c.if-is_scanned.false) in
     let full = c.in-Err.ensures.full in
     let none : bring_up_to_date (collection_in x) (graph_in c.args.heap.now) (link_at x.space.words x.scan_place) x.scan_field ≡ None
     = ap (λ (y : CollectionWords). bring_up_to_date (collection_in y) (graph_in c.args.heap.now) (link_at x.space.words x.scan_place) x.scan_field) c.self.view_is
     ∙ ap (λ n. bring_up_to_date (collection_in c.args.self.now) (graph_in c.args.heap.now) n x.scan_field) (sym c.link.ensures) ∙ full.0 in
-    subst (λ y. scan (open_state c.args.heap.now y) (collection_in y) ≡ (NoRoom, open_state c.args.heap.now y)) c.self.view_is (no_room c.args.heap.now x c.self.invariant k more c.header.result c.header.ensures other none)
+    subst (λ y. scan (open_state c.args.heap.now y) (collection_in y) ≡ (NoRoom, open_state c.args.heap.now y)) c.self.view_is (no_room c.args.heap.now x c.self.invariant k more c.header-header.result c.header-header.ensures left.0 left.1 none)
     ∙ (λ i. (NoRoom, open_state (sym full.2 i) (sym full.1 i)))
 
 pub returns-in-Err-clause-room : goal.returns-in-Err-clause-room

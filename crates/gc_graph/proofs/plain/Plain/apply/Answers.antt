@@ -1,4 +1,4 @@
-use Rattle.std.proofs.Common.{if◌then◌else◌, refl, ◌∙◌, ap, ◌≡◌}
+use Rattle.std.proofs.Common.{true, false, if◌then◌else◌, refl, ◌∙◌, ap, ◌≡◌}
 use Rattle.gc_graph.specs.Slots.{place}
 use Rattle.gc_graph.specs.Graph.{root, set_root}
 use Rattle.gc_graph.specs.Graph as graphs
@@ -74,7 +74,10 @@ returns-in-Look-clause-ok c =
     (λ i. (Saw ((c.view.ensures ∙ ap (view_of g.objects) held) i), g))
 
 pub returns-in-New-clause-ok : goal.returns-in-New-clause-ok
-returns-in-New-clause-ok c = new_answered_if_ok c.make.result _ _ c.args.m c.in-New.d c.place.result c.in-New.kind c.in-New.len _ c.in-New.is c.place.ensures.value c.make.ensures.ok
+returns-in-New-clause-ok c = new_answered_if_ok c.make.result _ _ c.args.m c.in-New.d c.place.result false c.in-New.kind c.in-New.len _ c.in-New.is c.place.ensures.value c.make.ensures.ok
+
+pub returns-in-NewRaw-clause-ok : goal.returns-in-NewRaw-clause-ok
+returns-in-NewRaw-clause-ok c = new_answered_if_ok c.make-in-NewRaw.result _ _ c.args.m c.in-NewRaw.d c.place-in-NewRaw.result true c.in-NewRaw.kind c.in-NewRaw.len _ c.in-NewRaw.is c.place-in-NewRaw.ensures.value c.make-in-NewRaw.ensures.ok
 
 pub returns-in-Num-clause-mutators : goal.returns-in-Num-clause-mutators
 returns-in-Num-clause-mutators c = answered_roots _ _ _ _ _ (returns-in-Num-clause-ok c)
@@ -93,3 +96,6 @@ returns-in-Put-clause-mutators c = answered_roots _ _ _ _ _ (returns-in-Put-clau
 
 pub returns-in-New-clause-mutators : goal.returns-in-New-clause-mutators
 returns-in-New-clause-mutators c = answered_roots_if_ok c.make.result _ _ _ _ (returns-in-New-clause-ok c) c.make.ensures.err
+
+pub returns-in-NewRaw-clause-mutators : goal.returns-in-NewRaw-clause-mutators
+returns-in-NewRaw-clause-mutators c = answered_roots_if_ok c.make-in-NewRaw.result _ _ _ _ (returns-in-NewRaw-clause-ok c) c.make-in-NewRaw.ensures.err

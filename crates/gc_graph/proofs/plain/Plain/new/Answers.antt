@@ -5,12 +5,12 @@ use Rattle.gc_graph.specs.Graph.{Nil, opening}
 use Rattle.gc_graph.specs.Bounded.{AreBelow, AreShort}
 use Rattle.gc_graph.specs.Records.{plain_value, objects_of, graph_of}
 use Rattle.gc_graph.specs.declared.objects.PlainValue.TheVariants as held
-use Rattle.gc_graph.proofs.Plains.{held_nils}
+use Rattle.gc_graph.proofs.Plains.{held_each}
 use Rattle.gc_graph.proofs.Bounds.{opening_below}
 use Rattle.gc_graph.proofs.plain.Plain.new.Goals as goal
 
 nil_roots : (c : goal.After-new) → map plain_value c.in-Ok.roots.items ≡ replicate (roots_of c.args.mutators) Nil
-nil_roots c = ap (map plain_value) (c.in-Ok.ensures.items_if_clones_equal (λ y e. e)) ∙ ap (λ n. map plain_value (replicate n held.Nil)) c.root_count.ensures ∙ held_nils (roots_of c.args.mutators)
+nil_roots c = ap (map plain_value) (c.in-Ok.ensures.items_if_clones_equal (λ y e. e)) ∙ ap (λ n. map plain_value (replicate n held.Nil)) c.root_count.ensures ∙ held_each (roots_of c.args.mutators) held.Nil
 
 pub returns : goal.returns
 returns c =

@@ -1,4 +1,4 @@
-use Rattle.std.proofs.Common.{◌≡◌, ap, ◌∙◌, sym, subst, length, arith}
+use Rattle.std.proofs.Common.{◌≡◌, true, false, ap, ◌∙◌, sym, subst, length, arith}
 use Rattle.std.specs.Prelude.{slice_index}
 use Rattle.gc_graph.specs.Slots.{place, roots_of}
 use Rattle.gc_graph.specs.Graph.{root, set_root}
@@ -14,7 +14,10 @@ use Rattle.gc_heap.proofs.Steps.{took, looked, makes_at}
 use Rattle.gc_heap.proofs.heap.Heap.apply.Goals as goal
 
 pub returns-in-New-clause-step : goal.returns-in-New-clause-step
-returns-in-New-clause-step c = makes_at c.args.self.now c.make.new.self c.args.m c.args.op.now c.in-New.d c.place.result c.in-New.kind c.in-New.len c.make.result c.in-New.is c.place.ensures.value c.make.ensures.step
+returns-in-New-clause-step c = makes_at c.args.self.now c.make.new.self c.args.m c.args.op.now c.in-New.d c.place.result false c.in-New.kind c.in-New.len c.make.result c.in-New.is c.place.ensures.value c.make.ensures.step
+
+pub returns-in-NewRaw-clause-step : goal.returns-in-NewRaw-clause-step
+returns-in-NewRaw-clause-step c = makes_at c.args.self.now c.make-in-NewRaw.new.self c.args.m c.args.op.now c.in-NewRaw.d c.place-in-NewRaw.result true c.in-NewRaw.kind c.in-NewRaw.len c.make-in-NewRaw.result c.in-NewRaw.is c.place-in-NewRaw.ensures.value c.make-in-NewRaw.ensures.step
 
 pub returns-in-Num-clause-step : goal.returns-in-Num-clause-step
 returns-in-Num-clause-step c =

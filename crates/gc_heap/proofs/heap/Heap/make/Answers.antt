@@ -14,9 +14,9 @@ use Rattle.gc_heap.proofs.heap.Heap.make.Goals as goal
 pub invariant_of-self : goal.invariant_of-self
 invariant_of-self c =
     let s : SpaceWords = c.self.inside.space in
-    let header : Header = record { kind = c.args.kind; len = c.args.len } in
+    let header : Header = record { raw = c.args.raw; kind = c.args.kind; len = c.args.len } in
     let can : CanPlace s header = record { shaped = c.self.invariant.space; header = record { kind = omega arith; len = omega arith }; room = c.has_room.ensures.0 c.if-not-has_room.false } in
-    let space : c.place-at.new.self ≡ with_object s header = c.place-at.ensures.words ∙ ap (with_object s) c.new.ensures in
+    let space : c.place-at.new.self ≡ with_object s header = c.place-at.ensures.words ∙ ap (with_object s) c.header_of.ensures in
     let word : c.encode.result ≡ word_of (Ref (end_of s)) = c.encode.ensures.word ∙ ap (λ n. 2 * n) c.place-at.ensures.at in
     let h : HeapWords = record { space = s; roots = c.self.inside.roots.items; mutators = c.self.inside.mutators } in
     let made : IsHeap (record { space = with_object s header; roots = slice_set h.roots c.args.place (word_of (Ref (end_of s))); mutators = h.mutators })
@@ -27,9 +27,9 @@ invariant_of-self c =
 pub returns-clause-sound : goal.returns-clause-sound
 returns-clause-sound c =
     let s : SpaceWords = c.self.inside.space in
-    let header : Header = record { kind = c.args.kind; len = c.args.len } in
+    let header : Header = record { raw = c.args.raw; kind = c.args.kind; len = c.args.len } in
     let can : CanPlace s header = record { shaped = c.self.invariant.space; header = record { kind = omega arith; len = omega arith }; room = c.has_room.ensures.0 c.if-not-has_room.false } in
-    let space : c.place-at.new.self ≡ with_object s header = c.place-at.ensures.words ∙ ap (with_object s) c.new.ensures in
+    let space : c.place-at.new.self ≡ with_object s header = c.place-at.ensures.words ∙ ap (with_object s) c.header_of.ensures in
     let word : c.encode.result ≡ word_of (Ref (end_of s)) = c.encode.ensures.word ∙ ap (λ n. 2 * n) c.place-at.ensures.at in
     let h : HeapWords = record { space = s; roots = c.self.inside.roots.items; mutators = c.self.inside.mutators } in
     let made : IsHeap (record { space = with_object s header; roots = slice_set h.roots c.args.place (word_of (Ref (end_of s))); mutators = h.mutators })
@@ -40,21 +40,21 @@ returns-clause-sound c =
 pub returns-clause-links : goal.returns-clause-links
 returns-clause-links c =
     let s : SpaceWords = c.self.inside.space in
-    let header : Header = record { kind = c.args.kind; len = c.args.len } in
+    let header : Header = record { raw = c.args.raw; kind = c.args.kind; len = c.args.len } in
     let can : CanPlace s header = record { shaped = c.self.invariant.space; header = record { kind = omega arith; len = omega arith }; room = c.has_room.ensures.0 c.if-not-has_room.false } in
-    let space : c.place-at.new.self ≡ with_object s header = c.place-at.ensures.words ∙ ap (with_object s) c.new.ensures in
+    let space : c.place-at.new.self ≡ with_object s header = c.place-at.ensures.words ∙ ap (with_object s) c.header_of.ensures in
     subst (λ (h : HeapWords). KeepsLinks h.space.words c.place-at.new.self.words) c.self.view_is
     (subst (λ x. KeepsLinks s.words x.words) (sym space) (links_placed s header can))
 
 pub returns-clause-step : goal.returns-clause-step
 returns-clause-step c =
     let s : SpaceWords = c.self.inside.space in
-    let header : Header = record { kind = c.args.kind; len = c.args.len } in
+    let header : Header = record { raw = c.args.raw; kind = c.args.kind; len = c.args.len } in
     let can : CanPlace s header = record { shaped = c.self.invariant.space; header = record { kind = omega arith; len = omega arith }; room = c.has_room.ensures.0 c.if-not-has_room.false } in
-    let space : c.place-at.new.self ≡ with_object s header = c.place-at.ensures.words ∙ ap (with_object s) c.new.ensures in
+    let space : c.place-at.new.self ≡ with_object s header = c.place-at.ensures.words ∙ ap (with_object s) c.header_of.ensures in
     let word : c.encode.result ≡ word_of (Ref (end_of s)) = c.encode.ensures.word ∙ ap (λ n. 2 * n) c.place-at.ensures.at in
     let h : HeapWords = record { space = s; roots = c.self.inside.roots.items; mutators = c.self.inside.mutators } in
     let after : HeapWords = record { space = c.place-at.new.self; roots = slice_set h.roots c.args.place c.encode.result; mutators = h.mutators } in
     let is : with_new h c.args.place header ≡ after = λ i. record { space = sym space i; roots = slice_set h.roots c.args.place (sym word i); mutators = h.mutators } in
-    subst (λ h. MakesAtEnd h c.args.place c.args.kind c.args.len Made after) c.self.view_is
-    (subst (MakesAtEnd h c.args.place c.args.kind c.args.len Made) is (made h c.args.place c.args.kind c.args.len c.self.invariant can))
+    subst (λ h. MakesAtEnd h c.args.place c.args.raw c.args.kind c.args.len Made after) c.self.view_is
+    (subst (MakesAtEnd h c.args.place c.args.raw c.args.kind c.args.len Made) is (made h c.args.place c.args.raw c.args.kind c.args.len c.self.invariant can))

@@ -1,5 +1,10 @@
-use Rattle.std.proofs.Common.{length, refl}
+use Rattle.std.proofs.Common.{◌-◌, length, refl, rules}
+use Rattle.gc_shared.proofs.PossibleReceipts.{last_is_possible}
 use Rattle.gc_shared.proofs.shared.Shared.step.Goals as goal
 
 pub returns-clause-answered : goal.returns-clause-answered
-returns-clause-answered g c = (length c.history-place.result.now, rw (c.push_reserved.ensures.items, c.in_ok-reserve.ensures.items, ← c.seat.view_is) refl)
+returns-clause-answered g c = record {
+  place = length c.history.result.now - 1;
+  added = rw (c.push_reserved.ensures.items, c.in_ok-reserve.ensures.items, ← c.seat.view_is) refl;
+  possible = last_is_possible _ _ c.deref_mut.result.now.entries _ _ c.history.result.now c.in_ok-reply.ensures.answered refl (search rules) (search rules);
+}

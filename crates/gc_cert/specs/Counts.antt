@@ -1,0 +1,14 @@
+-- Pairs of images that have a text whatever their numbers are.
+use Rattle.std.specs.Prelude.{◌≡◌, ◌≤◌, length}
+use Rattle.gc_graph.specs.Limits.{most_roots, most_pairs}
+use Rattle.gc_words.specs.Image.{IsShaped}
+use Rattle.gc_cert.specs.Grammar.{CertifiedPair}
+
+-- both images are those of spaces, raw headers count in both or in none, and there are few enough roots and pairs
+pub record HasCounts (f : CertifiedPair) : Type 0 where
+  pub old : IsShaped f.old
+  pub new : IsShaped f.new
+  pub raws : f.old.raws ≡ f.new.raws
+  pub old_roots : length f.old.roots ≤ most_roots
+  pub new_roots : length f.new.roots ≤ most_roots
+  pub pairs : length f.pairs ≤ most_pairs

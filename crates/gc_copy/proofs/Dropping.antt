@@ -1,0 +1,145 @@
+-- The loop that drops a collection: it clears the link of each original, which the replica's link names.
+use Rattle.std.proofs.Common.{◌≡◌, ◌⊎◌, ⊎_elim, inl, inr, ℕ, ◌<◌, ◌≤◌, ◌==◌, true, List, [], ◌∷◌, length, Option, Some, None, is_some, refl, ap, sym, ◌∙◌, subst}
+use Rattle.std.specs.Prelude.{◌^◌}
+use Rattle.std.specs.Option.{option_map}
+use Rattle.std.proofs.lemmas.Bool.{cases_Bool, eqb-true, eqb-false}
+use Rattle.gc_graph.specs.Graph.{Object}
+use Rattle.gc_words.specs.Image.{Block, blocks, block_at, is_start, object_of_block, ok_or_nil}
+use Rattle.gc_words.specs.Layout.{link_place}
+use Rattle.gc_words.specs.Spelling.{link_at, spelled, no_links}
+use Rattle.gc_words.specs.Space.{IsSpace, with_word, without_links}
+use Rattle.gc_words.specs.Walking.{next_of, walk_from, block_from}
+use Rattle.gc_words.proofs.Steps.{Behind, behind, at_end, has_next}
+use Rattle.gc_words.proofs.Writes.{some_of}
+use Rattle.gc_words.proofs.Links.{link_written_there, link_written_beside}
+use Rattle.gc_words.proofs.Graphs.{object_found}
+use Rattle.gc_words.proofs.Spelled.{spelled_words}
+use Rattle.gc_heap.specs.Heap.{HeapWords, IsHeap}
+use Rattle.gc_copy.specs.State.{Replica, replica_of}
+use Rattle.gc_copy.specs.Linked.{place_or_zero}
+use Rattle.gc_copy.specs.Members.{In}
+use Rattle.gc_copy.specs.Words.{CollectionWords, IsCollection, replica_entry, replicas_in, collection_in, BelongsTo}
+use Rattle.gc_copy.specs.Internal.Words.{KeepsGraph}
+use Rattle.gc_copy.proofs.Lists.{in_map, in_map_from}
+use Rattle.gc_copy.proofs.Replicas.{replica_in}
+use Rattle.gc_copy.proofs.Spaces.{in_start}
+use Rattle.gc_copy.proofs.ObjectWalks.{Met, met_none, Passing, passing}
+use Rattle.gc_copy.proofs.OpenCollection.{linked_heap, same_graph, start_kept}
+use Rattle.gc_copy.proofs.LinkedImages.{spelled_agree}
+
+-- ---- what the loop keeps
+
+-- the object's replica stands at this place of the new space's words, or behind it
+abbrev pub IsAhead : List ℕ → ℕ → ℕ → Type 0
+IsAhead words at a = (e : ℕ × Block) × In e (ok_or_nil (walk_from words at)) × (link_at words e.0 ≡ a)
+
+-- each replica's original is an object of the heap, whose address is a `u32`
+abbrev pub HasOriginals : List ℕ → HeapWords → Type 0
+HasOriginals words heap = (r : Replica) → In r (replicas_in words) → (is_start heap.space.words r.original ≡ true) × (r.original < 2 ^ 32)
+
+-- The heap differs from the old one in links alone. An object's link is 0, or its replica is still ahead.
+pub record Clears (words : List ℕ) (old now : HeapWords) (at : ℕ) : Type 0 where
+  pub done : List (ℕ × Block)
+  pub met : Met words at done
+  pub originals : HasOriginals words old
+  pub sound : IsHeap now
+  pub graph : KeepsGraph old now
+  pub links : (a : ℕ) → is_start old.space.words a ≡ true → (link_at now.space.words a ≡ 0) ⊎ IsAhead words at a
+
+-- ---- its steps
+
+then_kept : (old now new : HeapWords) → KeepsGraph old now → KeepsGraph now new → KeepsGraph old new
+then_kept old now new k l = record {
+  mutators = l.mutators ∙ k.mutators;
+  size = l.size ∙ k.size;
+  roots = l.roots ∙ k.roots;
+  heap = l.heap ∙ k.heap;
+  blocks = l.blocks ∙ k.blocks;
+}
+
+-- at the beginning each replica is ahead
+pub clears_none : (heap : HeapWords) (x c : CollectionWords) → x ≡ c → IsHeap heap → IsCollection x → BelongsTo heap c → Clears x.space.words heap heap 1
+clears_none heap x c seen sound is belongs = record {
+  done = [];
+  met = met;
+  originals = λ r l. (let ok = (k.belongs).replicas r l in there (block_at heap.space.words r.original) ok.original (sym (object_found heap.space.words r.original) ∙ ok.found), is.originals r l);
+  sound = sound;
+  graph = same_graph heap;
+  links = λ a start. from a start (replica_of (collection_in x) a) refl;
+}
+  where
+    k : BelongsTo heap x
+    k = subst (BelongsTo heap) (sym seen) belongs
+
+    met : Met x.space.words 1 []
+    met = met_none x.space is.space
+
+    there : (o : Option Block) (object : Object) → option_map object_of_block o ≡ Some object → is_some o ≡ true
+    there None object e = absurd (let no : None ≡ Some object = e in cc)
+    there (Some b) object e = refl
+
+    from : (a : ℕ) → is_start heap.space.words a ≡ true → (o : Option Replica) → replica_of (collection_in x) a ≡ o → (link_at heap.space.words a ≡ 0) ⊎ IsAhead x.space.words 1 a
+    from a start None e = inl (k.links a start ∙ ap place_or_zero e)
+    from a start (Some r) e =
+        let found = replica_in (collection_in x) a r e in
+        let entry = in_map_from (replica_entry x.space.words) r (blocks x.space.words) found.0 in
+        inr (entry.0, subst (In entry.0) met.split entry.1, ap (λ (q : Replica). q.original) entry.2 ∙ found.1)
+
+-- what the replica's link names here
+pub original_here : (words : List ℕ) (old now : HeapWords) (at : ℕ) → Clears words old now at → at < length words → (is_start now.space.words (link_at words at) ≡ true) × (link_at words at < 2 ^ 32)
+original_here words old now at k less =
+    let n = some_of (next_of words at) (has_next words at less (k.met).walked) in
+    let p : Passing words at n.0 k.done = passing words at n.0 k.done k.met less n.1 in
+    let original = k.originals (replica_entry words (at, p.block)) (in_map (replica_entry words) (at, p.block) (blocks words) p.found) in
+    (start_kept old now (link_at words at) k.graph ∙ original.0, original.1)
+
+-- one replica's original is cleared
+pub clears_more : (words : List ℕ) (old now new : HeapWords) (at next : ℕ) → Clears words old now at → at < length words → next_of words at ≡ Some next
+    → new ≡ record now { space = with_word now.space (link_place (link_at words at)) 0 } → IsHeap new → Clears words old new next
+clears_more words old now new at next k less e is sound =
+    subst (λ h. Clears words old h next) (sym is) (record {
+      done = _;
+      met = p.met;
+      originals = k.originals;
+      sound = subst IsHeap is sound;
+      graph = then_kept old now after k.graph (linked_heap now (link_at words at) 0 k.sound there);
+      links = λ a begins. ⊎_elim (λ same. inl (cleared a (eqb-true (link_at words at) a same))) (λ other. beside a (eqb-false (link_at words at) a other) (k.links a begins)) (cases_Bool (link_at words at == a));
+    })
+  where
+    after : HeapWords
+    after = record now { space = with_word now.space (link_place (link_at words at)) 0 }
+
+    p : Passing words at next k.done
+    p = passing words at next k.done k.met less e
+
+    b : Behind words at next
+    b = behind words at next less (k.met).walked e
+
+    there : is_start now.space.words (link_at words at) ≡ true
+    there = (original_here words old now at k less).0
+
+    cleared : (a : ℕ) → link_at words at ≡ a → link_at after.space.words a ≡ 0
+    cleared a same = ap (link_at after.space.words) (sym same) ∙ link_written_there now.space (link_at words at) 0 (k.sound).space there
+
+    behind_it : (a : ℕ) → (link_at words at ≡ a → ⊥) → IsAhead words at a → IsAhead words next a
+    behind_it a other ahead = from (subst (In ahead.0) b.objects ahead.1)
+      where
+        from : In ahead.0 ((at, block_from words at b.step.header) ∷ ok_or_nil (walk_from words next)) → IsAhead words next a
+        from (inl here) = absurd (other (ap (λ (x : ℕ × Block). link_at words x.0) here ∙ ahead.2))
+        from (inr later) = (ahead.0, later, ahead.2)
+
+    beside : (a : ℕ) → (link_at words at ≡ a → ⊥) → (link_at now.space.words a ≡ 0) ⊎ IsAhead words at a → (link_at after.space.words a ≡ 0) ⊎ IsAhead words next a
+    beside a other (inl zero) = inl (link_written_beside now.space (link_at words at) 0 a other ∙ zero)
+    beside a other (inr ahead) = inr (behind_it a other ahead)
+
+-- ---- behind the last replica
+
+all_zero : (words : List ℕ) (old now : HeapWords) (at : ℕ) → Clears words old now at → length words ≤ at → (a : ℕ) → is_start old.space.words a ≡ true → link_at now.space.words a ≡ 0
+all_zero words old now at k past a start = ⊎_elim (λ zero. zero) (λ ahead. absurd (subst (In ahead.0) (ap ok_or_nil (at_end words at past)) ahead.1)) (k.links a start)
+
+pub all_cleared : (words : List ℕ) (old now : HeapWords) (at : ℕ) → Clears words old now at → length words ≤ at → now ≡ record old { space = without_links old.space }
+all_cleared words old now at k past =
+    let is : IsSpace now.space = (k.sound).space in
+    let zero = spelled_agree (link_at now.space.words) no_links (blocks now.space.words) (λ e l. all_zero words old now at k past e.0 (sym (start_kept old now e.0 k.graph) ∙ in_start now.space.words e l)) in
+    let all : now.space.words ≡ spelled no_links (blocks old.space.words) = spelled_words now.space.words is.walked is.end_low is.reserved ∙ ap (λ ws. 0 ∷ ws) zero ∙ ap (spelled no_links) (k.graph).blocks in
+    λ i. record { space = record { size = (k.graph).size i; words = all i }; roots = (k.graph).roots i; mutators = (k.graph).mutators i }
