@@ -1,4 +1,4 @@
-//! Certificates as text: two images and the pairs of their objects, read line by line and written as they are read.
+//! The pair text: two images and the pairs of a certificate, read and written line by line.
 #![tactic(auto)]
 
 mod fault;
