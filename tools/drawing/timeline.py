@@ -1,4 +1,4 @@
-"""Lays out a trace as a timeline: words in use, collections, log entries, and marks for flips and for want of room."""
+"""Lays out a trace as a timeline: words in use, collections, log entries, and marks for flips and for missing room."""
 from .machine import Machine
 from .picture import Picture
 
@@ -30,7 +30,7 @@ class Column:
 
 
 def mark_of(reply):
-    """The mark that a reply gets, or None."""
+    """Returns the mark that a reply gets, or None."""
     return "flip" if reply.startswith("flipped") else MARKS.get(reply)
 
 
@@ -54,14 +54,14 @@ class Run:
                 self.replies.append(reply)
 
     def step(self):
-        """The width of a column."""
+        """Returns the width of a column."""
         return WIDTH / max(1, len(self.columns))
 
     def x(self, column):
         return LEFT + column * self.step()
 
     def most_words(self):
-        """The words that the chart has room for: the whole space, unless that would leave the curves flat."""
+        """Returns the words that the chart has room for: the whole space, unless that would flatten the curves."""
         sizes = max([column.size for column in self.columns] + [1])
         words = max([max(column.used, column.copied) for column in self.columns] + [1])
         return max(sizes, words) if 3 * words >= sizes else words * 5 // 4
@@ -71,7 +71,7 @@ class Run:
 
 
 def stairs(run, values, height):
-    """The points of a curve that has a value in each column; `height` says where a value stands."""
+    """Returns the points of a curve that has a value in each column. `height` says where a value stands."""
     points = []
     for at, value in enumerate(values):
         points += [(run.x(at), height(value)), (run.x(at + 1), height(value))]
@@ -79,7 +79,7 @@ def stairs(run, values, height):
 
 
 def spans(flags):
-    """The neighbouring columns in which a flag is set, as first column and number of columns."""
+    """Yields the neighbouring columns in which a flag is set, as first column and number of columns."""
     at = 0
     while at < len(flags):
         end = at
@@ -98,7 +98,7 @@ def draw_area(picture, run, values, height, floor, role):
 
 
 def tick(most):
-    """The distance of marks on an axis: 1, 2 or 5 times a power of ten, so that there are 3 to 8 of them."""
+    """Returns the distance of ticks on an axis: 1, 2 or 5 times a power of ten, so that there are at most 8."""
     step = 1
     while most // step > 8:
         step = step * 5 // 2 if str(step)[0] == "2" else step * 2
@@ -106,7 +106,7 @@ def tick(most):
 
 
 def draw_words(picture, run):
-    """The chart of words: the size of the space, the words in use, those of an open collection's new space."""
+    """Draws the chart of words: the size of the space, the words in use, those of an open collection's new space."""
     most, floor = run.most_words(), TOP + CHART
 
     def height(words):
@@ -126,7 +126,7 @@ def draw_words(picture, run):
 
 
 def draw_marks(picture, run, top):
-    """A lane for each sort of mark that the trace has. Returns where the next thing can stand."""
+    """Draws a lane for each sort of mark that the trace has. Returns its lower end."""
     for role, name in LANES:
         if run.counts[role] == 0:
             continue
@@ -140,7 +140,7 @@ def draw_marks(picture, run, top):
 
 
 def draw_logs(picture, run, top):
-    """A chart of log entries, if there ever was one."""
+    """Draws a chart of log entries, if there ever was one. Returns its lower end."""
     most = run.most_entries()
     if most == 0:
         return top
@@ -154,7 +154,7 @@ def draw_logs(picture, run, top):
 
 
 def draw_axis(picture, run, top):
-    """Numbers of events, or their lines and replies if there are few. Returns the lower end."""
+    """Draws numbers of events, unless each event has a label. Returns the lower end."""
     if not run.labelled:
         for part in (0, 0.25, 0.5, 0.75, 1):
             anchor = "end" if part == 1 else "start" if part == 0 else "middle"
@@ -164,7 +164,7 @@ def draw_axis(picture, run, top):
 
 
 def draw_labels(picture, run, trace, top):
-    """The line and the reply of each event, turned."""
+    """Draws the line and the reply of each event, turned. Returns the lower end."""
     labels = ["%s: %s" % (" ".join(event), reply) for event, reply in zip(trace.events, run.replies)]
     height = 6.4 * max([len(label) for label in labels] + [0]) + 8
     for at, label in enumerate(labels):
@@ -186,7 +186,7 @@ def draw_legend(picture, y):
 
 
 def drawn(trace, title):
-    """The picture of a trace."""
+    """Returns the picture of a trace."""
     run = Run(trace)
     picture = Picture(title)
     picture.text(24, 26, title, "title")
