@@ -116,6 +116,11 @@ def small_pairs(_program, _folder):
         yield "drawing of %s" % name, wrong_drawing(drawn)
     for name in COUNTS:
         yield "drawing of %s" % name, wrong_drawing(drawn_example(name))
+    text, verdict = pairs.all_paired(40, 3)
+    drawn = pair_picture.drawn_word_by_word(texts.read_pair(text.decode()), "six rows", Verdict(verdict))
+    yield "drawing of six rows", wrong_drawing(drawn)
+    # Arrows from roots would cross the rows.
+    yield "counts of six rows", None if counted(drawn) == (80, 0, 0, 40) else "counted %s" % (counted(drawn),)
     yield "drawing without a verdict", wrong_drawing(
         pair_picture.drawn_word_by_word(texts.read_pair(example("replica_out_of_date.pair")), "not checked", None))
 

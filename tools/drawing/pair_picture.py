@@ -1,5 +1,5 @@
 """Lays out a pair of heaps word by word: both spaces as rows of cells, references as arrows, pairs as dotted lines."""
-from .heap import reachable, references, shown, walk
+from .heap import reachable, references, shown, target, walk
 from .picture import Picture
 
 CELL, HEIGHT, COLUMNS = 50, 30, 16
@@ -9,6 +9,8 @@ BETWEEN = 44
 # The caption and the legend need as many columns.
 LEAST_COLUMNS = 11
 MOST_SHOWN_ROOTS = 24
+# In a space of more rows, an object has the names of its roots beside its address, and no arrows from them.
+MOST_ROWS_WITH_ARROWS = 2
 
 
 class Side:
@@ -20,6 +22,13 @@ class Side:
         self.live = reachable(self.objects, image.roots)
         self.top = top
         self.rows = max(1, -(-self.drawn_words() // COLUMNS))
+
+    def label(self, thing):
+        """Returns what stands beside an object: its address, and its roots if there are no arrows from them."""
+        if self.rows <= MOST_ROWS_WITH_ARROWS:
+            return str(thing.start)
+        names = [name for name, word in zip(root_names(len(self.image.roots)), self.image.roots) if target(word) == thing.start]
+        return "%d \u2190 %s" % (thing.start, short(", ".join(names), 18)) if names else str(thing.start)
 
     def drawn_words(self):
         """Returns the number of words that have a cell: those up to the end, and as many free ones as fill the last row."""
@@ -74,7 +83,8 @@ def draw_word(picture, side, address, role, text, tip):
 def draw_object(picture, side, thing):
     for address, count in segments(thing.start, thing.size()):
         x, y = side.place(address)
-        picture.box(x, y, count * CELL, HEIGHT, side.role(thing), tip="object at %d" % thing.start)
+        tip = "object at %d" if address == thing.start else "rest of the object at %d"
+        picture.box(x, y, count * CELL, HEIGHT, side.role(thing), tip=tip % thing.start)
     name = "raw" if thing.raw else "kind"
     draw_word(picture, side, thing.start, "head", "%s %d" % (name, thing.kind), "header: kind %d, %d fields" % (thing.kind, len(thing.fields)))
     link = side.image.words[thing.start + 1]
@@ -83,7 +93,7 @@ def draw_object(picture, side, thing):
         said = str(word) if thing.raw else shown(word)
         draw_word(picture, side, thing.start + 2 + i, "cell", said, "field %d: word %d" % (i, word))
     x, y = side.inner_edge(thing.start)
-    picture.text(x - CELL / 2 + 2, y + (11 if side.is_old else -4), str(thing.start), "small")
+    picture.text(x - CELL / 2 + 2, y + (11 if side.is_old else -4), side.label(thing), "small")
 
 
 def draw_rest(picture, side):
@@ -149,8 +159,8 @@ def draw_roots(picture, side, wanted):
         picture.box(ROOT_X, y, ROOT_WIDTH, HEIGHT - 8, "root", "%s  %s" % (names[place], short(shown(word), 9)), "word %d" % word)
         if place == wanted:
             picture.box(ROOT_X - 3, y - 3, ROOT_WIDTH + 6, HEIGHT - 2, "fault")
-        address = word // 2 if word % 2 == 0 else 0
-        if address in side.objects:
+        address = target(word)
+        if address in side.objects and side.rows <= MOST_ROWS_WITH_ARROWS:
             x, edge_y = side.edge(address)
             start = (ROOT_X + ROOT_WIDTH, y + (HEIGHT - 8) / 2)
             picture.arrow(start, ((start[0] + x) / 2, edge_y + side.away(30)), (x - 12, edge_y), "rooted")
