@@ -192,10 +192,14 @@ def timelines(_program, folder):
         found = tuple(run.counts[role] for role in ("flip", "drop", "full", "no-room"))
         yield "marks of %s" % name, None if found == wanted else "counted %s, wanted %s" % (found, wanted)
     run = timeline.Run(texts.read_trace(example("write_while_scanning.trace")))
-    found = [(column.used, column.copied, column.entries) for column in run.columns]
+    found = [(column.used, column.copied, sum(column.entries)) for column in run.columns]
     # An object of one field takes 3 words, and word 0 is reserved. The log has its entry from the put to the apply.
     wanted = [(4, 0, 0)] * 2 + [(4, 1, 0)] + [(4, 4, 0)] * 2 + [(4, 4, 1)] * 3 + [(4, 4, 0)] + [(4, 0, 0)] * 2
     yield "curves of write_while_scanning", None if found == wanted else "found %s" % found
+    found = timeline.Run(texts.read_trace(example("log_across_two_mutators.trace"))).logs()
+    # Mutator 0 writes in event 6, and its entry is applied in event 11. Mutator 1 writes in event 9, applied in event 10.
+    wanted = [("log 0", [0] * 6 + [1] * 5 + [0] * 4), ("log 1", [0] * 9 + [1] + [0] * 5)]
+    yield "logs of log_across_two_mutators", None if found == wanted else "found %s" % found
     yield "timeline without events", wrong_drawing(timeline.drawn(texts.read_trace("heaptrace 1\nspace 8 mutators 1\n"), "empty"))
     made = subprocess.run([sys.executable, os.path.join(TOP, "bench", "make_collections"), "262144"], stdout=subprocess.PIPE)
     drawn = timeline.drawn(texts.read_trace(made.stdout.decode()), "many events")
