@@ -1,4 +1,4 @@
-"""What is checked: pair texts and their verdicts, texts that are no pair, each cut of a pair text, and the limits."""
+"""Tests of checking: pair texts with their verdicts, texts that are no pair, every prefix of a pair text, and the limits."""
 from . import pairs
 from .harness import Outcome, difference, file_of, refusal, run
 
@@ -10,7 +10,7 @@ def check(program, folder, text):
 
 
 def told(verdict):
-    """The outcome of a verdict: its line alone, on standard output also where it is a refusal."""
+    """Returns the outcome of a verdict: its line alone, on standard output, even for a refusal."""
     return Outcome(verdict.encode() + b"\n", b"", pairs.status_of(verdict))
 
 
@@ -39,7 +39,7 @@ def cuts_of(program, folder, name, text, verdict):
 
 
 def standard_input(program, folder):
-    """A file alone is checked; standard input may be that file."""
+    """Checks a file, and standard input by its path."""
     lines, verdict = pairs.CHECKED["kinds_differ"]
     path = file_of(folder, "pair", pairs.text_of(lines))
     found = run(program, ["check", path], text=pairs.LEAST)
@@ -49,7 +49,7 @@ def standard_input(program, folder):
 
 
 def other_texts(program, folder):
-    """A pair is no trace, and a trace is no pair."""
+    """Plays a pair and checks a trace; both are refused."""
     pair = file_of(folder, "pair", pairs.LEAST)
     trace = file_of(folder, "trace", b"heaptrace 1\nspace 8 mutators 1\n")
     yield "pair_is_not_played", difference(run(program, ["play", pair]), refusal("trace: bad header", 3))

@@ -1,4 +1,4 @@
-"""What a trace with collections gives: its report, the pairs of its flips, and its mutators' commands run in threads."""
+"""Tests of traces with collections: their reports, the pairs of their flips, and their mutators' commands run in threads."""
 import os
 
 from . import traces
@@ -8,7 +8,7 @@ from .traces import COLLECTED, PLAYED, trace_and_replies
 
 NO_SUCH_FLIP = refusal("trace: no such flip", 3)
 
-# Names of a report's lines, and the first word of the replies that they count.
+# The names of a report's lines, which are also the replies that they count.
 COUNTED = ["made", "full", "begun", "copied", "scanned", "applied"]
 
 REPORT_OF_COLLECT_WHEN_FULL = b"""events 12
@@ -28,7 +28,7 @@ free 2
 
 
 def root_lines(places):
-    """The words of the thirty-two roots of one mutator, of which some are not nil."""
+    """Returns the lines of the thirty-two roots of one mutator. `places` has the words that are not nil."""
     return "".join("%d\n" % places.get(place, 0) for place in range(32))
 
 
@@ -53,7 +53,7 @@ SECOND_PAIR = (
 ).encode()
 
 
-# The words of a raw object are its numbers, also where they look like references.
+# The words of a raw object are its numbers, even if they look like references.
 RAW_PAIR = (
     "heappair 2\nold 16 5\n" + words(0, 50790402, 1, 8, 10)
     + "roots 32\n" + root_lines({16: 2, 17: 21})
@@ -80,7 +80,7 @@ def reports(program, folder):
 
 
 def wrong_counts(found, replies):
-    """Why a report's counts are not those of the replies, or None."""
+    """Returns why a report's counts are not those of the replies, or None."""
     if found.status != 0 or found.stderr:
         return difference(found, Outcome(stdout=found.stdout))
     report = [line.split(" ") for line in found.stdout.decode().splitlines()]
@@ -95,7 +95,7 @@ def wrong_counts(found, replies):
 
 
 def flips_of(conversation):
-    """The numbers of pairs of a conversation's flips, in order."""
+    """Returns the numbers of pairs of a conversation's flips, in order."""
     _, replies = trace_and_replies(conversation)
     return [int(line.split(b" ")[1]) for line in replies.splitlines() if line.startswith(b"flipped ")]
 
@@ -121,16 +121,16 @@ def pairs(program, folder):
 
 
 def commands_of(text, mutator):
-    """The commands of a mutator in a trace, in order."""
+    """Returns the commands of a mutator in a trace, in order."""
     return [line for line in text.decode().splitlines()[2:] if line.startswith("m %d " % mutator)]
 
 
 def wrong_run(program, folder, text, found, turns):
-    """Why a recorded run in threads is not one of the trace, or None."""
+    """Returns why a recorded run in threads is not one of the trace, or None."""
     if found.status != 0 or found.stderr:
         return difference(found, Outcome(stdout=found.stdout))
     recorded = found.stdout
-    # No useful step begins with a size of its own, so a version above 1 is for raw objects.
+    # No useful step begins a collection with its own size, so a version above 1 means raw objects.
     raws = any(b" raw " in line for line in text.splitlines())
     if recorded.splitlines()[:2] != [b"heaptrace 3" if raws else b"heaptrace 1", text.splitlines()[1]]:
         return "recorded %r" % recorded.splitlines()[:2]
@@ -144,7 +144,7 @@ def wrong_run(program, folder, text, found, turns):
     replies = played.stdout.splitlines()
     if played.status != 0 or len(replies) != len(recorded.splitlines()) - 2:
         return "the recorded trace plays to %d replies, status %s" % (len(replies), played.status)
-    # A useful step is never one for which there is nothing to do.
+    # A useful step always has something to do.
     idle = {b"busy", b"idle", b"clean", b"not ready", b"refused", b"no room"}
     told = [reply for line, reply in zip(recorded.splitlines()[2:], replies) if line.startswith(b"c ")]
     return "a step was answered %s" % idle.intersection(told) if idle.intersection(told) else None
@@ -173,14 +173,14 @@ def threads(program, folder):
 
 
 def three_scripts(count):
-    """A trace of three mutators with so many commands."""
+    """Returns a trace of three mutators with so many commands."""
     commands = ["new r%d 7 3", "put r%d 2 r5", "get r%d r5 0", "move g3 r%d", "num r%d 9", "look r%d", "nil r%d"]
     lines = ["m %d %s\n" % (k % 3, commands[k // 3 % 7] % (k // 21 % 16)) for k in range(count)]
     return ("heaptrace 1\nspace 1048576 mutators 3\n" + "".join(lines)).encode()
 
 
 def many_threads(program, folder):
-    """Sixteen scripts of many commands beside a busy collector."""
+    """Runs sixteen scripts of many commands beside a busy collector."""
     scripts = ["m %d new r%d 1 2\nm %d put r%d 1 r%d\n" % (m, k % 16, m, k % 16, (k + 1) % 16) for k in range(200) for m in range(16)]
     text = ("heaptrace 1\nspace 1048576 mutators 16\n" + "".join(scripts)).encode()
     found = run(program, ["threads", file_of(folder, "sixteen scripts", text), "20000"])

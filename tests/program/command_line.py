@@ -1,4 +1,4 @@
-"""What the words on the command line ask for, and in which order faults are found."""
+"""Tests of the command line: what its words ask for, and the order in which faults are found."""
 import os
 
 from .harness import Outcome, difference, file_of, refusal, run
@@ -24,7 +24,7 @@ Options:
 
 
 def file_help(command, about):
-    """The help of a command that takes a file and nothing else."""
+    """Returns the help of a command that takes a file and nothing else."""
     return b"""%s
 
 Usage: gcflip %s <FILE>
@@ -148,7 +148,7 @@ def order_of_faults(program, folder):
 
 
 def paths(program, folder):
-    """FILE is a path as it is given."""
+    """Takes FILE as it stands."""
     text, replies = trace_and_replies(PLAYED["cycle_of_two"])
     played = Outcome(stdout=replies)
     cannot_read = refusal("cannot read", 4)
@@ -163,7 +163,7 @@ def paths(program, folder):
 
 
 def paths_of_pairs(program, folder):
-    """The same of a pair."""
+    """Does the same for a pair."""
     checked = Outcome(stdout=b"yes 0\n")
     for name in ["-", "play", "check", "a b", "\u00e9", "--"]:
         with open(os.path.join(folder, name), "wb") as file:
@@ -177,7 +177,7 @@ def paths_of_pairs(program, folder):
 
 
 def numbers(program, folder):
-    """Both ends of the ranges of N and TURNS, and numbers as clap reads them."""
+    """Tries both ends of the ranges of N and TURNS, and numbers as clap reads them."""
     text, _ = trace_and_replies(PLAYED["nothing_to_copy"])
     path = file_of(folder, "trace", text)
     for number in ["4294967295", "2", "002", "+2"]:

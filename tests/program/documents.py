@@ -1,4 +1,4 @@
-"""What the documents cite exists, what they quote is code of the repository, and the commands that they show print what
+"""Tests of the documents: what they cite exists, what they quote is in the code, and the commands that they show print what
 they say."""
 import glob
 import os
@@ -24,7 +24,7 @@ TOO_LONG = {
 
 
 def documents():
-    """The paths of all documents, from the top of the repository."""
+    """Returns the paths of all documents, from the top of the repository."""
     found = [path for pattern in PATTERNS for path in glob.glob(os.path.join(TOP, pattern))]
     return sorted(os.path.relpath(path, TOP) for path in found)
 
@@ -35,7 +35,7 @@ def text_of(document):
 
 
 def blocks(document, language):
-    """The lines of each fenced block of this language in a document."""
+    """Returns the lines of each fenced block of this language in a document."""
     found, current = [], None
     for line in text_of(document).split("\n"):
         if line.startswith("```"):
@@ -48,7 +48,7 @@ def blocks(document, language):
 
 
 def sources():
-    """The paths of all sources of the repository, with their texts."""
+    """Yields the paths of all sources of the repository, with their texts."""
     for folder in ("crates", "tests", "bench", "tools"):
         for path, folders, names in os.walk(os.path.join(TOP, folder)):
             folders[:] = [name for name in folders if name not in ("out", "__pycache__")]
@@ -62,7 +62,7 @@ def sources():
 # ---- names
 
 def cited_names(document):
-    """The names in backquotes of a document, with the lines where they stand. Commands of the toolchain are not ours."""
+    """Yields the names in backquotes of a document, with their line numbers. Commands of the toolchain are left out."""
     for number, line in enumerate(text_of(document).split("\n"), 1):
         for quoted in re.findall(r"`([^`]+)`", line):
             if not re.search(r"\brt ", quoted):
@@ -85,7 +85,7 @@ def names(_program, _folder):
 # ---- files
 
 def cited_files(document):
-    """The files that a document links to, from the top, with the links as they stand. Anchors are cut off."""
+    """Yields the files that a document names: the name as it stands, and the path from the top. Anchors are cut off."""
     for target in re.findall(r"\]\(([^)#\s]+)[^)]*\)", text_of(document)):
         if "://" not in target:
             yield target, os.path.join(os.path.dirname(document), target)
@@ -95,8 +95,8 @@ def cited_files(document):
 
 
 def is_file(path):
-    """Whether the path names a file from the top, below crates/ or in a crate; a file of definitions goes without its
-    ending. What a build leaves in out/ need not exist."""
+    """Returns whether the path names a file from the top, below crates/ or in a crate. The ending of a file of definitions
+    may be left out. What a build leaves in out/ need not exist."""
     if "out" in path.split("/"):
         return True
     folders = ["", "crates", "crates/*"]
@@ -113,7 +113,7 @@ def files(_program, _folder):
 # ---- clauses
 
 def contracts_of(crate):
-    """The clauses of each function of a crate by the function's name; functions of one name are put together."""
+    """Returns the clauses of each function of a crate by the function's name. Functions of one name share an entry."""
     found = {}
     for path, _, names_in in os.walk(os.path.join(TOP, "crates", crate, "src")):
         for name in sorted(names_in):
@@ -135,8 +135,8 @@ def add_contracts(text, found):
 
 
 def rows_of_clauses(document):
-    """The rows of the tables that promise something: the calls of a row, and its clauses. A row without calls goes on with
-    those of the row before."""
+    """Yields the rows of the tables with clauses: the calls of a row, its clauses, and the last cell. A row without calls
+    continues those of the row before."""
     calls, inside = [], False
     for line in text_of(document).split("\n"):
         cells = [cell.strip() for cell in line.split("|")[1:-1]]
@@ -183,7 +183,7 @@ def crates(_program, _folder):
 # ---- quoted code
 
 def pieces(block):
-    """The texts of a block between lines '// ...', with single spaces for all others."""
+    """Returns the texts of a block between its lines '// ...', with single spaces for all other white space."""
     return [" ".join(piece.split()) for piece in "\n".join(block).split("// ...")]
 
 
@@ -199,7 +199,7 @@ def quotes(_program, _folder):
 # ---- commands
 
 def shown_commands(document):
-    """The commands of a document's console blocks, each with the output that is shown."""
+    """Yields the commands of a document's console blocks, each with the output that is shown."""
     for block in blocks(document, "console"):
         command, output = None, []
         for line in block + ["$ "]:
@@ -212,12 +212,12 @@ def shown_commands(document):
 
 
 def without_program(command, program):
-    """The command as it is run: the program that is tested in the place of the built one."""
+    """Returns the command as it is run, with the program under test in the place of the built one."""
     return command.replace("crates/gcflip/out/gcflip", program)
 
 
 def wrong_output(command, output, program):
-    """Why a command does not print what a document shows, or None."""
+    """Returns why a command does not print what a document shows, or None."""
     if " rt " in command and shutil.which("rt") is None:
         return Skipped("there is no rt on the path")
     found = subprocess.run(["bash", "-c", without_program(command, program)], cwd=TOP, stdout=subprocess.PIPE,
@@ -233,7 +233,7 @@ def commands(program, _folder):
 
 
 def commands_of_tables(_program, _folder):
-    """Commands of README that cost too much to be run here. Each is shown there, as it is skipped here."""
+    """Skips the commands of README that take too long, if README still shows them."""
     shown = text_of("README.md")
     for command, why in TOO_LONG.items():
         yield "README.md: %s" % command, Skipped(why) if "`%s`" % command in shown else "README does not show it"
@@ -242,7 +242,7 @@ def commands_of_tables(_program, _folder):
 # ---- definitions
 
 def printed_by_definitions(*words):
-    """The status of tools/definitions, and what it prints."""
+    """Runs tools/definitions, and returns its status and its output."""
     found = subprocess.run([sys.executable, os.path.join(TOP, "tools", "definitions"), *words], stdout=subprocess.PIPE)
     return found.returncode, found.stdout.decode()
 
@@ -253,7 +253,7 @@ def definitions(_program, _folder):
 
 
 def counts(_program, _folder):
-    """The documents count the lines of definitions as the tool does."""
+    """Compares the counts of lines in the documents with those of the tool."""
     _, printed = printed_by_definitions()
     counted = [line.split()[:3] for line in printed.split("\n")[1:] if line and line.split()[0] != "growths"]
     shown = re.findall(r"(?m)^\| (\w+) \| (\d+) \| (\d+) \|$", text_of("docs/ARCHITECTURE.md"))

@@ -1,5 +1,5 @@
-"""What tools/draw draws: well-formed, inside its frame, with as many objects and arrows as there are; and what it says of a
-text that it cannot draw."""
+"""Tests of tools/draw: pictures are well-formed, keep inside their frame, and have the right number of objects and arrows. A
+text that cannot be drawn gets a message."""
 import json
 import os
 import re
@@ -23,7 +23,7 @@ from drawing.verdicts import MEANINGS, Verdict  # noqa: E402
 
 
 def draw(*words):
-    """The status of tools/draw, its standard output and its standard error."""
+    """Runs tools/draw, and returns its status, its standard output and its standard error."""
     done = subprocess.run([sys.executable, TOOL, *words], stdout=subprocess.PIPE, stderr=subprocess.PIPE, timeout=120)
     return done.returncode, done.stdout.decode(), done.stderr.decode()
 
@@ -35,7 +35,7 @@ def shapes_of(picture, role):
 
 
 def corners(shape):
-    """The points that a shape has to keep inside the frame."""
+    """Returns the points of a shape that have to be inside the frame."""
     if shape["kind"] == "box":
         return [(shape["x"], shape["y"]), (shape["x"] + shape["width"], shape["y"] + shape["height"])]
     if shape["kind"] != "text":
@@ -48,7 +48,7 @@ def corners(shape):
 
 
 def outside(picture):
-    """A shape that leaves the frame, or None."""
+    """Returns a shape that leaves the frame, or None."""
     for shape in picture.shapes:
         for x, y in corners(shape):
             if not (0 <= x <= picture.width and 0 <= y <= picture.height):
@@ -57,7 +57,7 @@ def outside(picture):
 
 
 def wrong_drawing(picture):
-    """What is wrong with a picture and its SVG, or None."""
+    """Returns what is wrong with a picture and its SVG, or None."""
     stray = outside(picture)
     if stray:
         return "outside of %d by %d: %s" % (picture.width, picture.height, stray)
@@ -94,7 +94,7 @@ def drawn_example(name):
 
 
 def counted(picture):
-    """The objects, references, roots that refer to objects, and pairs of a picture. The legend has one pair more."""
+    """Counts the objects, references, roots that refer to objects, and pairs of a picture. The legend has one more pair."""
     tips = [shape["tip"] for shape in picture.shapes if shape["kind"] == "box" and shape["tip"].startswith("object at ")]
     arrows = [shape["role"] for shape in picture.shapes if shape["kind"] == "arrow"]
     return (len(tips), sum(1 for role in arrows if role in ("reference", "stale")), arrows.count("rooted"),
@@ -116,6 +116,11 @@ def small_pairs(_program, _folder):
         yield "drawing of %s" % name, wrong_drawing(drawn)
     for name in COUNTS:
         yield "drawing of %s" % name, wrong_drawing(drawn_example(name))
+    text, verdict = pairs.all_paired(40, 3)
+    drawn = pair_picture.drawn_word_by_word(texts.read_pair(text.decode()), "six rows", Verdict(verdict))
+    yield "drawing of six rows", wrong_drawing(drawn)
+    # Arrows from roots would cross the rows.
+    yield "counts of six rows", None if counted(drawn) == (80, 0, 0, 40) else "counted %s" % (counted(drawn),)
     yield "drawing without a verdict", wrong_drawing(
         pair_picture.drawn_word_by_word(texts.read_pair(example("replica_out_of_date.pair")), "not checked", None))
 
@@ -126,7 +131,7 @@ def within(inner, outer):
 
 
 def marked(picture):
-    """The tips of the words that stand within a mark of the checker. The mark of the legend has none."""
+    """Returns the tips of the words inside a mark of the checker. The mark of the legend has none inside."""
     faults = [shape for shape in shapes_of(picture, "fault") if shape["kind"] == "box"]
     words = [shape for shape in picture.shapes if shape["kind"] == "box" and "word" in shape["tip"]]
     return [word["tip"] for fault in faults for word in words if within(word, fault)]
@@ -164,7 +169,7 @@ def large_pairs(_program, _folder):
 # ---- traces
 
 def replies(_program, _folder):
-    """The machine that a timeline rests on replies as the rules say."""
+    """Compares the replies of the machine behind a timeline with those that the rules give."""
     for name, conversation in PLAYED.items():
         text, wanted = trace_and_replies(conversation)
         trace = texts.read_trace(text.decode())
@@ -187,10 +192,14 @@ def timelines(_program, folder):
         found = tuple(run.counts[role] for role in ("flip", "drop", "full", "no-room"))
         yield "marks of %s" % name, None if found == wanted else "counted %s, wanted %s" % (found, wanted)
     run = timeline.Run(texts.read_trace(example("write_while_scanning.trace")))
-    found = [(column.used, column.copied, column.entries) for column in run.columns]
+    found = [(column.used, column.copied, sum(column.entries)) for column in run.columns]
     # An object of one field takes 3 words, and word 0 is reserved. The log has its entry from the put to the apply.
     wanted = [(4, 0, 0)] * 2 + [(4, 1, 0)] + [(4, 4, 0)] * 2 + [(4, 4, 1)] * 3 + [(4, 4, 0)] + [(4, 0, 0)] * 2
     yield "curves of write_while_scanning", None if found == wanted else "found %s" % found
+    found = timeline.Run(texts.read_trace(example("log_across_two_mutators.trace"))).logs()
+    # Mutator 0 writes in event 6, and its entry is applied in event 11. Mutator 1 writes in event 9, applied in event 10.
+    wanted = [("log 0", [0] * 6 + [1] * 5 + [0] * 4), ("log 1", [0] * 9 + [1] + [0] * 5)]
+    yield "logs of log_across_two_mutators", None if found == wanted else "found %s" % found
     yield "timeline without events", wrong_drawing(timeline.drawn(texts.read_trace("heaptrace 1\nspace 8 mutators 1\n"), "empty"))
     made = subprocess.run([sys.executable, os.path.join(TOP, "bench", "make_collections"), "262144"], stdout=subprocess.PIPE)
     drawn = timeline.drawn(texts.read_trace(made.stdout.decode()), "many events")
@@ -237,7 +246,7 @@ def messages(program, folder):
 
 
 def tool(program, folder):
-    """The tool asks the checker, and writes the picture or its description."""
+    """Runs the tool, which asks the checker and writes the picture or its description."""
     pair = os.path.join(TOP, "examples", "one_replica_for_two.pair")
     out = os.path.join(folder, "out.svg")
     status, written, said = draw(pair, "-o", out, "--program", program)
@@ -251,7 +260,7 @@ def tool(program, folder):
 
 
 def kept_pictures():
-    """The pictures that the repository keeps, each with the file that it is drawn from."""
+    """Yields the pictures that the repository keeps, each with the file that it is drawn from."""
     folder = os.path.join(TOP, "examples", "pictures")
     for name in sorted(os.listdir(folder)):
         stem = os.path.join(TOP, "examples", os.path.splitext(name)[0])
@@ -260,7 +269,7 @@ def kept_pictures():
 
 
 def kept(program, _folder):
-    """Each picture in the repository is what the tool draws today."""
+    """Compares each kept picture with what the tool draws today."""
     for picture, source in kept_pictures():
         _, written, _ = draw(source, "--program", program)
         name = os.path.relpath(picture, TOP)

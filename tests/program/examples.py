@@ -1,4 +1,4 @@
-"""The traces of examples/, each with its replies beside it, and the pairs, each with its verdict."""
+"""Tests of the files of examples/: traces with their replies, and pairs with their verdicts."""
 import os
 
 from .harness import Outcome, difference, run

@@ -1,18 +1,17 @@
-"""Each request for memory or for a thread refused in turn.
+"""Tests that refuse each request for memory or for a thread in turn.
 
-No contract can say that memory is left, nor what the system does when it is not. So a small C library stands in front
-of the C library's allocator and of its start of threads, and refuses the n-th request of a run, for n from 1 on until a
-run meets no refusal; and again with all requests from the n-th on.
+No contract can say that memory is left, or what the system does if it is not. So a small C library stands in front of the
+C library's allocator and of its start of threads. It refuses the n-th request of a run, for n from 1 on until a run meets
+no refusal, and then again all requests from the n-th on.
 
-Threads are asked for by a check of 2048 pairs or more alone, when all else has its memory, and such a check goes on
-without them. So of such a check there is a first request for threads:
+Only a check of 2048 pairs or more asks for threads. It does so once it has all other memory, and it goes on without them.
+So such a check has a first request for threads:
 
-- where it, or a request behind it, is refused, alone or with all later ones, the answer is the usual one;
-- where a request before it is refused with all later ones, the answer is `no memory`, with status 5, and nothing else;
-- where a request before it is refused alone, the answer is `no memory` as well, or the usual one: what asked may do
-  without.
+- If it, or a later request, is refused, alone or with all later ones, the outcome is the usual one.
+- If an earlier request is refused with all later ones, the outcome is `no memory`, with status 5, and nothing else.
+- If an earlier request is refused alone, the outcome is `no memory`, or the usual one if the program can do without it.
 
-Of all other runs each request is one before it.
+In all other runs, every request is such an earlier one.
 """
 import os
 import shutil
@@ -25,14 +24,14 @@ from .traces import PLAYED, trace_and_replies
 
 SOURCE = os.path.join(os.path.dirname(os.path.abspath(__file__)), "refusing_allocator.c")
 NO_MEMORY = refusal("no memory", 5)
-# Far more than the program asks for; a run that never stops asking is a failure.
+# Far more requests than the program makes. A run that never stops making them is a failure.
 MOST_REQUESTS = 20000
 TOO_MANY = "a run makes more than %d requests" % MOST_REQUESTS
 LAST = 1 << 62
 
 
 def compiler():
-    """The machine's C compiler, else the one that the toolchain brings."""
+    """Returns the machine's C compiler, otherwise that of the toolchain."""
     found = shutil.which("cc")
     if found:
         return [found]
@@ -45,7 +44,7 @@ def compiler():
 
 
 def refusing_allocator(folder):
-    """The path of the library, built."""
+    """Builds the library, and returns its path."""
     library = os.path.join(folder, "refusing_allocator.so")
     words = ["-shared", "-fPIC", "-O1", "-fno-builtin", "-o", library, SOURCE]
     subprocess.run(compiler() + words, check=True)
@@ -61,7 +60,7 @@ class Refusing:
         self.mark = os.path.join(folder, "refused")
 
     def run(self, words, text, first, last):
-        """The outcome, and whether a request was refused."""
+        """Returns the outcome, and whether a request was refused."""
         requests = {"REFUSED_FIRST": str(first), "REFUSED_LAST": str(last), "REFUSED_MARK": self.mark}
         environment = dict(os.environ, LD_PRELOAD=self.library, **requests)
         found = run(self.program, words, text=text, env=environment)
@@ -71,8 +70,9 @@ class Refusing:
         return found, refused
 
     def spared_behind(self, words, text, usual):
-        """The first request that is spared: where all from it on are refused, the answer is the usual one. It is one
-        more than the requests of a run that can spare none. And why an answer is not the one that is wanted, or None.
+        """Returns the first request that the program can do without: if it and all later ones are refused, the outcome is
+        the usual one. If there is none, that is one more than the number of requests. Also returns why an outcome is not
+        as wanted, or None.
         """
         spared = None
         for first in range(1, MOST_REQUESTS):
@@ -88,7 +88,7 @@ class Refusing:
         return spared or MOST_REQUESTS, TOO_MANY
 
     def spared_alone(self, words, text, usual, spared):
-        """Why an answer is not the one that is wanted where one request is refused, or None."""
+        """Returns why an outcome with one refused request is not as wanted, or None."""
         for request in range(1, MOST_REQUESTS):
             found, refused = self.run(words, text, request, request)
             if not refused:
@@ -101,7 +101,7 @@ class Refusing:
         return TOO_MANY
 
     def in_turn(self, words, text, usual, in_threads):
-        """Why an answer is not the one that is wanted, or None: with all requests from one on refused, and with one."""
+        """Returns why an outcome is not as wanted, or None: with all requests from one on refused, and with one."""
         spared, behind = self.spared_behind(words, text, usual)
         _, refused = self.run(words, text, spared, LAST)
         if behind is None and spared == 1:
@@ -117,10 +117,10 @@ def growths(program, folder):
     path = file_of(folder, "played", text)
     missing = os.path.join(folder, "nothing", "here")
     yes = file_of(folder, "yes", text_of(CHECKED["old_addresses_may_fall"][0]))
-    # So long that the bytes which are read need more room several times, and that threads share the pairs.
+    # So long that the input buffer grows several times, and that threads share the pairs.
     long_text, long_verdict = all_paired(20000, 100)
     long_yes = file_of(folder, "long yes", long_text)
-    # Whichever piece has no thread of its own, the first fault is told.
+    # The first fault is reported, whichever piece has no thread of its own.
     altered_text, altered_verdict = all_paired(20000, 100, (9000, 19999))
     altered = file_of(folder, "altered", altered_text)
     most_for_one_text, most_for_one_verdict = all_paired(2047, 1)
@@ -166,20 +166,20 @@ def growths(program, folder):
         yield "each_growth_and_all_later_ones_refused, %s" % name, rest
 
 
-# What a run of scripts in threads may come to where requests are refused, but for the run itself.
+# How a run of scripts in threads may end if requests are refused, apart from a complete run.
 THREADS_FAULTS = [NO_MEMORY, refusal("threads: not started", 6)]
 
 
 def wrong_end(program, folder, text, found, turns):
-    """Why a run of scripts with refused requests did not come to an end that it may have, or None."""
+    """Returns why a run of scripts with refused requests ended as it must not, or None."""
     if any(difference(found, fault) is None for fault in THREADS_FAULTS):
         return None
     return wrong_run(program, folder, text, found, turns)
 
 
 def growths_in_threads(program, folder):
-    """Scripts in threads: which request is whose depends on the threads, so any of the allowed ends will do, and each of
-    them is met. A run that meets no refusal is right."""
+    """Runs scripts in threads. Which thread makes a request depends on the schedule, so any allowed end will do, and each
+    has to occur. A run that meets no refusal is right."""
     refusing = Refusing(program, folder)
     text = b"heaptrace 1\nspace 64 mutators 2\nm 0 new g0 1 1\nm 0 num r0 5\nm 0 put g0 0 r0\nm 1 get r1 g0 0\n"
     words = ["threads", file_of(folder, "scripts", text), "40"]

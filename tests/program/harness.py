@@ -1,19 +1,19 @@
-"""Runs the program, and compares what it answers with what it should."""
+"""Runs the program, and compares its outcome with the wanted one."""
 import os
 import resource
 import subprocess
 
-# No case needs as much: a program that hangs, or takes all memory, is a failure and no trouble for the machine.
+# No case needs as much. A program that hangs or takes all memory is a failure, and does not harm the machine.
 SECONDS = 60
 BYTES = 4 << 30
 
 
 class Skipped(str):
-    """Why a case was not run, in the place of why it failed."""
+    """Why a case was not run. It stands in the place of why a case failed."""
 
 
 class Outcome:
-    """What a run of the program gave: standard output, standard error, status (negative: the signal)."""
+    """The outcome of a run: standard output, standard error, exit status (negative for a signal)."""
 
     def __init__(self, stdout=b"", stderr=b"", status=0):
         self.stdout = stdout
@@ -25,7 +25,7 @@ class Outcome:
 
 
 def refusal(line, status):
-    """The outcome of a fault: its line alone, and nothing on standard output."""
+    """Returns the outcome of a fault: its line alone, and nothing on standard output."""
     return Outcome(b"", line.encode() + b"\n", status)
 
 
@@ -53,7 +53,7 @@ def shown(text):
 
 
 def difference(found, wanted):
-    """Why an outcome is not the one that is wanted; None where it is."""
+    """Returns why an outcome is not the wanted one, or None if it is."""
     if found.status != wanted.status:
         return "status %s, wanted %s; standard error %s" % (found.status, wanted.status, shown(found.stderr))
     if found.stderr != wanted.stderr:
@@ -64,7 +64,7 @@ def difference(found, wanted):
 
 
 def file_of(folder, name, content):
-    """The path of a new file in the folder."""
+    """Writes a new file in the folder, and returns its path."""
     path = os.path.join(folder, name)
     with open(path, "wb") as file:
         file.write(content)

@@ -1,11 +1,11 @@
-"""Pair texts with their verdicts, and texts that are no pair.
+"""Pair texts with their verdicts, and other texts with their faults.
 
 Verdicts and faults stand as the formats and the checker's rules give them (docs/FORMATS.md); none was taken from a run.
 """
 
 
 def text_of(lines, version=1):
-    """The text of a pair, from the lines between its first and its last, parted by slashes."""
+    """Returns the text of a pair. `lines` are those between the first and the last, separated by slashes."""
     return ("heappair %d/%s/end/" % (version, lines)).replace("/", "\n").encode()
 
 
@@ -140,7 +140,7 @@ CHECKED_RAW = {
 
 
 def texts_and_verdicts():
-    """Each pair text: its name, its bytes, the line of its verdict. Without raw headers the version makes no difference."""
+    """Yields each pair text: name, bytes, line of the verdict. Without raw headers the version makes no difference."""
     for name, (lines, verdict) in CHECKED.items():
         for version in [1, 2]:
             yield "%s, version %d" % (name, version), text_of(lines, version), verdict
@@ -161,7 +161,7 @@ def bad_line(number):
     return "pair: bad line %d" % number
 
 
-# A line of the least text, by its number, and what stands in its place.
+# A line of the smallest text, by its number, and what replaces it.
 WRONG_LINES = {
     "next_version": (1, b"heappair 3"),
     "unknown_version": (1, b"heappair 9"),
@@ -207,7 +207,7 @@ WRONG_LINES = {
     "pair_too_many": (11, b"1 1"),
 }
 
-# In which line a wrong number in an earlier line is noticed.
+# The line in which a wrong number in an earlier line is noticed.
 NOTICED_IN = {"a_root_too_few": 6, "a_root_too_many": 5, "a_pair_too_few": 11}
 
 # The pair of a text with one pair.
@@ -228,7 +228,7 @@ def with_line(text, number, line):
 
 
 def refused_texts():
-    """Each text that is no pair: its name, its bytes, the line on standard error."""
+    """Yields each text that is no pair: name, bytes, line on standard error."""
     for name, (number, line) in WRONG_LINES.items():
         yield name, with_line(LEAST, number, line), bad_line(NOTICED_IN.get(name, number))
     one_pair = text_of(CHECKED["links_differ"][0])
@@ -248,14 +248,14 @@ def refused_texts():
 
 
 def image_without_fields(headers, roots):
-    """The lines of an image of objects without fields, behind the word that names the image."""
+    """Returns the lines of an image of objects without fields, after the word that names the image."""
     objects = "".join("%d\n0\n" % header for header in headers)
     return "1048576 %d\n0\n%sroots %d\n%s" % (1 + 2 * len(headers), objects, roots, "2\n" * roots)
 
 
 def all_paired(count, roots, altered=()):
-    """The text of so many objects without fields, each paired with the one in its place, and its verdict. The altered
-    pairs, least first, have a replica of another kind."""
+    """Returns the text of so many objects without fields, each paired with the one at its address, and its verdict. The
+    altered pairs, lowest first, have a replica of another kind."""
     headers = [16777216] * count
     old = image_without_fields(headers, roots)
     for number in altered:
@@ -267,5 +267,5 @@ def all_paired(count, roots, altered=()):
 
 
 def greatest_text():
-    """The text with the most pairs and roots that there may be, and its verdict."""
+    """Returns the text with the most pairs and roots, and its verdict."""
     return all_paired(524287, 272)

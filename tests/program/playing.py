@@ -1,4 +1,4 @@
-"""What is played: every trace, every text that is no trace, each cut of a trace, and the limit on its length."""
+"""Tests of playing: traces with their replies, texts that are no trace, every prefix of a trace, and the limit on its length."""
 import subprocess
 import time
 
@@ -9,7 +9,7 @@ LIMIT = 16777216
 
 
 def both_ways(program, folder, text):
-    """The outcome on standard input, and the outcome on a file."""
+    """Returns the outcome on standard input and the outcome on a file."""
     yield "on standard input", run(program, text=text)
     yield "of a file", run(program, ["play", file_of(folder, "text", text)])
 
@@ -28,7 +28,7 @@ def refused(program, folder):
 
 
 def outcome_of_cut(text, replies, length):
-    """What the first bytes of a good trace answer: those of whole lines are a trace, the others are none."""
+    """Returns the outcome of the first bytes of a good trace. Whole lines are a trace, any other prefix is not."""
     front = text[:length]
     lines = front.count(b"\n")
     if lines < 2:
@@ -46,7 +46,7 @@ def cuts(program, _folder):
 
 
 def byte_by_byte(program, _folder):
-    """A pipe gives what it has, so a line may come in many pieces."""
+    """Plays from a pipe, which gives what it has, so that a line comes in many pieces."""
     text, replies = traces.trace_and_replies(traces.PLAYED["full_leaves_the_slot_as_it_was"])
     with subprocess.Popen([program], stdin=subprocess.PIPE, stdout=subprocess.PIPE, stderr=subprocess.PIPE) as running:
         for byte in text:
@@ -59,11 +59,11 @@ def byte_by_byte(program, _folder):
 
 
 def text_of_length(length):
-    """A trace of this many bytes, and its replies."""
+    """Returns a trace of this many bytes, and its replies."""
     start = b"heaptrace 1\nspace 8 mutators 1\n"
     line = b"m 0 nil r0\n"
     count, left = divmod(length - len(start), len(line))
-    # The bytes that are left over lengthen the last line, whose number has one digit at least.
+    # The remaining bytes lengthen the last line, whose number has at least one digit.
     last = b"m 0 num r0 " + b"1" * (left + len(line) - len(b"m 0 num r0 \n")) + b"\n"
     if left == 0:
         last = line
@@ -85,7 +85,7 @@ def limit(program, folder):
 
 
 def most_events(program, folder):
-    """No trace has more events: a line has seven bytes at least."""
+    """Plays the trace with the most events: a line has at least seven bytes."""
     text = b"heaptrace 1\nspace 1 mutators 1\n" + b"c flip\n" * 2396740
     assert LIMIT - len(b"c flip\n") < len(text) <= LIMIT
     for way, found in both_ways(program, folder, text):
@@ -93,7 +93,7 @@ def most_events(program, folder):
 
 
 def small_stack(program, folder):
-    """A stack of 128 KiB is enough."""
+    """Plays with a stack of 128 KiB."""
     text, replies = traces.trace_and_replies(traces.PLAYED["cycle_of_two"])
     shell = ["-c", 'ulimit -s 128; exec "$0" "$@"', program]
     found = run("/bin/sh", shell, text=text)

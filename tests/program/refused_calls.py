@@ -1,12 +1,13 @@
-"""Each allocation of a library's call refused in turn.
+"""Tests that refuse each allocation of a library's call in turn.
 
-The tests of crates/growths make one call each, between two requests for memory of a size that the refusing allocator
-knows. It refuses the n-th request between them, for n from 1 on until a run meets no refusal. A test retries a call that
-returned NoMemory, says so by a request of another such size, and compares the reply and the state.
+Each test of crates/growths makes one call between two fences, which are requests for memory of a size that the refusing
+allocator knows. The allocator refuses the n-th request between them, for n from 1 on until a run meets no refusal. If the
+call returned NoMemory, the test retries it, says so by a request of another such size, and compares the reply and the
+state.
 
-A test is right if each of its runs passes, the last run retried nothing, and each other run retried, but for the
-requests that the call can do without. The number of refused requests is counted: a flip that leaves out the checker
-makes fewer, and one whose pairs grow one by one makes more.
+A test is right if each of its runs passes, the last run retried nothing, and every other run retried, apart from the
+requests that the call can do without. The number of refused requests is counted: a flip that leaves out the checker makes
+fewer, and one whose pairs grow one by one makes more.
 """
 import os
 import subprocess
@@ -19,13 +20,13 @@ BUILT = os.path.join(os.path.dirname(os.path.abspath(__file__)), "..", "..", "cr
 FENCE = 1000003
 RETRY = 1000033
 
-# How many requests are refused, where the number is known from what a call has to keep.
+# The number of refused requests, if it follows from what a call has to keep.
 EXACTLY = {
-    # The pairs, the new roots, and the checker's three rows.
+    # The pairs, the new roots, and the checker's three tables.
     "collected_heaps::flip_of_1000_that_keeps_nothing": 5,
     # The same, and the new words and the new roots of the kept pair.
     "collected_heaps::flip_of_1000_that_keeps_the_pair": 7,
-    # The pairs, the new roots, the checker's three rows, the new words and the new roots of the kept pair, and an entry of the history.
+    # The same, and an entry of the history.
     "worlds::flip_of_1000_with_a_full_history": 8,
     "worlds::flip_of_1000_with_a_spare_place": 7,
 }
@@ -33,7 +34,7 @@ AT_LEAST = {"worlds::flip_of_1000_in_threads": 7}
 
 # The requests that a call can do without.
 SPARED = {
-    # Behind the checker's three rows, a check asks for threads alone.
+    # After the checker's three tables, a check asks for threads alone.
     "checks::check_of_many_pairs_in_threads": lambda request: request > 3,
     # Room for all seats at once: without it, each seat asks for its own.
     "seats::shared_open": lambda request: request == 1,
@@ -60,13 +61,13 @@ class Run:
 
 
 def names():
-    """The names of the tests, without the 'tests::' before each."""
+    """Returns the names of the tests, without the 'tests::' before each."""
     listed = subprocess.run([BUILT, "--list"], capture_output=True, check=True, text=True).stdout.splitlines()
     return [line[len("tests::") : -len(": test")] for line in listed if line.endswith(": test")]
 
 
 def wrong_count(name, refused):
-    """Why so many refused requests are not what the call may make, or None."""
+    """Returns why so many refused requests are not what the call may make, or None."""
     if refused == 0:
         return "no request was refused"
     if name in EXACTLY and refused != EXACTLY[name]:
@@ -77,7 +78,7 @@ def wrong_count(name, refused):
 
 
 def wrong_refusals(folder, name):
-    """Why the call is not the one that is wanted where one of its requests is refused, or None."""
+    """Returns why the call went wrong with one of its requests refused, or None."""
     is_spared = SPARED.get(name, lambda _: False)
     for request in range(1, MOST_REQUESTS):
         run = Run(folder, name, request)

@@ -1,4 +1,4 @@
-"""Traces with the reply to each line, and texts that are no trace.
+"""Traces with the reply to each line, and other texts with their faults.
 
 The replies and faults stand as the formats and the commands' rules give them (docs/FORMATS.md); none was taken from
 a run.
@@ -216,8 +216,8 @@ COLLECT_WHEN_FULL = """
         m 0 new r1 0 0 -> made
 """
 
-# Traces in which the collector works. Each begins with `heaptrace 1`, or `heaptrace 2` where a collection has a size, or
-# `heaptrace 3` where an object is raw.
+# Traces with collections. Each begins with `heaptrace 1`, or `heaptrace 2` if a collection has a size, or `heaptrace 3` if
+# an object is raw.
 COLLECTED = {
     "collect_when_full": COLLECT_WHEN_FULL,
     "second_collection": COLLECT_WHEN_FULL + """
@@ -516,14 +516,14 @@ PLAYED.update(COLLECTED)
 
 
 def version_of(events):
-    """The least version that has all these lines: the second brought a collection's own size, the third raw objects."""
+    """Returns the least version that has all these lines. Version 2 adds a collection's own size, version 3 raw objects."""
     if any(event.split(" ")[2:3] == ["raw"] for event, _ in events):
         return 3
     return 2 if any(event.startswith("c begin ") for event, _ in events) else 1
 
 
 def trace_and_replies(conversation):
-    """The text of a trace, and the text of its replies."""
+    """Returns the text of a trace, and the text of its replies."""
     lines = [line.strip() for line in textwrap.dedent(conversation).split("\n") if line.strip()]
     events = [line.split(" -> ") for line in lines[1:]]
     trace = ["heaptrace %d" % version_of(events), lines[0]] + [event for event, _ in events]
@@ -565,7 +565,7 @@ HEADERS = {
     "header_before_a_bad_line": b"heaptrace 1\nspace 8 mutators 17\nx\n",
 }
 
-# The line behind `heaptrace 1` and `space 8 mutators 1`, without its end.
+# The line after `heaptrace 1` and `space 8 mutators 1`, without its line feed.
 BAD_LINES = {
     "empty_line": b"",
     "one_space": b" ",
@@ -612,7 +612,7 @@ BAD_LINES = {
     "no_such_log_in_a_bad_line": b"c apply 1 ",
 }
 
-# The line behind `heaptrace 2` and `space 8 mutators 1`, without its end.
+# The line after `heaptrace 2` and `space 8 mutators 1`, without its line feed.
 BAD_LINES_OF_THE_SECOND = {
     "size_0": b"c begin 0",
     "size_too_great": b"c begin 1048577",
@@ -621,7 +621,7 @@ BAD_LINES_OF_THE_SECOND = {
     "raw_object_in_the_second_version": b"m 0 raw r0 7 2",
 }
 
-# The line behind `heaptrace 3` and `space 8 mutators 1`, without its end.
+# The line after `heaptrace 3` and `space 8 mutators 1`, without its line feed.
 BAD_LINES_OF_THE_THIRD = {
     "raw_kind_256": b"m 0 raw r0 256 0",
     "raw_length_65536": b"m 0 raw r0 0 65536",
@@ -635,7 +635,7 @@ BAD_LINES_OF_THE_THIRD = {
 
 
 def refused_texts():
-    """Each text that is no trace: its name, its bytes, the line on standard error."""
+    """Yields each text that is no trace: name, bytes, line on standard error."""
     start = b"heaptrace 1\nspace 8 mutators 1\n"
     for name, text in HEADERS.items():
         yield name, text, BAD_HEADER

@@ -7,7 +7,7 @@ MOST_ROWS = 48
 COLUMNS = 110
 MOST_LINES = 64
 BETWEEN = 90
-# In what order sorts of words are given to a block that has several.
+# If a block has as many words of several sorts, the first of these wins.
 SORTS = ["unknown", "object", "raw", "garbage", "reserved", "free"]
 
 
@@ -33,13 +33,13 @@ class Space:
         return sorts
 
     def sorts_of_blocks(self):
-        """The sort that most words of a block have."""
+        """Returns the sort that most words of each block have."""
         sorts = self.sorts_of_words()
         parts = [sorts[at:at + self.scale] for at in range(0, len(sorts), self.scale)]
         return [max(SORTS, key=part.count) for part in parts]
 
     def place(self, address):
-        """The middle of an address's block."""
+        """Returns the middle of an address's block."""
         block = address // self.scale
         return LEFT + (block % COLUMNS + 0.5) * WIDTH / COLUMNS, self.top + (block // COLUMNS + 0.5) * ROW
 
@@ -48,7 +48,7 @@ class Space:
 
 
 def runs(sorts):
-    """The neighbours of one sort within a row: first block, number of blocks, sort."""
+    """Yields the neighbours of one sort within a row: first block, number of blocks, sort."""
     at = 0
     while at < len(sorts):
         end, row_end = at + 1, (at // COLUMNS + 1) * COLUMNS
@@ -112,7 +112,7 @@ def draw_legend(picture, y, scale, lines):
 
 
 def drawn_in_blocks(text, title, verdict):
-    """The picture of a pair text whose words are too many to be drawn one by one."""
+    """Returns the picture of a pair text that has too many words to draw one by one."""
     picture = Picture(title)
     scale = -(-max(len(text.old.words), len(text.new.words)) // (COLUMNS * MOST_ROWS))
     old = Space(text.old, text.raws, True, 84, scale)

@@ -5,7 +5,7 @@ BOX_WIDTH, BOX, GAP_X, GAP_Y, LEFT, TOP = 104, 34, 30, 40, 24, 24
 
 
 def levels_of(uses):
-    """How far each crate is above the lowest ones: one more than the highest that it uses."""
+    """Returns how far each crate is above the lowest ones: one more than the highest that it uses."""
     levels = {}
 
     def level(name):
@@ -19,7 +19,7 @@ def levels_of(uses):
 
 
 def covered(uses, name):
-    """What a crate uses through another one."""
+    """Returns what a crate uses through another one."""
     found = set()
     waiting = [further for use in uses[name] for further in uses[use]]
     while waiting:
@@ -31,12 +31,12 @@ def covered(uses, name):
 
 
 def arrows_of(uses):
-    """Who stands on whom, without what is covered."""
+    """Returns who stands on whom, without what is covered."""
     return [(name, use) for name in uses for use in uses[name] if use not in covered(uses, name)]
 
 
 def orders(levels, arrows):
-    """The crates of each level, from the highest down, each near those that it is joined to."""
+    """Returns the crates of each level, from the highest down, each near those that it is joined to."""
     rows = [sorted(name for name in levels if levels[name] == level) for level in range(max(levels.values()) + 1)]
     for _ in range(8):
         place = {name: at - len(row) / 2 for row in rows for at, name in enumerate(row)}
@@ -48,7 +48,7 @@ def orders(levels, arrows):
 
 
 def places_of(rows, width):
-    """The middle of each crate's box."""
+    """Returns the middle of each crate's box."""
     found = {}
     for line, row in enumerate(rows):
         start = (width - len(row) * (BOX_WIDTH + GAP_X) + GAP_X) / 2
@@ -58,7 +58,7 @@ def places_of(rows, width):
 
 
 def drawn(uses, title):
-    """The picture of the crates; `uses` are those that each crate uses."""
+    """Returns the picture of the crates. `uses` has those that each crate uses."""
     picture = Picture(title)
     levels, arrows = levels_of(uses), arrows_of(uses)
     rows = orders(levels, arrows)
@@ -67,7 +67,7 @@ def drawn(uses, title):
     places = places_of(rows, width)
     for upper, lower in arrows:
         (x, y), (to_x, to_y) = places[upper], places[lower]
-        # An arrow over several levels goes round the boxes between.
+        # An arrow over several levels goes around the boxes between.
         far = levels[upper] - levels[lower] > 1
         side = 1 if x + to_x >= width else -1
         bend = ((x + to_x) / 2 + (side * BOX_WIDTH * 1.2 if far else 0), (y + to_y) / 2)

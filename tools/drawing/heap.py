@@ -14,7 +14,7 @@ class Object:
 
 
 def header_of(word, raws):
-    """Whether a header word is raw, its kind and its length; None if the word is no header."""
+    """Returns whether a header word is raw, its kind and its length, or None if the word is no header."""
     for least, raw in ((PLAIN, False), (RAW, True)):
         if least <= word < least + HEADERS and (raws or not raw):
             return raw, (word - least) // 65536, (word - least) % 65536
@@ -22,7 +22,7 @@ def header_of(word, raws):
 
 
 def walk(words, raws):
-    """The objects of a space by their starts, up to the first word that is no header or whose object runs past the end."""
+    """Returns the objects of a space by their starts, up to the first word that is no header or whose object runs past the end."""
     found, at = {}, 1
     while at < len(words):
         header = header_of(words[at], raws)
@@ -35,12 +35,12 @@ def walk(words, raws):
 
 
 def target(word):
-    """The address that a word refers to, or None."""
+    """Returns the address that a word refers to, or None."""
     return word // 2 if word % 2 == 0 and 0 < word < 2097152 else None
 
 
 def shown(word):
-    """What a field or root word says."""
+    """Returns what a field or root word means."""
     if word == 0:
         return "nil"
     if word % 2 == 1:
@@ -49,14 +49,14 @@ def shown(word):
 
 
 def references(thing):
-    """The field numbers of an object that hold references, with the addresses."""
+    """Returns the field numbers of an object that hold references, with the addresses."""
     if thing.raw:
         return []
     return [(i, target(word)) for i, word in enumerate(thing.fields) if target(word) is not None]
 
 
 def reachable(objects, roots):
-    """The starts of the objects that the roots reach."""
+    """Returns the starts of the objects that the roots reach."""
     found, waiting = set(), [target(word) for word in roots]
     while waiting:
         at = waiting.pop()

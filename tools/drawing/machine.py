@@ -8,7 +8,7 @@ def is_number(value):
 
 
 class Thing:
-    """An object of the heap, or a replica. `original` is that of a replica."""
+    """An object of the heap, or a replica, which has an original."""
 
     def __init__(self, place, raw, kind, fields, original=None):
         self.place, self.raw, self.kind, self.fields, self.original = place, raw, kind, fields, original
@@ -53,7 +53,7 @@ class Machine:
         self.collection = None
 
     def play(self, event):
-        """The reply to an event."""
+        """Performs an event, and returns its reply."""
         if event[0] == "c":
             return self.step(event[1], event[2:])
         m, command, words = int(event[1]), event[2], event[3:]

@@ -1,5 +1,5 @@
 """Lays out a pair of heaps word by word: both spaces as rows of cells, references as arrows, pairs as dotted lines."""
-from .heap import reachable, references, shown, walk
+from .heap import reachable, references, shown, target, walk
 from .picture import Picture
 
 CELL, HEIGHT, COLUMNS = 50, 30, 16
@@ -9,6 +9,8 @@ BETWEEN = 44
 # The caption and the legend need as many columns.
 LEAST_COLUMNS = 11
 MOST_SHOWN_ROOTS = 24
+# In a space of more rows, an object has the names of its roots beside its address, and no arrows from them.
+MOST_ROWS_WITH_ARROWS = 2
 
 
 class Side:
@@ -21,8 +23,15 @@ class Side:
         self.top = top
         self.rows = max(1, -(-self.drawn_words() // COLUMNS))
 
+    def label(self, thing):
+        """Returns what stands beside an object: its address, and its roots if there are no arrows from them."""
+        if self.rows <= MOST_ROWS_WITH_ARROWS:
+            return str(thing.start)
+        names = [name for name, word in zip(root_names(len(self.image.roots)), self.image.roots) if target(word) == thing.start]
+        return "%d \u2190 %s" % (thing.start, short(", ".join(names), 18)) if names else str(thing.start)
+
     def drawn_words(self):
-        """The words that have a cell: those up to the end, and as many free ones as fill the last row."""
+        """Returns the number of words that have a cell: those up to the end, and as many free ones as fill the last row."""
         end = len(self.image.words)
         return max(end, min(self.image.size, -(-(end + 1) // COLUMNS) * COLUMNS))
 
@@ -30,24 +39,24 @@ class Side:
         return self.top + (GAP if self.is_old else 0) + row * (HEIGHT + GAP)
 
     def place(self, address):
-        """The upper left corner of a word's cell."""
+        """Returns the upper left corner of a word's cell."""
         return LEFT + address % COLUMNS * CELL, self.row_top(address // COLUMNS)
 
     def height(self):
         return self.rows * (HEIGHT + GAP)
 
     def edge(self, address):
-        """The middle of the side of a cell at which arrows within the space end."""
+        """Returns the middle of the side of a cell at which arrows within the space end."""
         x, y = self.place(address)
         return x + CELL / 2, y if self.is_old else y + HEIGHT
 
     def inner_edge(self, address):
-        """The middle of the side that looks at the other space."""
+        """Returns the middle of the side that faces the other space."""
         x, y = self.place(address)
         return x + CELL / 2, y + HEIGHT if self.is_old else y
 
     def away(self, distance):
-        """How far an arrow bends away from the other space."""
+        """Returns a distance away from the other space."""
         return -distance if self.is_old else distance
 
     def role(self, thing):
@@ -55,7 +64,7 @@ class Side:
 
 
 def segments(start, size):
-    """The parts of an object that stand in one row, as first address and number of words."""
+    """Yields the parts of an object that stand in one row, as first address and number of words."""
     while size > 0:
         count = min(size, COLUMNS - start % COLUMNS)
         yield start, count
@@ -74,7 +83,8 @@ def draw_word(picture, side, address, role, text, tip):
 def draw_object(picture, side, thing):
     for address, count in segments(thing.start, thing.size()):
         x, y = side.place(address)
-        picture.box(x, y, count * CELL, HEIGHT, side.role(thing), tip="object at %d" % thing.start)
+        tip = "object at %d" if address == thing.start else "rest of the object at %d"
+        picture.box(x, y, count * CELL, HEIGHT, side.role(thing), tip=tip % thing.start)
     name = "raw" if thing.raw else "kind"
     draw_word(picture, side, thing.start, "head", "%s %d" % (name, thing.kind), "header: kind %d, %d fields" % (thing.kind, len(thing.fields)))
     link = side.image.words[thing.start + 1]
@@ -83,11 +93,11 @@ def draw_object(picture, side, thing):
         said = str(word) if thing.raw else shown(word)
         draw_word(picture, side, thing.start + 2 + i, "cell", said, "field %d: word %d" % (i, word))
     x, y = side.inner_edge(thing.start)
-    picture.text(x - CELL / 2 + 2, y + (11 if side.is_old else -4), str(thing.start), "small")
+    picture.text(x - CELL / 2 + 2, y + (11 if side.is_old else -4), side.label(thing), "small")
 
 
 def draw_rest(picture, side):
-    """The reserved word, words that belong to no object, and free words."""
+    """Draws the reserved word, words that belong to no object, and free words."""
     words, known = side.image.words, {0}
     for thing in side.objects.values():
         known.update(range(thing.start, thing.start + thing.size()))
@@ -116,14 +126,14 @@ def draw_reference(picture, side, start, end, role):
         bend = min(2 * GAP - 16, 22 + abs(to_x - x) / 8)
         picture.arrow((x, y), ((x + to_x) / 2, y + side.away(bend)), (to_x, to_y), role)
     else:
-        # From row to row the arrow starts at the side of the cell that looks at its target.
+        # From row to row the arrow starts at the side of the cell that faces its target.
         from_y = side.inner_edge(start)[1] if (to_y > y) == side.is_old else y
         end_y = side.inner_edge(end)[1] if (to_y < y) == side.is_old else to_y
         picture.arrow((x, from_y), ((x + to_x) / 2 + 20, (from_y + end_y) / 2), (to_x, end_y), role)
 
 
 def root_names(count):
-    """The names of the places in a list of roots: slots, if there are as many as some mutators have."""
+    """Returns the names of the places in a list of roots. They are slots if some number of mutators has as many."""
     if count < 32 or count % 16:
         return ["root %d" % place for place in range(count)]
     shared = ["g%d" % place for place in range(16)]
@@ -133,7 +143,7 @@ def root_names(count):
 
 
 def shown_roots(image, wanted):
-    """The places of the roots that are drawn: those that are not nil, and the one that the checker names."""
+    """Returns the places of the roots that are drawn: those that are not nil, and the one that the checker names."""
     places = [place for place, word in enumerate(image.roots) if word != 0][:MOST_SHOWN_ROOTS]
     if wanted is not None and wanted < len(image.roots) and wanted not in places:
         places.append(wanted)
@@ -149,8 +159,8 @@ def draw_roots(picture, side, wanted):
         picture.box(ROOT_X, y, ROOT_WIDTH, HEIGHT - 8, "root", "%s  %s" % (names[place], short(shown(word), 9)), "word %d" % word)
         if place == wanted:
             picture.box(ROOT_X - 3, y - 3, ROOT_WIDTH + 6, HEIGHT - 2, "fault")
-        address = word // 2 if word % 2 == 0 else 0
-        if address in side.objects:
+        address = target(word)
+        if address in side.objects and side.rows <= MOST_ROWS_WITH_ARROWS:
             x, edge_y = side.edge(address)
             start = (ROOT_X + ROOT_WIDTH, y + (HEIGHT - 8) / 2)
             picture.arrow(start, ((start[0] + x) / 2, edge_y + side.away(30)), (x - 12, edge_y), "rooted")
@@ -201,14 +211,14 @@ def draw_legend(picture, y):
 
 
 def side_of(image, text, is_old, top, verdict):
-    """A side of the picture and its height, roots included."""
+    """Returns a side of the picture, and its height with the roots."""
     side = Side(image, text.raws, is_old, top)
     roots = len(shown_roots(image, verdict.root() if verdict else None)) * (HEIGHT - 4) + 16
     return side, max(side.height(), roots + (GAP if is_old else 0))
 
 
 def drawn_word_by_word(text, title, verdict):
-    """The picture of a pair text. `verdict` is the checker's, or None if nobody asked it."""
+    """Returns the picture of a pair text. `verdict` is the checker's, or None if it was not asked."""
     picture = Picture(title)
     old, old_height = side_of(text.old, text, True, 74, verdict)
     new, new_height = side_of(text.new, text, False, 74 + old_height + BETWEEN, verdict)

@@ -7,7 +7,7 @@ BOLD = ("title", "verdict", "refusal")
 
 
 def text_width(text, role):
-    """About how wide a text is."""
+    """Returns about how wide a text is."""
     return len(text) * TEXT_SIZES[role] * (0.66 if role in BOLD else 0.6)
 
 
@@ -27,23 +27,23 @@ class Picture:
         self.add("line", role, points=points)
 
     def area(self, points, role):
-        """A closed shape that is filled."""
+        """Adds a closed shape that is filled."""
         self.add("area", role, points=points)
 
     def arrow(self, start, bend, end, role):
-        """A curve from start to end that is drawn towards bend, with a head at its end."""
+        """Adds a curve from start to end that is drawn towards bend, with a head at its end."""
         self.add("arrow", role, points=[start, bend, end])
 
     def add(self, kind, role, **rest):
         self.shapes.append({"kind": kind, "role": role, **rest})
 
     def sized(self, width, height):
-        """The picture with this size, or a greater width where a text needs it."""
+        """Sets the size, with a greater width if a text needs it, and returns the picture."""
         ends = [shape["x"] + text_width(shape["text"], shape["role"]) + 12 for shape in self.shapes
                 if shape["kind"] == "text" and shape["anchor"] == "start" and not shape["turned"]]
         self.width, self.height = max([width] + ends), height
         return self
 
     def described(self):
-        """The picture as what JSON can say."""
+        """Returns the picture as data for JSON."""
         return {"title": self.title, "width": self.width, "height": self.height, "shapes": self.shapes}

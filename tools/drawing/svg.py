@@ -102,7 +102,7 @@ def markers():
 
 
 def render(picture):
-    """The SVG document of a picture."""
+    """Returns the SVG document of a picture."""
     lines = ['<svg xmlns="http://www.w3.org/2000/svg" viewBox="0 0 %s %s" width="%s" height="%s">' % (
         (number(picture.width), number(picture.height)) * 2)]
     lines.append("<title>%s</title>" % escape(picture.title))

@@ -49,7 +49,7 @@ class Lines:
         return self.lines[self.at - 1]
 
     def numbers(self, form, wanted):
-        """The numbers of the next line, which has to look like the form: a '#' for each number."""
+        """Returns the numbers of the next line, which has to look like the form, with a '#' for each number."""
         line = self.next(wanted)
         match = re.fullmatch(re.escape(form).replace(r"\#", "#").replace("#", "(%s)" % NUMBER.pattern), line)
         if not match:
@@ -61,7 +61,7 @@ class Lines:
 
 
 def kind_of(text):
-    """Which text it is, by its first line: 'pair', 'trace' or 'crates'."""
+    """Returns which text it is, by its first line: 'pair', 'trace' or 'crates'."""
     first = text.split("\n", 1)[0]
     if re.fullmatch(r"heappair [12]", first):
         return "pair"
@@ -101,7 +101,7 @@ STEP = re.compile(r"begin|begin (?:%s)|roots|scan|apply (?:%s)|flip|drop" % (NUM
 
 
 def event_of(line, mutators):
-    """The words of an event line, or None if it is none."""
+    """Returns the words of an event line, or None if it is none."""
     words = line.split(" ")
     if words[0] == "c" and STEP.fullmatch(line[2:]):
         return None if words[1] == "apply" and int(words[2]) >= mutators else words
@@ -126,7 +126,7 @@ def read_trace(text):
 
 
 def read_crates(text):
-    """The crates that each crate of the list uses; those of the toolchain are left out."""
+    """Returns the crates that each crate of the list uses, without those of the toolchain."""
     listed = {}
     for line in text.split("\n"):
         name, colon, uses = line.split("#")[0].partition(":")

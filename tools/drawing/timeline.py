@@ -1,21 +1,23 @@
-"""Lays out a trace as a timeline: words in use, collections, log entries, and marks for flips and for want of room."""
+"""Lays out a trace as a timeline: words in use, collections, log entries, and marks for flips and for missing room."""
 from .machine import Machine
 from .picture import Picture
 
 LEFT, WIDTH, RIGHT = 96, 860, 70
-CHART, LOGS, LANE = 190, 56, 16
+CHART, LOG, LANE = 190, 36, 16
 TOP = 74
 MOST_LABELS = 48
+MOST_LOGS = 4
 LANES = [("flip", "flips"), ("drop", "dropped"), ("full", "full"), ("no-room", "no room")]
 MARKS = {"dropped": "drop", "full": "full", "no room": "no-room"}
 
 
 class Column:
-    """What the events of one column of the picture leave: the size of the space, the most words and log entries, and which
-    marks there were."""
+    """What the events of one column of the picture leave: the size of the space, the most words, the most entries of each
+    log, and which marks there were."""
 
-    def __init__(self):
-        self.size, self.used, self.copied, self.entries, self.is_open, self.marks = 0, 0, 0, 0, False, set()
+    def __init__(self, mutators):
+        self.size, self.used, self.copied, self.is_open, self.marks = 0, 0, 0, False, set()
+        self.entries = [0] * mutators
 
     def add(self, machine, reply):
         c = machine.collection
@@ -24,13 +26,13 @@ class Column:
             self.is_open = True
         if c is not None:
             self.copied = max(self.copied, c.end)
-            self.entries = max(self.entries, sum(len(log) for log in c.logs))
+            self.entries = [max(most, len(log)) for most, log in zip(self.entries, c.logs)]
         if mark_of(reply):
             self.marks.add(mark_of(reply))
 
 
 def mark_of(reply):
-    """The mark that a reply gets, or None."""
+    """Returns the mark that a reply gets, or None."""
     return "flip" if reply.startswith("flipped") else MARKS.get(reply)
 
 
@@ -45,7 +47,7 @@ class Run:
         self.labelled = self.count <= MOST_LABELS
         for at, event in enumerate(trace.events):
             if at * WIDTH // self.count >= len(self.columns) or self.count <= WIDTH:
-                self.columns.append(Column())
+                self.columns.append(Column(trace.mutators))
             reply = machine.play(event)
             self.columns[-1].add(machine, reply)
             if mark_of(reply):
@@ -54,24 +56,34 @@ class Run:
                 self.replies.append(reply)
 
     def step(self):
-        """The width of a column."""
+        """Returns the width of a column."""
         return WIDTH / max(1, len(self.columns))
 
     def x(self, column):
         return LEFT + column * self.step()
 
     def most_words(self):
-        """The words that the chart has room for: the whole space, unless that would leave the curves flat."""
+        """Returns the words that the chart has room for: the whole space, unless that would flatten the curves."""
         sizes = max([column.size for column in self.columns] + [1])
         words = max([max(column.used, column.copied) for column in self.columns] + [1])
         return max(sizes, words) if 3 * words >= sizes else words * 5 // 4
 
-    def most_entries(self):
-        return max([column.entries for column in self.columns] + [0])
+    def shows_size(self):
+        """Returns whether the size of the space is within the chart."""
+        return max([column.size for column in self.columns] + [0]) <= self.most_words()
+
+    def logs(self):
+        """Returns the entries of each log by columns, with the log's name. Logs that never have one are left out, and many
+        logs are put together."""
+        found = [("log %d" % m, list(entries)) for m, entries in enumerate(zip(*[column.entries for column in self.columns]))]
+        found = [(name, entries) for name, entries in found if max(entries) > 0]
+        if len(found) > MOST_LOGS:
+            return [("all logs", [sum(column.entries) for column in self.columns])]
+        return found
 
 
 def stairs(run, values, height):
-    """The points of a curve that has a value in each column; `height` says where a value stands."""
+    """Returns the points of a curve that has a value in each column. `height` says where a value stands."""
     points = []
     for at, value in enumerate(values):
         points += [(run.x(at), height(value)), (run.x(at + 1), height(value))]
@@ -79,7 +91,7 @@ def stairs(run, values, height):
 
 
 def spans(flags):
-    """The neighbouring columns in which a flag is set, as first column and number of columns."""
+    """Yields the neighbouring columns in which a flag is set, as first column and number of columns."""
     at = 0
     while at < len(flags):
         end = at
@@ -98,7 +110,7 @@ def draw_area(picture, run, values, height, floor, role):
 
 
 def tick(most):
-    """The distance of marks on an axis: 1, 2 or 5 times a power of ten, so that there are 3 to 8 of them."""
+    """Returns the distance of ticks on an axis: 1, 2 or 5 times a power of ten, so that there are at most 8."""
     step = 1
     while most // step > 8:
         step = step * 5 // 2 if str(step)[0] == "2" else step * 2
@@ -106,7 +118,7 @@ def tick(most):
 
 
 def draw_words(picture, run):
-    """The chart of words: the size of the space, the words in use, those of an open collection's new space."""
+    """Draws the chart of words: the size of the space, the words in use, those of an open collection's new space."""
     most, floor = run.most_words(), TOP + CHART
 
     def height(words):
@@ -119,14 +131,14 @@ def draw_words(picture, run):
         picture.text(LEFT - 8, height(words) + 4, str(words), "small", "end")
     draw_area(picture, run, [column.used for column in run.columns], height, floor, "used")
     draw_area(picture, run, [column.copied for column in run.columns], height, floor, "copied")
-    if run.columns and max(column.size for column in run.columns) <= most:
+    if run.columns and run.shows_size():
         picture.line(stairs(run, [column.size for column in run.columns], height), "limit")
     picture.line([(LEFT, TOP), (LEFT, floor), (LEFT + WIDTH, floor)], "axis")
     picture.text(LEFT - 8, TOP - 10, "words", "small", "end")
 
 
 def draw_marks(picture, run, top):
-    """A lane for each sort of mark that the trace has. Returns where the next thing can stand."""
+    """Draws a lane for each sort of mark that the trace has. Returns its lower end."""
     for role, name in LANES:
         if run.counts[role] == 0:
             continue
@@ -140,21 +152,19 @@ def draw_marks(picture, run, top):
 
 
 def draw_logs(picture, run, top):
-    """A chart of log entries, if there ever was one."""
-    most = run.most_entries()
-    if most == 0:
-        return top
-    floor = top + LOGS
-    draw_area(picture, run, [column.entries for column in run.columns], lambda count: floor - count * (LOGS - 8) / most, floor, "log")
-    picture.line([(LEFT, top), (LEFT, floor), (LEFT + WIDTH, floor)], "axis")
-    picture.text(LEFT - 8, top + 14, "log entries", "small", "end")
-    picture.text(LEFT - 8, floor, "0", "small", "end")
-    picture.text(LEFT + WIDTH + 8, top + 14, "most: %d" % most, "small")
-    return floor + 8
+    """Draws a chart for each log that ever has an entry. Returns the lower end."""
+    for name, entries in run.logs():
+        most, floor = max(entries), top + LOG
+        draw_area(picture, run, entries, lambda count: floor - count * (LOG - 6) / most, floor, "log")
+        picture.line([(LEFT, top), (LEFT, floor), (LEFT + WIDTH, floor)], "axis")
+        picture.text(LEFT - 8, floor - LOG / 2 + 4, name, "small", "end")
+        picture.text(LEFT + WIDTH + 8, floor - LOG / 2 + 4, "most: %d" % most, "small")
+        top = floor + 8
+    return top
 
 
 def draw_axis(picture, run, top):
-    """Numbers of events, or their lines and replies if there are few. Returns the lower end."""
+    """Draws numbers of events, unless each event has a label. Returns the lower end."""
     if not run.labelled:
         for part in (0, 0.25, 0.5, 0.75, 1):
             anchor = "end" if part == 1 else "start" if part == 0 else "middle"
@@ -164,7 +174,7 @@ def draw_axis(picture, run, top):
 
 
 def draw_labels(picture, run, trace, top):
-    """The line and the reply of each event, turned."""
+    """Draws the line and the reply of each event, turned. Returns the lower end."""
     labels = ["%s: %s" % (" ".join(event), reply) for event, reply in zip(trace.events, run.replies)]
     height = 6.4 * max([len(label) for label in labels] + [0]) + 8
     for at, label in enumerate(labels):
@@ -175,18 +185,19 @@ def draw_labels(picture, run, trace, top):
 LEGEND = [("used", "words in use"), ("copied", "words in the new space"), ("collection", "a collection is open"), ("log", "log entries")]
 
 
-def draw_legend(picture, y):
+def draw_legend(picture, run, y):
     x = LEFT
     for role, name in LEGEND:
         picture.box(x, y, 18, 12, role)
         picture.text(x + 24, y + 10, name, "small")
         x += 44 + 6 * len(name)
-    picture.line([(x, y + 6), (x + 28, y + 6)], "limit")
-    picture.text(x + 34, y + 10, "size of the space", "small")
+    if run.shows_size():
+        picture.line([(x, y + 6), (x + 28, y + 6)], "limit")
+        picture.text(x + 34, y + 10, "size of the space", "small")
 
 
 def drawn(trace, title):
-    """The picture of a trace."""
+    """Returns the picture of a trace."""
     run = Run(trace)
     picture = Picture(title)
     picture.text(24, 26, title, "title")
@@ -198,5 +209,5 @@ def drawn(trace, title):
     top = draw_axis(picture, run, top)
     if run.labelled:
         top = draw_labels(picture, run, trace, top + 4)
-    draw_legend(picture, top + 12)
+    draw_legend(picture, run, top + 12)
     return picture.sized(LEFT + WIDTH + RIGHT, top + 40)

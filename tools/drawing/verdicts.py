@@ -25,15 +25,15 @@ class Verdict:
             self.refusal, self.places = match.group(1), [int(place) for place in match.group(2).split()]
 
     def meaning(self):
-        """What the line says, in words; the line of a yes speaks for itself."""
+        """Returns the meaning of a refusal in words. A yes needs none."""
         return MEANINGS[self.refusal] % tuple(self.places) if self.refusal else ""
 
     def caption(self):
-        """The line for a picture."""
+        """Returns the line for a picture."""
         return "gcflip check: %s" % self.line + (" (%s)" % self.meaning() if self.refusal else "")
 
     def pair(self):
-        """The number of the pair that is refused, or None."""
+        """Returns the number of the pair that is refused, or None."""
         return self.places[0] if self.refusal and self.refusal not in ("OldShape", "NewShape", "RootCount", "RootDiffers") else None
 
     def field(self):
@@ -43,7 +43,7 @@ class Verdict:
         return self.places[0] if self.refusal == "RootDiffers" else None
 
     def address(self, is_old, pairs):
-        """The address that is refused in the old heap, or in the new one; None if there is none."""
+        """Returns the address that is refused in the old heap, or in the new one, or None."""
         if self.refusal == ("OldShape" if is_old else "NewShape"):
             return self.places[0]
         if self.pair() is None or self.refusal in ("OldNotStart", "Twice") and not is_old:

@@ -45,7 +45,7 @@ pub record IsCutOff (text : List ℕ) : Type 0 where
   pub good : AreFirst before
   pub not_all : ¬ AreWhole before
 
--- this is the text's first fault; `Read` and `NoMemory` are none of the text's
+-- this is the text's first fault; `Read` and `NoMemory` are not faults of a text
 abbrev pub IsPairFaultOf : PairFault → List ℕ → Type 0
 IsPairFaultOf Read text = ⊥
 IsPairFaultOf TooLarge text = limit < length text
@@ -57,7 +57,7 @@ IsPairFaultOf NoMemory text = ⊥
 abbrev pub IsReadAs : CertifiedPair → List ℕ → Type 0
 IsReadAs f text = IsTextOf f text × (length text ≤ limit)
 
--- what may be answered in the place of a value: the text's first fault, or one of the reader or of memory
+-- the faults that may replace a value: the text's first fault, or one of the reader or of memory
 abbrev pub MayFail : PairFault → List ℕ → Type 0
 MayFail Read text = ⊤
 MayFail NoMemory text = ⊤

@@ -1,9 +1,9 @@
--- Reading a text section by section: what a section took of the text, and where a text is none of its own.
+-- Reading a text section by section: what a section took of the text, and where a text has no such section.
 use Rattle.std.specs.Prelude.{◌≡◌, ℕ, ◌+◌, ◌≤◌, List, ◌∷◌, ◌++◌, length}
 use Rattle.std.specs.List.{AllByRecursion}
 use Rattle.gc_graph.specs.Lines.{newline, HasNo, text_of}
 
--- the text behind the lines that were taken, and how many these were
+-- the text after the lines that were taken, and their number
 pub record Place : Type 0 where
   pub rest : List ℕ
   pub taken : ℕ

@@ -9,7 +9,7 @@ use std::test::Fail;
 /// Two images of no objects.
 const LEAST: &[u8] = b"heappair 1\nold 1 1\n0\nroots 1\n0\nnew 1 1\n0\nroots 1\n0\npairs 0\nend\n";
 
-/// A raw object whose field word no value has.
+/// A raw object whose field word is no value.
 const RAW: &[u8] =
     b"heappair 2\nold 9 4\n0\n50331649\n0\n18446744073709551614\nroots 1\n2\nnew 9 4\n0\n50331649\n0\n18446744073709551614\nroots 1\n2\npairs 1\n1 1\nend\n";
 
@@ -53,7 +53,7 @@ impl Read for Same {
     }
 }
 
-/// Takes as many bytes as it has room, and then fails.
+/// Takes as many bytes as it has room for, and then fails.
 #[derive(Drop)]
 struct Narrow {
     taken: Vec<u8>,
@@ -76,12 +76,12 @@ impl Write for Narrow {
     }
 }
 
-/// The fault of a text, if it has one.
+/// Returns the fault of a text, if it has one.
 fn fault_of<R: Read + Drop>(alloc: Global, reader: R) -> Option<PairFault> {
     read_pair(alloc, &mut Source::new(reader)).err()
 }
 
-/// The text, read and written back.
+/// Reads a text and writes it back.
 fn written_back(alloc: Global, text: &[u8]) -> Result<Vec<u8>, Fail> {
     let file = read_pair(alloc, &mut Source::new(text))?;
     let (old, new) = (file.old.as_ref(), file.new.as_ref());

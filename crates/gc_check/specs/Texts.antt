@@ -1,4 +1,4 @@
--- What the checker answers to a text, and what it writes.
+-- The checker's answer to a text, and what it writes.
 use Rattle.std.specs.Prelude.{◌≡◌, ℕ, List, Option, IfSome, ⊤}
 use Rattle.gc_graph.specs.Streams.{SendsFront}
 use Rattle.gc_cert.specs.Grammar.{CertifiedPair}
@@ -12,7 +12,7 @@ use Rattle.gc_check.specs.declared.verdict.Verdict.TheVariants as verdict
 abbrev pub verdict_on : CertifiedPair → Verdict
 verdict_on pair = verdict_of pair.old pair.new pair.pairs
 
--- where the verdict is yes, this holds of the pair
+-- if the verdict is yes, this holds of the pair
 abbrev pub OnYes : (CertifiedPair → Type 0) → Verdict → CertifiedPair → Type 0
 OnYes holds (verdict.Yes pairs) pair = holds pair
 OnYes holds (verdict.Refused refusal) pair = ⊤
@@ -27,7 +27,7 @@ pub record IsVerdictOn (text : List ℕ) (verdict : Verdict) : Type 0 where
   pub read : IsReadAs pair text
   pub verdict_is : verdict ≡ verdict_on pair
 
--- a front of this verdict's line went out, and where the reader tells its text, it is the verdict on that
+-- a prefix of this verdict's line went out; if the reader tells its text, the verdict is that on the text
 pub record TellsFront (text : Option (List ℕ)) (old new : Option (List ℕ)) : Type 0 where
   pub verdict : Verdict
   pub about : IfSome text (λ text. IsVerdictOn text verdict)

@@ -1,4 +1,4 @@
--- What the checker answers, and the line that tells it.
+-- The checker's answer, and its line.
 use Rattle.std.specs.Prelude.{◌≡◌, ℕ, List, [], ◌∷◌, length, map, Option, Some, None, ⊤, codes}
 use Rattle.std.specs.Fmt.{decimal}
 use Rattle.gc_graph.specs.Lines.{line}
@@ -17,7 +17,7 @@ use Rattle.gc_check.specs.declared.verdict.Verdict.TheVariants as verdict
 abbrev pub pairs_of : List Pair → List (ℕ × ℕ)
 pairs_of cert = map addresses cert
 
--- a refusal is this one; want of memory may stand in its place, and where there is none
+-- a refusal is this one; `NoMemory` may replace it, or a yes
 abbrev pub IsRefusalOf : Option Refusal → CheckFault → Type 0
 IsRefusalOf first (fault.Refused refusal) = first ≡ Some refusal
 IsRefusalOf first fault.NoMemory = ⊤
@@ -26,7 +26,7 @@ abbrev pub verdict_by : ℕ → Option Refusal → Verdict
 verdict_by pairs None = verdict.Yes pairs
 verdict_by pairs (Some refusal) = verdict.Refused refusal
 
--- yes with the number of pairs where nothing is wrong, else the first that is
+-- yes with the number of pairs, or the first fault
 abbrev pub verdict_of : Image → Image → List (ℕ × ℕ) → Verdict
 verdict_of old new pairs = verdict_by (length pairs) (first_fault old new pairs)
 

@@ -1,5 +1,5 @@
-//! The answers of `check` to small pairs, and those of `Tables`. gc_par, which sees all checks, has the tests that
-//! compare them with a slow one, and those of pair texts.
+//! Tests of `check` on small pairs, and of `Tables`. gc_par, which sees all checks, has the tests that compare them
+//! with a slow one, and those of pair texts.
 
 mod rows;
 
@@ -11,7 +11,7 @@ use std::alloc::{AllocError, Global};
 use std::process::Abort;
 use std::test::Fail;
 
-/// Two images, the addresses of a certificate, and what the checker answers.
+/// Two images, the addresses of a certificate, and the checker's answer.
 #[derive(Clone, Copy)]
 struct Row {
     old: ImageRef<'static>,
@@ -30,7 +30,7 @@ fn image<'a>(size: u32, end: u32, words: &'a [u64], roots: &'a [u64]) -> ImageRe
     }
 }
 
-/// An image in which headers of raw objects count.
+/// Returns an image in which headers of raw objects count.
 fn with_raws<'a>(size: u32, end: u32, words: &'a [u64], roots: &'a [u64]) -> ImageRef<'a> {
     ImageRef {
         raws: true,

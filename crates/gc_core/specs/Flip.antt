@@ -17,12 +17,12 @@ flip_pair s c = record { old = old_image s c; new = new_image s c; pairs = pairs
 abbrev pub IsCertified : CertifiedPair → Type 0
 IsCertified pair = Certified pair.old pair.new pair.pairs
 
--- that of the open collection
+-- the pair of the open collection
 abbrev pub open_pair : State → Option Collection → Option CertifiedPair
 open_pair s None = None
 open_pair s (Some c) = Some (flip_pair s c)
 
--- the pair that is kept after a reply in this state, where `kept` was kept before
+-- the pair that is kept after a reply in this state, if `kept` was kept before
 abbrev pub kept_after : Option CertifiedPair → State → StepReply → Option CertifiedPair
 kept_after kept s (Flipped pairs) = open_pair s s.collection
 kept_after kept s reply = kept
@@ -32,14 +32,14 @@ abbrev pub replaced : Option CertifiedPair → Option CertifiedPair → Option C
 replaced kept None = kept
 replaced kept (Some pair) = Some pair
 
--- where the reply tells of a flip, this holds of its pair
+-- if the reply is `Flipped`, this holds of the flip's pair
 abbrev pub FlipsOnly : (CertifiedPair → Type 0) → State → StepReply → Type 0
 FlipsOnly says s reply = (pairs : ℕ) → reply ≡ Flipped pairs → IfSome s.collection (λ c. says (flip_pair s c))
 
--- a ready collection's flip is answered with the number of its pairs
+-- the flip of a ready collection replies with the number of its pairs
 abbrev pub PassesIfReady : State → StepReply → Type 0
 PassesIfReady s reply = IfSome s.collection (λ c. IsTrue (is_ready c s.heap.graph) → reply ≡ Flipped (length c.replicas))
 
--- where the new space is at least as large as the old one, no replica lacks room
+-- if the new space is at least as large as the old one, no replica lacks room
 abbrev pub HasRoomIfLarge : State → StepReply → Type 0
 HasRoomIfLarge s reply = IfSome s.collection (λ c. s.size ≤ c.size → reply ≢ NoRoom)

@@ -1,4 +1,4 @@
--- What mutators are told in a run.
+-- The replies that mutators get in a run.
 use Rattle.std.specs.Prelude.{List, [], ◌∷◌}
 use Rattle.gc_graph.specs.Legal.{Told}
 use Rattle.gc_copy.specs.State.{State}

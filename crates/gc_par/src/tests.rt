@@ -32,7 +32,7 @@ fn refused(refusal: Refusal) -> Result<Yes, CheckFault> {
     Err(CheckFault::Refused(refusal))
 }
 
-/// The words with another at each of these places.
+/// Returns the words with another one at each of these places.
 fn changed(alloc: Global, words: &[u64], changes: &[(usize, u64)]) -> Result<Vec<u64>, AllocError> {
     let mut words = Vec::from_slice(alloc, words)?;
     for (place, word) in changes {
@@ -72,7 +72,7 @@ const DIFFERENCES: [(&[(usize, u64)], Result<Yes, CheckFault>); 4] = [
     ),
 ];
 
-/// There are pairs enough for more than one thread.
+/// Enough pairs for more than one thread.
 #[test]
 fn first_of_many_differences(rt: HostRuntime) -> Result<(), Fail> {
     let alloc = rt.alloc();

@@ -1,4 +1,4 @@
--- What closing a world answers: its seats are compared by number, and the receipts of each in order.
+-- The result of closing a world: its seats are compared by number, and the receipts of each in order.
 use Rattle.std.specs.Prelude.{◌≡◌, ℕ, zero, suc, ◌+◌, ◌<◌, ◌≤◌, ◌==◌, ⊤, List, [], ◌∷◌, ◌++◌, length, take, Some, slice_get, count_by}
 use Rattle.std.specs.List.{find}
 use Rattle.std.specs.Option.{option_map_or}
@@ -21,11 +21,11 @@ abbrev pub receipts_below : List SeatValue → ℕ → List Receipt
 receipts_below seats zero = []
 receipts_below seats (suc n) = receipts_below seats n ++ receipts_of seats n
 
--- each number below `count` stands on one seat
+-- each number below `count` is that of exactly one seat
 abbrev pub HasEachOnce : List SeatValue → ℕ → Type 0
 HasEachOnce seats count = (n : ℕ) → n < count → count_by (λ seat. seat.number == n) seats ≡ 1
 
--- the seats have each number of the opening once, and the world is of its size and mutators
+-- the seats have each number of the opening once, and the world has its size and mutators
 pub record IsSeated (o : Opening) (w : Past) (seats : List SeatValue) : Type 0 where
   pub size : w.size ≡ o.size
   pub mutators : w.mutators ≡ o.mutators
@@ -34,13 +34,13 @@ pub record IsSeated (o : Opening) (w : Past) (seats : List SeatValue) : Type 0 w
 
 -- ---- receipts in order
 
--- the receipt's place has its event and answer, is at least `low`, and is no place of the earlier seats
+-- the receipt's place has its event and answer, is at least `low`, and is not a place of the earlier seats
 pub record Stands (history : List Entry) (earlier : List Receipt) (low : ℕ) (r : Receipt) : Type 0 where
   pub recorded : IsRecorded history r
   pub above : low ≤ r.place
   pub apart : times_at r.place earlier ≡ 0
 
--- each receipt of a seat stands, above the one before
+-- each receipt of a seat stands, and has a place above that of the one before
 abbrev pub AllStand : List Entry → List Receipt → ℕ → List Receipt → Type 0
 AllStand history earlier low [] = ⊤
 AllStand history earlier low (r ∷ rs) = Stands history earlier low r × AllStand history earlier (r.place + 1) rs
@@ -49,7 +49,7 @@ AllStand history earlier low (r ∷ rs) = Stands history earlier low r × AllSta
 abbrev pub SeatsStand : List Entry → List SeatValue → ℕ → Type 0
 SeatsStand history seats count = (n : ℕ) → n < count → AllStand history (receipts_below seats n) 0 (receipts_of seats n)
 
--- one above the place of the last receipt, and `low` where there is none
+-- one above the place of the last receipt, or `low` if there is none
 abbrev pub floor_of : ℕ → List Receipt → ℕ
 floor_of low [] = low
 floor_of low (r ∷ rs) = floor_of (r.place + 1) rs
@@ -63,7 +63,7 @@ pub record IsFirstTorn (history : List Entry) (earlier rs : List Receipt) (n : �
 
 -- ---- answers
 
--- what Ok says
+-- what `Ok` promises
 pub record IsWhole (o : Opening) (w : Past) (seats : List SeatValue) : Type 0 where
   pub seated : IsSeated o w seats
   pub agree : ReceiptsAgree w.entries seats
@@ -79,7 +79,7 @@ pub record IsExtra (history : List Entry) (seats : List SeatValue) (count : ℕ)
   pub all : SeatsStand history seats count
   pub fewer : length (receipts_below seats count) < length history
 
--- the first fault of the seats handed in against the world handed back
+-- the first fault of the given seats against the returned world
 abbrev pub IsFirstFault : Opening → Past → List SeatValue → CloseKind → Type 0
 IsFirstFault o w seats Seats = IsSeated o w seats → ⊥
 IsFirstFault o w seats (Torn seat n) = IsSeated o w seats × IsTorn w.entries seats (count_of_seats o) seat n

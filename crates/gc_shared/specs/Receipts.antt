@@ -11,7 +11,7 @@ use Rattle.gc_shared.specs.Seats.{SeatValue}
 abbrev pub IsRecorded : List Entry → Receipt → Type 0
 IsRecorded history r = slice_get history r.place ≡ Some (entry_of r.event r.answer)
 
--- how many of the receipts have this place
+-- the number of receipts with this place
 abbrev pub times_at : ℕ → List Receipt → ℕ
 times_at place rs = count_by (λ r. r.place == place) rs
 

@@ -50,7 +50,7 @@ abbrev pub collector : SeatValue
 collector = record { number = 2; is_mutator = false; receipts = receipt 1 (Collect Begin) (Useful Begun) ∷ [] }
 
 pub record Rows : Type 0 where
-  -- the receipts of the three seats agree, in whichever order they are handed in
+  -- the receipts of the three seats agree, in whichever order they are given
   pub agree : ReceiptsAgree history (collector ∷ first ∷ second ∷ [])
   -- a place without a receipt, and one with two
   pub left_out : ReceiptsAgree history (first ∷ second ∷ []) → ⊥

@@ -1,4 +1,4 @@
--- Scripts that threads run: what their seats have on their receipts then, and what the world's history has.
+-- Scripts that threads run: the receipts of their seats, and the world's history.
 use Rattle.std.specs.Prelude.{◌≡◌, ℕ, ◌<◌, ⊤, Bool, true, false, List, [], ◌∷◌, length, map, filter, All, slice_index_or}
 use Rattle.std.specs.declared.vec.Vec.{Vec}
 use Rattle.std.specs.declared.alloc.Global.{Global}
@@ -37,7 +37,7 @@ abbrev pub steps_of : List Entry → List Entry
 steps_of entries = filter (λ entry. is_collect entry.event) entries
 
 -- The world has this size and a mutator for each script. The commands of mutator m are script m, in order, and the
--- collector made so many steps, all as useful ones.
+-- collector performed so many steps, all as useful ones.
 pub record HasRun (size : ℕ) (scripts : List (Vec Op Global)) (turns : ℕ) (w : Past) : Type 0 where
   pub opened : w.size ≡ size
   pub mutators : w.mutators ≡ length scripts

@@ -1,4 +1,4 @@
--- Openings, their seats, and what a call adds to one.
+-- Openings, their seats, and what a call adds to a seat.
 use Rattle.std.specs.Prelude.{◌≡◌, ℕ, ◌+◌, ◌≤◌, Bool, nat_lt, List, [], ◌∷◌, ◌++◌, length, ⊤}
 use Rattle.gc_graph.specs.Limits.{most_words}
 use Rattle.gc_copy.specs.declared.step.Step.{Step}
@@ -44,7 +44,7 @@ pub record IsPossible (r : Receipt) : Type 0 where
   pub place : length earlier ≡ r.place
   pub goes_on : IsHistory size mutators (earlier ++ entry_of r.event r.answer ∷ [])
 
--- the seat has one receipt more, with this event and answer, and some world can give it
+-- the seat has one more receipt, with this event and answer, and some world can give it
 pub record AddsReceipt (before after : SeatValue) (event : Event) (answer : Answer) : Type 0 where
   pub place : ℕ
   pub added : after ≡ record before { receipts = before.receipts ++ receipt place event answer ∷ [] }
@@ -52,7 +52,7 @@ pub record AddsReceipt (before after : SeatValue) (event : Event) (answer : Answ
 
 -- ---- steps
 
--- where a step has a size, it is that of a space
+-- the size of a step, if it has one, is that of a space
 abbrev pub HasSize : Step → Type 0
 HasSize (BeginSized size) = (1 ≤ size) × (size ≤ most_words)
 HasSize step = ⊤

@@ -112,7 +112,7 @@ fn a_seat_of_another_opening(rt: HostRuntime) -> Result<(), Fail> {
     Ok(())
 }
 
-/// Closing these seats finds this fault, and hands back a world with so many events.
+/// Asserts that closing these seats finds this fault, and returns a world with so many events.
 fn expect_fault(rt: &impl Abort, shared: Shared, seats: Vec<Seat>, kind: CloseKind, events: usize) {
     match shared.close(seats) {
         Ok(_world) => panic!(rt; "closed"),
@@ -175,7 +175,7 @@ fn three_seats_in_threads(rt: HostRuntime) -> Result<(), Fail> {
     Ok(())
 }
 
-/// Makes the two commands fifty times.
+/// Performs the two commands fifty times.
 fn commands(rt: &(impl Wait + Abort), shared: &Shared, mut seat: Seat, ops: &[Op; 2]) -> Seat {
     for _ in 0..50 {
         assert!(rt; shared.call(rt, &mut seat, &ops[0]).is_ok());
@@ -184,7 +184,7 @@ fn commands(rt: &(impl Wait + Abort), shared: &Shared, mut seat: Seat, ops: &[Op
     seat
 }
 
-/// Makes a hundred useful steps.
+/// Performs a hundred useful steps.
 fn steps(rt: &(impl Threads + Wait + Abort + Sync), shared: &Shared, mut seat: Seat) -> Seat {
     for _ in 0..100 {
         assert!(rt; shared.useful(rt, &mut seat).is_ok());

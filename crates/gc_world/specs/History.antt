@@ -1,4 +1,4 @@
--- Histories: what happened, and what it was answered.
+-- Histories: events with their answers.
 use Rattle.std.specs.Prelude.{◌≡◌, ℕ, ◌≤◌, List, [], ◌∷◌, map, ⊤}
 use Rattle.std.specs.List.{flat_map}
 use Rattle.gc_graph.specs.Limits.{most_words, most_mutators}
@@ -41,7 +41,7 @@ state_after size mutators entries = runs.state_after (opening_state size mutator
 
 -- ---- the useful step
 
--- what is answered `Useful` is the useful step
+-- a step with the answer `Useful` is the useful step
 abbrev pub IsUseful : State → Event → Answer → Type 0
 IsUseful s (Mutate m op) answer = ⊤
 IsUseful s (Collect step) (Mutator reply) = ⊤

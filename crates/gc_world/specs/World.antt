@@ -18,7 +18,7 @@ pub record Past : Type 0 where
 abbrev pub present : Past → State
 present past = state_after past.size past.mutators past.entries
 
--- one entry more
+-- one more entry
 abbrev pub entry_of : Event → Answer → Entry
 entry_of event answer = record { event = event; answer = answer }
 

@@ -12,7 +12,7 @@ use std::process::Abort;
 use std::test::Fail;
 use std::thread::Threads;
 
-/// Makes a command of the first mutator.
+/// Performs a command of the first mutator.
 fn command(world: &mut World, op: Op) -> Result<Reply, NoMemory>
     requires { 0 < world.old.mutators }
     ensures { world.new.mutators ≡ world.old.mutators }
@@ -20,7 +20,7 @@ fn command(world: &mut World, op: Op) -> Result<Reply, NoMemory>
     world.mutate(0, &op)
 }
 
-/// Makes an object, which the root then refers to.
+/// Makes an object, and puts a reference to it into the slot.
 fn make(world: &mut World, d: Slot, kind: u8, len: u16) -> Result<Reply, NoMemory>
     requires { 0 < world.old.mutators }
     ensures { world.new.mutators ≡ world.old.mutators }
@@ -28,7 +28,7 @@ fn make(world: &mut World, d: Slot, kind: u8, len: u16) -> Result<Reply, NoMemor
     world.mutate(0, &Op::New { d, kind, len })
 }
 
-/// Makes a step of the collector.
+/// Performs a collector step.
 fn step(world: &mut World, step: Step) -> Result<StepReply, NoMemory>
     requires { IsStep world.old.mutators step }
     ensures { world.new.mutators ≡ world.old.mutators }
@@ -36,7 +36,7 @@ fn step(world: &mut World, step: Step) -> Result<StepReply, NoMemory>
     world.collect(step)
 }
 
-/// Makes a step of the collector, whose flips several threads check where `in_threads` says so.
+/// Performs a collector step. If `in_threads`, several threads check its flip.
 fn step_by(
     rt: &(impl Threads + Sync),
     world: &mut World,
@@ -53,14 +53,14 @@ fn step_by(
     }
 }
 
-/// Makes the step that is useful.
+/// Performs the useful step.
 fn useful(rt: &(impl Threads + Sync), world: &mut World) -> Result<(Step, StepReply), NoMemory>
     ensures { world.new.mutators ≡ world.old.mutators }
 {
     world.collect_useful(rt)
 }
 
-/// A collection makes room where there was none.
+/// Runs a collection in a full heap, after which there is room.
 fn collect_when_full(
     rt: &(impl Threads + Sync + Abort),
     alloc: Global,
@@ -172,7 +172,7 @@ fn a_flip_of_nothing_keeps_an_empty_certificate(rt: HostRuntime) -> Result<(), F
     Ok(())
 }
 
-/// A field that is written behind the scan pointer is brought up to date before the flip.
+/// Writes a field behind the scan pointer, which is brought up to date before the flip.
 fn write_while_scanning(
     rt: &(impl Threads + Sync + Abort),
     alloc: Global,

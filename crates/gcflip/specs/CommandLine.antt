@@ -25,7 +25,7 @@ file_command name = with_rule (new_app name) file_rule
 abbrev pub number_command : List ℕ → Rule → App
 number_command name number = with_rule (file_command name) number
 
--- the number of a flip, and how many turns the collector has
+-- the number of a flip, and the number of the collector's steps
 abbrev pub flip_rule : Rule
 flip_rule = number_rule (codes "N") (Signed (pos 1) (pos 4294967295))
 
@@ -41,7 +41,7 @@ files_line =
 abbrev pub command_line : App
 command_line = with_subcommand (with_subcommand files_line (number_command (codes "pair") flip_rule).top) (number_command (codes "threads") turns_rule).top
 
--- no hyphen stands first, so that clap takes the argument for a value and no option
+-- it does not begin with a hyphen, so that clap takes it for a value and not for an option
 abbrev pub IsPlainArgument : List ℕ → Type 0
 IsPlainArgument argument = strip_byte 45 argument ≡ None
 
@@ -78,6 +78,6 @@ abbrev pub Finds : Option (List ℕ × List ℕ) → Option (List ℕ × List Ro
 Finds None found = found ≡ None
 Finds (Some wanted) found = FindsFile wanted.0 wanted.1 found
 
--- where this was found for a subcommand, the task is what it asks for
+-- if this was found for a subcommand, the task is what it asks for
 abbrev pub IsAskedBy : Option (List ℕ × List Row) → Task → Type 0
 IsAskedBy found task = Finds (asked task) found

@@ -1,4 +1,4 @@
--- What the program says of a fault: a line on standard error.
+-- The program's line for a fault, on standard error.
 use Rattle.std.specs.Prelude.{ℕ, List, codes}
 use Rattle.gc_graph.specs.Lines.{ended}
 use Rattle.gc_check.specs.FaultTexts.{run_fault_text}

@@ -1,4 +1,4 @@
--- What may come of a task: its status where it is done, else its fault.
+-- The outcomes of a task: its status if it is done, otherwise its fault.
 use Rattle.std.specs.Prelude.{⊤}
 use Rattle.gcflip.specs.declared.faults.fault.Fault.{Fault}
 use Rattle.gcflip.specs.declared.faults.fault.Fault.TheVariants as fault

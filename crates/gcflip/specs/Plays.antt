@@ -1,4 +1,4 @@
--- What the program makes of a trace: its status is told beside it, and not its report.
+-- What the program writes for a trace. The status is beside it; the report is dropped.
 use Rattle.std.specs.Prelude.{ℕ, List, Option}
 use Rattle.gc_trace.specs.Plays.{Plays, Reports}
 use Rattle.gc_trace.specs.declared.report.Report.{Report}

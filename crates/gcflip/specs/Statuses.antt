@@ -1,5 +1,5 @@
--- What the program ends with: 0 where it did what it was asked, 1 for a refusal, 2 for an invalid command line,
--- 3 where a text is at fault, 4 where reading or writing failed, 5 where memory ran out, 6 for threads and their closing.
+-- The exit statuses: 0 for a task that is done, 1 for a refusal, 2 for an invalid command line, 3 for a faulty text, 4 if
+-- reading or writing failed, 5 if memory ran out, 6 for threads and their closing.
 use Rattle.std.specs.Prelude.{ℕ, List, [], ◌∷◌}
 use Rattle.gc_cert.specs.declared.fault.PairFault.{PairFault}
 use Rattle.gc_cert.specs.declared.fault.PairFault.TheVariants as pair

@@ -1,4 +1,4 @@
--- What the program makes of a trace whose scripts it runs in threads.
+-- Running the scripts of a trace in threads.
 use Rattle.std.specs.Prelude.{◌≡◌, ℕ, ◌<◌, List, Option, length, All}
 use Rattle.std.specs.Io.KnownBytes.{Appends}
 use Rattle.gc_graph.specs.Streams.{SendsFront}
@@ -9,8 +9,8 @@ use Rattle.gc_copy.specs.Runs.{commands_of}
 use Rattle.gc_world.specs.History.{events_of, IsHistory}
 use Rattle.gc_world.specs.declared.entry.Entry.{Entry}
 
--- A history of a world of the trace's size and mutators: each mutator made its commands of the trace, in order, and
--- the collector made so many steps, all as useful ones.
+-- A history of a world of the trace's size and mutators: each mutator performed its commands of the trace, in order, and
+-- the collector performed so many steps, all as useful ones.
 pub record IsThreadedRun (t : Recording) (turns : ℕ) (entries : List Entry) : Type 0 where
   pub history : IsHistory t.size t.mutators entries
   pub commands : (m : ℕ) → m < t.mutators → commands_of m (events_of entries) ≡ commands_of m t.events
@@ -25,6 +25,6 @@ recorded t entries = spelling (written t.size t.mutators (events_of entries))
 abbrev pub WritesRun : List ℕ → ℕ → Option (List ℕ) → Option (List ℕ) → Type 0
 WritesRun text turns old new = (t : Recording) × (entries : List Entry) × IsReadAs t text × IsThreadedRun t turns entries × Appends old new (recorded t entries)
 
--- the text is of a trace, and a front of the trace of such a run went out
+-- the text is of a trace, and a prefix of the trace of such a run went out
 abbrev pub WritesRunFront : List ℕ → ℕ → Option (List ℕ) → Option (List ℕ) → Type 0
 WritesRunFront text turns old new = (t : Recording) × (entries : List Entry) × IsReadAs t text × IsThreadedRun t turns entries × SendsFront old new (recorded t entries)

@@ -1,4 +1,4 @@
--- What the program makes of a pair text.
+-- What the program does with a pair text.
 use Rattle.std.specs.Prelude.{◌≡◌, ℕ, List, Option}
 use Rattle.std.specs.Io.KnownBytes.{Appends}
 use Rattle.gc_cert.specs.Grammar.{CertifiedPair}

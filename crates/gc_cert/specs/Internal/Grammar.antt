@@ -3,7 +3,7 @@ use Rattle.std.specs.Prelude.{◌≡◌, ℕ, Bool, List, []}
 use Rattle.gc_words.specs.Image.{Image}
 use Rattle.gc_cert.specs.Grammar.{image_lines, HasImageText}
 
--- an image's lines, and none behind
+-- an image's lines, and no more
 abbrev pub image_alone : List ℕ → Image → List (List ℕ)
 image_alone name image = image_lines name image []
 

@@ -4,12 +4,12 @@ use Rattle.std.specs.Str.{bytes_eq}
 use Rattle.gc_graph.specs.Tokens.{number_of}
 use Rattle.gc_cert.specs.Grammar.{heading}
 
--- each byte is above the digits, and so none is a space or a line feed
+-- each byte is above the digits, so none is a space or a line feed
 abbrev pub is_name : List ℕ → Bool
 is_name [] = true
 is_name (b ∷ bs) = nat_le 58 b && is_name bs
 
--- this very line
+-- exactly this line
 unfoldable pub is_line : List ℕ → List ℕ → Option (Unit {0})
 is_line wanted line = if bytes_eq line wanted then Some tt else None
 

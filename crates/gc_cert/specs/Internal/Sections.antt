@@ -22,11 +22,11 @@ alone line_of v = line_of v ∷ []
 abbrev pub AreAll : {V : Type 0} → (V → Type 0) → ℕ → List V → Type 0
 AreAll InRange n vs = (length vs ≡ n) × AllByRecursion InRange vs
 
--- the value of a line that says nothing but that it stands there
+-- the value of a line that carries no information
 abbrev pub Nothing : Unit {0} → Type 0
 Nothing u = Unit {0}
 
--- the value of a first line, which is in range whatever it says
+-- the value of a first line, which is always in range
 abbrev pub AnyFlag : Bool → Type 0
 AnyFlag raws = Unit {0}
 
@@ -34,7 +34,7 @@ AnyFlag raws = Unit {0}
 abbrev pub Begins : Section → List (List ℕ) → Type 0
 Begins S lines = (more : List (List ℕ)) × S (lines ++ more)
 
--- the lines up to line n begin a section and are none, and line n, with its line feed, cannot follow them
+-- the lines before line n begin a section and are not a whole one, and line n, with its line feed, cannot follow them
 pub record IsWrongAt (S : Section) (p : Place) (n : ℕ) : Type 0 where
   pub before : List (List ℕ)
   pub line : List ℕ
@@ -46,7 +46,7 @@ pub record IsWrongAt (S : Section) (p : Place) (n : ℕ) : Type 0 where
   pub not_all : ¬ S before
   pub wrong : ¬ Begins S (before ++ line ∷ [])
 
--- the lines that have their line feed begin a section and are none
+-- the lines that have their line feed begin a section and are not a whole one
 pub record IsCutIn (S : Section) (p : Place) : Type 0 where
   pub before : List (List ℕ)
   pub unfinished : List ℕ
@@ -55,7 +55,7 @@ pub record IsCutIn (S : Section) (p : Place) : Type 0 where
   pub good : Begins S before
   pub not_all : ¬ S before
 
--- what may be answered in the place of a section
+-- the faults that may replace a section
 abbrev pub MayStop : Section → PairFault → Place → Type 0
 MayStop S Read p = ⊥
 MayStop S TooLarge p = ⊥

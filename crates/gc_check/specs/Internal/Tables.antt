@@ -1,4 +1,4 @@
--- What the tables of the checker hold, and the faults that they find one by one.
+-- The contents of the checker's tables, and the faults that they find one by one.
 use Rattle.std.specs.Prelude.{◌≡◌, ℕ, ◌<◌, ◌≤◌, ◌^◌, ◌==◌, nat_le, Bool, false, not, List, length, slice_index, slice_index_or, Option, None, IsOk}
 use Rattle.std.specs.List.{list_any}
 use Rattle.gc_graph.specs.Correspond.{paired}
@@ -15,13 +15,13 @@ image_fault old new =
     or_else at_place (shape_fault new) (λ at. NewShape at)
     or_else when (not (length old.roots == length new.roots)) RootCount
 
--- a mark stands exactly where an object of the words starts
+-- exactly the places at which objects start are marked
 pub record MarksStarts (words : List ℕ) (marks : List Bool) : Type 0 where
   pub len : length marks ≡ length words
   pub walked : IsOk (walk_words words)
   pub starts : (place : ℕ) → slice_index_or marks place false ≡ is_start words place
 
--- By old address: the new address that is paired with it. It is 0 where there is none.
+-- By old address: the new address that is paired with it, or 0.
 pub record HoldsPartners (partners : List ℕ) (pairs : List (ℕ × ℕ)) : Type 0 where
   pub pair : (a b : ℕ) → 1 ≤ b → (slice_index partners a == b) ≡ paired pairs a b
   pub taken : (a : ℕ) → not (slice_index partners a == 0) ≡ list_any (λ q. q.0 == a) pairs
@@ -34,7 +34,7 @@ entry_fault old new partners last k p =
     or_else when (nat_le p.1 last) (NotRising k)
     or_else when (not (slice_index partners p.0 == 0)) (Twice k)
 
--- fewer pairs than a `u32` can count, all of them in their places, and the row of partners made of them
+-- fewer pairs than a `u32` can count, all in their places, and the table of partners made from them
 pub record HasTables (checked : Checked) (row : List ℕ) : Type 0 where
   pub few : length checked.pairs < 2 ^ 32
   pub placed : table_fault checked.old checked.new checked.pairs ≡ None

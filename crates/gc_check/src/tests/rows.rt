@@ -3,7 +3,7 @@
 use super::{Row, image, refused, with_raws, yes};
 use crate::Refusal;
 
-/// A row whose images are alone, or whose certificate has one pair.
+/// Returns the rows without pairs or with one pair.
 pub(super) fn few_pairs() -> [Row; 13] {
     [
         Row {
@@ -84,7 +84,7 @@ pub(super) fn few_pairs() -> [Row; 13] {
             pairs: &[(1, 1)],
             answer: yes(1),
         },
-        // A word that is no value stands for none, not even for itself.
+        // A word that is no value corresponds to none, not even to itself.
         Row {
             old: image(8, 4, &[0, 16777217, 0, 2097152], &[2]),
             new: image(8, 4, &[0, 16777217, 0, 2097152], &[2]),
@@ -94,7 +94,7 @@ pub(super) fn few_pairs() -> [Row; 13] {
     ]
 }
 
-/// Rows of two pairs, and one whose old image ends within an object.
+/// Returns the rows of two pairs, and one whose old image ends within an object.
 pub(super) fn many_pairs() -> [Row; 5] {
     [
         // Two objects have one replica.
@@ -134,7 +134,7 @@ pub(super) fn many_pairs() -> [Row; 5] {
     ]
 }
 
-/// Rows of a raw object, or of a word that looks like one.
+/// Returns the rows with a raw object, or with a word that looks like one.
 pub(super) fn raw_objects() -> [Row; 6] {
     [
         // The headers of raw objects do not count.

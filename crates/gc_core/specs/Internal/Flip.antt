@@ -1,4 +1,4 @@
--- What a flip makes ready before anything changes.
+-- What a flip prepares before anything changes.
 use Rattle.std.specs.Prelude.{◌≡◌, ℕ, List, map}
 use Rattle.gc_words.specs.Views.{addresses}
 use Rattle.gc_heap.specs.Heap.{HeapWords}

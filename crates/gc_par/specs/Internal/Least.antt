@@ -1,4 +1,4 @@
--- The first pair of which anything is wrong, as the least of the numbers that the pairs give.
+-- The first faulty pair, as the least of the numbers that the pairs give.
 use Rattle.std.specs.Prelude.{◌≡◌, ℕ, ◌<◌, ◌≤◌, true, if◌then◌else◌, Option, None, is_some}
 use Rattle.gc_words.specs.Fault.{pair_fault}
 use Rattle.gc_words.specs.declared.refusal.Refusal.{Refusal}
@@ -8,11 +8,11 @@ use Rattle.gc_check.specs.Tables.{Checked, pair_at}
 abbrev pub fault_at : Checked → ℕ → Option Refusal
 fault_at checked k = pair_fault checked.old checked.new checked.pairs k (pair_at checked.pairs k)
 
--- k where its pair has a fault, else the number of pairs
+-- k if its pair has a fault, otherwise the number of pairs
 abbrev pub place_or : ℕ → (ℕ → Option Refusal) → ℕ → ℕ
 place_or count fault k = if is_some (fault k) then k else count
 
--- the first number below the count whose pair has a fault, or the count where none has
+-- the first number below the count whose pair has a fault, or the count if none has
 pub record IsFirst (fault : ℕ → Option Refusal) (count first : ℕ) : Type 0 where
   pub within : first ≤ count
   pub before : (k : ℕ) → k < first → fault k ≡ None

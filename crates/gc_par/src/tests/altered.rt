@@ -13,7 +13,7 @@ use std::process::Abort;
 use std::test::Fail;
 use std::thread::Threads;
 
-/// What a flip compared.
+/// The images and the pairs that a flip compared.
 #[derive(Clone, Copy)]
 struct Flip<'a> {
     old: ImageRef<'a>,
@@ -29,7 +29,7 @@ const fn roots(first: u64, second: u64, third: u64, fourth: u64) -> [u64; 32] {
     ]
 }
 
-/// Each of the lists that differ from this one in one number: it is 0, one more, or the greatest.
+/// Returns the lists that differ from this one in one number, which is 0, one more, or the greatest.
 fn alterations(alloc: Global, numbers: &[u64], greatest: u64) -> Result<Vec<Vec<u64>>, AllocError> {
     let mut lists = Vec::new(alloc);
     for (place, number) in numbers.iter().enumerate() {
@@ -72,7 +72,7 @@ fn as_verdict(answer: Result<Yes, CheckFault>) -> Result<Verdict, RunFault> {
     }
 }
 
-/// All checks give this answer, those of texts as a verdict.
+/// Asserts that all checks give this answer, those of texts as a verdict.
 fn expect_answer(
     rt: &(impl Threads + Sync + Abort),
     alloc: Global,
@@ -97,7 +97,7 @@ fn expect_answer(
     Ok(())
 }
 
-/// All checks give the slow one's answer.
+/// Asserts that all checks give the slow one's answer.
 fn expect_agreement(
     rt: &(impl Threads + Sync + Abort),
     alloc: Global,
@@ -196,7 +196,7 @@ fn raw_words_are_no_references(rt: HostRuntime) -> Result<(), Fail> {
     expect_agreement_on_pairs(&rt, rt.alloc(), flip)
 }
 
-/// One object is kept, at another address, and one is left behind. The first own slot alone is not nil.
+/// One object is kept, at another address, and one is left behind. Only the first own slot is not nil.
 fn one_kept<'a>(old_roots: &'a [u64; 32], new_roots: &'a [u64; 32]) -> Flip<'a> {
     Flip {
         old: image(9, &[0, 16842754, 0, 0, 0, 16842754, 1, 0, 0], old_roots),

@@ -1,5 +1,5 @@
-//! Answers where a growth is refused, as `rt try --test --fail-alloc N` refuses the N-th: they are those with ample
-//! memory, or want of memory. The other tests have ample memory, and want the very answers.
+//! Tests for failed allocations, as `rt try --test --fail-alloc N` makes the N-th fail. The answer is the usual one, or
+//! `NoMemory`. The other tests have enough memory, and want the usual answers.
 
 use super::{changed, image, long_words, pair};
 use crate::{check_par, check_text_par};

@@ -119,13 +119,13 @@ pub(super) const RAW_ROWS: [(u32, &str, &str); 6] = [
     ),
 ];
 
-/// The text of a row, in this version.
+/// Returns the text of a row, in this version.
 pub(super) fn text_of(alloc: Global, version: u32, lines: &str) -> Result<String, AllocError> {
     let text = format!(in alloc; "heappair {version}/{lines}/end/")?;
     text.replace(alloc, '/', "\n")
 }
 
-/// The pair that the text of a row spells.
+/// Returns the pair that the text of a row spells.
 fn read_row(alloc: Global, version: u32, lines: &str) -> Result<PairFile, Fail> {
     let text = text_of(alloc, version, lines)?;
     Ok(read_pair(alloc, &mut Source::new(text.as_bytes()))?)
@@ -153,7 +153,7 @@ const WORDS: [u64; 11] = [
     0, 1, 2, 3, 6, 16777216, 16777217, 16842752, 2097152, 50331648, 50331649,
 ];
 
-/// Both checkers give the slow one's answer.
+/// Asserts that both checkers give the slow one's answer.
 fn expect_slow_answer(
     rt: &(impl Threads + Sync + Abort),
     alloc: Global,
@@ -175,7 +175,7 @@ fn with_roots<'a>(image: ImageRef<'a>, roots: &'a [u64]) -> ImageRef<'a> {
     ImageRef { roots, ..image }
 }
 
-/// Answers the pair with another word at one place of the old words and roots, and then of the new ones.
+/// Checks the pair with another word at one place of the old words and roots, and then of the new ones.
 fn expect_neighbours(
     rt: &(impl Threads + Sync + Abort),
     alloc: Global,

@@ -1,4 +1,4 @@
-//! Readers and writers that give and take few bytes, and then fail.
+//! Tests with readers and writers that give and take few bytes, and then fail.
 
 use super::texts::{LEAST, TEXT_CHECKS, line};
 use gc_cert::PairFault;

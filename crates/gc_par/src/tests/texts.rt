@@ -34,7 +34,7 @@ impl TextCheck {
     }
 }
 
-/// The bytes that the check writes of this text.
+/// Returns the bytes that the check writes for this text.
 pub(super) fn line<R: Read + Drop>(
     rt: &(impl Threads + Sync),
     check: TextCheck,
@@ -70,7 +70,7 @@ fn texts_with_raw_objects_get_their_lines(rt: HostRuntime) -> Result<(), Fail> {
     Ok(())
 }
 
-/// The least text, of two images without objects.
+/// The smallest text: two images without objects.
 pub(super) const LEAST: &[u8] =
     b"heappair 1\nold 1 1\n0\nroots 1\n0\nnew 1 1\n0\nroots 1\n0\npairs 0\nend\n";
 

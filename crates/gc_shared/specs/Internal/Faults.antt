@@ -1,4 +1,4 @@
--- What a thread whose call was refused ends with.
+-- The fault of a thread whose call was refused.
 use Rattle.gc_shared.specs.declared.fault.CallFault.{CallFault}
 use Rattle.gc_shared.specs.declared.fault.CallFault.TheVariants as calls
 use Rattle.gc_shared.specs.declared.fault.CloseKind.TheVariants as kinds

@@ -1,4 +1,4 @@
--- How closing keeps count of the places that stand on receipts.
+-- How closing counts the places of receipts.
 use Rattle.std.specs.Prelude.{◌≡◌, ℕ, ◌<◌, ◌≤◌, Bool, false, if◌then◌else◌, List, length, All, count_by, slice_index_or}
 use Rattle.std.specs.List.Sorted.{IsStrictlyIncreasing}
 use Rattle.gc_world.specs.declared.entry.Entry.{Entry}
@@ -9,7 +9,7 @@ use Rattle.gc_shared.specs.Closing.{receipts_of, receipts_below, IsTorn, IsExtra
 use Rattle.gc_shared.specs.declared.fault.CloseKind.{CloseKind}
 use Rattle.gc_shared.specs.declared.fault.CloseKind.TheVariants.{Seats, Torn, Extra, NoMemory}
 
--- a place is marked where one of the receipts has it, and no place stands on two
+-- exactly the places of receipts are marked, and no two receipts have the same place
 pub record IsMarked (marks : List Bool) (rs : List Receipt) : Type 0 where
   pub once : (place : ℕ) → place < length marks → times_at place rs ≡ (if slice_index_or marks place false then 1 else 0)
   pub all : count_by (λ mark. mark) marks ≡ length rs
@@ -26,7 +26,7 @@ pub record AgreeByNumber (history : List Entry) (seats : List SeatValue) (count 
   pub rising : (n : ℕ) → n < count → IsStrictlyIncreasing (places_of (receipts_of seats n))
   pub once : (place : ℕ) → place < length history → times_at place (receipts_below seats count) ≡ 1
 
--- what is wrong with the receipts of seats that have each number once
+-- the fault of the receipts of seats that have each number once
 abbrev pub IsFault : List Entry → List SeatValue → ℕ → CloseKind → Type 0
 IsFault history seats count Seats = ⊥
 IsFault history seats count (Torn seat n) = IsTorn history seats count seat n

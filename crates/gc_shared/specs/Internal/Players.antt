@@ -13,14 +13,14 @@ use Rattle.gc_shared.specs.Scripts.{script_at}
 abbrev pub Player : Type 0
 Player = PromisedHandle (Result SeatValue ThreadsFault) Plays
 
--- the thread is to play script m with seat m
+-- the thread promises to run script m with seat m
 abbrev pub IsToPlay : List (Vec Op Global) → ℕ → Player → Type 0
 IsToPlay scripts m h = (h.promise.number ≡ m) × (h.promise.script.now ≡ script_at scripts m)
 
--- the threads are to play the scripts from a on
+-- the threads promise to run the scripts from a on
 abbrev pub AreNext : List (Vec Op Global) → ℕ → List Player → Type 0
 AreNext scripts a players = (k : ℕ) (d : Player) → k < length players → IsToPlay scripts (a + k) (slice_index_or players k d)
 
--- thread m is to play script m with seat m
+-- thread m promises to run script m with seat m
 abbrev pub AreToPlay : List (Vec Op Global) → List Player → Type 0
 AreToPlay scripts players = (m : ℕ) (d : Player) → m < length players → IsToPlay scripts m (slice_index_or players m d)

@@ -1,4 +1,4 @@
--- What the seats of a run have on their receipts when their threads end.
+-- The receipts of a run's seats when their threads end.
 use Rattle.std.specs.Prelude.{◌≡◌, ℕ, ◌+◌, ◌<◌, List, length, map, All, slice_index_or}
 use Rattle.std.specs.declared.vec.Vec.{Vec}
 use Rattle.std.specs.declared.alloc.Global.{Global}
@@ -12,23 +12,23 @@ use Rattle.gc_shared.specs.Scripts.{script_at, IsUsefulStep}
 abbrev pub events_of : SeatValue → List Event
 events_of seat = map (λ r. r.event) seat.receipts
 
--- the seat with this number has made the commands of the script, in order, and nothing else
+-- the seat with this number has performed the commands of the script, in order, and nothing else
 pub record HasPlayed (number : ℕ) (script : List Op) (seat : SeatValue) : Type 0 where
   pub same : seat.number ≡ number
   pub events : events_of seat ≡ map (Mutate number) script
 
--- the seat with this number has made so many useful steps, and nothing else
+-- the seat with this number has performed so many useful steps, and nothing else
 pub record HasTurned (number turns : ℕ) (seat : SeatValue) : Type 0 where
   pub same : seat.number ≡ number
   pub count : length seat.receipts ≡ turns
   pub useful : All (λ r. IsUsefulStep r.event r.answer) seat.receipts
 
--- the first n seats have played their scripts
+-- the first n seats have run their scripts
 pub record HavePlayed (scripts : List (Vec Op Global)) (n : ℕ) (seats : List SeatValue) : Type 0 where
   pub count : length seats ≡ n
   pub each : (m : ℕ) (d : SeatValue) → m < n → HasPlayed m (script_at scripts m) (slice_index_or seats m d)
 
--- each mutator's seat has played its script, and the last one has made so many useful steps
+-- each mutator's seat has run its script, and the last one has performed so many useful steps
 pub record HaveEnded (scripts : List (Vec Op Global)) (turns : ℕ) (seats : List SeatValue) : Type 0 where
   pub count : length seats ≡ length scripts + 1
   pub each : (m : ℕ) (d : SeatValue) → m < length scripts → HasPlayed m (script_at scripts m) (slice_index_or seats m d)

@@ -1,4 +1,4 @@
-//! Closing: the world that is handed back is the one behind the lock, with its history and its kept pair, whatever the
+//! Tests of closing: the returned world is the one behind the lock, with its history and its kept pair, whatever the
 //! seats are.
 
 use crate::{CloseFault, CloseKind, Seat, Shared};
@@ -11,7 +11,7 @@ use std::sync::Wait;
 use std::test::Fail;
 use std::thread::Threads;
 
-/// A shared world with one seat of each kind.
+/// Opens a shared world with one seat of each kind.
 #[derive(Drop)]
 struct Opened {
     shared: Shared,
@@ -30,7 +30,7 @@ fn fresh(alloc: Global) -> Result<Opened, Fail> {
     })
 }
 
-/// Returns a world that has begun and flipped, and so has two events and keeps a pair.
+/// Returns a world that has begun a collection and flipped, so it has two events and keeps a pair.
 fn flipped(rt: &(impl Threads + Wait + Abort + Sync), alloc: Global) -> Result<Opened, Fail> {
     let mut opened = fresh(alloc)?;
     let begun = opened.shared.useful(rt, &mut opened.collector);
@@ -40,7 +40,7 @@ fn flipped(rt: &(impl Threads + Wait + Abort + Sync), alloc: Global) -> Result<O
     Ok(opened)
 }
 
-/// The world has its two events, and its pair.
+/// Asserts that the world has its two events and its pair.
 fn expect_whole(rt: &impl Abort, mut world: World) {
     assert!(rt; world.size() == 32 && world.mutators() == 1);
     assert_eq!(rt; world.history().len(), 2);
@@ -81,7 +81,7 @@ fn no_seats(rt: HostRuntime) -> Result<(), Fail> {
     Ok(())
 }
 
-/// The mutator's receipt is of another world, and names the place of a step in this one.
+/// Takes the mutator's receipt from another world. Its place is that of a step in this one.
 #[test]
 fn a_receipt_that_does_not_stand(rt: HostRuntime) -> Result<(), Fail> {
     let _named = View::Nil;
@@ -98,7 +98,7 @@ fn a_receipt_that_does_not_stand(rt: HostRuntime) -> Result<(), Fail> {
     Ok(())
 }
 
-/// The collector's seat is of another world, where it made no step.
+/// Takes the collector's seat from another world, where it performed no step.
 #[test]
 fn events_without_receipts(rt: HostRuntime) -> Result<(), Fail> {
     let opened = flipped(&rt, rt.alloc())?;

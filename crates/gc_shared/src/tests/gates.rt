@@ -1,4 +1,4 @@
-//! Scripts in threads: whichever way they meet, the history has them in order, and gates can say how they meet.
+//! Tests of scripts in threads: however they meet, the history has them in order. Gates decide how they meet.
 
 ghost use Rattle.std.specs.Prelude.{◌≡◌, IfOk, vec_len};
 
@@ -12,10 +12,10 @@ use std::test::Fail;
 use std::thread;
 use std::time::{Clock, Duration};
 
-/// How many milliseconds a gate waits at most.
+/// The most milliseconds that a gate waits.
 const TURNS: u32 = 5000;
 
-/// Waits until the flag is set. False where it is not set in time.
+/// Waits until the flag is set. Returns false if it is not set in time.
 fn waited<R: Clock>(rt: &R, flag: &AtomicBool) -> bool {
     for _ in 0..TURNS {
         if flag.load(Ordering::SeqCst) {
@@ -162,7 +162,7 @@ fn a_write_to_a_raw_object_is_seen(rt: HostRuntime) -> Result<(), Fail> {
     Ok(())
 }
 
-/// How often this answer was given to a command of mutator m.
+/// Counts how often a command of mutator m got this answer.
 fn answers_of(world: &World, m: u8, answer: Answer) -> u32 {
     let mut count: u32 = 0;
     for entry in world.history() {
@@ -200,7 +200,7 @@ impl<'a, R: Clock> Gate for Meet<'a, R> {
     fn after(&self, seat: u32, n: u64) {}
 }
 
-/// One thread alone would wait here in vain.
+/// One thread alone would wait here forever.
 #[test]
 fn two_threads_meet(rt: HostRuntime) -> Result<(), Fail> {
     let _named = View::Nil;
@@ -217,7 +217,7 @@ fn two_threads_meet(rt: HostRuntime) -> Result<(), Fail> {
     Ok(())
 }
 
-/// False at once for the first mutator.
+/// Returns false at once for the first mutator.
 #[derive(Drop)]
 struct RefusesFirst {
     second_called: AtomicBool,
@@ -250,7 +250,7 @@ fn a_refused_thread_leaves_the_others(rt: HostRuntime) -> Result<(), Fail> {
     Ok(())
 }
 
-/// False at once for everybody.
+/// Returns false at once for everybody.
 struct RefusesAll;
 
 impl Gate for RefusesAll {
@@ -321,9 +321,9 @@ fn a_command_between_two_turns(rt: HostRuntime) -> Result<(), Fail> {
     Ok(())
 }
 
-/// One seat's call is told only after it was made. The teller stays in `after` until the listener, which waits for it,
-/// asks for its second call, and so has made its first. Were the teller told before its own call, that call would come
-/// later than the listener's first.
+/// `after` is called only once a seat's call was performed. The teller stays in `after` until the listener, which waits
+/// for it, asks for its second call, and so has performed its first. If `after` came before the teller's own call, that
+/// call would come later than the listener's first.
 #[derive(Drop)]
 struct Told<'a, R> {
     rt: &'a R,

@@ -1,5 +1,5 @@
-//! A refused growth, as `rt try --test --fail-alloc N` refuses the N-th, changes nothing: a call that was refused is
-//! answered when it is made again, and closing hands the world back whole.
+//! A failed allocation, as `rt try --test --fail-alloc N` makes the N-th fail, changes nothing. A refused call succeeds
+//! when it is retried, and closing returns the whole world.
 
 ghost use Rattle.std.specs.Prelude.{◌≡◌};
 ghost use Rattle.gc_shared.specs.Seats.{HasSize};
@@ -14,7 +14,7 @@ use std::sync::Wait;
 use std::test::Fail;
 use std::thread::Threads;
 
-/// A world of 32 words, one mutator and one collector.
+/// Opens a world of 32 words, one mutator and one collector. Retries if an allocation fails.
 fn open_again(alloc: Global) -> Result<(Shared, Vec<Seat>), NoMemory> {
     match Shared::open(alloc, 32, 1, 1) {
         Ok(opened) => Ok(opened),
@@ -102,7 +102,7 @@ fn calls_are_made_again(rt: HostRuntime) -> Result<(), Fail> {
     Ok(())
 }
 
-/// Always true.
+/// A gate that lets each call pass.
 struct Open;
 
 impl Gate for Open {

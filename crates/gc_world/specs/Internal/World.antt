@@ -11,7 +11,7 @@ abbrev pub IsKept : Option CertifiedPair → Type 0
 IsKept None = ⊤
 IsKept (Some pair) = IsCertified pair
 
--- what is there is what the history led to
+-- the heap is the state that the history leads to
 pub record IsWorld (now : State) (past : Past) : Type 0 where
   pub history : IsHistory past.size past.mutators past.entries
   pub state : now ≡ present past

@@ -1,5 +1,5 @@
-//! A refused growth, as `rt try --test --fail-alloc N` refuses the N-th, changes nothing: the same event made
-//! again is answered as where none was refused, and stands once in the history.
+//! A failed allocation, as `rt try --test --fail-alloc N` makes the N-th fail, changes nothing. Retrying the event
+//! gives the reply of a run in which every allocation succeeds, and the history contains it once.
 
 ghost use Rattle.std.specs.Prelude.{◌≡◌, ◌<◌, IfOk};
 ghost use Rattle.gc_copy.specs.Runs.{IsStep};
@@ -11,7 +11,7 @@ use std::alloc::Global;
 use std::test::Fail;
 use std::thread::Threads;
 
-/// A world of 32 words and one mutator.
+/// Opens a world of 32 words and one mutator. Retries if an allocation fails.
 fn open_again(alloc: Global) -> Result<World, NoMemory>
     ensures { IfOk result (λ world. world.mutators ≡ 1) }
 {
@@ -67,7 +67,7 @@ fn useful_again(
     }
 }
 
-/// A world with an open collection that wants a flip, made in eight events.
+/// Returns a world whose open collection is ready to flip, after eight events.
 fn ready(alloc: Global) -> Result<World, NoMemory>
     ensures { IfOk result (λ world. world.mutators ≡ 1) }
 {

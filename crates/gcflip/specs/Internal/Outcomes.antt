@@ -1,4 +1,4 @@
--- With which statuses and faults the parts of a task may end.
+-- The statuses and faults with which the parts of a task may end.
 use Rattle.std.specs.Prelude.{◌≡◌, ◌⊎◌, ℕ, ⊤}
 use Rattle.gcflip.specs.declared.faults.fault.Fault.{Fault}
 use Rattle.gcflip.specs.declared.faults.fault.Fault.TheVariants as fault
@@ -6,7 +6,7 @@ use Rattle.gcflip.specs.declared.task.Task.{Task}
 use Rattle.gcflip.specs.declared.task.Task.TheVariants as task
 use Rattle.gcflip.specs.Outcomes.{IsOfPlay, IsOfCheck, IsOfThreads}
 
--- 1 is a refusal's alone
+-- only a refusal has status 1
 abbrev pub IsStatusOf : Task → ℕ → Type 0
 IsStatusOf task.PlayInput status = status ≡ 0
 IsStatusOf (task.Play file) status = status ≡ 0

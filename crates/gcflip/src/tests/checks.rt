@@ -9,15 +9,15 @@ use std::test::Fail;
 const YES: &[u8] = b"heappair 1\nold 8 5\n0\n16777216\n0\n16777216\n0\nroots 1\n2\n\
     new 8 3\n0\n16777216\n0\nroots 1\n2\npairs 1\n1 1\nend\n";
 
-/// The replica's kind is another.
+/// The replica has another kind.
 const REFUSED: &[u8] = b"heappair 1\nold 8 3\n0\n16777216\n0\nroots 1\n2\n\
     new 8 3\n0\n16842752\n0\nroots 1\n2\npairs 1\n1 1\nend\n";
 
-/// A raw object, whose header the first version does not know. Its word would be a reference to no object.
+/// A raw object, whose header does not count in version 1. As a value, its word would refer to no object.
 const RAW: &[u8] = b"heappair 2\nold 9 4\n0\n50331649\n0\n18\nroots 1\n2\n\
     new 9 4\n0\n50331649\n0\n18\nroots 1\n2\npairs 1\n1 1\nend\n";
 
-/// The same as a text of the first version.
+/// The same as a text of version 1.
 const RAW_IN_THE_FIRST: &[u8] = b"heappair 1\nold 9 4\n0\n50331649\n0\n18\nroots 1\n2\n\
     new 9 4\n0\n50331649\n0\n18\nroots 1\n2\npairs 1\n1 1\nend\n";
 

@@ -5,7 +5,7 @@ use gc_graph::{Sink, Source};
 use gc_trace::{PlayFault, TraceFault};
 use std::test::Fail;
 
-/// The object that no root reaches stays behind.
+/// The unreachable object is not copied.
 const FIRST_FLIP: &[u8] = b"heappair 2\n\
     old 9 9\n0\n16842754\n0\n0\n0\n16842754\n1\n0\n0\n\
     roots 32\n\
@@ -65,7 +65,7 @@ fn flips_that_are_not_there_have_no_pair(rt: HostRuntime) {
     }
 }
 
-/// A trace is read to its end before its flips are sought.
+/// A trace is read to its end before its flips are looked for.
 #[test]
 fn bad_traces_have_no_pair(rt: HostRuntime) {
     let (whole, _) = COLLECT_WHEN_FULL.split_at(COLLECT_WHEN_FULL.len() - 1);

@@ -1,4 +1,4 @@
-//! Scripts in threads: what is recorded is a trace of the same scripts, and plays to the same replies.
+//! Tests of scripts in threads: the recorded run is a trace of the same scripts, and plays to the same replies.
 
 use super::traces::{FULL, RAW};
 use crate::commands::{ThreadsRunFault, threads_from, threads_run};
@@ -31,7 +31,7 @@ fn one_script_and_no_turn_is_the_trace_itself(rt: HostRuntime) -> Result<(), Fai
     Ok(())
 }
 
-/// The mutator's commands alone are made, in their order.
+/// Only the mutator's commands run, in their order.
 #[test]
 fn raw_objects_are_recorded_in_the_third_version(rt: HostRuntime) -> Result<(), Fail> {
     let mut sink = Sink::new(Vec::new(rt.alloc()));
@@ -44,7 +44,7 @@ fn raw_objects_are_recorded_in_the_third_version(rt: HostRuntime) -> Result<(), 
     Ok(())
 }
 
-/// The trace that is recorded of both scripts and forty turns of the collector.
+/// Records both scripts and forty steps of the collector as a trace.
 fn recorded(rt: &(impl Threads + Wait + Abort + Sync), alloc: Global) -> Result<Vec<u8>, Fail> {
     let _named = View::Nil;
     let mut sink = Sink::new(Vec::new(alloc));
@@ -116,7 +116,7 @@ impl<'a, R: Clock> Gate for WaitsForWrite<'a, R> {
     }
 }
 
-/// The world of both scripts and forty turns, in which what is written is seen.
+/// Runs both scripts and forty steps in a world where the reader sees what was written.
 fn seen_in_threads(
     rt: &(impl Threads + Wait + Clock + Sync),
     alloc: Global,
@@ -131,7 +131,7 @@ fn seen_in_threads(
     Ok(run_threads(rt, alloc, given.size, scripts, 40, &gate)?)
 }
 
-/// The world of a play of what is written of the other's history.
+/// Writes a world's history as a trace, plays it, and returns that world.
 fn played_again(alloc: Global, world: &World) -> Result<World, Fail> {
     let mut sink = Sink::new(Vec::new(alloc));
     write_trace(&mut sink, world.size(), world.mutators(), world.history())?;
@@ -140,7 +140,7 @@ fn played_again(alloc: Global, world: &World) -> Result<World, Fail> {
     Ok(run_trace(alloc, &trace)?)
 }
 
-/// The answer as a play gives it, which makes each step by its name.
+/// Returns the answer as a play gives it, in which no step is marked as useful.
 fn as_played(answer: &Answer) -> Answer {
     match *answer {
         Answer::Useful(reply) => Answer::Collector(reply),
@@ -148,7 +148,7 @@ fn as_played(answer: &Answer) -> Answer {
     }
 }
 
-/// How many commands of the second mutator were answered that the field has the number 5.
+/// Counts the commands of the second mutator that saw the number 5 in the field.
 fn times_seen(world: &World) -> Result<u32, Fail> {
     let five = Number::new(5).ok_or("number")?;
     let seen = Answer::Mutator(Reply::Saw(View::Num(five)));

@@ -1,10 +1,10 @@
 //! Traces that several tests read.
 
-/// An object takes all of the space, so that a second one is refused.
+/// One object fills the space, so there is no room for a second one.
 pub const FULL: &[u8] =
     b"heaptrace 1\nspace 7 mutators 1\nm 0 new r0 3 4\nm 0 new r1 0 0\nm 0 look r1\n";
 
-/// What was refused for want of room is made behind a collection.
+/// An allocation that found no room succeeds after a collection.
 pub const COLLECT_WHEN_FULL: &[u8] = b"heaptrace 1\nspace 9 mutators 1\n\
     m 0 new r0 1 2\nm 0 new r0 1 2\nm 0 new r1 0 0\n\
     c begin\nc roots\nc scan\nc scan\nc scan\nc scan\nc roots\nc flip\n\
