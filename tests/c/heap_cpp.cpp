@@ -23,8 +23,8 @@ int main()
     gcflip_trace = tmpfile();
     {
         Heap heap(32, 1);
-        gcflip_reply reply;
-        gcflip_work work;
+        gcflip_reply reply = {};
+        gcflip_work work = {};
         EXPECT(gcflip_heap_new(&heap.handle, 0, 0, 1, 1, &reply) == GCFLIP_HEAP_DONE && reply.reply == GCFLIP_MADE);
         EXPECT(gcflip_heap_work(&heap.handle, 100, &work) == GCFLIP_HEAP_DONE && work.last.reply == GCFLIP_FLIPPED);
         EXPECT(gcflip_heap_look(&heap.handle, 0, 0, &reply) == GCFLIP_HEAP_DONE && reply.view == GCFLIP_OBJECT);
