@@ -1,5 +1,5 @@
-/* The allocation functions of the libraries, defined by the program that includes this file: they count blocks, and
-   one of them can be made to fail. */
+/* The allocation functions of the libraries, defined by the program that includes this file: they count blocks and bytes,
+   and one of them can be made to fail. */
 #ifndef OWN_ALLOCATOR_H
 #define OWN_ALLOCATOR_H
 
@@ -18,7 +18,14 @@ void rattle_dealloc(void *old);
 
 static long requests, failing;
 static long blocks;
+static size_t bytes;
 static bool failed;
+
+/* In front of each block stands its size. */
+union header {
+    size_t size;
+    max_align_t aligned;
+};
 
 /* Lets the n-th allocation from here on fail; none if n is 0. */
 static inline void fail_allocation(long n)
@@ -38,6 +45,12 @@ static inline long blocks_in_use(void)
     return blocks;
 }
 
+/* Returns the bytes that were asked for and not freed. */
+static inline size_t bytes_in_use(void)
+{
+    return bytes;
+}
+
 static bool fails(void)
 {
     requests++;
@@ -46,30 +59,44 @@ static bool fails(void)
     return requests == failing;
 }
 
-static struct gcflip_memory memory_at(void *at)
+/* Returns the block behind its header, or nothing. */
+static struct gcflip_memory memory_behind(union header *header, size_t size)
 {
     static char nowhere;
-    struct gcflip_memory memory = {at != NULL, at ? at : &nowhere};
+    struct gcflip_memory memory = {header != NULL, &nowhere};
+    if (header) {
+        header->size = size;
+        bytes += size;
+        memory.at = header + 1;
+    }
     return memory;
 }
 
 struct gcflip_memory rattle_alloc(size_t size, size_t alignment)
 {
-    void *at = fails() ? NULL : malloc(size ? size : alignment);
-    blocks += at != NULL;
-    return memory_at(at);
+    union header *header = fails() ? NULL : malloc(sizeof *header + size);
+    (void)alignment;
+    blocks += header != NULL;
+    return memory_behind(header, size);
 }
 
 struct gcflip_memory rattle_realloc(void *old, size_t used, size_t size, size_t alignment)
 {
+    union header *header = (union header *)old - 1;
+    size_t old_size = header->size;
     (void)used;
-    return memory_at(fails() ? NULL : realloc(old, size ? size : alignment));
+    (void)alignment;
+    header = fails() ? NULL : realloc(header, sizeof *header + size);
+    bytes -= header ? old_size : 0;
+    return memory_behind(header, size);
 }
 
 void rattle_dealloc(void *old)
 {
+    union header *header = (union header *)old - 1;
     blocks--;
-    free(old);
+    bytes -= header->size;
+    free(header);
 }
 
 #endif

@@ -9,7 +9,8 @@ import subprocess
 
 from . import pairs
 from .examples import FOLDER as EXAMPLES, content, names_of
-from .harness import Outcome, difference, file_of
+from .harness import Outcome, difference, file_of, run
+from .traces import PLAYED, trace_and_replies
 
 TOP = os.path.join(os.path.dirname(os.path.abspath(__file__)), "..", "..")
 SOURCES = os.path.join(TOP, "tests", "c")
@@ -101,7 +102,7 @@ def usable(folder, name, compiler):
 
 
 # Programs that end with status 0 and print nothing.
-PROGRAMS = ["check.c", "refused_check.c", "check_cpp.cpp"]
+PROGRAMS = ["check.c", "refused_check.c", "check_cpp.cpp", "heap.c", "refused_heap.c", "heap_cpp.cpp", "churn.c"]
 
 
 def programs(_program, folder):
@@ -163,4 +164,64 @@ def texts(_program, folder):
             yield "%s, by texts.c of %s" % (case, name), None if told == line else "%r, wanted %r" % (told, line)
 
 
-GROUPS = [programs, pkg_config, texts]
+def traces_and_replies():
+    """Each trace without faults: its name, its bytes, the bytes of its replies."""
+    for name, conversation in PLAYED.items():
+        yield (name, *trace_and_replies(conversation))
+    for name in names_of(".trace"):
+        yield "example %s" % name, content(name + ".trace"), content(name + ".replies")
+
+
+def events(trace):
+    """The lines behind the first two."""
+    return trace.split(b"\n")[2:]
+
+
+def plays(_program, folder):
+    """A trace gives the replies that the program gives, and what the library records is the trace."""
+    built = library(folder)
+    if built is None:
+        return
+    record = os.path.join(folder, "record")
+    yield "there are traces", None if names_of(".trace") else "no .trace in %s" % EXAMPLES
+    for name, c_words, _ in compilers():
+        if not usable(folder, name, c_words):
+            continue
+        path, why = built.build(c_words, "play.c", built.archive())
+        for case, trace, replies in traces_and_replies():
+            found = done([path, file_of(folder, "trace", trace), record]) if why is None else Outcome()
+            why_not = why or difference(found, Outcome(replies))
+            yield "%s, by play.c of %s" % (case, name), why_not
+            with open(record, "rb") as file:
+                recorded = file.read()
+            yield "%s, recorded by %s" % (case, name), None if events(recorded) == events(trace) else "recorded %r" % recorded
+
+
+# The replies to what record_work.c records: the second field is written once more after its object was scanned.
+REPLIES_OF_RECORDED_WORK = (
+    b"made\nmade\ndone\nbegun\ncopied\ncopied\nscanned\ndone\nscanned\npassed\nscanned\npassed\napplied\nflipped 2\n"
+    b"begun\ncopied\ncopied\nscanned\nscanned\npassed\nscanned\npassed\nflipped 2\nbegun\nno room\ndropped\n"
+)
+
+
+def recorded_work(program, folder):
+    """What the library records of its work plays to the same replies."""
+    built = library(folder)
+    if built is None:
+        return
+    record = os.path.join(folder, "record")
+    path, why = built.build(["gcc", *SANITIZERS], "record_work.c", built.archive())
+    yield "record_work.c", why or difference(done([path, record]), Outcome())
+    yield "recorded work is played", difference(run(program, ["play", record]), Outcome(REPLIES_OF_RECORDED_WORK))
+
+
+def long_run(_program, folder):
+    """Ten million operations at constant memory."""
+    built = library(folder)
+    if built is None:
+        return
+    path, why = built.build(["gcc"], "churn.c", built.archive())
+    yield "churn of 10000000 operations", why or difference(done([path, "10000000"]), Outcome())
+
+
+GROUPS = [programs, pkg_config, texts, plays, recorded_work, long_run]

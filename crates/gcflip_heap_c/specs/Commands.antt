@@ -1,6 +1,5 @@
 -- The commands that C's numbers name, and what a call of one returns and leaves.
-use Rattle.std.specs.Prelude.{◌≡◌, ℕ, ◌<◌, ◌≤◌, ◌-◌, ◌↔◌, nat_lt, if◌then◌else◌, Option, Some, None, IsSomeAnd, ⊤, ◌^◌}
-use Rattle.std.specs.Option.{option_map}
+use Rattle.std.specs.Prelude.{◌≡◌, ℕ, ◌≤◌, ◌-◌, ◌↔◌, nat_lt, if◌then◌else◌, Option, Some, None, IsSomeAnd, ⊤, ◌^◌}
 use Rattle.gc_graph.specs.Slots.{SlotName, own_slot, shared_slot}
 use Rattle.gc_graph.specs.declared.command.Op.{Op}
 use Rattle.gc_graph.specs.declared.reply.Reply.{Reply}

@@ -1,5 +1,5 @@
 -- The pointer and the allocator move out of the handle, and what they own goes with them.
-use Rattle.std.proofs.Common.{◌≡◌, List, [], ◌∷◌, ◌++◌, refl, sym, subst, Bool, true, false, Option, Some, None, IsSome}
+use Rattle.std.proofs.Common.{◌≡◌, List, [], ◌∷◌, ◌++◌, refl, sym, true, false, Option, Some, None, IsSome}
 use mir.Val.{Val}
 use base.Logic.{id⊢}
 use base.Fml.{ftrue, fsep}

@@ -10,8 +10,6 @@ use types.Part.{whole, sub, agg}
 use types.Run.{enter, of_opd, stop, fld, no_more, and_then, returns}
 use types.ByLocal.{alloc_all, pass_all, free_all, look_at, get, get_in, sets}
 use denote.Exit.{yes}
-use denote.RattleType.{RattleType}
-use denote.Signature.{type_at}
 use denote.Steps.{nothing}
 use denote.Triple.Walked.{Stays, walk_of, says, stay_dropped, Goes-dropped, ends_at}
 use Rattle.std.proofs.raw_atomic.Walks.{proved_at}

@@ -3,7 +3,6 @@ use Rattle.std.proofs.Common.{◌≡◌, List, [], ◌∷◌, ◌++◌, refl, sy
 use lib.Dec.{T}
 use mir.Syntax.{Fn}
 use mir.MapTy.{inst_fn}
-use mir.Raw.{raw as bare}
 use mir.Val.{Val, vptr, has_ty, WT}
 use base.Logic.{id⊢}
 use base.Fml.{ftrue, fsep, flft}
@@ -16,7 +15,6 @@ use types.Part.{whole, sub}
 use types.Run.{enter, of_opd, stop, fld, no_more, and_then, first, blocks, exec, returns}
 use types.ByLocal.{alloc_all, pass_all, free_all, look_at, get, get_in, sets, lands_last, env}
 use denote.Exit.{no}
-use denote.RattleType.{RattleType}
 use denote.RawPtr.{block_ptr}
 use denote.Signature.{Slot, plain}
 use denote.Steps.{heard, nothing, only}
@@ -24,9 +22,8 @@ use denote.Triple.Call.{calls_at_last}
 use denote.Triple.Spec.{triple_of}
 use denote.Triple.Table.{framed}
 use denote.Triple.Walked.{says, Stays, stay_dropped, walk_of, ends_at}
-use Rattle.core.proofs.alloc.Calls.{token, Goes-blank}
+use Rattle.core.proofs.alloc.Calls.{Goes-blank}
 use Rattle.std.proofs.raw_atomic.Walks.{proved_at}
-use Rattle.std_alloc.specs.Box.Ownership.{box_owns}
 use Rattle.std_alloc.proofs.VecSteps.Shapes.{after}
 use Rattle.std_alloc.proofs.BoxSteps.Form.{Bx, D, R, P, B, args, box_ty, word, box_typed}
 use Rattle.std_alloc.proofs.BoxSteps.Steps.{box_out, box_in}

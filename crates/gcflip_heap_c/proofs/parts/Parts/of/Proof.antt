@@ -1,5 +1,5 @@
 -- A call takes the box apart, and the parts own what it owned.
-use Rattle.std.proofs.Common.{◌≡◌, List, [], ◌∷◌, ◌++◌, refl, sym, ap, ◌∙◌}
+use Rattle.std.proofs.Common.{◌≡◌, List, [], ◌∷◌, ◌++◌, refl, ap, ◌∙◌}
 use mir.Syntax.{Fn, Args, Dict, a_type, dcons, dnil}
 use mir.MapTy.{inst_fn}
 use mir.Raw.{raw as bare}
