@@ -1,22 +1,57 @@
-"""What the documents name is there, and no definition outside `Internal` is without a public contract."""
+"""What the documents cite exists, what they quote is code of the repository, and the commands that they show print what
+they say."""
+import glob
 import os
 import re
+import shutil
 import subprocess
 import sys
 
-TOP = os.path.join(os.path.dirname(os.path.abspath(__file__)), "..", "..")
-DOCUMENTS = ["README.md", "docs/ARCHITECTURE.md", "docs/DECISIONS.md", "docs/TESTING.md"]
+from .harness import Skipped
+
+TOP = os.path.normpath(os.path.join(os.path.dirname(os.path.abspath(__file__)), "..", ".."))
+PATTERNS = ["*.md", "docs/*.md", "bench/*.md", "examples/*.md", "crates/*/*.md"]
 SOURCES = (".rt", ".antt", ".edit", ".py", ".c", ".txt")
 WORD = re.compile(r"[A-Za-z_]\w{3,}")
-# Arguments, and names of things outside the repository that the documents speak of.
-FOREIGN = {"EDIT", "PATH", "TURNS", "rattle", "dac8208d650f15bf", "try_lock"}
+# Arguments in usage lines, and names of things outside the repository.
+FOREIGN = {"CRATE", "EDIT", "FUNCTION", "GROUP", "KIND", "MODULE", "PATH", "PROGRAM", "SLOT", "TURNS", "WHAT_IS_WRONG",
+           "dac8208d650f15bf", "rattle", "try_lock"}
+# Commands that README shows and that are not run here, each with the reason.
+TOO_LONG = {
+    "(cd crates/gcflip && rt run < ../../examples/refusals.trace)": "it proves everything first",
+    "tests/all": "it runs these tests",
+}
+
+
+def documents():
+    """The paths of all documents, from the top of the repository."""
+    found = [path for pattern in PATTERNS for path in glob.glob(os.path.join(TOP, pattern))]
+    return sorted(os.path.relpath(path, TOP) for path in found)
+
+
+def text_of(document):
+    with open(os.path.join(TOP, document), encoding="utf-8") as file:
+        return file.read()
+
+
+def blocks(document, language):
+    """The lines of each fenced block of this language in a document."""
+    found, current = [], None
+    for line in text_of(document).split("\n"):
+        if line.startswith("```"):
+            if current is not None:
+                found.append(current)
+            current = [] if current is None and line == "```" + language else None
+        elif current is not None:
+            current.append(line)
+    return found
 
 
 def sources():
     """The paths of all sources of the repository, with their texts."""
     for folder in ("crates", "tests", "bench", "tools"):
         for path, folders, names in os.walk(os.path.join(TOP, folder)):
-            folders[:] = [name for name in folders if name != "out"]
+            folders[:] = [name for name in folders if name not in ("out", "__pycache__")]
             for name in names:
                 whole = os.path.join(path, name)
                 if name.endswith(SOURCES) or folder != "crates":
@@ -24,28 +59,211 @@ def sources():
                         yield whole, file.read()
 
 
+# ---- names
+
 def cited_names(document):
-    """The names in backquotes of a document, with the lines where they stand."""
-    with open(os.path.join(TOP, document), encoding="utf-8") as file:
-        for number, line in enumerate(file, 1):
-            for quoted in re.findall(r"`([^`]+)`", line):
+    """The names in backquotes of a document, with the lines where they stand. Commands of the toolchain are not ours."""
+    for number, line in enumerate(text_of(document).split("\n"), 1):
+        for quoted in re.findall(r"`([^`]+)`", line):
+            if not re.search(r"\brt ", quoted):
                 for name in WORD.findall(quoted):
                     yield number, name
 
 
 def names(_program, _folder):
     known = set(FOREIGN)
+    for path in documents() + os.listdir(os.path.join(TOP, "examples")):
+        known.update(WORD.findall(path))
     for path, text in sources():
         known.update(WORD.findall(path))
         known.update(WORD.findall(text))
-    for document in DOCUMENTS:
+    for document in documents():
         missing = ["%s (line %d)" % (name, number) for number, name in cited_names(document) if name not in known]
         yield "names of %s" % document, ", ".join(missing) or None
 
 
+# ---- files
+
+def cited_files(document):
+    """The files that a document links to, from the top, with the links as they stand. Anchors are cut off."""
+    for target in re.findall(r"\]\(([^)#\s]+)[^)]*\)", text_of(document)):
+        if "://" not in target:
+            yield target, os.path.join(os.path.dirname(document), target)
+    for quoted in re.findall(r"`([\w.*-]+(?:/[\w.*-]+)+/?)`", text_of(document)):
+        if not re.search(r"\b[A-Z_]{3,}\b", quoted):
+            yield quoted, quoted
+
+
+def is_file(path):
+    """Whether the path names a file from the top, below crates/ or in a crate; a file of definitions goes without its
+    ending. What a build leaves in out/ need not exist."""
+    if "out" in path.split("/"):
+        return True
+    folders = ["", "crates", "crates/*"]
+    return any(glob.glob(os.path.join(TOP, folder, path) + ending) for folder in folders for ending in ("", ".antt"))
+
+
+def files(_program, _folder):
+    for document in documents():
+        folder = os.path.dirname(document)
+        missing = [shown for shown, path in cited_files(document) if not is_file(path) and not is_file(os.path.join(folder, path))]
+        yield "files of %s" % document, ", ".join(missing) or None
+
+
+# ---- clauses
+
+def contracts_of(crate):
+    """The clauses of each function of a crate by the function's name; functions of one name are put together."""
+    found = {}
+    for path, _, names_in in os.walk(os.path.join(TOP, "crates", crate, "src")):
+        for name in sorted(names_in):
+            if name.endswith(".rt"):
+                with open(os.path.join(path, name), encoding="utf-8") as file:
+                    add_contracts(file.read(), found)
+    return found
+
+
+def add_contracts(text, found):
+    clauses = None
+    for line in text.split("\n"):
+        function = re.match(r"\s*(?:pub(?:\(crate\))? )?(?:const )?fn (\w+)", line)
+        clause = re.match(r"\s*ensures(?:\*)? (\w+)?\s*\{", line)
+        if function:
+            clauses = found.setdefault(function.group(1), set())
+        elif clause and clauses is not None:
+            clauses.add(clause.group(1) or "ensures")
+
+
+def rows_of_clauses(document):
+    """The rows of the tables that promise something: the calls of a row, and its clauses. A row without calls goes on with
+    those of the row before."""
+    calls, inside = [], False
+    for line in text_of(document).split("\n"):
+        cells = [cell.strip() for cell in line.split("|")[1:-1]]
+        if len(cells) != 3:
+            inside = False
+        elif cells[2] == "clause":
+            inside = True
+        elif inside and cells[0].strip("-"):
+            calls = [name.split("::")[-1] for name in re.findall(r"`([^`]+)`", cells[0])]
+        if inside and len(cells) == 3 and cells[2] != "clause" and cells[2].strip("-"):
+            yield calls, re.findall(r"`(\w+)`", cells[2]), cells[2]
+
+
+def unknown_clauses(document, contracts):
+    for calls, clauses, cell in rows_of_clauses(document):
+        if cell.startswith("the invariant") or cell.startswith("those of"):
+            continue
+        known = set().union(*[contracts.get(call, set()) for call in calls])
+        if not clauses and not known:
+            yield "%s has no clause" % ", ".join(calls)
+        for call in calls:
+            if call not in contracts:
+                yield "no function %s" % call
+        for clause in clauses:
+            if clause not in known:
+                yield "clause %s of %s" % (clause, ", ".join(calls))
+
+
+def clauses(_program, _folder):
+    for document in documents():
+        crate = re.fullmatch(r"crates/(\w+)/README.md", document)
+        if crate:
+            unknown = list(unknown_clauses(document, contracts_of(crate.group(1))))
+            yield "clauses of %s" % document, ", ".join(unknown) or None
+
+
+def crates(_program, _folder):
+    with open(os.path.join(TOP, "crates.txt"), encoding="utf-8") as file:
+        for line in file:
+            path = "crates/%s/README.md" % line.split(":")[0].split(" ")[0]
+            yield "%s is there" % path, None if os.path.exists(os.path.join(TOP, path)) else "there is no such file"
+
+
+# ---- quoted code
+
+def pieces(block):
+    """The texts of a block between lines '// ...', with single spaces for all others."""
+    return [" ".join(piece.split()) for piece in "\n".join(block).split("// ...")]
+
+
+def quotes(_program, _folder):
+    texts = [" ".join(text.split()) for path, text in sources() if path.endswith((".rt", ".antt"))]
+    for document in documents():
+        found = blocks(document, "rust") + blocks(document, "antt")
+        missing = [piece[:60] for block in found for piece in pieces(block) if not any(piece in text for text in texts)]
+        if found:
+            yield "code of %s" % document, "in no source: %s" % ", ".join(missing) if missing else None
+
+
+# ---- commands
+
+def shown_commands(document):
+    """The commands of a document's console blocks, each with the output that is shown."""
+    for block in blocks(document, "console"):
+        command, output = None, []
+        for line in block + ["$ "]:
+            if line.startswith("$ "):
+                if command is not None:
+                    yield command, "".join(shown + "\n" for shown in output)
+                command, output = line[2:], []
+            else:
+                output.append(line)
+
+
+def without_program(command, program):
+    """The command as it is run: the program that is tested in the place of the built one."""
+    return command.replace("crates/gcflip/out/gcflip", program)
+
+
+def wrong_output(command, output, program):
+    """Why a command does not print what a document shows, or None."""
+    if " rt " in command and shutil.which("rt") is None:
+        return Skipped("there is no rt on the path")
+    found = subprocess.run(["bash", "-c", without_program(command, program)], cwd=TOP, stdout=subprocess.PIPE,
+                           stderr=subprocess.PIPE, timeout=600)
+    printed = found.stdout.decode("utf-8", "replace")
+    return None if printed == output else "printed %r, and %r is shown" % (printed, output)
+
+
+def commands(program, _folder):
+    for document in documents():
+        for command, output in shown_commands(document):
+            yield "%s: %s" % (document, command), wrong_output(command, output, program)
+
+
+def commands_of_tables(_program, _folder):
+    """Commands of README that cost too much to be run here. Each is shown there, as it is skipped here."""
+    shown = text_of("README.md")
+    for command, why in TOO_LONG.items():
+        yield "README.md: %s" % command, Skipped(why) if "`%s`" % command in shown else "README does not show it"
+
+
+# ---- definitions
+
+def printed_by_definitions(*words):
+    """The status of tools/definitions, and what it prints."""
+    found = subprocess.run([sys.executable, os.path.join(TOP, "tools", "definitions"), *words], stdout=subprocess.PIPE)
+    return found.returncode, found.stdout.decode()
+
+
 def definitions(_program, _folder):
-    found = subprocess.run([sys.executable, os.path.join(TOP, "tools", "definitions"), "--unreached"], stdout=subprocess.PIPE)
-    yield "definitions are reached", None if found.returncode == 0 else found.stdout.decode()
+    status, printed = printed_by_definitions("--unreached")
+    yield "definitions are reached", None if status == 0 else printed
 
 
-GROUPS = [names, definitions]
+def counts(_program, _folder):
+    """The documents count the lines of definitions as the tool does."""
+    _, printed = printed_by_definitions()
+    counted = [line.split()[:3] for line in printed.split("\n")[1:] if line and line.split()[0] != "growths"]
+    shown = re.findall(r"(?m)^\| (\w+) \| (\d+) \| (\d+) \|$", text_of("docs/ARCHITECTURE.md"))
+    wrong = [line for line in counted if tuple(line) not in shown]
+    yield "lines of definitions", "not in docs/ARCHITECTURE.md: %s" % wrong if wrong else None
+    for name, pattern in [("", r"(\d+) lines of definitions"), ("Replicated", r"definitions behind the theorem\*\*: (\d+) lines")]:
+        _, printed = printed_by_definitions(*(["--of", name] if name else []))
+        wanted = printed.split("\n")[-2].split()[1]
+        found = re.search(pattern, text_of("docs/TRUST.md"))
+        yield "lines of %s" % (name or "all definitions"), None if found and found.group(1) == wanted else "they are %s" % wanted
+
+
+GROUPS = [names, files, clauses, crates, quotes, commands, commands_of_tables, definitions, counts]

@@ -8,6 +8,10 @@ SECONDS = 60
 BYTES = 4 << 30
 
 
+class Skipped(str):
+    """Why a case was not run, in the place of why it failed."""
+
+
 class Outcome:
     """What a run of the program gave: standard output, standard error, status (negative: the signal)."""
 

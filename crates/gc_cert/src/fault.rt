@@ -1,7 +1,7 @@
 use gc_graph::text::{Message, ReadFault};
 use thiserror::Error;
 
-/// Why a pair text is not read. Of a text it is the first fault from the top; lines are counted from 1.
+/// Why a pair text is not read. A fault of the text is the first from the top. Lines are counted from 1.
 #[derive(Clone, Copy, Debug, PartialEq, Eq, Error)]
 #[error("{}", self.message())]
 pub enum PairFault {
@@ -9,10 +9,9 @@ pub enum PairFault {
     Read,
     /// The text has more than 67108864 bytes.
     TooLarge,
-    /// This line, which has its line feed, is not what its place asks for; or here stands a byte behind the
-    /// line `end`.
+    /// This line, which has its line feed, is not what its place asks for, or is behind the line `end`.
     BadLine(u64),
-    /// The lines are right so far, and the text ends before the line feed of the line `end`.
+    /// All lines so far are right, and the text ends before the line feed of the line `end`.
     EndsEarly,
     NoMemory,
 }
@@ -21,7 +20,7 @@ impl PairFault {
     ghost use Rattle.std.specs.Prelude.{◌≡◌};
     ghost use Rattle.gc_cert.specs.FaultTexts.{pair_fault_text};
 
-    /// Returns what is said of the fault.
+    /// Returns the text of the fault.
     pub fn message(&self) -> Message
         ensures { result ≡ pair_fault_text self.now }
     {

@@ -1,16 +1,16 @@
 use gc_words::{ImageRef, Pair};
 
-/// An image that owns its words and roots. Nothing is known of its numbers.
+/// An image that owns its words and roots. Its numbers may be anything.
 #[derive(Debug, Drop)]
 pub struct Image {
-    /// How many words the space has.
+    /// The number of words of the space.
     pub size: u32,
     /// The first place that no object takes.
     pub end: u32,
     /// The words 0 to `end - 1`, links among them.
     pub words: Vec<u64>,
     pub roots: Vec<u64>,
-    /// Whether headers of raw objects count. In a text of version 2 they do.
+    /// Whether headers of raw objects count. They do in a text of version 2.
     pub raws: bool,
 }
 
@@ -19,7 +19,7 @@ impl Image {
     ghost use Rattle.gc_words.specs.Views.{image_of};
     ghost use Rattle.gc_cert.specs.Views.{image_in};
 
-    /// The same image, borrowed.
+    /// Returns the same image, borrowed.
     pub fn as_ref(&self) -> ImageRef<'_>
         ensures { image_of result ≡ image_in self.now }
     {

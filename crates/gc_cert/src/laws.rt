@@ -4,7 +4,7 @@ ghost use Rattle.gc_cert.specs.Faults.{IsPairFaultOf, IsReadAs};
 ghost use Rattle.gc_cert.specs.Rows.{Rows};
 ghost use Rattle.gc_cert.specs.declared.fault.PairFault.{PairFault};
 
-/// A text is read in one way: as one pair of images, or with one first fault.
+/// Each text has one reading: either one pair of images or one first fault.
 pub fn texts_have_one_reading()
     ensures value { (f g : CertifiedPair) (text : List ℕ) → IsTextOf f text → IsTextOf g text → f ≡ g }
     ensures good { (f : CertifiedPair) (fault : PairFault) (text : List ℕ) → IsReadAs f text → IsPairFaultOf fault text → ⊥ }
@@ -12,12 +12,12 @@ pub fn texts_have_one_reading()
     ensures fault { (p q : PairFault) (text : List ℕ) → IsPairFaultOf p text → IsPairFaultOf q text → p ≡ q }
 {}
 
-/// What has a text has one that is within the limit.
+/// What is written of a pair is within the limit, and is read back as that pair.
 pub fn written_is_read()
     ensures { (f : CertifiedPair) → HasText f → IsReadAs f (spelling f) }
 {}
 
-/// The worked rows hold of the definitions.
+/// The worked rows hold of the definitions, by computation.
 pub fn worked_rows()
     ensures { Rows }
 {}

@@ -9,14 +9,14 @@ ghost use Rattle.gc_cert.specs.Views.{pair_of};
 
 use gc_words::{ImageRef, MOST_PAIRS, MOST_ROOTS, MOST_WORDS, Pair};
 
-/// Whether a space may have so many words, or end there.
+/// Returns whether a space may have so many words, or end there.
 fn is_size(n: u32) -> bool
     ensures { IsTrue result ↔ ((1 ≤ n) × (n ≤ most_words)) }
 {
     n >= 1 && n <= MOST_WORDS
 }
 
-/// Whether there are so many words. Each is a word of a text, as each number of its type is.
+/// Returns whether there are so many words. Each `u64` is a word of a text.
 fn are_words(words: &[u64], count: u32) -> bool
     ensures words { AllByRecursion IsWord words.now }
     ensures count { IsTrue result ↔ (length words.now ≡ count) }
@@ -24,7 +24,7 @@ fn are_words(words: &[u64], count: u32) -> bool
     words.len() == count as usize
 }
 
-/// Whether these are few enough roots.
+/// Returns whether these are few enough roots.
 fn are_roots(roots: &[u64]) -> bool
     ensures words { AllByRecursion IsWord roots.now }
     ensures count { IsTrue result ↔ (length roots.now ≤ most_roots) }
@@ -32,19 +32,19 @@ fn are_roots(roots: &[u64]) -> bool
     roots.len() <= MOST_ROOTS
 }
 
-/// Whether these are few enough pairs.
+/// Returns whether these are few enough pairs.
 fn are_pairs(pairs: &[Pair]) -> bool
     ensures addresses { AllByRecursion AreAddresses (map addresses pairs.now) }
     ensures count { IsTrue result ↔ (length pairs.now ≤ most_pairs) }
 {
     for pair in pairs {
-        // Each is read, so that the proof knows it to be a number of its type; nothing is left to do.
+        // Reading a pair tells the prover that its numbers are in the range of their type.
         let (_old, _new) = (pair.old.0, pair.new.0);
     }
     pairs.len() <= MOST_PAIRS
 }
 
-/// Whether an image has a text. A shaped one with few enough roots has one.
+/// Returns whether an image has a text. A shaped one with few enough roots has one.
 fn image_fits(image: &ImageRef<'_>) -> bool
     ensures text { IsTrue result ↔ HasImageText (image_of image.now) }
     ensures shaped { IsShaped (image_of image.now) → length image.now.roots.now ≤ most_roots → IsTrue result }
@@ -55,10 +55,9 @@ fn image_fits(image: &ImageRef<'_>) -> bool
         && are_roots(image.roots)
 }
 
-/// Whether two images and pairs have a text: each number is in the range that the text has for it, and each
-/// image has as many words as its end says, and raw headers count in both images or in none. Shaped images of
-/// which the last holds, with few enough roots and pairs, have one. A caller with images of its own asks this
-/// before `write_pair`.
+/// Returns whether two images and pairs have a text: each number is in its range, each image has as many words as its
+/// end says, and raw headers count in both images or in neither. Shaped images that agree on raw headers, with few
+/// enough roots and pairs, have a text. Call this before `write_pair` on images of your own. Does not allocate.
 pub fn pair_fits(old: ImageRef<'_>, new: ImageRef<'_>, pairs: &[Pair]) -> bool
     ensures text { IsTrue result ↔ HasText (pair_of old.entry new.entry pairs.now) }
     ensures shaped { HasCounts (pair_of old.entry new.entry pairs.now) → IsTrue result }

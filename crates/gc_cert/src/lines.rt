@@ -2,7 +2,7 @@ use crate::fault::PairFault;
 use gc_graph::text::cut;
 use std::marker::Model;
 
-/// The lines of a text from top to bottom.
+/// The lines of a text, from top to bottom.
 #[derive(Drop)]
 pub struct Lines<'a> {
     rest: &'a [u8],
@@ -25,7 +25,7 @@ impl<'a> Lines<'a> {
     ghost use Rattle.gc_graph.specs.Lines.{HasNo, newline};
     ghost use Rattle.gc_cert.specs.Sections.{start, IsNext, HasTaken, NoneEmpty, Place};
 
-    /// All lines of the text.
+    /// Returns all lines of the text.
     pub fn new(text: &'a [u8]) -> Self
         ensures { result ≡ start text.entry.now }
     {
@@ -35,7 +35,7 @@ impl<'a> Lines<'a> {
         }
     }
 
-    /// Takes the next line, without its line feed. None where no line feed is left.
+    /// Takes the next line, without its line feed. Returns `None` if no line feed is left.
     pub fn line(&mut self) -> Option<&'a [u8]>
         ensures { MatchOption result (HasNo newline self.old.rest)
             (λ line. IsNext line.now self.old self.new) }
@@ -46,14 +46,14 @@ impl<'a> Lines<'a> {
         Some(line)
     }
 
-    /// The number of the line that was taken last.
+    /// Returns the number of the line that was taken last.
     pub fn number(&self) -> u64
         ensures { result ≡ self.now.taken }
     {
         self.taken
     }
 
-    /// No more lines of a byte or more can still come: with its line feed each takes two bytes or more.
+    /// Returns a bound on the nonempty lines that can still come. With its line feed, each takes at least two bytes.
     pub fn most_left(&self) -> usize
         ensures enough { (lines : List (List ℕ)) (after : Place) → NoneEmpty lines
             → HasTaken lines self.now after → length lines ≤ result }
@@ -62,7 +62,7 @@ impl<'a> Lines<'a> {
         self.rest.len() / 2
     }
 
-    /// Nothing may be left.
+    /// Checks that nothing is left.
     pub fn end(&self) -> Result<(), PairFault>
         ensures { MatchResult result (λ _. self.now.rest ≡ [])
             (λ fault. (self.now.rest ≢ []) × (fault ≡ PairFault.BadLine (self.now.taken + 1))) }

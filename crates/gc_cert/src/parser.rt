@@ -9,7 +9,7 @@ ghost use Rattle.gc_cert.specs.Internal.Parsers.{raws_in};
 use gc_graph::text::Tokens;
 use gc_words::{MOST_WORDS, NewAddr, OldAddr, Pair};
 
-/// The first line of a text whose images have raw headers that count, or not.
+/// Returns the first line of a text, by whether raw headers count in its images.
 pub fn heading(raws: bool) -> &'static [u8]
     ensures line { result.now ≡ heading raws }
     ensures short { length result.now ≤ 16 }
@@ -17,7 +17,7 @@ pub fn heading(raws: bool) -> &'static [u8]
     if raws { b"heappair 2" } else { b"heappair 1" }
 }
 
-/// Whether raw headers count, by the first line of a text.
+/// Returns whether raw headers count, by the first line of a text.
 #[tactic(auto, unfolding(crate::specs::Internal::Parsers::raws_in))]
 pub fn raws(line: &[u8]) -> Option<bool>
     ensures { result ≡ raws_in line.now }
@@ -31,7 +31,7 @@ pub fn raws(line: &[u8]) -> Option<bool>
     }
 }
 
-/// The number behind this name.
+/// Reads the number behind this name.
 #[tactic(auto, unfolding(crate::specs::Parsers::count_of, gc_graph::specs::Tokens::end_of))]
 pub fn count(line: &[u8], name: &[u8], most: u64) -> Option<u64>
     ensures { result ≡ count_of name.now most (tokens_of line.now) }
@@ -42,7 +42,7 @@ pub fn count(line: &[u8], name: &[u8], most: u64) -> Option<u64>
     if tokens.is_empty() { Some(count) } else { None }
 }
 
-/// The size and the end behind this name.
+/// Reads the size and the end behind this name.
 #[tactic(auto, unfolding(crate::specs::Parsers::sizes_of, gc_graph::specs::Tokens::end_of))]
 pub fn sizes(line: &[u8], name: &[u8]) -> Option<(u32, u32)>
     ensures { result ≡ sizes_of name.now (tokens_of line.now) }
@@ -57,7 +57,7 @@ pub fn sizes(line: &[u8], name: &[u8]) -> Option<(u32, u32)>
     Some((size, end))
 }
 
-/// The pair of these addresses.
+/// Reads a pair of addresses.
 #[tactic(auto, unfolding(crate::specs::Parsers::pair_of, gc_graph::specs::Tokens::end_of))]
 pub fn pair(line: &[u8]) -> Option<Pair>
     ensures { option_map addresses result ≡ pair_of (tokens_of line.now) }

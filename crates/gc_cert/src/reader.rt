@@ -20,10 +20,10 @@ use gc_words::{MOST_PAIRS, MOST_ROOTS, Pair};
 use std::alloc::Global;
 use std::io::Read;
 
-/// The most bytes that a pair text has.
+/// The most bytes of a pair text.
 const LIMIT: usize = 67108864;
 
-/// Takes this very line.
+/// Takes exactly this line.
 fn take_line(lines: &mut Lines<'_>, wanted: &[u8]) -> Result<(), PairFault>
     ensures { MatchResult result (λ _. HasTaken (wanted.now ∷ []) lines.old lines.new)
         (λ fault. MayStop (Spelled Nothing (alone (λ _. wanted.now))) fault lines.old) }
@@ -66,7 +66,7 @@ fn take_word(lines: &mut Lines<'_>) -> Result<u64, PairFault>
     Ok(word)
 }
 
-/// Takes a name and how many there are of it.
+/// Takes a name and a count.
 fn take_count(lines: &mut Lines<'_>, name: &[u8], most: u64) -> Result<u64, PairFault>
     requires { is_name name.now ≡ true }
     ensures { MatchResult result
@@ -113,7 +113,7 @@ fn take_pair(lines: &mut Lines<'_>) -> Result<Pair, PairFault>
     Ok(pair)
 }
 
-/// Takes so many words. No more memory is taken at once than the lines that can still come need.
+/// Takes so many words. Never allocates more at once than the lines that can still come need.
 fn take_words(alloc: Global, lines: &mut Lines<'_>, count: u64) -> Result<Vec<u64>, PairFault>
     ensures { MatchResult result
         (λ words. AreAll IsWord count words.items × HasTaken (map decimal words.items) lines.old lines.new)
@@ -131,7 +131,7 @@ fn take_words(alloc: Global, lines: &mut Lines<'_>, count: u64) -> Result<Vec<u6
     Ok(words)
 }
 
-/// Takes so many pairs. No more memory is taken at once than the lines that can still come need.
+/// Takes so many pairs. Never allocates more at once than the lines that can still come need.
 fn take_pairs(alloc: Global, lines: &mut Lines<'_>, count: u64) -> Result<Vec<Pair>, PairFault>
     ensures { MatchResult result
         (λ pairs. AreAll AreAddresses count (map addresses pairs.items)
@@ -150,7 +150,7 @@ fn take_pairs(alloc: Global, lines: &mut Lines<'_>, count: u64) -> Result<Vec<Pa
     Ok(pairs)
 }
 
-/// Takes an image that goes by this name. `raws` is what the first line says of it.
+/// Takes an image of this name. `raws` says whether raw headers count, by the first line.
 fn take_image(
     alloc: Global,
     lines: &mut Lines<'_>,
@@ -189,7 +189,7 @@ fn take_certificate(alloc: Global, lines: &mut Lines<'_>) -> Result<Vec<Pair>, P
     Ok(pairs)
 }
 
-/// The pair of images that the text spells.
+/// Returns the pair of images that the text spells, or its first fault.
 fn spelled_pair(alloc: Global, text: &[u8]) -> Result<PairFile, PairFault>
     requires { length text.now ≤ limit }
     ensures exact { MatchResult result
@@ -205,8 +205,21 @@ fn spelled_pair(alloc: Global, text: &[u8]) -> Result<PairFile, PairFault>
     Ok(PairFile { old, new, pairs })
 }
 
-/// The pair of images whose text the reader gives up to its end, else the first fault. Where the text has
-/// more than 67108864 bytes, one byte more than these is read.
+/// Returns the pair of images that a text in memory spells, else its first fault. The text is not copied.
+pub fn pair_in_text(alloc: Global, text: &[u8]) -> Result<PairFile, PairFault>
+    ensures exact { MatchResult result
+        (λ file. IsReadAs (pair_in file) text.now) (λ fault. MayFail fault text.now) }
+    ensures sound { IfOk result (λ file. HasText (pair_in file)) }
+    ensures unread { result ≢ Err PairFault.Read }
+{
+    if text.len() > LIMIT {
+        return Err(PairFault::TooLarge);
+    }
+    spelled_pair(alloc, text)
+}
+
+/// Reads a pair text to its end. Returns the two images and the pairs, or the first fault. Of a text of more than
+/// 67108864 bytes, one byte more than these is read.
 pub fn read_pair<R: Read>(alloc: Global, reader: &mut Source<R>) -> Result<PairFile, PairFault>
     ensures exact { IfSome (bytes_left R.remaining reader.old) (λ text.
         MatchResult result (λ file. IsReadAs (pair_in file) text) (λ fault. MayFail fault text)) }

@@ -14,10 +14,10 @@ use gc_graph::{Failed, Sink};
 use gc_words::{ImageRef, Pair};
 use std::io::Write;
 
-/// More bytes than any line of a pair text has.
+/// A bound on the bytes of any line of a pair text.
 const LINE: usize = 64;
 
-/// This very line.
+/// Prints exactly this line.
 fn print_line<W: Write>(
     printer: &mut Printer,
     writer: &mut Sink<W>,
@@ -36,7 +36,7 @@ fn print_line<W: Write>(
     Ok(())
 }
 
-/// The first line, by whether raw headers count.
+/// Prints the first line, by whether raw headers count.
 fn print_heading<W: Write>(
     printer: &mut Printer,
     writer: &mut Sink<W>,
@@ -51,7 +51,7 @@ fn print_heading<W: Write>(
     print_line(printer, writer, heading(raws))
 }
 
-/// A word of a space.
+/// Prints a word of a space.
 fn print_word<W: Write>(
     printer: &mut Printer,
     writer: &mut Sink<W>,
@@ -69,7 +69,7 @@ fn print_word<W: Write>(
     Ok(())
 }
 
-/// A name, and how many there are of it.
+/// Prints a name and a count.
 fn print_count<W: Write>(
     printer: &mut Printer,
     writer: &mut Sink<W>,
@@ -90,7 +90,7 @@ fn print_count<W: Write>(
     Ok(())
 }
 
-/// A name, and the size and the end of an image.
+/// Prints a name, and the size and the end of an image.
 fn print_sizes<W: Write>(
     printer: &mut Printer,
     writer: &mut Sink<W>,
@@ -113,7 +113,7 @@ fn print_sizes<W: Write>(
     Ok(())
 }
 
-/// A pair of addresses.
+/// Prints a pair of addresses.
 fn print_pair<W: Write>(
     printer: &mut Printer,
     writer: &mut Sink<W>,
@@ -132,7 +132,7 @@ fn print_pair<W: Write>(
     Ok(())
 }
 
-/// A line for each word.
+/// Prints a line for each word.
 fn print_words<W: Write>(
     printer: &mut Printer,
     writer: &mut Sink<W>,
@@ -150,7 +150,7 @@ fn print_words<W: Write>(
     Ok(())
 }
 
-/// A line for each pair.
+/// Prints a line for each pair.
 fn print_pairs<W: Write>(
     printer: &mut Printer,
     writer: &mut Sink<W>,
@@ -168,7 +168,7 @@ fn print_pairs<W: Write>(
     Ok(())
 }
 
-/// The lines of an image.
+/// Prints the lines of an image.
 fn print_image<W: Write>(
     printer: &mut Printer,
     writer: &mut Sink<W>,
@@ -189,7 +189,7 @@ fn print_image<W: Write>(
     Ok(())
 }
 
-/// The lines of the pairs, and the line behind them.
+/// Prints the lines of the pairs, and the line behind them.
 fn print_certificate<W: Write>(
     printer: &mut Printer,
     writer: &mut Sink<W>,
@@ -207,7 +207,7 @@ fn print_certificate<W: Write>(
     Ok(())
 }
 
-/// All lines of two images and pairs.
+/// Prints all lines of two images and pairs.
 fn print_text<W: Write>(
     printer: &mut Printer,
     writer: &mut Sink<W>,
@@ -228,7 +228,7 @@ fn print_text<W: Write>(
     Ok(())
 }
 
-/// Writes the text of two images and pairs, or a front of it before the writer fails.
+/// Writes the text of two images and pairs. If the writer fails, a prefix of it went out. Does not allocate.
 pub fn write_pair<W: Write>(
     writer: &mut Sink<W>,
     old: ImageRef<'_>,

@@ -11,7 +11,10 @@ use crate::verdict::{CheckFault, Yes};
 use gc_words::{ImageRef, Pair, Refusal, no_fault_where_certified};
 use std::alloc::Global;
 
-/// Whether the certificate holds of the images. Nothing is known of either, nor of who made them.
+/// Checks a certificate against two heap images. Makes no assumption about the images or who produced them.
+///
+/// Returns the number of pairs if the certificate holds. Returns `Refused` with the first condition that fails, in
+/// the order of `Refusal`, or `NoMemory` if its three tables cannot be allocated.
 pub fn check(alloc: Global, old: ImageRef, new: ImageRef, cert: &[Pair]) -> Result<Yes, CheckFault>
     requires { length cert.now < 2 ^ 32 }
     ensures pairs { IfOk result (λ yes. yes.pairs ≡ length cert.now) }
@@ -19,7 +22,7 @@ pub fn check(alloc: Global, old: ImageRef, new: ImageRef, cert: &[Pair]) -> Resu
     ensures refused { IfErr result
         (IsRefusalOf (first_fault (image_of old.entry) (image_of new.entry) (pairs_of cert.now))) }
 
-    // What a yes promises of all that mutators do from here on.
+    // The soundness theorem: what a yes promises of all that mutators do from here on.
     ensures replicated { OnOk result
         (Replicated (image_of old.entry) (image_of new.entry) (pairs_of cert.now)) }
 {
@@ -36,7 +39,7 @@ pub fn check(alloc: Global, old: ImageRef, new: ImageRef, cert: &[Pair]) -> Resu
     Ok(Yes { pairs })
 }
 
-// What is wrong with the objects of the first pair of which anything is.
+// Returns the first fault of the objects of a pair, going through the pairs in order.
 fn first_pair_fault(tables: &Tables, count: u32) -> Option<Refusal>
     requires { count ≡ length tables.now.pairs }
     ensures { result ≡ object_faults tables.now.old tables.now.new tables.now.pairs }

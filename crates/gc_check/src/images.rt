@@ -5,7 +5,7 @@ ghost use Rattle.gc_check.specs.Internal.Tables.{image_fault};
 
 use gc_words::{ImageRef, MOST_WORDS, Refusal, walk};
 
-/// What is wrong with two images, whatever the certificate.
+/// Returns what is wrong with two images, whatever the certificate: their shapes or their numbers of roots.
 pub(crate) fn image_fault(old: ImageRef, new: ImageRef) -> Option<Refusal>
     ensures { result ≡ image_fault (image_of old.entry) (image_of new.entry) }
 {
@@ -21,7 +21,7 @@ pub(crate) fn image_fault(old: ImageRef, new: ImageRef) -> Option<Refusal>
     None
 }
 
-// The place at which an image is not shaped.
+// Returns the place at which an image is not shaped.
 fn shape_fault(image: ImageRef) -> Option<u64>
     ensures { result ≡ shape_fault (image_of image.entry) }
 {

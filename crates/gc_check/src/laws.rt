@@ -1,4 +1,4 @@
-//! What follows from the definitions: the calls that check cite it.
+//! Laws: what follows from the definitions. The calls that check use them.
 
 ghost use Rattle.std.specs.Prelude.{ℕ, List};
 ghost use Rattle.gc_words.specs.Image.{Image};
@@ -6,8 +6,8 @@ ghost use Rattle.gc_words.specs.Certificate.{Certified};
 ghost use Rattle.gc_check.specs.Headline.{Replicated};
 ghost use Rattle.gc_check.specs.Rows.{Rows};
 
-/// Where the certificate holds, each reachable object has one replica of its own, equal to it field by
-/// field, and later commands get the same replies from both heaps.
+/// The soundness theorem over the definitions alone. If the certificate holds, each reachable object has one
+/// replica of its own, equal to it field by field, and later commands get the same replies from both heaps.
 pub fn certified_is_replicated()
     ensures { (old new : Image) (pairs : List (ℕ × ℕ))
         → Certified old new pairs → Replicated old new pairs }
@@ -16,7 +16,7 @@ pub fn certified_is_replicated()
     gc_words::certified_graphs_correspond();
 }
 
-/// The worked rows hold of the definitions.
+/// The worked rows hold of the definitions, by computation.
 pub fn worked_rows()
     ensures { Rows }
 {}

@@ -1,4 +1,4 @@
-//! The checker: whether a certificate holds of two images, and what follows where it does.
+//! The checker: decides whether a certificate holds of two images, and proves what follows if it does.
 #![tactic(auto)]
 
 mod checker;

@@ -10,7 +10,7 @@ pub(crate) struct Object<'a> {
     pub(crate) fields: &'a [u64],
 }
 
-/// The object that starts at this place of a space's words.
+/// Returns the object that starts at this place of a space's words.
 pub(crate) fn object_at(words: &[u64], start: u32) -> Object<'_>
     requires walked { IsOk (walk_words words.now) }
     requires start { IsTrue (is_start words.now start) }

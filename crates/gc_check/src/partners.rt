@@ -1,4 +1,4 @@
-//! The pairs of a certificate, entered one after the other into the row of partners.
+//! The table of partners: the pairs of a certificate, entered one after the other.
 
 ghost use Rattle.std.specs.Prelude.{◌≡◌, None, Some, length, replicate, IsOk, MatchResult};
 ghost use Rattle.gc_words.specs.Image.{IsShaped, walk_words};
@@ -12,7 +12,8 @@ use crate::verdict::CheckFault;
 use gc_words::{ImageRef, NewAddr, Pair, Refusal, raws_change_no_objects};
 use std::alloc::Global;
 
-/// The partners by old address, where all pairs are in their places. All three rows are made first.
+/// Returns the partners by old address if all pairs are in their places, otherwise the first fault of a place.
+/// Allocates all three tables first.
 pub(crate) fn partners_of(
     alloc: Global,
     old: ImageRef,
@@ -44,7 +45,7 @@ pub(crate) fn partners_of(
     }
 }
 
-// Enters all pairs, or those before the first that is refused for its place.
+// Enters all pairs, or those before the first fault of a place.
 fn enter_pairs(
     old: &Starts,
     new: &Starts,
@@ -71,7 +72,7 @@ fn enter_pairs(
     Ok(())
 }
 
-// What is wrong with the place of pair `k`, behind one whose new address is `last`.
+// Returns what is wrong with the place of pair `k`, after one whose new address is `last`.
 fn place_fault(
     old: &Starts,
     new: &Starts,

@@ -3,7 +3,7 @@ use gc_words::{ImageRef, next_start};
 use std::alloc::Global;
 use std::marker::Model;
 
-/// The places of an image's words at which objects start. Contracts see the image.
+/// The table of the places at which an image's objects start. Contracts see the image.
 #[derive(Drop)]
 pub(crate) struct Starts<'a> {
     image: ImageRef<'a>,
@@ -27,7 +27,7 @@ impl<'a> Starts<'a> {
     ghost use Rattle.gc_words.specs.Image.{walk_words, is_start};
     ghost use Rattle.gc_words.specs.Views.{image_of};
 
-    /// One growth: the row of marks.
+    /// Returns the table of an image. Allocates once.
     pub(crate) fn new(alloc: Global, image: ImageRef<'a>) -> Result<Starts<'a>, NoMemory>
         requires { IsOk (walk_words image.words.now) }
         ensures { IfOk result (λ starts. starts ≡ image_of image.entry) }
@@ -39,7 +39,7 @@ impl<'a> Starts<'a> {
         Ok(Starts { image, marks })
     }
 
-    /// Whether an object starts at this place.
+    /// Returns whether an object starts at this place.
     pub(crate) fn contains(&self, place: u32) -> bool
         ensures start { result ≡ is_start self.now.words place }
         ensures within { IsTrue result → place < length self.now.words }
@@ -53,7 +53,7 @@ ghost use Rattle.std.specs.Prelude.{◌≡◌, length, replicate, false, IsOk};
 ghost use Rattle.gc_words.specs.Image.{walk_words};
 ghost use Rattle.gc_check.specs.Internal.Tables.{MarksStarts};
 
-// Sets the marks at which objects start.
+// Sets the marks of the places at which objects start.
 fn mark_starts(words: &[u64], marks: &mut [bool])
     requires walked { IsOk (walk_words words.now) }
     requires unmarked { marks.old ≡ replicate (length words.now) false }

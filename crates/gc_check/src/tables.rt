@@ -6,14 +6,15 @@ use gc_words::{Addr, Header, ImageRef, Pair, Refusal, Value, decode};
 use std::alloc::Global;
 use std::marker::Model;
 
-/// Two images and a certificate whose pairs join starts, in their order and each old address once, with the
-/// partners by old address. Contracts see the images and the pairs.
+/// Two images and a certificate whose places are right: each pair joins two starts, new addresses rise, and no old
+/// address occurs twice. A lookup finds the partner of an old address in constant time. Contracts see the images and
+/// the pairs.
 #[derive(Drop)]
 pub struct Tables<'a> {
     old: ImageRef<'a>,
     new: ImageRef<'a>,
     cert: &'a [Pair],
-    /// The new address that is paired with an old one, or 0.
+    /// The new address that is paired with each old one, or 0.
     partners: Vec<u32>,
 }
 
@@ -47,7 +48,8 @@ impl<'a> Tables<'a> {
     ghost use Rattle.gc_check.specs.Tables.{pair_at};
     ghost use Rattle.gc_check.specs.Verdict.{pairs_of, IsRefusalOf};
 
-    /// Takes memory three times, once for each row. The images and the certificate are borrowed.
+    /// Returns the tables of two images and a certificate, which they borrow. Allocates three times. Returns `Refused`
+    /// with the first fault of shapes, root counts and places, or `NoMemory`.
     pub fn new(
         alloc: Global,
         old: ImageRef<'a>,
@@ -76,7 +78,7 @@ impl<'a> Tables<'a> {
         })
     }
 
-    /// What is wrong with the objects that pair `k` joins. Takes no memory.
+    /// Returns the first fault of the header and the fields of the objects that pair `k` joins. Does not allocate.
     pub fn pair_fault(&self, k: u32) -> Option<Refusal>
         requires { k < length self.now.pairs }
         ensures { result ≡ pair_fault self.now.old self.now.new self.now.pairs k (pair_at self.now.pairs k) }
@@ -94,7 +96,7 @@ impl<'a> Tables<'a> {
         }
     }
 
-    /// What is wrong with the roots. Takes no memory.
+    /// Returns the first fault of the roots. Does not allocate.
     pub fn root_fault(&self) -> Option<Refusal>
         ensures { result ≡ root_fault self.now.old self.now.new self.now.pairs }
     {
@@ -104,8 +106,7 @@ impl<'a> Tables<'a> {
         }
     }
 
-    // The first field of two objects with this header at which they differ. No word of a raw object is a
-    // reference.
+    // Returns the first field at which two objects with this header differ. No word of a raw object is a reference.
     #[tactic(auto, using(crate::proofs::Placements::raw_alike, crate::proofs::Placements::value_alike))]
     fn field_difference(&self, header: Header, old: &[u64], new: &[u64]) -> Option<u64>
         requires { length old.now ≡ length new.now }
@@ -119,7 +120,7 @@ impl<'a> Tables<'a> {
         }
     }
 
-    // The first place at which the words do not correspond.
+    // Returns the first place at which the words do not correspond.
     fn first_difference(&self, old: &[u64], new: &[u64]) -> Option<u64>
         requires { length old.now ≡ length new.now }
         ensures { result ≡ first_difference (words_correspond self.now.pairs) 0 old.now new.now }
@@ -132,7 +133,7 @@ impl<'a> Tables<'a> {
         None
     }
 
-    // Whether the words are values that stand for each other.
+    // Returns whether the words are values that correspond.
     fn is_correspondence(&self, old: u64, new: u64) -> bool
         ensures { result ≡ words_correspond self.now.pairs old new }
     {
@@ -155,7 +156,7 @@ impl<'a> Tables<'a> {
         }
     }
 
-    // Whether the addresses are a pair.
+    // Returns whether the addresses are a pair.
     fn is_partner(&self, old: Addr, new: Addr) -> bool
         requires { 1 ≤ new.0 }
         ensures { result ≡ paired self.now.pairs old.0 new.0 }
@@ -168,7 +169,7 @@ impl<'a> Tables<'a> {
 ghost use Rattle.std.specs.Prelude.{◌≡◌, ◌==◌, length};
 ghost use Rattle.gc_words.specs.Fault.{first_difference};
 
-// The first place at which two words are not one number. Any word may stand in a raw object.
+// Returns the first place at which two words differ. A raw object may have any word.
 fn first_unequal(old: &[u64], new: &[u64]) -> Option<u64>
     requires { length old.now ≡ length new.now }
     ensures { result ≡ first_difference (λ v w. v == w) 0 old.now new.now }

@@ -17,7 +17,8 @@ use gc_words::no_fault_where_certified;
 use std::alloc::Global;
 use std::io::{Read, Write};
 
-/// Checks the pair of images whose text the reader gives, and writes the line of the verdict.
+/// Reads a pair text, checks the pair, and writes the line of the verdict. Returns `Pair` with the first fault of a
+/// text that is no pair, `NoMemory` if an allocation fails, and `Write` if the writer does.
 pub fn check_text<R: Read, W: Write>(
     alloc: Global,
     reader: &mut Source<R>,
@@ -25,10 +26,10 @@ pub fn check_text<R: Read, W: Write>(
 ) -> Result<Verdict, RunFault>
     ensures verdict { IfOk result (λ verdict. IfSome (bytes_left R.remaining reader.old)
         (λ text. IsVerdictOn text verdict)) }
-    // Its line, and nothing else.
+    // The verdict's line, and nothing else.
     ensures line { IfOk result (λ verdict. Appends
         (bytes_written W.contents writer.old) (bytes_written W.contents writer.new) (verdict_line verdict)) }
-    // What a yes promises of the images that the text spells.
+    // The soundness theorem for the images that the text spells.
     ensures replicated { IfOk result (λ verdict. IfSome (bytes_left R.remaining reader.old)
         (λ text. (pair : CertifiedPair) → IsReadAs pair text → Promises verdict pair)) }
 
@@ -40,16 +41,16 @@ pub fn check_text<R: Read, W: Write>(
         ↔ (source_failed reader.new ≡ true) }
     ensures unwritten { result ≡ Err RunFault.Write → sink_failed writer.new ≡ true }
     ensures silent { OnErr result (result ≢ Err RunFault.Write → writer.new ≡ writer.old) }
-    // What went out is a front of the verdict's line.
+    // What went out is a prefix of the verdict's line.
     ensures front { result ≡ Err RunFault.Write → TellsFront (bytes_left R.remaining reader.old)
         (bytes_written W.contents writer.old) (bytes_written W.contents writer.new) }
 {
     check_text_by(&Sequential, alloc, reader, writer)
 }
 
-/// Checks the pair of images whose text the reader gives, by this checker, and writes the line of the verdict.
-/// The calling thread reads and writes. Returns `Pair` if the text is no pair, `NoMemory` if an allocation
-/// fails, and `Write` if the writer does.
+/// Reads a pair text, checks the pair with the given checker, and writes the line of the verdict. The calling thread
+/// reads and writes. Returns `Pair` with the first fault of a text that is no pair, `NoMemory` if an allocation fails,
+/// and `Write` if the writer does.
 pub fn check_text_by<C: Checks, R: Read, W: Write>(
     checker: &C,
     alloc: Global,
@@ -62,10 +63,10 @@ pub fn check_text_by<C: Checks, R: Read, W: Write>(
         (λ text. (pair : CertifiedPair) → IsReadAs pair text → OnYes (C.says_yes checker.now) verdict pair)) }
     ensures verdict { IfOk result (λ verdict. IfSome (bytes_left R.remaining reader.old)
         (λ text. IsVerdictOn text verdict)) }
-    // Its line, and nothing else.
+    // The verdict's line, and nothing else.
     ensures line { IfOk result (λ verdict. Appends
         (bytes_written W.contents writer.old) (bytes_written W.contents writer.new) (verdict_line verdict)) }
-    // What a yes promises of the images that the text spells.
+    // The soundness theorem for the images that the text spells.
     ensures replicated { IfOk result (λ verdict. IfSome (bytes_left R.remaining reader.old)
         (λ text. (pair : CertifiedPair) → IsReadAs pair text → Promises verdict pair)) }
 
@@ -77,7 +78,7 @@ pub fn check_text_by<C: Checks, R: Read, W: Write>(
         ↔ (source_failed reader.new ≡ true) }
     ensures unwritten { result ≡ Err RunFault.Write → sink_failed writer.new ≡ true }
     ensures silent { OnErr result (result ≢ Err RunFault.Write → writer.new ≡ writer.old) }
-    // What went out is a front of the verdict's line.
+    // What went out is a prefix of the verdict's line.
     ensures front { result ≡ Err RunFault.Write → TellsFront (bytes_left R.remaining reader.old)
         (bytes_written W.contents writer.old) (bytes_written W.contents writer.new) }
 {
@@ -96,7 +97,7 @@ pub fn check_text_by<C: Checks, R: Read, W: Write>(
     }
 }
 
-// The checker's answer as a verdict.
+// Returns the checker's answer as a verdict.
 fn verdict_of<C: Checks>(checker: &C, alloc: Global, file: &PairFile) -> Result<Verdict, NoMemory>
     requires can { C.can_check checker.now }
     requires text { HasText (pair_in file.now) }

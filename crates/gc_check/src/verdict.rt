@@ -6,7 +6,7 @@ use thiserror::Error;
 /// The certificate holds.
 #[derive(Clone, Copy, Debug, PartialEq, Eq)]
 pub struct Yes {
-    /// How many pairs it has.
+    /// The number of its pairs.
     pub pairs: u32,
 }
 
@@ -16,25 +16,25 @@ pub enum CheckFault {
     /// The first condition of a certificate that fails.
     #[error("refused")]
     Refused(Refusal),
-    /// A growth was refused.
+    /// An allocation failed.
     #[error("no memory")]
     NoMemory,
 }
 
-/// What the checker answers, memory apart.
+/// What the checker answers if it has enough memory.
 #[derive(Clone, Copy, Debug, PartialEq, Eq)]
 pub enum Verdict {
     Yes { pairs: u32 },
     Refused(Refusal),
 }
 
-/// Why a text gets no verdict, or one that could not be told.
+/// Why a text gets no verdict, or one that could not be written.
 #[derive(Clone, Copy, Debug, PartialEq, Eq, Error)]
 #[error("{}", self.message())]
 pub enum RunFault {
-    /// What is wrong with the text.
+    /// The first fault of the text.
     Pair(PairFault),
-    /// A growth was refused, perhaps in reading.
+    /// An allocation failed, perhaps while reading.
     NoMemory,
     /// The writer failed.
     Write,
@@ -44,7 +44,7 @@ impl RunFault {
     ghost use Rattle.std.specs.Prelude.{◌≡◌};
     ghost use Rattle.gc_check.specs.FaultTexts.{run_fault_text};
 
-    /// Returns what is said of the fault.
+    /// Returns the text of the fault.
     pub fn message(&self) -> Message
         ensures { result ≡ run_fault_text self.now }
     {

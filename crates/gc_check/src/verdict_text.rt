@@ -11,7 +11,7 @@ use gc_graph::text::Printer;
 use gc_words::Refusal;
 use std::io::Write;
 
-/// Writes the verdict's line, or a front of it before the writer fails.
+/// Writes the verdict's line. If the writer fails, a prefix of it went out.
 pub fn write_verdict<W: Write>(writer: &mut Sink<W>, verdict: &Verdict) -> Result<(), WriteFault>
     ensures ok { OnOk result (Appends
         (bytes_written W.contents writer.old) (bytes_written W.contents writer.new) (verdict_line verdict.now)) }
@@ -60,7 +60,7 @@ fn print_refusal(printer: &mut Printer, refusal: &Refusal)
     }
 }
 
-// A line that ends in a number.
+// Prints a line that ends in a number.
 fn print_place(printer: &mut Printer, words: &[u8], place: u64)
     requires { length printer.old + length words.now + 21 ≤ 16384 }
     ensures { printer.new ≡ printer.old ++ (words.now ++ (decimal place ++ codes "\n")) }

@@ -1,9 +1,9 @@
 -- Scanning and applying place replicas and take none away: once each root's target has one, it goes on to have one.
-use Rattle.std.proofs.Common.{◌≡◌, ℕ, ◌==◌, ◌+◌, ◌||◌, Bool, true, false, List, [], ◌∷◌, ◌++◌, length, Option, Some, None, is_some, is_none, nat_lt, refl, sym, ap, ◌∙◌, subst, cond-true, cond-false, cases_Bool, ⊎_elim, ⊤}
-use Rattle.std.specs.Prelude.{IfSome}
+use Rattle.std.proofs.Common.{◌≡◌, ⊎_elim, ℕ, ◌==◌, ◌+◌, ◌||◌, Bool, true, false, List, [], ◌∷◌, ◌++◌, length, Option, Some, None, is_some, is_none, nat_lt, refl, sym, ap, ◌∙◌, subst}
+use Rattle.std.specs.Prelude.{IfSome, ⊤}
 use Rattle.std.specs.Option.{option_map}
 use Rattle.std.specs.List.{find, flat_map}
-use Rattle.std.proofs.lemmas.Bool.{cond_both}
+use Rattle.std.proofs.lemmas.Bool.{cond_both, cond-true, cond-false, cases_Bool}
 use Rattle.gc_graph.specs.Graph.{Value, Nil, Num, Ref, Object, Graph, lookup, field_of, names_of}
 use Rattle.gc_copy.specs.State.{Replica, Collection, State, new_end, new_free, replica_of, replica_at, moved}
 use Rattle.gc_copy.specs.Steps.{log_at, with_log, fresh_replica, place_replica, with_replica, write_replica, copy_value, bring_value, bring_up_to_date, if_room, first_unreplicated, roots_done, next_field, scan_replica, scan_done, scan, apply_entry, apply_log}

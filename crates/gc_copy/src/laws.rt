@@ -15,7 +15,7 @@ ghost use Rattle.gc_heap.specs.Heap.{HeapWords, IsHeap, KeepsLinks, image_of, gr
 ghost use Rattle.gc_copy.specs.Words.{CollectionWords, IsCollection, BelongsTo, BelongsToBut, HasNoLinks, collection_in, open_state, new_root_words};
 ghost use Rattle.gc_graph.specs.declared.reply.Reply.{Reply};
 ghost use Rattle.gc_copy.specs.State.{Replica, Collection, State, opening_state, new_objects, new_free, pairs_of, replica_of, replica_at, moved, new_graph};
-ghost use Rattle.gc_copy.specs.Linked.{linked_image, old_links, new_links, old_image, new_image};
+ghost use Rattle.gc_copy.specs.Linked.{image_of_graph, linked_image, old_links, new_links, old_image, new_image};
 ghost use Rattle.gc_copy.specs.Steps.{roots_done, written, log_at, with_log, with_collection, write_replica, fresh_collection, mutate, collect, is_change, is_ready, useful_step};
 ghost use Rattle.gc_copy.specs.Members.{In};
 ghost use Rattle.gc_copy.specs.Belonging.{HasRawNumbers, IsSpaceGraph, HasField, Belongs, BelongsBut, IsOpened, IsOpen, IsState};
@@ -170,8 +170,10 @@ pub fn scans_and_pairs_are_bounded()
 {}
 
 /// What the checker sees of a heap and of the collection that belongs to it: both images with their links; and
-/// where the collection is ready, its certificate holds of them.
+/// where the collection is ready, its certificate holds of them. Where no collection is open, all links are 0.
 pub fn images_show_links()
+    ensures idle { (heap : HeapWords) → IsHeap heap → HasNoLinks heap
+        → image_of heap ≡ image_of_graph heap.space.size (graph_in heap) }
     ensures old { (heap : HeapWords) (c : CollectionWords) → IsHeap heap → BelongsTo heap c
         → image_of heap ≡ old_image (open_state heap c) (collection_in c) }
     ensures new { (heap : HeapWords) (c : CollectionWords) → IsCollection c → BelongsTo heap c

@@ -17,6 +17,7 @@ pub use laws::{
     links_tell_replicas, only_kept_is_carried, ready_flips_pass, room_suffices, roots_stay_done,
     scans_and_pairs_are_bounded, states_are_kept, steps_keep_belonging, worked_rows,
 };
+pub use log::LogEntry;
 pub use step::{Step, StepReply};
 
 #[cfg(test)]

@@ -4,10 +4,12 @@ use gc_heap::Heap;
 use std::alloc::Global;
 use std::marker::Model;
 
-/// A heap that mutators work on, with the collection that is open, if any.
+/// A heap that mutators work on, with its open collection, if there is one.
 ///
-/// Contracts see the core's state: the heap's graph with addresses as names, and the replicas, logs and scan
-/// pointer of the open collection. Nothing is kept of what happened before, so a runtime can use it for days.
+/// The collection needs the heap's link words: an original's link is its replica, so the collector finds replicas
+/// without a table. Heap and collection are therefore kept in one type, whose invariant ties them together. Contracts
+/// see the core's state: the heap's graph with addresses as names, and the replicas, logs and scan pointer of the
+/// open collection. The type keeps no history, so a runtime can use it for days.
 #[derive(Debug, Drop)]
 pub struct CollectedHeap {
     pub(crate) alloc: Global,

@@ -13,8 +13,8 @@ use gc_heap::Heap;
 use gc_words::Pair;
 use std::alloc::Global;
 
-/// Whether a flip returns the pair of heaps that its checker accepted. A runtime has no use for it; a record
-/// of flips has.
+/// Whether a flip returns the pair of heaps that its checker accepted. A runtime does not need the pair. A record of
+/// flips does.
 #[derive(Clone, Copy, Debug, PartialEq, Eq)]
 pub enum Keep {
     /// Copies nothing.
@@ -30,7 +30,7 @@ pub struct Flip {
     pub pair: Option<PairFile>,
 }
 
-/// What the checker is shown beside the two spaces: the certificate and the moved roots.
+/// What the checker sees beside the two spaces: the certificate and the moved roots.
 #[derive(Debug, Drop)]
 pub(crate) struct Draft {
     pub(crate) pairs: Vec<Pair>,
@@ -38,7 +38,7 @@ pub(crate) struct Draft {
 }
 
 impl Draft {
-    /// Returns the draft of a ready collection's flip. Two allocations.
+    /// Returns the draft of a ready collection's flip. Allocates twice.
     pub(crate) fn new(
         alloc: Global,
         heap: &Heap,
@@ -63,7 +63,7 @@ pub(crate) struct Copies {
 }
 
 impl Copies {
-    /// Copies the new space's words and these roots. Two allocations.
+    /// Copies the new space's words and these roots. Allocates twice.
     fn new(alloc: Global, collection: &Collection, roots: &[u64]) -> Result<Copies, NoMemory>
         ensures { IfOk result (AreCopies collection.now roots.now) }
     {

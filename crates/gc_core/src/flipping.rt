@@ -34,7 +34,7 @@ impl CollectedHeap {
     pub fn flip<C: Checks>(&mut self, checker: &C, keep: Keep) -> Result<Flip, NoMemory>
         requires { C.can_check checker.now }
         ensures step { IfOk result (λ flip. collect self.old Step.Flip ≡ (flip.reply, self.new)) }
-        // It flips only what this checker said yes to.
+        // A flip happens only if this checker said yes.
         ensures asked { IfOk result (λ flip. FlipsOnly (C.says_yes checker.now) self.old flip.reply) }
         // A ready collection passes, so no flip is refused.
         ensures passes { IfOk result (λ flip. PassesIfReady self.old flip.reply) }
@@ -62,14 +62,14 @@ impl CollectedHeap {
     }
 }
 
-// A reply of no flip.
+// Returns the reply of a step that did not flip.
 fn without_pair(reply: StepReply) -> Flip
     ensures { result ≡ record { reply = reply; pair = None } }
 {
     Flip { reply, pair: None }
 }
 
-// Asks the checker whether it accepts the certificate. That of a ready collection is always accepted.
+// Asks the checker whether it accepts the certificate. It always accepts that of a ready collection.
 fn accepts<C: Checks>(
     checker: &C,
     alloc: Global,

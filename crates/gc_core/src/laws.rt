@@ -1,4 +1,4 @@
-//! What follows from the definitions, without a history.
+//! Laws: what follows from the definitions, without a history.
 
 ghost use Rattle.std.specs.Prelude.{ℕ, List, ◌≤◌};
 ghost use Rattle.gc_graph.specs.Legal.{IsLegal};
@@ -8,7 +8,7 @@ ghost use Rattle.gc_copy.specs.Runs.{AreEvents};
 ghost use Rattle.gc_copy.specs.declared.event.Event.{Event};
 ghost use Rattle.gc_core.specs.Replies.{told_in};
 
-/// In every run, with commands and steps in any interleaving, mutators are told what they could be told without a
+/// In every run, with commands and steps in any interleaving, mutators get replies that are possible without a
 /// collector: the same replies, except that an allocation may find the heap full.
 pub fn runs_are_legal()
     ensures { (size mutators : ℕ) (events : List Event)

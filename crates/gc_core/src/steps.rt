@@ -20,7 +20,7 @@ impl CollectedHeap {
         requires can { C.can_check checker.now }
         requires step { IsStep self.old.mutators step }
         ensures step { IfOk result (λ reply. collect self.old step ≡ (reply, self.new)) }
-        // It flips only what this checker said yes to.
+        // A flip happens only if this checker said yes.
         ensures asked { IfOk result (FlipsOnly (C.says_yes checker.now) self.old) }
         // A ready collection passes, so no flip is refused.
         ensures passes { step ≡ Step.Flip → IfOk result (PassesIfReady self.old) }

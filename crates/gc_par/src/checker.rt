@@ -12,8 +12,8 @@ use rayon::prelude::*;
 use std::alloc::Global;
 use std::thread::Threads;
 
-/// Whether the certificate holds of the images. Nothing is known of either, nor of who made them. Where there are
-/// many pairs, several threads compare their objects.
+/// Checks a certificate against two heap images, as `gc_check::check` does. If there are many pairs, several threads
+/// compare their objects. The answer does not depend on them.
 pub fn check_par(
     rt: &(impl Threads + Sync),
     alloc: Global,
@@ -27,7 +27,7 @@ pub fn check_par(
     ensures refused { IfErr result
         (IsRefusalOf (first_fault (image_of old.entry) (image_of new.entry) (pairs_of cert.now))) }
 
-    // What a yes promises of all that mutators do from here on.
+    // The soundness theorem: what a yes promises of all that mutators do from here on.
     ensures replicated { OnOk result
         (Replicated (image_of old.entry) (image_of new.entry) (pairs_of cert.now)) }
 {
@@ -47,7 +47,7 @@ pub fn check_par(
     Ok(Yes { pairs })
 }
 
-// What is wrong with the objects of the first pair of which anything is.
+// Returns the first fault of the objects of a pair, going through the pairs in order.
 #[tactic(auto, using(crate::proofs::Least::first_has_first_fault))]
 fn first_pair_fault(rt: &(impl Threads + Sync), tables: &Tables, count: u32) -> Option<Refusal>
     requires { count ≡ length tables.now.pairs }
@@ -61,7 +61,7 @@ fn first_pair_fault(rt: &(impl Threads + Sync), tables: &Tables, count: u32) -> 
     }
 }
 
-// The number of the first pair that has a fault, or the number of pairs.
+// Returns the number of the first pair that has a fault, or the number of pairs.
 fn first_faulty(rt: &(impl Threads + Sync), tables: &Tables, count: u32) -> u32
     requires { count ≡ length tables.now.pairs }
     ensures { IsFirst (fault_at tables.now) count result }

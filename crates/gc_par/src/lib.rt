@@ -1,4 +1,4 @@
-//! The checker in threads: the same answers as the checker's own, whatever the threads do.
+//! The checker in several threads, with the same answers as gc_check's, whatever the threads do.
 #![tactic(auto)]
 
 mod checker;

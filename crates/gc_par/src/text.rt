@@ -15,8 +15,9 @@ use std::alloc::Global;
 use std::io::{Read, Write};
 use std::thread::Threads;
 
-/// Checks the pair of images whose text the reader gives, and writes the line of the verdict. One thread reads
-/// and writes.
+/// Reads a pair text, checks the pair in several threads, and writes the line of the verdict. The calling thread reads
+/// and writes. Returns `Pair` with the first fault of a text that is no pair, `NoMemory` if an allocation fails, and
+/// `Write` if the writer does.
 pub fn check_text_par<R: Read, W: Write>(
     rt: &(impl Threads + Sync),
     alloc: Global,
@@ -25,10 +26,10 @@ pub fn check_text_par<R: Read, W: Write>(
 ) -> Result<Verdict, RunFault>
     ensures verdict { IfOk result (λ verdict. IfSome (bytes_left R.remaining reader.old)
         (λ text. IsVerdictOn text verdict)) }
-    // Its line, and nothing else.
+    // The verdict's line, and nothing else.
     ensures line { IfOk result (λ verdict. Appends
         (bytes_written W.contents writer.old) (bytes_written W.contents writer.new) (verdict_line verdict)) }
-    // What a yes promises of the images that the text spells.
+    // The soundness theorem for the images that the text spells.
     ensures replicated { IfOk result (λ verdict. IfSome (bytes_left R.remaining reader.old)
         (λ text. (pair : CertifiedPair) → IsReadAs pair text → Promises verdict pair)) }
 
@@ -40,7 +41,7 @@ pub fn check_text_par<R: Read, W: Write>(
         ↔ (source_failed reader.new ≡ true) }
     ensures unwritten { result ≡ Err RunFault.Write → sink_failed writer.new ≡ true }
     ensures silent { OnErr result (result ≢ Err RunFault.Write → writer.new ≡ writer.old) }
-    // What went out is a front of the verdict's line.
+    // What went out is a prefix of the verdict's line.
     ensures front { result ≡ Err RunFault.Write → TellsFront (bytes_left R.remaining reader.old)
         (bytes_written W.contents writer.old) (bytes_written W.contents writer.new) }
 {

@@ -12,8 +12,8 @@ use crate::seat::{Receipt, Seat};
 use gc_world::{Entry, World};
 use std::alloc::Global;
 
-/// The first fault of the seats against the world. Each place of the history gets a mark, in memory that is taken
-/// before any receipt is looked at.
+/// Returns the first fault of the seats against the world. Each place of the history gets a mark; the marks are
+/// allocated before any receipt is looked at.
 pub(crate) fn fault(
     alloc: Global,
     size: u32,
@@ -37,7 +37,7 @@ pub(crate) fn fault(
     first_fault(history, seats, mutators + collectors, marks.as_mut_slice())
 }
 
-// Whether the seats have each number of the opening once, and the world its size and mutators.
+// Returns whether the seats have each number of the opening once, and the world its size and mutators.
 fn is_seated(size: u32, mutators: u8, collectors: u8, world: &World, seats: &[Seat]) -> bool
     requires { mutators + collectors ≤ 32 }
     ensures { IsTrue result ↔ IsSeated (opening size mutators collectors) world.now seats.now }
@@ -51,7 +51,7 @@ fn is_seated(size: u32, mutators: u8, collectors: u8, world: &World, seats: &[Se
     has_each_once(seats, mutators + collectors)
 }
 
-// The first receipt that does not stand, seats by number and receipts in order, or an event without a receipt.
+// Returns the first receipt that does not stand, seats by number and receipts in order, or an event without one.
 fn first_fault(
     history: &[Entry],
     seats: &[Seat],
@@ -75,7 +75,7 @@ fn first_fault(
     None
 }
 
-// Whether the seats have each number below `count` once, and no other.
+// Returns whether the seats have each number below `count` once, and no other.
 fn has_each_once(seats: &[Seat], count: u8) -> bool
     ensures { IsTrue result ↔ ((length seats.now ≡ count) × HasEachOnce seats.now count) }
 {
@@ -102,7 +102,7 @@ fn seat_with(seats: &[Seat], number: u8) -> Option<&Seat>
     seats.iter().find(|seat| seat.number() == number)
 }
 
-// The receipts of the first seat with this number.
+// Returns the receipts of the first seat with this number.
 fn receipts_with(seats: &[Seat], number: u8) -> &[Receipt]
     ensures { result.now ≡ receipts_of seats.now number }
 {
@@ -135,7 +135,7 @@ fn first_torn(history: &[Entry], seats: &[Seat], seat: u8, marks: &mut [bool]) -
     None
 }
 
-// Whether the receipt's place has its event and answer, is at or above `low`, and is not marked.
+// Returns whether the receipt's place has its event and answer, is at or above `low`, and is not marked.
 fn is_free(history: &[Entry], marks: &[bool], low: usize, receipt: &Receipt) -> bool
     requires { length marks.now ≡ length history.now }
     ensures free { IsTrue result ↔ IsFree history.now marks.now low receipt.now }
@@ -144,7 +144,7 @@ fn is_free(history: &[Entry], marks: &[bool], low: usize, receipt: &Receipt) -> 
     low <= receipt.place && is_recorded(history, receipt) && !marks[receipt.place]
 }
 
-// Whether the receipt's place has its event and answer.
+// Returns whether the receipt's place has its event and answer.
 fn is_recorded(history: &[Entry], receipt: &Receipt) -> bool
     ensures recorded { IsTrue result ↔ IsRecorded history.now receipt.now }
     ensures within { IsTrue result → receipt.now.place < length history.now }

@@ -4,19 +4,19 @@ use gc_world::World;
 use std::alloc::AllocError;
 use thiserror::Error;
 
-/// Why a call was refused. No event was made of it, and its seat is as before.
+/// Why a call was refused. No event happened, and the seat is unchanged.
 #[derive(Clone, Copy, Debug, PartialEq, Eq, Error)]
 pub enum CallFault {
-    /// A growth was refused.
+    /// An allocation failed.
     #[error("no memory")]
     NoMemory,
-    /// A command was asked for with a collector's seat, or with that of a mutator which this world lacks.
+    /// A command with a collector's seat, or with the seat of a mutator that this world does not have.
     #[error("not a mutator's seat")]
     NotAMutator,
-    /// A step was asked for with a mutator's seat.
+    /// A step with a mutator's seat.
     #[error("not a collector's seat")]
     NotACollector,
-    /// A step was to apply the log of a mutator which this world lacks.
+    /// A step that applies the log of a mutator that this world does not have.
     #[error("no such mutator")]
     NoSuchMutator,
 }
@@ -43,18 +43,18 @@ impl From<AllocError> for CallFault {
     }
 }
 
-/// Why a world was not closed in agreement with its seats: the first of these that is so.
+/// Why a world and its seats do not agree: the first of these faults that applies.
 #[derive(Clone, Copy, Debug, PartialEq, Eq, Error)]
 #[error("{}", self.message())]
 pub enum CloseKind {
     /// The seats are not those of the opening, each once.
     Seats,
-    /// Receipt `n` of this seat, both counted from 0, is not what the history has at its place, or its place is not
-    /// above that of the receipt before it, or stands on a receipt of a seat with a lower number.
+    /// Receipt `n` of this seat does not stand (both count from 0). It differs from the history at its place, or its
+    /// place is not above that of the receipt before it, or a receipt of a seat with a lower number has that place.
     Torn { seat: u8, n: usize },
     /// The history has more events than the seats have receipts.
     Extra,
-    /// A growth was refused, and the receipts were not compared.
+    /// An allocation failed, and the receipts were not compared.
     NoMemory,
 }
 
@@ -62,7 +62,7 @@ impl CloseKind {
     ghost use Rattle.std.specs.Prelude.{◌≡◌};
     ghost use Rattle.gc_shared.specs.FaultTexts.{close_kind_text};
 
-    /// Returns what is said of the fault.
+    /// Returns the text of the fault.
     pub fn message(&self) -> Message
         ensures { result ≡ close_kind_text self.now }
     {
@@ -82,24 +82,24 @@ impl CloseKind {
     }
 }
 
-/// A world that was not closed in agreement with its seats. The seats are spent.
+/// A world that does not agree with its seats, and why. The seats are gone.
 #[derive(Debug, Drop)]
 pub struct CloseFault {
     pub world: World,
     pub kind: CloseKind,
 }
 
-/// Why scripts were not run to their end. The scripts and the world are given up.
+/// Why scripts did not run to their end. The scripts and the world are dropped.
 #[derive(Clone, Copy, Debug, PartialEq, Eq, Error)]
 #[error("{}", self.message())]
 pub enum ThreadsFault {
-    /// A thread could not be started. This goes before all others.
+    /// A thread could not be started. This fault comes before all others.
     NotStarted,
-    /// The gate ended this seat's thread before its call `n`, both counted from 0.
+    /// The gate ended this seat's thread before its call `n`. Both count from 0.
     Gate { seat: u32, n: u64 },
-    /// A growth was refused.
+    /// An allocation failed.
     NoMemory,
-    /// The seats were not closed; a thread whose seat was refused gives `Seats`.
+    /// Closing failed. A thread whose seat was refused gives `Seats`.
     Close(CloseKind),
 }
 
@@ -107,7 +107,7 @@ impl ThreadsFault {
     ghost use Rattle.std.specs.Prelude.{◌≡◌};
     ghost use Rattle.gc_shared.specs.FaultTexts.{threads_fault_text};
 
-    /// Returns what is said of the fault.
+    /// Returns the text of the fault.
     pub fn message(&self) -> Message
         ensures { result ≡ threads_fault_text self.now }
     {

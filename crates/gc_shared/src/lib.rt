@@ -1,4 +1,4 @@
-//! One world for several threads: a lock round it, and seats whose receipts tell what each thread was answered.
+//! One world shared by several threads: a lock, and seats whose receipts record the reply to each call.
 #![tactic(auto)]
 
 mod closing;

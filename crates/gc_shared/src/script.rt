@@ -9,7 +9,7 @@ use gc_graph::Op;
 use std::sync::Wait;
 use std::thread::Threads;
 
-/// Makes the commands of a script with a seat, in order.
+/// Performs the commands of a script with a seat, in order.
 pub(crate) fn play<R: Wait, G: Gate>(
     rt: &R,
     shared: &Shared,
@@ -35,7 +35,7 @@ pub(crate) fn play<R: Wait, G: Gate>(
     Ok(seat)
 }
 
-/// Makes so many useful steps with a seat.
+/// Performs so many useful steps with a seat.
 pub(crate) fn turn<R: Threads + Wait + Sync, G: Gate>(
     rt: &R,
     shared: &Shared,

@@ -6,17 +6,17 @@ use gc_world::{Answer, Event};
 use std::alloc::{AllocError, Global};
 use std::marker::Model;
 
-/// An event that was made with a seat, its answer, and its place in the history.
+/// The record of an answered call: its event, the answer, and its place in the history.
 #[derive(Clone, Copy, Debug, PartialEq, Eq)]
 pub struct Receipt {
-    /// Events are counted from 0.
+    /// The number of events before it.
     pub place: usize,
     pub event: Event,
     pub answer: Answer,
 }
 
-/// The right to make events under one number, a mutator's or a collector's. It has a receipt for each event that
-/// was made with it, in order.
+/// The right to make calls under one number, a mutator's or a collector's. It has a receipt for each answered call, in
+/// order.
 #[derive(Debug, Drop)]
 pub struct Seat {
     pub(crate) number: u8,
@@ -37,21 +37,21 @@ impl Model for Seat {
 }
 
 impl Seat {
-    /// The mutators' seats have the numbers from 0 on, and those of collectors the numbers after them.
+    /// Returns the seat's number. The mutators' seats are numbered from 0, and the collectors' seats follow.
     pub fn number(&self) -> u8
         ensures { result ≡ self.now.number }
     {
         self.number
     }
 
-    /// Whether it makes commands. A collector's seat makes steps.
+    /// Returns whether it is a mutator's seat, which performs commands. A collector's seat performs steps.
     pub fn is_mutator(&self) -> bool
         ensures { result ≡ self.now.is_mutator }
     {
         self.is_mutator
     }
 
-    /// What was answered with this seat, in order.
+    /// Returns the receipts, in order.
     pub fn receipts(&self) -> &[Receipt]
         ensures { result.now ≡ self.now.receipts }
     {
@@ -59,7 +59,7 @@ impl Seat {
     }
 }
 
-/// The seats of an opening, without receipts: first the mutators', then the collectors'.
+/// Returns the seats of an opening, without receipts: first the mutators', then the collectors'.
 pub(crate) fn seats_of(alloc: Global, mutators: u8, collectors: u8) -> Result<Vec<Seat>, AllocError>
     requires { mutators + collectors ≤ 32 }
     ensures { IfOk result (λ seats. seats.items ≡ map (fresh mutators) (range_with_len 0 (mutators + collectors))) }

@@ -46,8 +46,8 @@ impl Shared {
     ghost use Rattle.gc_shared.specs.Seats.{opening, fresh, AddsReceipt, HasSize, IsApply};
     ghost use Rattle.gc_shared.specs.Closing.{IsWhole, IsFirstFault};
 
-    /// A world of `size` words, 1 to 1048576, behind a lock, with the seats of its 1 to 16 mutators and, after them,
-    /// those of its 0 to 16 collectors.
+    /// Opens a world of `size` words, 1 to 1048576, behind a lock. Returns it with the seats of its 1 to 16 mutators
+    /// and, after them, those of its 0 to 16 collectors.
     pub fn open(
         alloc: Global,
         size: u32,
@@ -77,25 +77,27 @@ impl Shared {
         Ok((shared, seats))
     }
 
-    /// How many mutators the world was opened with.
+    /// Returns the number of mutators that the world was opened with.
     pub fn mutators(&self) -> u8
         ensures { result ≡ self.now.mutators }
     {
         self.mutators
     }
 
-    /// What it takes its memory from.
+    /// Returns its allocator.
     pub(crate) fn alloc(&self) -> Global {
         self.alloc
     }
 
-    /// Makes a command of the seat's mutator under the lock, and adds its receipt to the seat.
+    /// Performs a command of the seat's mutator under the lock, and adds its receipt to the seat. May wait for the
+    /// lock. Returns `NotAMutator` for a collector's seat, and `NoMemory` if an allocation fails. The seat is then
+    /// unchanged.
     pub fn call<R: Wait>(&self, rt: &R, seat: &mut Seat, op: &Op) -> Result<Reply, CallFault>
         ensures answered { IfOk result (λ reply.
             AddsReceipt seat.old seat.new (Event.Mutate seat.old.number op.now) (Answer.Mutator reply)) }
         ensures refused { OnErr result (seat.new ≡ seat.old) }
 
-        // A wrong kind of seat is found before any growth.
+        // A wrong kind of seat is found before anything is allocated.
         ensures collector { seat.old.is_mutator ≡ false → result ≡ Err CallFault.NotAMutator }
         ensures beyond { self.now.mutators ≤ seat.old.number → result ≡ Err CallFault.NotAMutator }
         ensures faults { IfErr result (λ fault.
@@ -123,7 +125,9 @@ impl Shared {
         Ok(reply)
     }
 
-    /// Makes a step of the collector under the lock, and adds its receipt to the seat.
+    /// Performs a collector step under the lock, and adds its receipt to the seat. May wait for the lock. Returns
+    /// `NotACollector` for a mutator's seat, `NoSuchMutator` for a log that does not exist, and `NoMemory` if an
+    /// allocation fails. The seat is then unchanged.
     pub fn step<R: Threads + Wait + Sync>(
         &self,
         rt: &R,
@@ -135,7 +139,7 @@ impl Shared {
             AddsReceipt seat.old seat.new (Event.Collect step) (Answer.Collector reply)) }
         ensures refused { OnErr result (seat.new ≡ seat.old) }
 
-        // A wrong kind of seat is found first, and then a mutator that there isn't, both before any growth.
+        // A wrong kind of seat is found first, then a log that does not exist, both before anything is allocated.
         ensures mutator { (result ≡ Err CallFault.NotACollector) ↔ (seat.old.is_mutator ≡ true) }
         ensures beyond { seat.old.is_mutator ≡ false → (IsStep self.now.mutators step → ⊥)
             → result ≡ Err CallFault.NoSuchMutator }
@@ -166,7 +170,8 @@ impl Shared {
         Ok(reply)
     }
 
-    /// Finds the useful step and makes it, under one taking of the lock, and adds its receipt to the seat.
+    /// Finds and performs the useful step, taking the lock once, and adds its receipt to the seat. Returns
+    /// `NotACollector` for a mutator's seat, and `NoMemory` if an allocation fails. The seat is then unchanged.
     pub fn useful<R: Threads + Wait + Sync>(
         &self,
         rt: &R,
@@ -197,7 +202,8 @@ impl Shared {
         Ok((step, reply))
     }
 
-    /// Takes the world out of the lock, and compares its history with the seats' receipts. It waits for nobody.
+    /// Takes the world out of the lock, and compares its history with the seats' receipts. Returns the world if they
+    /// agree, otherwise the first fault with the world. Does not wait. The seats are gone in either case.
     pub fn close(self, seats: Vec<Seat>) -> Result<World, CloseFault>
         ensures ok { IfOk result (λ world. IsWhole self world seats.items) }
         ensures err { IfErr result (λ fault. IsFirstFault self fault.world seats.items fault.kind) }
@@ -221,7 +227,7 @@ ghost use Rattle.std.specs.Prelude.{◌≡◌, ◌↔◌, IsTrue};
 ghost use Rattle.gc_copy.specs.Runs.{IsStep};
 ghost use Rattle.gc_shared.specs.Seats.{HasSize};
 
-// Whether a world of so many mutators can make the step: an `Apply` names one of their logs.
+// Returns whether a world of so many mutators can perform the step: an `Apply` must name one of their logs.
 fn is_step(step: Step, mutators: u8) -> bool
     requires { HasSize step }
     ensures { IsTrue result ↔ IsStep mutators step }

@@ -40,11 +40,11 @@ impl Promise<Result<Seat, ThreadsFault>> for Turns {
     ghost kept_by = { λ turns result. IfOk result (HasTurned turns.number turns.turns) };
 }
 
-/// Makes each of 1 to 16 scripts by a thread of its own, mutator m's being script m, in a world of `size` words, 1 to
-/// 1048576. One thread more, with the collector's seat, makes so many useful steps. All are started before any is
-/// joined, and all that were started are joined, whatever happens.
+/// Runs 1 to 16 scripts, each in its own thread, in a world of `size` words, 1 to 1048576. Mutator m runs script m. One
+/// more thread, with the collector's seat, performs so many useful steps. All threads are started before any is joined,
+/// and every started thread is joined, whatever happens.
 ///
-/// Of the faults of several threads that of the least seat is given; a thread that ends leaves the others to go on.
+/// If several threads fail, returns the fault of the lowest seat. A thread that ends leaves the others running.
 pub fn run_threads<R: Threads + Wait + Sync, G: Gate + Sync>(
     rt: &R,
     alloc: Global,
@@ -70,7 +70,7 @@ pub fn run_threads<R: Threads + Wait + Sync, G: Gate + Sync>(
     }
 }
 
-// Runs the scripts and the collector in threads that end before it returns, and gives the seats back.
+// Runs the scripts and the collector in threads that end before it returns. Returns the seats.
 fn in_threads<R: Threads + Wait + Sync, G: Gate + Sync>(
     rt: &R,
     shared: &Shared,
@@ -96,7 +96,7 @@ type Player<'e> = PromisedHandle<Result<Seat, ThreadsFault>, Plays<'e>>;
 
 type Turner = PromisedHandle<Result<Seat, ThreadsFault>, Turns>;
 
-// Starts all threads, and then joins all that were started. What the seats come back in is made before any thread.
+// Starts all threads, then joins those that started. The list for the seats is allocated before any thread starts.
 fn run_all<'s, 'e, R: Threads + Wait + Sync, G: Gate + Sync>(
     scope: &'s Scope<'s, &'e ()>,
     rt: &'e R,
@@ -134,7 +134,7 @@ fn run_all<'s, 'e, R: Threads + Wait + Sync, G: Gate + Sync>(
     Ok(back)
 }
 
-// Starts a thread for each script. False where one could not be made.
+// Starts a thread for each script. Returns false if one could not be started.
 fn start_players<'s, 'e, R: Threads + Wait + Sync, G: Gate + Sync>(
     scope: &'s Scope<'s, &'e ()>,
     rt: &'e R,
@@ -161,7 +161,7 @@ fn start_players<'s, 'e, R: Threads + Wait + Sync, G: Gate + Sync>(
     true
 }
 
-// The thread that plays this script with this seat.
+// Starts the thread that runs this script with this seat.
 fn start_player<'s, 'e, R: Threads + Wait + Sync, G: Gate + Sync>(
     scope: &'s Scope<'s, &'e ()>,
     rt: &'e R,
@@ -183,7 +183,7 @@ fn start_player<'s, 'e, R: Threads + Wait + Sync, G: Gate + Sync>(
         .ok()
 }
 
-// The thread that makes so many useful steps with the collector's seat.
+// Starts the thread that performs so many useful steps with the collector's seat.
 fn start_collector<'s, 'e, R: Threads + Wait + Sync, G: Gate + Sync>(
     scope: &'s Scope<'s, &'e ()>,
     rt: &'e R,
@@ -211,7 +211,7 @@ fn start_collector<'s, 'e, R: Threads + Wait + Sync, G: Gate + Sync>(
         .ok()
 }
 
-// Joins all, and keeps their seats. The fault is that of the least seat.
+// Joins all threads and keeps their seats. Returns the fault of the lowest seat, if any.
 fn join_players<'e, R: Threads>(
     rt: &R,
     players: Vec<Player<'e>>,

@@ -1,4 +1,4 @@
-//! What follows from the definitions: the crates above cite these calls.
+//! Laws: what follows from the definitions. The crates above use them.
 
 ghost use Rattle.std.specs.Prelude.{◌≡◌, ◌≢◌, ◌++◌, ◌∷◌, [], ℕ, List, ◌≤◌};
 ghost use Rattle.std.specs.List.{All};
@@ -15,9 +15,8 @@ ghost use Rattle.gc_world.specs.History.{unmarked, events_of, state_after, told_
 ghost use Rattle.gc_world.specs.History.{IsUseful, IsHistory};
 ghost use Rattle.gc_world.specs.declared.entry.Entry.{Entry};
 
-/// A world that was just opened has an empty history. An event with the answer that it gets, which is
-/// `Useful` for no step but the useful one, makes a history one entry longer, and the state is then the one
-/// that the event leaves.
+/// A world that was just opened has an empty history. An event with its answer makes a history one entry longer, if
+/// `Useful` marks only the useful step. The new state is the one that the event leaves.
 pub fn histories_grow()
     ensures opening { (size mutators : ℕ)
         → 1 ≤ size → size ≤ most_words → 1 ≤ mutators → mutators ≤ most_mutators → IsHistory size mutators [] }
@@ -33,16 +32,16 @@ pub fn histories_grow()
         ≡ after (state_after size mutators entries) entry.event }
 {}
 
-/// What the mutators of a history were told could be told without a collector.
+/// What the mutators of a history were told is possible without a collector.
 pub fn runs_are_legal()
     ensures { (size mutators : ℕ) (entries : List Entry)
         → IsHistory size mutators entries → IsLegal mutators (told_of entries) }
 {}
 
-/// The state that a history leads to is as it has to be, with as many mutators as the world was opened with.
-/// A flip of a ready collection is answered `Flipped` there, with the number of its pairs; where the new
-/// space is at least as large as the old one, no step lacks room; and each original of an open collection was
-/// reachable when the collection began, or was made later. No answer of a history is `Refused`.
+/// The state that a history leads to is a state of the core, with as many mutators as the world was opened with. In it,
+/// the flip of a ready collection replies `Flipped` with the number of pairs. If the new space is at least as large as
+/// the old one, no step lacks room. Each original of an open collection was reachable when the collection began, or was
+/// made later. No answer of a history is `Refused`.
 pub fn runs_keep_states()
     ensures states { (size mutators : ℕ) (entries : List Entry)
         → IsHistory size mutators entries → IsState (state_after size mutators entries) }

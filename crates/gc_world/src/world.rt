@@ -11,8 +11,8 @@ use std::alloc::Global;
 use std::marker::Model;
 use std::thread::Threads;
 
-/// A collected heap with the history of all that happened to it. A flip keeps the pair that the checker accepted,
-/// until it is taken.
+/// A collected heap with its history: every event with its answer. A flip keeps the pair of heaps that the checker
+/// accepted, until `take_flip` takes it.
 #[derive(Debug, Drop)]
 pub struct World {
     size: u32,
@@ -118,7 +118,8 @@ impl World {
         Ok(reply)
     }
 
-    /// Performs the same step; several threads check a flip that has many pairs.
+    /// Performs one collector step, as `collect` does. If a flip has many pairs, several threads check it. On
+    /// `NoMemory` the world is unchanged.
     pub fn collect_par(
         &mut self,
         rt: &(impl Threads + Sync),
@@ -141,8 +142,8 @@ impl World {
         Ok(reply)
     }
 
-    /// Performs the useful step, as `collect_par` does, and returns it with its reply. The history has the answer
-    /// as `Useful`.
+    /// Performs the useful step, as `collect_par` does, and returns it with its reply. The history marks the answer as
+    /// `Useful`. On `NoMemory` the world is unchanged.
     pub fn collect_useful(
         &mut self,
         rt: &(impl Threads + Sync),
@@ -172,8 +173,7 @@ impl World {
         self.heap.useful_step()
     }
 
-    /// Returns whether a collection is open. The world's own calls do not need it; it is for callers that pace
-    /// their collections, and for tests.
+    /// Returns whether a collection is open, for callers that pace their collections.
     pub fn is_open(&self) -> bool
         ensures { result ≡ is_some (present self.now).collection }
     {
@@ -201,7 +201,7 @@ impl World {
         self.heap.heap()
     }
 
-    /// Returns the pair of the last flip, and keeps none then.
+    /// Returns the pair of the last flip, and keeps none.
     pub fn take_flip(&mut self) -> Option<PairFile>
         ensures taken { option_map pair_in result ≡ self.old.kept }
         ensures certified { IfSome result (λ file. IsCertified (pair_in file)) }
@@ -210,7 +210,7 @@ impl World {
         self.kept.take()
     }
 
-    /// Returns all that happened, in order.
+    /// Returns the history: all events with their answers, in order.
     pub fn history(&self) -> &[Entry]
         ensures entries { result.now ≡ self.now.entries }
         ensures history { IsHistory self.now.size self.now.mutators self.now.entries }
@@ -243,7 +243,7 @@ fn make_room(history: &mut Vec<Entry>) -> Result<(), NoMemory>
     }
 }
 
-// Appends a command to the history, which has room for it. The command is in range, as its type has it.
+// Appends a command to the history, which has room for it. Its type keeps the command in range.
 fn record_command(history: &mut Vec<Entry>, m: u8, op: Op, reply: &Reply)
     requires { vec_len history.old < vec_capacity history.old }
     ensures entry { history.new.items

@@ -1,4 +1,4 @@
-//! What the subcommands do, each with any reader and writer.
+//! The subcommands, each on any reader and writer.
 
 mod check;
 mod plays;

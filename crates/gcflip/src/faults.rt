@@ -1,4 +1,4 @@
-//! Why the program did not do what it was asked: what it says of it, and the status that it ends with.
+//! The program's faults: their texts, and the exit status of each.
 
 mod fault;
 mod statuses;

@@ -1,5 +1,5 @@
-//! The program: plays traces of a collector and its mutators, in threads too, reports them, writes the pairs of their
-//! flips, and checks pairs of heaps.
+//! The program: plays traces of a collector and its mutators, runs them in threads, reports them, writes the pairs of
+//! their flips, and checks pairs of heaps.
 #![tactic(auto)]
 
 mod commands;

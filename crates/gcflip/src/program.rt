@@ -29,7 +29,7 @@ fn open<R: Files>(rt: &R, path: &str) -> Result<R::File, Fault>
     }
 }
 
-/// Does the task, and gives the status that tells what came out.
+/// Performs the task, and returns its exit status.
 fn perform<R: Files + Input + Print + AllocGlobal + Threads + Wait + Sync>(
     rt: &R,
     task: Task<'_>,
@@ -39,7 +39,7 @@ fn perform<R: Files + Input + Print + AllocGlobal + Threads + Wait + Sync>(
     ensures failed { IfErr result (IsTaskFault task.entry) }
 {
     let alloc = rt.alloc();
-    // The engines have buffers of their own.
+    // The engines do their own buffering.
     let mut sink = Sink::new(io::writer(rt));
     match task {
         Task::PlayInput => play_from(alloc, &mut Source::new(rt.reader()), &mut sink),
@@ -59,7 +59,7 @@ fn perform<R: Files + Input + Print + AllocGlobal + Threads + Wait + Sync>(
     }
 }
 
-/// The arguments of the command line.
+/// Returns the arguments of the command line.
 fn arguments<R: Env + AllocGlobal>(rt: &R) -> Result<Vec<String>, Error>
     ensures { IfErr result (λ e. (kind_of e ≡ ErrorKind.InvalidValue) ⊎ (kind_of e ≡ ErrorKind.OutOfMemory)) }
 {
@@ -70,7 +70,7 @@ fn arguments<R: Env + AllocGlobal>(rt: &R) -> Result<Vec<String>, Error>
     }
 }
 
-/// Tells the fault on standard error, and gives its status.
+/// Writes the fault's line to standard error, and returns its status.
 #[tactic(auto, using(crate::proofs::Statuses::fault_has_status))]
 fn tell<E: Print>(errors: &E, fault: &Fault) -> u8
     ensures status { result ≡ status_of fault.now }
@@ -79,7 +79,7 @@ fn tell<E: Print>(errors: &E, fault: &Fault) -> u8
     write_fault(&mut Sink::new(io::writer(errors)), fault)
 }
 
-/// The status of what came of a task. A fault is told.
+/// Returns the exit status of a task's outcome. Writes the line of a fault.
 fn finish<E: Print>(errors: &E, outcome: Result<u8, Fault>) -> u8
     ensures done { IfOk outcome (λ status. result ≡ status) }
     ensures failed { IfErr outcome (λ fault. result ≡ status_of fault) }
@@ -90,7 +90,7 @@ fn finish<E: Print>(errors: &E, outcome: Result<u8, Fault>) -> u8
     }
 }
 
-/// Prints why the arguments ask for nothing; help is asked for, and no mistake.
+/// Prints `clap`'s text for arguments that ask for no task: a mistake, or help.
 #[tactic(auto, using(crate::proofs::Statuses::done_is_status, crate::proofs::Statuses::mistake_is_status))]
 fn refuse<R: Print + Eprint, E: Print>(rt: &R, errors: &E, error: &Error) -> u8
     ensures memory { kind_of error.now ≡ ErrorKind.OutOfMemory → result ≡ 5 }
@@ -107,15 +107,15 @@ fn refuse<R: Print + Eprint, E: Print>(rt: &R, errors: &E, error: &Error) -> u8
     if error.use_stderr() {
         2
     } else if printed.is_err() {
-        // Help that nobody can read is a failed write like any other.
+        // Help that cannot be written is a failed write like any other.
         tell(errors, &Fault::Play(PlayFault::Write))
     } else {
         0
     }
 }
 
-/// Does what the command line asks, and gives the status. `errors` prints to standard error, for which the runtime
-/// has no writer of its own.
+/// Does what the command line asks, and returns the exit status. `errors` prints to standard error, for which the
+/// runtime has no writer of its own.
 #[tactic(auto, using(crate::proofs::Statuses::outcome_has_status))]
 pub fn run<R: Files + Env + Input + Print + Eprint + AllocGlobal + Threads + Wait + Sync, E: Print>(
     rt: &R,

@@ -8,24 +8,24 @@ use clap::error::ErrorKind;
 use clap::{Arg, ArgMatches, Command, Error, value_parser};
 use std::alloc::Global;
 
-/// What the program is asked to do.
+/// A task for the program.
 #[derive(Clone, Copy, Debug, PartialEq, Eq)]
 pub enum Task<'a> {
-    /// To play what stands on standard input.
+    /// Play the trace on standard input.
     PlayInput,
-    /// To play the trace of this file.
+    /// Play the trace in this file.
     Play(&'a str),
-    /// To check the pair of heaps of this file.
+    /// Check the pair of heaps in this file.
     Check(&'a str),
-    /// To report the run of this file's trace.
+    /// Report the run of the trace in this file.
     Report(&'a str),
-    /// To write the pair of the n-th flip of this file's trace, counted from 1.
+    /// Write the pair of the n-th flip of the trace in this file, counted from 1.
     Pair { file: &'a str, n: u32 },
-    /// To run the scripts of this file's trace in threads, beside so many useful steps, 1000000 at most.
+    /// Run the scripts of the trace in this file in threads, beside so many useful steps, at most 1000000.
     Threads { file: &'a str, turns: u64 },
 }
 
-/// A subcommand that reads a file.
+/// Returns a subcommand that reads a file.
 fn on_file<'a>(alloc: Global, name: &'a str, about: &'a str) -> Result<Command<'a>, Error>
     ensures shape { IfOk result (λ c. app_of c ≡ file_command name.entry.now) }
     ensures local { IfOk result (λ c. (out-Command c).has_globals ≡ false) }
@@ -37,7 +37,7 @@ fn on_file<'a>(alloc: Global, name: &'a str, about: &'a str) -> Result<Command<'
     Ok(Command::new(alloc, name).about(about).arg(file)?)
 }
 
-/// The number of a flip, 1 or more.
+/// Returns the argument N, the number of a flip, 1 or more.
 fn flip_number<'a>(alloc: Global) -> Arg<'a>
     ensures rule { rule_of result ≡ flip_rule }
     ensures local { result.global ≡ false }
@@ -48,7 +48,7 @@ fn flip_number<'a>(alloc: Global) -> Arg<'a>
         .help("Which flip, counted from 1")
 }
 
-/// How many steps the collector makes.
+/// Returns the argument TURNS, the number of the collector's steps.
 fn turns<'a>(alloc: Global) -> Arg<'a>
     ensures rule { rule_of result ≡ turns_rule }
     ensures local { result.global ≡ false }
@@ -59,7 +59,7 @@ fn turns<'a>(alloc: Global) -> Arg<'a>
         .help("How many steps the collector makes, 1000000 at most")
 }
 
-/// A subcommand that reads a file and takes a number.
+/// Returns a subcommand that reads a file and takes a number.
 fn on_file_with<'a>(
     alloc: Global,
     name: &'a str,
@@ -74,7 +74,7 @@ fn on_file_with<'a>(
     Ok(on_file(alloc, name, about)?.arg(number)?)
 }
 
-/// The command line that the program takes.
+/// Returns the definition of the program's command line.
 fn command<'a>(alloc: Global) -> Result<Command<'a>, Error>
     ensures shape { IfOk result (λ c. app_of c ≡ command_line) }
     ensures memory { IfErr result (λ e. kind_of e ≡ ErrorKind.OutOfMemory) }
@@ -109,7 +109,7 @@ fn command<'a>(alloc: Global) -> Result<Command<'a>, Error>
     )
 }
 
-/// The task of `pair FILE N`. Clap has seen to the number's range; what it let through is tested once more.
+/// Returns the task of `pair FILE N`. Clap checks the number's range; it is checked here again.
 fn pair_task<'a>(matches: &ArgMatches<'_>, file: &'a str) -> Option<Task<'a>>
     ensures { IfSome result (λ task. IsFor (codes "pair") file.entry.now task × IsInRange task) }
 {
@@ -120,7 +120,7 @@ fn pair_task<'a>(matches: &ArgMatches<'_>, file: &'a str) -> Option<Task<'a>>
     Some(Task::Pair { file, n })
 }
 
-/// The task of `threads FILE TURNS`.
+/// Returns the task of `threads FILE TURNS`.
 fn threads_task<'a>(matches: &ArgMatches<'_>, file: &'a str) -> Option<Task<'a>>
     ensures { IfSome result (λ task. IsFor (codes "threads") file.entry.now task × IsInRange task) }
 {
@@ -131,7 +131,7 @@ fn threads_task<'a>(matches: &ArgMatches<'_>, file: &'a str) -> Option<Task<'a>>
     Some(Task::Threads { file, turns })
 }
 
-/// What the matches ask for; None where it is no task of the program.
+/// Returns the task that the matches ask for, or `None` if it is no task of the program.
 fn found_task<'a>(matches: &ArgMatches<'a>) -> Option<Task<'a>>
     ensures input { subcommand_rows_of matches.now ≡ None → result ≡ Some Task.PlayInput }
     ensures play { (rows : List Row) (path : List ℕ)
@@ -160,7 +160,7 @@ fn found_task<'a>(matches: &ArgMatches<'a>) -> Option<Task<'a>>
     }
 }
 
-/// What the arguments ask for, or why they ask for nothing, help among the reasons.
+/// Returns the task that the arguments ask for, or `clap`'s error, which may be a call for help.
 pub fn task_of<'a>(alloc: Global, arguments: &'a [String]) -> Result<Task<'a>, Error>
     // The first argument is the program's own name.
     ensures input { drop 1 (map string_bytes arguments.now) ≡ [] →
@@ -196,7 +196,7 @@ fn no_text(alloc: Global) -> Result<Error, Error>
     Ok(command(alloc)?.error(ErrorKind::InvalidValue, message)?)
 }
 
-/// The refusal of arguments that are no text.
+/// Returns the error for arguments that are not UTF-8.
 pub fn refusal_of_no_text(alloc: Global) -> Error
     ensures { (kind_of result ≡ ErrorKind.InvalidValue) ⊎ (kind_of result ≡ ErrorKind.OutOfMemory) }
 {

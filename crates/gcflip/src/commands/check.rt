@@ -15,7 +15,7 @@ use std::alloc::Global;
 use std::io::{Read, Write};
 use std::thread::Threads;
 
-/// The status that tells the verdict.
+/// Returns the exit status of a verdict.
 fn status(verdict: &Verdict) -> u8
     ensures { result ≡ verdict_status verdict.now }
 {
@@ -25,19 +25,19 @@ fn status(verdict: &Verdict) -> u8
     }
 }
 
-/// Checks the pair of heaps whose text the reader gives: writes the line of the verdict, and gives its status. Threads
-/// may share the work.
+/// Reads a pair text, checks the pair, writes the line of the verdict, and returns its status. Several threads may
+/// share the work.
 pub fn check_from<R: Read, W: Write>(
     rt: &(impl Threads + Sync),
     alloc: Global,
     reader: &mut Source<R>,
     writer: &mut Sink<W>,
 ) -> Result<u8, Fault>
-    // 0 exactly for a yes, 1 exactly for a refusal; its line, and nothing else.
+    // 0 exactly for a yes, 1 exactly for a refusal. The verdict's line, and nothing else.
     ensures verdict { IfOk result (λ status. IfSome (bytes_left R.remaining reader.old) (λ text. TellsVerdict
         text status (bytes_written W.contents writer.old) (bytes_written W.contents writer.new))) }
     ensures statuses { IfOk result (λ status. (status ≡ 0) ⊎ (status ≡ 1)) }
-    // What 0 promises of the heaps that the text spells.
+    // The soundness theorem for the heaps that the text spells.
     ensures replicated { result ≡ Ok 0 → IfSome (bytes_left R.remaining reader.old) SpellsReplicated }
 
     // The first fault of a bad text.
@@ -49,7 +49,7 @@ pub fn check_from<R: Read, W: Write>(
         ↔ (source_failed reader.new ≡ true) }
     ensures unwritten { result ≡ Err (Fault.Check RunFault.Write) → sink_failed writer.new ≡ true }
     ensures silent { OnErr result (result ≢ Err (Fault.Check RunFault.Write) → writer.new ≡ writer.old) }
-    // What went out is a front of the verdict's line.
+    // What went out is a prefix of the verdict's line.
     ensures front { result ≡ Err (Fault.Check RunFault.Write) → TellsFront (bytes_left R.remaining reader.old)
         (bytes_written W.contents writer.old) (bytes_written W.contents writer.new) }
 {

@@ -9,7 +9,7 @@ use gc_graph::{Sink, Source};
 use std::alloc::Global;
 use std::io::{Read, Write};
 
-/// Plays the trace whose text the reader gives: writes the line of each reply. The status is 0.
+/// Reads a trace, plays it, and writes the line of each reply. Returns status 0.
 pub fn play_from<R: Read, W: Write>(
     alloc: Global,
     reader: &mut Source<R>,
@@ -25,7 +25,7 @@ pub fn play_from<R: Read, W: Write>(
     Ok(0)
 }
 
-/// Plays the trace whose text the reader gives, and writes its report. The status is 0.
+/// Reads a trace, plays it, and writes its report. Returns status 0.
 pub fn report_from<R: Read, W: Write>(
     alloc: Global,
     reader: &mut Source<R>,
@@ -41,8 +41,7 @@ pub fn report_from<R: Read, W: Write>(
     Ok(0)
 }
 
-/// Runs the trace whose text the reader gives up to its n-th flip, counted from 1, and writes the pair of that flip. The
-/// status is 0.
+/// Reads a trace, runs it up to its n-th flip, counted from 1, and writes the pair of that flip. Returns status 0.
 pub fn pair_from<R: Read, W: Write>(
     alloc: Global,
     n: u32,

@@ -17,15 +17,15 @@ use std::sync::Wait;
 use std::thread::Threads;
 use thiserror::Error;
 
-/// Why the scripts of a trace were not run in threads.
+/// Why the scripts of a trace did not run in threads.
 #[derive(Clone, Copy, Debug, PartialEq, Eq, Error)]
 #[error("{}", self.message())]
 pub enum ThreadsRunFault {
-    /// The trace is not read; never `NoMemory`.
+    /// The trace was not read. Never `NoMemory`.
     Trace(TraceFault),
-    /// The threads did not come to their end; never `NoMemory`, but for that of the closing.
+    /// The threads did not run to their end. Never `NoMemory`, except that of closing.
     Threads(ThreadsFault),
-    /// Memory was short, in reading too.
+    /// An allocation failed, perhaps while reading.
     NoMemory,
     /// The writer failed.
     Write,
@@ -35,7 +35,7 @@ impl ThreadsRunFault {
     ghost use Rattle.std.specs.Prelude.{◌≡◌};
     ghost use Rattle.gcflip.specs.Faults.{threads_run_fault_text};
 
-    /// Returns what is said of the fault.
+    /// Returns the text of the fault.
     pub fn message(&self) -> Message
         ensures { result ≡ threads_run_fault_text self.now }
     {
@@ -102,8 +102,8 @@ impl Gate for Passing {
     fn after(&self, _seat: u32, _n: u64) {}
 }
 
-/// Runs what each mutator does of the trace whose text the reader gives in a thread of its own, beside a thread that
-/// makes so many useful steps, and writes the trace of what happened. The collector's lines of the text are passed over.
+/// Reads a trace, runs each mutator's commands in its own thread beside a thread that performs so many useful steps,
+/// and writes the trace of what happened. Ignores the collector's lines of the text.
 pub fn threads_run<R: Read, W: Write>(
     rt: &(impl Threads + Wait + Sync),
     alloc: Global,
@@ -123,7 +123,7 @@ pub fn threads_run<R: Read, W: Write>(
     ensures unwritten { result ≡ Err ThreadsRunFault.Write → sink_failed writer.new ≡ true }
     // Nothing goes out before the world is closed.
     ensures silent { OnErr result (result ≢ Err ThreadsRunFault.Write → writer.new ≡ writer.old) }
-    // What went out is a front of the recorded trace.
+    // What went out is a prefix of the recorded trace.
     ensures front { result ≡ Err ThreadsRunFault.Write → IfSome (bytes_left R.remaining reader.old) (λ text.
         WritesRunFront text turns (bytes_written W.contents writer.old) (bytes_written W.contents writer.new)) }
 {
@@ -137,7 +137,7 @@ pub fn threads_run<R: Read, W: Write>(
     }
 }
 
-/// Runs the scripts of a trace in threads, as `threads_run` does. The status is 0.
+/// Runs the scripts of a trace in threads, as `threads_run` does. Returns status 0.
 pub fn threads_from<R: Read, W: Write>(
     rt: &(impl Threads + Wait + Sync),
     alloc: Global,
@@ -159,7 +159,7 @@ pub fn threads_from<R: Read, W: Write>(
         ↔ (source_failed reader.new ≡ true) }
     ensures unwritten { result ≡ Err (Fault.Threads ThreadsRunFault.Write) → sink_failed writer.new ≡ true }
     ensures silent { OnErr result (result ≢ Err (Fault.Threads ThreadsRunFault.Write) → writer.new ≡ writer.old) }
-    // What went out is a front of the recorded trace.
+    // What went out is a prefix of the recorded trace.
     ensures front { result ≡ Err (Fault.Threads ThreadsRunFault.Write) → IfSome (bytes_left R.remaining reader.old) (λ text.
         WritesRunFront text turns (bytes_written W.contents writer.old) (bytes_written W.contents writer.new)) }
 {

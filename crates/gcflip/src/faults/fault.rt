@@ -7,7 +7,7 @@ use gc_trace::PlayFault;
 use std::io::Write;
 use thiserror::Error;
 
-/// Why the program did not do what it was asked.
+/// Why the program did not perform its task.
 #[derive(Clone, Copy, Debug, PartialEq, Eq, Error)]
 #[error("{}", self.message())]
 pub enum Fault {
@@ -15,11 +15,11 @@ pub enum Fault {
     Open,
     /// Memory ran out before an engine ran.
     NoMemory,
-    /// A trace was not played.
+    /// Playing a trace failed.
     Play(PlayFault),
-    /// A pair of heaps was not checked.
+    /// Checking a pair of heaps failed.
     Check(RunFault),
-    /// The scripts of a trace were not run in threads.
+    /// Running the scripts of a trace in threads failed.
     Threads(ThreadsRunFault),
 }
 
@@ -28,7 +28,7 @@ impl Fault {
     ghost use Rattle.gcflip.specs.Faults.{fault_text};
     ghost use Rattle.gcflip.specs.Statuses.{status_of};
 
-    /// Returns what is said of the fault.
+    /// Returns the text of the fault.
     #[tactic(auto, unfolding(crate::specs::Faults::fault_text))]
     pub fn message(&self) -> Message
         ensures { result ≡ fault_text self.now }
@@ -73,7 +73,7 @@ ghost use Rattle.gc_graph.specs.Streams.{bytes_written, sink_failed, SendsFront}
 ghost use Rattle.gcflip.specs.Faults.{line_of};
 ghost use Rattle.gcflip.specs.Statuses.{status_of};
 
-/// Appends the fault's line to a printer in which nothing waits.
+/// Appends the fault's line to an empty printer.
 fn print_line(printer: &mut Printer, fault: &Fault)
     requires { printer.old ≡ [] }
     ensures { printer.new ≡ line_of fault.now }
@@ -82,7 +82,7 @@ fn print_line(printer: &mut Printer, fault: &Fault)
     printer.bytes(b"\n");
 }
 
-/// Writes the fault's line, or what of it the writer takes, and gives the fault's status.
+/// Writes the fault's line, and returns the fault's status. If the writer fails, a prefix of the line went out.
 pub fn write_fault<W: Write>(writer: &mut Sink<W>, fault: &Fault) -> u8
     ensures status { result ≡ status_of fault.now }
     ensures front { SendsFront (bytes_written W.contents writer.old) (bytes_written W.contents writer.new) (line_of fault.now) }
@@ -91,7 +91,7 @@ pub fn write_fault<W: Write>(writer: &mut Sink<W>, fault: &Fault) -> u8
 {
     let mut printer = Printer::new();
     print_line(&mut printer, fault);
-    // The status still tells the fault where the line cannot be written.
+    // The status is the same even if the line cannot be written.
     let _ = printer.flush(writer);
     fault.status()
 }

@@ -1,0 +1,23 @@
+//! The collected heap for C: mutators' commands and collector steps on a handle, as a static library.
+#![tactic(auto)]
+
+mod answer;
+mod commands;
+mod handle;
+mod mutating;
+mod opening;
+mod parts;
+mod reply;
+mod stepping;
+
+pub use handle::GcflipHeap;
+pub use mutating::{
+    gcflip_heap_get, gcflip_heap_look, gcflip_heap_move, gcflip_heap_new, gcflip_heap_nil,
+    gcflip_heap_num, gcflip_heap_put, gcflip_heap_raw, gcflip_heap_same,
+};
+pub use opening::{gcflip_heap_close, gcflip_heap_open};
+pub use reply::GcflipReply;
+pub use stepping::{
+    gcflip_heap_apply, gcflip_heap_begin, gcflip_heap_begin_sized, gcflip_heap_drop,
+    gcflip_heap_flip, gcflip_heap_roots, gcflip_heap_scan,
+};

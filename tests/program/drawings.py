@@ -1,0 +1,283 @@
+"""What tools/draw draws: well-formed, inside its frame, with as many objects and arrows as there are; and what it says of a
+text that it cannot draw."""
+import json
+import os
+import re
+import subprocess
+import sys
+import xml.etree.ElementTree as ElementTree
+
+from . import pairs
+from .harness import file_of
+from .traces import PLAYED, trace_and_replies
+
+TOP = os.path.normpath(os.path.join(os.path.dirname(os.path.abspath(__file__)), "..", ".."))
+TOOL = os.path.join(TOP, "tools", "draw")
+SVG = "{http://www.w3.org/2000/svg}"
+sys.path.insert(0, os.path.join(TOP, "tools"))
+
+from drawing import blocks_picture, crates_picture, pair_picture, svg, texts, timeline  # noqa: E402
+from drawing.machine import Machine  # noqa: E402
+from drawing.picture import text_width  # noqa: E402
+from drawing.verdicts import MEANINGS, Verdict  # noqa: E402
+
+
+def draw(*words):
+    """The status of tools/draw, its standard output and its standard error."""
+    done = subprocess.run([sys.executable, TOOL, *words], stdout=subprocess.PIPE, stderr=subprocess.PIPE, timeout=120)
+    return done.returncode, done.stdout.decode(), done.stderr.decode()
+
+
+# ---- what is looked at in a picture
+
+def shapes_of(picture, role):
+    return [shape for shape in picture.shapes if shape["role"] == role]
+
+
+def corners(shape):
+    """The points that a shape has to keep inside the frame."""
+    if shape["kind"] == "box":
+        return [(shape["x"], shape["y"]), (shape["x"] + shape["width"], shape["y"] + shape["height"])]
+    if shape["kind"] != "text":
+        return shape["points"]
+    x, y, width = shape["x"], shape["y"], text_width(shape["text"], shape["role"])
+    if shape["turned"]:
+        return [(x, y), (x, y + width)]
+    before = {"start": 0, "middle": width / 2, "end": width}[shape["anchor"]]
+    return [(x - before, y - 8), (x - before + width, y + 3)]
+
+
+def outside(picture):
+    """A shape that leaves the frame, or None."""
+    for shape in picture.shapes:
+        for x, y in corners(shape):
+            if not (0 <= x <= picture.width and 0 <= y <= picture.height):
+                return shape
+    return None
+
+
+def wrong_drawing(picture):
+    """What is wrong with a picture and its SVG, or None."""
+    stray = outside(picture)
+    if stray:
+        return "outside of %d by %d: %s" % (picture.width, picture.height, stray)
+    root = ElementTree.fromstring(svg.render(picture))
+    drawn = [node for node in root if node.tag in (SVG + "rect", SVG + "polyline", SVG + "polygon", SVG + "path")]
+    wanted = sum(1 for shape in picture.shapes if shape["kind"] != "text")
+    # The ground is one more.
+    if root.tag != SVG + "svg" or len(drawn) != wanted + 1:
+        return "%d shapes of %d are drawn" % (len(drawn) - 1, wanted)
+    classes = {node.get("class") for node in root.iter() if node.get("class")}
+    styled = set(re.findall(r"(?m)^(?:text)?\.([\w-]+) \{", root.find(SVG + "style").text))
+    return "no style for %s" % (classes - styled) if classes - styled else None
+
+
+def example(name):
+    with open(os.path.join(TOP, "examples", name), encoding="ascii") as file:
+        return file.read()
+
+
+# ---- pairs
+
+# Of each example: its objects in both spaces, references in fields, roots that are references, and pairs.
+COUNTS = {
+    "garbage_left_behind": (3, 0, 2, 1),
+    "number_moved_as_a_reference": (4, 0, 4, 2),
+    "numbers_like_references": (4, 0, 4, 2),
+    "one_replica_for_two": (3, 0, 4, 2),
+    "replica_out_of_date": (4, 4, 2, 2),
+}
+
+
+def drawn_example(name):
+    return pair_picture.drawn_word_by_word(texts.read_pair(example(name + ".pair")), name, Verdict(example(name + ".verdict").strip()))
+
+
+def counted(picture):
+    """The objects, references, roots that refer to objects, and pairs of a picture. The legend has one pair more."""
+    tips = [shape["tip"] for shape in picture.shapes if shape["kind"] == "box" and shape["tip"].startswith("object at ")]
+    arrows = [shape["role"] for shape in picture.shapes if shape["kind"] == "arrow"]
+    return (len(tips), sum(1 for role in arrows if role in ("reference", "stale")), arrows.count("rooted"),
+            len([shape for shape in shapes_of(picture, "pair") if shape["kind"] == "line"]) - 1)
+
+
+def examples(_program, _folder):
+    for name, wanted in COUNTS.items():
+        found = counted(drawn_example(name))
+        yield "counts of %s" % name, None if found == wanted else "counted %s, wanted %s" % (found, wanted)
+    garbage = [shape for shape in shapes_of(drawn_example("garbage_left_behind"), "garbage") if shape["tip"]]
+    found = [shape["tip"] for shape in garbage]
+    yield "garbage is grey", None if found == ["object at 1"] else "grey: %s" % found
+
+
+def small_pairs(_program, _folder):
+    for name, text, verdict in pairs.texts_and_verdicts():
+        drawn = pair_picture.drawn_word_by_word(texts.read_pair(text.decode()), name, Verdict(verdict))
+        yield "drawing of %s" % name, wrong_drawing(drawn)
+    for name in COUNTS:
+        yield "drawing of %s" % name, wrong_drawing(drawn_example(name))
+    yield "drawing without a verdict", wrong_drawing(
+        pair_picture.drawn_word_by_word(texts.read_pair(example("replica_out_of_date.pair")), "not checked", None))
+
+
+def within(inner, outer):
+    return (outer["x"] <= inner["x"] and inner["x"] + inner["width"] <= outer["x"] + outer["width"]
+            and outer["y"] <= inner["y"] and inner["y"] + inner["height"] <= outer["y"] + outer["height"])
+
+
+def marked(picture):
+    """The tips of the words that stand within a mark of the checker. The mark of the legend has none."""
+    faults = [shape for shape in shapes_of(picture, "fault") if shape["kind"] == "box"]
+    words = [shape for shape in picture.shapes if shape["kind"] == "box" and "word" in shape["tip"]]
+    return [word["tip"] for fault in faults for word in words if within(word, fault)]
+
+
+def faults(_program, _folder):
+    """The place that the checker names is the one that is marked."""
+    found = marked(drawn_example("replica_out_of_date"))
+    yield "a field is marked in both heaps", None if found == ["field 1: word 19", "field 1: word 0"] else "marked %s" % found
+    text = texts.read_pair(pairs.text_of(pairs.CHECKED["a_root_refers_to_a_field"][0]).decode())
+    found = marked(pair_picture.drawn_word_by_word(text, "root", Verdict("refused 10 RootDiffers 0")))
+    yield "a root is marked in both heaps", None if found == ["word 6", "word 6"] else "marked %s" % found
+    text = texts.read_pair(pairs.text_of(pairs.CHECKED["no_room_for_the_last_link"][0]).decode())
+    found = marked(pair_picture.drawn_word_by_word(text, "shape", Verdict("refused 1 OldShape 3")))
+    yield "a word that is no header is marked", None if found == ["word 5"] else "marked %s" % found
+    yield "a yes has no mark", None if marked(drawn_example("garbage_left_behind")) == [] else "something is marked"
+    refusals = {Verdict(verdict).refusal for _, _, verdict in pairs.texts_and_verdicts()} - {None}
+    yield "each refusal is explained", None if refusals == set(MEANINGS) else "not tried: %s" % (set(MEANINGS) - refusals)
+
+
+def large_pairs(_program, _folder):
+    """Thousands of objects become blocks."""
+    refused, verdict = pairs.all_paired(5000, 1, altered=(4000,))
+    for name, (text, verdict) in [("5000 objects", (refused, verdict)), ("all objects that have room", pairs.greatest_text())]:
+        drawn = blocks_picture.drawn_in_blocks(texts.read_pair(text.decode()), name, Verdict(verdict))
+        yield "drawing of %s" % name, wrong_drawing(drawn)
+        yield "few shapes of %s" % name, None if len(drawn.shapes) < 1000 else "%d shapes" % len(drawn.shapes)
+    drawn = blocks_picture.drawn_in_blocks(texts.read_pair(refused.decode()), "refused", Verdict("refused 8 HeaderDiffers 4000"))
+    found = [shape["tip"] for shape in shapes_of(drawn, "fault") if shape["kind"] == "box" and shape["tip"]]
+    # Each object takes two words.
+    wanted = ["address 8001", "address 8001"]
+    yield "the refused objects of a large pair are marked", None if found == wanted else "marked %s" % found
+
+
+# ---- traces
+
+def replies(_program, _folder):
+    """The machine that a timeline rests on replies as the rules say."""
+    for name, conversation in PLAYED.items():
+        text, wanted = trace_and_replies(conversation)
+        trace = texts.read_trace(text.decode())
+        machine = Machine(trace.size, trace.mutators)
+        found = "".join(machine.play(event) + "\n" for event in trace.events)
+        yield "replies to %s" % name, None if found == wanted.decode() else "replied %r, wanted %r" % (found, wanted.decode())
+
+
+# The marks of some traces: flips, dropped collections, allocations without room, steps without room.
+MARKS = {"second_collection": (2, 0, 1, 0), "too_small_and_then_larger": (1, 1, 1, 2), "refusals": (0, 0, 1, 0),
+         "log_across_two_mutators": (1, 0, 0, 0)}
+
+
+def timelines(_program, folder):
+    for name, conversation in PLAYED.items():
+        text, _ = trace_and_replies(conversation)
+        yield "timeline of %s" % name, wrong_drawing(timeline.drawn(texts.read_trace(text.decode()), name))
+    for name, wanted in MARKS.items():
+        run = timeline.Run(texts.read_trace(example(name + ".trace")))
+        found = tuple(run.counts[role] for role in ("flip", "drop", "full", "no-room"))
+        yield "marks of %s" % name, None if found == wanted else "counted %s, wanted %s" % (found, wanted)
+    run = timeline.Run(texts.read_trace(example("write_while_scanning.trace")))
+    found = [(column.used, column.copied, column.entries) for column in run.columns]
+    # An object of one field takes 3 words, and word 0 is reserved. The log has its entry from the put to the apply.
+    wanted = [(4, 0, 0)] * 2 + [(4, 1, 0)] + [(4, 4, 0)] * 2 + [(4, 4, 1)] * 3 + [(4, 4, 0)] + [(4, 0, 0)] * 2
+    yield "curves of write_while_scanning", None if found == wanted else "found %s" % found
+    yield "timeline without events", wrong_drawing(timeline.drawn(texts.read_trace("heaptrace 1\nspace 8 mutators 1\n"), "empty"))
+    made = subprocess.run([sys.executable, os.path.join(TOP, "bench", "make_collections"), "262144"], stdout=subprocess.PIPE)
+    drawn = timeline.drawn(texts.read_trace(made.stdout.decode()), "many events")
+    yield "timeline of many events", wrong_drawing(drawn)
+    yield "few shapes of many events", None if len(drawn.shapes) < 2500 else "%d shapes" % len(drawn.shapes)
+
+
+# ---- crates
+
+def crates(_program, _folder):
+    uses = {"top": ["left", "right", "low"], "left": ["low"], "right": ["low"], "low": []}
+    found = sorted(crates_picture.arrows_of(uses))
+    wanted = [("left", "low"), ("right", "low"), ("top", "left"), ("top", "right")]
+    yield "what another crate covers has no arrow", None if found == wanted else "arrows %s" % found
+    yield "drawing of four crates", wrong_drawing(crates_picture.drawn(uses, "four"))
+
+
+# ---- the tool
+
+# Texts that cannot be drawn, and a part of what is said of each.
+UNREADABLE = {
+    "nothing": (b"", "the first line is neither"),
+    "another_text": (b"hello\n", "the first line is neither"),
+    "a_picture": (b"\x89PNG\r\n\x1a\n", "is no character of a text"),
+    "a_cut_pair": (b"heappair 1\nold 8 3\n0\n", "the text ends before a word of the old heap"),
+    "no_last_line_feed": (b"heaptrace 1\nspace 8 mutators 1\nm 0 look r0", "the last line lacks its line feed"),
+    "a_wrong_word": (b"heappair 1\nold 8 1\nx\n", "line 3 is not a word of the old heap"),
+    "a_wrong_event": (b"heaptrace 1\nspace 8 mutators 1\nm 0 look r0\nm 0 peek r0\n", "line 4 is not an event"),
+    "a_mutator_too_many": (b"heaptrace 1\nspace 8 mutators 1\nm 1 look r0\n", "line 3 is not an event"),
+    "a_space_too_large": (b"heaptrace 1\nspace 1048577 mutators 1\n", "line 2 is not a space of 1 to 1048576 words"),
+}
+
+
+def messages(program, folder):
+    for name, (text, part) in UNREADABLE.items():
+        status, written, said = draw(file_of(folder, name, text), "--program", program)
+        right = status == 1 and written == "" and said.startswith("draw: ") and part in said and said.count("\n") == 1
+        yield "message for %s" % name, None if right else "status %d, said %r" % (status, said)
+    status, _, said = draw(os.path.join(folder, "no such file"))
+    yield "message for no file", None if status == 1 and "No such file" in said else "status %d, said %r" % (status, said)
+    status, written, said = draw(os.path.join(TOP, "examples", "replica_out_of_date.pair"), "--program", os.path.join(folder, "none"))
+    right = status == 0 and "not checked" in written and "not checked" in said
+    yield "a pair without a program is drawn and not checked", None if right else "status %d, said %r" % (status, said)
+
+
+def tool(program, folder):
+    """The tool asks the checker, and writes the picture or its description."""
+    pair = os.path.join(TOP, "examples", "one_replica_for_two.pair")
+    out = os.path.join(folder, "out.svg")
+    status, written, said = draw(pair, "-o", out, "--program", program)
+    yield "a file is written", None if (status, written, said) == (0, "", "") else "status %d, said %r" % (status, said)
+    with open(out, encoding="utf-8") as file:
+        yield "the verdict is shown", None if "refused 6 NotRising 1" in file.read() else "there is no verdict in the picture"
+    status, written, _ = draw(pair, "--json", "--program", program)
+    described = json.loads(written)
+    right = status == 0 and len(described["shapes"]) == len(drawn_example("one_replica_for_two").shapes)
+    yield "the description has all shapes", None if right else "%d shapes" % len(described["shapes"])
+
+
+def kept_pictures():
+    """The pictures that the repository keeps, each with the file that it is drawn from."""
+    folder = os.path.join(TOP, "examples", "pictures")
+    for name in sorted(os.listdir(folder)):
+        stem = os.path.join(TOP, "examples", os.path.splitext(name)[0])
+        yield os.path.join(folder, name), next(stem + ending for ending in (".pair", ".trace") if os.path.exists(stem + ending))
+    yield os.path.join(TOP, "docs", "pictures", "crates.svg"), os.path.join(TOP, "crates.txt")
+
+
+def kept(program, _folder):
+    """Each picture in the repository is what the tool draws today."""
+    for picture, source in kept_pictures():
+        _, written, _ = draw(source, "--program", program)
+        name = os.path.relpath(picture, TOP)
+        with open(picture, encoding="utf-8") as file:
+            same = file.read() == written
+        yield "%s is up to date" % name, None if same else "draw it again: tools/draw %s -o %s" % (os.path.relpath(source, TOP), name)
+
+
+def drawn_by_hand(_program, _folder):
+    for name in ("spaces", "flip", "levels"):
+        path = os.path.join(TOP, "docs", "pictures", name + ".svg")
+        root = ElementTree.parse(path).getroot()
+        _, _, width, height = [float(part) for part in root.get("viewBox").split()]
+        boxes = [node for node in root.iter(SVG + "rect")]
+        inside = all(0 <= float(box.get("x")) and float(box.get("x")) + float(box.get("width")) <= width
+                     and 0 <= float(box.get("y")) and float(box.get("y")) + float(box.get("height")) <= height for box in boxes)
+        yield "docs/pictures/%s.svg" % name, None if boxes and inside else "a box is outside of the frame"
+
+
+GROUPS = [examples, small_pairs, faults, large_pairs, replies, timelines, crates, messages, tool, kept, drawn_by_hand]

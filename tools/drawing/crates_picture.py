@@ -1,0 +1,77 @@
+"""Lays out the graph of the crates: each above those that it stands on, with an arrow to each that no other one covers."""
+from .picture import Picture
+
+BOX_WIDTH, BOX, GAP_X, GAP_Y, LEFT, TOP = 104, 34, 30, 40, 24, 24
+
+
+def levels_of(uses):
+    """How far each crate is above the lowest ones: one more than the highest that it uses."""
+    levels = {}
+
+    def level(name):
+        if name not in levels:
+            levels[name] = 1 + max([level(use) for use in uses[name]] + [-1])
+        return levels[name]
+
+    for name in uses:
+        level(name)
+    return levels
+
+
+def covered(uses, name):
+    """What a crate uses through another one."""
+    found = set()
+    waiting = [further for use in uses[name] for further in uses[use]]
+    while waiting:
+        use = waiting.pop()
+        if use not in found:
+            found.add(use)
+            waiting.extend(uses[use])
+    return found
+
+
+def arrows_of(uses):
+    """Who stands on whom, without what is covered."""
+    return [(name, use) for name in uses for use in uses[name] if use not in covered(uses, name)]
+
+
+def orders(levels, arrows):
+    """The crates of each level, from the highest down, each near those that it is joined to."""
+    rows = [sorted(name for name in levels if levels[name] == level) for level in range(max(levels.values()) + 1)]
+    for _ in range(8):
+        place = {name: at - len(row) / 2 for row in rows for at, name in enumerate(row)}
+        for row in rows:
+            joined = {name: [place[b] for a, b in arrows if a == name] + [place[a] for a, b in arrows if b == name] for name in row}
+            row.sort(key=lambda name: (sum(joined[name]) / len(joined[name]) if joined[name] else 0, name))
+            place.update({name: at - len(row) / 2 for at, name in enumerate(row)})
+    return rows[::-1]
+
+
+def places_of(rows, width):
+    """The middle of each crate's box."""
+    found = {}
+    for line, row in enumerate(rows):
+        start = (width - len(row) * (BOX_WIDTH + GAP_X) + GAP_X) / 2
+        for at, name in enumerate(row):
+            found[name] = start + at * (BOX_WIDTH + GAP_X) + BOX_WIDTH / 2, TOP + line * (BOX + GAP_Y) + BOX / 2
+    return found
+
+
+def drawn(uses, title):
+    """The picture of the crates; `uses` are those that each crate uses."""
+    picture = Picture(title)
+    levels, arrows = levels_of(uses), arrows_of(uses)
+    rows = orders(levels, arrows)
+    room = max([levels[upper] - levels[lower] - 1 for upper, lower in arrows] + [0])
+    width = LEFT * 2 + max(len(row) for row in rows) * (BOX_WIDTH + GAP_X) + min(room, 1) * 3 * BOX_WIDTH
+    places = places_of(rows, width)
+    for upper, lower in arrows:
+        (x, y), (to_x, to_y) = places[upper], places[lower]
+        # An arrow over several levels goes round the boxes between.
+        far = levels[upper] - levels[lower] > 1
+        side = 1 if x + to_x >= width else -1
+        bend = ((x + to_x) / 2 + (side * BOX_WIDTH * 1.2 if far else 0), (y + to_y) / 2)
+        picture.arrow((x, y + BOX / 2), bend, (to_x, to_y - BOX / 2), "uses")
+    for name, (x, y) in places.items():
+        picture.box(x - BOX_WIDTH / 2, y - BOX / 2, BOX_WIDTH, BOX, "crate", name)
+    return picture.sized(width, TOP + len(rows) * (BOX + GAP_Y) - GAP_Y + 24)

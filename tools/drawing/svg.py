@@ -1,0 +1,113 @@
+"""Renders a picture as SVG."""
+from xml.sax.saxutils import escape
+
+from .picture import BOLD, TEXT_SIZES
+
+FONT = "font-family: 'DejaVu Sans', Verdana, Helvetica, sans-serif; fill: #24292f"
+
+# The style of each role of a shape.
+STYLES = {
+    "ground": "fill: #ffffff",
+    "panel": "fill: #f6f8fa; stroke: #d0d7de",
+    "object": "fill: #ddf4ff; stroke: #0969da; stroke-width: 1.5",
+    "raw": "fill: #fff8c5; stroke: #9a6700; stroke-width: 1.5",
+    "garbage": "fill: #eaeef2; stroke: #8c959f; stroke-width: 1.5",
+    "free": "fill: none; stroke: #d0d7de; stroke-dasharray: 3 3",
+    "reserved": "fill: #d0d7de; stroke: #8c959f",
+    "unknown": "fill: #ffebe9; stroke: #cf222e",
+    "cell": "fill: #ffffff; stroke: #afb8c1",
+    "head": "fill: none; stroke: none",
+    "root": "fill: #ffffff; stroke: #8250df; stroke-width: 1.5",
+    "fault": "fill: none; stroke: #cf222e; stroke-width: 3",
+    "crate": "fill: #ddf4ff; stroke: #0969da; stroke-width: 1.5",
+    "reference": "stroke: #0969da; stroke-width: 1.4; fill: none",
+    "stale": "stroke: #8c959f; stroke-width: 1.2; fill: none",
+    "rooted": "stroke: #8250df; stroke-width: 1.4; fill: none",
+    "pair": "stroke: #1a7f37; stroke-width: 1.6; stroke-dasharray: 2 4; fill: none",
+    "uses": "stroke: #57606a; stroke-width: 1.3; fill: none",
+    "axis": "stroke: #57606a; fill: none",
+    "grid": "stroke: #eaeef2; fill: none",
+    "limit": "stroke: #8c959f; stroke-dasharray: 5 4; fill: none",
+    "collection": "fill: #ddf4ff",
+    "used": "fill: #54aeff; fill-opacity: 0.35; stroke: #0969da; stroke-width: 1.4",
+    "copied": "fill: #4ac26b; fill-opacity: 0.45; stroke: #1a7f37; stroke-width: 1.4",
+    "log": "fill: #d4a72c; fill-opacity: 0.45; stroke: #9a6700; stroke-width: 1.2",
+    "flip": "fill: #1a7f37",
+    "drop": "fill: #57606a",
+    "full": "fill: #cf222e",
+    "no-room": "fill: #bc4c00",
+}
+
+TEXT_COLOURS = {"small": "#57606a", "verdict": "#1a7f37", "refusal": "#cf222e"}
+
+HEADS = ["reference", "stale", "rooted", "uses"]
+
+
+def number(value):
+    return ("%.1f" % value).rstrip("0").rstrip(".")
+
+
+def point(place):
+    return "%s,%s" % (number(place[0]), number(place[1]))
+
+
+def box(shape):
+    tip = "<title>%s</title>" % escape(shape["tip"]) if shape["tip"] else ""
+    drawn = '<rect class="%s" x="%s" y="%s" width="%s" height="%s" rx="2">%s</rect>' % (
+        shape["role"], number(shape["x"]), number(shape["y"]), number(shape["width"]), number(shape["height"]), tip)
+    if not shape["text"]:
+        return drawn
+    return drawn + '<text class="value" x="%s" y="%s" text-anchor="middle">%s</text>' % (
+        number(shape["x"] + shape["width"] / 2), number(shape["y"] + shape["height"] / 2 + 4), escape(shape["text"]))
+
+
+def text(shape):
+    turn = ' transform="rotate(-90 %s %s)"' % (number(shape["x"]), number(shape["y"])) if shape["turned"] else ""
+    return '<text class="%s" x="%s" y="%s" text-anchor="%s"%s>%s</text>' % (
+        shape["role"], number(shape["x"]), number(shape["y"]), shape["anchor"], turn, escape(shape["text"]))
+
+
+def line(shape):
+    return '<polyline class="%s" points="%s"/>' % (shape["role"], " ".join(point(place) for place in shape["points"]))
+
+
+def area(shape):
+    return '<polygon class="%s" points="%s"/>' % (shape["role"], " ".join(point(place) for place in shape["points"]))
+
+
+def arrow(shape):
+    start, bend, end = shape["points"]
+    head = ' marker-end="url(#head-%s)"' % shape["role"] if shape["role"] in HEADS else ""
+    return '<path class="%s" d="M%s Q%s %s"%s/>' % (shape["role"], point(start), point(bend), point(end), head)
+
+
+RENDERERS = {"box": box, "text": text, "line": line, "area": area, "arrow": arrow}
+
+
+def style_sheet():
+    rules = ["text { %s }" % FONT]
+    rules += [".%s { %s }" % rule for rule in STYLES.items()]
+    for role, size in TEXT_SIZES.items():
+        bold = "; font-weight: bold" if role in BOLD else ""
+        colour = "; fill: %s" % TEXT_COLOURS[role] if role in TEXT_COLOURS else ""
+        rules.append("text.%s { font-size: %dpx%s%s }" % (role, size, bold, colour))
+    return "\n".join(rules)
+
+
+def markers():
+    for role in HEADS:
+        colour = STYLES[role].split("stroke: ")[1].split(";")[0]
+        yield ('<marker id="head-%s" viewBox="0 0 8 8" refX="8" refY="4" markerWidth="7" markerHeight="7" orient="auto">'
+               '<path d="M0,0 L8,4 L0,8 z" style="fill: %s"/></marker>' % (role, colour))
+
+
+def render(picture):
+    """The SVG document of a picture."""
+    lines = ['<svg xmlns="http://www.w3.org/2000/svg" viewBox="0 0 %s %s" width="%s" height="%s">' % (
+        (number(picture.width), number(picture.height)) * 2)]
+    lines.append("<title>%s</title>" % escape(picture.title))
+    lines.append("<style>\n%s\n</style>" % style_sheet())
+    lines.append("<defs>\n%s\n</defs>" % "\n".join(markers()))
+    lines.append('<rect class="ground" x="0" y="0" width="%s" height="%s"/>' % (number(picture.width), number(picture.height)))
+    lines += [RENDERERS[shape["kind"]](shape) for shape in picture.shapes]
+    return "\n".join(lines) + "\n</svg>\n"
