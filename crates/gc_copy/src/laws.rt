@@ -16,12 +16,13 @@ ghost use Rattle.gc_copy.specs.Words.{CollectionWords, IsCollection, BelongsTo, 
 ghost use Rattle.gc_graph.specs.declared.reply.Reply.{Reply};
 ghost use Rattle.gc_copy.specs.State.{Replica, Collection, State, opening_state, new_objects, new_free, pairs_of, replica_of, replica_at, moved, new_graph};
 ghost use Rattle.gc_copy.specs.Linked.{image_of_graph, linked_image, old_links, new_links, old_image, new_image};
-ghost use Rattle.gc_copy.specs.Steps.{written, log_at, with_log, with_collection, write_replica, fresh_collection, mutate, collect, is_change, is_ready, useful_step};
+ghost use Rattle.gc_copy.specs.Steps.{roots_done, written, log_at, with_log, with_collection, write_replica, fresh_collection, mutate, collect, is_change, is_ready, useful_step};
 ghost use Rattle.gc_copy.specs.Members.{In};
 ghost use Rattle.gc_copy.specs.Belonging.{HasRawNumbers, IsSpaceGraph, HasField, Belongs, BelongsBut, IsOpened, IsOpen, IsState};
 ghost use Rattle.gc_copy.specs.Runs.{IsStep, InEveryRun};
 ghost use Rattle.gc_copy.specs.Passing.{HasImage, PassesWhereReady, NeverRefused, AlwaysHasRoom, ScansToTheEnd, HasFewPairs};
 ghost use Rattle.gc_copy.specs.Carried.{CarriesOnlyKept, NamesOnlyKept};
+ghost use Rattle.gc_copy.specs.Staying.{StaysDone};
 ghost use Rattle.gc_copy.specs.Rows.{Rows, SizedRows, FlipPairRows};
 ghost use Rattle.gc_copy.specs.declared.step.Step.{Step};
 ghost use Rattle.gc_copy.specs.declared.step.StepReply.TheVariants.{NoRoom};
@@ -198,4 +199,12 @@ pub fn commands_keep_collections()
     // While no collection is open no object has a link.
     ensures idle { (heap new : HeapWords)
         → HasNoLinks heap → KeepsLinks heap.space.words new.space.words → HasNoLinks new }
+{}
+
+/// Once the target of each root has a replica, scanning and applying logs leave it so: they take no replica away.
+pub fn roots_stay_done()
+    ensures scan { (s : State) (c : Collection) → s.collection ≡ Some c → IsTrue (roots_done c s.heap.graph)
+        → StaysDone (collect s Step.Scan) }
+    ensures apply { (s : State) (c : Collection) (m : ℕ) → s.collection ≡ Some c → IsTrue (roots_done c s.heap.graph)
+        → StaysDone (collect s (Step.Apply m)) }
 {}
