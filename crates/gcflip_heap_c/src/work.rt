@@ -38,7 +38,7 @@ fn one_step(heap: &mut CollectedHeap) -> Result<StepReply, NoMemory>
     ensures refused { OnErr result (heap.new ≡ heap.old) }
     ensures allocates { OnErr result (Allocates (useful_step heap.old)) }
 {
-    let step = heap.useful_step();
+    let step = heap.next_useful_step();
     heap.collect(&Sequential, step)
 }
 
