@@ -180,6 +180,29 @@ def crates(_program, _folder):
             yield "%s is there" % path, None if os.path.exists(os.path.join(TOP, path)) else "there is no such file"
 
 
+# ---- edits
+
+def unknown_edits(line):
+    """Yields the edits and the clauses that a row of docs/TESTING.md names and that do not exist."""
+    for quoted, listed in re.findall(r"edits? ((?:`\w+`(?:, )?)+) \(([\w, ]+)\)", line):
+        crates_named, edits = listed.split(", "), re.findall(r"`(\w+)`", quoted)
+        found = {(crate, edit) for crate in crates_named for edit in edits
+                 if os.path.exists(os.path.join(TOP, "crates", crate, "must-fail", edit + ".edit"))}
+        yield from ["edit %s" % edit for edit in edits if edit not in {name for _, name in found}]
+        yield from ["an edit of %s" % crate for crate in crates_named if crate not in {name for name, _ in found}]
+        contracts = [contracts_of(crate) for crate in crates_named]
+        for calls, clauses_named in re.findall(r"((?:`[\w:]+`(?: and )?)+), clauses? ((?:`\w+`(?:, | and )?)+)", line):
+            known = set()
+            for call in re.findall(r"`([\w:]+)`", calls):
+                known.update(*[contract.get(call.split("::")[-1], set()) for contract in contracts])
+            yield from ["clause %s of %s" % (name, calls) for name in re.findall(r"`(\w+)`", clauses_named) if name not in known]
+
+
+def edits(_program, _folder):
+    unknown = [name for line in text_of("docs/TESTING.md").split("\n") for name in unknown_edits(line)]
+    yield "edits of docs/TESTING.md", ", ".join(unknown) or None
+
+
 # ---- quoted code
 
 def pieces(block):
@@ -266,4 +289,4 @@ def counts(_program, _folder):
         yield "lines of %s" % (name or "all definitions"), None if found and found.group(1) == wanted else "they are %s" % wanted
 
 
-GROUPS = [names, files, clauses, crates, quotes, commands, commands_of_tables, definitions, counts]
+GROUPS = [names, files, clauses, crates, edits, quotes, commands, commands_of_tables, definitions, counts]
