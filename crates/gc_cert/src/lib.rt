@@ -14,7 +14,7 @@ pub use fault::{PairFault, WriteFault};
 pub use image::{Image, PairFile};
 pub use laws::{texts_have_one_reading, worked_rows, written_is_read};
 pub use limits::pair_fits;
-pub use reader::read_pair;
+pub use reader::{pair_in_text, read_pair};
 pub use writer::write_pair;
 
 #[cfg(test)]

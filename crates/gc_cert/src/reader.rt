@@ -205,6 +205,19 @@ fn spelled_pair(alloc: Global, text: &[u8]) -> Result<PairFile, PairFault>
     Ok(PairFile { old, new, pairs })
 }
 
+/// Returns the pair of images that a text in memory spells, else its first fault. The text is not copied.
+pub fn pair_in_text(alloc: Global, text: &[u8]) -> Result<PairFile, PairFault>
+    ensures exact { MatchResult result
+        (λ file. IsReadAs (pair_in file) text.now) (λ fault. MayFail fault text.now) }
+    ensures sound { IfOk result (λ file. HasText (pair_in file)) }
+    ensures unread { result ≢ Err PairFault.Read }
+{
+    if text.len() > LIMIT {
+        return Err(PairFault::TooLarge);
+    }
+    spelled_pair(alloc, text)
+}
+
 /// Reads a pair text to its end. Returns the two images and the pairs, or the first fault. Of a text of more than
 /// 67108864 bytes, one byte more than these is read.
 pub fn read_pair<R: Read>(alloc: Global, reader: &mut Source<R>) -> Result<PairFile, PairFault>

@@ -26,3 +26,4 @@ pub mod Flipping
 pub mod LinkedImages
 pub mod Dropping
 pub mod Mutating
+pub mod RootsStay

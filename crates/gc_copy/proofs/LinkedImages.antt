@@ -7,13 +7,13 @@ use Rattle.gc_graph.specs.Machine.{Roomy, roomy_step}
 use Rattle.gc_graph.specs.declared.command.Op.{Op}
 use Rattle.gc_graph.specs.declared.reply.Reply.{Reply}
 use Rattle.gc_words.specs.Image.{Block, blocks, block_at, is_start, objects_of, object_of_block}
-use Rattle.gc_words.specs.Spelling.{block_words, spelled, link_at}
+use Rattle.gc_words.specs.Spelling.{block_words, spelled, no_links, link_at}
 use Rattle.gc_words.specs.Space.{SpaceWords, IsSpace, end_of, free_in, image_with}
 use Rattle.gc_words.specs.Certificate.{Certified}
 use Rattle.gc_words.proofs.Graphs.{object_found}
 use Rattle.gc_heap.specs.Heap.{HeapWords, IsHeap, KeepsLinks, image_of, graph_in, roomy_in}
 use Rattle.gc_copy.specs.State.{Replica, pairs_of, replica_of}
-use Rattle.gc_copy.specs.Linked.{block_entry, place_or_zero, original_or_zero, old_links, new_links, old_image, new_image}
+use Rattle.gc_copy.specs.Linked.{image_of_graph, block_entry, place_or_zero, original_or_zero, old_links, new_links, old_image, new_image}
 use Rattle.gc_copy.specs.Steps.{written, is_ready}
 use Rattle.gc_copy.specs.Members.{In}
 use Rattle.gc_copy.specs.Belonging.{IsDue, Belongs, BelongsBut}
@@ -49,6 +49,12 @@ links_told space links is told =
 pub old_shown : (heap : HeapWords) (c : CollectionWords) → IsHeap heap → BelongsTo heap c → image_of heap ≡ old_image (open_state heap c) (collection_in c)
 old_shown heap c is k =
     let all = links_told heap.space (old_links (collection_in c)) is.space (λ e l. k.links e.0 (in_start heap.space.words e l)) in
+    let rs = words_back heap.roots in
+    λ i. record { size = heap.space.size; end = length (all i); words = all i; roots = sym rs i; raws = true }
+
+pub idle_shown : (heap : HeapWords) → IsHeap heap → HasNoLinks heap → image_of heap ≡ image_of_graph heap.space.size (graph_in heap)
+idle_shown heap is none =
+    let all = links_told heap.space no_links is.space (λ e l. none e.0 (in_start heap.space.words e l)) in
     let rs = words_back heap.roots in
     λ i. record { size = heap.space.size; end = length (all i); words = all i; roots = sym rs i; raws = true }
 

@@ -116,7 +116,7 @@ find_push_other p (x ∷ xs) y is = ⊎_elim
     (cases_Bool (p x))
 
 -- a written replica is found where it was
-place_written : (replicas : List Replica) (name i a : ℕ) (v : Value) → option_map (λ r. r.place) (find (λ r. r.original == a) (map (with_written name i v) replicas)) ≡ option_map (λ r. r.place) (find (λ (r : Replica). r.original == a) replicas)
+pub place_written : (replicas : List Replica) (name i a : ℕ) (v : Value) → option_map (λ r. r.place) (find (λ r. r.original == a) (map (with_written name i v) replicas)) ≡ option_map (λ r. r.place) (find (λ (r : Replica). r.original == a) replicas)
 place_written [] name i a v = refl
 place_written (r ∷ rs) name i a v =
     let pair_is = with_written_pair name i v r in

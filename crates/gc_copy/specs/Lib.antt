@@ -8,5 +8,6 @@ pub mod Passing
 pub mod Rows
 pub mod Runs
 pub mod State
+pub mod Staying
 pub mod Steps
 pub mod Words

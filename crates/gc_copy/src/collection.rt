@@ -3,6 +3,7 @@ mod copying;
 mod flipping;
 mod logging;
 mod mutating;
+mod reading;
 mod roots;
 mod stepping;
 

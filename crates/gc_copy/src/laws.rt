@@ -15,13 +15,14 @@ ghost use Rattle.gc_heap.specs.Heap.{HeapWords, IsHeap, KeepsLinks, image_of, gr
 ghost use Rattle.gc_copy.specs.Words.{CollectionWords, IsCollection, BelongsTo, BelongsToBut, HasNoLinks, collection_in, open_state, new_root_words};
 ghost use Rattle.gc_graph.specs.declared.reply.Reply.{Reply};
 ghost use Rattle.gc_copy.specs.State.{Replica, Collection, State, opening_state, new_objects, new_free, pairs_of, replica_of, replica_at, moved, new_graph};
-ghost use Rattle.gc_copy.specs.Linked.{linked_image, old_links, new_links, old_image, new_image};
-ghost use Rattle.gc_copy.specs.Steps.{written, log_at, with_log, with_collection, write_replica, fresh_collection, mutate, collect, is_change, is_ready, useful_step};
+ghost use Rattle.gc_copy.specs.Linked.{image_of_graph, linked_image, old_links, new_links, old_image, new_image};
+ghost use Rattle.gc_copy.specs.Steps.{roots_done, written, log_at, with_log, with_collection, write_replica, fresh_collection, mutate, collect, is_change, is_ready, useful_step};
 ghost use Rattle.gc_copy.specs.Members.{In};
 ghost use Rattle.gc_copy.specs.Belonging.{HasRawNumbers, IsSpaceGraph, HasField, Belongs, BelongsBut, IsOpened, IsOpen, IsState};
 ghost use Rattle.gc_copy.specs.Runs.{IsStep, InEveryRun};
 ghost use Rattle.gc_copy.specs.Passing.{HasImage, PassesWhereReady, NeverRefused, AlwaysHasRoom, ScansToTheEnd, HasFewPairs};
 ghost use Rattle.gc_copy.specs.Carried.{CarriesOnlyKept, NamesOnlyKept};
+ghost use Rattle.gc_copy.specs.Staying.{StaysDone};
 ghost use Rattle.gc_copy.specs.Rows.{Rows, SizedRows, FlipPairRows};
 ghost use Rattle.gc_copy.specs.declared.step.Step.{Step};
 ghost use Rattle.gc_copy.specs.declared.step.StepReply.TheVariants.{NoRoom};
@@ -169,8 +170,10 @@ pub fn scans_and_pairs_are_bounded()
 {}
 
 /// What the checker sees of a heap and of the collection that belongs to it: both images with their links; and
-/// where the collection is ready, its certificate holds of them.
+/// where the collection is ready, its certificate holds of them. Where no collection is open, all links are 0.
 pub fn images_show_links()
+    ensures idle { (heap : HeapWords) → IsHeap heap → HasNoLinks heap
+        → image_of heap ≡ image_of_graph heap.space.size (graph_in heap) }
     ensures old { (heap : HeapWords) (c : CollectionWords) → IsHeap heap → BelongsTo heap c
         → image_of heap ≡ old_image (open_state heap c) (collection_in c) }
     ensures new { (heap : HeapWords) (c : CollectionWords) → IsCollection c → BelongsTo heap c
@@ -196,4 +199,12 @@ pub fn commands_keep_collections()
     // While no collection is open no object has a link.
     ensures idle { (heap new : HeapWords)
         → HasNoLinks heap → KeepsLinks heap.space.words new.space.words → HasNoLinks new }
+{}
+
+/// Once the target of each root has a replica, scanning and applying logs leave it so: they take no replica away.
+pub fn roots_stay_done()
+    ensures scan { (s : State) (c : Collection) → s.collection ≡ Some c → IsTrue (roots_done c s.heap.graph)
+        → StaysDone (collect s Step.Scan) }
+    ensures apply { (s : State) (c : Collection) (m : ℕ) → s.collection ≡ Some c → IsTrue (roots_done c s.heap.graph)
+        → StaysDone (collect s (Step.Apply m)) }
 {}

@@ -8,9 +8,9 @@ use std::marker::Model;
 
 /// A field of the old space that a mutator wrote.
 #[derive(Clone, Copy, Debug, PartialEq, Eq)]
-pub(crate) struct LogEntry {
-    pub(crate) object: OldAddr,
-    pub(crate) field: u16,
+pub struct LogEntry {
+    pub object: OldAddr,
+    pub field: u16,
 }
 
 /// What one mutator wrote while a collection is open. The oldest entry leaves without moving the others.
@@ -34,7 +34,7 @@ impl Model for MutationLog {
 }
 
 impl MutationLog {
-    ghost use Rattle.std.specs.Prelude.{◌≡◌, ◌≤◌, ◌-◌, ◌++◌, ◌∷◌, [], drop, OnOk, Some, None};
+    ghost use Rattle.std.specs.Prelude.{◌≡◌, ◌≤◌, ◌-◌, ◌++◌, ◌∷◌, [], drop, length, slice_get, OnOk, Some, None};
     ghost use Rattle.std.specs.Option.{option_map};
     ghost use Rattle.gc_copy.specs.Steps.{is_empty};
     ghost use Rattle.gc_copy.specs.Entries.{entry_in};
@@ -53,6 +53,19 @@ impl MutationLog {
         ensures { result ≡ is_empty self.now.entries }
     {
         self.entries.is_empty()
+    }
+
+    pub(crate) fn len(&self) -> usize
+        ensures { result ≡ length self.now.entries }
+    {
+        self.entries.len()
+    }
+
+    /// Returns entry `k`, counted from the oldest.
+    pub(crate) fn entry(&self, k: usize) -> Option<LogEntry>
+        ensures { option_map entry_in result ≡ slice_get self.now.entries k }
+    {
+        self.entries.get(k).copied()
     }
 
     /// Makes room for one entry more.

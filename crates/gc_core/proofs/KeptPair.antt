@@ -1,5 +1,5 @@
 -- The pair that a flip returns, put together from what its parts are.
-use Rattle.std.proofs.Common.{◌≡◌, ℕ, true, List, Option, Some, refl, sym, subst}
+use Rattle.std.proofs.Common.{◌≡◌, ℕ, Bool, true, List, Option, Some, refl, sym, subst}
 use Rattle.std.specs.Option.{option_map}
 use Rattle.gc_words.specs.Image.{Image}
 use Rattle.gc_words.specs.Certificate.{Certified}
@@ -10,9 +10,9 @@ use Rattle.gc_copy.specs.declared.step.StepReply.{StepReply}
 use Rattle.gc_copy.specs.declared.step.StepReply.TheVariants.{Flipped}
 use Rattle.gc_core.specs.Flip.{flip_pair, kept_after, replaced}
 
-pub same_image : (size end s e : ℕ) (words roots w r : List ℕ) → size ≡ s → end ≡ e → words ≡ w → roots ≡ r
-    → ◌≡◌ {A = Image} (record { size = size; end = end; words = words; roots = roots; raws = true }) (record { size = s; end = e; words = w; roots = r; raws = true })
-same_image _ _ _ _ _ _ _ _ a b c d = λ i. record { size = a i; end = b i; words = c i; roots = d i; raws = true }
+pub same_image : (size end s e : ℕ) (words roots w r : List ℕ) (raws : Bool) → size ≡ s → end ≡ e → words ≡ w → roots ≡ r → raws ≡ true
+    → ◌≡◌ {A = Image} (record { size = size; end = end; words = words; roots = roots; raws = raws }) (record { size = s; end = e; words = w; roots = r; raws = true })
+same_image _ _ _ _ _ _ _ _ _ a b c d f = λ i. record { size = a i; end = b i; words = c i; roots = d i; raws = f i }
 
 pub certified_along : (old new : Image) (pairs : List (ℕ × ℕ)) (o n : Image) (ps : List (ℕ × ℕ)) → old ≡ o → new ≡ n → pairs ≡ ps → Certified o n ps → Certified old new pairs
 certified_along old new pairs o n ps a b e h =

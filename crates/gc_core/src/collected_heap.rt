@@ -15,19 +15,22 @@ pub struct CollectedHeap {
     pub(crate) alloc: Global,
     pub(crate) heap: Heap,
     pub(crate) collection: Option<Collection>,
+    // Whether the target of each root is known to have a replica: a test said so, and no command came since. It spares
+    // the useful step a walk over all roots.
+    pub(crate) roots_done: bool,
 }
 
 impl Model for CollectedHeap {
     ghost use Rattle.std.specs.Option.{option_map};
     ghost use Rattle.gc_copy.specs.State.{State};
     ghost use Rattle.gc_copy.specs.Words.{collection_in, state_of};
-    ghost use Rattle.gc_core.specs.Internal.CollectedHeap.{Fits};
+    ghost use Rattle.gc_core.specs.Internal.CollectedHeap.{Fits, KnowsRoots};
 
     ghost Value = { State };
 
     ghost view = { λ h. state_of h.heap (option_map collection_in h.collection) };
 
-    ghost invariant = { λ h. Fits h.heap h.collection };
+    ghost invariant = { λ h. Fits h.heap h.collection × KnowsRoots h.roots_done h.heap h.collection };
 }
 
 impl CollectedHeap {
@@ -51,6 +54,7 @@ impl CollectedHeap {
             alloc,
             heap,
             collection: None,
+            roots_done: false,
         })
     }
 

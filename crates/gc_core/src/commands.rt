@@ -21,6 +21,7 @@ impl CollectedHeap {
         if let Op::Put { .. } = op {
             collection.reserve(m)?;
         }
+        self.roots_done = false;
         Ok(collection.mutate(&mut self.heap, m, op))
     }
 }

@@ -123,6 +123,7 @@ fn carry_out(heap: &mut Heap, collection: Collection, draft: Draft, copies: Opti
     let new = collection.new_image(&roots);
     let size = new.size;
     let end = new.end;
+    let raws = new.raws;
     let (old_space, old_roots) = collection.flip_into(heap, roots);
     let Some(Copies { words, roots }) = copies else {
         return without_pair(reply);
@@ -132,14 +133,14 @@ fn carry_out(heap: &mut Heap, collection: Collection, draft: Draft, copies: Opti
         end: old_space.end(),
         words: old_space.into_words(),
         roots: old_roots,
-        raws: true,
+        raws,
     };
     let new = Image {
         size,
         end,
         words,
         roots,
-        raws: true,
+        raws,
     };
     let pair = Some(PairFile { old, new, pairs });
     Flip { reply, pair }

@@ -1,7 +1,7 @@
 use crate::collected_heap::CollectedHeap;
 use crate::flip::Keep;
 use gc_check::Checks;
-use gc_copy::{Collection, Step, StepReply};
+use gc_copy::{Collection, Step, StepReply, roots_stay_done};
 use gc_graph::NoMemory;
 
 impl CollectedHeap {
@@ -54,6 +54,7 @@ impl CollectedHeap {
             return Ok(StepReply::Busy);
         }
         self.collection = Some(Collection::begin_sized(self.alloc, &self.heap, size)?);
+        self.roots_done = false;
         Ok(StepReply::Begun)
     }
 
@@ -75,6 +76,7 @@ impl CollectedHeap {
         ensures room { HasRoomIfLarge self.old result }
         ensures mutators { self.new.mutators ≡ self.old.mutators }
     {
+        self.roots_done = false;
         match &mut self.collection {
             None => StepReply::Idle,
             Some(collection) => collection.roots(&mut self.heap),
@@ -89,6 +91,7 @@ impl CollectedHeap {
         ensures room { HasRoomIfLarge self.old result }
         ensures mutators { self.new.mutators ≡ self.old.mutators }
     {
+        roots_stay_done();
         match &mut self.collection {
             None => StepReply::Idle,
             Some(collection) => collection.scan(&mut self.heap),
@@ -103,6 +106,7 @@ impl CollectedHeap {
         ensures room { HasRoomIfLarge self.old result }
         ensures mutators { self.new.mutators ≡ self.old.mutators }
     {
+        roots_stay_done();
         match &mut self.collection {
             None => StepReply::Idle,
             Some(collection) => collection.apply_log(m, &mut self.heap),
@@ -130,7 +134,7 @@ impl CollectedHeap {
         let Some(collection) = &self.collection else {
             return Step::Begin;
         };
-        if !collection.roots_done(&self.heap) {
+        if !self.roots_done && !collection.roots_done(&self.heap) {
             return Step::Roots;
         }
         if !collection.scan_done() {
@@ -140,5 +144,20 @@ impl CollectedHeap {
             Some(m) => Step::Apply(m),
             None => Step::Flip,
         }
+    }
+
+    /// Returns the useful step, and remembers if it found that no root needs a replica: until the next command, the
+    /// useful step then looks at no root.
+    pub fn next_useful_step(&mut self) -> Step
+        ensures useful { result ≡ useful_step self.old }
+        ensures step { IsStep self.old.mutators result }
+        ensures same { self.new ≡ self.old }
+    {
+        let step = self.useful_step();
+        self.roots_done = match step {
+            Step::Begin | Step::Roots => false,
+            _ => true,
+        };
+        step
     }
 }

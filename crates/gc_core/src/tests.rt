@@ -134,3 +134,30 @@ fn dropped_and_begun_once_more(rt: HostRuntime) -> Result<(), Fail> {
     assert_eq!(&rt; heap.heap().space().free(), 12);
     Ok(())
 }
+
+#[test]
+fn a_command_makes_the_roots_be_tested_again(rt: HostRuntime) -> Result<(), Fail> {
+    let _named = View::Nil;
+    let r0 = Slot::own(0).ok_or("slot")?;
+    let r1 = Slot::own(1).ok_or("slot")?;
+    let mut heap = CollectedHeap::open(rt.alloc(), 16, 1)?;
+    let new = Op::New {
+        d: r0,
+        kind: 0,
+        len: 0,
+    };
+    assert_eq!(&rt; command(&mut heap, new)?, Reply::Made);
+    assert_eq!(&rt; heap.next_useful_step(), Step::Begin);
+    assert_eq!(&rt; step(&mut heap, Step::Begin)?, StepReply::Begun);
+    assert_eq!(&rt; heap.next_useful_step(), Step::Roots);
+    assert_eq!(&rt; step(&mut heap, Step::Roots)?, StepReply::Copied);
+    assert_eq!(&rt; heap.next_useful_step(), Step::Scan);
+    let other = Op::New {
+        d: r1,
+        kind: 1,
+        len: 0,
+    };
+    assert_eq!(&rt; command(&mut heap, other)?, Reply::Made);
+    assert_eq!(&rt; heap.next_useful_step(), Step::Roots);
+    Ok(())
+}

@@ -79,13 +79,7 @@ impl Heap {
         ensures value { views.image_of result ≡ image_of self.now }
         ensures sound { IsHeap self.now }
     {
-        ImageRef {
-            size: self.space.size(),
-            end: self.space.end(),
-            words: self.space.words(),
-            roots: &self.roots,
-            raws: true,
-        }
+        self.space.image(&self.roots)
     }
 
     /// How many mutators there are.

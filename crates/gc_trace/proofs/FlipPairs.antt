@@ -1,6 +1,7 @@
 -- The pairs of a run's flips.
 use Rattle.std.proofs.Common.{◌≡◌, ℕ, suc, ◌+◌, ◌<◌, ◌≤◌, List, ◌∷◌, drop, length, map, get_or, refl, sym, ap, ◌∙◌, arith, subst, Option, Some, None, inl, inr, ◌⊎◌}
-use Rattle.std.specs.Prelude.{slice_get, IfSome}
+use Rattle.std.specs.Prelude.{slice_get, IfSome, IfOk, Result, Ok, Err}
+use Rattle.gc_graph.specs.declared.no_memory.NoMemory.{NoMemory}
 use Rattle.std.specs.Option.{option_map}
 use Rattle.std.proofs.lemmas.List.{drop_more, length-map}
 use Rattle.gc_cert.specs.Grammar.{CertifiedPair}
@@ -59,11 +60,12 @@ pub flip_counts : (s : State) (event : Event) (pair : CertifiedPair) → IsState
 flip_counts s (Mutate m op) pair ok small few certified is = absurd cc
 flip_counts s (Collect step) pair ok small few certified is = kept_counts s s.collection pair ok small few refl certified (kept_by_reply s (collect s step).0 pair is)
 
--- so has the pair that was taken after an event, if there is one
-pub taken_counts : (s : State) (event : Event) (taken : Option PairFile) → IsState s → HasFewPairs s → s.mutators ≤ 16 → option_map pair_in taken ≡ flip_at s event
-    → IfSome taken (λ file. IsCertified (pair_in file)) → IfSome taken (λ file. HasCounts (pair_in file))
-taken_counts s event None ok small few is certified = tt
-taken_counts s event (Some file) ok small few is certified = flip_counts s event (pair_in file) ok small few certified (sym is)
+-- so has the pair of an event's flip, if it is one
+pub counts_of_result : (s : State) (event : Event) (result : Result (Option PairFile) NoMemory) → IsState s → HasFewPairs s → s.mutators ≤ 16 → IfOk result (λ kept. option_map pair_in kept ≡ flip_at s event)
+    → IfOk result (λ kept. IfSome kept (λ file. IsCertified (pair_in file))) → IfOk result (λ kept. IfSome kept (λ file. HasCounts (pair_in file)))
+counts_of_result s event (Ok None) ok small few is certified = tt
+counts_of_result s event (Ok (Some file)) ok small few is certified = flip_counts s event (pair_in file) ok small few certified (sym is)
+counts_of_result s event (Err fault) ok small few is certified = tt
 
 -- ---- the n-th flip
 

@@ -11,6 +11,7 @@ pub mod Versions
 pub mod HistoryTexts
 pub mod FlipPairs
 pub mod PlayOutput
+pub mod PlayedEvents
 pub mod PairsPlaced
 pub mod SpaceEnds
 pub mod ReportCounts

@@ -122,7 +122,7 @@ event_places : (s : State) (event : Event) → pairs_in (answer s event) + repli
 event_places s (Mutate m op) = omega (arith, logged_same s.collection m (written s.heap.graph m op (roomy_step s.heap m op (heap_end s)).0))
 event_places s (Collect step) = step_places s s.collection step refl
 
-run_places : (s : State) (events : List Event) → sum_by pairs_in (answers s events) ≤ length events + replicas_in s.collection
+pub run_places : (s : State) (events : List Event) → sum_by pairs_in (answers s events) ≤ length events + replicas_in s.collection
 run_places s [] = omega arith
 run_places s (event ∷ events) =
     let first = event_places s event in

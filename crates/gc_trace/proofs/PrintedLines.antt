@@ -7,10 +7,9 @@ use Rattle.std.proofs.lemmas.List.Concat.{flat_map-append, flat_map-cons}
 use Rattle.std.proofs.lemmas.List.Folds.{flat_map-map}
 use Rattle.gc_graph.specs.Streams.{SendsFront, HasSent}
 use Rattle.gc_graph.proofs.SentText.{sent_then, sent_at_last, front_sent}
-use Rattle.gc_world.specs.History.{unmarked, answers_of, events_of}
+use Rattle.gc_world.specs.History.{events_of}
 use Rattle.gc_world.specs.declared.entry.Entry.{Entry}
 use Rattle.gc_trace.specs.Grammar.{event_line, heading, spelling, least_version, written}
-use Rattle.gc_trace.specs.Replies.{reply_line, reply_text}
 
 -- the front, and the lines of the first i
 abbrev pub lines_to : {X : Type 0} → List ℕ → (X → List ℕ) → List X → ℕ → List ℕ
@@ -43,14 +42,8 @@ lines_sent {X} front line a b c xs i waiting whole is le so_far out =
 
 -- ---- the lines of a history
 
-abbrev pub answer_line : Entry → List ℕ
-answer_line entry = reply_line (unmarked entry.answer)
-
 abbrev pub entry_line : Entry → List ℕ
 entry_line entry = event_line entry.event
-
-pub answer_lines : (entries : List Entry) → flat_map answer_line entries ≡ reply_text (answers_of entries)
-answer_lines entries = sym (flat_map-map reply_line (λ (entry : Entry). unmarked entry.answer) entries)
 
 entry_lines : (entries : List Entry) → flat_map entry_line entries ≡ flat_map event_line (events_of entries)
 entry_lines entries = sym (flat_map-map event_line (λ (entry : Entry). entry.event) entries)

@@ -1,16 +1,18 @@
 -- Reports of one answer more, and how large their numbers are.
-use Rattle.std.proofs.Common.{◌≡◌, ℕ, ◌+◌, ◌<◌, ◌^◌, Bool, true, false, cond, List, [], ◌∷◌, ◌++◌, length, take, get_or, refl, sym, ◌∙◌, ap, subst, arith, length-append}
+use Rattle.std.proofs.Common.{◌≡◌, ℕ, suc, ◌+◌, ◌<◌, ◌^◌, Bool, true, false, cond, List, [], ◌∷◌, ◌++◌, length, take, get_or, refl, sym, ◌∙◌, ap, subst, arith, length-append}
 use Rattle.std.specs.List.{count_by, sum_by}
 use Rattle.std.proofs.lemmas.List.{length-map, map_more, take-map, length-take}
 use Rattle.std.proofs.lemmas.List.Sums.{sum_by_push, sum_by-take-le, count_by-le-length}
 use Rattle.gc_copy.specs.declared.event.Answer.{Answer}
-use Rattle.gc_copy.specs.State.{State, heap_end}
+use Rattle.gc_copy.specs.State.{State, opening_state, heap_end}
+use Rattle.gc_copy.specs.Runs as runs
+use Rattle.gc_copy.specs.declared.event.Event.{Event}
 use Rattle.gc_world.specs.History.{unmarked, answers_of, IsHistory}
 use Rattle.gc_world.specs.declared.entry.Entry.{Entry}
 use Rattle.gc_trace.specs.declared.report.Report.{Report}
 use Rattle.gc_trace.specs.Report.{is_made, is_full, is_begun, is_copied, is_scanned, is_applied, is_flip, is_dropped, is_refused, pairs_in, report_of}
 use Rattle.gc_trace.specs.Internal.Report.{one_more_if, with_answer, FitsU64}
-use Rattle.gc_trace.proofs.PairsPlaced.{few_pairs}
+use Rattle.gc_trace.proofs.PairsPlaced.{few_pairs, run_places}
 
 abbrev answer_of : Entry → Answer
 answer_of entry = unmarked entry.answer
@@ -22,7 +24,7 @@ one_more_is false n = omega arith
 count_push : (is : Answer → Bool) (answers : List Answer) (answer : Answer) → count_by is (answers ++ answer ∷ []) ≡ one_more_if (is answer) (count_by is answers)
 count_push is answers answer = sum_by_push (λ a. cond (is a) 1 0) answers answer ∙ one_more_is (is answer) (count_by is answers)
 
-report_push : (answers : List Answer) (answer : Answer) (s : State) → with_answer (report_of answers s) answer ≡ report_of (answers ++ answer ∷ []) s
+pub report_push : (answers : List Answer) (answer : Answer) (s : State) → with_answer (report_of answers s) answer ≡ report_of (answers ++ answer ∷ []) s
 report_push answers answer s =
     let events : length (answers ++ answer ∷ []) ≡ length answers + 1 = length-append answers (answer ∷ []) in
     let made = count_push is_made answers answer in
@@ -73,3 +75,15 @@ front_fits size mutators items i s h few =
     let short : length (take i answers) < 2 ^ 64 = omega (arith, few, length-take i answers, length-map items answer_of) in
     let pairs : sum_by pairs_in (take i answers) < 2 ^ 64 = omega (arith, few, sum_by-take-le pairs_in answers i, few_pairs size mutators items h, length-map items answer_of) in
     subst (λ (answers : List Answer). FitsU64 (report_of answers s)) front (report_fits (take i answers) s short pairs)
+
+-- a run has as many answers as events
+told_count : (s : State) (events : List Event) → length (runs.answers s events) ≡ length events
+told_count s [] = refl
+told_count s (event ∷ events) = ap suc (told_count (runs.after s event) events)
+
+-- a run from an empty heap has no more pairs than events
+pub run_fits : (size mutators : ℕ) (events : List Event) (s : State) → length events < 2 ^ 64 → FitsU64 (report_of (runs.answers (opening_state size mutators) events) s)
+run_fits size mutators events s few =
+    let told = runs.answers (opening_state size mutators) events in
+    let count = told_count (opening_state size mutators) events in
+    report_fits told s (omega (arith, few, count)) (omega (arith, few, run_places (opening_state size mutators) events))

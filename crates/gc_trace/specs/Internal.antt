@@ -1,4 +1,4 @@
 -- What only private contracts and proofs need: no part of a promise.
 pub mod Faults
+pub mod Playing
 pub mod Report
-pub mod WorldRuns

@@ -1,19 +1,15 @@
 -- What the events of a trace do to a world.
 use Rattle.std.specs.Prelude.{◌≡◌, ℕ, List, [], ◌∷◌, ◌++◌, Option}
-use Rattle.std.specs.Io.KnownBytes.{Appends}
 use Rattle.gc_cert.specs.Grammar.{CertifiedPair}
 use Rattle.gc_copy.specs.State.{State}
 use Rattle.gc_copy.specs.Steps.{collect}
 use Rattle.gc_copy.specs.Runs.{after}
 use Rattle.gc_core.specs.Flip.{kept_after}
-use Rattle.gc_world.specs.History.{events_of, answers_of}
+use Rattle.gc_world.specs.History.{events_of}
 use Rattle.gc_world.specs.World.{Past, present}
 use Rattle.gc_copy.specs.declared.event.Event.{Event}
 use Rattle.gc_copy.specs.declared.event.Event.TheVariants.{Mutate, Collect}
 use Rattle.gc_trace.specs.Grammar.{Recording}
-use Rattle.gc_trace.specs.Faults.{IsReadAs}
-use Rattle.gc_trace.specs.Plays.{answers, last_state}
-use Rattle.gc_trace.specs.Replies.{reply_text}
 
 -- the pair that is kept after an event in this state
 abbrev pub kept_with : Option CertifiedPair → State → Event → Option CertifiedPair
@@ -33,12 +29,3 @@ pub record HasRun (t : Recording) (past : Past) : Type 0 where
   pub size : past.size ≡ t.size
   pub mutators : past.mutators ≡ t.mutators
   pub events : events_of past.entries ≡ t.events
-
--- the text is of a trace, its reply lines went out, and this is what became of a world in which it ran
-pub record PlaysIn (text : List ℕ) (past : Past) (old new : Option (List ℕ)) : Type 0 where
-  pub trace : Recording
-  pub read : IsReadAs trace text
-  pub run : HasRun trace past
-  pub answered : answers_of past.entries ≡ answers trace
-  pub state : present past ≡ last_state trace
-  pub out : Appends old new (reply_text (answers trace))

@@ -3,52 +3,74 @@ ghost use Rattle.std.specs.Option.{option_map};
 ghost use Rattle.gc_graph.specs.Limits.{most_mutators};
 ghost use Rattle.gc_cert.specs.Counts.{HasCounts};
 ghost use Rattle.gc_cert.specs.Views.{pair_in};
-ghost use Rattle.gc_copy.specs.Runs.{IsEvent, after};
-ghost use Rattle.gc_world.specs.World.{present};
+ghost use Rattle.gc_copy.specs.Belonging.{IsState};
+ghost use Rattle.gc_copy.specs.Runs.{IsEvent, IsStep, after};
+ghost use Rattle.gc_copy.specs.Steps.{collect};
+ghost use Rattle.gc_core.specs.Flip.{kept_after, IsCertified};
 ghost use Rattle.gc_trace.specs.Flips.{flip_at, nth_flip};
 ghost use Rattle.gc_trace.specs.Grammar.{IsRecording};
-ghost use Rattle.gc_trace.specs.Internal.WorldRuns.{KeepsNone};
 ghost use Rattle.gc_trace.specs.Views.{recording};
 
-use crate::run::happen;
 use crate::trace::Trace;
 use gc_cert::PairFile;
-use gc_copy::scans_and_pairs_are_bounded;
-use gc_graph::NoMemory;
-use gc_world::{Event, World, runs_keep_states};
+use gc_check::Sequential;
+use gc_copy::{Event, Step, scans_and_pairs_are_bounded, states_are_kept};
+use gc_core::{CollectedHeap, Keep};
+use gc_graph::{NoMemory, View};
 use std::alloc::Global;
 
-/// Lets the event happen in a world that keeps no pair, and takes the pair of the flip that it is, if it is one.
-fn flip_in(world: &mut World, event: &Event) -> Result<Option<PairFile>, NoMemory>
-    requires event { IsEvent world.old.mutators event.now }
-    requires few { world.old.mutators ≤ most_mutators }
-    requires none { world.old.kept ≡ None }
-    ensures flip { IfOk result (λ kept. option_map pair_in kept ≡ flip_at (present world.old) event.now) }
-    ensures counts { IfOk result (λ kept. IfSome kept (λ file. HasCounts (pair_in file))) }
-    ensures happened { OnOk result (KeepsNone world.old event.now world.new) }
+/// Performs a collector step, and returns the pair of the flip that it is, if it is one.
+fn flip_of_step(heap: &mut CollectedHeap, step: Step) -> Result<Option<PairFile>, NoMemory>
+    requires { IsStep heap.old.mutators step }
+    ensures flip { IfOk result (λ kept. option_map pair_in kept
+        ≡ kept_after None heap.old (collect heap.old step).0) }
+    ensures certified { IfOk result (λ kept. IfSome kept (λ file. IsCertified (pair_in file))) }
+    ensures happened { OnOk result (heap.new ≡ (collect heap.old step).1) }
+    ensures mutators { heap.new.mutators ≡ heap.old.mutators }
 {
-    runs_keep_states();
-    scans_and_pairs_are_bounded();
-    // What happened so far is a history.
-    let _ = world.history();
-    match happen(world, event) {
-        Ok(()) => {}
-        Err(fault) => return Err(fault),
-    }
-    Ok(world.take_flip())
+    let Step::Flip = step else {
+        heap.collect(&Sequential, step)?;
+        return Ok(None);
+    };
+    Ok(heap.flip(&Sequential, Keep::Pair)?.pair)
 }
 
-/// The pair of the trace's n-th flip, counted from 1, if there are so many.
+/// Performs the event, and returns the pair of the flip that it is, if it is one.
+fn flip_in(heap: &mut CollectedHeap, event: &Event) -> Result<Option<PairFile>, NoMemory>
+    requires event { IsEvent heap.old.mutators event.now }
+    requires few { heap.old.mutators ≤ most_mutators }
+    requires sound { IsState heap.old }
+    ensures flip { IfOk result (λ kept. option_map pair_in kept ≡ flip_at heap.old event.now) }
+    ensures counts { IfOk result (λ kept. IfSome kept (λ file. HasCounts (pair_in file))) }
+    ensures happened { OnOk result (heap.new ≡ after heap.old event.now) }
+    ensures sound { OnOk result (IsState heap.new) }
+    ensures mutators { heap.new.mutators ≡ heap.old.mutators }
+{
+    states_are_kept();
+    scans_and_pairs_are_bounded();
+    // The type has to be named where a reply is dropped.
+    let _named: Option<View> = None;
+    match event {
+        Event::Mutate { m, op } => {
+            heap.mutate(*m, op)?;
+            Ok(None)
+        }
+        Event::Collect(step) => flip_of_step(heap, *step),
+    }
+}
+
+/// Returns the pair of the trace's n-th flip, counted from 1, if it has so many.
 pub fn nth_flip(alloc: Global, trace: &Trace, n: u32) -> Result<Option<PairFile>, NoMemory>
     requires trace { IsRecording (recording trace.now) }
     requires some { 1 ≤ n }
     ensures flip { IfOk result (λ found. option_map pair_in found ≡ nth_flip n (recording trace.now)) }
     ensures counts { IfOk result (λ found. IfSome found (λ file. HasCounts (pair_in file))) }
 {
-    let mut world = World::open(alloc, trace.size, trace.mutators)?;
+    states_are_kept();
+    let mut heap = CollectedHeap::open(alloc, trace.size, trace.mutators)?;
     let mut before = n - 1;
     for event in &trace.events {
-        let kept = flip_in(&mut world, event)?;
+        let kept = flip_in(&mut heap, event)?;
         if let Some(file) = kept {
             if before == 0 {
                 return Ok(Some(file));

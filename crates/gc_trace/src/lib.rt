@@ -7,6 +7,7 @@ mod flips;
 mod laws;
 mod parser;
 mod player;
+mod playing;
 mod reader;
 mod replies;
 mod report;
@@ -20,7 +21,7 @@ pub use laws::{
     pairs_are_placed_by_steps, scripts_are_commands, texts_have_one_reading, worked_report,
     worked_rows, written_is_read,
 };
-pub use player::{play, play_pair, play_report, play_world};
+pub use player::{play, play_pair, play_report};
 pub use reader::read_trace;
 pub use report::{Report, report_of, write_report};
 pub use run::run_trace;

@@ -2,55 +2,21 @@ ghost use Rattle.std.specs.Prelude.{◌≡◌, ◌≢◌, ◌≤◌, ◌↔◌, 
 ghost use Rattle.gc_graph.specs.Streams.{bytes_left, bytes_written, source_failed, sink_failed};
 ghost use Rattle.gc_trace.specs.Faults.{MayFail};
 ghost use Rattle.gc_trace.specs.Plays.{Plays, PlaysFront, Reports, ReportsFront};
-ghost use Rattle.gc_trace.specs.WorldRuns.{PlaysIn};
 ghost use Rattle.gc_trace.specs.Flips.{PlaysPair, PlaysPairFront, HasNoFlip};
 ghost use Rattle.gc_trace.specs.declared.fault.TraceFault.{TraceFault};
 
 use crate::fault::{PlayFault, TraceFault};
 use crate::flips::nth_flip;
+use crate::playing::{Gather, play_trace};
 use crate::reader::read_trace;
-use crate::replies::write_replies;
-use crate::report::{Report, report_of, write_report};
-use crate::run::run_trace;
+use crate::report::{Report, write_report};
 use gc_cert::{pair_fits, write_pair};
 use gc_graph::{Sink, Source};
-use gc_world::World;
 use std::alloc::Global;
 use std::io::{Read, Write};
 
-/// Plays the trace whose text the reader gives: writes the line of each answer, once the last event has run. Returns
-/// the world in which the trace ran.
-pub fn play_world<R: Read, W: Write>(
-    alloc: Global,
-    reader: &mut Source<R>,
-    writer: &mut Sink<W>,
-) -> Result<World, PlayFault>
-    // All of the reply lines, and nothing else.
-    ensures played { IfOk result (λ world. IfSome (bytes_left R.remaining reader.old) (λ text.
-        PlaysIn text world (bytes_written W.contents writer.old) (bytes_written W.contents writer.new))) }
-    // The first fault of a bad text.
-    ensures fault { (fault : TraceFault) → result ≡ Err (PlayFault.Trace fault) →
-        IfSome (bytes_left R.remaining reader.old) (λ text. MayFail fault text) }
-    ensures memory { result ≢ Err (PlayFault.Trace TraceFault.NoMemory) }
-    ensures runs { result ≢ Err PlayFault.NoSuchFlip }
-    ensures unread { (result ≡ Err (PlayFault.Trace TraceFault.Read)) ↔ (source_failed reader.new ≡ true) }
-    ensures unwritten { result ≡ Err PlayFault.Write → sink_failed writer.new ≡ true }
-    // Nothing goes out before the last event has run.
-    ensures silent { OnErr result (result ≢ Err PlayFault.Write → writer.new ≡ writer.old) }
-    // What went out is a front of the reply lines.
-    ensures front { result ≡ Err PlayFault.Write → IfSome (bytes_left R.remaining reader.old) (λ text.
-        PlaysFront text (bytes_written W.contents writer.old) (bytes_written W.contents writer.new)) }
-{
-    let trace = read_trace(alloc, reader)?;
-    let world = run_trace(alloc, &trace)?;
-    match write_replies(writer, world.history()) {
-        Ok(()) => Ok(world),
-        Err(_) => Err(PlayFault::Write),
-    }
-}
-
 /// Plays the trace whose text the reader gives: writes the line of each answer, once the last event has run, and
-/// reports the run. `play_world` does the same without the report.
+/// returns the report of the run.
 pub fn play<R: Read, W: Write>(
     alloc: Global,
     reader: &mut Source<R>,
@@ -72,8 +38,11 @@ pub fn play<R: Read, W: Write>(
     ensures front { result ≡ Err PlayFault.Write → IfSome (bytes_left R.remaining reader.old) (λ text.
         PlaysFront text (bytes_written W.contents writer.old) (bytes_written W.contents writer.new)) }
 {
-    let world = play_world(alloc, reader, writer)?;
-    Ok(report_of(&world))
+    let played = play_trace(alloc, &read_trace(alloc, reader)?, Gather::Replies)?;
+    match writer.write_all(&played.replies) {
+        Ok(()) => Ok(played.report),
+        Err(_) => Err(PlayFault::Write),
+    }
 }
 
 /// Plays the trace whose text the reader gives, and writes the text of its report alone.
@@ -99,8 +68,7 @@ pub fn play_report<R: Read, W: Write>(
         ReportsFront text (bytes_written W.contents writer.old) (bytes_written W.contents writer.new)) }
 {
     let trace = read_trace(alloc, reader)?;
-    let world = run_trace(alloc, &trace)?;
-    let report = report_of(&world);
+    let report = play_trace(alloc, &trace, Gather::Nothing)?.report;
     match write_report(writer, &report) {
         Ok(()) => Ok(report),
         Err(_) => Err(PlayFault::Write),

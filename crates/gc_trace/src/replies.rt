@@ -12,7 +12,7 @@ use gc_world::{Answer, Entry};
 use std::io::Write;
 
 /// More bytes than the line of any answer has.
-const LINE: usize = 64;
+pub const LINE: usize = 64;
 
 /// The line of a `saw`.
 #[tactic(auto, unfolding(crate::specs::Replies::view_tokens))]
@@ -92,33 +92,13 @@ fn print_step_reply(printer: &mut Printer, reply: StepReply)
 
 /// The line of an answer.
 #[tactic(auto, unfolding(crate::specs::Replies::answer_tokens))]
-fn print_answer(printer: &mut Printer, answer: &Answer)
+pub fn print_answer(printer: &mut Printer, answer: &Answer)
     requires { length printer.old + 64 ≤ 16384 }
-    ensures { printer.new ≡ printer.old ++ reply_line (unmarked answer.now) }
+    ensures { printer.new ≡ printer.old ++ reply_line answer.now }
 {
     match answer {
         Answer::Mutator(reply) => print_reply(printer, reply),
         Answer::Collector(reply) => print_step_reply(printer, *reply),
         Answer::Useful(reply) => print_step_reply(printer, *reply),
     }
-}
-
-/// Writes the line of each answer, or a front of these lines before the writer fails.
-pub fn write_replies<W: Write>(writer: &mut Sink<W>, history: &[Entry]) -> Result<(), Failed>
-    ensures ok { OnOk result (Appends
-        (bytes_written W.contents writer.old) (bytes_written W.contents writer.new)
-        (reply_text (answers_of history.now))) }
-    ensures err { OnErr result (SendsFront
-        (bytes_written W.contents writer.old) (bytes_written W.contents writer.new)
-        (reply_text (answers_of history.now))) }
-    ensures failed { OnErr result (sink_failed writer.new ≡ true) }
-{
-    let mut printer = Printer::new();
-    for entry in history {
-        match printer.make_room(writer, LINE) {
-            Ok(()) => print_answer(&mut printer, &entry.answer),
-            Err(failed) => return Err(failed),
-        }
-    }
-    printer.flush(writer)
 }

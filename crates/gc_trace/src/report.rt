@@ -62,7 +62,7 @@ impl Report {
     ghost use Rattle.gc_trace.specs.Internal.Report.{with_answer, FitsU64};
 
     /// Nothing happened yet, and this is the mutators' space.
-    fn of_space(space: &Space) -> Report
+    pub(crate) fn of_space(space: &Space) -> Report
         ensures { result ≡ record {
           events = 0;
           made = 0;
@@ -79,15 +79,25 @@ impl Report {
           free = free_in space.now;
         } }
     {
+        NOTHING.with_space(space)
+    }
+
+    /// Returns the same counts with the numbers of this space.
+    pub(crate) fn with_space(self, space: &Space) -> Report
+        ensures { result ≡ record self {
+          end = end_of space.now;
+          free = free_in space.now;
+        } }
+    {
         Report {
             end: u64::from(space.end()),
             free: u64::from(space.free()),
-            ..NOTHING
+            ..self
         }
     }
 
     /// Counts an event by its answer.
-    fn count(&mut self, answer: &Answer)
+    pub(crate) fn count(&mut self, answer: &Answer)
         requires { FitsU64 (with_answer self.old (unmarked answer.now)) }
         ensures { self.new ≡ with_answer self.old (unmarked answer.now) }
     {

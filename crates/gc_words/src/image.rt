@@ -20,7 +20,8 @@ pub struct ImageRef<'a> {
     pub raws: bool,
 }
 
-/// An object of an old space and its replica in a new one.
+/// An object of an old space and its replica in a new one. C has the same struct, so that it passes pairs uncopied.
+#[repr(C)]
 #[derive(Clone, Copy, Debug, PartialEq, Eq)]
 pub struct Pair {
     pub old: OldAddr,

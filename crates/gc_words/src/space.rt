@@ -1,4 +1,5 @@
 use crate::header::Header;
+use crate::image::ImageRef;
 use crate::layout::{clear_links, field_index, has_start, link_index};
 use crate::shape::next_start;
 use crate::value::Addr;
@@ -35,7 +36,8 @@ impl Space {
     ghost use Rattle.gc_words.specs.Layout.{next_place};
     ghost use Rattle.gc_words.specs.Walking.{next_of};
     ghost use Rattle.gc_words.specs.declared.header.Header.{Header};
-    ghost use Rattle.gc_words.specs.Space.{IsSpace, empty_space, end_of, free_in, HasRoomFor, with_block, with_object, with_field_at, with_link, without_links};
+    ghost use Rattle.gc_words.specs.Space.{IsSpace, empty_space, end_of, free_in, HasRoomFor, with_block, with_object, with_field_at, with_link, without_links, image_with};
+    ghost use Rattle.gc_words.specs.Views.{image_of};
 
     /// A space of so many words, without objects.
     pub fn new(alloc: Global, size: u32) -> Result<Space, NoMemory>
@@ -205,6 +207,20 @@ impl Space {
         ensures shaped { IsSpace self.new }
     {
         clear_links(&mut self.words);
+    }
+
+    /// Returns the image of the space with these roots, links included.
+    pub fn image<'a>(&'a self, roots: &'a [u64]) -> ImageRef<'a>
+        ensures value { image_of result ≡ image_with self.now roots.now }
+        ensures shaped { IsSpace self.now }
+    {
+        ImageRef {
+            size: self.size,
+            end: self.end(),
+            words: self.words(),
+            roots,
+            raws: true,
+        }
     }
 
     /// The words up to the end, without the room behind it.

@@ -11,10 +11,12 @@ use gc_graph::Number;
 pub struct Addr(pub u32);
 
 /// An address in the old space of a pair of spaces.
+#[repr(C)]
 #[derive(Clone, Copy, Debug, PartialEq, Eq)]
 pub struct OldAddr(pub u32);
 
 /// An address in the new space of a pair of spaces.
+#[repr(C)]
 #[derive(Clone, Copy, Debug, PartialEq, Eq)]
 pub struct NewAddr(pub u32);
 

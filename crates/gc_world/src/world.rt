@@ -160,7 +160,7 @@ impl World {
         ensures refused { OnErr result (self.new ≡ self.old) }
     {
         make_room(&mut self.history)?;
-        let step = self.heap.useful_step();
+        let step = self.heap.next_useful_step();
         let reply = perform(&mut self.heap, &mut self.kept, &Parallel::new(rt), step)?;
         record_step(&mut self.history, step, Answer::Useful(reply));
         Ok((step, reply))

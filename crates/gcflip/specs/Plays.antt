@@ -1,13 +1,11 @@
--- What the program writes for a trace. The status is beside it; the world and the report are dropped.
+-- What the program writes for a trace. The status is beside it; the report is dropped.
 use Rattle.std.specs.Prelude.{ℕ, List, Option}
-use Rattle.gc_trace.specs.Plays.{Reports}
-use Rattle.gc_trace.specs.WorldRuns.{PlaysIn}
+use Rattle.gc_trace.specs.Plays.{Plays, Reports}
 use Rattle.gc_trace.specs.declared.report.Report.{Report}
-use Rattle.gc_world.specs.World.{Past}
 
 -- the text is of a trace, and its reply lines went out
 abbrev pub WritesReplies : List ℕ → Option (List ℕ) → Option (List ℕ) → Type 0
-WritesReplies text old new = (past : Past) × PlaysIn text past old new
+WritesReplies text old new = (report : Report) × Plays text report old new
 
 -- the text is of a trace, and the text of its report went out
 abbrev pub WritesReport : List ℕ → Option (List ℕ) → Option (List ℕ) → Type 0

@@ -29,13 +29,7 @@ impl Collection {
         ensures words { image_in result ≡ image_with self.now.space roots.now }
         ensures sound { IsCollection self.now }
     {
-        ImageRef {
-            size: self.space.size(),
-            end: self.space.end(),
-            words: self.space.words(),
-            roots,
-            raws: true,
-        }
+        self.space.image(roots)
     }
 
     /// Lets the mutators go on in the new space with its links cleared and these roots, those of `new_roots`.

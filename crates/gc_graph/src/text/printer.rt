@@ -1,3 +1,4 @@
+use crate::no_memory::NoMemory;
 use crate::text::sink::Sink;
 use crate::text::source::Failed;
 use arrayvec::ArrayVec;
@@ -47,6 +48,33 @@ impl Printer {
             return Ok(());
         }
         self.flush(writer)
+    }
+
+    /// Makes room for so many bytes: where there is too little, what waits moves to the end of the text. On
+    /// `NoMemory` nothing has moved.
+    pub fn gather(&mut self, text: &mut Vec<u8>, count: usize) -> Result<(), NoMemory>
+        requires { count ≤ 16384 }
+        ensures room { OnOk result (length self.new + count ≤ 16384) }
+        ensures moved { text.new.items ++ self.new ≡ text.old.items ++ self.old }
+        ensures refused { OnErr result (self.new ≡ self.old) }
+    {
+        if count > self.waiting.remaining_capacity() {
+            return self.gather_all(text);
+        }
+        Ok(())
+    }
+
+    /// Moves what waits to the end of the text. On `NoMemory` nothing has moved.
+    pub fn gather_all(&mut self, text: &mut Vec<u8>) -> Result<(), NoMemory>
+        ensures empty { OnOk result (self.new ≡ []) }
+        ensures moved { text.new.items ++ self.new ≡ text.old.items ++ self.old }
+        ensures refused { OnErr result (self.new ≡ self.old) }
+    {
+        if text.extend_from_slice(self.waiting.as_slice()).is_err() {
+            return Err(NoMemory);
+        }
+        self.waiting.clear();
+        Ok(())
     }
 
     /// The bytes wait, behind what waits already.

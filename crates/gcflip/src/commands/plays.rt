@@ -21,7 +21,7 @@ pub fn play_from<R: Read, W: Write>(
     ensures statuses { IfOk result (λ status. status ≡ 0) }
     ensures player { IfErr result IsOfPlay }
 {
-    gc_trace::play_world(alloc, reader, writer)?;
+    gc_trace::play(alloc, reader, writer)?;
     Ok(0)
 }
 

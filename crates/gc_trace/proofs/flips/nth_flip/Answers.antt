@@ -1,8 +1,10 @@
-use Rattle.std.proofs.Common.{◌∙◌, ap, arith, inl, inr}
+use Rattle.std.proofs.Common.{◌∙◌, ◌-◌, sym, ap, subst, arith, inl, inr, rules}
+use Rattle.std.specs.Prelude.{slice_get}
+use Rattle.gc_copy.specs.State.{State}
+use Rattle.gc_copy.specs.Belonging.{IsState}
 use Rattle.std.specs.Option.{option_map}
 use Rattle.gc_cert.specs.Views.{pair_in}
-use Rattle.gc_world.specs.World.{present}
-use Rattle.gc_trace.specs.Flips.{nth_flip}
+use Rattle.gc_trace.specs.Flips.{nth_flip, flips}
 use Rattle.gc_trace.specs.Views.{recording}
 use Rattle.gc_trace.proofs.FlipPairs.{Counted, next_flip}
 use Rattle.gc_trace.proofs.flips.nth_flip.Goals as goal
@@ -15,13 +17,22 @@ counted c =
       | in_default w ↦ inl (ap (option_map pair_in) w.in_default.is, w.before-is)
     ]
 
+pub loop-event-init : goal.loop-event-init
+loop-event-init c =
+    let t = c.args.trace.now in
+    let opened = c.in_ok-heap.ensures in
+    record {
+      mutators = ap (λ (s : State). s.mutators) opened;
+      sound = subst IsState (sym opened) (c.states_are_kept.ensures.opening t.size t.mutators (search rules) (search rules));
+      flips = ap (λ (s : State). slice_get (flips s t.events.items) (c.args.n - 1)) opened;
+    }
+
 pub loop-event-preserved : goal.loop-event-preserved
 loop-event-preserved c =
-    let happened = c.in_ok-kept.ensures.happened in
     record {
-      mutators = happened.mutators ∙ c.loop-event.invariant.mutators;
-      kept = happened.kept;
+      mutators = c.flip_in.ensures.mutators ∙ c.loop-event.invariant.mutators;
+      sound = c.in_ok-kept.ensures.sound;
       flips =
-          next_flip (present c.loop-event.world) (present c.flip_in.new.world) c.args.trace.now.events.items c.loop-event.event-index c.loop-event.before c.match-kept.before c.event-item.result _ (nth_flip c.args.n (recording c.args.trace.now))
-          (rw c.deref-event-items.ensures.value at c.loop-event-test.true) (rw c.deref-event-items.ensures.value at c.event-item.is) happened.state c.in_ok-kept.ensures.flip c.loop-event.invariant.flips (counted c);
+          next_flip c.loop-event.heap c.flip_in.new.heap c.args.trace.now.events.items c.loop-event.event-index c.loop-event.before c.match-kept.before c.event-item.result _ (nth_flip c.args.n (recording c.args.trace.now))
+          (rw c.deref-event-items.ensures.value at c.loop-event-test.true) (rw c.deref-event-items.ensures.value at c.event-item.is) c.in_ok-kept.ensures.happened c.in_ok-kept.ensures.flip c.loop-event.invariant.flips (counted c);
     }

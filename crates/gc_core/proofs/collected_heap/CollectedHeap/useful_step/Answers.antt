@@ -8,5 +8,5 @@ pub returns-in-Some-next_log-clause-step : goal.returns-in-Some-next_log-clause-
 returns-in-Some-next_log-clause-step c =
     subst (λ (s : State). c.in-Some-next_log.m < s.mutators) c.self.view_is
     (log_is_one c.self.inside.heap c.in-Some.collection c.in-Some-next_log.m
-    (subst (Fits c.self.inside.heap) c.in-Some.is c.self.invariant)
+    (subst (Fits c.self.inside.heap) c.in-Some.is c.self.invariant.0)
     (sym c.in-Some-next_log.ensures))

@@ -1,0 +1,301 @@
+/* Records a run: include this in place of gcflip_heap.h, and each call on a heap also writes its line of a `heaptrace`, so
+ * that `gcflip play` replays the run and `gcflip report` and `gcflip pair` tell of it.
+ *
+ * The program defines the stream, and may set it to NULL to record nothing:
+ *
+ *     FILE *gcflip_trace;
+ *
+ * One heap is recorded at a time: what is written from one gcflip_heap_open on is one trace. A call that returns
+ * another answer than GCFLIP_HEAP_DONE did not happen and has no line. gcflip_heap_work makes the same useful steps one
+ * by one, and each has its line. Calls that only read have none. The stream's own faults are for the program to find
+ * (ferror). A trace of more than 16777216 bytes is not replayed.
+ */
+#ifndef GCFLIP_RECORD_H
+#define GCFLIP_RECORD_H
+
+#include "gcflip_heap.h"
+#include <stdio.h>
+
+#ifdef __cplusplus
+extern "C" {
+#endif
+
+extern FILE *gcflip_trace;
+
+/* Whether the call has a line. */
+static inline int gcflip_recorded(uint32_t answer)
+{
+    return answer == GCFLIP_HEAP_DONE && gcflip_trace != NULL;
+}
+
+static inline void gcflip_trace_slot(uint8_t slot)
+{
+    fprintf(gcflip_trace, " %c%u", slot < 16 ? 'r' : 'g', slot % 16u);
+}
+
+static inline void gcflip_trace_command(uint8_t m, const char *name)
+{
+    fprintf(gcflip_trace, "m %u %s", m, name);
+}
+
+static inline void gcflip_trace_number(uint64_t n)
+{
+    fprintf(gcflip_trace, " %llu", (unsigned long long)n);
+}
+
+static inline void gcflip_trace_end(void)
+{
+    fputc('\n', gcflip_trace);
+}
+
+static inline uint32_t gcflip_record_open(gcflip_heap *heap, uint32_t size, uint8_t mutators)
+{
+    uint32_t answer = gcflip_heap_open(heap, size, mutators);
+    if (gcflip_recorded(answer))
+        fprintf(gcflip_trace, "heaptrace 3\nspace %u mutators %u\n", size, mutators);
+    return answer;
+}
+
+static inline uint32_t gcflip_record_new(gcflip_heap *heap, uint8_t m, uint8_t d, uint8_t kind, uint16_t count, gcflip_reply *reply)
+{
+    uint32_t answer = gcflip_heap_new(heap, m, d, kind, count, reply);
+    if (gcflip_recorded(answer)) {
+        gcflip_trace_command(m, "new");
+        gcflip_trace_slot(d);
+        gcflip_trace_number(kind);
+        gcflip_trace_number(count);
+        gcflip_trace_end();
+    }
+    return answer;
+}
+
+static inline uint32_t gcflip_record_raw(gcflip_heap *heap, uint8_t m, uint8_t d, uint8_t kind, uint16_t count, gcflip_reply *reply)
+{
+    uint32_t answer = gcflip_heap_raw(heap, m, d, kind, count, reply);
+    if (gcflip_recorded(answer)) {
+        gcflip_trace_command(m, "raw");
+        gcflip_trace_slot(d);
+        gcflip_trace_number(kind);
+        gcflip_trace_number(count);
+        gcflip_trace_end();
+    }
+    return answer;
+}
+
+static inline uint32_t gcflip_record_num(gcflip_heap *heap, uint8_t m, uint8_t d, uint64_t n, gcflip_reply *reply)
+{
+    uint32_t answer = gcflip_heap_num(heap, m, d, n, reply);
+    if (gcflip_recorded(answer)) {
+        gcflip_trace_command(m, "num");
+        gcflip_trace_slot(d);
+        gcflip_trace_number(n);
+        gcflip_trace_end();
+    }
+    return answer;
+}
+
+static inline uint32_t gcflip_record_nil(gcflip_heap *heap, uint8_t m, uint8_t d, gcflip_reply *reply)
+{
+    uint32_t answer = gcflip_heap_nil(heap, m, d, reply);
+    if (gcflip_recorded(answer)) {
+        gcflip_trace_command(m, "nil");
+        gcflip_trace_slot(d);
+        gcflip_trace_end();
+    }
+    return answer;
+}
+
+static inline uint32_t gcflip_record_move(gcflip_heap *heap, uint8_t m, uint8_t d, uint8_t s, gcflip_reply *reply)
+{
+    uint32_t answer = gcflip_heap_move(heap, m, d, s, reply);
+    if (gcflip_recorded(answer)) {
+        gcflip_trace_command(m, "move");
+        gcflip_trace_slot(d);
+        gcflip_trace_slot(s);
+        gcflip_trace_end();
+    }
+    return answer;
+}
+
+static inline uint32_t gcflip_record_get(gcflip_heap *heap, uint8_t m, uint8_t d, uint8_t s, uint16_t i, gcflip_reply *reply)
+{
+    uint32_t answer = gcflip_heap_get(heap, m, d, s, i, reply);
+    if (gcflip_recorded(answer)) {
+        gcflip_trace_command(m, "get");
+        gcflip_trace_slot(d);
+        gcflip_trace_slot(s);
+        gcflip_trace_number(i);
+        gcflip_trace_end();
+    }
+    return answer;
+}
+
+static inline uint32_t gcflip_record_put(gcflip_heap *heap, uint8_t m, uint8_t s, uint16_t i, uint8_t t, gcflip_reply *reply)
+{
+    uint32_t answer = gcflip_heap_put(heap, m, s, i, t, reply);
+    if (gcflip_recorded(answer)) {
+        gcflip_trace_command(m, "put");
+        gcflip_trace_slot(s);
+        gcflip_trace_number(i);
+        gcflip_trace_slot(t);
+        gcflip_trace_end();
+    }
+    return answer;
+}
+
+static inline uint32_t gcflip_record_same(gcflip_heap *heap, uint8_t m, uint8_t s, uint8_t t, gcflip_reply *reply)
+{
+    uint32_t answer = gcflip_heap_same(heap, m, s, t, reply);
+    if (gcflip_recorded(answer)) {
+        gcflip_trace_command(m, "same");
+        gcflip_trace_slot(s);
+        gcflip_trace_slot(t);
+        gcflip_trace_end();
+    }
+    return answer;
+}
+
+static inline uint32_t gcflip_record_look(gcflip_heap *heap, uint8_t m, uint8_t s, gcflip_reply *reply)
+{
+    uint32_t answer = gcflip_heap_look(heap, m, s, reply);
+    if (gcflip_recorded(answer)) {
+        gcflip_trace_command(m, "look");
+        gcflip_trace_slot(s);
+        gcflip_trace_end();
+    }
+    return answer;
+}
+
+static inline uint32_t gcflip_record_begin(gcflip_heap *heap, gcflip_reply *reply)
+{
+    uint32_t answer = gcflip_heap_begin(heap, reply);
+    if (gcflip_recorded(answer))
+        fprintf(gcflip_trace, "c begin\n");
+    return answer;
+}
+
+static inline uint32_t gcflip_record_roots(gcflip_heap *heap, gcflip_reply *reply)
+{
+    uint32_t answer = gcflip_heap_roots(heap, reply);
+    if (gcflip_recorded(answer))
+        fprintf(gcflip_trace, "c roots\n");
+    return answer;
+}
+
+static inline uint32_t gcflip_record_scan(gcflip_heap *heap, gcflip_reply *reply)
+{
+    uint32_t answer = gcflip_heap_scan(heap, reply);
+    if (gcflip_recorded(answer))
+        fprintf(gcflip_trace, "c scan\n");
+    return answer;
+}
+
+static inline uint32_t gcflip_record_flip(gcflip_heap *heap, gcflip_reply *reply)
+{
+    uint32_t answer = gcflip_heap_flip(heap, reply);
+    if (gcflip_recorded(answer))
+        fprintf(gcflip_trace, "c flip\n");
+    return answer;
+}
+
+static inline uint32_t gcflip_record_drop(gcflip_heap *heap, gcflip_reply *reply)
+{
+    uint32_t answer = gcflip_heap_drop(heap, reply);
+    if (gcflip_recorded(answer))
+        fprintf(gcflip_trace, "c drop\n");
+    return answer;
+}
+
+static inline uint32_t gcflip_record_begin_sized(gcflip_heap *heap, uint32_t size, gcflip_reply *reply)
+{
+    uint32_t answer = gcflip_heap_begin_sized(heap, size, reply);
+    if (gcflip_recorded(answer))
+        fprintf(gcflip_trace, "c begin %u\n", size);
+    return answer;
+}
+
+static inline uint32_t gcflip_record_apply(gcflip_heap *heap, uint8_t m, gcflip_reply *reply)
+{
+    uint32_t answer = gcflip_heap_apply(heap, m, reply);
+    if (gcflip_recorded(answer))
+        fprintf(gcflip_trace, "c apply %u\n", m);
+    return answer;
+}
+
+/* Makes the useful step and records it, but not the steps that were clean. */
+static inline uint32_t gcflip_record_useful(gcflip_heap *heap, const gcflip_counts *counts, gcflip_reply *reply)
+{
+    uint8_t m;
+    if (!counts->is_open)
+        return gcflip_record_begin(heap, reply);
+    gcflip_heap_roots(heap, reply);
+    if (reply->reply != GCFLIP_CLEAN) {
+        if (gcflip_trace)
+            fprintf(gcflip_trace, "c roots\n");
+        return GCFLIP_HEAP_DONE;
+    }
+    gcflip_heap_scan(heap, reply);
+    if (reply->reply != GCFLIP_CLEAN) {
+        if (gcflip_trace)
+            fprintf(gcflip_trace, "c scan\n");
+        return GCFLIP_HEAP_DONE;
+    }
+    for (m = 0; m < counts->mutators; m++) {
+        size_t length;
+        gcflip_heap_log_length(heap, m, &length);
+        if (length > 0)
+            return gcflip_record_apply(heap, m, reply);
+    }
+    return gcflip_record_flip(heap, reply);
+}
+
+static inline uint32_t gcflip_record_work(gcflip_heap *heap, uint32_t most, gcflip_work *work)
+{
+    gcflip_counts counts;
+    gcflip_work made = {0, 0, {0, 0, 0, 0, 0}};
+    uint32_t start, answer = gcflip_heap_counts(heap, &counts);
+    if (answer != GCFLIP_HEAP_DONE)
+        return answer;
+    if (most == 0)
+        return GCFLIP_HEAP_OUT_OF_RANGE;
+    start = counts.is_open ? counts.new_end : 1;
+    while (made.steps < most) {
+        answer = gcflip_record_useful(heap, &counts, &made.last);
+        if (answer != GCFLIP_HEAP_DONE)
+            break;
+        made.steps++;
+        gcflip_heap_counts(heap, &counts);
+        made.copied = (counts.is_open ? counts.new_end : counts.end) - start;
+        if (made.last.reply == GCFLIP_FLIPPED || made.last.reply == GCFLIP_NO_ROOM)
+            break;
+    }
+    if (made.steps == 0)
+        return answer;
+    *work = made;
+    return GCFLIP_HEAP_DONE;
+}
+
+#ifdef __cplusplus
+}
+#endif
+
+#define gcflip_heap_open gcflip_record_open
+#define gcflip_heap_new gcflip_record_new
+#define gcflip_heap_raw gcflip_record_raw
+#define gcflip_heap_num gcflip_record_num
+#define gcflip_heap_nil gcflip_record_nil
+#define gcflip_heap_move gcflip_record_move
+#define gcflip_heap_get gcflip_record_get
+#define gcflip_heap_put gcflip_record_put
+#define gcflip_heap_same gcflip_record_same
+#define gcflip_heap_look gcflip_record_look
+#define gcflip_heap_begin gcflip_record_begin
+#define gcflip_heap_begin_sized gcflip_record_begin_sized
+#define gcflip_heap_roots gcflip_record_roots
+#define gcflip_heap_scan gcflip_record_scan
+#define gcflip_heap_apply gcflip_record_apply
+#define gcflip_heap_flip gcflip_record_flip
+#define gcflip_heap_drop gcflip_record_drop
+#define gcflip_heap_work gcflip_record_work
+
+#endif

@@ -1,0 +1,9 @@
+-- What stays true of a collection while no mutator acts.
+use Rattle.std.specs.Prelude.{◌≡◌, true, IfSome}
+use Rattle.gc_copy.specs.State.{State}
+use Rattle.gc_copy.specs.Steps.{roots_done}
+use Rattle.gc_copy.specs.declared.step.StepReply.{StepReply}
+
+-- after the step, the target of each root has a replica in the collection that is open then, if one is
+abbrev pub StaysDone : StepReply × State → Type 0
+StaysDone next = IfSome next.1.collection (λ c. roots_done c next.1.heap.graph ≡ true)

@@ -1,0 +1,57 @@
+//! What a debugger or a runtime's own decisions read of an open collection.
+
+ghost use Rattle.std.specs.Prelude.{◌≡◌, ◌<◌, length, slice_get};
+ghost use Rattle.std.specs.Option.{option_map};
+ghost use Rattle.gc_copy.specs.Entries.{entry_in};
+ghost use Rattle.gc_copy.specs.State.{new_end};
+ghost use Rattle.gc_copy.specs.Steps.{log_at};
+ghost use Rattle.gc_copy.specs.Words.{collection_in};
+
+use super::Collection;
+use crate::log::LogEntry;
+
+impl Collection {
+    /// Returns the size of the new space (to-space) in words.
+    pub fn size(&self) -> u32
+        ensures { result ≡ self.now.space.size }
+    {
+        self.space.size()
+    }
+
+    /// Returns the first word of the new space (to-space) that no replica takes.
+    pub fn end(&self) -> u32
+        ensures { result ≡ new_end (collection_in self.now) }
+    {
+        self.space.end()
+    }
+
+    /// Returns the place in the new space that the scan pointer has come to.
+    pub fn scan_place(&self) -> u32
+        ensures { result ≡ self.now.scan_place }
+    {
+        self.scan_place.0
+    }
+
+    /// Returns how many fields of the replica at the scan pointer are scanned.
+    pub fn scan_field(&self) -> u16
+        ensures { result ≡ self.now.scan_field }
+    {
+        self.scan_field
+    }
+
+    /// Returns how many entries mutator `m`'s log has.
+    pub fn log_len(&self, m: u8) -> usize
+        requires { m < length self.now.logs }
+        ensures { result ≡ length (log_at (collection_in self.now) m) }
+    {
+        self.logs[m as usize].len()
+    }
+
+    /// Returns entry `k` of mutator `m`'s log, counted from the oldest; None if it has no such entry.
+    pub fn log_entry(&self, m: u8, k: usize) -> Option<LogEntry>
+        requires { m < length self.now.logs }
+        ensures { option_map entry_in result ≡ slice_get (log_at (collection_in self.now) m) k }
+    {
+        self.logs[m as usize].entry(k)
+    }
+}

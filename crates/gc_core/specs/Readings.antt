@@ -1,0 +1,35 @@
+-- What is read of a state: both spaces with their links, how far a collection has come, and logs.
+use Rattle.std.specs.Prelude.{ℕ, List, [], Option, Some, None}
+use Rattle.std.specs.Option.{option_map}
+use Rattle.gc_words.specs.Image.{Image}
+use Rattle.gc_words.specs.Spelling.{no_links}
+use Rattle.gc_copy.specs.State.{State, Collection, new_end}
+use Rattle.gc_copy.specs.Linked.{linked_image, old_links, new_image}
+use Rattle.gc_copy.specs.Steps.{log_at}
+use Rattle.gc_core.specs.declared.reading.NewSpace.{NewSpace}
+
+-- the links of the mutators' space: originals have those of the open collection
+abbrev pub links_of : Option Collection → ℕ → ℕ
+links_of None = no_links
+links_of (Some c) = old_links c
+
+abbrev pub heap_image : State → Image
+heap_image s = linked_image (links_of s.collection) s.size s.heap.graph
+
+-- the words of the open collection's new space
+abbrev pub new_words : State → Option (List ℕ)
+new_words s = option_map (λ c. (new_image s c).words) s.collection
+
+abbrev pub new_space_in : Collection → NewSpace
+new_space_in c = record { size = c.size; end = new_end c; scan_place = c.scan_place; scan_field = c.scan_field }
+
+abbrev pub new_space : State → Option NewSpace
+new_space s = option_map new_space_in s.collection
+
+abbrev pub log_in : Option Collection → ℕ → List (ℕ × ℕ)
+log_in None m = []
+log_in (Some c) m = log_at c m
+
+-- mutator m's log
+abbrev pub log_of : State → ℕ → List (ℕ × ℕ)
+log_of s m = log_in s.collection m

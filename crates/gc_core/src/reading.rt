@@ -1,0 +1,102 @@
+//! What a runtime decides by, and what a debugger shows: sizes, logs, and both spaces with their links.
+
+ghost use Rattle.std.specs.Prelude.{◌≡◌, ◌<◌, length, slice_get};
+ghost use Rattle.std.specs.Option.{option_map};
+ghost use Rattle.gc_words.specs.Views.{image_of};
+ghost use Rattle.gc_copy.specs.Entries.{entry_in};
+ghost use Rattle.gc_copy.specs.State.{heap_end};
+ghost use Rattle.gc_core.specs.Readings.{heap_image, new_words, new_space, log_of};
+
+use crate::collected_heap::CollectedHeap;
+use gc_copy::{LogEntry, images_show_links};
+use gc_words::ImageRef;
+
+/// How far an open collection has come.
+#[derive(Clone, Copy, Debug, PartialEq, Eq)]
+pub struct NewSpace {
+    /// How many words the new space (to-space) has.
+    pub size: u32,
+    /// The first word that no replica takes.
+    pub end: u32,
+    /// The replica that the scan has come to, or the end.
+    pub scan_place: u32,
+    /// How many fields of that replica are scanned.
+    pub scan_field: u16,
+}
+
+impl CollectedHeap {
+    /// Returns how many words the mutators' space has.
+    pub fn size(&self) -> u32
+        ensures { result ≡ self.now.size }
+    {
+        self.heap.space().size()
+    }
+
+    /// Returns the first word of the mutators' space that no object takes.
+    pub fn end(&self) -> u32
+        ensures { result ≡ heap_end self.now }
+    {
+        self.heap.space().end()
+    }
+
+    /// Returns how many words of the mutators' space no object takes.
+    pub fn free(&self) -> u32
+        ensures { result ≡ self.now.heap.free }
+    {
+        self.heap.space().free()
+    }
+
+    /// Returns how far the open collection has come; None if none is open.
+    pub fn new_space(&self) -> Option<NewSpace>
+        ensures { result ≡ new_space self.now }
+    {
+        let collection = self.collection.as_ref()?;
+        Some(NewSpace {
+            size: collection.size(),
+            end: collection.end(),
+            scan_place: collection.scan_place(),
+            scan_field: collection.scan_field(),
+        })
+    }
+
+    /// Returns how many entries mutator `m`'s log has: none if no collection is open.
+    pub fn log_len(&self, m: u8) -> usize
+        requires { m < self.now.mutators }
+        ensures { result ≡ length (log_of self.now m) }
+    {
+        match &self.collection {
+            None => 0,
+            Some(collection) => collection.log_len(m),
+        }
+    }
+
+    /// Returns entry `k` of mutator `m`'s log, counted from the oldest.
+    pub fn log_entry(&self, m: u8, k: usize) -> Option<LogEntry>
+        requires { m < self.now.mutators }
+        ensures { option_map entry_in result ≡ slice_get (log_of self.now m) k }
+    {
+        match &self.collection {
+            None => None,
+            Some(collection) => collection.log_entry(m, k),
+        }
+    }
+
+    /// Returns the mutators' space with its links, and the roots.
+    pub fn image(&self) -> ImageRef<'_>
+        ensures { image_of result ≡ heap_image self.now }
+    {
+        images_show_links();
+        // Here the prover learns that the heap is sound.
+        let _ = self.heap.space();
+        self.heap.image()
+    }
+
+    /// Returns the words of the open collection's new space (to-space) with its links; None if none is open.
+    pub fn new_words(&self) -> Option<&[u64]>
+        ensures { option_map (λ words. words.now) result ≡ new_words self.now }
+    {
+        images_show_links();
+        let collection = self.collection.as_ref()?;
+        Some(collection.new_image(&[]).words)
+    }
+}

@@ -1,0 +1,23 @@
+use Rattle.std.proofs.Common.{rules}
+use Rattle.gc_trace.proofs.PlayedEvents.{state_is, counts_are, lines_are}
+use Rattle.gc_trace.proofs.playing.Player.take.Goals as goal
+
+pub returns-in_default-clause-played : goal.returns-in_default-clause-played
+returns-in_default-clause-played c s events h =
+    let player = c.args.self.now in
+    let made = c.in_ok-answer.ensures in
+    record {
+      state = state_is s events c.args.event.now player.heap _ h.state made.happened;
+      counts = counts_are s events c.args.event.now player.heap _ player.report _ h.state made.answer h.counts c.count.ensures;
+      lines = search rules;
+    }
+
+pub returns-clause-played : goal.returns-clause-played
+returns-clause-played c s events h =
+    let player = c.args.self.now in
+    let made = c.in_ok-answer.ensures in
+    record {
+      state = state_is s events c.args.event.now player.heap _ h.state made.happened;
+      counts = counts_are s events c.args.event.now player.heap _ player.report _ h.state made.answer h.counts c.count.ensures;
+      lines = λ told. lines_are s events c.args.event.now player.heap _ _ c.gather.new.text.items c.gather.new.self _ h.state made.answer (h.lines told) c.gather.ensures.moved c.print_answer.ensures;
+    }

@@ -1,0 +1,15 @@
+-- What a player holds.
+use Rattle.std.specs.Prelude.{◌≡◌, ◌++◌, List}
+use Rattle.gc_copy.specs.State.{State}
+use Rattle.gc_copy.specs.Runs.{answers, state_after}
+use Rattle.gc_copy.specs.declared.event.Event.{Event}
+use Rattle.gc_trace.specs.Replies.{reply_text}
+use Rattle.gc_trace.specs.Report.{report_of}
+use Rattle.gc_trace.specs.declared.playing.Gather.TheVariants.{Replies}
+use Rattle.gc_trace.specs.declared.playing.Player.{Player}
+
+-- it has played these events from a state on: what is counted of their answers, and their reply lines, if they are gathered
+pub record HasPlayed (s : State) (events : List Event) (player : Player) : Type 0 where
+  pub state : player.heap ≡ state_after s events
+  pub counts : player.report ≡ report_of (answers s events) s
+  pub lines : player.gather ≡ Replies → player.text.items ++ player.printer ≡ reply_text (answers s events)

@@ -1,0 +1,176 @@
+ghost use Rattle.std.specs.Prelude.{◌≡◌, ◌≤◌, ◌∷◌, ◌++◌, [], List, true, IfOk, OnOk, OnErr};
+ghost use Rattle.gc_graph.specs.Limits.{most_words, most_mutators};
+ghost use Rattle.gc_copy.specs.State.{State, opening_state};
+ghost use Rattle.gc_copy.specs.Belonging.{IsState};
+ghost use Rattle.gc_copy.specs.Runs.{IsEvent, after, answer, answers, state_after};
+ghost use Rattle.gc_copy.specs.declared.event.Event.{Event};
+ghost use Rattle.gc_trace.specs.Grammar.{IsInRange};
+ghost use Rattle.gc_trace.specs.Internal.Playing.{HasPlayed};
+ghost use Rattle.gc_trace.specs.Internal.Report.{with_answer, FitsU64};
+ghost use Rattle.gc_trace.specs.Plays.{opening, answers as answers_of_trace, report_in};
+ghost use Rattle.gc_trace.specs.Replies.{reply_text};
+ghost use Rattle.gc_trace.specs.Report.{report_of};
+ghost use Rattle.gc_trace.specs.Views.{recording};
+
+use crate::replies::{LINE, print_answer};
+use crate::report::Report;
+use crate::trace::Trace;
+use gc_check::Sequential;
+use gc_copy::{Answer, Event, StepReply, heaps_have_addresses_as_names, states_are_kept};
+use gc_core::CollectedHeap;
+use gc_graph::text::Printer;
+use gc_graph::{NoMemory, Reply, View};
+use std::alloc::Global;
+
+/// Performs the event in the heap, and returns its answer. On `NoMemory` the heap is unchanged.
+pub fn answer_in(heap: &mut CollectedHeap, event: &Event) -> Result<Answer, NoMemory>
+    requires { IsEvent heap.old.mutators event.now }
+    ensures answer { IfOk result (λ told. told ≡ answer heap.old event.now) }
+    ensures happened { OnOk result (heap.new ≡ after heap.old event.now) }
+    ensures refused { OnErr result (heap.new ≡ heap.old) }
+    ensures mutators { heap.new.mutators ≡ heap.old.mutators }
+{
+    match event {
+        Event::Mutate { m, op } => {
+            let reply = heap.mutate(*m, op)?;
+            Ok(Answer::Mutator(reply))
+        }
+        Event::Collect(step) => {
+            let reply = heap.collect(&Sequential, *step)?;
+            Ok(Answer::Collector(reply))
+        }
+    }
+}
+
+/// Whether a player gathers the lines of the replies.
+#[derive(Clone, Copy, Debug, PartialEq, Eq)]
+pub enum Gather {
+    Nothing,
+    Replies,
+}
+
+/// What a play of a trace leaves.
+#[derive(Debug, Drop)]
+pub struct Played {
+    /// The reply lines, if they were gathered.
+    pub replies: Vec<u8>,
+    pub report: Report,
+}
+
+/// Plays events one after the other in a heap of its own, and keeps no history: only what is counted of the
+/// answers and, if they are gathered, the reply lines.
+#[derive(Drop)]
+pub struct Player {
+    heap: CollectedHeap,
+    // The counts so far, with the end and the free words of the empty heap.
+    report: Report,
+    gather: Gather,
+    // The reply lines so far: this text, and behind it what waits in the printer.
+    text: Vec<u8>,
+    printer: Printer,
+}
+
+impl Player {
+    ghost use Rattle.gc_trace.specs.declared.playing.Gather.{Gather};
+
+    /// Returns a player of an empty heap of `size` words.
+    fn open(alloc: Global, size: u32, mutators: u8, gather: Gather) -> Result<Player, NoMemory>
+        requires low { 1 ≤ size }
+        requires high { size ≤ most_words }
+        requires some { 1 ≤ mutators }
+        requires few { mutators ≤ most_mutators }
+        ensures played { IfOk result (HasPlayed (opening_state size mutators) []) }
+        ensures sound { IfOk result (λ player. IsState player.heap) }
+        ensures mutators { IfOk result (λ player. player.heap.mutators ≡ mutators) }
+        ensures gather { IfOk result (λ player. player.gather ≡ gather) }
+    {
+        states_are_kept();
+        heaps_have_addresses_as_names();
+        let heap = CollectedHeap::open(alloc, size, mutators)?;
+        let report = Report::of_space(heap.heap().space());
+        Ok(Player {
+            heap,
+            report,
+            gather,
+            text: Vec::new(alloc),
+            printer: Printer::new(),
+        })
+    }
+
+    /// Plays one event more.
+    fn take(&mut self, event: &Event) -> Result<(), NoMemory>
+        requires event { IsEvent self.old.heap.mutators event.now }
+        requires sound { IsState self.old.heap }
+        requires fits { FitsU64 (with_answer self.old.report (answer self.old.heap event.now)) }
+        ensures played { OnOk result ((s : State) (events : List Event) → HasPlayed s events self.old
+            → HasPlayed s (events ++ event.now ∷ []) self.new) }
+        ensures sound { OnOk result (IsState self.new.heap) }
+        ensures mutators { self.new.heap.mutators ≡ self.old.heap.mutators }
+        ensures gather { self.new.gather ≡ self.old.gather }
+    {
+        states_are_kept();
+        // The types of an answer's parts have to be named where one is held.
+        let _named: (Option<Reply>, Option<StepReply>, Option<View>) = (None, None, None);
+        let answer = answer_in(&mut self.heap, event)?;
+        self.report.count(&answer);
+        let Gather::Replies = self.gather else {
+            return Ok(());
+        };
+        self.printer.gather(&mut self.text, LINE)?;
+        print_answer(&mut self.printer, &answer);
+        Ok(())
+    }
+
+    /// Plays all events of the trace, in order, in the empty heap.
+    fn take_all(&mut self, trace: &Trace) -> Result<(), NoMemory>
+        requires trace { IsInRange (recording trace.now) }
+        requires opened { HasPlayed (opening (recording trace.now)) [] self.old }
+        requires sound { IsState self.old.heap }
+        requires mutators { self.old.heap.mutators ≡ trace.now.mutators }
+        ensures played { OnOk result (HasPlayed (opening (recording trace.now)) (recording trace.now).events self.new) }
+        ensures sound { OnOk result (IsState self.new.heap) }
+        ensures gather { self.new.gather ≡ self.old.gather }
+    {
+        for event in &trace.events {
+            self.take(event)?;
+        }
+        Ok(())
+    }
+
+    /// Returns what is left after the last event.
+    fn finish(self) -> Result<Played, NoMemory>
+        requires sound { IsState self.heap }
+        ensures report { (s : State) (events : List Event) → HasPlayed s events self
+            → IfOk result (λ played. played.report ≡ report_of (answers s events) (state_after s events)) }
+        ensures replies { (s : State) (events : List Event) → HasPlayed s events self → self.gather ≡ Gather.Replies
+            → IfOk result (λ played. played.replies.items ≡ reply_text (answers s events)) }
+    {
+        heaps_have_addresses_as_names();
+        let Player {
+            heap: collected,
+            report,
+            gather: _,
+            mut text,
+            mut printer,
+        } = self;
+        printer.gather_all(&mut text)?;
+        Ok(Played {
+            replies: text,
+            report: report.with_space(collected.heap().space()),
+        })
+    }
+}
+
+ghost use Rattle.gc_trace.specs.declared.playing.Gather.{Gather};
+
+/// Plays the events of the trace, in order, in a heap of its own.
+pub fn play_trace(alloc: Global, trace: &Trace, gather: Gather) -> Result<Played, NoMemory>
+    requires { IsInRange (recording trace.now) }
+    ensures report { IfOk result (λ played. played.report ≡ report_in (recording trace.now)) }
+    ensures replies { gather ≡ Gather.Replies
+        → IfOk result (λ played. played.replies.items ≡ reply_text (answers_of_trace (recording trace.now))) }
+{
+    let mut player = Player::open(alloc, trace.size, trace.mutators, gather)?;
+    player.take_all(trace)?;
+    player.finish()
+}

@@ -1,0 +1,51 @@
+-- A verdict as C has it: the number of the refusal, and its places.
+use Rattle.std.specs.Prelude.{◌≡◌, ℕ, List}
+use Rattle.gc_words.specs.declared.refusal.Refusal.{Refusal}
+use Rattle.gc_words.specs.declared.refusal.Refusal.TheVariants.{OldShape, NewShape, RootCount, OldNotStart, NewNotStart, NotRising, Twice, HeaderDiffers, FieldDiffers, RootDiffers}
+use Rattle.gc_check.specs.Texts.{IsVerdictOn}
+use Rattle.gc_check.specs.declared.verdict.Verdict.{Verdict}
+use Rattle.gc_check.specs.declared.verdict.Verdict.TheVariants as verdict
+use Rattle.gcflip_c.specs.declared.verdict.GcflipVerdict.{GcflipVerdict}
+
+abbrev pub yes_in_c : ℕ → GcflipVerdict
+yes_in_c pairs = record { refusal = 0; pairs = pairs; place = 0; field = 0 }
+
+abbrev pub refused_in_c : ℕ → ℕ → ℕ → GcflipVerdict
+refused_in_c refusal place field = record { refusal = refusal; pairs = 0; place = place; field = field }
+
+-- the number and the places that the line of the refusal has
+abbrev pub refusal_in_c : Refusal → GcflipVerdict
+refusal_in_c (OldShape at) = refused_in_c 1 at 0
+refusal_in_c (NewShape at) = refused_in_c 2 at 0
+refusal_in_c RootCount = refused_in_c 3 0 0
+refusal_in_c (OldNotStart k) = refused_in_c 4 k 0
+refusal_in_c (NewNotStart k) = refused_in_c 5 k 0
+refusal_in_c (NotRising k) = refused_in_c 6 k 0
+refusal_in_c (Twice k) = refused_in_c 7 k 0
+refusal_in_c (HeaderDiffers k) = refused_in_c 8 k 0
+refusal_in_c (FieldDiffers k i) = refused_in_c 9 k i
+refusal_in_c (RootDiffers slot) = refused_in_c 10 slot 0
+
+abbrev pub verdict_in_c : Verdict → GcflipVerdict
+verdict_in_c (verdict.Yes pairs) = yes_in_c pairs
+verdict_in_c (verdict.Refused refusal) = refusal_in_c refusal
+
+-- 0 for a yes, 1 for a refusal
+abbrev pub answer_to : Verdict → ℕ
+answer_to (verdict.Yes pairs) = 0
+answer_to (verdict.Refused refusal) = 1
+
+-- a call returned this answer and wrote this verdict
+pub record IsReported (verdict : Verdict) (answer : ℕ) (written : GcflipVerdict) : Type 0 where
+  pub answer_is : answer ≡ answer_to verdict
+  pub written_is : written ≡ verdict_in_c verdict
+
+-- the same of the verdict on the pair that the text spells
+pub record IsReportedOf (text : List ℕ) (answer : ℕ) (written : GcflipVerdict) : Type 0 where
+  pub verdict : Verdict
+  pub about : IsVerdictOn text verdict
+  pub reported : IsReported verdict answer written
+
+-- a bad line of a text
+abbrev pub line_in_c : ℕ → GcflipVerdict
+line_in_c line = refused_in_c 0 line 0

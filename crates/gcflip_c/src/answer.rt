@@ -1,0 +1,63 @@
+ghost use Rattle.std.specs.Prelude.{◌≡◌, ◌<◌, ◌≤◌, ◌^◌, length};
+ghost use Rattle.gc_words.specs.Certificate.{Certified};
+ghost use Rattle.gc_words.specs.Views.{image_of};
+ghost use Rattle.gc_check.specs.Headline.{Replicated};
+ghost use Rattle.gc_check.specs.Verdict.{pairs_of, verdict_of};
+ghost use Rattle.gcflip_c.specs.Verdicts.{IsReported};
+
+use crate::verdict::GcflipVerdict;
+use gc_check::{CheckFault, check};
+use gc_words::{ImageRef, Pair, no_fault_where_certified};
+use std::alloc::Global;
+
+/// The certificate holds.
+pub(crate) const YES: u32 = 0;
+
+/// The certificate does not hold.
+pub(crate) const REFUSED: u32 = 1;
+
+/// An allocation failed.
+pub(crate) const NO_MEMORY: u32 = 2;
+
+/// There are 2^32 pairs or more.
+pub(crate) const TOO_MANY: u32 = 3;
+
+/// The text has more than 67108864 bytes.
+pub(crate) const TOO_LARGE: u32 = 4;
+
+/// A line of the text is bad.
+pub(crate) const BAD_LINE: u32 = 5;
+
+/// The text ends before its last line does.
+pub(crate) const ENDS_EARLY: u32 = 6;
+
+/// Checks the certificate and reports the verdict. On `NO_MEMORY` the verdict is unchanged.
+pub(crate) fn answer(
+    alloc: Global,
+    old: ImageRef,
+    new: ImageRef,
+    pairs: &[Pair],
+    verdict: &mut GcflipVerdict,
+) -> u32
+    requires { length pairs.now < 2 ^ 32 }
+    ensures answers { result ≤ 2 }
+    ensures silent { result ≡ 2 → verdict.new ≡ verdict.old }
+    ensures verdict { result < 2 → IsReported
+        (verdict_of (image_of old.entry) (image_of new.entry) (pairs_of pairs.now)) result verdict.new }
+    ensures yes { result ≡ 0 → Certified (image_of old.entry) (image_of new.entry) (pairs_of pairs.now) }
+    ensures replicated { result ≡ 0
+        → Replicated (image_of old.entry) (image_of new.entry) (pairs_of pairs.now) }
+{
+    no_fault_where_certified();
+    match check(alloc, old, new, pairs) {
+        Ok(yes) => {
+            *verdict = GcflipVerdict::of_yes(yes.pairs);
+            YES
+        }
+        Err(CheckFault::Refused(refusal)) => {
+            *verdict = GcflipVerdict::of_refusal(refusal);
+            REFUSED
+        }
+        Err(CheckFault::NoMemory) => NO_MEMORY,
+    }
+}

@@ -1,0 +1,65 @@
+ghost use Rattle.std.specs.Prelude.{◌≡◌, ◌<◌, ◌≤◌, ◌^◌, ◌↔◌, length};
+ghost use Rattle.gc_words.specs.Certificate.{Certified};
+ghost use Rattle.gc_check.specs.Headline.{Replicated};
+ghost use Rattle.gc_check.specs.Verdict.{pairs_of, verdict_of};
+ghost use Rattle.gcflip_c.specs.Images.{image};
+ghost use Rattle.gcflip_c.specs.Verdicts.{IsReported};
+
+use crate::answer::{TOO_MANY, answer};
+use crate::verdict::GcflipVerdict;
+use gc_words::{ImageRef, Pair};
+use std::alloc::Global;
+
+/// Checks a certificate against two heap images. Returns 0 (yes), 1 (refused), 2 (an allocation failed) or 3
+/// (2^32 pairs or more). Writes nothing but the verdict, and that only for a yes or a refusal.
+#[unsafe(no_mangle)]
+pub extern "C" fn gcflip_check(
+    alloc: Global,
+    old_size: u32,
+    old_end: u32,
+    old_raws: bool,
+    old_words: &[u64],
+    old_roots: &[u64],
+    new_size: u32,
+    new_end: u32,
+    new_raws: bool,
+    new_words: &[u64],
+    new_roots: &[u64],
+    pairs: &[Pair],
+    verdict: &mut GcflipVerdict,
+) -> u32
+    ensures answers { result ≤ 3 }
+    ensures many { (result ≡ 3) ↔ (2 ^ 32 ≤ length pairs.now) }
+    ensures silent { 2 ≤ result → verdict.new ≡ verdict.old }
+    // Yes with the number of pairs if nothing is wrong, else the first refusal.
+    ensures verdict { result < 2 → IsReported (verdict_of
+        (image old_size old_end old_raws old_words.now old_roots.now)
+        (image new_size new_end new_raws new_words.now new_roots.now) (pairs_of pairs.now))
+        result verdict.new }
+    ensures yes { result ≡ 0 → Certified
+        (image old_size old_end old_raws old_words.now old_roots.now)
+        (image new_size new_end new_raws new_words.now new_roots.now) (pairs_of pairs.now) }
+    // What a yes promises to mutators that go on in the new heap.
+    ensures replicated { result ≡ 0 → Replicated
+        (image old_size old_end old_raws old_words.now old_roots.now)
+        (image new_size new_end new_raws new_words.now new_roots.now) (pairs_of pairs.now) }
+{
+    if pairs.len() > u32::MAX as usize {
+        return TOO_MANY;
+    }
+    let old = ImageRef {
+        size: old_size,
+        end: old_end,
+        words: old_words,
+        roots: old_roots,
+        raws: old_raws,
+    };
+    let new = ImageRef {
+        size: new_size,
+        end: new_end,
+        words: new_words,
+        roots: new_roots,
+        raws: new_raws,
+    };
+    answer(alloc, old, new, pairs, verdict)
+}

@@ -1,0 +1,26 @@
+-- A box of a collected heap over the C library's allocator. Its parts and the handle of a heap own what it owns.
+use mathlib.Core.List.{[]}
+use mir.Syntax.{impl, tnil, dnil}
+use denote.RattleType.{RattleType}
+use denote.Signature.{Slot, plain}
+use Rattle.std_alloc.proofs.BoxSteps.Form.{Bx}
+use Rattle.std.specs.contracts.alloc.Global as Global
+use Rattle.std.specs.contracts.impls.GlobalAllocator.TheImpl.{ghosts, dict}
+use Rattle.std.proofs.alloc.Global.TheLaws as global
+use Rattle.gc_core.specs.contracts.collected_heap.CollectedHeap as Heap
+use Rattle.gc_core.proofs.collected_heap.CollectedHeap.TheLaws as heap
+use Rattle.gcflip_heap_c.specs.contracts.parts.Parts as Parts
+use Rattle.gcflip_heap_c.specs.contracts.handle.GcflipHeap as Handle
+
+abbrev pub heap_box : Bx
+heap_box = record { row = Heap.the_row; laws = heap.the_row_laws; al = record { row = Global.the_row; laws = global.the_row_laws; g = ghosts; d = dict; drops = impl [] tnil dnil } }
+
+-- its parts as a type
+abbrev pub Held : RattleType
+Held = Parts.the_row Heap.the_row Global.the_row ghosts
+
+abbrev pub its_parts : Slot 0
+its_parts = plain (λ _. Held)
+
+abbrev pub its_handle : Slot 0
+its_handle = plain (λ _. Handle.the_row)

@@ -1,0 +1,31 @@
+-- One useful step more.
+use Rattle.std.proofs.Common.{◌≡◌, ℕ, suc, ◌-◌, ◌<◌, true, sym, ap, ◌∙◌, subst, ⊎_elim, arith}
+use Rattle.std.proofs.lemmas.Bool.{cases_lt}
+use Rattle.gc_copy.specs.State.{State}
+use Rattle.gc_copy.specs.Steps.{collect, useful_step}
+use Rattle.gc_copy.specs.declared.step.StepReply.{StepReply}
+use Rattle.gcflip_heap_c.specs.Work.{after_useful, useful_reply, goes_on, IsRun}
+
+made : (s : State) (n : ℕ) (t u : State) (reply : StepReply) → t ≡ after_useful n s → collect t (useful_step t) ≡ (reply, u)
+    → (reply ≡ useful_reply n s) × (u ≡ after_useful (suc n) s)
+made s n t u reply is step =
+    let same : (reply, u) ≡ collect (after_useful n s) (useful_step (after_useful n s)) = sym step ∙ ap (λ (x : State). collect x (useful_step x)) is in
+    (ap (λ (p : StepReply × State). p.0) same, ap (λ (p : StepReply × State). p.1) same)
+
+-- the first step
+pub first_run : (s u : State) (reply : StepReply) → collect s (useful_step s) ≡ (reply, u) → IsRun 1 s u reply
+first_run s u reply step =
+    let m = made s 0 s u reply (λ i. s) step in
+    record { some = omega arith; state = m.1; reply_is = m.0; going = λ k less. absurd (omega arith) }
+
+pub longer_run : (s t u : State) (n : ℕ) (before reply : StepReply) → IsRun n s t before → goes_on before ≡ true → collect t (useful_step t) ≡ (reply, u) → IsRun (suc n) s u reply
+longer_run s t u n before reply run on step =
+    let m = made s n t u reply run.state step in
+    let at : n ≡ suc n - 1 = omega arith in
+    record { some = omega arith; state = m.1; reply_is = subst (λ (j : ℕ). reply ≡ useful_reply j s) at m.0; going = going }
+  where
+    going : (k : ℕ) → suc k < suc n → goes_on (useful_reply k s) ≡ true
+    going k less = ⊎_elim
+        (λ early. run.going k early)
+        (λ late. let last : n - 1 ≡ k = omega arith in subst (λ (j : ℕ). goes_on (useful_reply j s) ≡ true) last (ap goes_on (sym run.reply_is) ∙ on))
+        (cases_lt (suc k) n)

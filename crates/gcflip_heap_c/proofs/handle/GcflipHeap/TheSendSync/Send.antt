@@ -1,0 +1,27 @@
+-- A handle may go to another thread: its heap may, and any thread may free the box.
+use Rattle.std.proofs.Common.{Option, Some, None}
+use mir.Raw.{raw}
+use base.Shift.{Keyless}
+use denote.Memory.{lone}
+use denote.RawPtr.{Ptr}
+use denote.Struct.Struct.{exits_of}
+use denote.Struct.Owning.{shape, fields, to}
+use denote.Param.Send.{IsSend, AllSend, owning_send, struct_send, sendable}
+use Rattle.std.specs.declared.alloc.Global.{Global}
+use Rattle.std.proofs.Crossing.{frees}
+use Rattle.std_alloc.proofs.SendSync.{quiet, lies}
+use Rattle.std.proofs.alloc.Global.TheSendSync as handle
+use Rattle.gcflip_heap_c.specs.Handle.{owns_heap}
+use Rattle.gc_core.specs.contracts.collected_heap.CollectedHeap as Row
+use Rattle.gc_core.proofs.collected_heap.CollectedHeap.TheSendSync.{the_send as heap_send}
+use Rattle.gcflip_heap_c.specs.contracts.handle.GcflipHeap.{the_row, the_type}
+
+keyless : (alloc : Global) (at : Ptr) (row : Option Row.the_row.Denot) → Keyless (owns_heap alloc at row)
+keyless alloc at None = tt
+keyless alloc at (Some row) = (lies Row.the_row heap_send at row, frees.frees alloc (raw (lone Row.the_row.mir)) at)
+
+pub send : IsSend the_row
+send =
+    let all : AllSend (fields the_type) = (search sendable, (handle.the_field_send, tt)) in
+    owning_send the_type all (λ h. keyless h.alloc h.at h.state)
+    (λ k. quiet (to the_type) (exits_of k (fields the_type)) ((struct_send (shape the_type) all).leaving k))

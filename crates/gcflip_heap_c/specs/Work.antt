@@ -1,0 +1,73 @@
+-- Useful steps, one after the other.
+use Rattle.std.specs.Prelude.{◌≡◌, ◌⊎◌, ℕ, zero, suc, ◌-◌, ◌<◌, ◌≤◌, ◌↔◌, Bool, true, false, Option, Some, None, IsSomeAnd}
+use Rattle.gc_copy.specs.State.{State, Collection, new_end, heap_end}
+use Rattle.gc_copy.specs.Steps.{collect, useful_step}
+use Rattle.gc_copy.specs.declared.step.StepReply.{StepReply}
+use Rattle.gc_copy.specs.declared.step.StepReply.TheVariants.{NoRoom, Flipped}
+use Rattle.gc_core.specs.CollectedHeap.{Allocates}
+use Rattle.gcflip_heap_c.specs.Replies.{step_reply_in_c}
+use Rattle.gcflip_heap_c.specs.declared.work.GcflipWork.{GcflipWork}
+
+-- the state that n useful steps lead to
+abbrev pub after_useful : ℕ → State → State
+after_useful zero s = s
+after_useful (suc n) s = (collect (after_useful n s) (useful_step (after_useful n s))).1
+
+-- the reply to useful step n, counted from 0
+abbrev pub useful_reply : ℕ → State → StepReply
+useful_reply n s = (collect (after_useful n s) (useful_step (after_useful n s))).0
+
+-- Work ends with a flip, and where the new space has no room.
+abbrev pub goes_on : StepReply → Bool
+goes_on (Flipped pairs) = false
+goes_on NoRoom = false
+goes_on reply = true
+
+-- n useful steps from s lead to t, the last with this reply, and none before it ended the work
+pub record IsRun (n : ℕ) (s t : State) (reply : StepReply) : Type 0 where
+  pub some : 1 ≤ n
+  pub state : t ≡ after_useful n s
+  pub reply_is : reply ≡ useful_reply (n - 1) s
+  pub going : (k : ℕ) → suc k < n → goes_on (useful_reply k s) ≡ true
+
+-- why there was no further step: this reply ended the work, or an allocation failed
+abbrev pub IsEnd : State → StepReply → Type 0
+IsEnd t reply = (goes_on reply ≡ false) ⊎ Allocates (useful_step t)
+
+-- the first word of the new space that no replica takes
+abbrev pub end_in : Option Collection → ℕ
+end_in None = 1
+end_in (Some c) = new_end c
+
+-- the same after a step with this reply: a flip makes the new space the heap's
+abbrev pub end_after : State → StepReply → ℕ
+end_after t (Flipped pairs) = heap_end t
+end_after t reply = end_in t.collection
+
+-- the words that replicas took meanwhile
+abbrev pub words_copied : State → State → StepReply → ℕ
+words_copied s t reply = end_after t reply - end_in s.collection
+
+-- what is reported of work that made at most so many steps
+pub record IsWork (most : ℕ) (s t : State) (work : GcflipWork) : Type 0 where
+  pub reply : StepReply
+  pub run : IsRun work.steps s t reply
+  pub last : work.last ≡ step_reply_in_c reply
+  pub within : work.steps ≤ most
+  pub ended : work.steps < most → IsEnd t reply
+  pub copied : work.copied ≡ words_copied s t reply
+
+abbrev pub Works : ℕ → Option State → Option State → GcflipWork → Type 0
+Works most (Some old) (Some new) work = IsWork most old new work
+Works most old new work = ⊥
+
+-- what a call of work returns, and what it leaves of the heap and of C's report
+pub record IsWorkCall (most : ℕ) (old new : Option State) (before after : GcflipWork) (answer : ℕ) : Type 0 where
+  pub answers : answer ≤ 3
+  pub done : answer ≡ 0 → Works most old new after
+  -- a refused call changes nothing
+  pub heap : 1 ≤ answer → new ≡ old
+  pub silent : 1 ≤ answer → after ≡ before
+  pub memory : answer ≡ 1 → IsSomeAnd old (λ s. Allocates (useful_step s))
+  pub outside : (answer ≡ 2) ↔ IsSomeAnd old (λ s. most ≡ 0)
+  pub closed : (answer ≡ 3) ↔ (old ≡ None)

@@ -1,0 +1,83 @@
+//! What C keeps of a heap.
+
+ghost use Rattle.std.specs.Prelude.{◌≡◌, Option, Some, None, IsSome, MatchBool, MatchOption};
+ghost use Rattle.gc_copy.specs.State.{State};
+ghost use Rattle.gcflip_heap_c.specs.Handle.{owns_heap, coded_heap};
+
+use crate::parts::Parts;
+use gc_core::CollectedHeap;
+use std::alloc::Global;
+use std::marker::Model;
+use std::mem::replace;
+use std::ptr::null_mut;
+
+/// A handle: where a heap lies, or null. Contracts see the state of the heap, if there is one.
+#[repr(C)]
+#[derive(Drop)]
+pub struct GcflipHeap {
+    at: *mut u8,
+    alloc: Global,
+    ghost state: { Option State } by { coded_heap },
+}
+
+impl Model for GcflipHeap {
+    ghost also_owns = { λ handle. owns_heap handle.alloc handle.at handle.state };
+}
+
+impl GcflipHeap {
+    /// Returns a handle without a heap.
+    pub(crate) fn empty(alloc: Global) -> GcflipHeap
+        ensures { result.state ≡ None }
+    {
+        let at: *mut u8 = null_mut();
+        GcflipHeap { at, alloc }
+    }
+
+    /// Returns whether the handle has no heap.
+    pub(crate) fn is_empty(&mut self) -> bool
+        ensures { MatchBool result (self.old.state ≡ None) (IsSome self.old.state) × (self.new ≡ self.old) }
+    {
+        self.at.is_null()
+    }
+
+    /// Returns the handle of this heap.
+    pub(crate) fn full(heap: Box<CollectedHeap>) -> GcflipHeap
+        ensures { result.state ≡ Some heap.value }
+    {
+        GcflipHeap::of_parts(Parts::of(heap))
+    }
+
+    /// Takes the heap out of the handle, if it has one.
+    pub(crate) fn take(&mut self, alloc: Global) -> Option<Box<CollectedHeap>>
+        ensures heap { MatchOption result (self.old.state ≡ None) (λ heap. self.old.state ≡ Some heap.value) }
+        ensures empty { self.new.state ≡ None }
+    {
+        if self.is_empty() {
+            return None;
+        }
+        Some(
+            replace(self, GcflipHeap::empty(alloc))
+                .into_parts()
+                .into_box(),
+        )
+    }
+
+    fn of_parts(parts: Parts<CollectedHeap, Global>) -> GcflipHeap
+        ensures { result.state ≡ Some parts.value }
+    {
+        let Parts { at, alloc } = parts;
+        let at = at as *mut u8;
+        GcflipHeap { at, alloc }
+    }
+
+    fn into_parts(self) -> Parts<CollectedHeap, Global>
+        requires { IsSome self.state }
+        ensures { Some result.value ≡ self.state }
+    {
+        let GcflipHeap { at, alloc } = self;
+        let at = at as *mut CollectedHeap;
+        Parts { at, alloc }
+    }
+}
+
+unsafe impl Send for GcflipHeap {}

@@ -1,0 +1,59 @@
+//! The exports that open and close a heap.
+
+ghost use Rattle.std.specs.Prelude.{◌≡◌, ◌<◌, ◌≤◌, ◌⊎◌, ◌↔◌, None, Some, IsSome};
+ghost use Rattle.gc_graph.specs.Limits.{most_words, most_mutators};
+ghost use Rattle.gc_copy.specs.State.{opening_state};
+ghost use Rattle.gcflip_heap_c.specs.Opening.{CanOpen};
+
+use crate::answer::{CLOSED, DONE, NO_MEMORY, OPEN, OUT_OF_RANGE};
+use crate::handle::GcflipHeap;
+use gc_core::CollectedHeap;
+use gc_graph::MOST_MUTATORS;
+use gc_words::MOST_WORDS;
+use std::alloc::Global;
+
+/// Opens an empty heap of `size` words, 1 to 1048576, for 1 to 16 mutators. The handle must not have a heap.
+#[unsafe(no_mangle)]
+pub extern "C" fn gcflip_heap_open(
+    alloc: Global,
+    heap: &mut GcflipHeap,
+    size: u32,
+    mutators: u8,
+) -> u32
+    ensures answers { (result ≤ 2) ⊎ (result ≡ 4) }
+    ensures done { result ≡ 0 → heap.new.state ≡ Some (opening_state size mutators) }
+    ensures refused { 1 ≤ result → heap.new.state ≡ heap.old.state }
+    ensures open { (result ≡ 4) ↔ IsSome heap.old.state }
+    ensures outside { (result ≡ 2) ↔ ((heap.old.state ≡ None) × (¬ CanOpen size mutators)) }
+{
+    if !heap.is_empty() {
+        return OPEN;
+    }
+    if size < 1 || size > MOST_WORDS || mutators < 1 || mutators > MOST_MUTATORS {
+        return OUT_OF_RANGE;
+    }
+    let Ok(opened) = CollectedHeap::open(alloc, size, mutators) else {
+        return NO_MEMORY;
+    };
+    let Ok(boxed) = Box::new(alloc, opened) else {
+        return NO_MEMORY;
+    };
+    *heap = GcflipHeap::full(boxed);
+    DONE
+}
+
+/// Frees the heap, and leaves the handle without one.
+#[unsafe(no_mangle)]
+pub extern "C" fn gcflip_heap_close(alloc: Global, heap: &mut GcflipHeap) -> u32
+    ensures answers { (result ≡ 0) ⊎ (result ≡ 3) }
+    ensures closed { (result ≡ 3) ↔ (heap.old.state ≡ None) }
+    ensures none { heap.new.state ≡ None }
+{
+    match heap.take(alloc) {
+        Some(opened) => {
+            drop(opened);
+            DONE
+        }
+        None => CLOSED,
+    }
+}

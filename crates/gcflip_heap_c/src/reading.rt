@@ -1,0 +1,235 @@
+//! The exports that read a heap: counts for a runtime's own decisions, and copies of all for debuggers.
+
+ghost use Rattle.std.specs.Prelude.{◌≡◌, ◌≤◌, ◌⊎◌, ◌↔◌, None, Some, IfSome, IsSomeAnd, IsTrue, IsFalse, length};
+ghost use Rattle.gc_core.specs.Readings.{heap_image, new_words, log_of};
+ghost use Rattle.gcflip_heap_c.specs.Readings.{counts_of, entry_at, FitsImage, FitsNew};
+
+use crate::answer::{CLOSED, DONE, OUT_OF_RANGE};
+use crate::handle::GcflipHeap;
+use gc_core::CollectedHeap;
+use std::alloc::Global;
+
+/// The sizes of a heap, and how far its open collection has come, as C has them. All are in words.
+#[repr(C)]
+#[derive(Clone, Copy, Debug, Drop, PartialEq, Eq)]
+pub struct GcflipCounts {
+    /// The size of the mutators' space.
+    pub size: u32,
+    /// The first word that no object takes.
+    pub end: u32,
+    /// The words that no object takes.
+    pub free: u32,
+    /// The number of mutators.
+    pub mutators: u32,
+    /// 1 if a collection is open, else 0. All that follows is 0 if none is open.
+    pub is_open: u32,
+    /// The size of the new space (to-space).
+    pub new_size: u32,
+    /// The first word of the new space that no replica takes.
+    pub new_end: u32,
+    /// The replica that the scan has come to, or the end.
+    pub scan_place: u32,
+    /// The number of that replica's fields that are scanned.
+    pub scan_field: u32,
+}
+
+/// A log entry as C has it: the field that a mutator wrote.
+#[repr(C)]
+#[derive(Clone, Copy, Debug, Drop, PartialEq, Eq)]
+pub struct GcflipLogEntry {
+    /// The address of the object.
+    pub object: u32,
+    /// The number of the field.
+    pub field: u32,
+}
+
+fn counts_of(heap: &CollectedHeap) -> GcflipCounts
+    ensures { result ≡ counts_of heap.now }
+{
+    let mut counts = GcflipCounts {
+        size: heap.size(),
+        end: heap.end(),
+        free: heap.free(),
+        mutators: u32::from(heap.mutators()),
+        is_open: 0,
+        new_size: 0,
+        new_end: 0,
+        scan_place: 0,
+        scan_field: 0,
+    };
+    if let Some(space) = heap.new_space() {
+        counts.is_open = 1;
+        counts.new_size = space.size;
+        counts.new_end = space.end;
+        counts.scan_place = space.scan_place;
+        counts.scan_field = u32::from(space.scan_field);
+    }
+    counts
+}
+
+/// Reads the sizes of the heap, and how far its open collection has come.
+#[unsafe(no_mangle)]
+pub extern "C" fn gcflip_heap_counts(
+    alloc: Global,
+    heap: &mut GcflipHeap,
+    counts: &mut GcflipCounts,
+) -> u32
+    ensures answers { (result ≡ 0) ⊎ (result ≡ 3) }
+    ensures counts { IfSome heap.old.state (λ s. counts.new ≡ counts_of s) }
+    ensures heap { heap.new.state ≡ heap.old.state }
+    ensures silent { result ≡ 3 → counts.new ≡ counts.old }
+    ensures closed { (result ≡ 3) ↔ (heap.old.state ≡ None) }
+{
+    let Some(opened) = heap.take(alloc) else {
+        return CLOSED;
+    };
+    *counts = counts_of(&opened);
+    *heap = GcflipHeap::full(opened);
+    DONE
+}
+
+/// Reads the number of entries of mutator `m`'s log, which is 0 if no collection is open.
+#[unsafe(no_mangle)]
+pub extern "C" fn gcflip_heap_log_length(
+    alloc: Global,
+    heap: &mut GcflipHeap,
+    m: u8,
+    count: &mut usize,
+) -> u32
+    ensures answers { (result ≡ 0) ⊎ ((result ≡ 2) ⊎ (result ≡ 3)) }
+    ensures count { result ≡ 0 → IsSomeAnd heap.old.state (λ s. count.new ≡ length (log_of s m)) }
+    ensures heap { heap.new.state ≡ heap.old.state }
+    ensures silent { 1 ≤ result → count.new ≡ count.old }
+    ensures outside { (result ≡ 2) ↔ IsSomeAnd heap.old.state (λ s. s.mutators ≤ m) }
+    ensures closed { (result ≡ 3) ↔ (heap.old.state ≡ None) }
+{
+    let Some(opened) = heap.take(alloc) else {
+        return CLOSED;
+    };
+    let is_mutator = m < opened.mutators();
+    if is_mutator {
+        *count = opened.log_len(m);
+    }
+    *heap = GcflipHeap::full(opened);
+    if is_mutator { DONE } else { OUT_OF_RANGE }
+}
+
+/// Writes entry `k` of mutator `m`'s log. Returns whether there is one.
+fn copy_entry(heap: &CollectedHeap, m: u8, k: usize, entry: &mut GcflipLogEntry) -> bool
+    ensures found { IsTrue result → entry_at heap.now m k ≡ Some entry.new }
+    ensures none { IsFalse result → (entry_at heap.now m k ≡ None) × (entry.new ≡ entry.old) }
+{
+    if m >= heap.mutators() {
+        return false;
+    }
+    let Some(logged) = heap.log_entry(m, k) else {
+        return false;
+    };
+    *entry = GcflipLogEntry {
+        object: logged.object.0,
+        field: u32::from(logged.field),
+    };
+    true
+}
+
+/// Reads entry `k` of mutator `m`'s log, counted from the oldest.
+#[unsafe(no_mangle)]
+pub extern "C" fn gcflip_heap_log_entry(
+    alloc: Global,
+    heap: &mut GcflipHeap,
+    m: u8,
+    k: usize,
+    entry: &mut GcflipLogEntry,
+) -> u32
+    ensures answers { (result ≡ 0) ⊎ ((result ≡ 2) ⊎ (result ≡ 3)) }
+    ensures entry { result ≡ 0 → IsSomeAnd heap.old.state (λ s. entry_at s m k ≡ Some entry.new) }
+    ensures heap { heap.new.state ≡ heap.old.state }
+    ensures silent { 1 ≤ result → entry.new ≡ entry.old }
+    ensures outside { (result ≡ 2) ↔ IsSomeAnd heap.old.state (λ s. entry_at s m k ≡ None) }
+    ensures closed { (result ≡ 3) ↔ (heap.old.state ≡ None) }
+{
+    let Some(opened) = heap.take(alloc) else {
+        return CLOSED;
+    };
+    let is_there = copy_entry(&opened, m, k, entry);
+    *heap = GcflipHeap::full(opened);
+    if is_there { DONE } else { OUT_OF_RANGE }
+}
+
+/// Copies the image if the rows are as long as its words and roots. Returns whether they are.
+fn copy_image(heap: &CollectedHeap, words: &mut [u64], roots: &mut [u64]) -> bool
+    ensures fits { IsTrue result ↔ FitsImage words.old roots.old heap.now }
+    ensures copied { IsTrue result → (words.new ≡ (heap_image heap.now).words) × (roots.new ≡ (heap_image heap.now).roots) }
+    ensures kept { IsFalse result → (words.new ≡ words.old) × (roots.new ≡ roots.old) }
+{
+    let image = heap.image();
+    if words.len() != image.words.len() || roots.len() != image.roots.len() {
+        return false;
+    }
+    words.copy_from_slice(image.words);
+    roots.copy_from_slice(image.roots);
+    true
+}
+
+/// Copies the words of the mutators' space, links included, and the roots. The rows must have exactly as many elements.
+#[unsafe(no_mangle)]
+pub extern "C" fn gcflip_heap_image(
+    alloc: Global,
+    heap: &mut GcflipHeap,
+    words: &mut [u64],
+    roots: &mut [u64],
+) -> u32
+    ensures answers { (result ≡ 0) ⊎ ((result ≡ 2) ⊎ (result ≡ 3)) }
+    ensures image { result ≡ 0 → IsSomeAnd heap.old.state (λ s. (words.new ≡ (heap_image s).words)
+        × (roots.new ≡ (heap_image s).roots)) }
+    ensures heap { heap.new.state ≡ heap.old.state }
+    ensures silent { 1 ≤ result → (words.new ≡ words.old) × (roots.new ≡ roots.old) }
+    ensures outside { (result ≡ 2) ↔ IsSomeAnd heap.old.state (λ s. ¬ FitsImage words.old roots.old s) }
+    ensures closed { (result ≡ 3) ↔ (heap.old.state ≡ None) }
+{
+    let Some(opened) = heap.take(alloc) else {
+        return CLOSED;
+    };
+    let fits = copy_image(&opened, words, roots);
+    *heap = GcflipHeap::full(opened);
+    if fits { DONE } else { OUT_OF_RANGE }
+}
+
+/// Copies the words of the new space if the row is as long. Returns whether it is.
+fn copy_new_words(heap: &CollectedHeap, words: &mut [u64]) -> bool
+    ensures fits { IsTrue result ↔ FitsNew words.old (new_words heap.now) }
+    ensures copied { IsTrue result → new_words heap.now ≡ Some words.new }
+    ensures kept { IsFalse result → words.new ≡ words.old }
+{
+    let Some(source) = heap.new_words() else {
+        return false;
+    };
+    if words.len() != source.len() {
+        return false;
+    }
+    words.copy_from_slice(source);
+    true
+}
+
+/// Copies the words of the open collection's new space (to-space), links included. The row must have exactly as many
+/// elements.
+#[unsafe(no_mangle)]
+pub extern "C" fn gcflip_heap_new_words(
+    alloc: Global,
+    heap: &mut GcflipHeap,
+    words: &mut [u64],
+) -> u32
+    ensures answers { (result ≡ 0) ⊎ ((result ≡ 2) ⊎ (result ≡ 3)) }
+    ensures words { result ≡ 0 → IsSomeAnd heap.old.state (λ s. new_words s ≡ Some words.new) }
+    ensures heap { heap.new.state ≡ heap.old.state }
+    ensures silent { 1 ≤ result → words.new ≡ words.old }
+    ensures outside { (result ≡ 2) ↔ IsSomeAnd heap.old.state (λ s. ¬ FitsNew words.old (new_words s)) }
+    ensures closed { (result ≡ 3) ↔ (heap.old.state ≡ None) }
+{
+    let Some(opened) = heap.take(alloc) else {
+        return CLOSED;
+    };
+    let fits = copy_new_words(&opened, words);
+    *heap = GcflipHeap::full(opened);
+    if fits { DONE } else { OUT_OF_RANGE }
+}

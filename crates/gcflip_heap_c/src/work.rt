@@ -1,0 +1,136 @@
+//! Many useful steps in one call.
+
+ghost use Rattle.std.specs.Prelude.{◌≡◌, ◌<◌, ◌≤◌, Ok, IfOk, OnErr};
+ghost use Rattle.gc_copy.specs.Steps.{collect, useful_step};
+ghost use Rattle.gc_core.specs.CollectedHeap.{Allocates};
+ghost use Rattle.gcflip_heap_c.specs.Work.{IsRun, IsEnd, IsWork, IsWorkCall, goes_on, end_in, end_after};
+
+use crate::answer::{CLOSED, DONE, NO_MEMORY, OUT_OF_RANGE};
+use crate::handle::GcflipHeap;
+use crate::reply::{GcflipReply, of_step};
+use gc_check::Sequential;
+use gc_copy::StepReply;
+use gc_core::CollectedHeap;
+use gc_graph::NoMemory;
+use std::alloc::Global;
+
+/// What a call of work did, as C has it.
+#[repr(C)]
+#[derive(Clone, Copy, Debug, Drop, PartialEq, Eq)]
+pub struct GcflipWork {
+    /// The number of steps that were made.
+    pub steps: u32,
+    /// The number of words that replicas took in the new space (to-space).
+    pub copied: u32,
+    /// The reply to the last step.
+    pub last: GcflipReply,
+}
+
+/// The number of useful steps that were made, and the reply to the last one.
+struct Run {
+    steps: u32,
+    reply: StepReply,
+}
+
+/// Makes the useful step.
+fn one_step(heap: &mut CollectedHeap) -> Result<StepReply, NoMemory>
+    ensures step { IfOk result (λ reply. collect heap.old (useful_step heap.old) ≡ (reply, heap.new)) }
+    ensures refused { OnErr result (heap.new ≡ heap.old) }
+    ensures allocates { OnErr result (Allocates (useful_step heap.old)) }
+{
+    let step = heap.next_useful_step();
+    heap.collect(&Sequential, step)
+}
+
+/// Returns whether work goes on after this reply.
+fn can_go_on(reply: StepReply) -> bool
+    ensures { result ≡ goes_on reply }
+{
+    !matches!(reply, StepReply::Flipped { .. } | StepReply::NoRoom)
+}
+
+/// Makes useful steps, at most so many, until one flips or finds no room. If an allocation fails, it stops before that
+/// step; it returns `NoMemory` only if that was the first one.
+fn useful_steps(heap: &mut CollectedHeap, most: u32) -> Result<Run, NoMemory>
+    requires { 1 ≤ most }
+    ensures run { IfOk result (λ run. IsRun run.steps heap.old heap.new run.reply) }
+    ensures within { IfOk result (λ run. run.steps ≤ most) }
+    ensures ended { IfOk result (λ run. run.steps < most → IsEnd heap.new run.reply) }
+    ensures refused { OnErr result (heap.new ≡ heap.old) }
+    ensures allocates { OnErr result (Allocates (useful_step heap.old)) }
+{
+    let mut reply = one_step(heap)?;
+    for steps in 1..most {
+        if !can_go_on(reply) {
+            return Ok(Run { steps, reply });
+        }
+        match one_step(heap) {
+            Ok(next) => reply = next,
+            Err(NoMemory) => return Ok(Run { steps, reply }),
+        }
+    }
+    Ok(Run { steps: most, reply })
+}
+
+/// Returns the first word of the open collection's new space that no replica takes; 1 if none is open.
+fn end_of_new(heap: &CollectedHeap) -> u32
+    ensures { result ≡ end_in heap.now.collection }
+{
+    match heap.new_space() {
+        None => 1,
+        Some(space) => space.end,
+    }
+}
+
+/// Returns the same after a step with this reply.
+fn end_behind(heap: &CollectedHeap, reply: StepReply) -> u32
+    ensures { result ≡ end_after heap.now reply }
+{
+    match reply {
+        StepReply::Flipped { .. } => heap.end(),
+        _ => end_of_new(heap),
+    }
+}
+
+/// Makes useful steps and reports them.
+fn work_on(heap: &mut CollectedHeap, most: u32) -> Result<GcflipWork, NoMemory>
+    requires { 1 ≤ most }
+    ensures work { IfOk result (IsWork most heap.old heap.new) }
+    ensures refused { OnErr result (heap.new ≡ heap.old) }
+    ensures allocates { OnErr result (Allocates (useful_step heap.old)) }
+{
+    let start = end_of_new(heap);
+    let Run { steps, reply } = useful_steps(heap, most)?;
+    Ok(GcflipWork {
+        steps,
+        copied: end_behind(heap, reply).saturating_sub(start),
+        last: of_step(reply),
+    })
+}
+
+/// Makes useful steps, at most `most`, and reports them. It ends after a flip, and after a step that finds no room. If
+/// an allocation fails, it ends before that step, and returns 1 only if that was the first step.
+#[unsafe(no_mangle)]
+pub extern "C" fn gcflip_heap_work(
+    alloc: Global,
+    heap: &mut GcflipHeap,
+    most: u32,
+    work: &mut GcflipWork,
+) -> u32
+    ensures { IsWorkCall most heap.old.state heap.new.state work.old work.new result }
+{
+    let Some(mut opened) = heap.take(alloc) else {
+        return CLOSED;
+    };
+    if most == 0 {
+        *heap = GcflipHeap::full(opened);
+        return OUT_OF_RANGE;
+    }
+    let made = work_on(&mut opened, most);
+    *heap = GcflipHeap::full(opened);
+    let Ok(made) = made else {
+        return NO_MEMORY;
+    };
+    *work = made;
+    DONE
+}

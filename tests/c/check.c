@@ -1,0 +1,168 @@
+/* Calls gcflip_check: each verdict, the answers but for a failed allocation, and empty rows. */
+#include "expect.h"
+#include "gcflip.h"
+#include <string.h>
+#include <sys/mman.h>
+
+#define COUNT(row) (sizeof(row) / sizeof((row)[0]))
+
+enum { HEADER = 16842753, TWO_FIELDS = 16842754, OTHER_KIND = 16908289, RAW_HEADER = 50331649 };
+
+/* Three objects with one field each. The first refers to the third, which holds the number 7, and the second is
+   garbage. */
+static uint64_t old_words[] = {0, HEADER, 0, 14, HEADER, 0, 15, HEADER, 0, 15};
+static uint64_t old_roots[] = {2, 0};
+static uint64_t new_words[] = {0, HEADER, 0, 8, HEADER, 0, 15};
+static uint64_t new_roots[] = {2, 0};
+static gcflip_pair pairs[] = {{1, 1}, {7, 4}};
+static gcflip_image old_image, new_image;
+static gcflip_verdict verdict;
+
+static void set_up(void)
+{
+    old_image = (gcflip_image){16, COUNT(old_words), false, old_words, old_roots, COUNT(old_roots)};
+    new_image = (gcflip_image){16, COUNT(new_words), false, new_words, new_roots, COUNT(new_roots)};
+    memset(&verdict, 255, sizeof verdict);
+}
+
+static uint32_t check(void)
+{
+    return gcflip_check_images(&old_image, &new_image, pairs, COUNT(pairs), &verdict);
+}
+
+static bool is_verdict(uint32_t refusal, uint32_t pair_count, uint64_t place, uint64_t field)
+{
+    return verdict.refusal == refusal && verdict.pairs == pair_count && verdict.place == place && verdict.field == field;
+}
+
+static void yes(void)
+{
+    set_up();
+    EXPECT(check() == GCFLIP_YES && is_verdict(0, 2, 0, 0));
+}
+
+static void expect_refusal(uint32_t refusal, uint64_t place, uint64_t field)
+{
+    EXPECT(check() == GCFLIP_REFUSED);
+    EXPECT(is_verdict(refusal, 0, place, field));
+    set_up();
+}
+
+static void refusals(void)
+{
+    set_up();
+    old_words[4] = TWO_FIELDS; /* the walk goes on at word 8, which is no header */
+    expect_refusal(GCFLIP_OLD_SHAPE, 8, 0);
+    old_words[4] = HEADER;
+    new_image.end = 6; /* the last field is cut off */
+    expect_refusal(GCFLIP_NEW_SHAPE, 4, 0);
+    new_image.size = 1048577;
+    expect_refusal(GCFLIP_NEW_SHAPE, 0, 0);
+    new_image.root_count = 1;
+    expect_refusal(GCFLIP_ROOT_COUNT, 0, 0);
+    pairs[1].old_address = 5; /* a link */
+    expect_refusal(GCFLIP_OLD_NOT_START, 1, 0);
+    pairs[1].old_address = UINT32_MAX;
+    expect_refusal(GCFLIP_OLD_NOT_START, 1, 0);
+    pairs[1] = (gcflip_pair){7, 6};
+    expect_refusal(GCFLIP_NEW_NOT_START, 1, 0);
+    pairs[1] = (gcflip_pair){7, 1};
+    expect_refusal(GCFLIP_NOT_RISING, 1, 0);
+    pairs[1] = (gcflip_pair){1, 4};
+    expect_refusal(GCFLIP_TWICE, 1, 0);
+    pairs[1] = (gcflip_pair){7, 4};
+    new_words[4] = OTHER_KIND;
+    expect_refusal(GCFLIP_HEADER_DIFFERS, 1, 0);
+    new_words[4] = HEADER;
+    new_words[6] = 17; /* the number 8 */
+    expect_refusal(GCFLIP_FIELD_DIFFERS, 1, 0);
+    new_words[6] = 15;
+    pairs[1].old_address = 4; /* the garbage is paired, and the third object is not */
+    expect_refusal(GCFLIP_FIELD_DIFFERS, 0, 0);
+    pairs[1].old_address = 7;
+    new_roots[1] = 8;
+    expect_refusal(GCFLIP_ROOT_DIFFERS, 1, 0);
+    new_roots[1] = 0;
+}
+
+static void a_later_field_differs(void)
+{
+    static const uint64_t old_two[] = {0, TWO_FIELDS, 0, 3, 5}, new_two[] = {0, TWO_FIELDS, 0, 3, 7};
+    const gcflip_pair pair[] = {{1, 1}};
+    const gcflip_image old_space = {8, 5, false, old_two, NULL, 0}, new_space = {8, 5, false, new_two, NULL, 0};
+    EXPECT(gcflip_check_images(&old_space, &new_space, pair, 1, &verdict) == GCFLIP_REFUSED);
+    EXPECT(is_verdict(GCFLIP_FIELD_DIFFERS, 0, 0, 1));
+}
+
+/* A raw object's word is a plain number, here one that would be a reference. Where raw headers do not count, the word
+   is no header. */
+static void raw_objects(void)
+{
+    static const uint64_t words[] = {0, RAW_HEADER, 0, 18};
+    static const uint64_t roots[] = {2};
+    const gcflip_pair pair[] = {{1, 1}};
+    const gcflip_image raw = {9, 4, true, words, roots, 1}, other = {9, 4, false, words, roots, 1};
+    EXPECT(gcflip_check_images(&raw, &raw, pair, 1, &verdict) == GCFLIP_YES && is_verdict(0, 1, 0, 0));
+    EXPECT(gcflip_check_images(&other, &raw, pair, 1, &verdict) == GCFLIP_REFUSED);
+    EXPECT(is_verdict(GCFLIP_OLD_SHAPE, 0, 1, 0));
+    EXPECT(gcflip_check_images(&raw, &other, pair, 1, &verdict) == GCFLIP_REFUSED);
+    EXPECT(is_verdict(GCFLIP_NEW_SHAPE, 0, 1, 0));
+}
+
+static void empty_rows(void)
+{
+    static const uint64_t reserved[] = {0};
+    const gcflip_image empty = {1, 1, false, reserved, NULL, 0}, nothing = {1, 0, false, NULL, NULL, 0};
+    EXPECT(gcflip_check_images(&empty, &empty, NULL, 0, &verdict) == GCFLIP_YES && is_verdict(0, 0, 0, 0));
+    EXPECT(gcflip_check_images(&nothing, &empty, NULL, 0, &verdict) == GCFLIP_REFUSED);
+    EXPECT(is_verdict(GCFLIP_OLD_SHAPE, 0, 0, 0));
+    EXPECT(gcflip_check_images(&empty, &nothing, NULL, 0, &verdict) == GCFLIP_REFUSED);
+    EXPECT(is_verdict(GCFLIP_NEW_SHAPE, 0, 0, 0));
+    EXPECT(gcflip_check(1, 1, true, reserved, 1, reserved, 0, 1, 1, true, reserved, 1, reserved, 0, pairs, 0, &verdict) ==
+           GCFLIP_YES);
+}
+
+/* Fewer or more words than `end` says. */
+static void other_counts_of_words(void)
+{
+    for (size_t count = 8; count <= 10; count++) {
+        uint32_t answer = gcflip_check(16, 9, false, old_words, count, old_roots, 2, 16, 7, false, new_words, 7, new_roots, 2,
+                                       pairs, 2, &verdict);
+        EXPECT(answer == GCFLIP_REFUSED && verdict.refusal == GCFLIP_OLD_SHAPE);
+    }
+}
+
+/* 2^32 pairs, which take 32 GiB of addresses and no memory. One pair fewer is walked, and refused at the first. */
+static void too_many_pairs(void)
+{
+    const size_t count = (size_t)UINT32_MAX + 1;
+    const gcflip_pair *many = (const gcflip_pair *)mmap(NULL, count * sizeof *many, PROT_READ, MAP_PRIVATE | MAP_ANONYMOUS | MAP_NORESERVE, -1, 0);
+    EXPECT(many != MAP_FAILED);
+    set_up();
+    EXPECT(gcflip_check_images(&old_image, &new_image, many, count, &verdict) == GCFLIP_TOO_MANY);
+    EXPECT(is_verdict(UINT32_MAX, UINT32_MAX, UINT64_MAX, UINT64_MAX)); /* as it was */
+    EXPECT(gcflip_check_images(&old_image, &new_image, many, count - 1, &verdict) == GCFLIP_REFUSED);
+    EXPECT(is_verdict(GCFLIP_OLD_NOT_START, 0, 0, 0));
+    munmap((void *)many, count * sizeof *many);
+}
+
+static void names(void)
+{
+    EXPECT(strcmp(gcflip_refusal_name(GCFLIP_OLD_SHAPE), "OldShape") == 0);
+    EXPECT(strcmp(gcflip_refusal_name(GCFLIP_ROOT_DIFFERS), "RootDiffers") == 0);
+    EXPECT(strcmp(gcflip_refusal_name(0), "") == 0 && strcmp(gcflip_refusal_name(11), "") == 0);
+}
+
+int main(void)
+{
+    yes();
+    refusals();
+    yes();
+    a_later_field_differs();
+    raw_objects();
+    empty_rows();
+    other_counts_of_words();
+    too_many_pairs();
+    names();
+    return 0;
+}

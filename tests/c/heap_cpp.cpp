@@ -1,0 +1,40 @@
+// Calls the heap from C++, and records the run.
+#include "expect.h"
+#include "gcflip_heap.h"
+#include "gcflip_record.h"
+
+FILE *gcflip_trace;
+
+namespace {
+
+class Heap {
+public:
+    Heap(uint32_t size, uint8_t mutators) { EXPECT(gcflip_heap_open(&handle, size, mutators) == GCFLIP_HEAP_DONE); }
+    ~Heap() { EXPECT(gcflip_heap_close(&handle) == GCFLIP_HEAP_DONE); }
+    Heap(const Heap &) = delete;
+    Heap &operator=(const Heap &) = delete;
+    gcflip_heap handle = GCFLIP_NO_HEAP;
+};
+
+} // namespace
+
+int main()
+{
+    gcflip_trace = tmpfile();
+    {
+        Heap heap(32, 1);
+        gcflip_reply reply = {};
+        gcflip_work work = {};
+        EXPECT(gcflip_heap_new(&heap.handle, 0, 0, 1, 1, &reply) == GCFLIP_HEAP_DONE && reply.reply == GCFLIP_MADE);
+        EXPECT(gcflip_heap_work(&heap.handle, 100, &work) == GCFLIP_HEAP_DONE && work.last.reply == GCFLIP_FLIPPED);
+        EXPECT(gcflip_heap_look(&heap.handle, 0, 0, &reply) == GCFLIP_HEAP_DONE && reply.view == GCFLIP_OBJECT);
+    }
+    // two lines of the opening, two commands, and the steps begin, roots, scan, scan, flip
+    int lines = 0;
+    rewind(gcflip_trace);
+    for (int c = fgetc(gcflip_trace); c != EOF; c = fgetc(gcflip_trace))
+        lines += c == '\n';
+    EXPECT(lines == 9);
+    fclose(gcflip_trace);
+    return 0;
+}

@@ -1,0 +1,76 @@
+/* Records work and prints the replies of all that is recorded: record_work RECORD. The library makes the same work at once,
+   on a second heap, and reports the same of it. */
+#include "expect.h"
+#include "gcflip_heap.h"
+#include <string.h>
+
+static gcflip_heap at_once = GCFLIP_NO_HEAP;
+
+/* Makes the work at once. It stands before the include that records. */
+static uint32_t work_at_once(uint32_t most, gcflip_work *work)
+{
+    return gcflip_heap_work(&at_once, most, work);
+}
+
+static void open_at_once(void)
+{
+    gcflip_reply reply;
+    EXPECT(gcflip_heap_open(&at_once, 64, 2) == GCFLIP_HEAP_DONE);
+    EXPECT(gcflip_heap_new(&at_once, 0, 16, 1, 2, &reply) == GCFLIP_HEAP_DONE);
+    EXPECT(gcflip_heap_new(&at_once, 1, 0, 2, 1, &reply) == GCFLIP_HEAP_DONE);
+    EXPECT(gcflip_heap_put(&at_once, 1, 16, 1, 0, &reply) == GCFLIP_HEAP_DONE);
+}
+
+static uint32_t write_at_once(uint8_t t)
+{
+    gcflip_reply reply;
+    return gcflip_heap_put(&at_once, 1, 16, 0, t, &reply);
+}
+
+static void close_at_once(void)
+{
+    EXPECT(gcflip_heap_close(&at_once) == GCFLIP_HEAP_DONE);
+}
+
+#include "gcflip_record.h"
+
+FILE *gcflip_trace;
+
+static gcflip_heap heap = GCFLIP_NO_HEAP;
+
+/* Makes the same work on both heaps. */
+static void work(uint32_t most, uint32_t last)
+{
+    gcflip_work recorded, other;
+    EXPECT(gcflip_heap_work(&heap, most, &recorded) == GCFLIP_HEAP_DONE);
+    EXPECT(work_at_once(most, &other) == GCFLIP_HEAP_DONE);
+    EXPECT(memcmp(&recorded, &other, sizeof recorded) == 0 && recorded.last.reply == last);
+}
+
+int main(int count, char **names)
+{
+    gcflip_reply reply;
+    gcflip_work none;
+    EXPECT(count == 2);
+    gcflip_trace = fopen(names[1], "w");
+    EXPECT(gcflip_heap_work(&heap, 1, &none) == GCFLIP_HEAP_CLOSED);
+    EXPECT(gcflip_heap_open(&heap, 64, 2) == GCFLIP_HEAP_DONE);
+    EXPECT(gcflip_heap_work(&heap, 0, &none) == GCFLIP_HEAP_OUT_OF_RANGE);
+    open_at_once();
+    gcflip_heap_new(&heap, 0, 16, 1, 2, &reply);
+    gcflip_heap_new(&heap, 1, 0, 2, 1, &reply);
+    gcflip_heap_put(&heap, 1, 16, 1, 0, &reply);
+    work(1, GCFLIP_BEGUN);
+    work(3, GCFLIP_SCANNED); /* both roots, and a field */
+    EXPECT(gcflip_heap_put(&heap, 1, 16, 0, 0, &reply) == GCFLIP_HEAP_DONE && write_at_once(0) == GCFLIP_HEAP_DONE);
+    work(100, GCFLIP_FLIPPED);
+    work(100, GCFLIP_FLIPPED);
+    gcflip_heap_begin_sized(&heap, 3, &reply);
+    EXPECT(gcflip_heap_work(&heap, 100, &none) == GCFLIP_HEAP_DONE && none.steps == 1 && none.last.reply == GCFLIP_NO_ROOM);
+    gcflip_heap_drop(&heap, &reply);
+    EXPECT(fclose(gcflip_trace) == 0);
+    gcflip_trace = NULL;
+    EXPECT(gcflip_heap_close(&heap) == GCFLIP_HEAP_DONE);
+    close_at_once();
+    return 0;
+}

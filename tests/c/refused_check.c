@@ -1,0 +1,47 @@
+/* Fails the n-th allocation of each check, for n from 1 on until a check needs no more. It links allocation functions
+   of its own in place of the library's. */
+#include "expect.h"
+#include "gcflip.h"
+#include "own_allocator.h"
+#include <string.h>
+
+static const uint64_t words[] = {0, 16777216, 0};
+static const uint64_t roots[] = {2};
+static const gcflip_pair pairs[] = {{1, 1}};
+static const char text[] = "heappair 2\nold 8 3\n0\n16777216\n0\nroots 1\n2\nnew 8 3\n0\n16777216\n0\nroots 1\n2\npairs 1\n1 1\nend\n";
+
+static uint32_t check_images(gcflip_verdict *verdict)
+{
+    const gcflip_image image = {8, 3, false, words, roots, 1};
+    return gcflip_check_images(&image, &image, pairs, 1, verdict);
+}
+
+static uint32_t check_text(gcflip_verdict *verdict)
+{
+    return gcflip_check_text((const uint8_t *)text, strlen(text), verdict);
+}
+
+/* Returns how many allocations can fail. */
+static int failures(uint32_t (*check)(gcflip_verdict *verdict))
+{
+    for (int n = 1;; n++) {
+        gcflip_verdict verdict = {77, 77, 77, 77};
+        fail_allocation(n);
+        uint32_t answer = check(&verdict);
+        EXPECT(blocks_in_use() == 0);
+        if (answer == GCFLIP_YES) {
+            EXPECT(verdict.pairs == 1 && !has_failed());
+            return n - 1;
+        }
+        EXPECT(answer == GCFLIP_NO_MEMORY && has_failed());
+        EXPECT(verdict.refusal == 77 && verdict.pairs == 77 && verdict.place == 77 && verdict.field == 77);
+    }
+}
+
+int main(void)
+{
+    /* The partners by old address, and the starts of both images. A text has two rows for each image, and the pairs. */
+    EXPECT(failures(check_images) == 3);
+    EXPECT(failures(check_text) == 8);
+    return 0;
+}

@@ -1,0 +1,227 @@
+"""The libraries for C and C++: programs of tests/c that call them, built in each way that the machine has, and run.
+
+The library is built and installed by bindings/c. Where a compiler or a sanitizer is missing, that way of building is
+skipped, and a line says so.
+"""
+import os
+import shutil
+import subprocess
+
+from . import pairs
+from .examples import FOLDER as EXAMPLES, content, names_of
+from .harness import Outcome, difference, file_of, run
+from .traces import PLAYED, trace_and_replies
+
+TOP = os.path.join(os.path.dirname(os.path.abspath(__file__)), "..", "..")
+SOURCES = os.path.join(TOP, "tests", "c")
+SECONDS = 300
+WARNINGS = ["-Wall", "-Wextra", "-Wpedantic", "-Werror"]
+SANITIZERS = ["-g", "-fsanitize=address,undefined", "-fno-sanitize-recover=all"]
+
+
+def skip(what, why):
+    print("SKIPPED %s: %s" % (what, why), flush=True)
+
+
+def done(words, **more):
+    """What a run of these words gave."""
+    ran = subprocess.run(words, stdout=subprocess.PIPE, stderr=subprocess.PIPE, timeout=SECONDS, **more)
+    return Outcome(ran.stdout, ran.stderr, ran.returncode)
+
+
+def toolchain_clang():
+    """The words that run the toolchain's clang, with the headers that gcc has and it lacks; None if either is missing."""
+    rt, gcc = shutil.which("rt"), shutil.which("gcc")
+    if not rt or not gcc:
+        return None
+    tools = os.path.join(os.path.dirname(os.path.dirname(os.path.realpath(rt))), "toolchain", "bin")
+    clang, linker = [os.path.join(tools, name) for name in ("clang", "ld.lld")]
+    headers = done([gcc, "-print-file-name=include"]).stdout.decode().strip()
+    return [clang, "--ld-path=" + linker, "-isystem", headers] if os.path.exists(clang) else None
+
+
+def compilers():
+    """The ways to build a program: a name, the words for C, and the words for C++."""
+    clang = toolchain_clang()
+    yield "gcc", ["gcc"], ["g++"]
+    yield "gcc with sanitizers", ["gcc", *SANITIZERS], ["g++", *SANITIZERS]
+    if clang:
+        yield "the toolchain's clang", clang, [*clang, "--driver-mode=g++"]
+    else:
+        skip("the toolchain's clang", "it is not there")
+
+
+class Library:
+    """The library as bindings/c installs it."""
+
+    def __init__(self, folder):
+        self.folder = folder
+        self.prefix = os.path.join(folder, "installed")
+        self.lib = os.path.join(self.prefix, "lib")
+        words = ["make", "-C", os.path.join(TOP, "bindings", "c"), "install", "PREFIX=" + self.prefix]
+        self.made = done([*words, "OUT=" + os.path.join(folder, "out")])
+
+    def flags(self):
+        """What pkg-config tells of it."""
+        environment = dict(os.environ, PKG_CONFIG_PATH=os.path.join(self.lib, "pkgconfig"))
+        return done(["pkg-config", "--cflags", "--libs", "gcflip"], env=environment).stdout.decode().split()
+
+    def build(self, compiler, source, linked):
+        """The path of the program, and why it was not built, or None."""
+        program = os.path.join(self.folder, "program")
+        standard = "-std=c++11" if source.endswith(".cpp") else "-std=gnu11"
+        words = [*compiler, standard, "-O2", *WARNINGS, "-I" + os.path.join(self.prefix, "include")]
+        built = done([*words, "-o", program, os.path.join(SOURCES, source), *linked])
+        return program, None if built.status == 0 else "not built: %s" % built.stderr.decode()
+
+    def archive(self):
+        return [os.path.join(self.lib, "libgcflip.a")]
+
+    def shared(self):
+        return ["-L" + self.lib, "-Wl,-rpath," + self.lib, "-lgcflip"]
+
+
+def library(folder):
+    """The installed library. None, and said aloud, where nothing can be built."""
+    missing = [tool for tool in ("make", "gcc", "g++", "ar") if not shutil.which(tool)]
+    if missing:
+        skip("c_library", "no %s" % ", ".join(missing))
+        return None
+    return Library(folder)
+
+
+def usable(folder, name, compiler):
+    """Whether this way of building gives programs that run; said aloud where it does not."""
+    source = file_of(folder, "nothing.c", b"int main(void) { return 0; }\n")
+    program = os.path.join(folder, "nothing")
+    built = done([*compiler, "-o", program, source])
+    if built.status == 0 and done([program]).status == 0:
+        return True
+    skip(name, "it builds no program that runs")
+    return False
+
+
+# Programs that end with status 0 and print nothing.
+PROGRAMS = ["check.c", "refused_check.c", "check_cpp.cpp", "heap.c", "refused_heap.c", "heap_cpp.cpp", "churn.c"]
+
+
+def programs(_program, folder):
+    built = library(folder)
+    if built is None:
+        return
+    yield "the library is installed", None if built.made.status == 0 else built.made.stderr.decode()
+    for name, c_words, cpp_words in compilers():
+        if not usable(folder, name, c_words):
+            continue
+        for source in PROGRAMS:
+            words = cpp_words if source.endswith(".cpp") else c_words
+            for kind, linked in [("archive", built.archive()), ("shared library", built.shared())]:
+                path, why = built.build(words, source, linked)
+                yield "%s by %s, %s" % (source, name, kind), why or difference(done([path]), Outcome())
+
+
+def pkg_config(_program, folder):
+    built = library(folder)
+    if built is None:
+        return
+    if not shutil.which("pkg-config"):
+        skip("pkg_config", "no pkg-config")
+        return
+    path, why = built.build(["gcc"], "check.c", [*built.flags(), "-Wl,-rpath," + built.lib])
+    yield "check.c by the words of pkg-config", why or difference(done([path]), Outcome())
+
+
+def texts_and_lines():
+    """Each pair text with the line that tells its verdict, or what is wrong with it."""
+    yield from pairs.texts_and_verdicts()
+    yield from pairs.refused_texts()
+    lines, verdict = pairs.CHECKED["old_addresses_may_fall"]
+    text = pairs.text_of(lines)
+    for length in range(len(text)):
+        yield "cut behind %d bytes" % length, text[:length], pairs.ENDS_EARLY
+    yield "not cut", text, verdict
+    for name in names_of(".pair"):
+        yield "example %s" % name, content(name + ".pair"), content(name + ".verdict").decode().rstrip("\n")
+    yield "longest text", b"x" * 67108864, pairs.ENDS_EARLY
+    yield "one byte too many", b"x" * 67108865, "pair: too large"
+
+
+def texts(_program, folder):
+    built = library(folder)
+    if built is None:
+        return
+    cases = [(name, file_of(folder, "text %d" % number, text), line) for number, (name, text, line) in enumerate(texts_and_lines())]
+    yield "there are examples", None if names_of(".pair") else "no .pair in %s" % EXAMPLES
+    for name, c_words, _ in compilers():
+        if not usable(folder, name, c_words):
+            continue
+        path, why = built.build(c_words, "texts.c", built.archive())
+        found = done([path, *[file for _, file, _ in cases]]) if why is None else Outcome()
+        lines = found.stdout.decode().split("\n")
+        yield "texts.c by %s" % name, why or difference(found, Outcome(found.stdout))
+        for number, (case, _, line) in enumerate(cases):
+            told = lines[number] if number < len(lines) else None
+            yield "%s, by texts.c of %s" % (case, name), None if told == line else "%r, wanted %r" % (told, line)
+
+
+def traces_and_replies():
+    """Each trace without faults: its name, its bytes, the bytes of its replies."""
+    for name, conversation in PLAYED.items():
+        yield (name, *trace_and_replies(conversation))
+    for name in names_of(".trace"):
+        yield "example %s" % name, content(name + ".trace"), content(name + ".replies")
+
+
+def events(trace):
+    """The lines behind the first two."""
+    return trace.split(b"\n")[2:]
+
+
+def plays(_program, folder):
+    """A trace gives the replies that the program gives, and what the library records is the trace."""
+    built = library(folder)
+    if built is None:
+        return
+    record = os.path.join(folder, "record")
+    yield "there are traces", None if names_of(".trace") else "no .trace in %s" % EXAMPLES
+    for name, c_words, _ in compilers():
+        if not usable(folder, name, c_words):
+            continue
+        path, why = built.build(c_words, "play.c", built.archive())
+        for case, trace, replies in traces_and_replies():
+            found = done([path, file_of(folder, "trace", trace), record]) if why is None else Outcome()
+            why_not = why or difference(found, Outcome(replies))
+            yield "%s, by play.c of %s" % (case, name), why_not
+            with open(record, "rb") as file:
+                recorded = file.read()
+            yield "%s, recorded by %s" % (case, name), None if events(recorded) == events(trace) else "recorded %r" % recorded
+
+
+# The replies to what record_work.c records: the second field is written once more after its object was scanned.
+REPLIES_OF_RECORDED_WORK = (
+    b"made\nmade\ndone\nbegun\ncopied\ncopied\nscanned\ndone\nscanned\npassed\nscanned\npassed\napplied\nflipped 2\n"
+    b"begun\ncopied\ncopied\nscanned\nscanned\npassed\nscanned\npassed\nflipped 2\nbegun\nno room\ndropped\n"
+)
+
+
+def recorded_work(program, folder):
+    """What the library records of its work plays to the same replies."""
+    built = library(folder)
+    if built is None:
+        return
+    record = os.path.join(folder, "record")
+    path, why = built.build(["gcc", *SANITIZERS], "record_work.c", built.archive())
+    yield "record_work.c", why or difference(done([path, record]), Outcome())
+    yield "recorded work is played", difference(run(program, ["play", record]), Outcome(REPLIES_OF_RECORDED_WORK))
+
+
+def long_run(_program, folder):
+    """Ten million operations at constant memory."""
+    built = library(folder)
+    if built is None:
+        return
+    path, why = built.build(["gcc"], "churn.c", built.archive())
+    yield "churn of 10000000 operations", why or difference(done([path, "10000000"]), Outcome())
+
+
+GROUPS = [programs, pkg_config, texts, plays, recorded_work, long_run]
