@@ -5,16 +5,16 @@ import subprocess
 import sys
 
 TOP = os.path.join(os.path.dirname(os.path.abspath(__file__)), "..", "..")
-DOCUMENTS = ["README.md", "docs/ARCHITECTURE.md", "docs/DECISIONS.md", "docs/TESTING.md"]
+DOCUMENTS = ["README.md", "docs/ARCHITECTURE.md", "docs/DECISIONS.md", "docs/TESTING.md", "docs/EMBEDDING.md"]
 SOURCES = (".rt", ".antt", ".edit", ".py", ".c", ".txt")
 WORD = re.compile(r"[A-Za-z_]\w{3,}")
 # Arguments, and names of things outside the repository that the documents speak of.
-FOREIGN = {"EDIT", "PATH", "TURNS", "rattle", "dac8208d650f15bf", "try_lock"}
+FOREIGN = {"DESTDIR", "EDIT", "PATH", "TURNS", "rattle", "dac8208d650f15bf", "try_lock"}
 
 
 def sources():
     """The paths of all sources of the repository, with their texts."""
-    for folder in ("crates", "tests", "bench", "tools"):
+    for folder in ("crates", "tests", "bench", "bindings", "tools"):
         for path, folders, names in os.walk(os.path.join(TOP, folder)):
             folders[:] = [name for name in folders if name != "out"]
             for name in names:
