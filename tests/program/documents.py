@@ -14,7 +14,7 @@ PATTERNS = ["*.md", "docs/*.md", "bench/*.md", "examples/*.md", "crates/*/*.md"]
 SOURCES = (".rt", ".antt", ".edit", ".py", ".c", ".txt")
 WORD = re.compile(r"[A-Za-z_]\w{3,}")
 # Arguments in usage lines, and names of things outside the repository.
-FOREIGN = {"CRATE", "EDIT", "FUNCTION", "GROUP", "KIND", "MODULE", "PATH", "PROGRAM", "SLOT", "TURNS", "WHAT_IS_WRONG",
+FOREIGN = {"CRATE", "DESTDIR", "EDIT", "FUNCTION", "GROUP", "KIND", "MODULE", "PATH", "PROGRAM", "SLOT", "TURNS", "WHAT_IS_WRONG",
            "dac8208d650f15bf", "rattle", "try_lock"}
 # Commands that README shows and that are not run here, each with the reason.
 TOO_LONG = {
@@ -49,7 +49,7 @@ def blocks(document, language):
 
 def sources():
     """Yields the paths of all sources of the repository, with their texts."""
-    for folder in ("crates", "tests", "bench", "tools"):
+    for folder in ("crates", "tests", "bench", "bindings", "tools"):
         for path, folders, names in os.walk(os.path.join(TOP, folder)):
             folders[:] = [name for name in folders if name not in ("out", "__pycache__")]
             for name in names:
@@ -126,7 +126,7 @@ def contracts_of(crate):
 def add_contracts(text, found):
     clauses = None
     for line in text.split("\n"):
-        function = re.match(r"\s*(?:pub(?:\(crate\))? )?(?:const )?fn (\w+)", line)
+        function = re.match(r"\s*(?:pub(?:\(crate\))? )?(?:const |extern \"C\" )?fn (\w+)", line)
         clause = re.match(r"\s*ensures(?:\*)? (\w+)?\s*\{", line)
         if function:
             clauses = found.setdefault(function.group(1), set())
@@ -219,6 +219,15 @@ def quotes(_program, _folder):
             yield "code of %s" % document, "in no source: %s" % ", ".join(missing) if missing else None
 
 
+def names_in_c(_program, _folder):
+    """The names of the libraries that a block of C uses are those of the headers."""
+    known = {name for path, text in sources() if path.endswith(".h") for name in WORD.findall(text)}
+    for document in documents():
+        used = {name for block in blocks(document, "c") for name in re.findall(r"\b(?:gcflip|GCFLIP)_\w+", "\n".join(block))}
+        if used:
+            yield "C of %s" % document, ", ".join(sorted(used - known)) or None
+
+
 # ---- commands
 
 def shown_commands(document):
@@ -289,4 +298,4 @@ def counts(_program, _folder):
         yield "lines of %s" % (name or "all definitions"), None if found and found.group(1) == wanted else "they are %s" % wanted
 
 
-GROUPS = [names, files, clauses, crates, edits, quotes, commands, commands_of_tables, definitions, counts]
+GROUPS = [names, files, clauses, crates, edits, quotes, names_in_c, commands, commands_of_tables, definitions, counts]
