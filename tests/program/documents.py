@@ -82,6 +82,35 @@ def names(_program, _folder):
         yield "names of %s" % document, ", ".join(missing) or None
 
 
+# ---- words
+
+# Phrases that readers stumble over, and what to write.
+STUMBLED_OVER = {
+    "want of memory": "out of memory",
+    "memory is wanting": "an allocation fails",
+    "takes no memory": "does not allocate",
+    "take no memory": "do not allocate",
+    "always answer": "cannot fail",
+    "made again": "retried",
+    "is carried over": "is copied",
+    "are carried over": "are copied",
+    "hands out": "returns",
+    "hands back": "returns",
+    "handed back": "returned",
+    "that there is not": "that does not exist",
+    "that there isn't": "that does not exist",
+    "as it is told": "as it stands",
+    "the merge gate": "CI",
+}
+
+
+def words(_program, _folder):
+    for document in documents():
+        text = " ".join(text_of(document).split())
+        found = ["'%s': write '%s'" % pair for pair in STUMBLED_OVER.items() if pair[0] in text]
+        yield "words of %s" % document, ", ".join(found) or None
+
+
 # ---- files
 
 def cited_files(document):
@@ -298,4 +327,4 @@ def counts(_program, _folder):
         yield "lines of %s" % (name or "all definitions"), None if found and found.group(1) == wanted else "they are %s" % wanted
 
 
-GROUPS = [names, files, clauses, crates, edits, quotes, names_in_c, commands, commands_of_tables, definitions, counts]
+GROUPS = [names, words, files, clauses, crates, edits, quotes, names_in_c, commands, commands_of_tables, definitions, counts]
