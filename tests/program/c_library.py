@@ -14,7 +14,9 @@ from .traces import PLAYED, trace_and_replies
 
 TOP = os.path.join(os.path.dirname(os.path.abspath(__file__)), "..", "..")
 SOURCES = os.path.join(TOP, "tests", "c")
-SECONDS = 300
+SECONDS = 120
+# The libraries are proved first, where they have changed.
+PROVING_SECONDS = 3600
 WARNINGS = ["-Wall", "-Wextra", "-Wpedantic", "-Werror"]
 SANITIZERS = ["-g", "-fsanitize=address,undefined", "-fno-sanitize-recover=all"]
 
@@ -23,9 +25,9 @@ def skip(what, why):
     print("SKIPPED %s: %s" % (what, why), flush=True)
 
 
-def done(words, **more):
+def done(words, timeout=SECONDS, **more):
     """What a run of these words gave."""
-    ran = subprocess.run(words, stdout=subprocess.PIPE, stderr=subprocess.PIPE, timeout=SECONDS, **more)
+    ran = subprocess.run(words, stdout=subprocess.PIPE, stderr=subprocess.PIPE, timeout=timeout, **more)
     return Outcome(ran.stdout, ran.stderr, ran.returncode)
 
 
@@ -59,7 +61,7 @@ class Library:
         self.prefix = os.path.join(folder, "installed")
         self.lib = os.path.join(self.prefix, "lib")
         words = ["make", "-C", os.path.join(TOP, "bindings", "c"), "install", "PREFIX=" + self.prefix]
-        self.made = done([*words, "OUT=" + os.path.join(folder, "out")])
+        self.made = done([*words, "OUT=" + os.path.join(folder, "out")], timeout=PROVING_SECONDS)
 
     def flags(self):
         """What pkg-config tells of it."""

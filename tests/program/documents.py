@@ -14,7 +14,7 @@ PATTERNS = ["*.md", "docs/*.md", "bench/*.md", "examples/*.md", "crates/*/*.md"]
 SOURCES = (".rt", ".antt", ".edit", ".py", ".c", ".txt")
 WORD = re.compile(r"[A-Za-z_]\w{3,}")
 # Arguments in usage lines, and names of things outside the repository.
-FOREIGN = {"CRATE", "EDIT", "FUNCTION", "GROUP", "KIND", "MODULE", "PATH", "PROGRAM", "SLOT", "TURNS", "WHAT_IS_WRONG",
+FOREIGN = {"CRATE", "DESTDIR", "EDIT", "FUNCTION", "GROUP", "KIND", "MODULE", "PATH", "PROGRAM", "SLOT", "TURNS", "WHAT_IS_WRONG",
            "dac8208d650f15bf", "rattle", "try_lock"}
 # Commands that README shows and that are not run here, each with the reason.
 TOO_LONG = {
@@ -49,7 +49,7 @@ def blocks(document, language):
 
 def sources():
     """Yields the paths of all sources of the repository, with their texts."""
-    for folder in ("crates", "tests", "bench", "tools"):
+    for folder in ("crates", "tests", "bench", "bindings", "tools"):
         for path, folders, names in os.walk(os.path.join(TOP, folder)):
             folders[:] = [name for name in folders if name not in ("out", "__pycache__")]
             for name in names:
@@ -80,6 +80,35 @@ def names(_program, _folder):
     for document in documents():
         missing = ["%s (line %d)" % (name, number) for number, name in cited_names(document) if name not in known]
         yield "names of %s" % document, ", ".join(missing) or None
+
+
+# ---- words
+
+# Phrases that readers stumble over, and what to write.
+STUMBLED_OVER = {
+    "want of memory": "out of memory",
+    "memory is wanting": "an allocation fails",
+    "takes no memory": "does not allocate",
+    "take no memory": "do not allocate",
+    "always answer": "cannot fail",
+    "made again": "retried",
+    "is carried over": "is copied",
+    "are carried over": "are copied",
+    "hands out": "returns",
+    "hands back": "returns",
+    "handed back": "returned",
+    "that there is not": "that does not exist",
+    "that there isn't": "that does not exist",
+    "as it is told": "as it stands",
+    "the merge gate": "CI",
+}
+
+
+def words(_program, _folder):
+    for document in documents():
+        text = " ".join(text_of(document).split())
+        found = ["'%s': write '%s'" % pair for pair in STUMBLED_OVER.items() if pair[0] in text]
+        yield "words of %s" % document, ", ".join(found) or None
 
 
 # ---- files
@@ -126,7 +155,7 @@ def contracts_of(crate):
 def add_contracts(text, found):
     clauses = None
     for line in text.split("\n"):
-        function = re.match(r"\s*(?:pub(?:\(crate\))? )?(?:const )?fn (\w+)", line)
+        function = re.match(r"\s*(?:pub(?:\(crate\))? )?(?:const |extern \"C\" )?fn (\w+)", line)
         clause = re.match(r"\s*ensures(?:\*)? (\w+)?\s*\{", line)
         if function:
             clauses = found.setdefault(function.group(1), set())
@@ -180,6 +209,29 @@ def crates(_program, _folder):
             yield "%s is there" % path, None if os.path.exists(os.path.join(TOP, path)) else "there is no such file"
 
 
+# ---- edits
+
+def unknown_edits(line):
+    """Yields the edits and the clauses that a row of docs/TESTING.md names and that do not exist."""
+    for quoted, listed in re.findall(r"edits? ((?:`\w+`(?:, )?)+) \(([\w, ]+)\)", line):
+        crates_named, edits = listed.split(", "), re.findall(r"`(\w+)`", quoted)
+        found = {(crate, edit) for crate in crates_named for edit in edits
+                 if os.path.exists(os.path.join(TOP, "crates", crate, "must-fail", edit + ".edit"))}
+        yield from ["edit %s" % edit for edit in edits if edit not in {name for _, name in found}]
+        yield from ["an edit of %s" % crate for crate in crates_named if crate not in {name for name, _ in found}]
+        contracts = [contracts_of(crate) for crate in crates_named]
+        for calls, clauses_named in re.findall(r"((?:`[\w:]+`(?: and )?)+), clauses? ((?:`\w+`(?:, | and )?)+)", line):
+            known = set()
+            for call in re.findall(r"`([\w:]+)`", calls):
+                known.update(*[contract.get(call.split("::")[-1], set()) for contract in contracts])
+            yield from ["clause %s of %s" % (name, calls) for name in re.findall(r"`(\w+)`", clauses_named) if name not in known]
+
+
+def edits(_program, _folder):
+    unknown = [name for line in text_of("docs/TESTING.md").split("\n") for name in unknown_edits(line)]
+    yield "edits of docs/TESTING.md", ", ".join(unknown) or None
+
+
 # ---- quoted code
 
 def pieces(block):
@@ -194,6 +246,15 @@ def quotes(_program, _folder):
         missing = [piece[:60] for block in found for piece in pieces(block) if not any(piece in text for text in texts)]
         if found:
             yield "code of %s" % document, "in no source: %s" % ", ".join(missing) if missing else None
+
+
+def names_in_c(_program, _folder):
+    """The names of the libraries that a block of C uses are those of the headers."""
+    known = {name for path, text in sources() if path.endswith(".h") for name in WORD.findall(text)}
+    for document in documents():
+        used = {name for block in blocks(document, "c") for name in re.findall(r"\b(?:gcflip|GCFLIP)_\w+", "\n".join(block))}
+        if used:
+            yield "C of %s" % document, ", ".join(sorted(used - known)) or None
 
 
 # ---- commands
@@ -266,4 +327,4 @@ def counts(_program, _folder):
         yield "lines of %s" % (name or "all definitions"), None if found and found.group(1) == wanted else "they are %s" % wanted
 
 
-GROUPS = [names, files, clauses, crates, quotes, commands, commands_of_tables, definitions, counts]
+GROUPS = [names, words, files, clauses, crates, edits, quotes, names_in_c, commands, commands_of_tables, definitions, counts]

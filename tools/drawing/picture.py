@@ -1,4 +1,13 @@
-"""A picture as plain data: its size, and shapes with roles. A renderer decides what a role looks like."""
+"""A picture as plain data: its title, its size, and shapes with roles. A renderer decides what a role looks like.
+
+Each shape has a kind and a role, and what its kind needs. Coordinates are pixels from the upper left corner.
+
+    box     x, y, width, height; text, shown in its middle; tip, shown when pointed at
+    text    x, y of its base line; text; anchor, which is start, middle or end; turned, if it is read upwards
+    line    points
+    area    points of a closed shape that is filled
+    arrow   points: its start, where it bends to, and its end, which has the head
+"""
 
 
 # The heights of texts by their roles, in pixels. A letter is about six tenths as wide as high.
@@ -12,7 +21,7 @@ def text_width(text, role):
 
 
 class Picture:
-    """Shapes, the first at the back. All coordinates are in pixels from the upper left corner."""
+    """A title, a size, and shapes, the first at the back."""
 
     def __init__(self, title):
         self.title, self.width, self.height, self.shapes = title, 0, 0, []
