@@ -1,6 +1,7 @@
 use Rattle.std.proofs.Common.{◌≡◌, [], ◌∷◌, ◌++◌, List, refl, sym, ap, ◌∙◌}
 use Rattle.std.specs.Option.{option_map}
 use Rattle.gc_cert.specs.Views.{pair_in}
+use Rattle.gc_copy.specs.State.{State}
 use Rattle.gc_copy.specs.Steps.{collect}
 use Rattle.gc_world.specs.World.{present, entry_of}
 use Rattle.gc_copy.specs.declared.event.Answer.TheVariants.{Useful}
@@ -12,15 +13,17 @@ use Rattle.gc_world.proofs.world.World.collect_useful.Goals as goal
 pub invariant_of-self-2 : goal.invariant_of-self-2
 invariant_of-self-2 g c =
     let done = c.in_ok-reply.ensures in
-    let items : c.record_step.new.history.items ≡ c.self.inside.history.items ++ entry_of (Collect c.useful_step-step.result) (Useful c.in_ok-reply.reply) ∷ []
+    let same = c.next_useful_step-step.ensures.same in
+    let made = ap (λ s. collect s c.next_useful_step-step.result) (sym same) ∙ done.step in
+    let items : c.record_step.new.history.items ≡ c.self.inside.history.items ++ entry_of (Collect c.next_useful_step-step.result) (Useful c.in_ok-reply.reply) ∷ []
     = ◌∙◌ {A = List Entry} c.record_step.ensures
-    (λ i. c.make_room.ensures.items i ++ entry_of (Collect c.useful_step-step.result) (Useful c.in_ok-reply.reply) ∷ []) in
-    stepped c.self.inside.heap c.perform.new.heap c.self.inside.size c.self.inside.heap.mutators c.perform.new.heap.mutators c.useful_step-step.result c.in_ok-reply.reply (Useful c.in_ok-reply.reply)
-    c.self.inside.history.items c.record_step.new.history.items (option_map pair_in c.self.inside.kept) (option_map pair_in c.perform.new.kept) c.self.invariant c.useful_step-step.ensures.step done.step refl c.useful_step-step.ensures.useful c.perform.ensures.mutators items (c.perform.ensures.certified (c.self.invariant).kept)
+    (λ i. c.make_room.ensures.items i ++ entry_of (Collect c.next_useful_step-step.result) (Useful c.in_ok-reply.reply) ∷ []) in
+    stepped c.self.inside.heap c.perform.new.heap c.self.inside.size c.self.inside.heap.mutators c.perform.new.heap.mutators c.next_useful_step-step.result c.in_ok-reply.reply (Useful c.in_ok-reply.reply)
+    c.self.inside.history.items c.record_step.new.history.items (option_map pair_in c.self.inside.kept) (option_map pair_in c.perform.new.kept) c.self.invariant c.next_useful_step-step.ensures.step made refl c.next_useful_step-step.ensures.useful (c.perform.ensures.mutators ∙ ap (λ (s : State). s.mutators) same) items (c.perform.ensures.certified (c.self.invariant).kept)
 
 pub returns-clause-step : goal.returns-clause-step
 returns-clause-step g c =
     let before : c.self.inside.heap ≡ present c.args.self.now = (c.self.invariant).state ∙ ap present c.self.view_is in
     let later = invariant_of-self-2 g c in
     let state = later.state in
-    ap (λ s. collect s c.useful_step-step.result) (sym before) ∙ c.in_ok-reply.ensures.step ∙ (λ i. (c.in_ok-reply.reply, state i))
+    ap (λ s. collect s c.next_useful_step-step.result) (sym before ∙ sym c.next_useful_step-step.ensures.same) ∙ c.in_ok-reply.ensures.step ∙ (λ i. (c.in_ok-reply.reply, state i))
