@@ -129,13 +129,28 @@ pub struct World {
     heap: Heap,
     mutators: u8,
     open: Option<Collection>,
-    /// The pair of the last flip, as the checker saw it.
+    /// Whether the pair of a flip is kept, and that of the last flip, as the checker saw it.
+    keeps: bool,
     kept: Option<(Image, Image, Vec<(u64, u64)>)>,
 }
 
 impl World {
-    pub fn new(size: u32, mutators: u8) -> World {
-        World { heap: Heap::new(size, mutators), mutators, open: None, kept: None }
+    pub fn new(size: u32, mutators: u8, keeps: bool) -> World {
+        World { heap: Heap::new(size, mutators), mutators, open: None, keeps, kept: None }
+    }
+
+    /// Takes the pair of the last flip out.
+    pub fn take_flip(&mut self) -> Option<(Image, Image, Vec<(u64, u64)>)> {
+        self.kept.take()
+    }
+
+    pub fn size(&self) -> usize {
+        self.heap.space.size
+    }
+
+    /// The first word that no object takes.
+    pub fn end(&self) -> usize {
+        self.heap.space.words.len()
     }
 
     pub fn mutate(&mut self, m: u8, op: Op) -> Reply {
@@ -163,13 +178,21 @@ impl World {
         let pairs = collection.pairs();
         let moved = |word: &u64| target(*word).map_or(*word, |at| 2 * self.heap.space.words[at + 1]);
         let roots: Vec<_> = self.heap.roots.iter().map(moved).collect();
-        let new = Image::new(true, collection.new.size, collection.new.words.clone(), roots.clone());
-        let old_space = mem::replace(&mut self.heap.space, collection.new);
-        let old = Image::new(true, old_space.size, old_space.words, mem::replace(&mut self.heap.roots, roots));
+        let old_size = self.heap.space.size;
+        let old = Image::new(true, old_size, mem::take(&mut self.heap.space.words), mem::take(&mut self.heap.roots));
+        let new = Image::new(true, collection.new.size, collection.new.words, roots);
         assert!(pair::check(&old, &new, &pairs).is_ok(), "a flip is refused");
-        clear_links(&mut self.heap.space);
         let count = pairs.len();
-        self.kept = Some((old, new, pairs));
+        let (size, words, roots) = if self.keeps {
+            let parts = new.clone().parts();
+            self.kept = Some((old, new, pairs));
+            parts
+        } else {
+            new.parts()
+        };
+        self.heap.space = Space { size, words };
+        self.heap.roots = roots;
+        clear_links(&mut self.heap.space);
         StepReply::Flipped(count)
     }
 

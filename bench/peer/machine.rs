@@ -102,8 +102,7 @@ impl Heap {
     }
 
     fn place(mutator: u8, slot: Slot) -> usize {
-        let index = slot.index as usize;
-        if slot.shared { index } else { 16 + 16 * mutator as usize + index }
+        slot.index as usize + usize::from(!slot.shared) * (16 + 16 * mutator as usize)
     }
 
     fn root(&self, mutator: u8, slot: Slot) -> u64 {

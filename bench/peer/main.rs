@@ -3,49 +3,16 @@
 //! on them.
 
 mod collector;
+mod cursor;
 mod machine;
 mod pair;
+mod player;
 mod text;
 
-use collector::World;
+use player::Wanted;
 use std::fs::File;
 use std::io::{self, Read, Write};
 use std::process::ExitCode;
-use text::{Answer, Event};
-
-/// The most bytes of a trace.
-const LIMIT: u64 = 16_777_216;
-
-fn read(path: Option<String>, limit: u64) -> io::Result<Vec<u8>> {
-    let mut bytes = Vec::new();
-    match path {
-        Some(path) => File::open(path)?.take(limit + 1).read_to_end(&mut bytes)?,
-        None => io::stdin().lock().take(limit + 1).read_to_end(&mut bytes)?,
-    };
-    Ok(bytes)
-}
-
-fn happen(world: &mut World, event: Event) -> Answer {
-    match event {
-        Event::Mutate(m, op) => Answer::Mutator(world.mutate(m, op)),
-        Event::Collect(step) => Answer::Collector(world.collect(step)),
-    }
-}
-
-/// Plays a text, and gives the reply lines or the line of the text's first fault.
-fn played(bytes: &[u8]) -> Result<Vec<u8>, String> {
-    if bytes.len() as u64 > LIMIT {
-        return Err("trace: too large".to_string());
-    }
-    let trace = text::trace(bytes)?;
-    let mut world = World::new(trace.size, trace.mutators);
-    let history: Vec<_> = trace.events.iter().map(|event| (*event, happen(&mut world, *event))).collect();
-    let mut lines = Vec::new();
-    for (_, answer) in &history {
-        text::push_answer(&mut lines, answer);
-    }
-    Ok(lines)
-}
 
 fn told(line: &str, status: u8) -> ExitCode {
     eprintln!("{line}");
@@ -59,19 +26,35 @@ fn written(lines: &[u8], status: u8) -> ExitCode {
     }
 }
 
-/// `peer [play FILE]` and `peer check FILE`, as gcflip takes them.
-fn main() -> ExitCode {
-    let checks = std::env::args().nth(1).is_some_and(|word| word == "check");
-    let Ok(bytes) = read(std::env::args().nth(2), if checks { pair::LIMIT } else { LIMIT }) else {
-        return told("cannot read", 4);
-    };
-    let answer = if checks {
-        pair::verdict(&bytes).map(|(line, status)| (line.into_bytes(), status))
-    } else {
-        played(&bytes).map(|lines| (lines, 0))
-    };
-    match answer {
+fn checked(path: &str) -> io::Result<ExitCode> {
+    let mut text = Vec::new();
+    let file = File::open(path)?;
+    let size = file.metadata()?.len().min(pair::LIMIT + 1);
+    text.reserve_exact(size as usize + 1);
+    file.take(pair::LIMIT + 1).read_to_end(&mut text)?;
+    Ok(match pair::verdict(&text) {
+        Ok((line, status)) => written(line.as_bytes(), status),
         Err(line) => told(&line, 3),
-        Ok((lines, status)) => written(&lines, status),
-    }
+    })
+}
+
+fn played(path: &str, wanted: Wanted) -> io::Result<ExitCode> {
+    Ok(match player::played(&mut File::open(path)?, wanted)? {
+        Ok(lines) => written(&lines, 0),
+        Err(line) => told(&line, if line == "no such flip" { 1 } else { 3 }),
+    })
+}
+
+/// `peer play FILE`, `peer report FILE`, `peer pair FILE N` and `peer check FILE`, as gcflip takes them.
+fn main() -> ExitCode {
+    let words: Vec<String> = std::env::args().skip(1).collect();
+    let words: Vec<&str> = words.iter().map(String::as_str).collect();
+    let ended = match words[..] {
+        ["play", path] => played(path, Wanted::Replies),
+        ["report", path] => played(path, Wanted::Report),
+        ["pair", path, n] => played(path, Wanted::Pair(n.parse().unwrap_or(0))),
+        ["check", path] => checked(path),
+        _ => return told("play, report, pair or check", 2),
+    };
+    ended.unwrap_or_else(|_| told("cannot read", 4))
 }

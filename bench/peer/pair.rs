@@ -1,10 +1,12 @@
 //! Pairs of heaps: their text, and the check of their certificates.
 
-use crate::text::{cut, decimal};
+use crate::cursor::Cursor;
+use std::fmt::Write;
 
 /// The most bytes of a pair text.
 pub const LIMIT: u64 = 67_108_864;
 
+#[derive(Clone)]
 pub struct Image {
     size: u64,
     words: Vec<u64>,
@@ -18,33 +20,52 @@ impl Image {
     pub fn new(raws: bool, size: usize, words: Vec<u64>, roots: Vec<u64>) -> Image {
         Image { size: size as u64, end: words.len() as u64, words, roots, raws }
     }
+
+    /// The size, the words and the roots.
+    pub fn parts(self) -> (usize, Vec<u64>, Vec<u64>) {
+        (self.size as usize, self.words, self.roots)
+    }
 }
 
+/// The lines of a text, each read from its front in one pass.
 struct Lines<'a> {
-    rest: &'a [u8],
+    cursor: Cursor<'a>,
     number: u64,
 }
 
 impl<'a> Lines<'a> {
-    /// What the next line is read as.
-    fn next<T>(&mut self, read: impl Fn(&'a [u8]) -> Option<T>) -> Result<T, String> {
-        let (line, rest) = cut(self.rest).ok_or("pair: ends early")?;
+    /// What the next line is read as. Its line feed follows what `read` takes.
+    fn next<T>(&mut self, read: impl Fn(&mut Cursor<'a>) -> Option<T>) -> Result<T, String> {
+        let start = self.cursor.at;
+        let found = read(&mut self.cursor).filter(|_| self.cursor.skip(b"\n").is_some());
         self.number += 1;
-        self.rest = rest;
-        read(line).ok_or_else(|| format!("pair: bad line {}", self.number))
+        found.ok_or_else(|| match memchr(&self.cursor.bytes[start..]) {
+            true => format!("pair: bad line {}", self.number),
+            false => "pair: ends early".to_string(),
+        })
     }
 
     fn words(&mut self, count: u64) -> Result<Vec<u64>, String> {
-        (0..count).map(|_| self.next(decimal)).collect()
+        let mut words = Vec::with_capacity((count as usize).min(self.cursor.bytes.len() / 2));
+        for _ in 0..count {
+            words.push(self.next(|cursor| cursor.decimal(u64::MAX))?);
+        }
+        Ok(words)
     }
 
-    fn count(&mut self, name: &[u8], most: u64) -> Result<u64, String> {
-        self.next(|line| decimal(behind(line, name)?).filter(|n| *n <= most))
+    fn count(&mut self, name: &'static [u8], most: u64) -> Result<u64, String> {
+        self.next(|cursor| {
+            behind(cursor, name)?;
+            cursor.decimal(most)
+        })
     }
 
-    fn image(&mut self, name: &[u8], raws: bool) -> Result<Image, String> {
+    fn image(&mut self, name: &'static [u8], raws: bool) -> Result<Image, String> {
         let in_range = |n: &u64| (1..=1_048_576).contains(n);
-        let (size, end) = self.next(|line| two(behind(line, name)?).filter(|(s, e)| in_range(s) && in_range(e)))?;
+        let (size, end) = self.next(|cursor| {
+            behind(cursor, name)?;
+            two(cursor).filter(|(size, end)| in_range(size) && in_range(end))
+        })?;
         let words = self.words(end)?;
         let count = self.count(b"roots", 272)?;
         let roots = self.words(count)?;
@@ -52,14 +73,22 @@ impl<'a> Lines<'a> {
     }
 }
 
-/// What stands behind a name and a space.
-fn behind<'a>(line: &'a [u8], name: &[u8]) -> Option<&'a [u8]> {
-    line.strip_prefix(name)?.strip_prefix(b" ")
+/// Whether a line feed is left.
+fn memchr(text: &[u8]) -> bool {
+    text.contains(&b'\n')
 }
 
-fn two(words: &[u8]) -> Option<(u64, u64)> {
-    let space = words.iter().position(|byte| *byte == b' ')?;
-    Some((decimal(&words[..space])?, decimal(&words[space + 1..])?))
+/// Takes a name and a space.
+fn behind(cursor: &mut Cursor<'_>, name: &[u8]) -> Option<()> {
+    cursor.bytes[cursor.at..].strip_prefix(name)?;
+    cursor.at += name.len();
+    cursor.skip(b" ")
+}
+
+fn two(cursor: &mut Cursor<'_>) -> Option<(u64, u64)> {
+    let first = cursor.decimal(u64::MAX)?;
+    cursor.skip(b" ")?;
+    Some((first, cursor.decimal(u64::MAX)?))
 }
 
 /// Where objects start, or the first address that is wrong.
@@ -143,25 +172,50 @@ pub fn verdict(text: &[u8]) -> Result<(String, u8), String> {
     if text.len() as u64 > LIMIT {
         return Err("pair: too large".to_string());
     }
-    let mut lines = Lines { rest: text, number: 0 };
-    let raws = lines.next(|line| match line {
-        b"heappair 1" => Some(false),
-        b"heappair 2" => Some(true),
-        _ => None,
+    let mut lines = Lines { cursor: Cursor { bytes: text, at: 0 }, number: 0 };
+    let raws = lines.next(|cursor| {
+        cursor.skip(b"heappair ")?;
+        cursor.decimal(2).filter(|version| *version > 0).map(|version| version == 2)
     })?;
     let old = lines.image(b"old", raws)?;
     let new = lines.image(b"new", raws)?;
     let count = lines.count(b"pairs", 524_287)?;
     let address = |n: &u64| *n <= u64::from(u32::MAX);
-    let pairs = (0..count)
-        .map(|_| lines.next(|line| two(line).filter(|(a, b)| address(a) && address(b))))
-        .collect::<Result<Vec<_>, _>>()?;
-    lines.next(|line| (line == b"end").then_some(()))?;
-    if !lines.rest.is_empty() {
+    let mut pairs = Vec::with_capacity((count as usize).min(text.len() / 4));
+    for _ in 0..count {
+        pairs.push(lines.next(|cursor| two(cursor).filter(|(a, b)| address(a) && address(b)))?);
+    }
+    lines.next(|cursor| cursor.skip(b"end"))?;
+    if lines.cursor.at < text.len() {
         return Err(format!("pair: bad line {}", lines.number + 1));
     }
     Ok(match check(&old, &new, &pairs) {
         Ok(()) => (format!("yes {count}\n"), 0),
         Err(refusal) => (format!("refused {refusal}\n"), 1),
     })
+}
+
+fn push_image(text: &mut String, name: &str, image: &Image) {
+    let _ = writeln!(text, "{name} {} {}", image.size, image.end);
+    for word in &image.words {
+        let _ = writeln!(text, "{word}");
+    }
+    let _ = writeln!(text, "roots {}", image.roots.len());
+    for word in &image.roots {
+        let _ = writeln!(text, "{word}");
+    }
+}
+
+/// The text of a flip's pair.
+pub fn text(old: &Image, new: &Image, pairs: &[(u64, u64)]) -> Vec<u8> {
+    let mut text = String::new();
+    let _ = writeln!(text, "heappair {}", if old.raws { 2 } else { 1 });
+    push_image(&mut text, "old", old);
+    push_image(&mut text, "new", new);
+    let _ = writeln!(text, "pairs {}", pairs.len());
+    for (a, b) in pairs {
+        let _ = writeln!(text, "{a} {b}");
+    }
+    text.push_str("end\n");
+    text.into_bytes()
 }

@@ -1,8 +1,7 @@
-//! Traces and replies as text.
+//! The heading of a trace, and replies as text.
 
 use crate::collector::{Step, StepReply};
-use crate::machine::{Op, Reply, Slot, View};
-use std::io::Write;
+use crate::machine::{Op, Reply, View};
 
 #[derive(Clone, Copy)]
 pub enum Event {
@@ -13,12 +12,6 @@ pub enum Event {
 pub enum Answer {
     Mutator(Reply),
     Collector(StepReply),
-}
-
-pub struct Trace {
-    pub size: u32,
-    pub mutators: u8,
-    pub events: Vec<Event>,
 }
 
 /// The words of a line, parted by one space.
@@ -37,16 +30,6 @@ impl<'a> Words<'a> {
         decimal(self.0.next()?).filter(|n| *n <= most)
     }
 
-    fn slot(&mut self) -> Option<Slot> {
-        let (letter, digits) = self.0.next()?.split_first()?;
-        let index = decimal(digits).filter(|index| *index < 16)? as u8;
-        match letter {
-            b'g' => Some(Slot { shared: true, index }),
-            b'r' => Some(Slot { shared: false, index }),
-            _ => None,
-        }
-    }
-
     fn end(&mut self) -> Option<()> {
         self.0.next().is_none().then_some(())
     }
@@ -63,63 +46,8 @@ pub fn decimal(digits: &[u8]) -> Option<u64> {
     })
 }
 
-fn op(version: u8, words: &mut Words<'_>) -> Option<Op> {
-    match words.0.next()? {
-        b"raw" if version > 2 => Some(Op::NewRaw {
-            d: words.slot()?,
-            kind: words.number(255)? as u8,
-            len: words.number(65535)? as u16,
-        }),
-        b"new" => Some(Op::New {
-            d: words.slot()?,
-            kind: words.number(255)? as u8,
-            len: words.number(65535)? as u16,
-        }),
-        b"num" => Some(Op::Num { d: words.slot()?, n: words.number(i64::MAX as u64)? }),
-        b"nil" => Some(Op::Nil { d: words.slot()? }),
-        b"move" => Some(Op::Move { d: words.slot()?, s: words.slot()? }),
-        b"get" => Some(Op::Get { d: words.slot()?, s: words.slot()?, i: words.number(65535)? as u16 }),
-        b"put" => Some(Op::Put { s: words.slot()?, i: words.number(65535)? as u16, t: words.slot()? }),
-        b"same" => Some(Op::Same { s: words.slot()?, t: words.slot()? }),
-        b"look" => Some(Op::Look { s: words.slot()? }),
-        _ => None,
-    }
-}
-
-/// The size of a collection's own, which the second version brought.
-fn begin(version: u8, words: &mut Words<'_>) -> Option<Step> {
-    let Some(size) = words.0.next() else {
-        return Some(Step::Begin(None));
-    };
-    let size = decimal(size).filter(|size| (1..=1_048_576).contains(size))?;
-    (version > 1).then_some(Step::Begin(Some(size as u32)))
-}
-
-fn step(version: u8, words: &mut Words<'_>) -> Option<Step> {
-    match words.0.next()? {
-        b"begin" => begin(version, words),
-        b"roots" => Some(Step::Roots),
-        b"scan" => Some(Step::Scan),
-        b"apply" => Some(Step::Apply(words.number(15)? as u8)),
-        b"flip" => Some(Step::Flip),
-        b"drop" => Some(Step::Drop),
-        _ => None,
-    }
-}
-
-fn event(version: u8, line: &[u8]) -> Option<Event> {
-    let mut words = Words::new(line);
-    let event = match words.0.next()? {
-        b"m" => Event::Mutate(words.number(15)? as u8, op(version, &mut words)?),
-        b"c" => Event::Collect(step(version, &mut words)?),
-        _ => return None,
-    };
-    words.end()?;
-    Some(event)
-}
-
 /// The mutator, or that of the log.
-fn mutator_of(event: &Event) -> u8 {
+pub fn mutator_of(event: &Event) -> u8 {
     match event {
         Event::Mutate(m, _) | Event::Collect(Step::Apply(m)) => *m,
         Event::Collect(_) => 0,
@@ -142,7 +70,7 @@ pub fn cut(text: &[u8]) -> Option<(&[u8], &[u8])> {
     Some((&text[..end], &text[end + 1..]))
 }
 
-fn header(text: &[u8]) -> Option<(u8, u32, u8, &[u8])> {
+pub fn header(text: &[u8]) -> Option<(u8, u32, u8, &[u8])> {
     let (first, rest) = cut(text)?;
     let version = match first {
         b"heaptrace 1" => 1,
@@ -155,24 +83,6 @@ fn header(text: &[u8]) -> Option<(u8, u32, u8, &[u8])> {
     Some((version, size, mutators, rest))
 }
 
-/// The trace that the text spells, or the line of its first fault.
-pub fn trace(text: &[u8]) -> Result<Trace, String> {
-    let (version, size, mutators, mut rest) = header(text).ok_or("trace: bad header")?;
-    let mut events = Vec::new();
-    let mut number = 3;
-    while !rest.is_empty() {
-        let found = cut(rest).and_then(|(line, after)| Some((event(version, line)?, after)));
-        let (event, after) = found.ok_or_else(|| format!("trace: bad line {number}"))?;
-        if mutator_of(&event) >= mutators {
-            return Err(format!("trace: no such mutator at line {number}"));
-        }
-        events.push(event);
-        rest = after;
-        number += 1;
-    }
-    Ok(Trace { size, mutators, events })
-}
-
 pub fn push_answer(lines: &mut Vec<u8>, answer: &Answer) {
     match answer {
         Answer::Mutator(reply) => push_reply(lines, reply),
@@ -180,38 +90,66 @@ pub fn push_answer(lines: &mut Vec<u8>, answer: &Answer) {
     }
 }
 
+/// Appends the decimal of a number and a byte behind it.
+fn push_number(lines: &mut Vec<u8>, mut n: u64, behind: u8) {
+    let mut digits = [0; 21];
+    let mut at = digits.len() - 1;
+    digits[at] = behind;
+    loop {
+        at -= 1;
+        digits[at] = b'0' + (n % 10) as u8;
+        n /= 10;
+        if n == 0 {
+            break;
+        }
+    }
+    lines.extend_from_slice(&digits[at..]);
+}
+
 fn push_step_reply(lines: &mut Vec<u8>, reply: &StepReply) {
-    let written = match reply {
-        StepReply::Busy => writeln!(lines, "busy"),
-        StepReply::Begun => writeln!(lines, "begun"),
-        StepReply::Idle => writeln!(lines, "idle"),
-        StepReply::Clean => writeln!(lines, "clean"),
-        StepReply::NoRoom => writeln!(lines, "no room"),
-        StepReply::Copied => writeln!(lines, "copied"),
-        StepReply::Passed => writeln!(lines, "passed"),
-        StepReply::Scanned => writeln!(lines, "scanned"),
-        StepReply::Applied => writeln!(lines, "applied"),
-        StepReply::NotReady => writeln!(lines, "not ready"),
-        StepReply::Flipped(pairs) => writeln!(lines, "flipped {pairs}"),
-        StepReply::Dropped => writeln!(lines, "dropped"),
+    let line: &[u8] = match reply {
+        StepReply::Busy => b"busy\n",
+        StepReply::Begun => b"begun\n",
+        StepReply::Idle => b"idle\n",
+        StepReply::Clean => b"clean\n",
+        StepReply::NoRoom => b"no room\n",
+        StepReply::Copied => b"copied\n",
+        StepReply::Passed => b"passed\n",
+        StepReply::Scanned => b"scanned\n",
+        StepReply::Applied => b"applied\n",
+        StepReply::NotReady => b"not ready\n",
+        StepReply::Flipped(pairs) => {
+            lines.extend_from_slice(b"flipped ");
+            return push_number(lines, *pairs as u64, b'\n');
+        }
+        StepReply::Dropped => b"dropped\n",
     };
-    written.expect("a vector takes every byte");
+    lines.extend_from_slice(line);
+}
+
+fn push_object(lines: &mut Vec<u8>, name: &[u8], kind: u8, len: u16) {
+    lines.extend_from_slice(name);
+    push_number(lines, u64::from(kind), b' ');
+    push_number(lines, u64::from(len), b'\n');
 }
 
 fn push_reply(lines: &mut Vec<u8>, reply: &Reply) {
-    let written = match reply {
-        Reply::Full => writeln!(lines, "full"),
-        Reply::Made => writeln!(lines, "made"),
-        Reply::Done => writeln!(lines, "done"),
-        Reply::NoObject => writeln!(lines, "no object"),
-        Reply::NoField => writeln!(lines, "no field"),
-        Reply::NoNumber => writeln!(lines, "no number"),
-        Reply::Saw(View::Nil) => writeln!(lines, "saw nil"),
-        Reply::Saw(View::Num(n)) => writeln!(lines, "saw num {n}"),
-        Reply::Saw(View::Obj { kind, len }) => writeln!(lines, "saw obj {kind} {len}"),
-        Reply::Saw(View::RawObj { kind, len }) => writeln!(lines, "saw raw {kind} {len}"),
-        Reply::Yes => writeln!(lines, "yes"),
-        Reply::No => writeln!(lines, "no"),
+    let line: &[u8] = match reply {
+        Reply::Full => b"full\n",
+        Reply::Made => b"made\n",
+        Reply::Done => b"done\n",
+        Reply::NoObject => b"no object\n",
+        Reply::NoField => b"no field\n",
+        Reply::NoNumber => b"no number\n",
+        Reply::Saw(View::Nil) => b"saw nil\n",
+        Reply::Saw(View::Num(n)) => {
+            lines.extend_from_slice(b"saw num ");
+            return push_number(lines, *n, b'\n');
+        }
+        Reply::Saw(View::Obj { kind, len }) => return push_object(lines, b"saw obj ", *kind, *len),
+        Reply::Saw(View::RawObj { kind, len }) => return push_object(lines, b"saw raw ", *kind, *len),
+        Reply::Yes => b"yes\n",
+        Reply::No => b"no\n",
     };
-    written.expect("a vector takes every byte");
+    lines.extend_from_slice(line);
 }
