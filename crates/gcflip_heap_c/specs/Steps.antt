@@ -8,7 +8,7 @@ use Rattle.gc_copy.specs.declared.step.Step.TheVariants as steps
 use Rattle.gc_copy.specs.declared.step.StepReply.{StepReply}
 use Rattle.gc_copy.specs.declared.step.StepReply.TheVariants as replies
 use Rattle.gc_core.specs.CollectedHeap.{Allocates}
-use Rattle.gc_core.specs.Flip.{FlipsOnly, IsCertified, PassesIfReady}
+use Rattle.gc_core.specs.Flip.{FlipsOnly, IsCertified, PassesIfReady, HasRoomIfLarge}
 use Rattle.gcflip_heap_c.specs.Replies.{step_reply_in_c}
 use Rattle.gcflip_heap_c.specs.declared.reply.GcflipReply.{GcflipReply}
 
@@ -40,3 +40,8 @@ abbrev pub Flips : Option State → Option State → GcflipReply → Type 0
 Flips (Some old) (Some new) told = (reply : StepReply) × (collect old steps.Flip ≡ (reply, new)) × (told ≡ step_reply_in_c reply)
     × FlipsOnly IsCertified old reply × (reply ≢ replies.Refused) × PassesIfReady old reply
 Flips old new told = ⊥
+
+-- a step in the state `old` that got this reply lacked no room, if the new space is at least as large as the heap
+abbrev pub HasRoom : Option State → GcflipReply → Type 0
+HasRoom None told = ⊥
+HasRoom (Some old) told = (reply : StepReply) × (told ≡ step_reply_in_c reply) × HasRoomIfLarge old reply

@@ -2,7 +2,7 @@
 
 ghost use Rattle.std.specs.Prelude.{◌≡◌};
 ghost use Rattle.gc_copy.specs.declared.step.Step.{Step};
-ghost use Rattle.gcflip_heap_c.specs.Steps.{IsStepCall, Flips};
+ghost use Rattle.gcflip_heap_c.specs.Steps.{IsStepCall, Flips, HasRoom};
 
 use crate::answer::{CLOSED, DONE, NO_MEMORY, OUT_OF_RANGE};
 use crate::handle::GcflipHeap;
@@ -66,7 +66,8 @@ pub extern "C" fn gcflip_heap_roots(
     heap: &mut GcflipHeap,
     reply: &mut GcflipReply,
 ) -> u32
-    ensures { IsStepCall Step.Roots heap.old.state heap.new.state reply.old reply.new result }
+    ensures call { IsStepCall Step.Roots heap.old.state heap.new.state reply.old reply.new result }
+    ensures room { result ≡ 0 → HasRoom heap.old.state reply.new }
 {
     let Some(mut opened) = heap.take(alloc) else {
         return CLOSED;
@@ -83,7 +84,8 @@ pub extern "C" fn gcflip_heap_scan(
     heap: &mut GcflipHeap,
     reply: &mut GcflipReply,
 ) -> u32
-    ensures { IsStepCall Step.Scan heap.old.state heap.new.state reply.old reply.new result }
+    ensures call { IsStepCall Step.Scan heap.old.state heap.new.state reply.old reply.new result }
+    ensures room { result ≡ 0 → HasRoom heap.old.state reply.new }
 {
     let Some(mut opened) = heap.take(alloc) else {
         return CLOSED;
@@ -101,7 +103,8 @@ pub extern "C" fn gcflip_heap_apply(
     m: u8,
     reply: &mut GcflipReply,
 ) -> u32
-    ensures { IsStepCall (Step.Apply m) heap.old.state heap.new.state reply.old reply.new result }
+    ensures call { IsStepCall (Step.Apply m) heap.old.state heap.new.state reply.old reply.new result }
+    ensures room { result ≡ 0 → HasRoom heap.old.state reply.new }
 {
     let Some(mut opened) = heap.take(alloc) else {
         return CLOSED;
