@@ -1,5 +1,5 @@
 -- Lines that are read from the front of a text.
-use Rattle.std.proofs.Common.{◌≡◌, ◌≢◌, ℕ, ◌≤◌, List, [], ◌∷◌, ◌++◌, refl, sym, ap, ◌∙◌, arith, append_assoc, Option, Some, None}
+use Rattle.std.proofs.Common.{◌≡◌, ◌≢◌, ℕ, ◌≤◌, List, ◌∷◌, ◌++◌, refl, sym, ap, ◌∙◌, arith, append_assoc, Option, Some, None}
 use Rattle.std.specs.Fmt.{decimal}
 use Rattle.gc_graph.specs.Fronts.{BeginsWithNumber}
 use Rattle.gc_graph.specs.Lines.{newline, space}
@@ -7,7 +7,7 @@ use Rattle.gc_graph.proofs.Decimals.{one_front}
 use Rattle.gc_cert.specs.Grammar.{pair_line, IsWord, AreAddresses}
 use Rattle.gc_cert.specs.declared.fault.PairFault.{PairFault}
 use Rattle.gc_cert.specs.declared.fault.PairFault.TheVariants.{Read, TooLarge, BadLine, EndsEarly, NoMemory}
-use Rattle.gc_cert.specs.Sections.{Place, IsNext, NoneIsFirst}
+use Rattle.gc_cert.specs.Sections.{Place, NoneIsFirst}
 use Rattle.gc_cert.specs.Internal.Sections.{alone, Spelled, IsLineFault, MayStop}
 use Rattle.gc_cert.proofs.Forms.{IsForm, line_cut, line_wrong}
 

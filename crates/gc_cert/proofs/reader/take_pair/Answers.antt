@@ -1,6 +1,6 @@
 use Rattle.gc_graph.specs.Lines.{tokens_of}
 use Rattle.gc_cert.specs.Grammar.{pair_line, AreAddresses}
-use Rattle.gc_cert.specs.Parsers.{pair_of}
+use Rattle.gc_cert.specs.Internal.Parsers.{pair_of}
 use Rattle.gc_cert.proofs.Fronts.{line_stops}
 use Rattle.gc_cert.proofs.LineForms.{pair_form}
 use Rattle.gc_cert.proofs.reader.take_pair.Goals as goal
