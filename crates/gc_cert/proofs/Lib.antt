@@ -3,6 +3,7 @@ pub mod OneReading
 pub mod TextLimit
 pub mod RowProofs
 pub mod Stops
+pub mod Fronts
 pub mod Forms
 pub mod LineForms
 pub mod Parts

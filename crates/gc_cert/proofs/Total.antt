@@ -12,8 +12,8 @@ use Rattle.gc_cert.specs.Internal.Grammar.{image_alone, IsImageBy}
 use Rattle.gc_cert.specs.Faults.{limit, AreFirst, AreWhole, HasWrongLine, HasByteBehind, IsCutOff, IsPairFaultOf, IsReadAs, MayFail}
 use Rattle.gc_cert.specs.Sections.{Place, start, IsNext, HasTaken}
 use Rattle.gc_cert.specs.Internal.Sections.{Nothing, AnyFlag, alone, AreAll, Section, Spelled, Begins, IsWrongAt, IsCutIn, MayStop}
-use Rattle.gc_cert.specs.Parsers.{count_of, sizes_of, pair_of}
-use Rattle.gc_cert.specs.Internal.Parsers.{is_name, is_line, raws_in, word_in}
+use Rattle.gc_cert.specs.Parsers.{count_of, sizes_of}
+use Rattle.gc_cert.specs.Internal.Parsers.{pair_of, is_name, is_line, raws_in, word_in}
 use Rattle.gc_cert.specs.declared.fault.PairFault.{PairFault}
 use Rattle.gc_cert.specs.declared.fault.PairFault.TheVariants.{Read, TooLarge, BadLine, EndsEarly, NoMemory}
 use Rattle.gc_cert.proofs.Stops.{Delimits, BeginsWith, taken_then, wrong_within, cut_within}

@@ -18,10 +18,3 @@ sizes_of name tokens = do
   end ← number_at most_words size.1
   sizes ← end_of (size.0, end.0) end.1
   if sizes.0 == 0 then None else if sizes.1 == 0 then None else Some sizes
-
--- an old and a new address
-unfoldable pub pair_of : Tokens → Option (ℕ × ℕ)
-pair_of tokens = do
-  old ← number_at 4294967295 tokens
-  new ← number_at 4294967295 old.1
-  end_of (old.0, new.0) new.1

@@ -1,5 +1,5 @@
 -- Reading a text section by section: what a section took of the text, and where a text has no such section.
-use Rattle.std.specs.Prelude.{◌≡◌, ℕ, ◌+◌, ◌≤◌, List, ◌∷◌, ◌++◌, length}
+use Rattle.std.specs.Prelude.{◌≡◌, ◌≢◌, ℕ, ◌+◌, ◌≤◌, List, ◌∷◌, ◌++◌, length}
 use Rattle.std.specs.List.{AllByRecursion}
 use Rattle.gc_graph.specs.Lines.{newline, HasNo, text_of}
 
@@ -21,6 +21,10 @@ pub record IsNext (line : List ℕ) (old new : Place) : Type 0 where
 pub record HasTaken (lines : List (List ℕ)) (old new : Place) : Type 0 where
   pub parts : old.rest ≡ text_of lines ++ new.rest
   pub number : new.taken ≡ old.taken + length lines
+
+-- the first line of the text is that of none of these values
+abbrev pub NoneIsFirst : {V : Type 0} → (V → Type 0) → (V → List ℕ) → List ℕ → Type 0
+NoneIsFirst {V = V} InRange line_of text = (v : V) (rest : List ℕ) → InRange v → text ≢ line_of v ++ newline ∷ rest
 
 -- each line has a byte or more
 abbrev pub NoneEmpty : List (List ℕ) → Type 0

@@ -1,5 +1,7 @@
 use crate::fault::PairFault;
+use crate::parser::{front_pair, front_word};
 use gc_graph::text::cut;
+use gc_words::Pair;
 use std::marker::Model;
 
 /// The lines of a text, from top to bottom.
@@ -21,9 +23,12 @@ impl<'a> Model for Lines<'a> {
 }
 
 impl<'a> Lines<'a> {
-    ghost use Rattle.std.specs.Prelude.{◌≡◌, ◌≢◌, ◌≤◌, ◌+◌, ◌*◌, ℕ, List, [], length, MatchOption, MatchResult};
+    ghost use Rattle.std.specs.Prelude.{◌≡◌, ◌≢◌, ◌≤◌, ◌+◌, ◌*◌, ℕ, List, [], ◌∷◌, length, decimal, MatchOption, MatchResult};
     ghost use Rattle.gc_graph.specs.Lines.{HasNo, newline};
-    ghost use Rattle.gc_cert.specs.Sections.{start, IsNext, HasTaken, NoneEmpty, Place};
+    ghost use Rattle.gc_words.specs.Views.{addresses};
+    ghost use Rattle.gc_cert.specs.Grammar.{pair_line, IsWord, AreAddresses};
+    ghost use Rattle.gc_cert.specs.Sections.{start, IsNext, HasTaken, NoneEmpty, NoneIsFirst, Place};
+    ghost use Rattle.gc_cert.specs.Internal.Sections.{IsLineFault};
 
     /// Returns all lines of the text.
     pub fn new(text: &'a [u8]) -> Self
@@ -44,6 +49,40 @@ impl<'a> Lines<'a> {
         self.rest = rest;
         self.taken += 1;
         Some(line)
+    }
+
+    /// Takes the next line if it is a word, and nothing otherwise.
+    #[inline(always)]
+    pub fn word(&mut self) -> Option<u64>
+        ensures { MatchOption result ((self.new ≡ self.old) × NoneIsFirst IsWord decimal self.old.rest)
+            (λ word. IsWord word × HasTaken (decimal word ∷ []) self.old self.new) }
+    {
+        let (word, rest) = front_word(self.rest)?;
+        self.rest = rest;
+        self.taken += 1;
+        Some(word)
+    }
+
+    /// Takes the next line if it is a pair of addresses, and nothing otherwise.
+    #[inline(always)]
+    pub fn pair(&mut self) -> Option<Pair>
+        ensures { MatchOption result ((self.new ≡ self.old) × NoneIsFirst AreAddresses pair_line self.old.rest)
+            (λ pair. AreAddresses (addresses pair) × HasTaken (pair_line (addresses pair) ∷ []) self.old self.new) }
+    {
+        let (pair, rest) = front_pair(self.rest)?;
+        self.rest = rest;
+        self.taken += 1;
+        Some(pair)
+    }
+
+    /// Takes the next line, which may not stand there, and returns what is wrong with it.
+    pub fn fault(&mut self) -> PairFault
+        ensures { IsLineFault result self.old }
+    {
+        match self.line() {
+            Some(_) => PairFault::BadLine(self.taken),
+            None => PairFault::EndsEarly,
+        }
     }
 
     /// Returns the number of the line that was taken last.

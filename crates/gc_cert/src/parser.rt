@@ -1,12 +1,12 @@
-ghost use Rattle.std.specs.Prelude.{◌≡◌, ◌≤◌, length};
-ghost use Rattle.std.specs.Option.{option_map};
-ghost use Rattle.gc_graph.specs.Lines.{tokens_of};
+ghost use Rattle.std.specs.Prelude.{◌≡◌, ◌≤◌, ◌∷◌, ◌++◌, length, decimal, MatchOption};
+ghost use Rattle.gc_graph.specs.Lines.{newline, tokens_of};
 ghost use Rattle.gc_words.specs.Views.{addresses};
-ghost use Rattle.gc_cert.specs.Grammar.{heading};
-ghost use Rattle.gc_cert.specs.Parsers.{count_of, sizes_of, pair_of};
+ghost use Rattle.gc_cert.specs.Grammar.{heading, pair_line, IsWord, AreAddresses};
+ghost use Rattle.gc_cert.specs.Parsers.{count_of, sizes_of};
+ghost use Rattle.gc_cert.specs.Sections.{NoneIsFirst};
 ghost use Rattle.gc_cert.specs.Internal.Parsers.{raws_in};
 
-use gc_graph::text::Tokens;
+use gc_graph::text::{Front, Tokens};
 use gc_words::{MOST_WORDS, NewAddr, OldAddr, Pair};
 
 /// Returns the first line of a text, by whether raw headers count in its images.
@@ -57,17 +57,28 @@ pub fn sizes(line: &[u8], name: &[u8]) -> Option<(u32, u32)>
     Some((size, end))
 }
 
-/// Reads a pair of addresses.
-#[tactic(auto, unfolding(crate::specs::Parsers::pair_of, gc_graph::specs::Tokens::end_of))]
-pub fn pair(line: &[u8]) -> Option<Pair>
-    ensures { option_map addresses result ≡ pair_of (tokens_of line.now) }
+/// Returns the word that the first line is, and what follows the line. None if the first line is no word.
+#[inline(always)]
+pub fn front_word(text: &[u8]) -> Option<(u64, &[u8])>
+    ensures { MatchOption result (NoneIsFirst IsWord decimal text.now)
+        (λ found. IsWord found.0 × (text.now ≡ decimal found.0 ++ newline ∷ found.1.now)) }
 {
-    let mut tokens = Tokens::new(line);
-    let old = OldAddr(tokens.number(4294967295)? as u32);
-    let new = NewAddr(tokens.number(4294967295)? as u32);
-    if tokens.is_empty() {
-        Some(Pair { old, new })
-    } else {
-        None
-    }
+    let mut front = Front::new(text);
+    let word = front.number(u64::MAX)?;
+    front.byte(b'\n')?;
+    Some((word, front.rest()))
+}
+
+/// Returns the pair that the first line is, and what follows the line. None if the first line is no pair of addresses.
+#[inline(always)]
+pub fn front_pair(text: &[u8]) -> Option<(Pair, &[u8])>
+    ensures { MatchOption result (NoneIsFirst AreAddresses pair_line text.now)
+        (λ found. AreAddresses (addresses found.0) × (text.now ≡ pair_line (addresses found.0) ++ newline ∷ found.1.now)) }
+{
+    let mut front = Front::new(text);
+    let old = OldAddr(front.number(4294967295)? as u32);
+    front.byte(b' ')?;
+    let new = NewAddr(front.number(4294967295)? as u32);
+    front.byte(b'\n')?;
+    Some((Pair { old, new }, front.rest()))
 }

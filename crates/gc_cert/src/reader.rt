@@ -13,9 +13,9 @@ ghost use Rattle.gc_cert.specs.Views.{image_in, pair_in};
 use crate::fault::PairFault;
 use crate::image::{Image, PairFile};
 use crate::lines::Lines;
-use crate::parser::{count, pair, raws, sizes};
+use crate::parser::{count, raws, sizes};
 use gc_graph::Source;
-use gc_graph::text::{number, read_all};
+use gc_graph::text::read_all;
 use gc_words::{MOST_PAIRS, MOST_ROOTS, Pair};
 use std::alloc::Global;
 use std::io::Read;
@@ -57,11 +57,8 @@ fn take_word(lines: &mut Lines<'_>) -> Result<u64, PairFault>
     ensures { MatchResult result (λ word. IsWord word × HasTaken (decimal word ∷ []) lines.old lines.new)
         (λ fault. MayStop (Spelled IsWord (alone decimal)) fault lines.old) }
 {
-    let Some(line) = lines.line() else {
-        return Err(PairFault::EndsEarly);
-    };
-    let Some(word) = number(line, u64::MAX) else {
-        return Err(PairFault::BadLine(lines.number()));
+    let Some(word) = lines.word() else {
+        return Err(lines.fault());
     };
     Ok(word)
 }
@@ -104,11 +101,8 @@ fn take_pair(lines: &mut Lines<'_>) -> Result<Pair, PairFault>
         (λ pair. AreAddresses (addresses pair) × HasTaken (pair_line (addresses pair) ∷ []) lines.old lines.new)
         (λ fault. MayStop (Spelled AreAddresses (alone pair_line)) fault lines.old) }
 {
-    let Some(line) = lines.line() else {
-        return Err(PairFault::EndsEarly);
-    };
-    let Some(pair) = pair(line) else {
-        return Err(PairFault::BadLine(lines.number()));
+    let Some(pair) = lines.pair() else {
+        return Err(lines.fault());
     };
     Ok(pair)
 }

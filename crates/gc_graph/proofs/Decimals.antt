@@ -1,23 +1,27 @@
--- The number that a token writes.
-use Rattle.std.proofs.Common.{◌≡◌, ℕ, zero, suc, ◌^◌, ◌<◌, ◌≤◌, ◌+◌, ◌-◌, ◌*◌, Bool, true, false, cond, leb, ◌&&◌, List, length, get_or, take, refl, sym, ap, ◌∙◌, arith, Option, Some, None, inl, inr, IsTrue, ◌↔◌}
+-- The number that a token writes, and the one that a text begins with.
+use Rattle.std.proofs.Common.{◌≡◌, ℕ, zero, suc, ◌^◌, ◌<◌, ◌≤◌, ◌+◌, ◌-◌, ◌*◌, ◌%◌, Bool, true, false, cond, eqb, ltb, leb, ◌&&◌, List, [], ◌∷◌, ◌++◌, length, get_or, take, drop, refl, sym, ap, ◌∙◌, arith, subst, inl, inr, Option, Some, None, IsTrue, ◌↔◌}
 use Rattle.std.specs.Prelude.{decimal}
 use Rattle.std.proofs.lemmas.Fmt.{decimal_is_IsNumeral, decimal-digits_value, length-decimal-le, first_decimal, decimal_nonempty, decimal_digit}
-use Rattle.std.proofs.lemmas.Str.Parse.{IsNumeralModel, numerals_by_value, tells_by_index, digit_at, digits_value_short}
-use Rattle.std.proofs.lemmas.Str.{digit_value_digit}
-use Rattle.std.proofs.lemmas.Int.Digits.{digits_value_more}
+use Rattle.std.proofs.lemmas.Str.Parse.{IsNumeralModel, numerals_by_value, tells_digits, digit_at, digit_from_value, digits_value_short}
+use Rattle.std.proofs.lemmas.Int.Digits.{digits_value-lt}
 use Rattle.std.proofs.lemmas.Slice.Eq.{bytes_eq-Decides}
 use Rattle.std.proofs.lemmas.Option.{cond_some}
-use Rattle.std.proofs.lemmas.Bool.{le-leb, leb-true, and_parts, and_from, cases_eq, cases_lt}
-use Rattle.std.proofs.lemmas.List.{get_or-take, length-take-le, take_all}
-use Rattle.std.specs.Int.{IsInRange}
-use Rattle.std.specs.Option.{SomeIff, MatchOption}
+use Rattle.std.proofs.lemmas.Bool.{le-leb, leb-true, lt-ltb, ltb-true, eqb-true, eq-eqb, and_parts, and_from, cases_lt}
+use Rattle.std.proofs.lemmas.List.{get_or-take, length-take-le, take-append-drop, append-nil, take_all, length-drop}
+use Rattle.std.proofs.Math.Seq.{take-append_seam, drop-append_seam}
+use Rattle.std.proofs.lemmas.List.Sums.{prefix_len-le-length}
+use Rattle.core.proofs.dec2flt.DigitsLemmas.{digits_value_after_is, is_digit, ends_digits}
+use Rattle.core.proofs.dec2flt.Rows.{AllDigits-digits_len}
+use Rattle.std.specs.Char.{digit_value, is_ascii_digit}
+use Rattle.std.specs.Float.Numeral.{digits_len}
 use Rattle.std.specs.Str.{bytes_eq}
-use Rattle.std.specs.Str.Parse.{digits_value}
+use Rattle.std.specs.Str.Parse.{digits_value, AllDigits}
+use Rattle.gc_graph.specs.Fronts.{BeginsWithNumber}
 use Rattle.gc_graph.specs.Tokens.{number_of}
-use Rattle.gc_graph.specs.Internal.Tokens.{AreDigits}
+use Rattle.gc_graph.specs.Internal.Tokens.{IsDecimal}
 
-model : IsNumeralModel AreDigits (digits_value 10)
-model = numerals_by_value AreDigits tells_by_index
+model : IsNumeralModel (AllDigits 10) (digits_value 10)
+model = numerals_by_value (AllDigits 10) tells_digits
 
 pub number_found : (most : ℕ) (token : List ℕ) (n : ℕ) → number_of most token ≡ Some n → (token ≡ decimal n) × (n ≤ most)
 unfolding number_of
@@ -42,7 +46,7 @@ none_or true n never = absurd (never refl)
 none_or false n _ = refl
 
 -- a token that is no decimal up to this has no number
-number_none : (most : ℕ) (token : List ℕ) → ((n : ℕ) → n ≤ most → token ≡ decimal n → ⊥) → number_of most token ≡ None
+pub number_none : (most : ℕ) (token : List ℕ) → ((n : ℕ) → n ≤ most → token ≡ decimal n → ⊥) → number_of most token ≡ None
 unfolding number_of
 number_none most token never =
     let v = digits_value 10 token in
@@ -50,94 +54,152 @@ number_none most token never =
     let both = and_parts (bytes_eq (decimal v) token) (leb v most) e in
     never v (leb-true v most both.1) (sym ((bytes_eq-Decides (decimal v) token).0 both.0)))
 
-pub decimal_are_digits : (n : ℕ) → n < 2 ^ 64 → AreDigits (decimal n)
-decimal_are_digits n small i lt = digit_at (decimal n) i (decimal_is_IsNumeral n small).0.1 lt
+pub decimal_are_digits : (n : ℕ) → n < 2 ^ 64 → AllDigits 10 (decimal n)
+decimal_are_digits n small = (decimal_is_IsNumeral n small).0.1
 
-pub none_empty : (most : ℕ) (token : List ℕ) → most < 2 ^ 64 → length token ≡ 0 → number_of most token ≡ None
-none_empty most token small e = number_none most token (λ n le is. omega (arith, decimal_nonempty n (omega arith), ap length is))
-
-pub none_long : (most : ℕ) (token : List ℕ) → most < 2 ^ 64 → 20 < length token → number_of most token ≡ None
-none_long most token small long = number_none most token (λ n le is. omega (arith, length-decimal-le 20 n (omega arith) (omega arith) (omega arith), ap length is))
+-- ---- digits that are a decimal
 
 zero_leads : (n : ℕ) → n < 2 ^ 64 → get_or (decimal n) 0 0 ≡ 48 → length (decimal n) ≤ 1
 zero_leads zero small e = omega (arith, ap length (decimal_digit 0 (omega arith)))
 zero_leads (suc n) small e = absurd (omega (arith, first_decimal (suc n) (omega arith) small))
 
-pub none_zero : (most : ℕ) (token : List ℕ) → most < 2 ^ 64 → get_or token 0 0 ≡ 48 → 1 < length token → number_of most token ≡ None
-none_zero most token small first long = number_none most token (λ n le is. omega (arith, zero_leads n (omega arith) (rw (← is) first), ap length is))
+long_decimal : (ds : List ℕ) → IsDecimal ds → length ds ≤ 20
+long_decimal ds is = omega (arith, ap length is.spelled, length-decimal-le 20 (digits_value 10 ds) (omega arith) (omega (arith, is.small)) (omega arith))
 
--- no number up to this has these digits
-pub none_great : (most : ℕ) (token : List ℕ) → most < 2 ^ 64 → (AreDigits token → most < digits_value 10 token) → number_of most token ≡ None
-none_great most token small great =
-    number_none most token (λ n le is.
-    let digits : AreDigits token = rw is (decimal_are_digits n (omega arith)) in
-    omega (arith, great digits, ap (digits_value 10) is, value-decimal n (omega arith)))
+no_zero_leads : (ds : List ℕ) → IsDecimal ds → get_or ds 0 0 ≡ 48 → length ds ≤ 1
+no_zero_leads ds is leads = omega (arith, ap length is.spelled, zero_leads (digits_value 10 ds) is.small (sym (ap (λ (xs : List ℕ). get_or xs 0 0) is.spelled) ∙ leads))
 
--- a token of digits with no leading zero is the decimal of its number
-pub number_some : (most : ℕ) (token : List ℕ) (value : ℕ) → most < 2 ^ 64 → value ≤ most → 0 < length token → (get_or token 0 0 ≡ 48 → length token ≤ 1) → AreDigits token × (value ≡ digits_value 10 token) → Some value ≡ number_of most token
-number_some most token value small le some first (digits, is) =
-    let whole : decimal (digits_value 10 token) ≡ token = decimal-digits_value model token digits some (λ zero. omega (arith, first zero)) (omega (arith, is)) in
-    rw (sym whole ∙ ap decimal (sym is)) (sym (number_again most value le (omega arith)))
+spelled_by : (ds : List ℕ) → AllDigits 10 ds → 0 < length ds → (get_or ds 0 0 ≡ 48 → length ds ≡ 1) → digits_value 10 ds < 2 ^ 64 → IsDecimal ds
+spelled_by ds digits some first small = record { small = small; spelled = sym (decimal-digits_value model ds digits some first small) }
 
--- a test for a zero before other digits said no
-pub no_leading_zero : (token : List ℕ) (b : Bool) → b ≡ false → IsTrue b ↔ ((get_or token 0 0 ≡ 48) × (1 < length token)) → get_or token 0 0 ≡ 48 → length token ≤ 1
-no_leading_zero token true is test leads = absurd cc
-no_leading_zero token false is test leads = elim (cases_lt 1 (length token)) [ inl lt ↦ (let yes : false ≡ true = test.1 (leads, lt) in absurd cc) | inr le ↦ le ]
+-- the first digit of twenty
+pub record IsFirstOfTwenty (ds : List ℕ) (tail : ℕ) : Type 0 where
+  pub value_is : digits_value 10 ds ≡ (get_or ds 0 0 - 48) * 10000000000000000000 + tail
+  pub below : tail < 10000000000000000000
 
--- the number of the first i bytes, which are digits
-pub record IsValue (token : List ℕ) (i value : ℕ) : Type 0 where
-  pub value_is : value ≡ digits_value 10 (take i token)
-  pub digits : (k : ℕ) → k < i → IsInRange 48 57 (get_or token k 0)
-
-front_digits : (token : List ℕ) (i value : ℕ) → i ≤ length token → IsValue token i value → AreDigits (take i token)
-front_digits token i value le so_far k lt =
-    let k-lt : k < i = omega (arith, length-take-le i token le) in
-    rw (get_or-take i token k 0 k-lt) (so_far.digits k k-lt)
-
-pub value_small : (token : List ℕ) (i value : ℕ) → i < length token → length token ≤ 19 → IsValue token i value → value < 10 ^ 18
-value_small token i value lt short so_far =
-    let le : i ≤ length token = omega arith in
-    let len = length-take-le i token le in
-    rw (so_far.value_is) (digits_value_short model (take i token) 18 (front_digits token i value le so_far) (omega arith))
-
-pub value_more : (token : List ℕ) (i value next digit : ℕ) → i < length token → IsInRange 48 57 (get_or token i 0) → digit ≡ get_or token i 0 - 48 → IsValue token i value → next ≡ value * 10 + digit → IsValue token (i + 1) next
-value_more token i value next digit lt range is so_far e =
-    let d = digit_value_digit (get_or token i 0) range in
-    let more = digits_value_more 10 token i lt in
+first_of_twenty : (ds : List ℕ) → AllDigits 10 ds → length ds ≡ 20 → IsFirstOfTwenty ds (digits_value 10 (drop 1 ds))
+first_of_twenty [] digits long = absurd (omega (arith, long))
+first_of_twenty (d ∷ ds) digits long =
+    let range = digit_from_value d digits.0 in
+    let digit = (is_digit d range.0 range.1).1 in
+    let len : length ds ≡ 19 = omega (arith, long) in
+    let after = subst (λ (k : ℕ). digits_value 10 (d ∷ ds) ≡ (0 * 10 + digit_value d) * 10 ^ k + digits_value 10 ds) len (digits_value_after_is (0 * 10 + digit_value d) ds) in
     record {
-      value_is = omega (arith, so_far.value_is, d, more, e, is);
-      digits = λ k k-lt. elim (cases_eq k i) [ inl same ↦ rw same range | inr other ↦ so_far.digits k (omega arith) ];
+      value_is = omega (arith, after, digit);
+      below = subst (λ (k : ℕ). digits_value 10 ds < 10 ^ k) len (digits_value-lt 10 ds digits.1);
     }
 
--- ---- twenty digits
+-- the digits that a text begins with
+pub record AreFirst (text : List ℕ) (count : ℕ) : Type 0 where
+  pub digits : AllDigits 10 (take count text)
+  pub long : length (take count text) ≡ count
+  pub first : get_or (take count text) 0 0 ≡ get_or text 0 0
+  pub range : (48 ≤ get_or text 0 0) × (get_or text 0 0 ≤ 57)
 
-pub twenty_value : (token : List ℕ) → length token ≡ 20 → IsInRange 48 57 (get_or token 19 0) → digits_value 10 token ≡ digits_value 10 (take 19 token) * 10 + (get_or token 19 0 - 48)
-twenty_value token len range =
-    let d = digit_value_digit (get_or token 19 0) range in
-    let more = digits_value_more 10 token 19 (omega arith) in
-    omega (arith, d, more, ap (digits_value 10) (take_all 20 token (omega arith)))
+pub are_first : (text : List ℕ) (count : ℕ) → 0 < count → count ≡ digits_len text → AreFirst text count
+are_first text count some is =
+    let long = length-take-le count text (omega (arith, is, prefix_len-le-length is_ascii_digit text)) in
+    let digits = AllDigits-digits_len text count (omega (arith, is)) in
+    let first = get_or-take count text 0 0 some in
+    record { digits = digits; long = long; first = first; range = rw first at (digit_at (take count text) 0 digits (omega (arith, long, some))) }
 
-pub twenty_front : (token : List ℕ) → length token ≡ 20 → AreDigits token → AreDigits (take 19 token)
-twenty_front token len digits k lt =
-    let k-lt : k < 19 = omega (arith, length-take-le 19 token (omega arith)) in
-    rw (get_or-take 19 token k 0 k-lt) (digits k (omega arith))
+short_is : (text : List ℕ) (count : ℕ) → 0 < count → count < 20 → (get_or text 0 0 ≡ 48 → count ≡ 1) → AreFirst text count → IsDecimal (take count text)
+short_is text count some short leads are =
+    spelled_by (take count text) are.digits (omega (arith, are.long, some)) (λ e. omega (arith, are.long, leads (sym are.first ∙ e)))
+    (omega (arith, digits_value_short model (take count text) 19 are.digits (omega (arith, are.long, short))))
 
-pub twenty_digits_are : (token : List ℕ) → length token ≡ 20 → AreDigits (take 19 token) → IsInRange 48 57 (get_or token 19 0) → AreDigits token
-twenty_digits_are token len front last k lt =
-    elim (cases_eq k 19) [
-      | inl is ↦ rw is last
-      | inr other ↦
-          let k-lt : k < 19 = omega arith in
-          rw (get_or-take 19 token k 0 k-lt) at (front k (omega (arith, length-take-le 19 token (omega arith))))
-    ]
+pub after_zero : (text : List ℕ) (count : ℕ) → 0 < count → get_or text 0 0 ≡ 48 → AreFirst text count → IsTrue (eqb count 1) ↔ IsDecimal (take count text)
+after_zero text count some leads are = (
+  λ yes. (let one = eqb-true count 1 yes in short_is text count some (omega (arith, one)) (λ _. one) are),
+  λ is. eq-eqb count 1 (omega (arith, some, are.long, no_zero_leads (take count text) is (are.first ∙ leads))),
+)
 
-pub twenty_none_front : (token : List ℕ) → length token ≡ 20 → ¬ AreDigits (take 19 token) → AreDigits token → 2 ^ 64 ≤ digits_value 10 token
-twenty_none_front token len none digits = absurd (none (twenty_front token len digits))
+-- twenty digits of which the first is two or more write too great a number
+pub after_others : (text : List ℕ) (count : ℕ) → 0 < count → 50 ≤ get_or text 0 0 → AreFirst text count → IsTrue (ltb count 20) ↔ IsDecimal (take count text)
+after_others text count some great are = (
+  λ yes. short_is text count some (ltb-true count 20 yes) (λ leads. absurd (omega (arith, leads, great))) are,
+  λ is. lt-ltb count 20 (elim (cases_lt count 20) [
+    | inl lt ↦ lt
+    | inr le ↦
+        let ds = take count text in
+        let value = first_of_twenty ds are.digits (omega (arith, le, are.long, long_decimal ds is)) in
+        absurd (omega (arith, value.value_is, value.below, is.small, are.first, great))
+  ]),
+)
 
-pub twenty_none_product : (token : List ℕ) (front : ℕ) → length token ≡ 20 → IsInRange 48 57 (get_or token 19 0) → front ≡ digits_value 10 (take 19 token) → ¬ (front * 10 < 2 ^ 64) → 2 ^ 64 ≤ digits_value 10 token
-twenty_none_product token front len range is none = omega (arith, twenty_value token len range, is, none)
+pub short_after_one : (text : List ℕ) (count : ℕ) → 0 < count → get_or text 0 0 ≡ 49 → count < 20 → AreFirst text count → IsTrue (ltb count 20) ↔ IsDecimal (take count text)
+short_after_one text count some one lt are = (λ _. short_is text count some lt (λ leads. absurd (omega (arith, leads, one))) are, λ _. lt-ltb count 20 lt)
 
-pub twenty_sum : (token : List ℕ) (front last product : ℕ) (sum : Option ℕ) → length token ≡ 20 → AreDigits (take 19 token) → IsInRange 48 57 (get_or token 19 0) → front ≡ digits_value 10 (take 19 token) → last ≡ get_or token 19 0 - 48 → front * 10 ≡ product
-    → SomeIff sum (product + last < 2 ^ 64) (product + last) → MatchOption sum (AreDigits token → 2 ^ 64 ≤ digits_value 10 token) (λ value. AreDigits token × (value ≡ digits_value 10 token))
-twenty_sum token front last product None len digits range is last-is product-is none = λ _. omega (arith, twenty_value token len range, is, last-is, product-is, none)
-twenty_sum token front last product (Some value) len digits range is last-is product-is (fits, e) = (twenty_digits_are token len digits range, omega (arith, twenty_value token len range, is, last-is, product-is, e))
+-- of twenty digits that begin with one, those of too great a number wrap round to a small one
+pub twenty_after_one : (text : List ℕ) (count wrapped : ℕ) → get_or text 0 0 ≡ 49 → count ≡ 20 → wrapped ≡ digits_value 10 (take count text) % 2 ^ 64 → AreFirst text count
+    → IsTrue (leb 10000000000000000000 wrapped) ↔ IsDecimal (take count text)
+twenty_after_one text count wrapped one twenty is are =
+    let ds = take count text in
+    let value = first_of_twenty ds are.digits (omega (arith, twenty, are.long)) in (
+      λ yes. spelled_by ds are.digits (omega (arith, are.long, twenty)) (λ leads. absurd (omega (arith, leads, one, are.first))) (omega (arith, value.value_is, value.below, are.first, one, is, leb-true 10000000000000000000 wrapped yes)),
+      λ fits. le-leb 10000000000000000000 wrapped (omega (arith, value.value_is, are.first, one, is, fits.small)),
+    )
+
+pub long_after_one : (text : List ℕ) (count : ℕ) → ¬ (count < 20) → ¬ (count ≡ 20) → AreFirst text count → IsTrue (eqb count 20) ↔ IsDecimal (take count text)
+long_after_one text count more other are = (
+  λ yes. absurd (other (eqb-true count 20 yes)),
+  λ is. absurd (omega (arith, more, other, are.long, long_decimal (take count text) is)),
+)
+
+-- ---- the number that a text begins with
+
+digits_len-front : (ds rest : List ℕ) → AllDigits 10 ds → digits_len rest ≡ 0 → digits_len (ds ++ rest) ≡ length ds
+digits_len-front [] rest digits none = none
+digits_len-front (d ∷ ds) rest digits none =
+    let range = digit_from_value d digits.0 in
+    rw ((is_digit d range.0 range.1).0) (omega (arith, digits_len-front ds rest digits.1 none))
+
+pub front_is : (text : List ℕ) (end value : ℕ) → end ≡ 0 + digits_len text → value ≡ (0 * 10 ^ (end - 0) + digits_value 10 (take (end - 0) text)) % 2 ^ 64 → IsDecimal (take end text) → BeginsWithNumber text value (take (length text - end) (drop end text))
+front_is text end value len is fits =
+    let all : end - 0 ≡ end = omega arith in
+    let same : value ≡ digits_value 10 (take end text) = omega (arith, rw all at is, fits.small) in
+    rw (take_all (length text - end) (drop end text) (omega (arith, length-drop end text))) (record {
+      small = omega (arith, same, fits.small);
+      parts = sym (take-append-drop end text) ∙ ap (λ (ds : List ℕ). ds ++ drop end text) (fits.spelled ∙ ap decimal (sym same));
+      whole = ap (λ (n : ℕ). digits_len (drop n text)) (omega (arith, len)) ∙ ends_digits text;
+    })
+
+-- the digits are those of the number that the text begins with
+front_only : (text : List ℕ) (n : ℕ) (rest : List ℕ) → BeginsWithNumber text n rest → (0 < digits_len text) × IsDecimal (take (digits_len text) text)
+front_only text n rest begins =
+    let len : digits_len text ≡ length (decimal n) = ap digits_len begins.parts ∙ digits_len-front (decimal n) rest (decimal_are_digits n begins.small) begins.whole in
+    let ds : take (digits_len text) text ≡ decimal n = rw len (ap (λ (t : List ℕ). take (length (decimal n)) t) begins.parts ∙ take-append_seam (decimal n) rest) in
+    let value = value-decimal n begins.small in (
+      omega (arith, len, decimal_nonempty n begins.small),
+      subst IsDecimal (sym ds) (record { small = omega (arith, value, begins.small); spelled = ap decimal (sym value) }),
+    )
+
+pub front_none : (text : List ℕ) (end : ℕ) → end ≡ 0 + digits_len text → (0 < end → ¬ IsDecimal (take end text)) → (n : ℕ) (rest : List ℕ) → ¬ BeginsWithNumber text n rest
+front_none text end len never n rest begins =
+    let only = front_only text n rest begins in
+    let same : digits_len text ≡ end = omega (arith, len) in
+    never (omega (arith, only.0, same)) (subst (λ (k : ℕ). IsDecimal (take k text)) same only.1)
+
+-- ---- the number of a token
+
+pub token_some : (most : ℕ) (token rest : List ℕ) (n : ℕ) → BeginsWithNumber token n rest → length rest ≡ 0 → n ≤ most → Some n ≡ number_of most token
+token_some most token [] n begins empty le = rw (begins.parts ∙ append-nil (decimal n)) (sym (number_again most n le begins.small))
+token_some most token (b ∷ rest) n begins empty le = absurd (omega (arith, empty))
+
+-- a token is one decimal at most
+pub token_none : (most : ℕ) (token : List ℕ) → most < 2 ^ 64 → ((n : ℕ) → n ≤ most → ¬ BeginsWithNumber token n []) → number_of most token ≡ None
+token_none most token small never = number_none most token (λ n le is. never n le (record { small = omega (arith, le, small); parts = is ∙ sym (append-nil (decimal n)); whole = refl }))
+
+pub one_front : (text : List ℕ) (m n : ℕ) (rest more : List ℕ) → BeginsWithNumber text m rest → BeginsWithNumber text n more → (m ≡ n) × (rest ≡ more)
+one_front text m n rest more p q =
+    let len-m : digits_len text ≡ length (decimal m) = ap digits_len p.parts ∙ digits_len-front (decimal m) rest (decimal_are_digits m p.small) p.whole in
+    let len-n : digits_len text ≡ length (decimal n) = ap digits_len q.parts ∙ digits_len-front (decimal n) more (decimal_are_digits n q.small) q.whole in
+    let take-m : take (digits_len text) text ≡ decimal m = rw len-m (ap (λ (t : List ℕ). take (length (decimal m)) t) p.parts ∙ take-append_seam (decimal m) rest) in
+    let take-n : take (digits_len text) text ≡ decimal n = rw len-n (ap (λ (t : List ℕ). take (length (decimal n)) t) q.parts ∙ take-append_seam (decimal n) more) in
+    let drop-m : drop (digits_len text) text ≡ rest = rw len-m (ap (λ (t : List ℕ). drop (length (decimal m)) t) p.parts ∙ drop-append_seam (decimal m) rest) in
+    let drop-n : drop (digits_len text) text ≡ more = rw len-n (ap (λ (t : List ℕ). drop (length (decimal n)) t) q.parts ∙ drop-append_seam (decimal n) more) in
+    (sym (value-decimal m p.small) ∙ ap (digits_value 10) (sym take-m ∙ take-n) ∙ value-decimal n q.small, sym drop-m ∙ drop-n)
+
+-- a token that begins with a number has no other
+pub token_other : (most : ℕ) (token rest : List ℕ) (m : ℕ) → most < 2 ^ 64 → BeginsWithNumber token m rest → (rest ≡ [] → most < m) → number_of most token ≡ None
+token_other most token rest m small begins other = token_none most token small (λ n le same. (let one = one_front token m n rest [] begins same in omega (arith, other one.1, one.0, le)))

@@ -1,8 +1,10 @@
 -- Lines that have no line feed inside, tokens that have no space, and cutting at a byte.
-use Rattle.std.proofs.Common.{◌≡◌, ℕ, ◌^◌, ◌<◌, ◌≤◌, Bool, true, false, eqb, leb, not, ◌&&◌, List, [], ◌∷◌, ◌++◌, length, get_or, refl, ap, ◌∙◌, arith, suc, inl, inr, ◌⊎◌}
+use Rattle.std.proofs.Common.{◌≡◌, ℕ, ◌^◌, ◌<◌, ◌≤◌, Bool, true, false, eqb, leb, not, ◌&&◌, List, [], ◌∷◌, ◌++◌, refl, ap, ◌∙◌, arith, inl, inr, ◌⊎◌}
 use Rattle.std.specs.Fmt.{decimal}
 use Rattle.std.specs.List.{AllByRecursion}
+use Rattle.std.specs.Str.Parse.{AllDigits}
 use Rattle.std.proofs.lemmas.Bool.{and_parts, eqb-true, eqb-false, leb-true, not-true}
+use Rattle.std.proofs.lemmas.Str.Parse.{digit_from_value}
 use Rattle.std.proofs.lemmas.List.Splits.{join_with_byte-slice_split}
 use Rattle.gc_graph.specs.Lines.{HasNo, space, newline, joined, tokens_of}
 use Rattle.gc_graph.proofs.Decimals.{decimal_are_digits}
@@ -19,12 +21,12 @@ HasNo-name c (b ∷ name) low e =
     let p = and_parts (leb 48 b) (all_high name) e in
     (omega (arith, low, leb-true 48 b p.0), HasNo-name c name low p.1)
 
-HasNo-digits : (c : ℕ) (ds : List ℕ) → c < 48 → ((i : ℕ) → i < length ds → 48 ≤ get_or ds i 0) → HasNo c ds
+HasNo-digits : (c : ℕ) (ds : List ℕ) → c < 48 → AllDigits 10 ds → HasNo c ds
 HasNo-digits c [] low digits = tt
-HasNo-digits c (d ∷ ds) low digits = (omega (arith, digits 0 (omega arith)), HasNo-digits c ds low (λ i lt. digits (suc i) (omega arith)))
+HasNo-digits c (d ∷ ds) low digits = (omega (arith, digit_from_value d digits.0), HasNo-digits c ds low digits.1)
 
 pub HasNo-decimal : (c n : ℕ) → c < 48 → n < 2 ^ 64 → HasNo c (decimal n)
-HasNo-decimal c n low small = HasNo-digits c (decimal n) low (λ i lt. (decimal_are_digits n small i lt).0)
+HasNo-decimal c n low small = HasNo-digits c (decimal n) low (decimal_are_digits n small)
 
 abbrev pub AllHaveNo : ℕ → List (List ℕ) → Type 0
 AllHaveNo c tokens = AllByRecursion (HasNo c) tokens

@@ -1,5 +1,6 @@
 pub mod Bounded
 pub mod Correspond
+pub mod Fronts
 pub mod Graph
 pub mod Internal
 pub mod Legal

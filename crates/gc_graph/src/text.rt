@@ -2,6 +2,7 @@
 
 mod all_bytes;
 mod decimals;
+mod front;
 mod lines;
 mod message;
 mod printer;
@@ -11,6 +12,7 @@ mod tokens;
 
 pub use all_bytes::{ReadFault, read_all};
 pub use decimals::number;
+pub use front::Front;
 pub use lines::cut;
 pub use message::Message;
 pub use printer::Printer;

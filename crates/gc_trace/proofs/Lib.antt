@@ -1,8 +1,10 @@
+pub mod SmallNumbers
 pub mod Ranges
 pub mod EventTokens
 pub mod EventLines
 pub mod ParsedTokens
 pub mod OneReading
+pub mod EventFronts
 pub mod FrontFaults
 pub mod Total
 pub mod RowProofs

@@ -1,7 +1,7 @@
 -- Behind a good heading each text has a reading: it is all of a trace, or some line of it is bad, or of a stranger.
-use Rattle.std.proofs.Common.{◌≡◌, ◌≢◌, ℕ, suc, zero, ◌+◌, ◌<◌, ◌≤◌, Bool, true, false, eqb, leb, List, [], ◌∷◌, ◌++◌, length, refl, sym, ap, ◌∙◌, arith, append_assoc, subst, inl, inr, ◌⊎◌, Option, Some, None}
-use Rattle.std.specs.List.{AllByRecursion, flat_map}
-use Rattle.std.proofs.lemmas.Bool.{eqb-false, leb-true}
+use Rattle.std.proofs.Common.{◌≡◌, ℕ, suc, zero, ◌+◌, ◌<◌, ◌≤◌, Bool, true, false, leb, List, [], ◌∷◌, ◌++◌, length, refl, sym, ap, ◌∙◌, arith, append_assoc, subst, inl, inr, ◌⊎◌, Option, Some, None}
+use Rattle.std.specs.List.{flat_map}
+use Rattle.std.proofs.lemmas.Bool.{leb-true}
 use Rattle.std.proofs.lemmas.List.{append-nil, length-append}
 use Rattle.std.proofs.lemmas.List.Concat.{flat_map-append, flat_map-cons}
 use Rattle.gc_graph.specs.Lines.{newline, joined, tokens_of}
@@ -12,8 +12,8 @@ use Rattle.gc_copy.specs.declared.step.Step.TheVariants as steps
 use Rattle.gc_copy.specs.declared.event.Event.{Event}
 use Rattle.gc_copy.specs.declared.event.Event.TheVariants.{Mutate, Collect}
 use Rattle.gc_trace.specs.Parsers.{event_of, version_at, sizes_of}
-use Rattle.gc_trace.specs.Grammar.{Recording, newest, event_tokens, event_line, version_tokens, size_tokens, heading, spelling, IsHeading, IsEvent, IsOf, IsTextOf}
-use Rattle.gc_trace.specs.Faults.{limit, GoodBefore, HasNoHeading, HasBadLine, HasStranger, BeginsWithNoEvent, IsTraceFaultOf, IsReadAs}
+use Rattle.gc_trace.specs.Grammar.{Recording, event_tokens, event_line, version_tokens, size_tokens, heading, spelling, IsHeading, IsEvent, IsOf, IsTextOf}
+use Rattle.gc_trace.specs.Faults.{limit, GoodBefore, HasNoHeading, HasBadLine, HasStranger, IsTraceFaultOf, IsReadAs}
 use Rattle.gc_trace.specs.declared.fault.TraceFault.{TraceFault}
 use Rattle.gc_trace.specs.declared.fault.TraceFault.TheVariants.{TooLarge, BadHeader, BadLine, NoSuchMutator}
 use Rattle.gc_trace.proofs.ParsedTokens.{event_found, version_found, sizes_found}
@@ -170,18 +170,3 @@ each_is_answered text =
         | inl h ↦ answered text le (reading (suc (length h.rest)) text 3 h.version h.size h.mutators [] h.rest (omega arith) (good_start text h.rest h.version h.size h.mutators h.fits h.parts))
       ]
     ]
-
--- ---- the faults that reading line by line finds
-
-pub not_nil : (b : Bool) (rest : List ℕ) → b ≡ eqb (length rest) 0 → b ≡ false → rest ≢ []
-not_nil b rest e never is = absurd (eqb-false (length rest) 0 (sym e ∙ never) (ap length is))
-
-pub bad_line : (text : List ℕ) (n v s m : ℕ) (events : List Event) (rest : List ℕ) → GoodBefore text n (made_of v s m events) rest → rest ≢ [] → BeginsWithNoEvent v rest → HasBadLine text n
-bad_line text n v s m events rest good some none = (made_of v s m events, rest, good, some, none)
-
-pub stranger : (text : List ℕ) (n v s m : ℕ) (events : List Event) (rest : List ℕ) (e : Event) (after : List ℕ) → GoodBefore text n (made_of v s m events) rest → IsEvent v e × (rest ≡ event_line e ++ after) → ¬ IsOf m e → HasStranger text n
-stranger text n v s m events rest e after good one strange = (made_of v s m events, e, after, subst (GoodBefore text n (made_of v s m events)) one.1 good, one.0, strange)
-
--- what a version has its successors have
-pub later : (version : ℕ) (event : Event) → version ≤ newest → IsEvent version event → IsEvent newest event
-later version event le fits = record { range = fits.range; known = omega (arith, le, fits.known) }

@@ -4,6 +4,7 @@
 
 mod fault;
 mod flips;
+mod front;
 mod laws;
 mod parser;
 mod player;

@@ -13,10 +13,10 @@ use gc_world::Event;
 const NEWEST: u64 = 3;
 
 /// The version from which on a collection may have a size of its own.
-const SIZED: u8 = 2;
+pub const SIZED: u8 = 2;
 
 /// The version from which on there are raw objects.
-const RAW: u8 = 3;
+pub const RAW: u8 = 3;
 
 /// The slot that the token names.
 #[tactic(auto, unfolding(crate::specs::Parsers::slot_of))]

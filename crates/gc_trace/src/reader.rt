@@ -1,15 +1,16 @@
 ghost use Rattle.std.specs.Prelude.{◌≡◌, ◌≢◌, ◌≤◌, ◌∷◌, ◌++◌, ◌↔◌, ◌+◌, length, drop, Some, true, false, IfSome, IfOk, MatchOption, MatchResult, Err};
 ghost use Rattle.gc_graph.specs.Lines.{HasNo, newline};
 ghost use Rattle.gc_graph.specs.Streams.{bytes_left, source_failed};
-ghost use Rattle.gc_trace.specs.Grammar.{IsTextOf, IsRecording, IsInRange, IsHeading, IsEvent, IsOf, newest, heading};
-ghost use Rattle.gc_trace.specs.Faults.{limit, IsTraceFaultOf, IsReadAs, MayFail, HasNoHeading};
+ghost use Rattle.gc_trace.specs.Grammar.{IsTextOf, IsRecording, IsInRange, IsHeading, IsEvent, IsOf, newest, heading, event_line};
+ghost use Rattle.gc_trace.specs.Faults.{limit, IsTraceFaultOf, IsReadAs, MayFail, HasNoHeading, BeginsWithNoEvent};
 ghost use Rattle.gc_trace.specs.Views.{recording};
 
 use crate::fault::TraceFault;
+use crate::front;
 use crate::parser::{event, sizes, version};
 use crate::trace::Trace;
 use gc_copy::Step;
-use gc_graph::text::{cut, read_all};
+use gc_graph::text::{Front, cut, read_all};
 use gc_graph::{Op, Source};
 use gc_world::Event;
 use std::alloc::Global;
@@ -75,6 +76,26 @@ fn is_of(mutators: u8, event: &Event) -> bool
     }
 }
 
+/// Takes the line of an event of this version. Returns None if no such line stands first.
+fn take_event(version: u8, front: &mut Front<'_>) -> Option<Event>
+    requires { 1 ≤ version }
+    ensures { MatchOption result (BeginsWithNoEvent version front.old)
+        (λ event. IsEvent version event × (front.old ≡ event_line event ++ front.new)) }
+{
+    let text = front.rest();
+    if let Some(event) = front::line(version, front) {
+        return Some(event);
+    }
+    let Some((line, after)) = split_line(text) else {
+        return None;
+    };
+    let Some(event) = event(version, line) else {
+        return None;
+    };
+    *front = Front::new(after);
+    Some(event)
+}
+
 /// The trace that the text spells.
 fn spelled_trace(alloc: Global, text: &[u8]) -> Result<Trace, TraceFault>
     requires { length text.now ≤ limit }
@@ -88,13 +109,10 @@ fn spelled_trace(alloc: Global, text: &[u8]) -> Result<Trace, TraceFault>
     let mut events = Vec::new(alloc);
     // An event's parts have to be named where one is pushed.
     let _named: Option<Op> = None;
-    let mut rest = body;
+    let mut front = Front::new(body);
     let mut number = 3u64;
-    while !rest.is_empty() {
-        let Some((line, after)) = split_line(rest) else {
-            return Err(TraceFault::BadLine(number));
-        };
-        let Some(event) = event(heading.version, line) else {
+    while !front.rest().is_empty() {
+        let Some(event) = take_event(heading.version, &mut front) else {
             return Err(TraceFault::BadLine(number));
         };
         if !is_of(heading.mutators, &event) {
@@ -103,7 +121,6 @@ fn spelled_trace(alloc: Global, text: &[u8]) -> Result<Trace, TraceFault>
         if events.push(event).is_err() {
             return Err(TraceFault::NoMemory);
         }
-        rest = after;
         number += 1;
     }
     Ok(Trace {

@@ -1,7 +1,7 @@
 -- Tokens and lines of a pair text that the parsers test.
 use Rattle.std.specs.Prelude.{ℕ, ◌&&◌, Bool, true, false, nat_le, List, [], ◌∷◌, Option, Some, None, if◌then◌else◌}
 use Rattle.std.specs.Str.{bytes_eq}
-use Rattle.gc_graph.specs.Tokens.{number_of}
+use Rattle.gc_graph.specs.Tokens.{◌>>=◌, Tokens, number_of, number_at, end_of}
 use Rattle.gc_cert.specs.Grammar.{heading}
 
 -- each byte is above the digits, so none is a space or a line feed
@@ -20,3 +20,10 @@ raws_in line = if bytes_eq line (heading false) then Some false else if bytes_eq
 -- a word of a space or of its roots
 abbrev pub word_in : List ℕ → Option ℕ
 word_in line = number_of 18446744073709551615 line
+
+-- an old and a new address
+unfoldable pub pair_of : Tokens → Option (ℕ × ℕ)
+pair_of tokens = do
+  old ← number_at 4294967295 tokens
+  new ← number_at 4294967295 old.1
+  end_of (old.0, new.0) new.1

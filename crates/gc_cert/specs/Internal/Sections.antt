@@ -4,7 +4,7 @@ use Rattle.std.specs.List.{AllByRecursion}
 use Rattle.gc_graph.specs.Lines.{newline, HasNo, text_of}
 use Rattle.gc_cert.specs.declared.fault.PairFault.{PairFault}
 use Rattle.gc_cert.specs.declared.fault.PairFault.TheVariants.{Read, TooLarge, BadLine, EndsEarly, NoMemory}
-use Rattle.gc_cert.specs.Sections.{Place}
+use Rattle.gc_cert.specs.Sections.{Place, IsNext}
 
 -- which lines are a whole section
 abbrev pub Section : Type 1
@@ -54,6 +54,14 @@ pub record IsCutIn (S : Section) (p : Place) : Type 0 where
   pub no_line : HasNo newline unfinished
   pub good : Begins S before
   pub not_all : ¬ S before
+
+-- what is wrong with a next line that may not stand there
+abbrev pub IsLineFault : PairFault → Place → Type 0
+IsLineFault Read p = ⊥
+IsLineFault TooLarge p = ⊥
+IsLineFault (BadLine n) p = (line : List ℕ) × (after : Place) × IsNext line p after × (n ≡ after.taken)
+IsLineFault EndsEarly p = HasNo newline p.rest
+IsLineFault NoMemory p = ⊥
 
 -- the faults that may replace a section
 abbrev pub MayStop : Section → PairFault → Place → Type 0

@@ -1,7 +1,9 @@
--- Bytes that are digits.
-use Rattle.std.specs.Prelude.{ℕ, ◌<◌, List, length, slice_index}
-use Rattle.std.specs.Int.{IsInRange}
+-- Digits that are the decimal of their value.
+use Rattle.std.specs.Prelude.{◌≡◌, ℕ, ◌<◌, ◌^◌, List}
+use Rattle.std.specs.Fmt.{decimal}
+use Rattle.std.specs.Str.Parse.{digits_value}
 
--- each byte is a digit
-abbrev pub AreDigits : List ℕ → Type 0
-AreDigits token = (i : ℕ) → i < length token → IsInRange 48 57 (slice_index token i)
+-- these are the digits of a number below 2 ^ 64
+pub record IsDecimal (digits : List ℕ) : Type 0 where
+  pub small : digits_value 10 digits < 2 ^ 64
+  pub spelled : digits ≡ decimal (digits_value 10 digits)

@@ -1,76 +1,54 @@
-ghost use Rattle.std.specs.Prelude.{◌≡◌, ◌<◌, ◌≤◌, ◌-◌, ◌^◌, ◌↔◌, length, slice_index, IfSome, IsTrue, MatchOption};
-ghost use Rattle.std.specs.Int.{IsInRange};
+ghost use Rattle.std.specs.Prelude.{◌≡◌, ◌<◌, ◌≤◌, ◌%◌, ◌^◌, ◌↔◌, ℕ, List, take, IfSome, IsTrue, MatchOption};
 ghost use Rattle.std.specs.Str.Parse.{digits_value};
+ghost use Rattle.std.specs.Float.Numeral.{digits_len};
+ghost use Rattle.gc_graph.specs.Fronts.{BeginsWithNumber};
 ghost use Rattle.gc_graph.specs.Tokens.{number_of};
-ghost use Rattle.gc_graph.specs.Internal.Tokens.{AreDigits};
+ghost use Rattle.gc_graph.specs.Internal.Tokens.{IsDecimal};
 
-/// The value of a digit.
-fn digit(byte: u8) -> Option<u64>
-    ensures { MatchOption result (¬ IsInRange 48 57 byte)
-        (λ value. IsInRange 48 57 byte × (value ≡ byte - 48)) }
+use core::dec2flt::read_digits;
+
+/// The least number of twenty digits.
+const LEAST_OF_TWENTY: u64 = 10000000000000000000;
+
+/// Returns whether the digits at the front of the text are the decimal of a number below 2^64. `count` is how many there are,
+/// and `wrapped` their value modulo 2^64. Twenty digits that begin with 1 write too great a number where `wrapped` has fewer.
+#[inline(always)]
+fn is_decimal(text: &[u8], count: usize, wrapped: u64) -> bool
+    requires some { 0 < count }
+    requires digits { count ≡ digits_len text.now }
+    requires value { wrapped ≡ digits_value 10 (take count text.now) % 2 ^ 64 }
+    ensures { IsTrue result ↔ IsDecimal (take count text.now) }
 {
-    if byte < b'0' || byte > b'9' {
-        return None;
+    match text[0] {
+        b'0' => count == 1,
+        b'1' => count < 20 || count == 20 && wrapped >= LEAST_OF_TWENTY,
+        _ => count < 20,
     }
-    Some(u64::from(byte - b'0'))
 }
 
-/// The value of a token of digits, few enough that it fits.
-fn digits(token: &[u8]) -> Option<u64>
-    requires { length token.now ≤ 19 }
-    ensures { MatchOption result (¬ AreDigits token.now)
-        (λ value. AreDigits token.now × (value ≡ digits_value 10 token.now)) }
+/// Returns the number below 2^64 whose decimal the text begins with, and what follows its digits. None if there is none.
+#[inline(always)]
+pub fn front_number(text: &[u8]) -> Option<(u64, &[u8])>
+    ensures { MatchOption result ((n : ℕ) (rest : List ℕ) → ¬ BeginsWithNumber text.now n rest)
+        (λ found. BeginsWithNumber text.now found.0 found.1.now) }
 {
-    let mut value = 0u64;
-    for byte in token {
-        value = value * 10 + digit(*byte)?;
-    }
-    Some(value)
-}
-
-/// The value of twenty digits, where it fits.
-fn twenty_digits(token: &[u8]) -> Option<u64>
-    requires { length token.now ≡ 20 }
-    ensures { MatchOption result (AreDigits token.now → 2 ^ 64 ≤ digits_value 10 token.now)
-        (λ value. AreDigits token.now × (value ≡ digits_value 10 token.now)) }
-{
-    let front = digits(&token[..19])?;
-    let last = digit(token[19])?;
-    front.checked_mul(10)?.checked_add(last)
-}
-
-/// The value of a token of digits, where it fits.
-fn digits_up_to_twenty(token: &[u8]) -> Option<u64>
-    requires { length token.now ≤ 20 }
-    ensures { MatchOption result (AreDigits token.now → 2 ^ 64 ≤ digits_value 10 token.now)
-        (λ value. AreDigits token.now × (value ≡ digits_value 10 token.now)) }
-{
-    if token.len() == 20 {
-        twenty_digits(token)
+    let (end, value) = read_digits(text, 0, 0);
+    if end > 0 && is_decimal(text, end, value) {
+        Some((value, &text[end..]))
     } else {
-        digits(token)
+        None
     }
 }
 
-/// Whether a zero stands before other digits.
-fn has_leading_zero(token: &[u8]) -> bool
-    requires { 0 < length token.now }
-    ensures { IsTrue result ↔ ((slice_index token.now 0 ≡ 48) × (1 < length token.now)) }
-{
-    token[0] == b'0' && token.len() > 1
-}
-
-/// The number whose decimal the token is, if it is at most this.
+/// Returns the number whose decimal the token is, if it is at most `most`.
 pub fn number(token: &[u8], most: u64) -> Option<u64>
     ensures value { result ≡ number_of most token.now }
     ensures small { IfSome result (λ n. n ≤ most) }
 {
-    if token.is_empty() || token.len() > 20 {
-        return None;
+    let (value, rest) = front_number(token)?;
+    if rest.is_empty() && value <= most {
+        Some(value)
+    } else {
+        None
     }
-    if has_leading_zero(token) {
-        return None;
-    }
-    let value = digits_up_to_twenty(token)?;
-    if value <= most { Some(value) } else { None }
 }

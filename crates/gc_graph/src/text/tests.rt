@@ -1,4 +1,6 @@
-use crate::text::{Message, Printer, ReadFault, Sink, Source, Tokens, cut, number, read_all};
+use crate::text::{
+    Front, Message, Printer, ReadFault, Sink, Source, Tokens, cut, number, read_all,
+};
 use std::alloc::Global;
 use std::io;
 use std::io::Read;
@@ -61,6 +63,51 @@ fn numbers_up_to_the_greatest(rt: HostRuntime) {
     for (token, most, want) in rows {
         assert_eq!(rt; number(token, most), want, "{token:?}");
     }
+}
+
+#[test]
+fn numbers_at_the_front_of_a_text(rt: HostRuntime) {
+    let rows: [(&[u8], u64, Option<u64>, &[u8]); 9] = [
+        (b"0 1", 9, Some(0), b" 1"),
+        (b"01", 9, None, b"01"),
+        (b"10", 9, None, b"10"),
+        (b"x1", 9, None, b"x1"),
+        (b"", 9, None, b""),
+        (
+            b"12345678901234567890\n7",
+            u64::MAX,
+            Some(12345678901234567890),
+            b"\n7",
+        ),
+        (b"18446744073709551615x", u64::MAX, Some(u64::MAX), b"x"),
+        (
+            b"18446744073709551616x",
+            u64::MAX,
+            None,
+            b"18446744073709551616x",
+        ),
+        (
+            b"20000000000000000000x",
+            u64::MAX,
+            None,
+            b"20000000000000000000x",
+        ),
+    ];
+    for (text, most, want, rest) in rows {
+        let mut front = Front::new(text);
+        assert_eq!(rt; front.number(most), want, "{text:?}");
+        assert_eq!(rt; front.rest(), rest, "{text:?}");
+    }
+}
+
+#[test]
+fn bytes_at_the_front_of_a_text(rt: HostRuntime) {
+    let mut front = Front::new(b"ab");
+    assert!(rt; front.byte(b'b').is_none());
+    assert!(rt; front.byte(b'a').is_some());
+    assert_eq!(rt; front.rest(), b"b".as_slice());
+    assert!(rt; front.byte(b'b').is_some());
+    assert!(rt; front.byte(b'b').is_none());
 }
 
 #[test]

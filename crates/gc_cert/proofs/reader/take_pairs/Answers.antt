@@ -3,8 +3,8 @@ use Rattle.std.proofs.lemmas.Result.{err_from_is_err_and}
 use Rattle.gc_graph.specs.Lines.{tokens_of}
 use Rattle.gc_words.specs.Views.{addresses}
 use Rattle.gc_cert.specs.Grammar.{pair_line, AreAddresses}
-use Rattle.gc_cert.specs.Parsers.{pair_of}
 use Rattle.gc_cert.specs.Internal.Sections.{alone, AreAll, Spelled}
+use Rattle.gc_cert.specs.Internal.Parsers.{pair_of}
 use Rattle.gc_cert.proofs.Forms.{alone_delimits, begins_with_one}
 use Rattle.gc_cert.proofs.LineForms.{pair_form}
 use Rattle.gc_cert.proofs.Stops.{stop_within}

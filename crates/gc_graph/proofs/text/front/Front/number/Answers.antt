@@ -1,0 +1,12 @@
+use Rattle.std.proofs.Common.{◌≡◌, List, ℕ, refl, arith, subst}
+use Rattle.gc_graph.specs.Fronts.{BeginsWithNumber}
+use Rattle.gc_graph.proofs.Decimals.{one_front}
+use Rattle.gc_graph.proofs.text.front.Front.number.Goals as goal
+
+pub returns-then-n-most : goal.returns-then-n-most
+returns-then-n-most c = (
+  refl,
+  λ n rest le begins.
+      let found = subst (λ (text : List ℕ). BeginsWithNumber text c.in_ok-n.n c.in_ok-n.rest.now) c.self.view_is c.in_ok-n.ensures in
+      omega (arith, le, c.if-n-most.true, (one_front c.args.self.now c.in_ok-n.n n c.in_ok-n.rest.now rest found begins).0),
+)
