@@ -320,6 +320,10 @@ def counts(_program, _folder):
     shown = re.findall(r"(?m)^\| (\w+) \| (\d+) \| (\d+) \|$", text_of("docs/ARCHITECTURE.md"))
     wrong = [line for line in counted if tuple(line) not in shown]
     yield "lines of definitions", "not in docs/ARCHITECTURE.md: %s" % wrong if wrong else None
+    _, printed = printed_by_definitions("--of", "Replicated")
+    counted = {tuple(line.split()) for line in printed.split("\n")[:-2]}
+    shown = set(re.findall(r"(?m)^ *\| `([\w/]+)` \| (\d+) \|", text_of("docs/TRUST.md")))
+    yield "lines of the theorem's files", None if counted == shown else "differ in %s" % sorted(counted ^ shown)
     for name, pattern in [("", r"(\d+) lines of definitions"), ("Replicated", r"definitions behind the theorem\*\*: (\d+) lines")]:
         _, printed = printed_by_definitions(*(["--of", name] if name else []))
         wanted = printed.split("\n")[-2].split()[1]
