@@ -74,7 +74,7 @@ class Library:
         """The path of the program, and why it was not built, or None."""
         program = os.path.join(self.folder, "program")
         standard = "-std=c++11" if source.endswith(".cpp") else "-std=gnu11"
-        words = [*compiler, standard, "-O2", *WARNINGS, "-I" + os.path.join(self.prefix, "include")]
+        words = [*compiler, standard, "-O2", "-pthread", *WARNINGS, "-I" + os.path.join(self.prefix, "include")]
         built = done([*words, "-o", program, os.path.join(SOURCES, source), *linked])
         return program, None if built.status == 0 else "not built: %s" % built.stderr.decode()
 
@@ -113,7 +113,7 @@ def usable(folder, name, compiler):
 
 
 # Programs that end with status 0 and print nothing.
-PROGRAMS = ["check.c", "refused_check.c", "check_cpp.cpp", "heap.c", "refused_heap.c", "heap_cpp.cpp", "churn.c"]
+PROGRAMS = ["check.c", "refused_check.c", "check_cpp.cpp", "heap.c", "refused_heap.c", "heap_cpp.cpp", "churn.c", "threads.c"]
 
 
 def programs(_program, folder):
