@@ -1,5 +1,5 @@
 /* The machine on the proved collector: registers are the mutator's own slots, and the stack is an object in slot 16. A
- * collection begins when half of the heap is in use, or, where the world stops, when the heap is full. */
+ * collection begins when half of the heap is in use, or, without incremental steps, when the heap is full. */
 #include "gcflip_heap.h"
 
 enum { MUST_FREE = 0, KIND = 1, STACK_SLOT = 16, SCRATCH = 15, MOST_WORDS = 1048576, MOST_STEPS = 1 << 30 };

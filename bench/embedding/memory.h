@@ -7,7 +7,7 @@
  *     put, put_number                  writes a field
  *     move, same                       between registers
  *     push, pop                        the stack
- *     free_object                      frees the object, where MUST_FREE says that the program has to
+ *     free_object                      frees the object, if the program has to (MUST_FREE)
  *     collections                      how many collections there were
  */
 #ifndef MEMORY_H

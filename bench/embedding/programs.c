@@ -57,7 +57,7 @@ static void count_nodes(int depth, int fields)
         for_children(count_nodes, depth, fields);
 }
 
-/* Frees the tree in register A, where that is the program's to do. */
+/* Frees the tree in register A, if the program has to. */
 static void free_tree(int depth, int fields)
 {
     if (!MUST_FREE)

@@ -1,8 +1,8 @@
 /* The three calls for memory that the libraries make, over malloc, realloc and free.
  *
  * An embedder replaces them by linking its own definitions: those of the archive are then not linked. They have
- * to be from one allocator, and align a block to each power of two up to 16 that divides its size. A call is told
- * the alignment, which is 16 at most.
+ * to be from one allocator, and align a block to each power of two up to 16 that divides its size. The
+ * alignment that a call asks for is 16 at most.
  */
 #include <stdbool.h>
 #include <stddef.h>
@@ -10,7 +10,7 @@
 
 struct gcflip_memory {
     bool ok;
-    void *at; /* where no memory is owned if `ok` is false, and yet not NULL */
+    void *at; /* the block if `ok`, else an address without memory that is not NULL */
 };
 
 struct gcflip_memory rattle_alloc(size_t size, size_t alignment);

@@ -48,7 +48,7 @@ typedef struct gcflip_verdict {
 /* The conditions of a certificate, in the order in which they are checked. A verdict has the first that fails.
  * Pairs, fields and roots are counted from 0. */
 enum gcflip_refusal {
-    GCFLIP_OLD_SHAPE = 1,      /* place: the first address with no object where one has to be, or 0 */
+    GCFLIP_OLD_SHAPE = 1,      /* place: the first address at which an object has to start and does not, or 0 */
     GCFLIP_NEW_SHAPE = 2,      /* the same of the new image */
     GCFLIP_ROOT_COUNT = 3,     /* the images have different numbers of roots */
     GCFLIP_OLD_NOT_START = 4,  /* place: the pair; no object starts at its old address */

@@ -6,8 +6,8 @@
  * returns another answer than GCFLIP_HEAP_DONE changed nothing: neither the heap nor what it would have written.
  *
  * The promise, proved of the code behind these calls:
- * - each reply and each state is the one that the definitions of the collector give. So mutators are told what a
- *   heap without a collector would tell them, except that an allocation may find the heap full;
+ * - each reply and each state is the one that the definitions of the collector give. So mutators get the
+ *   replies of a heap without a collector, except that an allocation may find the heap full;
  * - a flip happens only if the checker accepts its certificate, the flip of a ready collection passes, and no step
  *   lacks room if the new space is at least as large as the heap;
  * - only open, begin, begin_sized, flip, work, and put while a collection is open can return GCFLIP_HEAP_NO_MEMORY.

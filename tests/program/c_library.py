@@ -14,6 +14,8 @@ from .traces import PLAYED, trace_and_replies
 
 TOP = os.path.join(os.path.dirname(os.path.abspath(__file__)), "..", "..")
 SOURCES = os.path.join(TOP, "tests", "c")
+EXAMPLE_PROGRAMS = os.path.join(TOP, "bindings", "c", "examples")
+DOCUMENT = os.path.join(TOP, "docs", "EMBEDDING.md")
 SECONDS = 120
 # The libraries are proved first, where they have changed.
 PROVING_SECONDS = 3600
@@ -72,8 +74,15 @@ class Library:
         """The path of the program, and why it was not built, or None."""
         program = os.path.join(self.folder, "program")
         standard = "-std=c++11" if source.endswith(".cpp") else "-std=gnu11"
-        words = [*compiler, standard, "-O2", *WARNINGS, "-I" + os.path.join(self.prefix, "include")]
+        words = [*compiler, standard, "-O2", "-pthread", *WARNINGS, "-I" + os.path.join(self.prefix, "include")]
         built = done([*words, "-o", program, os.path.join(SOURCES, source), *linked])
+        return program, None if built.status == 0 else "not built: %s" % built.stderr.decode()
+
+    def build_example(self, name):
+        """The path of a program of bindings/c/examples, and why it was not built, or None."""
+        program = os.path.join(self.folder, "example")
+        words = ["gcc", "-std=c99", *WARNINGS, *SANITIZERS, "-I" + os.path.join(self.prefix, "include"), "-o", program]
+        built = done([*words, os.path.join(EXAMPLE_PROGRAMS, name), *self.archive()])
         return program, None if built.status == 0 else "not built: %s" % built.stderr.decode()
 
     def archive(self):
@@ -104,7 +113,7 @@ def usable(folder, name, compiler):
 
 
 # Programs that end with status 0 and print nothing.
-PROGRAMS = ["check.c", "refused_check.c", "check_cpp.cpp", "heap.c", "refused_heap.c", "heap_cpp.cpp", "churn.c"]
+PROGRAMS = ["check.c", "refused_check.c", "check_cpp.cpp", "heap.c", "refused_heap.c", "heap_cpp.cpp", "churn.c", "threads.c"]
 
 
 def programs(_program, folder):
@@ -226,4 +235,27 @@ def long_run(_program, folder):
     yield "churn of 10000000 operations", why or difference(done([path, "10000000"]), Outcome())
 
 
-GROUPS = [programs, pkg_config, texts, plays, recorded_work, long_run]
+# What each example prints.
+EXAMPLE_OUTPUT = {"first_check.c": b"yes 1\n", "first_heap.c": b"mutators go on\nmutators go on\nflipped 1\nsaw 42\n"}
+
+
+def example_programs(_program, folder):
+    """The programs of bindings/c/examples, and the pieces of them that the document shows."""
+    built = library(folder)
+    if built is None:
+        return
+    texts = []
+    for name in sorted(os.listdir(EXAMPLE_PROGRAMS)):
+        path, why = built.build_example(name)
+        yield name, why or difference(done([path]), Outcome(EXAMPLE_OUTPUT[name]))
+        with open(os.path.join(EXAMPLE_PROGRAMS, name), encoding="utf-8") as file:
+            texts.append(file.read())
+    with open(DOCUMENT, encoding="utf-8") as file:
+        shown = file.read().split("```c\n")[1:]
+    for number, block in enumerate(shown, 1):
+        pieces = block.split("```")[0].split("// ...\n")
+        missing = [piece for piece in pieces if not any(piece in text for text in texts)]
+        yield "code %d of EMBEDDING" % number, "in no example: %s" % missing if missing else None
+
+
+GROUPS = [example_programs, programs, pkg_config, texts, plays, recorded_work, long_run]

@@ -9,6 +9,7 @@ use gc_graph::{NoMemory, Number, Op, Reply, Slot, View};
 use gc_heap::Heap;
 use gc_words::{NewAddr, OldAddr, Pair};
 use std::alloc::Global;
+use std::process::Abort;
 use std::test::Fail;
 
 /// Makes mutator m's command while no collection is open.
@@ -104,48 +105,87 @@ fn write_while_scanning(rt: HostRuntime) -> Result<(), Fail> {
     Ok(())
 }
 
-#[test]
-fn raw_object_is_written_while_it_is_copied(rt: HostRuntime) -> Result<(), Fail> {
-    let r0 = Slot::own(0).ok_or("slot")?;
-    let r1 = Slot::own(1).ok_or("slot")?;
-    let r2 = Slot::own(2).ok_or("slot")?;
+/// Makes a raw object of two fields in r0, and writes 8 to its first one by way of r1.
+fn raw_eight(rt: &impl Abort, heap: &mut Heap, r0: Slot, r1: Slot) -> Result<(), Fail>
+    requires mutators { heap.old.mutators ≡ 1 }
+    requires idle { HasNoLinks heap.old }
+    ensures idle { HasNoLinks heap.new }
+    ensures mutators { heap.new.mutators ≡ 1 }
+{
     let eight = Number::new(8).ok_or("number")?;
-    let ten = Number::new(10).ok_or("number")?;
     let new = Op::NewRaw {
         d: r0,
         kind: 7,
         len: 2,
     };
-    let mut heap = empty(rt.alloc(), 16, 1)?;
-    assert_eq!(rt; command(&mut heap, 0, &new), Reply::Made);
-    assert_eq!(rt;
-        command(&mut heap, 0, &Op::Num { d: r1, n: eight }),
-        Reply::Done
-    );
+    assert_eq!(rt; command(heap, 0, &new), Reply::Made);
+    let num = Op::Num { d: r1, n: eight };
+    assert_eq!(rt; command(heap, 0, &num), Reply::Done);
     let put = Op::Put { s: r0, i: 0, t: r1 };
-    assert_eq!(rt; command(&mut heap, 0, &put), Reply::Done);
-    let mut collection = Collection::begin(rt.alloc(), &heap)?;
-    assert_eq!(rt; collection.roots(&mut heap), StepReply::Copied);
+    assert_eq!(rt; command(heap, 0, &put), Reply::Done);
+    Ok(())
+}
+
+/// Copies the raw object, writes 10 to its second field, and brings the copy up to date.
+fn copied_and_written(
+    rt: &impl Abort,
+    collection: &mut Collection,
+    heap: &mut Heap,
+    r0: Slot,
+    r1: Slot,
+) -> Result<(), Fail>
+    requires belongs { BelongsTo heap.old collection.old }
+    requires mutators { heap.old.mutators ≡ 1 }
+    ensures belongs { BelongsTo heap.new collection.new }
+    ensures mutators { heap.new.mutators ≡ 1 }
+{
+    let ten = Number::new(10).ok_or("number")?;
+    assert_eq!(rt; collection.roots(heap), StepReply::Copied);
     let num = Op::Num { d: r1, n: ten };
-    assert_eq!(rt; mutate(&mut collection, &mut heap, 0, &num)?, Reply::Done);
+    assert_eq!(rt; mutate(collection, heap, 0, &num)?, Reply::Done);
+    let put = Op::Put { s: r0, i: 1, t: r1 };
+    assert_eq!(rt; mutate(collection, heap, 0, &put)?, Reply::Done);
+    assert_eq!(rt; collection.scan(heap), StepReply::Passed);
+    assert_eq!(rt; collection.scan(heap), StepReply::Clean);
+    assert!(rt; !collection.ready(heap));
+    assert_eq!(rt; collection.apply_log(0, heap), StepReply::Applied);
+    Ok(())
+}
+
+#[test]
+fn raw_object_is_written_while_it_is_copied(rt: HostRuntime) -> Result<(), Fail> {
+    let r0 = Slot::own(0).ok_or("slot")?;
+    let r1 = Slot::own(1).ok_or("slot")?;
+    let eight = Number::new(8).ok_or("number")?;
+    let ten = Number::new(10).ok_or("number")?;
+    let mut heap = empty(rt.alloc(), 16, 1)?;
+    raw_eight(&rt, &mut heap, r0, r1)?;
+    let mut collection = Collection::begin(rt.alloc(), &heap)?;
+    copied_and_written(&rt, &mut collection, &mut heap, r0, r1)?;
+    let (_, roots) = flip(rt.alloc(), collection, &mut heap)?;
+    assert_eq!(&rt; roots.get(16).copied(), Some(2));
+    let first = Op::Get { d: r1, s: r0, i: 0 };
+    assert_eq!(&rt; heap.apply(0, &first), Reply::Saw(View::Num(eight)));
+    let second = Op::Get { d: r1, s: r0, i: 1 };
+    assert_eq!(&rt; heap.apply(0, &second), Reply::Saw(View::Num(ten)));
+    Ok(())
+}
+
+#[test]
+fn refused_write_to_a_raw_object_is_not_logged(rt: HostRuntime) -> Result<(), Fail> {
+    let _named = View::Nil;
+    let r0 = Slot::own(0).ok_or("slot")?;
+    let r1 = Slot::own(1).ok_or("slot")?;
+    let r2 = Slot::own(2).ok_or("slot")?;
+    let mut heap = empty(rt.alloc(), 16, 1)?;
+    raw_eight(&rt, &mut heap, r0, r1)?;
+    let mut collection = Collection::begin(rt.alloc(), &heap)?;
     let refused = Op::Put { s: r0, i: 1, t: r2 };
-    assert_eq!(rt;
+    assert_eq!(&rt;
         mutate(&mut collection, &mut heap, 0, &refused)?,
         Reply::NoNumber
     );
-    assert_eq!(rt; collection.next_log(), None);
-    let put = Op::Put { s: r0, i: 1, t: r1 };
-    assert_eq!(rt; mutate(&mut collection, &mut heap, 0, &put)?, Reply::Done);
-    assert_eq!(rt; collection.scan(&mut heap), StepReply::Passed);
-    assert_eq!(rt; collection.scan(&mut heap), StepReply::Clean);
-    assert!(rt; !collection.ready(&heap));
-    assert_eq!(rt; collection.apply_log(0, &mut heap), StepReply::Applied);
-    let (_, roots) = flip(rt.alloc(), collection, &mut heap)?;
-    assert_eq!(rt; roots.get(16).copied(), Some(2));
-    let first = Op::Get { d: r2, s: r0, i: 0 };
-    assert_eq!(rt; heap.apply(0, &first), Reply::Saw(View::Num(eight)));
-    let second = Op::Get { d: r2, s: r0, i: 1 };
-    assert_eq!(rt; heap.apply(0, &second), Reply::Saw(View::Num(ten)));
+    assert_eq!(&rt; collection.next_log(), None);
     Ok(())
 }
 

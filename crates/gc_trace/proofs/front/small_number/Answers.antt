@@ -4,5 +4,5 @@ use Rattle.gc_trace.proofs.front.small_number.Goals as goal
 
 pub returns : goal.returns
 returns c =
-    let is = small_digits c.args.first c.args.second c.from-tens.result c.from-units.result c.from-two.result (omega arith) (omega arith) c.from-tens.ensures c.from-units.ensures (omega arith) c.from-two.ensures c.if-n-gt15.false c.if-two-tens.false in
+    let is = small_digits c.args.first c.args.second c.from-tens.result c.from-units.result c.from-two.result (omega arith) (omega arith) c.from-tens.ensures c.from-units.ensures (omega arith) c.from-two.ensures (omega arith) (omega arith) in
     (is.small, is.few, is.spelled)
