@@ -10,7 +10,6 @@ import sys
 from .harness import Skipped, file_of
 
 TOP = os.path.normpath(os.path.join(os.path.dirname(os.path.abspath(__file__)), "..", ".."))
-PATTERNS = ["*.md", "docs/*.md", "bench/*.md", "examples/*.md", "crates/*/*.md"]
 SOURCES = (".rt", ".antt", ".edit", ".py", ".c", ".txt")
 WORD = re.compile(r"[A-Za-z_]\w{3,}")
 # Arguments in usage lines, and names of things outside the repository.
@@ -25,8 +24,11 @@ TOO_LONG = {
 
 def documents():
     """Returns the paths of all documents, from the top of the repository."""
-    found = [path for pattern in PATTERNS for path in glob.glob(os.path.join(TOP, pattern))]
-    return sorted(os.path.relpath(path, TOP) for path in found)
+    found = []
+    for path, folders, files_there in os.walk(TOP):
+        folders[:] = [name for name in folders if name != "out" and not name.startswith(".")]
+        found += [os.path.relpath(os.path.join(path, name), TOP) for name in files_there if name.endswith(".md")]
+    return sorted(found)
 
 
 def text_of(document):
