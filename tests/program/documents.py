@@ -7,10 +7,9 @@ import shutil
 import subprocess
 import sys
 
-from .harness import Skipped
+from .harness import Skipped, file_of
 
 TOP = os.path.normpath(os.path.join(os.path.dirname(os.path.abspath(__file__)), "..", ".."))
-PATTERNS = ["*.md", "docs/*.md", "bench/*.md", "examples/*.md", "crates/*/*.md"]
 SOURCES = (".rt", ".antt", ".edit", ".py", ".c", ".txt")
 WORD = re.compile(r"[A-Za-z_]\w{3,}")
 # Arguments in usage lines, and names of things outside the repository.
@@ -25,8 +24,11 @@ TOO_LONG = {
 
 def documents():
     """Returns the paths of all documents, from the top of the repository."""
-    found = [path for pattern in PATTERNS for path in glob.glob(os.path.join(TOP, pattern))]
-    return sorted(os.path.relpath(path, TOP) for path in found)
+    found = []
+    for path, folders, files_there in os.walk(TOP):
+        folders[:] = [name for name in folders if name != "out" and not name.startswith(".")]
+        found += [os.path.relpath(os.path.join(path, name), TOP) for name in files_there if name.endswith(".md")]
+    return sorted(found)
 
 
 def text_of(document):
@@ -257,6 +259,18 @@ def names_in_c(_program, _folder):
             yield "C of %s" % document, ", ".join(sorted(used - known)) or None
 
 
+def c_of_readme(_program, folder):
+    """Compiles README's C as the body of a function."""
+    if shutil.which("gcc") is None:
+        yield "C of README.md compiles", Skipped("there is no gcc on the path")
+        return
+    for block in blocks("README.md", "c"):
+        source = file_of(folder, "readme.c", ("#include \"gcflip_heap.h\"\nvoid sample(void)\n{\n%s\n}\n" % "\n".join(block)).encode())
+        words = ["gcc", "-std=c11", "-Wall", "-Werror", "-fsyntax-only", "-I", os.path.join(TOP, "bindings", "c"), source]
+        found = subprocess.run(words, stdout=subprocess.PIPE, stderr=subprocess.STDOUT)
+        yield "C of README.md compiles", None if found.returncode == 0 else found.stdout.decode("utf-8", "replace")
+
+
 # ---- commands
 
 def shown_commands(document):
@@ -331,4 +345,4 @@ def counts(_program, _folder):
         yield "lines of %s" % (name or "all definitions"), None if found and found.group(1) == wanted else "they are %s" % wanted
 
 
-GROUPS = [names, words, files, clauses, crates, edits, quotes, names_in_c, commands, commands_of_tables, definitions, counts]
+GROUPS = [names, words, files, clauses, crates, edits, quotes, names_in_c, c_of_readme, commands, commands_of_tables, definitions, counts]
