@@ -17,7 +17,7 @@ pub enum Answer {
     Mutator(Reply),
     /// The reply to a step.
     Collector(StepReply),
-    /// The reply to a step that was chosen as the useful one of its moment.
+    /// The reply to a step that was chosen as the useful one.
     Useful(StepReply),
 }
 

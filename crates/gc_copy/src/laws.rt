@@ -1,4 +1,4 @@
-//! What follows from the definitions: the crates above cite these calls.
+//! Laws that follow from the definitions. The crates above cite them by these calls.
 
 ghost use Rattle.std.specs.Prelude.{◌≡◌, ◌≢◌, ◌++◌, ◌∷◌, [], ℕ, List, ◌-◌, ◌<◌, ◌≤◌, ◌==◌, length, Some, is_none, ◌⊎◌, IsTrue, IsFalse};
 ghost use Rattle.gc_graph.specs.Limits.{most_words};
@@ -27,15 +27,15 @@ ghost use Rattle.gc_copy.specs.Rows.{Rows, SizedRows, FlipPairRows};
 ghost use Rattle.gc_copy.specs.declared.step.Step.{Step};
 ghost use Rattle.gc_copy.specs.declared.step.StepReply.TheVariants.{NoRoom};
 
-/// The worked rows hold of the definitions.
+/// The definitions give the worked examples.
 pub fn worked_rows()
     ensures answers { Rows }
     ensures sized { SizedRows }
     ensures kept { FlipPairRows }
 {}
 
-/// A collection that has just begun belongs to any heap. A command keeps the heap, and belonging but for
-/// the field that it writes, which is one of the heap; an entry in a log that names this field restores it.
+/// A collection that has just begun belongs to any heap. A command keeps the heap sound, and keeps belonging except for the field
+/// that it writes. A log entry for this field restores it.
 pub fn belonging_is_kept()
     ensures begins { (objects : List (ℕ × Object)) (mutators size : ℕ) → HasRawNumbers objects
         → 1 ≤ size → Belongs objects (fresh_collection mutators size) }
@@ -56,7 +56,7 @@ pub fn belonging_is_kept()
         → Belongs objects (with_log c m (log_at c m ++ (a, i) ∷ [])) }
 {}
 
-/// A step but a flip leaves all but the collection as it is, and keeps belonging, whatever the heap.
+/// Every step except a flip changes only the collection, and keeps belonging.
 pub fn steps_keep_belonging()
     ensures heap { (s : State) (step : Step) → step ≢ Step.Flip
         → (collect s step).1 ≡ with_collection s (collect s step).1.collection }
@@ -64,7 +64,7 @@ pub fn steps_keep_belonging()
         → s.collection ≡ Some c → IsOpened s c → IsOpen s (collect s step).1.collection }
 {}
 
-/// Whatever commands and steps come, the heap stays one, and an open collection goes on to belong to it.
+/// Commands and steps keep the heap sound, and an open collection stays one that belongs to it.
 pub fn states_are_kept()
     ensures opening { (size mutators : ℕ)
         → 1 ≤ size → size ≤ most_words → IsState (opening_state size mutators) }
@@ -75,7 +75,7 @@ pub fn states_are_kept()
     ensures runs { InEveryRun IsState }
 {}
 
-/// A heap is the graph of its image, whatever the links.
+/// A heap is the graph of its image, whatever the links are.
 pub fn images_have_their_graphs()
     ensures shaped { (links : ℕ → ℕ) (size free : ℕ) (g : Graph)
         → IsSpaceGraph size free g → IsShaped (linked_image links size g) }
@@ -87,8 +87,8 @@ pub fn images_have_their_graphs()
     ensures runs { InEveryRun HasImage }
 {}
 
-/// The graph of a heap of words is one whose names are addresses, and its image is that of this graph with
-/// the links that stand there. Its end is the name of no object.
+/// The names in the graph of a heap of words are addresses, and its image is that of this graph with the heap's links. No object
+/// has the end as its name.
 pub fn heaps_have_addresses_as_names()
     ensures graph { (heap : HeapWords) → IsHeap heap
         → IsSpaceGraph heap.space.size (free_in heap.space) (graph_in heap) }
@@ -99,8 +99,8 @@ pub fn heaps_have_addresses_as_names()
         → IsSpaceGraph size free g → IsUnused g (size - free) }
 {}
 
-/// What the links of a collection tell: an original's is its replica's place, or 0 where it has none; a
-/// replica's is its original. And a replica's field is written where its place says.
+/// The link of an original is its replica's address, or 0 if it has none. The link of a replica is its original's address. Writing
+/// a field at a replica's address changes that replica.
 pub fn links_tell_replicas()
     ensures by_name { (objects : List (ℕ × Object)) (c : Collection) (r : Replica)
         → Belongs objects c → In r c.replicas → replica_of c r.original ≡ Some r }
@@ -117,8 +117,8 @@ pub fn links_tell_replicas()
         → new_objects (write_replica c a i v) ≡ set_field (new_objects c) r.place i v }
 {}
 
-/// A ready collection has a certificate, whatever the links, its new space is a heap, and its graph
-/// corresponds to the old one; so its flip passes the check, and no flip is ever refused.
+/// The certificate of a ready collection holds, whatever the links are. Its new space is a heap whose graph corresponds to the old
+/// one. So its flip passes the check, and no flip is ever refused.
 pub fn ready_flips_pass()
     ensures certified { (links others : ℕ → ℕ) (size free : ℕ) (g : Graph) (c : Collection)
         → IsSpaceGraph size free g → Belongs g.objects c → c.size ≤ most_words → IsTrue (is_ready c g)
@@ -135,8 +135,7 @@ pub fn ready_flips_pass()
     ensures runs_never_refused { InEveryRun NeverRefused }
 {}
 
-/// An answer that is no change leaves the state as it is, and the useful step's is a change where the new
-/// space has room.
+/// A step whose reply is no change leaves the state as it is. The useful step changes something if the new space has room.
 pub fn answers_tell_changes()
     ensures quiet { (s : State) (step : Step)
         → IsFalse (is_change (collect s step).0) → (collect s step).1 ≡ s }
@@ -152,7 +151,7 @@ pub fn only_kept_is_carried()
     ensures names { NamesOnlyKept }
 {}
 
-/// Where the new space is at least as large as the old one, no step lacks room.
+/// If the new space is at least as large as the old one, no step lacks room.
 pub fn room_suffices()
     ensures states { (s : State) → IsState s → AlwaysHasRoom s }
     ensures runs { InEveryRun AlwaysHasRoom }
@@ -161,7 +160,7 @@ pub fn room_suffices()
         → (collect (open_state heap c) step).0 ≢ NoRoom }
 {}
 
-/// Scanning is clean at the new end alone, and a collection has at most `MOST_PAIRS` pairs.
+/// Scanning replies `Clean` only at the new end, and a collection has at most `MOST_PAIRS` pairs.
 pub fn scans_and_pairs_are_bounded()
     ensures scans { (s : State) → IsState s → ScansToTheEnd s }
     ensures pairs { (s : State) → IsState s → HasFewPairs s }
@@ -169,8 +168,8 @@ pub fn scans_and_pairs_are_bounded()
     ensures run_pairs { InEveryRun HasFewPairs }
 {}
 
-/// What the checker sees of a heap and of the collection that belongs to it: both images with their links; and
-/// where the collection is ready, its certificate holds of them. Where no collection is open, all links are 0.
+/// Gives both images, with their links, of a heap and the collection that belongs to it. If the collection is ready, its
+/// certificate holds of these images. If no collection is open, all links are 0.
 pub fn images_show_links()
     ensures idle { (heap : HeapWords) → IsHeap heap → HasNoLinks heap
         → image_of heap ≡ image_of_graph heap.space.size (graph_in heap) }
@@ -186,8 +185,8 @@ pub fn images_show_links()
         (pairs_of (collection_in c)) }
 {}
 
-/// A mutator's command leaves a collection that belongs to the heap but for the field that it wrote, and so
-/// one that belongs to it where it wrote none. `note` restores the rest.
+/// After a mutator's command, a collection belongs to the heap except for the field that the command wrote, if any. `note`
+/// restores that.
 pub fn commands_keep_collections()
     ensures but { (heap new : HeapWords) (c : CollectionWords) (m : ℕ) (op : Op) (reply : Reply)
         → BelongsTo heap c → KeepsLinks heap.space.words new.space.words

@@ -1,5 +1,5 @@
-//! A collection beside the mutators: what it consists of, what its steps do, when it belongs to a heap,
-//! and what follows.
+//! The collector: an open collection beside the mutators, its steps on words, its mutation logs, and why a ready flip passes the
+//! check.
 #![tactic(auto)]
 
 mod collection;

@@ -6,14 +6,14 @@ use std::alloc::Global;
 use std::collections::VecDeque;
 use std::marker::Model;
 
-/// A field of the old space that a mutator wrote.
+/// An entry of a mutation log: a field of the old space that a mutator wrote.
 #[derive(Clone, Copy, Debug, PartialEq, Eq)]
 pub struct LogEntry {
     pub object: OldAddr,
     pub field: u16,
 }
 
-/// What one mutator wrote while a collection is open. The oldest entry leaves without moving the others.
+/// The fields that one mutator wrote while a collection is open, the oldest first. Taking the oldest entry moves no other.
 #[derive(Debug, Drop)]
 pub(crate) struct MutationLog {
     entries: VecDeque<LogEntry>,
@@ -40,7 +40,7 @@ impl MutationLog {
     ghost use Rattle.gc_copy.specs.Entries.{entry_in};
     ghost use Rattle.gc_copy.specs.Internal.Entries.{oldest};
 
-    /// A log without entries and without room.
+    /// Returns a log without entries. Does not allocate.
     pub(crate) fn new(alloc: Global) -> MutationLog
         ensures { result.entries ≡ [] }
     {
@@ -68,7 +68,7 @@ impl MutationLog {
         self.entries.get(k).copied()
     }
 
-    /// Makes room for one entry more.
+    /// Makes room for one more entry. On `NoMemory` the log is unchanged.
     pub(crate) fn reserve(&mut self) -> Result<(), NoMemory>
         ensures entries { self.new.entries ≡ self.old.entries }
         ensures room { OnOk result (1 ≤ self.new.spare) }
@@ -89,14 +89,14 @@ impl MutationLog {
         self.entries.push_back_reserved(entry);
     }
 
-    /// The oldest entry.
+    /// Returns the oldest entry.
     pub(crate) fn oldest(&self) -> Option<LogEntry>
         ensures { option_map entry_in result ≡ oldest self.now.entries }
     {
         self.entries.front().copied()
     }
 
-    /// Takes the oldest entry out.
+    /// Removes the oldest entry.
     pub(crate) fn drop_oldest(&mut self)
         ensures { self.new.entries ≡ drop 1 self.old.entries }
     {

@@ -1,4 +1,4 @@
-//! The certificate that the links of the replicas tell.
+//! The certificate, read off the links of the replicas.
 
 ghost use Rattle.std.specs.Prelude.{◌≡◌, ◌<◌, ◌^◌, IfOk, length, map};
 ghost use Rattle.gc_words.specs.Image.{blocks};

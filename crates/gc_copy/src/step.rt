@@ -3,21 +3,21 @@
 pub enum Step {
     /// Opens a collection whose new space is as large as the mutators' space.
     Begin,
-    /// Opens a collection whose new space has so many words.
+    /// Opens a collection whose new space has this many words.
     BeginSized(u32),
     /// Replicates the target of the first root whose target has no replica.
     Roots,
-    /// Brings the field at the scan pointer up to date, or goes on to the next replica.
+    /// Brings the field at the scan pointer up to date, or moves on to the next replica.
     Scan,
-    /// Takes the oldest entry out of the mutation log of this mutator and brings its field up to date.
+    /// Removes the oldest entry of this mutator's log and brings its field up to date.
     Apply(u8),
-    /// Lets the mutators go on in the new space, where the collection is ready and the checker agrees.
+    /// Switches the mutators to the new space, if the collection is ready and the checker accepts its certificate.
     Flip,
-    /// Gives the new space up.
+    /// Ends the collection without a flip, and frees the new space.
     Drop,
 }
 
-/// The answer to a step. Only `Begun`, `Copied`, `Passed`, `Scanned`, `Applied`, `Flipped` and `Dropped`
+/// The reply to a step. Only steps with the replies `Begun`, `Copied`, `Passed`, `Scanned`, `Applied`, `Flipped` and `Dropped`
 /// change anything.
 #[derive(Clone, Copy, Debug, PartialEq, Eq)]
 pub enum StepReply {
@@ -27,13 +27,13 @@ pub enum StepReply {
     Begun,
     /// No collection is open.
     Idle,
-    /// There is nothing left for this step.
+    /// Nothing is left to do for this step.
     Clean,
-    /// A replica has to be placed, and the new space has no room for it.
+    /// The new space has no room for a replica that has to be placed.
     NoRoom,
     /// A root's target has a replica now.
     Copied,
-    /// All fields of a replica were scanned, and the scan pointer is behind it.
+    /// A replica is scanned, and the scan pointer has moved behind it.
     Passed,
     /// One field was scanned.
     Scanned,
@@ -41,10 +41,10 @@ pub enum StepReply {
     Applied,
     /// A log has an entry, a field is not yet scanned, or a root's target has no replica.
     NotReady,
-    /// The checker refuses the collection's pairs.
+    /// The checker refused the certificate.
     Refused,
-    /// The new space has taken the old one's place, with so many pairs of an original and its replica.
+    /// The new space has replaced the old one, with this many pairs in the certificate.
     Flipped { pairs: u32 },
-    /// The new space and all logs are given up.
+    /// The new space and all logs are freed.
     Dropped,
 }

@@ -12,7 +12,7 @@ use std::alloc::Global;
 use std::process::Abort;
 use std::test::Fail;
 
-/// Makes mutator m's command while no collection is open.
+/// Performs a command of mutator `m` while no collection is open.
 fn command(heap: &mut Heap, m: u8, op: &Op) -> Reply
     requires mutator { m < heap.old.mutators }
     requires idle { HasNoLinks heap.old }
@@ -23,7 +23,7 @@ fn command(heap: &mut Heap, m: u8, op: &Op) -> Reply
     heap.apply(m, op)
 }
 
-/// A heap without objects.
+/// Returns a heap without objects.
 fn empty(alloc: Global, size: u32, mutators: u8) -> Result<Heap, NoMemory>
     requires low { 1 ≤ size }
     requires high { size ≤ most_words }
@@ -39,7 +39,7 @@ fn new(d: Slot, kind: u8, len: u16) -> Op {
     Op::New { d, kind, len }
 }
 
-/// Makes mutator m's command while the collection is open.
+/// Performs a command of mutator `m` while the collection is open.
 fn mutate(collection: &mut Collection, heap: &mut Heap, m: u8, op: &Op) -> Result<Reply, NoMemory>
     requires belongs { BelongsTo heap.old collection.old }
     requires mutator { m < heap.old.mutators }
@@ -50,7 +50,7 @@ fn mutate(collection: &mut Collection, heap: &mut Heap, m: u8, op: &Op) -> Resul
     Ok(collection.mutate(heap, m, op))
 }
 
-/// Flips, and hands back the pairs and the new roots.
+/// Flips, and returns the pairs and the new roots.
 fn flip(
     alloc: Global,
     collection: Collection,

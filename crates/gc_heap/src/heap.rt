@@ -7,7 +7,7 @@ use std::alloc::Global;
 use std::marker::Model;
 use std::mem;
 
-/// The header of a new object.
+/// Returns the header of a new object.
 fn header_of(raw: bool, kind: u8, len: u16) -> Header
     ensures { result ≡ record { raw = raw; kind = kind; len = len } }
 {
@@ -18,8 +18,11 @@ fn header_of(raw: bool, kind: u8, len: u16) -> Header
     }
 }
 
-/// The heap that mutators work on: objects in a space, and the roots of 1 to 16 mutators. Its space and its
-/// roots are made at once; no command takes memory.
+/// The mutators' heap: objects in a space, and the roots of 1 to 16 mutators. `new` allocates the space and the roots; no
+/// command allocates.
+///
+/// Each object has a link word beside its fields. A collector keeps the object's replica in it, so it needs no table. No command
+/// reads or writes a link.
 #[derive(Debug, Drop)]
 pub struct Heap {
     space: Space,
@@ -74,7 +77,7 @@ impl Heap {
         })
     }
 
-    /// The space and the roots as they are, links included.
+    /// Returns the image of the space and the roots, including links.
     pub fn image(&self) -> ImageRef<'_>
         ensures value { views.image_of result ≡ image_of self.now }
         ensures sound { IsHeap self.now }
@@ -82,7 +85,7 @@ impl Heap {
         self.space.image(&self.roots)
     }
 
-    /// How many mutators there are.
+    /// Returns the number of mutators, 1 to 16.
     pub fn mutators(&self) -> u8
         ensures value { result ≡ self.now.mutators }
         ensures sound { IsHeap self.now }
@@ -90,7 +93,7 @@ impl Heap {
         self.mutators
     }
 
-    /// The objects.
+    /// Returns the space with the objects.
     pub fn space(&self) -> &Space
         ensures value { result.now ≡ self.now.space }
         ensures sound { IsHeap self.now }
@@ -98,7 +101,7 @@ impl Heap {
         &self.space
     }
 
-    /// The root words: those of the shared slots first, then those of each mutator.
+    /// Returns the root words: those of the shared slots first, then those of each mutator.
     pub fn roots(&self) -> &[u64]
         ensures value { result.now ≡ self.now.roots }
         ensures sound { IsHeap self.now }
@@ -106,7 +109,7 @@ impl Heap {
         &self.roots
     }
 
-    /// The object that mutator m's slot refers to.
+    /// Returns the object that a slot of mutator `m` refers to.
     pub fn target(&self, m: u8, slot: Slot) -> Option<OldAddr>
         requires { m < self.now.mutators }
         ensures name { option_map (λ a. a.0) result ≡ name_of (root (graph_in self.now) (place_of slot m)) }
@@ -117,7 +120,7 @@ impl Heap {
         Some(OldAddr(at.0))
     }
 
-    /// Makes mutator m's command.
+    /// Performs a command of mutator `m`. Does not allocate.
     pub fn apply(&mut self, m: u8, op: &Op) -> Reply
         requires { m < self.old.mutators }
         // The name of a new object is the end of the space.
@@ -158,7 +161,7 @@ impl Heap {
         self.space.set_link(Addr(old.0), u64::from(new.0));
     }
 
-    /// Makes all link words 0.
+    /// Sets all link words to 0.
     pub fn clear_links(&mut self)
         ensures words { self.new ≡ record self.old { space = without_links self.old.space } }
         ensures graph { graph_in self.new ≡ graph_in self.old }
@@ -167,7 +170,7 @@ impl Heap {
         self.space.clear_links();
     }
 
-    /// Puts another space and other roots in place, and hands the former ones back.
+    /// Replaces the space and the roots, and returns the former ones.
     pub fn replace(&mut self, space: Space, roots: Vec<u64>) -> (Space, Vec<u64>)
         requires { IsHeap (record self.old { space = space; roots = roots.items }) }
         ensures heap { self.new ≡ record self.old { space = space; roots = roots.items } }
@@ -179,7 +182,7 @@ impl Heap {
         (former_space, former_roots)
     }
 
-    /// A new object in a root, where it has room.
+    /// Makes a new object in root `d`, if it has room.
     fn make(&mut self, place: usize, raw: bool, kind: u8, len: u16) -> Reply
         requires { place < length self.old.roots }
         ensures step { (result, roomy_in self.new) ≡ make_object (roomy_in self.old) place raw kind len (end_of self.old.space) }
@@ -208,7 +211,7 @@ impl Heap {
         Reply::Done
     }
 
-    /// Root `d` takes field `i` of the object that root `s` refers to.
+    /// Sets root `d` to field `i` of the object that root `s` refers to.
     fn get(&mut self, d: usize, s: usize, i: u16) -> Reply
         requires taker { d < length self.old.roots }
         requires giver { s < length self.old.roots }
@@ -231,7 +234,7 @@ impl Heap {
         Reply::Saw(view(&self.space, word))
     }
 
-    /// Field `i` of the object that root `s` refers to takes what root `t` holds.
+    /// Sets field `i` of the object that root `s` refers to to what root `t` holds.
     fn put(&mut self, s: usize, i: u16, t: usize) -> Reply
         requires target { s < length self.old.roots }
         requires giver { t < length self.old.roots }
@@ -257,7 +260,7 @@ impl Heap {
         Reply::Done
     }
 
-    /// Whether two roots hold the same: values are the same where their words are.
+    /// Returns whether two roots hold the same value. Equal values have equal words.
     fn same(&self, s: usize, t: usize) -> Reply
         requires one { s < length self.now.roots }
         requires other { t < length self.now.roots }

@@ -1,5 +1,4 @@
-//! The mutators' heap: a space of words and roots, on which commands do what the machine without a
-//! collector says.
+//! The mutators' heap: a space of words and roots. Each command does exactly what the machine without a collector does.
 #![tactic(auto)]
 
 mod heap;

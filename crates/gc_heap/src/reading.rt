@@ -1,4 +1,4 @@
-//! What is read of words, in a space in which all references are to starts.
+//! Reads words of a space in which all references are to starts.
 
 ghost use Rattle.std.specs.Prelude.{◌≡◌, ◌↔◌, Some, IsTrue, IsSome, IfSome, is_none, not, ◌&&◌, ◌<◌, ◌^◌};
 ghost use Rattle.std.specs.Option.{option_map};
@@ -12,7 +12,7 @@ ghost use Rattle.gc_words.specs.Closed.{IsRootWord, IsFieldWord};
 use gc_graph::View;
 use gc_words::{Addr, Header, Space, Value, decode};
 
-/// Whether the object that starts here has a field `i`.
+/// Returns whether the object that starts here has a field `i`.
 pub fn has_field(space: &Space, at: Addr, i: u16) -> bool
     requires start { IsTrue (is_start space.now.words at.0) }
     requires shaped { IsSpace space.now }
@@ -21,7 +21,7 @@ pub fn has_field(space: &Space, at: Addr, i: u16) -> bool
     i < space.header(at).len()
 }
 
-/// What is seen of the value that a word is.
+/// Returns what a mutator sees of the value of a word.
 pub fn view(space: &Space, word: u64) -> View
     requires word { IsRootWord space.now.words word }
     requires shaped { IsSpace space.now }
@@ -46,7 +46,7 @@ pub fn view(space: &Space, word: u64) -> View
     }
 }
 
-/// The root word for what a field word of an object with this header means.
+/// Returns the root word with the value of a field word of an object with this header.
 pub fn root_word(space: &Space, header: Header, field: u64) -> u64
     requires { IsFieldWord space.now.words header field }
     ensures value { value_of result ≡ field_value header field }
@@ -59,8 +59,8 @@ pub fn root_word(space: &Space, header: Header, field: u64) -> u64
     }
 }
 
-/// The field word of an object with this header for what a root word means; None where a raw object would take what is
-/// no number.
+/// Returns the field word, in an object with this header, for the value of a root word. None if the object is raw and the
+/// value is no number.
 pub fn field_word(space: &Space, header: Header, word: u64) -> Option<u64>
     requires { IsRootWord space.now.words word }
     ensures refused { is_none result ≡ (header.raw && not (is_number (value_of word))) }
@@ -74,7 +74,7 @@ pub fn field_word(space: &Space, header: Header, word: u64) -> Option<u64>
     }
 }
 
-/// The number that a word is.
+/// Returns the number that a word encodes.
 fn number_of(word: u64) -> Option<u64>
     requires { IsTrue (is_value word) }
     ensures refused { is_none result ≡ not (is_number (value_of word)) }

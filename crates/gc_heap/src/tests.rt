@@ -8,7 +8,7 @@ use gc_words::{NewAddr, OldAddr, Space};
 use std::alloc::Global;
 use std::test::Fail;
 
-/// Makes a command of the first mutator and keeps its reply.
+/// Performs a command of the first mutator and keeps its reply.
 fn keep_reply(heap: &mut Heap, op: &Op, replies: &mut Vec<Reply>) -> Result<(), NoMemory>
     requires { 0 < heap.old.mutators }
     ensures { heap.new.mutators ≡ heap.old.mutators }
@@ -21,7 +21,7 @@ fn keep_reply(heap: &mut Heap, op: &Op, replies: &mut Vec<Reply>) -> Result<(), 
     }
 }
 
-/// The replies to one mutator's commands in a heap of `size` words.
+/// Returns the replies to one mutator's commands in a heap of `size` words.
 fn replies(alloc: Global, size: u32, commands: &[Op]) -> Result<Vec<Reply>, NoMemory>
     requires low { 1 ≤ size }
     requires high { size ≤ most_words }
@@ -34,7 +34,7 @@ fn replies(alloc: Global, size: u32, commands: &[Op]) -> Result<Vec<Reply>, NoMe
     Ok(replies)
 }
 
-/// The replies of the plain machine to the same commands.
+/// Returns the replies of the plain machine to the same commands.
 fn plain_replies(alloc: Global, size: u32, commands: &[Op]) -> Result<Vec<Reply>, NoMemory>
     requires low { 1 ≤ size }
     requires high { size ≤ most_words }

@@ -1,8 +1,8 @@
 ghost use Rattle.std.specs.Prelude.{◌≡◌, true, false, Some};
 ghost use Rattle.gc_words.specs.Word.{read_header, header_in, header_word};
 
-/// What stands first in an object: its kind, its number of fields, and whether these are plain numbers, so that the
-/// object is raw.
+/// The header of an object: its kind, its number of fields, and whether the object is raw, which means that its fields are
+/// plain numbers.
 #[derive(Clone, Copy, Debug, PartialEq, Eq)]
 pub struct Header {
     raw: bool,
@@ -10,16 +10,16 @@ pub struct Header {
     len: u16,
 }
 
-/// The least header word: kind 0 without fields.
+/// The smallest header word: kind 0, no fields.
 const FIRST: u64 = 16_777_216;
 
-/// The least header word of a raw object.
+/// The smallest header word of a raw object.
 const FIRST_RAW: u64 = 50_331_648;
 
-/// How many words are headers, of raw objects or of the others.
+/// The number of header words of raw objects, and also of the others.
 const HEADERS: u64 = 16_777_216;
 
-/// The distance between the words of two kinds, as many as there are lengths.
+/// The distance between the header words of two kinds: the number of lengths.
 const LENGTHS: u64 = 65_536;
 
 impl Header {
@@ -33,7 +33,7 @@ impl Header {
         }
     }
 
-    /// The header of a raw object.
+    /// Returns the header of a raw object.
     pub fn new_raw(kind: u8, len: u16) -> Header
         ensures { result ≡ record { raw = true; kind = kind; len = len } }
     {
@@ -44,7 +44,7 @@ impl Header {
         }
     }
 
-    /// The header that a word is; None for a word that is no header.
+    /// Decodes a header word; None for any other word.
     pub fn read(word: u64) -> Option<Header>
         ensures { result ≡ read_header word }
     {
@@ -65,7 +65,7 @@ impl Header {
         }
     }
 
-    /// The header that a word is, where those of raw objects count or not.
+    /// Decodes a header word. `raws` says whether headers of raw objects count.
     pub(crate) fn read_in(word: u64, raws: bool) -> Option<Header>
         ensures { result ≡ header_in raws word }
     {
@@ -76,7 +76,7 @@ impl Header {
         Some(header)
     }
 
-    /// The word that is read as this header.
+    /// Encodes the header: `read` decodes the word to it.
     pub fn word(self) -> u64
         ensures word { result ≡ header_word self }
         ensures read_back { read_header result ≡ Some self }
@@ -85,7 +85,7 @@ impl Header {
         first + LENGTHS * u64::from(self.kind) + u64::from(self.len)
     }
 
-    /// Whether the fields are plain numbers.
+    /// Returns whether the fields are plain numbers.
     pub fn is_raw(self) -> bool
         ensures { result ≡ self.raw }
     {
@@ -98,7 +98,7 @@ impl Header {
         self.kind
     }
 
-    /// The number of fields.
+    /// Returns the number of fields.
     pub fn len(self) -> u16
         ensures { result ≡ self.len }
     {

@@ -1,22 +1,23 @@
 use crate::value::{NewAddr, OldAddr};
 
-/// The most roots of an image: sixteen slots that mutators share, and sixteen of each of sixteen mutators.
+/// The maximum number of roots of an image: 16 shared slots, and 16 of each of 16 mutators.
 pub const MOST_ROOTS: usize = 272;
 
-/// The most pairs of a certificate: no space has more objects, since each takes two words and word 0 is of none.
+/// The maximum number of pairs of a certificate. No space has more objects: each takes at least two words, and word 0 belongs
+/// to none.
 pub const MOST_PAIRS: usize = 524287;
 
-/// What a space holds, with roots beside it. A checker takes any: nothing is known of its numbers.
+/// A heap image: the words of a space, and roots. A checker takes any image; nothing is assumed about its numbers.
 #[derive(Clone, Copy, Debug)]
 pub struct ImageRef<'a> {
-    /// How many words the space has.
+    /// The size of the space in words.
     pub size: u32,
-    /// The first place that no object takes.
+    /// The end of the last object, which is the first free word.
     pub end: u32,
-    /// The words 0 to `end - 1`, links among them.
+    /// Words 0 to `end - 1`, including links.
     pub words: &'a [u64],
     pub roots: &'a [u64],
-    /// Whether headers of raw objects count. Heaps have raw objects.
+    /// Whether headers of raw objects count. They do in every heap of this crate.
     pub raws: bool,
 }
 

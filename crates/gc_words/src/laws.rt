@@ -1,4 +1,4 @@
-//! What follows from the definitions: the crates above cite these calls.
+//! Laws that follow from the definitions. The crates above cite them by these calls.
 
 ghost use Rattle.std.specs.Prelude.{◌≡◌, ◌≢◌, ◌<◌, ◌≤◌, ◌↔◌, ◌+◌, ◌-◌, ◌++◌, ◌∷◌, [], ℕ, Bool, List, length, Some, None, Ok, Err, IsOk, IsSome, IsTrue, replicate, slice_get, slice_index, slice_set};
 ghost use Rattle.std.specs.Option.{option_map};
@@ -16,42 +16,42 @@ ghost use Rattle.gc_words.specs.Rows.{WordRows, PairRows};
 ghost use Rattle.gc_words.specs.declared.header.Header.{Header};
 ghost use Rattle.gc_words.specs.declared.refusal.Refusal.{Refusal};
 
-/// The vectors and the worked rows hold of the definitions.
+/// The definitions give the worked examples.
 pub fn worked_rows()
     ensures words { WordRows }
     ensures pairs { PairRows }
 {}
 
-/// An image has no fault of shape exactly where it is shaped.
+/// An image has no fault of shape if and only if it is shaped.
 pub fn no_fault_where_shaped()
     ensures { (image : Image) → (shape_fault image ≡ None) ↔ IsShaped image }
 {}
 
-/// There is no first fault exactly where the certificate holds.
+/// A certificate has no first fault if and only if it holds.
 pub fn no_fault_where_certified()
     ensures { (old new : Image) (pairs : List (ℕ × ℕ))
         → (first_fault old new pairs ≡ None) ↔ Certified old new pairs }
 {}
 
-/// Of the first fault the condition fails at its place, and all conditions before it hold.
+/// The condition of the first fault fails at its place, and all conditions before it hold.
 pub fn first_fault_is_first()
     ensures { (old new : Image) (pairs : List (ℕ × ℕ)) (refusal : Refusal)
         → first_fault old new pairs ≡ Some refusal → IsFirstFault old new pairs refusal }
 {}
 
-/// Under a certificate that holds the graphs of the two images correspond.
+/// If a certificate holds, the graphs of the two images correspond.
 pub fn certified_graphs_correspond()
     ensures { (old new : Image) (pairs : List (ℕ × ℕ))
         → Certified old new pairs → Corresponding pairs (graph_of old) (graph_of new) }
 {}
 
-/// A walk that comes to its end where headers of raw objects do not count meets the same objects where they count.
+/// If a walk reaches the end when headers of raw objects do not count, it meets the same objects when they count.
 pub fn raws_change_no_objects()
     ensures { (raws : Bool) (words : List ℕ)
         → IsOk (walk_all raws words) → walk_all raws words ≡ walk_words words }
 {}
 
-/// What is written as a word is read back, and only a word that is written so is read.
+/// Decoding inverts encoding, and only encoded words decode.
 pub fn words_are_read_back()
     ensures value { (v : Value) → HasAddress v → read_value (word_of v) ≡ Some v }
     ensures value_word { (word : ℕ) (v : Value)
@@ -65,7 +65,7 @@ pub fn words_are_read_back()
         → read_header word ≡ Some h → IsHeader h × (header_word h ≡ word) }
 {}
 
-/// A walk goes on behind each object that it meets, and ends at the end or where it meets none.
+/// A walk continues behind each object that it meets, and stops at the end or where no object starts.
 pub fn walks_go_by_steps()
     ensures step { (words : List ℕ) (at next : ℕ)
         → at < length words → next_of words at ≡ Some next → StepsTo words at next }
@@ -74,8 +74,8 @@ pub fn walks_go_by_steps()
     ensures done { (words : List ℕ) (at : ℕ) → length words ≤ at → walk_from words at ≡ Ok [] }
 {}
 
-/// A space's words are those of its objects, back to back, with their links; and such words are walked,
-/// whatever the links.
+/// The words of a space are those of its objects, back to back, with their links. A walk over such words meets these objects,
+/// whatever the links are.
 pub fn spaces_are_spelled()
     ensures spelled { (space : SpaceWords)
         → IsSpace space → space.words ≡ spelled (link_at space.words) (blocks space.words) }
@@ -87,14 +87,13 @@ pub fn spaces_are_spelled()
         → link_at (spelled links entries) start ≡ links start }
 {}
 
-/// An object's header word is at its start, its field words are behind its link word, and it ends within
-/// the words.
+/// An object's header word is at its start, its field words follow its link word, and it ends within the words.
 pub fn objects_stand_at_their_starts()
     ensures { (words : List ℕ) (start : ℕ) (b : Block)
         → IsOk (walk_words words) → block_at words start ≡ Some b → StandsIn words start b }
 {}
 
-/// An object has as many fields as its header says.
+/// An object has the number of fields that its header gives.
 pub fn objects_have_their_fields()
     ensures block { (words : List ℕ) (start : ℕ) (h : Header)
         → header_at words start ≡ Some h
@@ -107,8 +106,8 @@ pub fn objects_have_their_fields()
         → h.len ≤ i → field_at words start i ≡ None }
 {}
 
-/// A space stays one when an object is placed at its end, when a field or a link is written and when the
-/// links are cleared; and what its objects are then.
+/// A space stays shaped when an object is placed at its end, when a field or a link is written, and when links are cleared. The
+/// law also gives its objects afterwards.
 pub fn writes_keep_spaces()
     ensures placed { (space : SpaceWords) (h : Header) → CanPlace space h
         → (let after = with_object space h in IsSpace after
@@ -126,7 +125,7 @@ pub fn writes_keep_spaces()
         × (blocks after.words ≡ blocks space.words)) }
 {}
 
-/// Where the objects of a space end after a write, and how many words no object takes then.
+/// Gives the end of a space and its free words after a write.
 pub fn ends_after_writes()
     ensures placed { (space : SpaceWords) (h : Header)
         → end_of (with_object space h) ≡ end_of space + (h.len + 2) }
@@ -140,7 +139,7 @@ pub fn ends_after_writes()
         → IsSpace space → end_of (without_links space) ≡ end_of space }
 {}
 
-/// What is found at a start after a write, and at every other place.
+/// Gives what stands at a start after a write, and at every other place.
 pub fn objects_after_writes()
     ensures end { (space : SpaceWords)
         → IsSpace space → block_at space.words (end_of space) ≡ None }
@@ -157,8 +156,7 @@ pub fn objects_after_writes()
         → block_at (with_field_at space start i word).words other ≡ block_at space.words other }
 {}
 
-/// The links of objects after a write: a new object's is 0, a field leaves all as they are, a link the
-/// others.
+/// Gives the links after a write: that of a new object is 0; writing a field changes none; writing a link changes no other.
 pub fn links_after_writes()
     ensures placed { (space : SpaceWords) (h : Header)
         → link_at (with_object space h).words (end_of space) ≡ 0 }
@@ -178,7 +176,7 @@ pub fn links_after_writes()
         → link_at (without_links space).words start ≡ 0 }
 {}
 
-/// What is found in the graph of a space with roots: objects by their starts, their fields, and roots.
+/// Gives the graph of a space with roots: objects by their starts, their fields, and the roots.
 pub fn graphs_of_spaces()
     ensures empty { (size count : ℕ)
         → graph_of (image_with (empty_space size) (replicate count 0))
@@ -197,7 +195,7 @@ pub fn graphs_of_spaces()
         → root (graph_of (image_with space roots)) place ≡ value_of (slice_index roots place) }
 {}
 
-/// What writes do to the graph of a space with roots. Links are no part of it.
+/// Gives the graph of a space with roots after a write. Links are no part of it.
 pub fn graphs_after_writes()
     ensures placed { (space : SpaceWords) (h : Header) (roots : List ℕ) → CanPlace space h
         → graph_of (image_with (with_object space h) roots)
@@ -219,15 +217,15 @@ pub fn graphs_after_writes()
         ≡ set_root (graph_of (image_with space roots)) place (value_of word) }
 {}
 
-/// Where all references are to starts, no name that occurs is the place of the next object.
+/// If all references are to starts, no name that occurs is the address of the next object.
 pub fn end_is_unused()
     ensures { (space : SpaceWords) (roots : List ℕ)
         → IsSpace space → IsClosed space.words roots
         → IsUnused (graph_of (image_with space roots)) (end_of space) }
 {}
 
-/// All references stay to starts, whatever is written that is a value and refers to none but a start; and
-/// what is read is such a word.
+/// References stay references to starts when the written word is a value that refers only to a start. Each word that is read is
+/// such a word.
 pub fn references_stay_to_starts()
     ensures empty { (size count : ℕ) → IsClosed (empty_space size).words (replicate count 0) }
     ensures value { (words : List ℕ) (v : Value)

@@ -1,4 +1,4 @@
-//! Where the words of objects stand, and walks over them.
+//! The layout of objects in words, and walks over objects.
 
 ghost use Rattle.std.specs.Prelude.{◌≡◌, ◌<◌, ◌≤◌, ◌+◌, length, IsOk, slice_index};
 ghost use Rattle.gc_words.specs.Image.{walk_words, blocks, is_start};
@@ -23,7 +23,7 @@ pub fn field_index(at: Addr, i: u16) -> usize
     at.0 as usize + 2 + usize::from(i)
 }
 
-/// Whether an object starts at this place of a space's words.
+/// Returns whether an object starts at this place. Walks from the first object.
 pub(crate) fn has_start(words: &[u64], place: usize) -> bool
     requires { IsOk (walk_words words.now) }
     ensures { result ≡ is_start words.now place }
@@ -35,7 +35,7 @@ pub(crate) fn has_start(words: &[u64], place: usize) -> bool
     at < words.len() && at == place
 }
 
-/// Makes all links 0 in a space's words.
+/// Sets all links to 0.
 pub(crate) fn clear_links(words: &mut [u64])
     requires some { 1 ≤ length words.old }
     requires reserved { slice_index words.old 0 ≡ 0 }

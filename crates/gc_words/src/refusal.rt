@@ -1,24 +1,24 @@
-/// Why a certificate is refused. Pairs, fields and places of roots are counted from 0.
+/// Why a certificate is refused. Pairs, fields and roots are counted from 0.
 #[derive(Clone, Copy, Debug, PartialEq, Eq)]
 pub enum Refusal {
-    /// The old image is not shaped: at 0, or at the first address that has no object where one has to be.
+    /// The old image is not shaped. The place is 0, or the first address where an object has to start and none does.
     OldShape { at: u64 },
-    /// The same of the new image.
+    /// The new image is not shaped, in the same way.
     NewShape { at: u64 },
-    /// The images have not as many roots.
+    /// The images have different numbers of roots.
     RootCount,
-    /// The old address of pair `k` is no object's start.
+    /// No object starts at the old address of pair `k`.
     OldNotStart { k: u64 },
-    /// The new address of pair `k` is no object's start.
+    /// No object starts at the new address of pair `k`.
     NewNotStart { k: u64 },
-    /// The new address of pair `k` is not above that of the pair before.
+    /// The new address of pair `k` is not above that of the pair before it.
     NotRising { k: u64 },
     /// An earlier pair has the old address of pair `k`.
     Twice { k: u64 },
     /// The headers of the objects of pair `k` differ.
     HeaderDiffers { k: u64 },
-    /// Field `i` of the objects of pair `k` does not correspond, and it is the first that does not.
+    /// Field `i` of the objects of pair `k` is the first that does not correspond.
     FieldDiffers { k: u64, i: u64 },
-    /// The root words at this place do not correspond, and they are the first that do not.
+    /// The root words at this place are the first that do not correspond.
     RootDiffers { slot: u64 },
 }

@@ -10,12 +10,12 @@ use thiserror::Error;
 #[derive(Clone, Copy, Debug, PartialEq, Eq, Error)]
 #[error("not shaped")]
 pub struct ShapeFault {
-    /// The first address whose word is no header or whose object runs past the end. 0 where the words are
-    /// not as many as the end says, or the first is not 0.
+    /// The first address whose word is no header or whose object runs past the end; 0 if the number of words is not the end, or
+    /// if word 0 is not 0.
     pub at: u64,
 }
 
-/// Whether these are the words of a space up to its end: a reserved 0, and from 1 on objects back to back. `raws` says
+/// Checks that these are the words of a space up to its end: a reserved 0, and objects back to back from word 1. `raws` says
 /// whether headers of raw objects count.
 pub fn walk(words: &[u64], end: u32, raws: bool) -> Result<(), ShapeFault>
     requires { 1 ≤ end }
@@ -46,7 +46,7 @@ pub fn next_start(words: &[u64], at: usize) -> Option<usize>
     next_in(words, at, true)
 }
 
-// The same, where headers of raw objects count or not.
+// The same; `raws` says whether headers of raw objects count.
 fn next_in(words: &[u64], at: usize, raws: bool) -> Option<usize>
     requires { at < length words.now }
     ensures { result ≡ next_in raws words.now at }

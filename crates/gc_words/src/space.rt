@@ -7,12 +7,12 @@ use gc_graph::{NoMemory, object_words};
 use std::alloc::Global;
 use std::marker::Model;
 
-/// Objects back to back from 1 on, in the words of a space that has room for `size` of them. All that is
-/// ever placed finds its memory there since `new`.
+/// A space of up to `size` words, with objects back to back from word 1. `new` allocates all of its memory, so placing an object
+/// cannot fail.
 #[derive(Debug, Drop)]
 pub struct Space {
     size: u32,
-    // The words up to the end, links among them.
+    // The words up to the end, including links.
     words: Vec<u64>,
 }
 
@@ -39,7 +39,7 @@ impl Space {
     ghost use Rattle.gc_words.specs.Space.{IsSpace, empty_space, end_of, free_in, HasRoomFor, with_block, with_object, with_field_at, with_link, without_links, image_with};
     ghost use Rattle.gc_words.specs.Views.{image_of};
 
-    /// A space of so many words, without objects.
+    /// Returns an empty space of `size` words, 1 to `MOST_WORDS`.
     pub fn new(alloc: Global, size: u32) -> Result<Space, NoMemory>
         requires low { 1 ≤ size }
         requires high { size ≤ most_words }
@@ -53,7 +53,7 @@ impl Space {
         Ok(Space { size, words })
     }
 
-    /// How many words there may be.
+    /// Returns the size in words.
     pub fn size(&self) -> u32
         ensures value { result ≡ self.now.size }
         ensures shaped { IsSpace self.now }
@@ -61,7 +61,7 @@ impl Space {
         self.size
     }
 
-    /// The first place that no object takes.
+    /// Returns the end of the last object, which is the first free word.
     pub fn end(&self) -> u32
         ensures value { result ≡ end_of self.now }
         ensures shaped { IsSpace self.now }
@@ -69,7 +69,7 @@ impl Space {
         self.words.len() as u32
     }
 
-    /// How many words no object takes.
+    /// Returns the number of free words.
     pub fn free(&self) -> u32
         ensures value { result ≡ free_in self.now }
         ensures shaped { IsSpace self.now }
@@ -77,7 +77,7 @@ impl Space {
         self.size - self.end()
     }
 
-    /// The words up to the end, links among them.
+    /// Returns the words up to the end, including links.
     pub fn words(&self) -> &[u64]
         ensures value { result.now ≡ self.now.words }
         ensures shaped { IsSpace self.now }
@@ -85,22 +85,22 @@ impl Space {
         self.words.as_slice()
     }
 
-    /// Returns whether an object starts here. It walks over the objects before; no other call does. No event needs it:
-    /// it is for clients that hold an address of unknown origin, and for tests.
+    /// Returns whether an object starts here. Walks over the objects before it; no other call does. No event needs it: it is
+    /// for clients that hold an address of unknown origin, and for tests.
     pub fn is_start(&self, at: Addr) -> bool
         ensures { result ≡ is_start self.now.words at.0 }
     {
         has_start(&self.words, at.0 as usize)
     }
 
-    /// Whether an object with so many fields can be placed.
+    /// Returns whether an object with `len` fields has room.
     pub fn has_room(&self, len: u16) -> bool
         ensures { IsTrue result ↔ HasRoomFor self.now len }
     {
         object_words(len) <= self.free()
     }
 
-    /// Places an object at the end, with link 0 and all field words 0, and gives its address.
+    /// Places an object at the end, with link 0 and all field words 0, and returns its address.
     pub fn place(&mut self, header: Header) -> Addr
         requires { HasRoomFor self.old header.len }
         ensures at { result.0 ≡ end_of self.old }
@@ -118,7 +118,7 @@ impl Space {
         Addr(start as u32)
     }
 
-    /// Places a copy of another space's object at the end, with its field words and link 0, and gives its address.
+    /// Places a copy of another space's object at the end, with its field words and link 0, and returns its address.
     pub fn place_copy(&mut self, from: &Space, at: Addr) -> Addr
         requires start { IsTrue (is_start from.now.words at.0) }
         requires room { (h : Header) → header_at from.now.words at.0 ≡ Some h → HasRoomFor self.old h.len }
@@ -134,7 +134,7 @@ impl Space {
         Addr(start as u32)
     }
 
-    /// The header of the object that starts here.
+    /// Returns the header of the object that starts here.
     pub fn header(&self, at: Addr) -> Header
         requires { IsTrue (is_start self.now.words at.0) }
         ensures { header_at self.now.words at.0 ≡ Some result }
@@ -152,7 +152,7 @@ impl Space {
         Addr(next_start(&self.words, at.0 as usize).unwrap() as u32)
     }
 
-    /// The field words of the object that starts here.
+    /// Returns the field words of the object that starts here.
     pub fn fields(&self, at: Addr) -> &[u64]
         requires { IsTrue (is_start self.now.words at.0) }
         ensures value { (b : Block) → block_at self.now.words at.0 ≡ Some b → result.now ≡ b.fields }
@@ -163,7 +163,7 @@ impl Space {
         &self.words[start..end]
     }
 
-    /// Field word `i` of the object that starts here.
+    /// Returns field word `i` of the object that starts here.
     pub fn field(&self, at: Addr, i: u16) -> u64
         requires { IsSome (field_at self.now.words at.0 i) }
         ensures { field_at self.now.words at.0 i ≡ Some result }
@@ -182,7 +182,8 @@ impl Space {
         self.words[field_index(at, i)] = word;
     }
 
-    /// The link word of the object that starts here.
+    /// Returns the link word of the object that starts here. The collector uses it to find an object's replica or original;
+    /// no command reads it.
     pub fn link(&self, at: Addr) -> u64
         requires { IsTrue (is_start self.now.words at.0) }
         ensures { result ≡ link_at self.now.words at.0 }
@@ -200,7 +201,7 @@ impl Space {
         self.words[link_index(at.0 as usize)] = word;
     }
 
-    /// Makes all links 0.
+    /// Sets all links to 0.
     pub fn clear_links(&mut self)
         ensures words { self.new ≡ without_links self.old }
         ensures objects { blocks self.new.words ≡ blocks self.old.words }
@@ -223,7 +224,7 @@ impl Space {
         }
     }
 
-    /// The words up to the end, without the room behind it.
+    /// Returns the words up to the end, and drops the free ones.
     pub fn into_words(self) -> Vec<u64>
         ensures value { result.items ≡ self.words }
         ensures shaped { IsSpace self }

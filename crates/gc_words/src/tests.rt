@@ -75,7 +75,7 @@ fn raw_headers_count_where_they_should(rt: HostRuntime) {
     assert_eq!(rt; walk(&words, 4, false), Err(ShapeFault { at: 1 }));
 }
 
-/// A copy has the field words, whatever they look like, and no link.
+/// A copy has the field words, whatever they look like, and link 0.
 #[test]
 fn raw_object_is_copied(rt: HostRuntime) -> Result<(), Fail> {
     let mut from = Space::new(rt.alloc(), 9)?;

@@ -6,7 +6,7 @@ ghost use Rattle.gc_words.specs.Views.{graph_value};
 
 use gc_graph::Number;
 
-/// The place of a word in a space; any number, which the calls that take one restrict.
+/// The place of a word in a space. Any number is an `Addr`; the calls that take one restrict it.
 #[derive(Clone, Copy, Debug, PartialEq, Eq)]
 pub struct Addr(pub u32);
 
@@ -20,7 +20,7 @@ pub struct OldAddr(pub u32);
 #[derive(Clone, Copy, Debug, PartialEq, Eq)]
 pub struct NewAddr(pub u32);
 
-/// What a field or a root holds.
+/// The value of a field or a root.
 #[derive(Clone, Copy, Debug, PartialEq, Eq)]
 pub enum Value {
     Nil,
@@ -29,11 +29,11 @@ pub enum Value {
     Ref(Addr),
 }
 
-/// From here on an even word is no value: its address would have more than twenty bits.
+/// The smallest even word that is no value: its address would have more than 20 bits.
 const NO_REFERENCE: u64 = 2_097_152;
 
-/// The value that a word is: 0 is nil, `2n + 1` the number n, `2a` a reference to the address a, which is
-/// below 2^20. None for any other word.
+/// Decodes a word: 0 is nil, `2n + 1` the number n, `2a` a reference to the address a, which is below 2^20. None for any
+/// other word.
 pub fn decode(word: u64) -> Option<Value>
     ensures value { option_map graph_value result ≡ read_value word }
     ensures address { IfSome result (λ value. HasAddress (graph_value value)) }
@@ -60,7 +60,7 @@ pub fn target_of(word: u64) -> Option<Addr>
     }
 }
 
-/// The word that `decode` reads as this value.
+/// Encodes the value: `decode` reads the word as it.
 pub fn encode(value: Value) -> u64
     requires { HasAddress (graph_value value) }
     ensures word { result ≡ word_of (graph_value value) }

@@ -20,12 +20,12 @@ use crate::log::LogEntry;
 use gc_heap::Heap;
 use gc_words::{Addr, NewAddr, OldAddr, Space, Value, encode, target_of};
 
-/// A replica has to be placed, and the new space has no room for it.
+/// The new space has no room for a replica that has to be placed.
 #[derive(Debug, Drop)]
 pub(super) struct NoRoom;
 
 impl Collection {
-    /// The replica of an original, whose link tells it.
+    /// Returns the replica of an original, which the original's link names.
     pub(super) fn replica_of(&self, heap: &Heap, original: OldAddr) -> Option<NewAddr>
         requires belongs { BelongsTo heap.now self.now }
         requires start { IsTrue (is_start heap.now.space.words original.0) }
@@ -42,7 +42,7 @@ impl Collection {
         }
     }
 
-    /// The word with a reference to the replica in the place of one to the original.
+    /// Returns the word for the new space: a reference to an original becomes one to its replica.
     pub(super) fn moved_word(&self, heap: &Heap, word: u64) -> u64
         requires belongs { BelongsTo heap.now self.now }
         requires word { IsRootWord heap.now.space.words word }
@@ -58,7 +58,7 @@ impl Collection {
         }
     }
 
-    /// Places a fresh replica at the new end: the original's header, all fields nil, but those of a raw object as they are.
+    /// Places a replica at the new end. It has the original's header. Its fields are nil, or those of the original if it is raw.
     pub(super) fn place_replica(&mut self, heap: &mut Heap, original: OldAddr) -> Result<(), NoRoom>
         requires belongs { BelongsTo heap.old self.old }
         requires start { IsTrue (is_start heap.old.space.words original.0) }
@@ -81,7 +81,7 @@ impl Collection {
         Ok(())
     }
 
-    /// Sees to it that what the word refers to has a replica.
+    /// Places a replica of what the word refers to, unless it has one.
     pub(super) fn replicate_target(&mut self, heap: &mut Heap, word: u64) -> Result<(), NoRoom>
         requires belongs { BelongsTo heap.old self.old }
         requires word { IsRootWord heap.old.space.words word }
@@ -132,7 +132,7 @@ impl Collection {
         }
     }
 
-    /// The same of an object that is raw.
+    /// The same for a raw object.
     fn copy_field(&mut self, heap: &Heap, original: OldAddr, replica: NewAddr, field: u16)
         requires belongs { BelongsTo heap.now self.old }
         requires field { IsSome (field_at heap.now.space.words original.0 field) }
@@ -147,7 +147,7 @@ impl Collection {
         self.space.set_field(Addr(replica.0), field, word);
     }
 
-    /// The same of an object that is not.
+    /// The same for any other object.
     fn move_field(
         &mut self,
         heap: &mut Heap,
@@ -174,7 +174,7 @@ impl Collection {
         Ok(())
     }
 
-    /// Brings the entry's field up to date, or skips it where its object has no replica.
+    /// Brings the entry's field up to date, or skips it if its object has no replica.
     pub(super) fn apply_entry(&mut self, heap: &mut Heap, entry: LogEntry) -> Result<(), NoRoom>
         requires belongs { BelongsTo heap.old self.old }
         requires field { IsSome (field_at heap.old.space.words entry.object.0 entry.field) }
@@ -193,7 +193,7 @@ impl Collection {
     }
 }
 
-/// Places what a replica holds at first, and gives its address.
+/// Places the words of a fresh replica, and returns its address.
 fn place_fresh(space: &mut Space, heap: &Heap, original: OldAddr) -> Addr
     requires start { IsTrue (is_start heap.now.space.words original.0) }
     requires room { (h : Header) → header_at heap.now.space.words original.0 ≡ Some h → HasRoomFor space.old h.len }

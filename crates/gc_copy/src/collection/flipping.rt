@@ -16,7 +16,7 @@ use gc_words::{Addr, ImageRef, NewAddr, OldAddr, Pair, Space};
 use std::alloc::Global;
 
 impl Collection {
-    /// The certificate: each original with its replica, in the order of the replicas.
+    /// Returns the certificate: each original with its replica, in the order of the replicas. Allocates once.
     pub fn pairs(&self, alloc: Global) -> Result<Vec<Pair>, NoMemory>
         ensures few { IfOk result (λ pairs. length pairs.items < 2 ^ 32) }
         ensures pairs { IfOk result (λ pairs. map addresses pairs.items ≡ pairs_of (collection_in self.now)) }
@@ -24,7 +24,7 @@ impl Collection {
         linked_pairs(alloc, &self.space)
     }
 
-    /// The new space with these roots, links included.
+    /// Returns the image of the new space with these roots, including links.
     pub fn new_image<'a>(&'a self, roots: &'a [u64]) -> ImageRef<'a>
         ensures words { image_in result ≡ image_with self.now.space roots.now }
         ensures sound { IsCollection self.now }
@@ -32,8 +32,8 @@ impl Collection {
         self.space.image(roots)
     }
 
-    /// Lets the mutators go on in the new space with its links cleared and these roots, those of `new_roots`.
-    /// Hands the old space back, links included, and the old roots.
+    /// Switches the mutators to the new space, with its links cleared and with these roots, which `new_roots` returned. Returns
+    /// the old space, including links, and the old roots.
     pub fn flip_into(self, heap: &mut Heap, roots: Vec<u64>) -> (Space, Vec<u64>)
         requires belongs { BelongsTo heap.old self }
         requires ready { IsTrue (is_ready (collection_in self) (graph_in heap.old)) }

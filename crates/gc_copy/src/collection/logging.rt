@@ -10,7 +10,7 @@ use gc_graph::NoMemory;
 use gc_words::OldAddr;
 
 impl Collection {
-    /// Makes room in mutator m's log for one entry more. No entry changes, and no log loses room.
+    /// Makes room for one more entry in mutator `m`'s log. No entry changes, and no log loses room.
     pub fn reserve(&mut self, m: u8) -> Result<(), NoMemory>
         requires { m < length self.old.logs }
         ensures room { OnOk result (1 ≤ spare_of self.new m) }
@@ -22,7 +22,7 @@ impl Collection {
         self.logs[m as usize].reserve()
     }
 
-    /// Appends a field that mutator m wrote to its log. `reserve` has made the room.
+    /// Logs a field that mutator `m` wrote. `reserve` has made the room.
     pub fn note(&mut self, m: u8, object: OldAddr, field: u16)
         requires log { m < length self.old.logs }
         requires room { 1 ≤ spare_of self.old m }
@@ -36,7 +36,7 @@ impl Collection {
         self.logs[m as usize].note(LogEntry { object, field });
     }
 
-    /// The least number of a mutator whose log has an entry.
+    /// Returns the first mutator whose log has an entry.
     pub fn next_log(&self) -> Option<u8>
         ensures { result ≡ first_log 0 (collection_in self.now).logs }
     {

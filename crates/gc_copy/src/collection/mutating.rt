@@ -13,8 +13,8 @@ use gc_graph::{Op, Reply};
 use gc_heap::Heap;
 
 impl Collection {
-    /// Makes mutator m's command and logs the field that it wrote, if any: the write barrier. Only a `Put` needs room
-    /// in the log, which `reserve` makes.
+    /// Performs a command of mutator `m`, and logs the field that it wrote, if any (the write barrier). Only a `Put` needs room in
+    /// the log, which `reserve` makes.
     pub fn mutate(&mut self, heap: &mut Heap, m: u8, op: &Op) -> Reply
         requires belongs { BelongsTo heap.old self.old }
         requires mutator { m < heap.old.mutators }
@@ -35,7 +35,7 @@ impl Collection {
     }
 }
 
-// The field that the command writes, if it is answered `Done`.
+// Returns the field that the command writes if its reply is `Done`.
 fn put_field(heap: &Heap, m: u8, op: &Op) -> Option<LogEntry>
     requires { m < heap.now.mutators }
     ensures { option_to_list (option_map entry_in result) ≡ written (graph_in heap.now) m op.now Reply.Done }
@@ -49,7 +49,7 @@ fn put_field(heap: &Heap, m: u8, op: &Op) -> Option<LogEntry>
     }
 }
 
-// What was written, by the answer.
+// Returns the field that was written, given the reply.
 fn written_field(put: Option<LogEntry>, reply: &Reply) -> Option<LogEntry>
     ensures { option_map entry_in result ≡ if_done reply.now (option_map entry_in put) }
 {

@@ -15,7 +15,7 @@ use gc_words::{OldAddr, target_of};
 use std::alloc::Global;
 
 impl Collection {
-    /// Whether the target of each root has a replica.
+    /// Returns whether the target of each root has a replica.
     pub fn roots_done(&self, heap: &Heap) -> bool
         requires { BelongsTo heap.now self.now }
         ensures { result ≡ roots_done_in (collection_in self.now) (graph_in heap.now) }
@@ -23,7 +23,7 @@ impl Collection {
         self.root_target(heap).is_none()
     }
 
-    /// The target of the first root whose target has no replica.
+    /// Returns the target of the first root whose target has no replica.
     pub(super) fn root_target(&self, heap: &Heap) -> Option<OldAddr>
         requires { BelongsTo heap.now self.now }
         ensures target { option_map (λ a. a.0) result ≡ root_target (collection_in self.now) (graph_in heap.now) }
@@ -37,7 +37,7 @@ impl Collection {
         None
     }
 
-    /// What a word refers to, where that has no replica.
+    /// Returns what a word refers to, if that has no replica.
     fn target_without_replica(&self, heap: &Heap, word: u64) -> Option<OldAddr>
         requires belongs { BelongsTo heap.now self.now }
         requires word { IsRootWord heap.now.space.words word }
@@ -52,7 +52,7 @@ impl Collection {
         Some(target)
     }
 
-    /// The root words after a flip: each reference is to the replica.
+    /// Returns the root words after a flip: each reference is to the replica. Allocates once.
     pub fn new_roots(&self, alloc: Global, heap: &Heap) -> Result<Vec<u64>, NoMemory>
         requires belongs { BelongsTo heap.now self.now }
         requires done { IsTrue (roots_done_in (collection_in self.now) (graph_in heap.now)) }

@@ -16,8 +16,8 @@ use gc_heap::Heap;
 use gc_words::{Header, NewAddr, OldAddr};
 
 impl Collection {
-    /// Replicates the target of the first root whose target has no replica: `Copied`, `NoRoom`, or `Clean` where
-    /// there is none.
+    /// Replicates the target of the first root whose target has no replica: `Copied`, `NoRoom`, or `Clean` if there is none. Does
+    /// not allocate.
     pub fn roots(&mut self, heap: &mut Heap) -> StepReply
         requires { BelongsTo heap.old self.old }
         ensures step { collect (open_state heap.old self.old) Step.Roots ≡ (result, open_state heap.new self.new) }
@@ -38,8 +38,8 @@ impl Collection {
         }
     }
 
-    /// Brings the field at the scan pointer up to date: `Scanned`, or `NoRoom`; or goes on to the next replica:
-    /// `Passed`, at once from a raw one. `Clean` where all is scanned.
+    /// Brings the field at the scan pointer up to date (`Scanned` or `NoRoom`), or moves on to the next replica (`Passed`; at once
+    /// from a raw one). Returns `Clean` if all is scanned. Does not allocate.
     pub fn scan(&mut self, heap: &mut Heap) -> StepReply
         requires { BelongsTo heap.old self.old }
         ensures step { collect (open_state heap.old self.old) Step.Scan ≡ (result, open_state heap.new self.new) }
@@ -71,8 +71,8 @@ impl Collection {
         }
     }
 
-    /// Takes the oldest entry out of mutator m's log and brings its field up to date, where its object has a
-    /// replica: `Applied`, or `NoRoom`, and then the entry stays. `Clean` where the log has no entry.
+    /// Removes the oldest entry of mutator `m`'s log, and brings its field up to date if its object has a replica: `Applied`. On
+    /// `NoRoom` the entry stays. Returns `Clean` if the log is empty. Does not allocate.
     pub fn apply_log(&mut self, m: u8, heap: &mut Heap) -> StepReply
         requires belongs { BelongsTo heap.old self.old }
         requires mutator { m < heap.old.mutators }
@@ -96,15 +96,14 @@ impl Collection {
         }
     }
 
-    /// Whether the scan pointer is at the new end.
+    /// Returns whether the scan pointer is at the new end.
     pub fn scan_done(&self) -> bool
         ensures { result ≡ scan_done_in (collection_in self.now) }
     {
         self.scan_place.0 == self.space.end()
     }
 
-    /// Whether nothing is left to do: no log has an entry, all is scanned, and the target of each root has a
-    /// replica.
+    /// Returns whether nothing is left to do: all logs are empty, all is scanned, and the target of each root has a replica.
     pub fn ready(&self, heap: &Heap) -> bool
         requires { BelongsTo heap.now self.now }
         ensures ready { result ≡ is_ready (collection_in self.now) (graph_in heap.now) }
@@ -121,7 +120,7 @@ impl Collection {
     }
 }
 
-/// Whether nothing is left to scan from this field on: of a raw object nothing ever is.
+/// Returns whether nothing is left to scan from this field on. A raw object has nothing to scan.
 fn is_scanned(header: Header, field: u16) -> bool
     ensures { result ≡ (header.raw || (field == header.len)) }
 {

@@ -1,5 +1,5 @@
-//! A refused growth, as `rt try --test --fail-alloc N` refuses the N-th, changes nothing: the same call made again
-//! is answered as where none was refused.
+//! A failed allocation, such as the N-th under `rt try --test --fail-alloc N`, changes nothing: the retried call gives the same
+//! reply as if every allocation had succeeded.
 
 ghost use Rattle.std.specs.Prelude.{◌≡◌, ◌<◌, ◌≤◌, IfOk, IsTrue};
 ghost use Rattle.gc_graph.specs.Limits.{most_words};
@@ -15,7 +15,7 @@ use gc_words::Pair;
 use std::alloc::Global;
 use std::test::Fail;
 
-/// A heap of 32 words without objects and with one mutator.
+/// Returns a heap of 32 words without objects, for one mutator.
 fn empty_again(alloc: Global) -> Result<Heap, NoMemory>
     ensures idle { IfOk result HasNoLinks }
     ensures mutators { IfOk result (λ heap. heap.mutators ≡ 1) }
@@ -48,7 +48,7 @@ fn begin_sized_again(alloc: Global, heap: &Heap, size: u32) -> Result<Collection
     }
 }
 
-/// Makes mutator m's command while the collection is open.
+/// Performs a command of mutator `m` while the collection is open.
 fn mutate_again(
     collection: &mut Collection,
     heap: &mut Heap,
