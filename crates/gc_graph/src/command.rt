@@ -1,25 +1,25 @@
 use crate::number::Number;
 use crate::slot::Slot;
 
-/// A mutator's command. `d` takes a value, `s` and `t` give one, `i` is a field's number from 0.
+/// A mutator's command. `d` is the slot that is set, `s` and `t` are slots that are read, and `i` is a field, counted from 0.
 #[derive(Clone, Copy, Debug, PartialEq, Eq)]
 pub enum Op {
-    /// A new object of this kind with `len` fields, all nil; `d` takes a reference to it.
+    /// Makes an object of this kind with `len` fields, all nil, and sets `d` to a reference to it.
     New { d: Slot, kind: u8, len: u16 },
-    /// The same with fields that are plain numbers, all 0, which no one scans.
+    /// Makes a raw object: its fields are plain numbers, all 0, and the collector does not scan them.
     NewRaw { d: Slot, kind: u8, len: u16 },
-    /// `d` takes the number.
+    /// Sets `d` to the number.
     Num { d: Slot, n: Number },
-    /// `d` takes nil.
+    /// Sets `d` to nil.
     Nil { d: Slot },
-    /// `d` takes what `s` holds.
+    /// Sets `d` to what `s` holds.
     Move { d: Slot, s: Slot },
-    /// `d` takes field `i` of the object that `s` refers to.
+    /// Sets `d` to field `i` of the object that `s` refers to.
     Get { d: Slot, s: Slot, i: u16 },
-    /// Field `i` of the object that `s` refers to takes what `t` holds.
+    /// Sets field `i` of the object that `s` refers to to what `t` holds.
     Put { s: Slot, i: u16, t: Slot },
-    /// Whether `s` and `t` hold the same: nil and nil, equal numbers, or one object.
+    /// Asks whether `s` and `t` hold the same value: nil and nil, equal numbers, or one object.
     Same { s: Slot, t: Slot },
-    /// What `s` holds.
+    /// Asks what `s` holds.
     Look { s: Slot },
 }

@@ -13,13 +13,13 @@ pub fn names_do_not_matter()
         → AreUnused s names commands → replies_by s names commands ≡ replies s commands }
 {}
 
-/// While both have room, graphs that correspond give the same replies.
+/// Graphs that correspond give the same replies while both have room.
 pub fn corresponding_graphs_reply_alike()
     ensures { (s t : Roomy) (pairs : List (ℕ × ℕ)) → Corresponding pairs s.graph t.graph → (commands : List (ℕ × Op)) (n : ℕ)
         → HasRoom s commands n → HasRoom t commands n → take n (replies s commands) ≡ take n (replies t commands) }
 {}
 
-/// The worked rows hold of the definitions.
+/// The definitions give the worked examples.
 pub fn worked_rows()
     ensures { Rows }
 {}

@@ -1,5 +1,4 @@
-//! What a mutator may ask and be answered, the machine without a collector that says what the answers
-//! mean, and the bytes that come in and go out.
+//! Mutator commands and replies, the machine without a collector that defines what they mean, and texts as bytes.
 #![tactic(auto)]
 
 mod command;

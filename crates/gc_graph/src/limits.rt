@@ -1,8 +1,8 @@
-/// The most words of a space.
+/// The maximum size of a space in words.
 pub const MOST_WORDS: u32 = 1048576;
 
-/// The most mutators of a heap.
+/// The maximum number of mutators.
 pub const MOST_MUTATORS: u8 = 16;
 
-/// The number of slots that all mutators share, and of those that each mutator has of its own.
+/// The number of shared slots, and also of each mutator's own slots.
 pub const SLOTS_EACH: u8 = 16;

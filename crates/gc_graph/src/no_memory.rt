@@ -1,6 +1,6 @@
 use thiserror::Error;
 
-/// A growth was refused, and what was called is as it was before.
+/// An allocation failed. The object that was called is unchanged.
 #[derive(Clone, Copy, Debug, PartialEq, Eq, Error)]
 #[error("no memory")]
 pub struct NoMemory;

@@ -1,6 +1,6 @@
 use std::marker::Model;
 
-/// A number that a value may be: 0 to 2^63 - 1.
+/// A number that a value can be: 0 to 2^63 - 1.
 #[derive(Clone, Copy, Debug, PartialEq, Eq)]
 pub struct Number {
     value: u64,
@@ -21,7 +21,7 @@ impl Model for Number {
 impl Number {
     ghost use Rattle.std.specs.Prelude.{◌≡◌, ◌<◌, ◌^◌, SomeIff};
 
-    /// The number, if it is below 2^63.
+    /// Returns the number if it is below 2^63.
     pub fn new(value: u64) -> Option<Number>
         ensures { SomeIff result (value < 2 ^ 63) value }
     {
@@ -38,7 +38,7 @@ impl Number {
         Number { value: 0 }
     }
 
-    /// The number as a `u64`.
+    /// Returns the number as a `u64`.
     pub fn get(self) -> u64
         ensures value { result ≡ self }
         ensures bound { result < 2 ^ 63 }

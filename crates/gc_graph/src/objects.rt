@@ -12,7 +12,7 @@ use crate::reply::{Reply, View};
 use std::alloc::{AllocError, Global};
 use std::collections::BTreeMap;
 
-/// What a root or a field holds: nil, a number, or an object's name.
+/// The value of a root or a field: nil, a number, or an object's name.
 #[derive(Clone, Copy, Debug, PartialEq, Eq)]
 pub enum PlainValue {
     Nil,
@@ -49,7 +49,7 @@ impl Record {
     }
 }
 
-/// What the fields of a new object hold.
+/// Returns what the fields of a new object hold.
 fn first_value(raw: bool) -> PlainValue
     ensures { plain_value result ≡ first_value raw }
 {
@@ -62,14 +62,14 @@ fn first_value(raw: bool) -> PlainValue
 
 type Records = BTreeMap<u64, Record>;
 
-/// The record of a name.
+/// Returns the object with this name.
 fn record_of(records: &Records, name: u64) -> Option<&Record>
     ensures { record_option (option_map (λ r. r.now) result) ≡ lookup (objects_of records.now.entries) name }
 {
     records.get(&name)
 }
 
-/// Writes a field of the named record, if there is one and it has this field.
+/// Writes a field of the named object, if the object exists and has the field.
 fn write_field(records: &mut Records, name: u64, i: u16, value: PlainValue) -> bool
     ensures there { result ≡ is_some (field_of (lookup (objects_of records.old.entries) name) i) }
     ensures objects { objects_of records.new.entries
@@ -97,7 +97,7 @@ pub struct Objects {
 }
 
 impl Objects {
-    /// What a root holds.
+    /// Returns what a root holds.
     pub fn root(&self, place: usize) -> PlainValue
         requires { place < length self.now.roots.items }
         ensures { plain_value result ≡ root_in (graph_of self.now) place }
@@ -115,7 +115,7 @@ impl Objects {
         Reply::Done
     }
 
-    /// A new object, under a name above all that name an object.
+    /// Makes an object, with a name above all names of objects.
     pub fn add(
         &mut self,
         alloc: Global,
@@ -134,7 +134,7 @@ impl Objects {
         Ok(())
     }
 
-    /// What is seen of a value.
+    /// Returns what a mutator sees of a value.
     pub fn view(&self, value: &PlainValue) -> View
         requires { AreShort (graph_of self.now) }
         ensures { result ≡ view_of (graph_of self.now).objects (plain_value value.now) }
@@ -149,7 +149,7 @@ impl Objects {
         }
     }
 
-    /// Whether two values are the same: nil and nil, equal numbers, or one object.
+    /// Returns whether two values are the same: nil and nil, equal numbers, or one object.
     fn same(&self, one: PlainValue, other: PlainValue) -> bool
         ensures { result ≡ same_in (graph_of self.now).objects (plain_value one) (plain_value other) }
     {
@@ -163,7 +163,7 @@ impl Objects {
         }
     }
 
-    /// The answer to whether two values are the same.
+    /// Returns the reply to whether two roots hold the same value.
     pub fn compare(&self, one: PlainValue, other: PlainValue) -> Reply
         ensures { result ≡ (if same_in (graph_of self.now).objects (plain_value one) (plain_value other) then Reply.Yes else Reply.No) }
     {
@@ -174,7 +174,7 @@ impl Objects {
         }
     }
 
-    /// Root `d` takes field `i` of the object that `target` refers to.
+    /// Sets root `d` to field `i` of the object that `target` refers to.
     pub fn get(&mut self, d: usize, target: PlainValue, i: u16) -> Reply
         requires root { d < length self.old.roots.items }
         requires short { AreShort (graph_of self.old) }
@@ -195,7 +195,7 @@ impl Objects {
         Reply::Saw(view)
     }
 
-    /// Field `i` of the object that `target` refers to takes the value.
+    /// Sets field `i` of the object that `target` refers to to the value.
     pub fn put(&mut self, target: PlainValue, i: u16, value: PlainValue) -> Reply
         ensures { let object = object_of (graph_of self.old).objects (plain_value target) in
             (result, graph_of self.new) ≡ put_field (graph_of self.old) (plain_value target) object (field_of object i) i (plain_value value) }

@@ -12,8 +12,8 @@ use std::alloc::Global;
 use std::collections::BTreeMap;
 use std::marker::Model;
 
-/// The machine without a collector: an object graph, and a count of free words. No other crate runs it but in tests;
-/// it is public so that clients can compare the replies of a heap with it.
+/// The machine without a collector: an object graph, and a count of free words. Other crates run it in tests only. It is public
+/// so that clients can compare a heap's replies with it.
 #[derive(Drop)]
 pub struct Plain {
     objects: Objects,
@@ -62,14 +62,14 @@ impl Plain {
         })
     }
 
-    /// The count of free words.
+    /// Returns the number of free words.
     pub fn free(&self) -> u32
         ensures { result ≡ self.now.free }
     {
         self.free
     }
 
-    /// Makes mutator m's command. Only a new object takes memory.
+    /// Performs a command of mutator `m`. Only a new object allocates; on `NoMemory` the machine is unchanged.
     pub fn apply(&mut self, m: u8, op: &Op) -> Result<Reply, NoMemory>
         requires { HasMutator self.old.graph m }
         ensures ok { IfOk result (λ reply. Answers self.old m op.now reply self.new) }
@@ -107,7 +107,7 @@ impl Plain {
         }
     }
 
-    /// Makes an object in a root, if there is room.
+    /// Makes an object in a root, if it has room.
     fn make(&mut self, place: usize, raw: bool, kind: u8, len: u16) -> Result<Reply, NoMemory>
         requires { place < length self.old.graph.roots }
         ensures ok { IfOk result (λ reply. Makes self.old place raw kind len reply self.new) }
@@ -128,7 +128,7 @@ impl Plain {
     }
 }
 
-/// Returns the number of words of an object with so many fields: its header, its link, and its fields.
+/// Returns the number of words of an object with `len` fields: its header, its link, and its fields.
 pub fn object_words(len: u16) -> u32
     ensures { result ≡ object_words len }
 {

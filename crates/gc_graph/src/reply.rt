@@ -1,6 +1,6 @@
 use crate::number::Number;
 
-/// What a mutator sees of a value: of an object its kind and its number of fields, and no address.
+/// What a mutator sees of a value. Of an object it sees the kind and the number of fields, but no address.
 #[derive(Clone, Copy, Debug, PartialEq, Eq)]
 pub enum View {
     Nil,
@@ -10,25 +10,25 @@ pub enum View {
     RawObj { kind: u8, len: u16 },
 }
 
-/// The answer to a mutator's command.
+/// The reply to a mutator's command.
 #[derive(Clone, Copy, Debug, PartialEq, Eq)]
 pub enum Reply {
-    /// There is no room for the new object, and nothing changed.
+    /// The new object has no room. Nothing changed.
     Full,
     /// The object was made.
     Made,
-    /// The value was taken.
+    /// The slot or the field was set.
     Done,
-    /// The slot does not refer to an object, and nothing changed.
+    /// The slot does not refer to an object. Nothing changed.
     NoObject,
-    /// The object has no such field, and nothing changed.
+    /// The object has no such field. Nothing changed.
     NoField,
-    /// The object is raw and the value is no number, and nothing changed.
+    /// The object is raw and the value is no number. Nothing changed.
     NoNumber,
-    /// This was seen.
+    /// The value that was seen.
     Saw(View),
-    /// The two are the same.
+    /// The two values are the same.
     Yes,
-    /// They are not.
+    /// The two values differ.
     No,
 }

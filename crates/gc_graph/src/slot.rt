@@ -61,14 +61,14 @@ impl Slot {
         }
     }
 
-    /// Whether all mutators share it.
+    /// Returns whether all mutators share the slot.
     pub fn is_shared(self) -> bool
         ensures { result ≡ self.shared }
     {
         self.shared
     }
 
-    /// Its number among the shared slots, or among a mutator's own.
+    /// Returns the slot's number among the shared slots, or among a mutator's own.
     pub fn index(self) -> u8
         ensures value { result ≡ self.index }
         ensures bound { result < slots_each }
@@ -76,7 +76,7 @@ impl Slot {
         self.index
     }
 
-    /// Where the list of roots has what mutator `m` calls by this slot.
+    /// Returns the place of mutator `m`'s slot in the list of roots.
     pub fn place(self, m: u8) -> usize
         ensures value { result ≡ place_of self m }
         ensures bound { result < roots_of (m + 1) }
@@ -90,7 +90,7 @@ impl Slot {
     }
 }
 
-/// Returns the number of roots of so many mutators: the shared slots, and then those of each mutator.
+/// Returns the number of roots of `mutators` mutators: the shared slots, and then those of each mutator.
 pub fn root_count(mutators: u8) -> usize
     ensures { result ≡ roots_of mutators }
 {

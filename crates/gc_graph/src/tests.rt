@@ -9,7 +9,7 @@ use std::io;
 use std::io::{ErrorKind, Read, Write};
 use std::test::Fail;
 
-/// Makes a command and keeps its reply.
+/// Performs a command and keeps its reply.
 fn keep_reply(plain: &mut Plain, op: &Op, replies: &mut Vec<Reply>) -> Result<(), NoMemory>
     requires { HasMutator plain.old.graph 0 }
     ensures { HasMutator plain.new.graph 0 }
@@ -23,7 +23,7 @@ fn keep_reply(plain: &mut Plain, op: &Op, replies: &mut Vec<Reply>) -> Result<()
     }
 }
 
-/// The replies to one mutator's commands in a space of `size` words.
+/// Returns the replies to one mutator's commands in a space of `size` words.
 fn replies(alloc: Global, size: u32, commands: &[Op]) -> Result<Vec<Reply>, NoMemory>
     requires low { 1 ≤ size }
     requires high { size ≤ most_words }
@@ -242,7 +242,7 @@ fn a_write_of_no_byte_is_a_failure_for_good(rt: HostRuntime) {
     assert_eq!(rt; sink.write(b"text"), Err(Failed));
 }
 
-/// How a stream fails where it fails once.
+/// How a stream that fails once does so.
 #[derive(Clone, Copy)]
 enum Hitch {
     /// By this error.
@@ -251,7 +251,7 @@ enum Hitch {
     NoByte,
 }
 
-/// Fails at its first call, and would go on at the next.
+/// Fails at its first call. The next call would succeed.
 #[derive(Drop)]
 struct Hesitant {
     hitch: Option<Hitch>,
@@ -294,7 +294,7 @@ impl Write for Hesitant {
     }
 }
 
-/// The errors after which another call may go well.
+/// The errors after which a retry can succeed.
 const PASSING: [ErrorKind; 3] = [
     ErrorKind::Interrupted,
     ErrorKind::WouldBlock,

@@ -1,4 +1,4 @@
-//! Texts as bytes: where they come from and where they go, and their lines, tokens and numbers.
+//! Texts as bytes: reading and writing them, and their lines, tokens and numbers.
 
 mod all_bytes;
 mod decimals;

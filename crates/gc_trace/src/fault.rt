@@ -2,7 +2,7 @@ use gc_graph::NoMemory;
 use gc_graph::text::{Message, ReadFault};
 use thiserror::Error;
 
-/// Why a trace is not read. Of a text it is the first fault from the top; lines are counted from 1.
+/// Why a trace cannot be read: the first fault of the text. Lines are counted from 1.
 #[derive(Clone, Copy, Debug, PartialEq, Eq, Error)]
 #[error("{}", self.message())]
 pub enum TraceFault {
@@ -10,11 +10,11 @@ pub enum TraceFault {
     Read,
     /// The text has more than 16777216 bytes.
     TooLarge,
-    /// Lines 1 and 2 are those of no trace.
+    /// Lines 1 and 2 are no heading of a trace.
     BadHeader,
-    /// This line is no line of an event, or lacks its line feed.
+    /// This line is no event's, or lacks its line feed.
     BadLine(u64),
-    /// This line is an event's, but of a mutator that there isn't.
+    /// This line is an event's, but its mutator does not exist.
     NoSuchMutator(u64),
     NoMemory,
 }
@@ -23,7 +23,7 @@ impl TraceFault {
     ghost use Rattle.std.specs.Prelude.{◌≡◌};
     ghost use Rattle.gc_trace.specs.FaultTexts.{trace_fault_text};
 
-    /// Returns what is said of the fault.
+    /// Returns the fault's text.
     pub fn message(&self) -> Message
         ensures { result ≡ trace_fault_text self.now }
     {
@@ -56,15 +56,15 @@ impl From<ReadFault> for TraceFault {
     }
 }
 
-/// Why a trace is not played.
+/// Why a trace cannot be played.
 #[derive(Clone, Copy, Debug, PartialEq, Eq, Error)]
 #[error("{}", self.message())]
 pub enum PlayFault {
-    /// It is not read; never `NoMemory`.
+    /// It cannot be read. Never `NoMemory`, which is a fault of its own.
     Trace(TraceFault),
     /// It has fewer flips.
     NoSuchFlip,
-    /// Memory was short, in reading too.
+    /// An allocation failed, while reading or while playing.
     NoMemory,
     /// The writer failed.
     Write,
@@ -74,7 +74,7 @@ impl PlayFault {
     ghost use Rattle.std.specs.Prelude.{◌≡◌};
     ghost use Rattle.gc_trace.specs.FaultTexts.{play_fault_text};
 
-    /// Returns what is said of the fault.
+    /// Returns the fault's text.
     pub fn message(&self) -> Message
         ensures { result ≡ play_fault_text self.now }
     {

@@ -14,7 +14,7 @@ ghost use Rattle.gc_copy.specs.Runs.{commands_of};
 ghost use Rattle.gc_trace.specs.Scripts.{scripts};
 ghost use Rattle.gc_trace.specs.declared.fault.TraceFault.{TraceFault};
 
-/// A text is read in one way: as one trace, or with one first fault.
+/// A text has one reading: one trace, or one first fault.
 pub fn texts_have_one_reading()
     ensures value { (t u : Recording) (text : List ℕ) → IsTextOf t text → IsTextOf u text → t ≡ u }
     ensures good { (t : Recording) (fault : TraceFault) (text : List ℕ) → IsReadAs t text → IsTraceFaultOf fault text → ⊥ }
@@ -22,8 +22,8 @@ pub fn texts_have_one_reading()
     ensures fault { (f g : TraceFault) (text : List ℕ) → IsTraceFaultOf f text → IsTraceFaultOf g text → f ≡ g }
 {}
 
-/// What is written of a world's history is read as its events, where the text is within the limit; and these get
-/// the answers that the history has.
+/// The text of a world's history is read as its events, if the text is within the limit. Played, they get the answers that the
+/// history has.
 pub fn written_is_read()
     ensures read { (size mutators : ℕ) (entries : List Entry)
         → IsHistory size mutators entries
@@ -33,7 +33,7 @@ pub fn written_is_read()
         → answers (written size mutators (events_of entries)) ≡ answers_of entries }
 {}
 
-/// The worked rows hold of the definitions.
+/// The definitions give the worked examples.
 pub fn worked_rows()
     ensures texts { TextRows }
     ensures sized { SizedRows }
@@ -41,20 +41,19 @@ pub fn worked_rows()
     ensures lines { LineRows }
 {}
 
-/// The worked row of a report holds of the definitions.
+/// The definitions give the worked example of a report.
 pub fn worked_report()
     ensures { ReportRows }
 {}
 
-/// Each pair of a flip was placed by a step of its own: a report has no more pairs than events.
+/// Each pair of a flip was placed by a step of its own. So a report has no more pairs than events.
 pub fn pairs_are_placed_by_steps()
     ensures { (size mutators : ℕ) (entries : List Entry) → IsHistory size mutators entries
         → (let report = report_of (answers_of entries) (state_after size mutators entries) in
         report.pairs ≤ report.events) }
 {}
 
-/// There is a script for each mutator, and its commands have numbers as a program's have them, where the events
-/// have.
+/// Each mutator has a script, and the numbers in its commands are in range if those of the events are.
 pub fn scripts_are_commands()
     ensures count { (mutators : ℕ) (events : List Event) → length (scripts mutators events) ≡ mutators }
     ensures commands { (m mutators : ℕ) (events : List Event)

@@ -1,5 +1,5 @@
-//! Traces as text: what mutators and the collector do, read and written line by line; and plays of them, to the lines
-//! of their answers, to a report, or to the pair of one of their flips.
+//! Traces: recorded events of mutators and the collector, as text. A trace is read, written and played, to its reply lines, to a
+//! report, or to the pair of one of its flips.
 #![tactic(auto)]
 
 mod fault;

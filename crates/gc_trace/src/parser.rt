@@ -12,13 +12,13 @@ use gc_world::Event;
 /// The newest version of the text.
 const NEWEST: u64 = 3;
 
-/// The version from which on a collection may have a size of its own.
+/// The first version in which a collection can have a size of its own.
 pub const SIZED: u8 = 2;
 
-/// The version from which on there are raw objects.
+/// The first version with raw objects.
 pub const RAW: u8 = 3;
 
-/// The slot that the token names.
+/// Returns the slot that the token names.
 #[tactic(auto, unfolding(crate::specs::Parsers::slot_of))]
 fn slot_in(token: &[u8]) -> Option<Slot>
     ensures { result ≡ slot_of token.now }
@@ -38,7 +38,7 @@ fn slot(tokens: &mut Tokens<'_>) -> Option<Slot>
     slot_in(tokens.next_token()?)
 }
 
-/// The command, if these were all of its tokens.
+/// Returns the command, if no token is left.
 #[tactic(auto, unfolding(gc_graph::specs::Tokens::end_of))]
 fn whole(tokens: &Tokens<'_>, op: Op) -> Option<Op>
     ensures { result ≡ end_of op tokens.now }
@@ -46,7 +46,7 @@ fn whole(tokens: &Tokens<'_>, op: Op) -> Option<Op>
     if tokens.is_empty() { Some(op) } else { None }
 }
 
-/// The step, if these were all of its tokens.
+/// Returns the step, if no token is left.
 #[tactic(auto, unfolding(gc_graph::specs::Tokens::end_of))]
 fn whole_step(tokens: &Tokens<'_>, step: Step) -> Option<Step>
     ensures { result ≡ end_of step tokens.now }
@@ -140,7 +140,7 @@ fn look_op(mut tokens: Tokens<'_>) -> Option<Op>
     whole(&tokens, Op::Look { s })
 }
 
-/// The command of these tokens.
+/// Parses a command.
 #[tactic(auto, unfolding(crate::specs::Parsers::op_of))]
 fn op(version: u8, mut tokens: Tokens<'_>) -> Option<Op>
     ensures { result ≡ op_of version tokens.entry }
@@ -169,7 +169,7 @@ fn op(version: u8, mut tokens: Tokens<'_>) -> Option<Op>
     }
 }
 
-/// The mutator and the command of these tokens.
+/// Parses a mutator and its command.
 #[tactic(auto, unfolding(crate::specs::Parsers::command_of))]
 fn command(version: u8, mut tokens: Tokens<'_>) -> Option<Event>
     ensures { result ≡ command_of version tokens.entry }
@@ -179,7 +179,7 @@ fn command(version: u8, mut tokens: Tokens<'_>) -> Option<Event>
     Some(Event::Mutate { m, op })
 }
 
-/// The beginning of a collection: of the size of the mutators' space, or of one of its own.
+/// Parses the beginning of a collection: without a size, or with one of its own.
 #[tactic(auto, unfolding(crate::specs::Parsers::begin_of))]
 fn begin(version: u8, mut tokens: Tokens<'_>) -> Option<Step>
     ensures { result ≡ begin_of version tokens.entry }
@@ -205,7 +205,7 @@ fn apply(mut tokens: Tokens<'_>) -> Option<Step>
     whole_step(&tokens, Step::Apply(k))
 }
 
-/// The step of these tokens.
+/// Parses a step.
 #[tactic(auto, unfolding(crate::specs::Parsers::step_of))]
 fn step(version: u8, mut tokens: Tokens<'_>) -> Option<Step>
     ensures { result ≡ step_of version tokens.entry }
@@ -228,7 +228,7 @@ fn step(version: u8, mut tokens: Tokens<'_>) -> Option<Step>
     }
 }
 
-/// The step of these tokens, as an event.
+/// Parses a step, as an event.
 #[tactic(auto, unfolding(crate::specs::Parsers::collect_of))]
 fn collect(version: u8, tokens: Tokens<'_>) -> Option<Event>
     ensures { result ≡ collect_of version tokens.entry }
@@ -237,7 +237,7 @@ fn collect(version: u8, tokens: Tokens<'_>) -> Option<Event>
     Some(Event::Collect(step))
 }
 
-/// The event of a line of such a version, which is given without its line feed.
+/// Parses an event's line in this version. The line is given without its line feed.
 #[tactic(auto, unfolding(crate::specs::Parsers::event_of))]
 pub fn event(version: u8, line: &[u8]) -> Option<Event>
     ensures { result ≡ event_of version (tokens_of line.now) }
@@ -253,7 +253,7 @@ pub fn event(version: u8, line: &[u8]) -> Option<Event>
     }
 }
 
-/// The version, of the first line.
+/// Parses the first line, and returns its version.
 #[tactic(auto, unfolding(crate::specs::Parsers::version_at, gc_graph::specs::Tokens::end_of))]
 pub fn version(line: &[u8]) -> Option<u8>
     ensures { result ≡ version_at (tokens_of line.now) }
@@ -267,7 +267,7 @@ pub fn version(line: &[u8]) -> Option<u8>
     Some(version)
 }
 
-/// The size of the space and the number of mutators, of the second line.
+/// Parses the second line, and returns the size of the space and the number of mutators.
 #[tactic(auto, unfolding(crate::specs::Parsers::sizes_of, gc_graph::specs::Tokens::end_of))]
 pub fn sizes(line: &[u8]) -> Option<(u32, u8)>
     ensures { result ≡ sizes_of (tokens_of line.now) }

@@ -15,8 +15,7 @@ use gc_graph::{Sink, Source};
 use std::alloc::Global;
 use std::io::{Read, Write};
 
-/// Plays the trace whose text the reader gives: writes the line of each answer, once the last event has run, and
-/// returns the report of the run.
+/// Plays the trace that the reader gives. Once the last event has run, writes the reply lines and returns the report of the run.
 pub fn play<R: Read, W: Write>(
     alloc: Global,
     reader: &mut Source<R>,
@@ -34,7 +33,7 @@ pub fn play<R: Read, W: Write>(
     ensures unwritten { result ≡ Err PlayFault.Write → sink_failed writer.new ≡ true }
     // Nothing goes out before the last event has run.
     ensures silent { OnErr result (result ≢ Err PlayFault.Write → writer.new ≡ writer.old) }
-    // What went out is a front of the reply lines.
+    // A prefix of the reply lines went out.
     ensures front { result ≡ Err PlayFault.Write → IfSome (bytes_left R.remaining reader.old) (λ text.
         PlaysFront text (bytes_written W.contents writer.old) (bytes_written W.contents writer.new)) }
 {
@@ -45,7 +44,7 @@ pub fn play<R: Read, W: Write>(
     }
 }
 
-/// Plays the trace whose text the reader gives, and writes the text of its report alone.
+/// Plays the trace that the reader gives, and writes the text of its report only.
 pub fn play_report<R: Read, W: Write>(
     alloc: Global,
     reader: &mut Source<R>,
@@ -63,7 +62,7 @@ pub fn play_report<R: Read, W: Write>(
     ensures unwritten { result ≡ Err PlayFault.Write → sink_failed writer.new ≡ true }
     // Nothing goes out before the last event has run.
     ensures silent { OnErr result (result ≢ Err PlayFault.Write → writer.new ≡ writer.old) }
-    // What went out is a front of the report's text.
+    // A prefix of the report's text went out.
     ensures front { result ≡ Err PlayFault.Write → IfSome (bytes_left R.remaining reader.old) (λ text.
         ReportsFront text (bytes_written W.contents writer.old) (bytes_written W.contents writer.new)) }
 {
@@ -75,8 +74,8 @@ pub fn play_report<R: Read, W: Write>(
     }
 }
 
-/// Runs the trace whose text the reader gives up to its n-th flip, counted from 1, and writes the text of that flip's
-/// pair: both images as the checker saw them, and the certificate.
+/// Plays the trace that the reader gives up to its n-th flip, counted from 1, and writes the text of that flip's pair: both
+/// images as the checker saw them, and the certificate.
 pub fn play_pair<R: Read, W: Write>(
     alloc: Global,
     n: u32,
@@ -98,7 +97,7 @@ pub fn play_pair<R: Read, W: Write>(
     ensures unwritten { result ≡ Err PlayFault.Write → sink_failed writer.new ≡ true }
     // Nothing goes out before the flip was found.
     ensures silent { OnErr result (result ≢ Err PlayFault.Write → writer.new ≡ writer.old) }
-    // What went out is a front of the pair's text.
+    // A prefix of the pair's text went out.
     ensures front { result ≡ Err PlayFault.Write → IfSome (bytes_left R.remaining reader.old) (λ text.
         PlaysPairFront n text (bytes_written W.contents writer.old) (bytes_written W.contents writer.new)) }
 {

@@ -49,7 +49,7 @@ pub enum Gather {
     Replies,
 }
 
-/// What a play of a trace leaves.
+/// The results of a play.
 #[derive(Debug, Drop)]
 pub struct Played {
     /// The reply lines, if they were gathered.
@@ -57,15 +57,15 @@ pub struct Played {
     pub report: Report,
 }
 
-/// Plays events one after the other in a heap of its own, and keeps no history: only what is counted of the
-/// answers and, if they are gathered, the reply lines.
+/// Plays events one after the other in a heap of its own. It keeps no history: only counts of the answers and, if they are
+/// gathered, the reply lines.
 #[derive(Drop)]
 pub struct Player {
     heap: CollectedHeap,
     // The counts so far, with the end and the free words of the empty heap.
     report: Report,
     gather: Gather,
-    // The reply lines so far: this text, and behind it what waits in the printer.
+    // The reply lines so far: this text, followed by the printer's buffer.
     text: Vec<u8>,
     printer: Printer,
 }
@@ -97,7 +97,7 @@ impl Player {
         })
     }
 
-    /// Plays one event more.
+    /// Plays one more event.
     fn take(&mut self, event: &Event) -> Result<(), NoMemory>
         requires event { IsEvent self.old.heap.mutators event.now }
         requires sound { IsState self.old.heap }
@@ -137,7 +137,7 @@ impl Player {
         Ok(())
     }
 
-    /// Returns what is left after the last event.
+    /// Returns the results after the last event.
     fn finish(self) -> Result<Played, NoMemory>
         requires sound { IsState self.heap }
         ensures report { (s : State) (events : List Event) → HasPlayed s events self

@@ -16,10 +16,10 @@ use gc_world::Event;
 use std::alloc::Global;
 use std::io::Read;
 
-/// The most bytes that a trace has as text.
+/// The maximum length of a trace text in bytes.
 const LIMIT: usize = 16777216;
 
-/// What the first two lines say.
+/// The contents of the first two lines.
 #[derive(Clone, Copy)]
 struct Heading {
     version: u8,
@@ -27,7 +27,7 @@ struct Heading {
     mutators: u8,
 }
 
-/// The first line without its line feed, and what follows it. None where there is no line feed.
+/// Returns the first line without its line feed, and what follows it. None if the text has no line feed.
 fn split_line(text: &[u8]) -> Option<(&[u8], &[u8])>
     ensures { MatchOption result (HasNo newline text.now)
         (λ parts. (text.now ≡ parts.0.now ++ newline ∷ parts.1.now) × HasNo newline parts.0.now) }
@@ -35,7 +35,7 @@ fn split_line(text: &[u8]) -> Option<(&[u8], &[u8])>
     cut(b'\n', text)
 }
 
-/// What the first two lines say, and what follows them.
+/// Parses the first two lines, and returns what follows them as well.
 fn split_heading(text: &[u8]) -> Option<(Heading, &[u8])>
     ensures { MatchOption result (HasNoHeading text.now)
         (λ found. IsHeading found.0.version found.0.size found.0.mutators
@@ -63,7 +63,7 @@ fn split_heading(text: &[u8]) -> Option<(Heading, &[u8])>
     ))
 }
 
-/// Whether the event's mutator, or that of its log, is one of so many.
+/// Returns whether the event's mutator, or that of its log, is below `mutators`.
 fn is_of(mutators: u8, event: &Event) -> bool
     requires { IsEvent newest event.now }
     ensures yes { result ≡ true → IsOf mutators event.now }
@@ -96,7 +96,7 @@ fn take_event(version: u8, front: &mut Front<'_>) -> Option<Event>
     Some(event)
 }
 
-/// The trace that the text spells.
+/// Parses a whole trace text.
 fn spelled_trace(alloc: Global, text: &[u8]) -> Result<Trace, TraceFault>
     requires { length text.now ≤ limit }
     ensures exact { MatchResult result
@@ -132,8 +132,8 @@ fn spelled_trace(alloc: Global, text: &[u8]) -> Result<Trace, TraceFault>
 }
 
 #[tactic(auto, using(crate::proofs::Ranges::in_range))]
-/// The trace whose text the reader gives up to its end, else the first fault. Where the text has more than
-/// 16777216 bytes, one byte more than these is read.
+/// Reads a trace text to its end. Returns the trace, or the first fault. Of a text of more than 16777216 bytes, one byte more
+/// than these is read.
 pub fn read_trace<R: Read>(alloc: Global, reader: &mut Source<R>) -> Result<Trace, TraceFault>
     ensures exact { IfSome (bytes_left R.remaining reader.old) (λ text.
         MatchResult result (λ t. IsReadAs (recording t) text) (λ fault. MayFail fault text)) }

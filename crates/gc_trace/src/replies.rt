@@ -11,10 +11,10 @@ use gc_graph::{Failed, Reply, Sink, View};
 use gc_world::{Answer, Entry};
 use std::io::Write;
 
-/// More bytes than the line of any answer has.
+/// More bytes than any reply line has.
 pub const LINE: usize = 64;
 
-/// The line of a `saw`.
+/// Prints the line of a `saw`.
 #[tactic(auto, unfolding(crate::specs::Replies::view_tokens))]
 fn print_view(printer: &mut Printer, view: &View)
     requires { length printer.old + 64 ≤ 16384 }
@@ -44,7 +44,7 @@ fn print_view(printer: &mut Printer, view: &View)
     }
 }
 
-/// The line of a mutator's reply.
+/// Prints the line of a mutator's reply.
 #[tactic(auto, unfolding(crate::specs::Replies::reply_tokens))]
 fn print_reply(printer: &mut Printer, reply: &Reply)
     requires { length printer.old + 64 ≤ 16384 }
@@ -63,7 +63,7 @@ fn print_reply(printer: &mut Printer, reply: &Reply)
     }
 }
 
-/// The line of an answer to a step.
+/// Prints the line of a reply to a step.
 #[tactic(auto, unfolding(crate::specs::Replies::step_reply_tokens))]
 fn print_step_reply(printer: &mut Printer, reply: StepReply)
     requires { length printer.old + 64 ≤ 16384 }
@@ -90,7 +90,7 @@ fn print_step_reply(printer: &mut Printer, reply: StepReply)
     }
 }
 
-/// The line of an answer.
+/// Prints the line of an answer.
 #[tactic(auto, unfolding(crate::specs::Replies::answer_tokens))]
 pub fn print_answer(printer: &mut Printer, answer: &Answer)
     requires { length printer.old + 64 ≤ 16384 }

@@ -6,38 +6,38 @@ use gc_words::Space;
 use gc_world::{Answer, World, runs_keep_states};
 use std::io::Write;
 
-/// What happened to a world, as numbers.
+/// What happened in a run, as numbers.
 #[derive(Clone, Copy, Debug, PartialEq, Eq)]
 pub struct Report {
-    /// All events.
+    /// The number of events.
     pub events: u64,
-    /// How many objects mutators made.
+    /// The number of objects that mutators made.
     pub made: u64,
-    /// How many new objects had no room.
+    /// The number of new objects that had no room.
     pub full: u64,
-    /// How many collections began.
+    /// The number of collections that began.
     pub begun: u64,
-    /// How many targets of roots were replicated.
+    /// The number of replicated targets of roots.
     pub copied: u64,
-    /// How many fields were scanned.
+    /// The number of scanned fields.
     pub scanned: u64,
-    /// How many entries of mutation logs were applied.
+    /// The number of applied log entries.
     pub applied: u64,
-    /// How many collections came to their flip.
+    /// The number of flips.
     pub flips: u64,
-    /// How many pairs of an original and its replica these flips had.
+    /// The number of pairs of all flips together.
     pub pairs: u64,
-    /// How many collections were given up.
+    /// The number of collections that ended without a flip.
     pub dropped: u64,
-    /// How many flips the checker refused.
+    /// The number of flips that the checker refused.
     pub refused: u64,
-    /// The first word of the mutators' space that no object takes, after the last event.
+    /// The first free word of the mutators' space after the last event.
     pub end: u64,
-    /// How many words of that space no object takes.
+    /// The number of free words of that space.
     pub free: u64,
 }
 
-/// A report in which nothing is counted.
+/// A report of no event.
 pub const NOTHING: Report = Report {
     events: 0,
     made: 0,
@@ -61,7 +61,7 @@ impl Report {
     ghost use Rattle.gc_world.specs.History.{unmarked};
     ghost use Rattle.gc_trace.specs.Internal.Report.{with_answer, FitsU64};
 
-    /// Nothing happened yet, and this is the mutators' space.
+    /// Returns a report of no event, in this space.
     pub(crate) fn of_space(space: &Space) -> Report
         ensures { result ≡ record {
           events = 0;
@@ -108,7 +108,7 @@ impl Report {
         self.events += 1;
     }
 
-    /// Counts a mutator's reply, beside the event.
+    /// Counts a mutator's reply, but not the event.
     fn count_reply(&mut self, reply: &Reply)
         requires { FitsU64 (with_answer self.old (Mutator reply.now)) }
         ensures { self.new ≡ record (with_answer self.old (Mutator reply.now)) { events = self.old.events } }
@@ -121,7 +121,7 @@ impl Report {
         }
     }
 
-    /// Counts the answer to a step, beside the event.
+    /// Counts the reply to a step, but not the event.
     fn count_step(&mut self, reply: &StepReply)
         requires { FitsU64 (with_answer self.old (Collector reply.now)) }
         ensures { self.new ≡ record (with_answer self.old (Collector reply.now)) { events = self.old.events } }
@@ -150,7 +150,7 @@ ghost use Rattle.gc_world.specs.History.{answers_of};
 ghost use Rattle.gc_world.specs.World.{present};
 ghost use Rattle.gc_trace.specs.Report.{report_of, report_text};
 
-/// What happened to the world, and how much room its mutators have.
+/// Returns the report of a world's history, and of the room that its mutators have.
 pub fn report_of(world: &World) -> Report
     ensures { result ≡ report_of (answers_of world.now.entries) (present world.now) }
 {
@@ -163,7 +163,7 @@ pub fn report_of(world: &World) -> Report
     report
 }
 
-/// Writes the report's lines, or a front of them before the writer fails.
+/// Writes the report's lines, or a prefix of them before the writer fails. Does not allocate.
 pub fn write_report<W: Write>(writer: &mut Sink<W>, report: &Report) -> Result<(), WriteFault>
     ensures ok { OnOk result (Appends
         (bytes_written W.contents writer.old) (bytes_written W.contents writer.new) (report_text report.now)) }
@@ -198,7 +198,7 @@ fn print_report(printer: &mut Printer, report: &Report)
     print_count(printer, b"free", report.free);
 }
 
-// A name, and how many there are of it.
+// Prints a name and a count.
 fn print_count(printer: &mut Printer, name: &[u8], count: u64)
     requires room { length printer.old + length name.now + 22 ≤ 16384 }
     ensures text { printer.new ≡ printer.old ++ line (name.now ∷ decimal count ∷ []) }

@@ -12,7 +12,7 @@ use gc_graph::NoMemory;
 use gc_world::{Event, World, histories_grow};
 use std::alloc::Global;
 
-/// Lets the event happen in the world. Where memory is wanting, it did not.
+/// Performs the event in the world. On `NoMemory` the world is unchanged.
 pub fn happen(world: &mut World, event: &Event) -> Result<(), NoMemory>
     requires { IsEvent world.old.mutators event.now }
     ensures happened { OnOk result (Happens world.old event.now world.new) }
@@ -31,7 +31,7 @@ pub fn happen(world: &mut World, event: &Event) -> Result<(), NoMemory>
     }
 }
 
-/// The world in which all events of the trace have happened, in order.
+/// Performs all events of the trace, in order, in a new world, and returns the world.
 pub fn run_trace(alloc: Global, trace: &Trace) -> Result<World, NoMemory>
     requires { IsInRange (recording trace.now) }
     ensures run { IfOk result (λ world. HasRun (recording trace.now) world) }

@@ -7,7 +7,7 @@ use gc_graph::{NoMemory, Op};
 use gc_world::Event;
 use std::alloc::Global;
 
-/// What each mutator does of the trace, in order, the collector's events passed over: a script for each mutator.
+/// Returns a script for each mutator: its commands in the trace, in order, without the collector's events.
 pub fn scripts_of(alloc: Global, trace: &Trace) -> Result<Vec<Vec<Op>>, NoMemory>
     ensures { IfOk result (λ made.
         map (λ script. script.items) made.items ≡ scripts trace.now.mutators trace.now.events.items) }
@@ -22,7 +22,7 @@ pub fn scripts_of(alloc: Global, trace: &Trace) -> Result<Vec<Vec<Op>>, NoMemory
     Ok(scripts)
 }
 
-// The commands of mutator m.
+// Returns the commands of mutator `m`.
 fn script_of(alloc: Global, m: u8, events: &[Event]) -> Result<Vec<Op>, NoMemory>
     ensures { IfOk result (λ script. script.items ≡ commands_of m events.now) }
 {

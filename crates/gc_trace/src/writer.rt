@@ -16,7 +16,7 @@ use std::io::Write;
 /// More bytes than any line of a trace has.
 const LINE: usize = 128;
 
-/// A number, behind a space.
+/// Prints a space and a number.
 fn number_token(printer: &mut Printer, n: u64)
     requires { length printer.old + 21 ≤ 16384 }
     ensures text { printer.new ≡ printer.old ++ space ∷ decimal n }
@@ -26,7 +26,7 @@ fn number_token(printer: &mut Printer, n: u64)
     printer.number(n);
 }
 
-/// A slot, behind a space.
+/// Prints a space and a slot.
 #[tactic(auto, unfolding(crate::specs::Grammar::slot))]
 fn slot_token(printer: &mut Printer, token: Slot)
     requires { length printer.old + 22 ≤ 16384 }
@@ -41,7 +41,7 @@ fn slot_token(printer: &mut Printer, token: Slot)
     printer.number(u64::from(token.index()));
 }
 
-/// Two slots, each behind a space.
+/// Prints two slots, each behind a space.
 fn two_slot_tokens(printer: &mut Printer, first: Slot, second: Slot)
     requires { length printer.old + 44 ≤ 16384 }
     ensures text { printer.new ≡ (printer.old ++ space ∷ slot first) ++ space ∷ slot second }
@@ -51,7 +51,7 @@ fn two_slot_tokens(printer: &mut Printer, first: Slot, second: Slot)
     slot_token(printer, second);
 }
 
-/// The line of mutator m's command.
+/// Prints the line of mutator `m`'s command.
 #[tactic(auto, unfolding(crate::specs::Grammar::op_tokens, crate::specs::Grammar::event_tokens, crate::specs::Grammar::event_line))]
 fn print_command(printer: &mut Printer, m: u8, op: &Op)
     requires { length printer.old + 128 ≤ 16384 }
@@ -108,7 +108,7 @@ fn print_command(printer: &mut Printer, m: u8, op: &Op)
     printer.bytes(b"\n");
 }
 
-/// The line of a step.
+/// Prints the line of a step.
 #[tactic(auto, unfolding(crate::specs::Grammar::step_tokens, crate::specs::Grammar::event_tokens, crate::specs::Grammar::event_line))]
 fn print_step(printer: &mut Printer, step: Step)
     requires { length printer.old + 128 ≤ 16384 }
@@ -133,7 +133,7 @@ fn print_step(printer: &mut Printer, step: Step)
     }
 }
 
-/// The line of an event.
+/// Prints the line of an event.
 fn print_event(printer: &mut Printer, event: &Event)
     requires { length printer.old + 128 ≤ 16384 }
     ensures { printer.new ≡ printer.old ++ event_line event.now }
@@ -144,7 +144,7 @@ fn print_event(printer: &mut Printer, event: &Event)
     }
 }
 
-/// Lines 1 and 2.
+/// Prints lines 1 and 2.
 #[tactic(auto, unfolding(crate::specs::Grammar::version_tokens, crate::specs::Grammar::size_tokens, crate::specs::Grammar::heading))]
 fn print_heading(printer: &mut Printer, version: u8, size: u32, mutators: u8)
     requires { printer.old ≡ [] }
@@ -159,7 +159,7 @@ fn print_heading(printer: &mut Printer, version: u8, size: u32, mutators: u8)
     printer.bytes(b"\n");
 }
 
-/// The version that brought the event's line.
+/// Returns the first version that has the event's line.
 fn version_of(event: &Event) -> u8
     ensures { result ≡ version_of event.now }
 {
@@ -173,7 +173,7 @@ fn version_of(event: &Event) -> u8
     }
 }
 
-/// The least version that has the lines of all events.
+/// Returns the first version that has the lines of all events.
 fn least_version(history: &[Entry]) -> u8
     ensures { result ≡ least_version (events_of history.now) }
 {
@@ -184,8 +184,8 @@ fn least_version(history: &[Entry]) -> u8
     version
 }
 
-/// Writes the trace of a history's events, or a front of it before the writer fails: the text, of the least version
-/// that has all its lines, for a space of `size` words and so many mutators. It takes no memory.
+/// Writes the trace of a history's events, or a prefix of it before the writer fails. The text is in the first version that has
+/// all its lines, for a space of `size` words and `mutators` mutators. Does not allocate.
 pub fn write_trace<W: Write>(
     writer: &mut Sink<W>,
     size: u32,

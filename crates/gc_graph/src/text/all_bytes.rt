@@ -7,23 +7,22 @@ use std::alloc::Global;
 use std::io::Read;
 use thiserror::Error;
 
-/// The most bytes that one read asks for. They lie on the stack, which may be small.
+/// The maximum number of bytes of one read. They lie on the stack, which may be small.
 const PIECE: usize = 8192;
 
-/// Why the bytes of a reader are not had.
+/// Why a reader's bytes could not be read.
 #[derive(Clone, Copy, Debug, PartialEq, Eq, Error)]
 pub enum ReadFault {
     #[error("cannot read")]
     Read,
-    /// There are more than the limit.
+    /// The reader has more bytes than the limit.
     #[error("too large")]
     TooLarge,
     #[error("no memory")]
     NoMemory,
 }
 
-/// All bytes up to the reader's end, of which there are at most `limit`. Of a reader with more, one byte
-/// more than the limit is read.
+/// Reads all bytes to the reader's end, at most `limit`. If the reader has more, one byte more than the limit is read.
 pub fn read_all<R: Read>(
     alloc: Global,
     reader: &mut Source<R>,

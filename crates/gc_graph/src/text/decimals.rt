@@ -7,7 +7,7 @@ ghost use Rattle.gc_graph.specs.Internal.Tokens.{IsDecimal};
 
 use core::dec2flt::read_digits;
 
-/// The least number of twenty digits.
+/// The smallest number of twenty digits.
 const LEAST_OF_TWENTY: u64 = 10000000000000000000;
 
 /// Returns whether the digits at the front of the text are the decimal of a number below 2^64. `count` is how many there are,

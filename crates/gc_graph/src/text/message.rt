@@ -31,7 +31,7 @@ impl Model for Message {
 impl Message {
     ghost use Rattle.std.specs.Prelude.{◌≡◌, ◌++◌, ◌+◌, ◌≤◌, length, decimal};
 
-    /// A text alone.
+    /// Returns a message without a number.
     pub fn text(text: &'static str) -> Self
         requires { length text.now ≤ 40 }
         ensures { result ≡ text.entry.now }
@@ -41,7 +41,7 @@ impl Message {
         }
     }
 
-    /// A text, and a number behind it.
+    /// Returns a text followed by a number.
     pub fn numbered(text: &'static str, n: u64) -> Self
         requires { length text.now ≤ 40 }
         ensures { result ≡ text.entry.now ++ decimal n }
@@ -51,7 +51,7 @@ impl Message {
         }
     }
 
-    /// Two texts, and a number behind each.
+    /// Returns two texts, each followed by a number.
     pub fn numbered_twice(first: &'static str, m: u64, second: &'static str, n: u64) -> Self
         requires first { length first.now ≤ 40 }
         requires second { length second.now ≤ 40 }
@@ -62,7 +62,7 @@ impl Message {
         }
     }
 
-    /// Appends the text to what waits in the printer.
+    /// Appends the text to the printer's buffer.
     #[tactic(auto, unfolding(crate::specs::Messages::text_of_form))]
     pub fn print(&self, printer: &mut Printer)
         requires { length printer.old + 120 ≤ 16384 }

@@ -6,7 +6,7 @@ use itoa::Buffer;
 use std::io::Write;
 use std::marker::Model;
 
-/// Text that waits to go out, up to 16 KiB. It takes no memory.
+/// A buffer of up to 16 KiB for text on its way out. Does not allocate.
 #[derive(Drop)]
 pub struct Printer {
     waiting: ArrayVec<u8, 16384>,
@@ -25,7 +25,7 @@ impl Printer {
     ghost use Rattle.std.specs.Io.KnownBytes.{Appends};
     ghost use Rattle.gc_graph.specs.Streams.{bytes_written, sink_failed, SendsFront, HasSent};
 
-    /// Nothing waits.
+    /// Returns an empty buffer.
     pub fn new() -> Self
         ensures { result ≡ [] }
     {
@@ -34,7 +34,7 @@ impl Printer {
         }
     }
 
-    /// Makes room for so many bytes: where there is too little, what waits goes out.
+    /// Makes room for `count` bytes: writes the buffer if it has too little.
     pub fn make_room<W: Write>(&mut self, writer: &mut Sink<W>, count: usize) -> Result<(), Failed>
         requires { count ≤ 16384 }
         ensures room { OnOk result (length self.new + count ≤ 16384) }
@@ -50,8 +50,8 @@ impl Printer {
         self.flush(writer)
     }
 
-    /// Makes room for so many bytes: where there is too little, what waits moves to the end of the text. On
-    /// `NoMemory` nothing has moved.
+    /// Makes room for `count` bytes: moves the buffer to the end of the text if it has too little. On `NoMemory` nothing has
+    /// moved.
     pub fn gather(&mut self, text: &mut Vec<u8>, count: usize) -> Result<(), NoMemory>
         requires { count ≤ 16384 }
         ensures room { OnOk result (length self.new + count ≤ 16384) }
@@ -64,7 +64,7 @@ impl Printer {
         Ok(())
     }
 
-    /// Moves what waits to the end of the text. On `NoMemory` nothing has moved.
+    /// Moves the buffer to the end of the text. On `NoMemory` nothing has moved.
     pub fn gather_all(&mut self, text: &mut Vec<u8>) -> Result<(), NoMemory>
         ensures empty { OnOk result (self.new ≡ []) }
         ensures moved { text.new.items ++ self.new ≡ text.old.items ++ self.old }
@@ -77,7 +77,7 @@ impl Printer {
         Ok(())
     }
 
-    /// The bytes wait, behind what waits already.
+    /// Appends the bytes.
     pub fn bytes(&mut self, text: &[u8])
         requires { length self.old + length text.now ≤ 16384 }
         ensures { self.new ≡ self.old ++ text.now }
@@ -85,7 +85,7 @@ impl Printer {
         let _ = self.waiting.try_extend_from_slice(text);
     }
 
-    /// The number's decimal waits, behind what waits already.
+    /// Appends the number's decimal.
     pub fn number(&mut self, n: u64)
         requires { length self.old + 20 ≤ 16384 }
         ensures text { self.new ≡ self.old ++ decimal n }
@@ -95,7 +95,7 @@ impl Printer {
         self.bytes(digits.format(n).as_bytes());
     }
 
-    /// Appends the text, and behind it the decimal of the number.
+    /// Appends the text and the number's decimal.
     pub fn numbered(&mut self, text: &[u8], n: u64)
         requires { length self.old + length text.now + 20 ≤ 16384 }
         ensures text { self.new ≡ self.old ++ (text.now ++ decimal n) }
@@ -105,7 +105,7 @@ impl Printer {
         self.number(n);
     }
 
-    /// What waits goes out.
+    /// Writes the buffer, and empties it.
     pub fn flush<W: Write>(&mut self, writer: &mut Sink<W>) -> Result<(), Failed>
         ensures empty { OnOk result (self.new ≡ []) }
         ensures ok { OnOk result (Appends

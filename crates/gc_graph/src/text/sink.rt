@@ -5,7 +5,7 @@ ghost use Rattle.std.specs.Io.KnownBytes.{Appends, WriteAppends};
 use crate::text::source::Failed;
 use std::io::Write;
 
-/// A writer that stays failed once it has failed.
+/// A writer. After a failure every call fails.
 #[derive(Drop)]
 pub struct Sink<W> {
     writer: W,
@@ -25,21 +25,21 @@ impl<W: Write> Sink<W> {
         }
     }
 
-    /// The writer, with what it holds.
+    /// Returns the writer.
     pub fn into_inner(self) -> W
         ensures { W.contents result ≡ bytes_written W.contents self }
     {
         self.writer
     }
 
-    /// Whether a write has failed.
+    /// Returns whether a write has failed.
     pub fn failed(&self) -> bool
         ensures { result ≡ sink_failed self.now }
     {
         self.failed
     }
 
-    /// One write of the writer, none once it has failed. It failed where it takes no byte.
+    /// Writes once; after a failure, not at all. A write of 0 bytes is a failure.
     pub fn write(&mut self, bytes: &[u8]) -> Result<usize, Failed>
         requires { 0 < length bytes.now }
         ensures bound { WritesAtMost result bytes.now }
@@ -61,7 +61,7 @@ impl<W: Write> Sink<W> {
         }
     }
 
-    /// Writes all of the text, or a front of it before the writer fails.
+    /// Writes all of the text, or a prefix of it before the writer fails.
     pub fn write_all(&mut self, text: &[u8]) -> Result<(), Failed>
         ensures ok { OnOk result (Appends
             (bytes_written W.contents self.old) (bytes_written W.contents self.new) text.now) }

@@ -5,12 +5,12 @@ ghost use Rattle.std.specs.Io.KnownBytes.{ReadConsumes};
 use std::io::Read;
 use thiserror::Error;
 
-/// A reader or a writer failed, by an error of any kind.
+/// A reader or a writer failed, with any error.
 #[derive(Clone, Copy, Debug, PartialEq, Eq, Error)]
 #[error("failed")]
 pub struct Failed;
 
-/// A reader that stays failed once it has failed.
+/// A reader. After a failure every call fails.
 #[derive(Drop)]
 pub struct Source<R> {
     reader: R,
@@ -30,14 +30,14 @@ impl<R: Read> Source<R> {
         }
     }
 
-    /// Whether a read has failed.
+    /// Returns whether a read has failed.
     pub fn failed(&self) -> bool
         ensures { result ≡ source_failed self.now }
     {
         self.failed
     }
 
-    /// One read of the reader, none once it has failed. 0 bytes are its end.
+    /// Reads once; after a failure, not at all. `Ok(0)` is the end of input.
     pub fn read(&mut self, buffer: &mut [u8]) -> Result<usize, Failed>
         ensures bound { ReadsAtMost result buffer.new }
         ensures bytes { ReadConsumes (bytes_left R.remaining self.old) (bytes_left R.remaining self.new) result buffer.new }

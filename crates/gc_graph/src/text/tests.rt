@@ -6,7 +6,7 @@ use std::io;
 use std::io::Read;
 use std::test::Fail;
 
-/// Gives so many zeroes, in pieces that grow from one byte, and then ends.
+/// A reader of zeroes, in pieces that grow from one byte.
 #[derive(Drop)]
 struct Zeroes {
     left: usize,
@@ -23,7 +23,7 @@ impl Read for Zeroes {
     }
 }
 
-/// How many bytes are had of `left`, and how many are left then.
+/// Returns how many bytes one read takes of `left`, and how many are left then.
 fn had(alloc: Global, left: usize, limit: usize) -> (Result<usize, ReadFault>, usize) {
     let mut source = Source::new(Zeroes { left, piece: 1 });
     let had = read_all(alloc, &mut source, limit).map(|bytes| bytes.len());

@@ -24,7 +24,7 @@ impl<'a> Tokens<'a> {
     ghost use Rattle.gc_graph.specs.Lines.{tokens_of};
     ghost use Rattle.gc_graph.specs.Tokens.{number_at, token_at};
 
-    /// All tokens of the line.
+    /// Starts at the first token of the line.
     pub fn new(line: &'a [u8]) -> Self
         ensures { result ≡ tokens_of line.entry.now }
     {
@@ -48,14 +48,14 @@ impl<'a> Tokens<'a> {
         }
     }
 
-    /// Whether no token is left.
+    /// Returns whether no token is left.
     pub fn is_empty(&self) -> bool
         ensures { IsTrue result ↔ (self.now ≡ []) }
     {
         self.rest.is_none()
     }
 
-    /// Takes a decimal, of a number that is at most this.
+    /// Takes the decimal of a number that is at most `most`.
     #[tactic(auto, unfolding(crate::specs::Tokens::number_at))]
     pub fn number(&mut self, most: u64) -> Option<u64>
         ensures value { MatchOption result (number_at most self.old ≡ None) (λ n. number_at most self.old ≡ Some (n, self.new)) }
@@ -64,7 +64,7 @@ impl<'a> Tokens<'a> {
         decimals::number(self.next_token()?, most)
     }
 
-    /// Takes this very token.
+    /// Takes the next token if it is this one.
     #[tactic(auto, unfolding(crate::specs::Tokens::token_at))]
     pub fn token(&mut self, wanted: &[u8]) -> Option<()>
         ensures { MatchOption result (token_at wanted.now self.old ≡ None) (λ _. token_at wanted.now self.old ≡ Some self.new) }
@@ -77,7 +77,7 @@ impl<'a> Tokens<'a> {
     }
 }
 
-/// As `cut`, byte by byte: tokens are short, so this is faster than a search that starts up for each.
+/// Splits like `cut`, byte by byte. Tokens are short, so this is faster than a search that has to start for each.
 fn cut_near(byte: u8, text: &[u8]) -> Option<(&[u8], &[u8])>
     ensures { MatchOption result (HasNo byte text.now)
         (λ parts. (text.now ≡ parts.0.now ++ byte ∷ parts.1.now) × HasNo byte parts.0.now) }

@@ -1,6 +1,5 @@
-//! A refused growth, as `rt try --test --fail-alloc N` refuses the N-th, is answered with want of memory before
-//! anything is written: the same call made again is answered as where none was refused. The texts and the writers
-//! need no memory.
+//! A failed allocation, such as the N-th under `rt try --test --fail-alloc N`, is reported before anything is written, and the
+//! retried call gives the same result as if every allocation had succeeded. The texts and the writers do not allocate.
 
 ghost use Rattle.std.specs.Prelude.{IfOk};
 ghost use Rattle.gc_trace.specs.Grammar.{IsInRange};
@@ -49,14 +48,14 @@ fn wide() -> Narrow {
     Narrow::new(512, End::Broken)
 }
 
-/// What is answered where the text's report is asked for, and the writer afterwards.
+/// Asks for the text's report. Returns the result, and the writer afterwards.
 fn reported(alloc: Global, text: &[u8]) -> (Result<Report, PlayFault>, Narrow) {
     let mut sink = Sink::new(wide());
     let answer = play_report(alloc, &mut Source::new(text), &mut sink);
     (answer, sink.into_inner())
 }
 
-/// What is answered where the pair of the text's first flip is asked for, and the writer afterwards.
+/// Asks for the pair of the text's first flip. Returns the result, and the writer afterwards.
 fn paired(alloc: Global, text: &[u8]) -> (Result<(), PlayFault>, Narrow) {
     let mut sink = Sink::new(wide());
     let answer = play_pair(alloc, 1, &mut Source::new(text), &mut sink);

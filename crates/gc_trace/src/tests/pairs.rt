@@ -49,7 +49,7 @@ const NONE_KEPT: &[u8] = b"\
     roots 32\n0\n0\n0\n0\n0\n0\n0\n0\n0\n0\n0\n0\n0\n0\n0\n0\n0\n0\n0\n0\n0\n0\n0\n0\n0\n0\n0\n0\n0\n0\n0\n0\n\
     pairs 0\nend\n";
 
-/// The rows with a flip, and how many pairs their first one has.
+/// The rows with a flip, and the number of pairs of the first one.
 const FIRST_FLIPS: [(Row, u32); 15] = [
     (COLLECT_WHEN_FULL, 1),
     (WRITE_WHILE_SCANNING, 1),
@@ -68,7 +68,7 @@ const FIRST_FLIPS: [(Row, u32); 15] = [
     (RAW_WORDS_KEEP_NOTHING, 1),
 ];
 
-/// The text of the pair that the trace's n-th flip has.
+/// Returns the text of the pair of the trace's n-th flip.
 fn pair_text(alloc: Global, n: u32, trace: &[u8]) -> Result<Vec<u8>, PlayFault>
     requires { 1 ≤ n }
 {

@@ -16,7 +16,7 @@ use std::test::Fail;
 pub const COLLECTED: &[u8] = b"events 12\nmade 3\nfull 1\nbegun 1\ncopied 1\nscanned 2\napplied 0\n\
     flips 1\npairs 1\ndropped 0\nrefused 0\nend 7\nfree 2\n";
 
-/// A world of nine words, all of which two objects take. One of them is a root.
+/// Returns a world of nine words that two objects fill. A root refers to one of them.
 fn full_world(alloc: Global) -> Result<World, Fail>
     ensures { IfOk result (λ world. world.mutators ≡ 1) }
 {
@@ -29,7 +29,7 @@ fn full_world(alloc: Global) -> Result<World, Fail>
     Ok(world)
 }
 
-/// Makes the steps of a collection of it.
+/// Performs the steps of a collection.
 fn collect(world: &mut World) -> Result<StepReply, NoMemory>
     ensures { world.new.mutators ≡ world.old.mutators }
 {
@@ -135,7 +135,7 @@ fn a_failed_writer_has_a_front(rt: HostRuntime) {
     }
 }
 
-/// What is written where the text's report is asked for.
+/// Returns what is written if the text's report is asked for.
 fn reported(alloc: Global, text: &[u8]) -> Result<Vec<u8>, PlayFault> {
     let mut sink = Sink::new(Vec::new(alloc));
     play_report(alloc, &mut Source::new(text), &mut sink)?;

@@ -1,6 +1,6 @@
-//! Worked rows: whole traces, and the lines of their answers.
+//! Worked examples: whole traces, and their reply lines.
 
-/// A trace's text, and the text of the answers to its events.
+/// A trace's text, and its reply lines.
 #[derive(Clone, Copy)]
 pub struct Row {
     pub name: &'static str,
@@ -79,7 +79,7 @@ pub const CYCLE_OF_TWO: Row = Row {
         saw obj 2 1\nsaw obj 1 2\nyes\nyes\nno\n",
 };
 
-/// The same without a collection: the mutator is answered alike.
+/// The same without a collection: the mutator gets the same replies.
 pub const CYCLE_LEFT_ALONE: Row = Row {
     name: "cycle_left_alone",
     trace: b"heaptrace 1\nspace 32 mutators 1\nm 0 new r0 1 2\nm 0 new r1 2 1\nm 0 put r0 0 r1\n\
@@ -138,7 +138,7 @@ pub const NOTHING_TO_COPY: Row = Row {
     replies: b"begun\nflipped 0\n",
 };
 
-/// Nothing happens.
+/// No event.
 pub const NO_EVENTS: Row = Row {
     name: "no_events",
     trace: b"heaptrace 1\nspace 8 mutators 1\n",
@@ -222,7 +222,7 @@ pub const RAW_WORDS_KEEP_NOTHING: Row = Row {
         saw num 2\nfull\n",
 };
 
-/// All of them.
+/// All rows.
 pub const ROWS: [Row; 23] = [
     NO_ROOM_AT_ALL,
     ONE_OBJECT_FILLS_THE_SPACE,

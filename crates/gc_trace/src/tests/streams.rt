@@ -1,4 +1,4 @@
-//! Readers and writers with little patience, and plays of a text.
+//! Readers and writers that stop, fail or give little, and plays of a text.
 
 use crate::{PlayFault, Report, TraceFault, play, read_trace};
 use gc_graph::{Sink, Source};
@@ -32,7 +32,7 @@ impl End {
     }
 }
 
-/// Gives its bytes a few at a time.
+/// A reader that gives its bytes a few at a time.
 #[derive(Drop)]
 pub struct Slow<'a> {
     pub bytes: &'a [u8],
@@ -64,7 +64,7 @@ impl Read for Slow<'_> {
     }
 }
 
-/// Gives so many bytes `x`.
+/// A reader of this many bytes `x`.
 #[derive(Drop)]
 pub struct Same {
     pub left: usize,
@@ -83,10 +83,10 @@ impl Read for Same {
     }
 }
 
-/// The most bytes that a narrow writer takes.
+/// The maximum number of bytes that a narrow writer takes.
 const MOST: usize = 512;
 
-/// Takes as many bytes as it has room for. It needs no memory.
+/// A writer that takes the bytes it has room for. Does not allocate.
 #[derive(Drop)]
 pub struct Narrow {
     bytes: [u8; 512],
@@ -129,7 +129,7 @@ impl Write for Narrow {
     }
 }
 
-/// Gives all of its bytes as they are asked for, and counts the calls.
+/// A reader that gives its bytes as they are asked for, and counts the calls.
 #[derive(Drop)]
 pub struct Giving<'a> {
     pub bytes: &'a [u8],
@@ -147,7 +147,7 @@ impl Read for Giving<'_> {
     }
 }
 
-/// Takes all bytes, and counts them and the calls.
+/// A writer that takes all bytes, and counts them and the calls.
 #[derive(Drop)]
 pub struct Taking {
     pub bytes: usize,
@@ -172,7 +172,7 @@ impl Write for Taking {
     }
 }
 
-/// A trace of nine thousand flips of no collection, 63031 bytes.
+/// A trace of nine thousand `flip` steps without a collection, 63031 bytes.
 pub fn nine_thousand_flips(alloc: Global) -> Result<Vec<u8>, Fail> {
     let mut text = Vec::new(alloc);
     text.extend_from_slice(b"heaptrace 1\nspace 1 mutators 1\n")?;
@@ -182,14 +182,14 @@ pub fn nine_thousand_flips(alloc: Global) -> Result<Vec<u8>, Fail> {
     Ok(text)
 }
 
-/// What is written where the text is played.
+/// Plays the text, and returns what is written.
 pub fn played(alloc: Global, text: &[u8]) -> Result<Vec<u8>, PlayFault> {
     let mut sink = Sink::new(Vec::new(alloc));
     play(alloc, &mut Source::new(text), &mut sink)?;
     Ok(sink.into_inner())
 }
 
-/// What is answered where the text is played to such a writer, and the writer afterwards.
+/// Plays the text to such a writer. Returns the result, and the writer afterwards.
 pub fn played_to(
     alloc: Global,
     text: &[u8],
@@ -200,7 +200,7 @@ pub fn played_to(
     (answer, sink.into_inner())
 }
 
-/// How many events a text has.
+/// Returns the number of events of a text.
 pub fn count_of<R: Read + Drop>(alloc: Global, reader: R) -> Result<usize, TraceFault> {
     let trace = read_trace(alloc, &mut Source::new(reader))?;
     Ok(trace.events.len())

@@ -1,4 +1,4 @@
-//! Events of a world, which leave it as many mutators as it had.
+//! Events of a world. Their contracts say that the number of mutators stays.
 
 ghost use Rattle.std.specs.Prelude.{◌≡◌, ◌<◌};
 ghost use Rattle.gc_copy.specs.Runs.{IsStep};
@@ -8,7 +8,7 @@ use gc_graph::{NoMemory, Op, Reply};
 use gc_world::World;
 use std::thread::Threads;
 
-/// Makes a command of the first mutator.
+/// Performs a command of the first mutator.
 pub fn command(world: &mut World, op: &Op) -> Result<Reply, NoMemory>
     requires { 0 < world.old.mutators }
     ensures { world.new.mutators ≡ world.old.mutators }
@@ -16,7 +16,7 @@ pub fn command(world: &mut World, op: &Op) -> Result<Reply, NoMemory>
     world.mutate(0, op)
 }
 
-/// Makes a step of the collector.
+/// Performs a step of the collector.
 pub fn step(world: &mut World, step: Step) -> Result<StepReply, NoMemory>
     requires { IsStep world.old.mutators step }
     ensures { world.new.mutators ≡ world.old.mutators }
@@ -24,7 +24,7 @@ pub fn step(world: &mut World, step: Step) -> Result<StepReply, NoMemory>
     world.collect(step)
 }
 
-/// Makes the step that is useful.
+/// Performs the useful step.
 pub fn useful(rt: &(impl Threads + Sync), world: &mut World) -> Result<(Step, StepReply), NoMemory>
     ensures { world.new.mutators ≡ world.old.mutators }
 {

@@ -10,21 +10,21 @@ use std::alloc::Global;
 use std::test::Fail;
 use std::thread::Threads;
 
-/// What is written of the history of the text's run.
+/// Returns the text that is written of the history of the text's run.
 fn written_back(alloc: Global, text: &[u8]) -> Result<Vec<u8>, Fail> {
     let trace = read_trace(alloc, &mut Source::new(text))?;
     let world = run_trace(alloc, &trace)?;
     Ok(written_of(alloc, &world)?)
 }
 
-/// What is written of the world's history.
+/// Returns the text that is written of the world's history.
 fn written_of(alloc: Global, world: &World) -> Result<Vec<u8>, WriteFault> {
     let mut sink = Sink::new(Vec::new(alloc));
     write_trace(&mut sink, world.size(), world.mutators(), world.history())?;
     Ok(sink.into_inner())
 }
 
-/// What is written of one event. Its answer does not matter.
+/// Returns the text that is written of one event. Its answer does not matter.
 fn written_alone(alloc: Global, event: Event) -> Result<Vec<u8>, WriteFault> {
     let answer = Answer::Mutator(Reply::Done);
     let mut sink = Sink::new(Vec::new(alloc));
