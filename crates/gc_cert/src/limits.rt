@@ -9,14 +9,14 @@ ghost use Rattle.gc_cert.specs.Views.{pair_of};
 
 use gc_words::{ImageRef, MOST_PAIRS, MOST_ROOTS, MOST_WORDS, Pair};
 
-/// Returns whether a space may have so many words, or end there.
+/// Returns whether a space may have this many words, or end there.
 fn is_size(n: u32) -> bool
     ensures { IsTrue result ↔ ((1 ≤ n) × (n ≤ most_words)) }
 {
     n >= 1 && n <= MOST_WORDS
 }
 
-/// Returns whether there are so many words. Each `u64` is a word of a text.
+/// Returns whether there are this many words. Each `u64` is a word of a text.
 fn are_words(words: &[u64], count: u32) -> bool
     ensures words { AllByRecursion IsWord words.now }
     ensures count { IsTrue result ↔ (length words.now ≡ count) }

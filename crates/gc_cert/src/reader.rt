@@ -107,7 +107,7 @@ fn take_pair(lines: &mut Lines<'_>) -> Result<Pair, PairFault>
     Ok(pair)
 }
 
-/// Takes so many words. Never allocates more at once than the lines that can still come need.
+/// Takes this many words. Never allocates more at once than the lines that can still come need.
 fn take_words(alloc: Global, lines: &mut Lines<'_>, count: u64) -> Result<Vec<u64>, PairFault>
     ensures { MatchResult result
         (λ words. AreAll IsWord count words.items × HasTaken (map decimal words.items) lines.old lines.new)
@@ -125,7 +125,7 @@ fn take_words(alloc: Global, lines: &mut Lines<'_>, count: u64) -> Result<Vec<u6
     Ok(words)
 }
 
-/// Takes so many pairs. Never allocates more at once than the lines that can still come need.
+/// Takes this many pairs. Never allocates more at once than the lines that can still come need.
 fn take_pairs(alloc: Global, lines: &mut Lines<'_>, count: u64) -> Result<Vec<Pair>, PairFault>
     ensures { MatchResult result
         (λ pairs. AreAll AreAddresses count (map addresses pairs.items)

@@ -38,7 +38,7 @@ impl Read for Slow<'_> {
     }
 }
 
-/// Gives so many bytes `x`, and then ends.
+/// Gives this many bytes `x`, and then ends.
 #[derive(Drop)]
 struct Same {
     left: usize,

@@ -36,7 +36,7 @@ pub record IsObject (objects : List (ℕ × Object)) (o : Object) : Type 0 where
 abbrev pub HasRawNumbers : List (ℕ × Object) → Type 0
 HasRawNumbers objects = (a : ℕ) (o : Object) → lookup objects a ≡ Some o → o.raw ≡ true → (v : Value) → In v o.fields → IsTrue (is_number v)
 
--- a graph whose names are the addresses of its objects in a space of this size with so many free words
+-- a graph whose names are the addresses of its objects in a space of this size with this many free words
 pub record IsSpaceGraph (size free : ℕ) (g : Graph) : Type 0 where
   pub high : size ≤ most_words
   pub room : free < size

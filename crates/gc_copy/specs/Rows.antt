@@ -1,4 +1,4 @@
--- Worked rows: events in a space of so many words, and their answers.
+-- Worked rows: events in a space of this many words, and their answers.
 use Rattle.std.specs.Prelude.{true, ◌≡◌, ℕ, List, [], ◌∷◌, ◌++◌, Option, Some, None}
 use Rattle.gc_graph.specs.Slots.{own_slot, shared_slot}
 use Rattle.gc_graph.specs.declared.command.Op.{Op}

@@ -97,7 +97,7 @@ abbrev pub first_value : Bool → Value
 first_value true = Num 0
 first_value false = Nil
 
--- a new object of this kind with so many fields
+-- a new object of this kind with this many fields
 abbrev pub new_object : Bool → ℕ → ℕ → Object
 new_object raw kind len = record { raw = raw; kind = kind; fields = replicate len (first_value raw) }
 

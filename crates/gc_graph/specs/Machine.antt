@@ -75,7 +75,7 @@ pub record Roomy : Type 0 where
   pub graph : Graph
   pub free : ℕ
 
--- the words of an object with so many fields: its header, its link, and its fields
+-- the words of an object with this many fields: its header, its link, and its fields
 abbrev pub object_words : ℕ → ℕ
 object_words len = len + 2
 
@@ -91,7 +91,7 @@ roomy_step s m op name =
     if nat_lt s.free (words_taken op) then (Full, s)
     else (let next = step s.graph m op name in (next.0, record { graph = next.1; free = s.free - words_taken op }))
 
--- an empty space of so many words, the first of which is reserved
+-- an empty space of this many words, the first of which is reserved
 abbrev pub opening_roomy : ℕ → ℕ → Roomy
 opening_roomy size mutators = record { graph = opening mutators; free = size - 1 }
 

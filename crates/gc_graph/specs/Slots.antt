@@ -13,7 +13,7 @@ own_slot i = record { shared = false; index = i }
 abbrev pub shared_slot : ℕ → SlotName
 shared_slot i = record { shared = true; index = i }
 
--- how many roots so many mutators have: the shared ones first, then each mutator's own
+-- how many roots this many mutators have: the shared ones first, then each mutator's own
 abbrev pub roots_of : ℕ → ℕ
 roots_of mutators = slots_each + slots_each * mutators
 

@@ -37,7 +37,7 @@ abbrev pub steps_of : List Entry → List Entry
 steps_of entries = filter (λ entry. is_collect entry.event) entries
 
 -- The world has this size and a mutator for each script. The commands of mutator m are script m, in order, and the
--- collector performed so many steps, all as useful ones.
+-- collector performed this many steps, all as useful ones.
 pub record HasRun (size : ℕ) (scripts : List (Vec Op Global)) (turns : ℕ) (w : Past) : Type 0 where
   pub opened : w.size ≡ size
   pub mutators : w.mutators ≡ length scripts

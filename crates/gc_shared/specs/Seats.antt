@@ -28,7 +28,7 @@ pub record SeatValue : Type 0 where
   pub is_mutator : Bool
   pub receipts : List Receipt
 
--- the seat with this number, as an opening with so many mutators gives it
+-- the seat with this number, as an opening with this many mutators gives it
 abbrev pub fresh : ℕ → ℕ → SeatValue
 fresh mutators n = record { number = n; is_mutator = nat_lt n mutators; receipts = [] }
 

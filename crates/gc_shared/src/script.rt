@@ -35,7 +35,7 @@ pub(crate) fn play<R: Wait, G: Gate>(
     Ok(seat)
 }
 
-/// Performs so many useful steps with a seat.
+/// Performs this many useful steps with a seat.
 pub(crate) fn turn<R: Threads + Wait + Sync, G: Gate>(
     rt: &R,
     shared: &Shared,

@@ -227,7 +227,7 @@ ghost use Rattle.std.specs.Prelude.{◌≡◌, ◌↔◌, IsTrue};
 ghost use Rattle.gc_copy.specs.Runs.{IsStep};
 ghost use Rattle.gc_shared.specs.Seats.{HasSize};
 
-// Returns whether a world of so many mutators can perform the step: an `Apply` must name one of their logs.
+// Returns whether a world of this many mutators can perform the step: an `Apply` must name one of their logs.
 fn is_step(step: Step, mutators: u8) -> bool
     requires { HasSize step }
     ensures { IsTrue result ↔ IsStep mutators step }

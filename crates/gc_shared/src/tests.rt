@@ -112,7 +112,7 @@ fn a_seat_of_another_opening(rt: HostRuntime) -> Result<(), Fail> {
     Ok(())
 }
 
-/// Asserts that closing these seats finds this fault, and returns a world with so many events.
+/// Asserts that closing these seats finds this fault, and returns a world with this many events.
 fn expect_fault(rt: &impl Abort, shared: Shared, seats: Vec<Seat>, kind: CloseKind, events: usize) {
     match shared.close(seats) {
         Ok(_world) => panic!(rt; "closed"),

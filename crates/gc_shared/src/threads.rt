@@ -29,7 +29,7 @@ impl<'a> Promise<Result<Seat, ThreadsFault>> for Plays<'a> {
     ghost kept_by = { λ plays result. IfOk result (HasPlayed plays.number plays.script.now) };
 }
 
-/// What the collector's thread promises: its seat comes back with so many useful steps.
+/// What the collector's thread promises: its seat comes back with this many useful steps.
 #[derive(Clone, Copy)]
 struct Turns {
     number: u8,
@@ -41,7 +41,7 @@ impl Promise<Result<Seat, ThreadsFault>> for Turns {
 }
 
 /// Runs 1 to 16 scripts, each in its own thread, in a world of `size` words, 1 to 1048576. Mutator m runs script m. One
-/// more thread, with the collector's seat, performs so many useful steps. All threads are started before any is joined,
+/// more thread, with the collector's seat, performs this many useful steps. All threads are started before any is joined,
 /// and every started thread is joined, whatever happens.
 ///
 /// If several threads fail, returns the fault of the lowest seat. A thread that ends leaves the others running.
@@ -183,7 +183,7 @@ fn start_player<'s, 'e, R: Threads + Wait + Sync, G: Gate + Sync>(
         .ok()
 }
 
-// Starts the thread that performs so many useful steps with the collector's seat.
+// Starts the thread that performs this many useful steps with the collector's seat.
 fn start_collector<'s, 'e, R: Threads + Wait + Sync, G: Gate + Sync>(
     scope: &'s Scope<'s, &'e ()>,
     rt: &'e R,

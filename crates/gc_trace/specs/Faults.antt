@@ -27,7 +27,7 @@ BeginsWithNoEvent version text = (event : Event) (more : List ℕ) → IsEvent v
 abbrev pub HasBadLine : List ℕ → ℕ → Type 0
 HasBadLine text n = (front : Recording) × (rest : List ℕ) × GoodBefore text n front rest × (rest ≢ []) × BeginsWithNoEvent front.version rest
 
--- line n is of the grammar, but of a mutator, or of a log, that there isn't
+-- line n is of the grammar, but of a mutator, or of a log, that does not exist
 abbrev pub HasStranger : List ℕ → ℕ → Type 0
 HasStranger text n =
     (front : Recording) × (event : Event) × (more : List ℕ) × GoodBefore text n front (event_line event ++ more) × IsEvent front.version event × ¬ IsOf front.mutators event

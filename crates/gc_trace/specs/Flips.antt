@@ -31,7 +31,7 @@ nth_flip n t = slice_get (flips (opening t) t.events) (n - 1)
 
 -- ---- what a play of it writes
 
--- the text is of a trace with so many flips, and the text of the n-th flip's pair went out
+-- the text is of a trace with this many flips, and the text of the n-th flip's pair went out
 abbrev pub PlaysPair : ℕ → List ℕ → Option (List ℕ) → Option (List ℕ) → Type 0
 PlaysPair n text old new = (t : Recording) × (pair : CertifiedPair) × IsReadAs t text × (nth_flip n t ≡ Some pair) × Appends old new (pairs.spelling pair)
 

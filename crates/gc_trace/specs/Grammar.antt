@@ -93,7 +93,7 @@ pub record IsEvent (version : ℕ) (event : Event) : Type 0 where
   pub range : runs.IsEvent most_mutators event
   pub known : version_of event ≤ version
 
--- it can happen where there are so many mutators: its own, or that of its log, is one of them
+-- it can happen where there are this many mutators: its own, or that of its log, is one of them
 abbrev pub IsOf : ℕ → Event → Type 0
 IsOf mutators event = runs.IsEvent mutators event
 

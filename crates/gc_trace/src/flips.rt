@@ -59,7 +59,7 @@ fn flip_in(heap: &mut CollectedHeap, event: &Event) -> Result<Option<PairFile>, 
     }
 }
 
-/// Returns the pair of the trace's n-th flip, counted from 1, if it has so many.
+/// Returns the pair of the trace's n-th flip, counted from 1, if it has that many.
 pub fn nth_flip(alloc: Global, trace: &Trace, n: u32) -> Result<Option<PairFile>, NoMemory>
     requires trace { IsRecording (recording trace.now) }
     requires some { 1 ≤ n }

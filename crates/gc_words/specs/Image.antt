@@ -43,7 +43,7 @@ walk_all raws words = walk raws 0 1 (drop 1 words)
 abbrev pub walk_words : List ℕ → Result (List (ℕ × Block)) ℕ
 walk_words words = walk_all true words
 
--- A space of so many words is shaped: `end` is the first place that no object takes, and there are as many
+-- A space of this many words is shaped: `end` is the first place that no object takes, and there are as many
 -- words; the first of them is reserved, and the walk over the others comes to the end.
 pub record HasShape (raws : Bool) (size end : ℕ) (words : List ℕ) : Type 0 where
   pub size_low : 1 ≤ size

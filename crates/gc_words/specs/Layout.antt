@@ -11,6 +11,6 @@ fields_place start = start + 2
 abbrev pub field_place : ℕ → ℕ → ℕ
 field_place start i = fields_place start + i
 
--- the place behind an object with so many fields
+-- the place behind an object with this many fields
 abbrev pub next_place : ℕ → ℕ → ℕ
 next_place start len = start + object_words len

@@ -27,7 +27,7 @@ end_of space = length space.words
 abbrev pub free_in : SpaceWords → ℕ
 free_in space = space.size - end_of space
 
--- an object with so many fields can be placed
+-- an object with this many fields can be placed
 abbrev pub HasRoomFor : SpaceWords → ℕ → Type 0
 HasRoomFor space len = object_words len ≤ free_in space
 

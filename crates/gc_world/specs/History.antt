@@ -35,7 +35,7 @@ RunsFrom s entries = answers_of entries ≡ runs.answers s (events_of entries)
 abbrev pub IsCoreRun : ℕ → ℕ → List Entry → Type 0
 IsCoreRun size mutators entries = RunsFrom (opening_state size mutators) entries
 
--- the state that a history of so many words and mutators leads to
+-- the state that a history of this many words and mutators leads to
 abbrev pub state_after : ℕ → ℕ → List Entry → State
 state_after size mutators entries = runs.state_after (opening_state size mutators) (events_of entries)
 
@@ -54,7 +54,7 @@ UsefulFrom s (entry ∷ rest) = IsUseful s entry.event entry.answer × UsefulFro
 
 -- ---- histories
 
--- the history of a world that was opened with so many words and mutators
+-- the history of a world that was opened with this many words and mutators
 pub record IsHistory (size mutators : ℕ) (entries : List Entry) : Type 0 where
   pub low : 1 ≤ size
   pub high : size ≤ most_words

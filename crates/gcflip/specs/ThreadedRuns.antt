@@ -10,7 +10,7 @@ use Rattle.gc_world.specs.History.{events_of, IsHistory}
 use Rattle.gc_world.specs.declared.entry.Entry.{Entry}
 
 -- A history of a world of the trace's size and mutators: each mutator performed its commands of the trace, in order, and
--- the collector performed so many steps, all as useful ones.
+-- the collector performed this many steps, all as useful ones.
 pub record IsThreadedRun (t : Recording) (turns : ℕ) (entries : List Entry) : Type 0 where
   pub history : IsHistory t.size t.mutators entries
   pub commands : (m : ℕ) → m < t.mutators → commands_of m (events_of entries) ≡ commands_of m t.events

@@ -20,7 +20,7 @@ pub struct GcflipVerdict {
 impl GcflipVerdict {
     ghost use Rattle.gcflip_c.specs.Verdicts.{yes_in_c, refusal_in_c, line_in_c};
 
-    /// Returns the verdict of a yes about so many pairs.
+    /// Returns the verdict of a yes about this many pairs.
     pub(crate) fn of_yes(pairs: u32) -> GcflipVerdict
         ensures { result ≡ yes_in_c pairs }
     {

@@ -48,7 +48,7 @@ end_after t reply = end_in t.collection
 abbrev pub words_copied : State → State → StepReply → ℕ
 words_copied s t reply = end_after t reply - end_in s.collection
 
--- what is reported of work that made at most so many steps
+-- what is reported of work that made at most this many steps
 pub record IsWork (most : ℕ) (s t : State) (work : GcflipWork) : Type 0 where
   pub reply : StepReply
   pub run : IsRun work.steps s t reply

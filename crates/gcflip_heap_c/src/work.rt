@@ -49,7 +49,7 @@ fn can_go_on(reply: StepReply) -> bool
     !matches!(reply, StepReply::Flipped { .. } | StepReply::NoRoom)
 }
 
-/// Makes useful steps, at most so many, until one flips or finds no room. If an allocation fails, it stops before that
+/// Makes useful steps, at most this many, until one flips or finds no room. If an allocation fails, it stops before that
 /// step; it returns `NoMemory` only if that was the first one.
 fn useful_steps(heap: &mut CollectedHeap, most: u32) -> Result<Run, NoMemory>
     requires { 1 ≤ most }

@@ -18,7 +18,7 @@ Spelled {V = V} InRange lines_of lines = (v : V) × InRange v × (lines ≡ line
 abbrev pub alone : {V : Type 0} → (V → List ℕ) → V → List (List ℕ)
 alone line_of v = line_of v ∷ []
 
--- so many values in range
+-- this many values in range
 abbrev pub AreAll : {V : Type 0} → (V → Type 0) → ℕ → List V → Type 0
 AreAll InRange n vs = (length vs ≡ n) × AllByRecursion InRange vs
 

@@ -17,7 +17,7 @@ pub record HasPlayed (number : ℕ) (script : List Op) (seat : SeatValue) : Type
   pub same : seat.number ≡ number
   pub events : events_of seat ≡ map (Mutate number) script
 
--- the seat with this number has performed so many useful steps, and nothing else
+-- the seat with this number has performed this many useful steps, and nothing else
 pub record HasTurned (number turns : ℕ) (seat : SeatValue) : Type 0 where
   pub same : seat.number ≡ number
   pub count : length seat.receipts ≡ turns
@@ -28,7 +28,7 @@ pub record HavePlayed (scripts : List (Vec Op Global)) (n : ℕ) (seats : List S
   pub count : length seats ≡ n
   pub each : (m : ℕ) (d : SeatValue) → m < n → HasPlayed m (script_at scripts m) (slice_index_or seats m d)
 
--- each mutator's seat has run its script, and the last one has performed so many useful steps
+-- each mutator's seat has run its script, and the last one has performed this many useful steps
 pub record HaveEnded (scripts : List (Vec Op Global)) (turns : ℕ) (seats : List SeatValue) : Type 0 where
   pub count : length seats ≡ length scripts + 1
   pub each : (m : ℕ) (d : SeatValue) → m < length scripts → HasPlayed m (script_at scripts m) (slice_index_or seats m d)

@@ -102,7 +102,7 @@ impl Gate for Passing {
     fn after(&self, _seat: u32, _n: u64) {}
 }
 
-/// Reads a trace, runs each mutator's commands in its own thread beside a thread that performs so many useful steps,
+/// Reads a trace, runs each mutator's commands in its own thread beside a thread that performs this many useful steps,
 /// and writes the trace of what happened. Ignores the collector's lines of the text.
 pub fn threads_run<R: Read, W: Write>(
     rt: &(impl Threads + Wait + Sync),

@@ -84,7 +84,7 @@ fn new_object() -> Result<Op, Fail> {
     Ok(Op::New { d, kind: 1, len: 1 })
 }
 
-/// Closes the world, which has so many events.
+/// Closes the world, which has this many events.
 fn expect_world(rt: &impl Abort, shared: Shared, seats: Vec<Seat>, events: usize) {
     match shared.close(seats) {
         Ok(world) => assert_eq!(rt; world.history().len(), events),

@@ -264,7 +264,7 @@ fn command(world: &mut World, op: &Op) -> Result<Reply, Fail> {
     Ok(world.mutate(0, op)?)
 }
 
-/// Returns a world with 1,000 chained objects that wants a flip, after so many events.
+/// Returns a world with 1,000 chained objects that wants a flip, after this many events.
 fn chain(rt: &(impl Threads + Sync), alloc: Global, events: usize) -> Result<World, Fail> {
     let _named = View::Nil;
     let r0 = Slot::own(0).ok_or("slot")?;
