@@ -1,5 +1,5 @@
 /* Records a run: include this in place of gcflip_heap.h, and each call on a heap also writes its line of a `heaptrace`, so
- * that `gcflip play` replays the run and `gcflip report` and `gcflip pair` tell of it.
+ * that `gcflip play` replays the run, `gcflip report` counts its replies, and `gcflip pair` writes the pair of a flip.
  *
  * The program defines the stream, and may set it to NULL to record nothing:
  *
@@ -22,7 +22,7 @@ extern "C" {
 
 extern FILE *gcflip_trace;
 
-/* Whether the call has a line. */
+/* Returns whether the call has a line. */
 static inline int gcflip_recorded(uint32_t answer)
 {
     return answer == GCFLIP_HEAP_DONE && gcflip_trace != NULL;
@@ -253,6 +253,7 @@ static inline uint32_t gcflip_record_work(gcflip_heap *heap, uint32_t most, gcfl
 {
     gcflip_counts counts;
     gcflip_work made = {0, 0, {0, 0, 0, 0, 0}};
+    gcflip_reply reply;
     uint32_t start, answer = gcflip_heap_counts(heap, &counts);
     if (answer != GCFLIP_HEAP_DONE)
         return answer;
@@ -260,10 +261,11 @@ static inline uint32_t gcflip_record_work(gcflip_heap *heap, uint32_t most, gcfl
         return GCFLIP_HEAP_OUT_OF_RANGE;
     start = counts.is_open ? counts.new_end : 1;
     while (made.steps < most) {
-        answer = gcflip_record_useful(heap, &counts, &made.last);
+        answer = gcflip_record_useful(heap, &counts, &reply);
         if (answer != GCFLIP_HEAP_DONE)
             break;
         made.steps++;
+        made.last = reply;
         gcflip_heap_counts(heap, &counts);
         made.copied = (counts.is_open ? counts.new_end : counts.end) - start;
         if (made.last.reply == GCFLIP_FLIPPED || made.last.reply == GCFLIP_NO_ROOM)

@@ -2,6 +2,7 @@
    on a second heap, and reports the same of it. */
 #include "expect.h"
 #include "gcflip_heap.h"
+#include "own_allocator.h"
 #include <string.h>
 
 static gcflip_heap at_once = GCFLIP_NO_HEAP;
@@ -38,12 +39,15 @@ FILE *gcflip_trace;
 
 static gcflip_heap heap = GCFLIP_NO_HEAP;
 
-/* Makes the same work on both heaps. */
-static void work(uint32_t most, uint32_t last)
+/* Makes the same work on both heaps, where an allocation of this number fails. */
+static void work(uint32_t most, uint32_t last, long failing)
 {
     gcflip_work recorded, other;
+    fail_allocation(failing);
     EXPECT(gcflip_heap_work(&heap, most, &recorded) == GCFLIP_HEAP_DONE);
+    fail_allocation(failing);
     EXPECT(work_at_once(most, &other) == GCFLIP_HEAP_DONE);
+    fail_allocation(0);
     EXPECT(memcmp(&recorded, &other, sizeof recorded) == 0 && recorded.last.reply == last);
 }
 
@@ -60,11 +64,14 @@ int main(int count, char **names)
     gcflip_heap_new(&heap, 0, 16, 1, 2, &reply);
     gcflip_heap_new(&heap, 1, 0, 2, 1, &reply);
     gcflip_heap_put(&heap, 1, 16, 1, 0, &reply);
-    work(1, GCFLIP_BEGUN);
-    work(3, GCFLIP_SCANNED); /* both roots, and a field */
+    fail_allocation(1);
+    EXPECT(gcflip_heap_work(&heap, 1, &none) == GCFLIP_HEAP_NO_MEMORY);
+    work(1, GCFLIP_BEGUN, 0);
+    work(3, GCFLIP_SCANNED, 0); /* both roots, and a field */
     EXPECT(gcflip_heap_put(&heap, 1, 16, 0, 0, &reply) == GCFLIP_HEAP_DONE && write_at_once(0) == GCFLIP_HEAP_DONE);
-    work(100, GCFLIP_FLIPPED);
-    work(100, GCFLIP_FLIPPED);
+    work(100, GCFLIP_APPLIED, 1); /* all but the flip, whose first allocation fails */
+    work(100, GCFLIP_FLIPPED, 0);
+    work(100, GCFLIP_FLIPPED, 0);
     gcflip_heap_begin_sized(&heap, 3, &reply);
     EXPECT(gcflip_heap_work(&heap, 100, &none) == GCFLIP_HEAP_DONE && none.steps == 1 && none.last.reply == GCFLIP_NO_ROOM);
     gcflip_heap_drop(&heap, &reply);

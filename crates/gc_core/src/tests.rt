@@ -3,9 +3,9 @@ mod growths;
 ghost use Rattle.std.specs.Prelude.{◌≡◌, ◌<◌};
 ghost use Rattle.gc_copy.specs.Runs.{IsStep};
 
-use crate::{CollectedHeap, Keep};
+use crate::{CollectedHeap, Keep, NewSpace};
 use gc_check::Sequential;
-use gc_copy::{Step, StepReply};
+use gc_copy::{LogEntry, Step, StepReply};
 use gc_graph::{NoMemory, Number, Op, Reply, Slot, View};
 use gc_words::{NewAddr, OldAddr, Pair};
 use std::process::Abort;
@@ -78,6 +78,42 @@ fn write_while_scanning(rt: HostRuntime) -> Result<(), Fail> {
     assert_eq!(&rt; file.new.roots.get(16).copied(), Some(2));
     let got = command(&mut heap, Op::Get { d: r1, s: r0, i: 0 })?;
     assert_eq!(&rt; got, Reply::Saw(View::Num(nine)));
+    Ok(())
+}
+
+#[test]
+fn readings_of_an_open_collection(rt: HostRuntime) -> Result<(), Fail> {
+    let _named = View::Nil;
+    let r0 = Slot::own(0).ok_or("slot")?;
+    let r1 = Slot::own(1).ok_or("slot")?;
+    let mut heap = CollectedHeap::open(rt.alloc(), 32, 1)?;
+    assert_eq!(&rt; heap.new_space(), None);
+    assert_eq!(&rt; heap.log_len(0), 0);
+    assert!(&rt; heap.new_words().is_none());
+    written_while_scanning(&rt, &mut heap, r0, r1)?;
+    assert_eq!(&rt; heap.size(), 32);
+    assert_eq!(&rt; heap.end(), 4);
+    assert_eq!(&rt; heap.free(), 28);
+    let scanned = NewSpace {
+        size: 32,
+        end: 4,
+        scan_place: 4,
+        scan_field: 0,
+    };
+    assert_eq!(&rt; heap.new_space(), Some(scanned));
+    let written = LogEntry {
+        object: OldAddr(1),
+        field: 0,
+    };
+    assert_eq!(&rt; heap.log_len(0), 1);
+    assert_eq!(&rt; heap.log_entry(0, 0), Some(written));
+    assert_eq!(&rt; heap.log_entry(0, 1), None);
+    // The original's link is its replica, and the replica's its original.
+    assert_eq!(&rt; heap.image().words.get(2).copied(), Some(1));
+    assert_eq!(&rt; heap.image().words.get(3).copied(), Some(19));
+    let new_words = heap.new_words().ok_or("no words")?;
+    assert_eq!(&rt; new_words.get(2).copied(), Some(1));
+    assert_eq!(&rt; new_words.get(3).copied(), Some(0));
     Ok(())
 }
 
