@@ -1,4 +1,4 @@
-use Rattle.std.proofs.Common.{◌≡◌, List, ℕ, refl, arith, subst}
+use Rattle.std.proofs.Common.{List, ℕ, refl, arith, subst}
 use Rattle.gc_graph.specs.Fronts.{BeginsWithNumber}
 use Rattle.gc_graph.proofs.Decimals.{one_front}
 use Rattle.gc_graph.proofs.text.front.Front.number.Goals as goal
