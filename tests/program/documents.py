@@ -1,5 +1,5 @@
 """Tests of the documents: what they cite exists, what they quote is in the code, and the commands that they show print what
-they say."""
+they say. Each must-fail edit can be applied."""
 import glob
 import os
 import re
@@ -345,4 +345,36 @@ def counts(_program, _folder):
         yield "lines of %s" % (name or "all definitions"), None if found and found.group(1) == wanted else "they are %s" % wanted
 
 
-GROUPS = [names, words, files, clauses, crates, edits, quotes, names_in_c, c_of_readme, commands, commands_of_tables, definitions, counts]
+def why_not_applied(crate, edit):
+    """Why a must-fail edit cannot be applied, as `rt ci` reads it, or None: each line has a kind, and each old text stands once."""
+    texts, path, old, pairs = {}, None, None, 0
+    with open(edit, encoding="utf-8") as lines:
+        for line in lines.read().split("\n"):
+            if line.startswith("file: "):
+                path = os.path.join(crate, line[len("file: "):])
+                if not os.path.exists(path):
+                    return "there is no file %s" % path
+            elif line.startswith("old: "):
+                old = line[len("old: "):]
+            elif line.startswith("new:") and path and old:
+                if path not in texts:
+                    with open(path, encoding="utf-8") as file:
+                        texts[path] = file.read()
+                if texts[path].count(old) != 1:
+                    return "an old text stands %d times in the file" % texts[path].count(old)
+                texts[path] = texts[path].replace(old, line[len("new: "):])
+                old, pairs = None, pairs + 1
+            elif line and not line.startswith("#"):
+                return "a line is neither file, old, new nor a comment: %s" % line[:60]
+    return None if pairs else "it changes nothing"
+
+
+def applied_edits(_program, _folder):
+    top = os.path.join(TOP, "crates")
+    for name in sorted(os.listdir(top)):
+        folder = os.path.join(top, name, "must-fail")
+        for edit in sorted(os.listdir(folder)) if os.path.isdir(folder) else []:
+            yield "edit %s/%s" % (name, edit), why_not_applied(os.path.join(top, name), os.path.join(folder, edit))
+
+
+GROUPS = [names, words, files, clauses, crates, edits, applied_edits, quotes, names_in_c, c_of_readme, commands, commands_of_tables, definitions, counts]
