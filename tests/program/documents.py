@@ -51,7 +51,7 @@ def blocks(document, language):
 
 def sources():
     """Yields the paths of all sources of the repository, with their texts."""
-    for folder in ("crates", "tests", "bench", "bindings", "tools"):
+    for folder in ("crates", "tests", "bench", "bindings", "examples", "tools"):
         for path, folders, names in os.walk(os.path.join(TOP, folder)):
             folders[:] = [name for name in folders if name not in ("out", "__pycache__")]
             for name in names:

@@ -1,0 +1,15 @@
+"""Herbpond's certificate checker and its collected heap.
+
+`check` decides whether a heap image may take the place of another one, and `check_text` does so for a pair text. `Heap` is a
+heap of objects with an incremental, replicating collector. What is proved of both is proved of the library, not of this package.
+"""
+from .checker import Image, Pairs, Row, check, check_text
+from .errors import (BadLine, BadText, Busy, Closed, EndsEarly, FlipRefused, Full, GcflipError, HeapRefused, Idle, NoField, NoNumber,
+                     NoObject, NoRoom, NotReady, OutOfMemory, OutOfRange, Refusal, Refused, TextTooLarge, TooManyPairs)
+from .heap import Counts, Heap, LogEntry, Mutator, Object, Step, Value, Work, own, shared
+
+__all__ = [
+    "BadLine", "BadText", "Busy", "Closed", "Counts", "EndsEarly", "FlipRefused", "Full", "GcflipError", "Heap", "HeapRefused", "Idle",
+    "Image", "LogEntry", "Mutator", "NoField", "NoNumber", "NoObject", "NoRoom", "NotReady", "Object", "OutOfMemory", "OutOfRange",
+    "Pairs", "Refusal", "Refused", "Row", "Step", "TextTooLarge", "TooManyPairs", "Value", "Work", "check", "check_text", "own", "shared",
+]

@@ -1,0 +1,318 @@
+"""The collected heap: objects of words for 1 to 16 mutators, with an incremental, replicating collector."""
+from __future__ import annotations
+
+import array
+import ctypes
+import enum
+import threading
+import weakref
+from typing import Any, NamedTuple, Union
+
+from . import library
+from .checker import Image
+from .errors import (Busy, Closed, FlipRefused, Full, HeapRefused, Idle, NoField, NoNumber, NoObject, NoRoom, NotReady, OutOfMemory,
+                     OutOfRange)
+from .library import COUNTS, LIBRARY, OTHERS, REPLIES, ReplyNumber, ViewNumber, check_ranges
+
+SLOTS = 16
+NO_MEMORY, OUT_OF_RANGE, CLOSED = 1, 2, 3
+REFUSED: dict[int, type[HeapRefused]] = {
+    ReplyNumber.FULL: Full,
+    ReplyNumber.NO_OBJECT: NoObject,
+    ReplyNumber.NO_FIELD: NoField,
+    ReplyNumber.NO_NUMBER: NoNumber,
+    ReplyNumber.BUSY: Busy,
+    ReplyNumber.IDLE: Idle,
+    ReplyNumber.NO_ROOM: NoRoom,
+    ReplyNumber.NOT_READY: NotReady,
+    ReplyNumber.FLIP_REFUSED: FlipRefused,
+}
+
+
+def own(number: int) -> int:
+    """Returns the mutator's own slot of this number, 0 to 15, which a trace calls r0 to r15."""
+    return _slot(number, 0)
+
+
+def shared(number: int) -> int:
+    """Returns the slot of this number, 0 to 15, that all mutators share, and a trace calls g0 to g15."""
+    return _slot(number, SLOTS)
+
+
+def _slot(number: int, first: int) -> int:
+    if not 0 <= number < SLOTS:
+        raise OutOfRange("there is no slot %d" % number)
+    return first + number
+
+
+class Object(NamedTuple):
+    """What is seen of a reference: the object's kind and the number of its fields. No call tells an address."""
+
+    kind: int
+    length: int
+    raw: bool = False
+    """Whether its fields are plain numbers."""
+
+
+Value = Union[None, int, Object]
+"""A value that is seen: None for nil, a number, or an object."""
+
+
+class Step(enum.Enum):
+    """What a step of the collector did. Its value is the reply of a played trace."""
+
+    BEGUN = "begun"
+    """A collection is open now."""
+    CLEAN = "clean"
+    """Nothing is left for this step."""
+    COPIED = "copied"
+    """A root's target has a replica now."""
+    PASSED = "passed"
+    """The scan pointer moved on to the next replica."""
+    SCANNED = "scanned"
+    """One field was scanned."""
+    APPLIED = "applied"
+    """One log entry was applied."""
+    FLIPPED = "flipped"
+    """Mutators go on in the new space."""
+    DROPPED = "dropped"
+    """The collection was given up."""
+    NO_ROOM = "no room"
+    """The new space has no room for a replica. Only `work` returns this; a single step raises NoRoom."""
+
+
+def _step_of(reply: library.Reply) -> Step:
+    return Step[ReplyNumber(reply.reply).name]
+
+
+class Work(NamedTuple):
+    """What `work` did."""
+
+    steps: int
+    """How many steps were made, at least 1."""
+    copied: int
+    """How many words replicas took in the new space."""
+    last: Step
+    """What the last step did."""
+    pairs: int
+    """The number of pairs, if the last step was a flip; else 0."""
+
+
+class Counts(NamedTuple):
+    """How full the heap is, and how far an open collection has come."""
+
+    size: int
+    """The words of the heap."""
+    end: int
+    """The first word that no object takes."""
+    free: int
+    """The words that no object takes."""
+    mutators: int
+    is_open: bool
+    """Whether a collection is open. All numbers below are 0 if none is."""
+    new_size: int
+    """The words of the new space."""
+    new_end: int
+    """Its first word that no replica takes."""
+    scan_place: int
+    """The address of the replica at the scan pointer, or `new_end`."""
+    scan_field: int
+    """How many of its fields are scanned."""
+
+
+class LogEntry(NamedTuple):
+    """A field that a mutator wrote while a collection was open."""
+
+    object: int
+    """The address of the object."""
+    field: int
+
+
+class Heap:
+    """A heap, and a context manager that closes it. Its calls may come from several threads: a lock lets one in at a time.
+
+    All calls raise Closed after `close`, and OutOfRange if an argument is out of its range.
+    """
+
+    def __init__(self, size: int, mutators: int = 1) -> None:
+        """Opens an empty heap of `size` words, 1 to 1048576, for 1 to 16 mutators. All slots hold nil. Raises OutOfMemory."""
+        self._lock = threading.Lock()
+        self._handle = library.Handle()
+        self._call("open", size, mutators)
+        self._close = weakref.finalize(self, LIBRARY.gcflip_heap_close, self._handle)
+
+    def __enter__(self) -> Heap:
+        return self
+
+    def __exit__(self, *exception: object) -> None:
+        self.close()
+
+    def close(self) -> None:
+        """Frees the heap. Does nothing if it is closed already."""
+        with self._lock:
+            self._close()
+
+    def mutator(self, number: int) -> Mutator:
+        """Returns the mutator of this number, counted from 0."""
+        if not 0 <= number < self.counts().mutators:
+            raise OutOfRange("there is no mutator %d" % number)
+        return Mutator(self, number)
+
+    # ---- Collector steps
+
+    def begin(self, size: int | None = None) -> Step:
+        """Opens a collection whose new space is as large as the heap, or has `size` words: BEGUN. Raises Busy and OutOfMemory."""
+        return self._step("begin") if size is None else self._step("begin_sized", size)
+
+    def roots(self) -> Step:
+        """Replicates the target of the first root whose target has no replica: COPIED or CLEAN. Raises NoRoom and Idle."""
+        return self._step("roots")
+
+    def scan(self) -> Step:
+        """Brings the field at the scan pointer up to date, or moves on to the next replica: SCANNED, PASSED or CLEAN. Raises
+        NoRoom and Idle."""
+        return self._step("scan")
+
+    def apply(self, mutator: int) -> Step:
+        """Applies the oldest entry of a mutator's log: APPLIED or CLEAN. Raises NoRoom and Idle."""
+        return self._step("apply", mutator)
+
+    def flip(self) -> int:
+        """Flips if the collection is ready and the checker accepts its certificate, and returns the number of pairs. Raises
+        NotReady, Idle and OutOfMemory."""
+        return int(self._reply("flip").count)
+
+    def drop(self) -> Step:
+        """Frees the new space and the logs: DROPPED. Raises Idle."""
+        return self._step("drop")
+
+    def work(self, most: int) -> Work:
+        """Makes useful steps, at most `most`, which is not 0.
+
+        The useful step begins a collection if none is open; else it is the first of roots, scan and apply with something left to
+        do, and at last the flip. Work ends after a flip, and after a step for which there is no room. If an allocation fails,
+        it ends before that step, and raises OutOfMemory only if that was the first one.
+        """
+        work = library.Work()
+        self._call("work", most, work)
+        return Work(work.steps, work.copied, _step_of(work.last), work.last.count)
+
+    # ---- Reading
+
+    def counts(self) -> Counts:
+        """Reads how full the heap is, and how far an open collection has come."""
+        counts = library.Counts()
+        self._call("counts", counts)
+        return Counts(**{name: getattr(counts, name) for name in COUNTS})._replace(is_open=bool(counts.is_open))
+
+    def log_length(self, mutator: int) -> int:
+        """Reads the length of a mutator's log, which is 0 while no collection is open."""
+        length = ctypes.c_size_t()
+        self._call("log_length", mutator, length)
+        return length.value
+
+    def log_entry(self, mutator: int, number: int) -> LogEntry:
+        """Reads an entry of a mutator's log, the oldest being entry 0."""
+        entry = library.LogEntry()
+        self._call("log_entry", mutator, number, entry)
+        return LogEntry(entry.object, entry.field)
+
+    def image(self) -> Image:
+        """Copies the heap's words, links included, and the root words, the shared slots first."""
+        counts = self.counts()
+        words, roots = _zeros(counts.end), _zeros(SLOTS + SLOTS * counts.mutators)
+        self._call("image", words.buffer_info()[0], len(words), roots.buffer_info()[0], len(roots))
+        return Image(words, roots, counts.size)
+
+    def new_words(self) -> array.array:
+        """Copies the words of the open collection's new space. A replica's link is its original's address."""
+        words = _zeros(self.counts().new_end)
+        self._call("new_words", words.buffer_info()[0], len(words))
+        return words
+
+    # ---- Calls
+
+    def _step(self, name: str, *numbers: int) -> Step:
+        return _step_of(self._reply(name, *numbers))
+
+    def _reply(self, name: str, *numbers: int) -> library.Reply:
+        """Makes a call with a reply, and raises what a refusing reply tells."""
+        reply = library.Reply()
+        check_ranges(numbers, REPLIES[name])
+        self._made(name, *numbers, reply)
+        if reply.reply in REFUSED:
+            raise REFUSED[reply.reply]()
+        return reply
+
+    def _call(self, name: str, *arguments: Any) -> None:
+        check_ranges(tuple(argument for argument in arguments if isinstance(argument, int)), OTHERS[name])
+        self._made(name, *arguments)
+
+    def _made(self, name: str, *arguments: Any) -> None:
+        """Makes a call, and raises what an answer other than done tells."""
+        with self._lock:
+            answer = getattr(LIBRARY, "gcflip_heap_" + name)(self._handle, *arguments)
+        if answer != 0:
+            raise {NO_MEMORY: OutOfMemory, OUT_OF_RANGE: OutOfRange, CLOSED: Closed}[answer](name)
+
+
+def _zeros(count: int) -> array.array:
+    return array.array("Q", bytes(8 * count))
+
+
+class Mutator:
+    """A client of a heap, with sixteen slots of its own (`own`) beside the shared ones (`shared`). Slots are the roots."""
+
+    def __init__(self, heap: Heap, number: int) -> None:
+        self.heap = heap
+        self.number = number
+
+    def new(self, slot: int, kind: int, length: int) -> None:
+        """Makes an object of a kind, 0 to 255, with so many fields, at most 65535, all nil, and puts a reference to it into the
+        slot. It takes length + 2 words. Raises Full."""
+        self._reply("new", slot, kind, length)
+
+    def raw(self, slot: int, kind: int, length: int) -> None:
+        """Makes an object whose fields are plain numbers, all 0, like `new`."""
+        self._reply("raw", slot, kind, length)
+
+    def num(self, slot: int, number: int) -> None:
+        """Puts a number below 2^63 into the slot."""
+        self._reply("num", slot, number)
+
+    def nil(self, slot: int) -> None:
+        """Puts nil into the slot."""
+        self._reply("nil", slot)
+
+    def move(self, slot: int, source: int) -> None:
+        """Copies the value of slot `source` into the slot."""
+        self._reply("move", slot, source)
+
+    def get(self, slot: int, source: int, field: int) -> Value:
+        """Reads a field of the object that slot `source` refers to into the slot, and returns what is seen of it. Raises NoObject and
+        NoField."""
+        return _seen(self._reply("get", slot, source, field))
+
+    def put(self, slot: int, field: int, source: int) -> None:
+        """Writes the value of slot `source` into a field of the object that the slot refers to. Raises NoObject, NoField, NoNumber,
+        and OutOfMemory while a collection is open."""
+        self._reply("put", slot, field, source)
+
+    def same(self, first: int, second: int) -> bool:
+        """Returns whether both slots hold nil, equal numbers, or references to one object."""
+        return bool(self._reply("same", first, second).reply == ReplyNumber.SAME)
+
+    def look(self, slot: int) -> Value:
+        """Returns what is seen of the slot's value."""
+        return _seen(self._reply("look", slot))
+
+    def _reply(self, name: str, *numbers: int) -> library.Reply:
+        return self.heap._reply(name, self.number, *numbers)
+
+
+def _seen(reply: library.Reply) -> Value:
+    if reply.view == ViewNumber.NIL:
+        return None
+    if reply.view == ViewNumber.NUMBER:
+        return int(reply.number)
+    return Object(reply.kind, reply.count, reply.view == ViewNumber.RAW_OBJECT)

@@ -1,0 +1,27 @@
+/* What a runtime adds to have its collector checked: images of its two spaces, and the pairs. */
+#ifndef CERTIFICATE_H
+#define CERTIFICATE_H
+
+#include "heap.h"
+#include <gcflip.h>
+#include <stdio.h>
+
+struct certificate {
+    gcflip_image old;
+    gcflip_image new;
+    gcflip_pair *pairs;
+    uint32_t pair_count;
+};
+
+/* Writes images of both heaps and the pairs of originals and replicas into memory of its own. */
+struct certificate new_certificate(const struct heap *old, const struct heap *new);
+
+void free_certificate(const struct certificate *certificate);
+
+/* Writes the certificate as a `heappair` text, which `gcflip check` reads. */
+void write_certificate(FILE *file, const struct certificate *certificate);
+
+/* Prints the verdict, as `gcflip check` does, and what it says of the program's own objects. */
+void print_verdict(const struct heap *old, const struct certificate *certificate, const gcflip_verdict *verdict);
+
+#endif

@@ -1,0 +1,127 @@
+"""examples/certify: a collector in C that nobody proved. The checker accepts its flips, and refuses those of its planted bugs."""
+import glob
+import os
+import re
+
+from .c_library import SANITIZERS, TOP, WARNINGS, done, library, usable
+from .documents import blocks, pieces
+from .harness import Outcome, difference, run
+from .pairs import status_of
+
+FOLDER = os.path.join(TOP, "examples", "certify")
+SOURCES = sorted(glob.glob(os.path.join(FOLDER, "*.c")))
+DOCUMENT = os.path.join("examples", "certify", "README.md")
+
+# Numbers of entries. 100000 is the most, and then the spaces are nearly as large as the checker allows.
+SIZES = [1, 2, 3, 4, 5, 9, 100, 100000]
+
+# A bug, the number of entries, the verdict, and the object that it is about.
+#
+# A list of n entries has the entries 0, 2, 4 and so on when it is collected. The roots are the count, the first entry and the
+# last one. So replica 0 is the first entry and replica 1 the last; if there is one entry alone, it is replica 0. Scanning an
+# entry adds its name, the next entry and the previous one, where they have no replica. So behind the roots of three
+# entries come the first name (2), entry 2 (3), the last name (4), and the name of entry 2 (5).
+REFUSED = [
+    # The last field of an entry is `previous`. It is nil in the first entry, and so replica 1 is the first that is wrong.
+    ("field", 3, "refused 9 FieldDiffers 1 3", 'the entry of "entry 2" has a replica with another previous'),
+    ("field", 5, "refused 9 FieldDiffers 1 3", 'the entry of "entry 4" has a replica with another previous'),
+    ("field", 99999, "refused 9 FieldDiffers 1 3", 'the entry of "entry 99998" has a replica with another previous'),
+    # Both roots refer to the one entry, and each copies it.
+    ("twice", 1, "refused 7 Twice 1", 'the entry of "entry 0" has a second replica'),
+    # `next` of the first of two entries copies the last once more, behind the first name.
+    ("twice", 3, "refused 7 Twice 3", 'the entry of "entry 2" has a second replica'),
+    # `next` of the second of three entries copies the last once more, behind that entry's name.
+    ("twice", 5, "refused 7 Twice 6", 'the entry of "entry 4" has a second replica'),
+    # Replica 5 is the last but one, 6 the name of entry 2 and 7 the entry behind it. `previous` of entry 2 copies the first.
+    ("twice", 9, "refused 7 Twice 8", 'the entry of "entry 0" has a second replica'),
+    ("root", 1, "refused 10 RootDiffers 2", "the root last differs"),
+    ("root", 5, "refused 10 RootDiffers 2", "the root last differs"),
+    # The first text behind one entry, and behind two.
+    ("length", 1, "refused 8 HeaderDiffers 1", 'the text "entry 0" has a replica of another kind or length'),
+    ("length", 5, "refused 8 HeaderDiffers 2", 'the text "entry 0" has a replica of another kind or length'),
+]
+
+WAYS = [("gcc", ["gcc"]), ("gcc with sanitizers", ["gcc", *SANITIZERS])]
+
+TIMES = rb"yes \d+\nfor each of (\d+) objects: copying \d+ ns, images and pairs \d+ ns, the check \d+ ns\n"
+
+
+def accepted(entries):
+    """What a run without a refusal prints. Each entry that is left has a name, and so there are twice as many pairs."""
+    first = (entries + 1) // 2
+    second = (first + 1) // 2
+    whole = "the list in the new space is whole\n"
+    return Outcome(("yes %d\n%syes %d\n%s" % (2 * first, whole, 2 * second, whole)).encode())
+
+
+def refused(verdict, place):
+    return Outcome(("%s\n%s\nthe list in the old space is whole\n" % (verdict, place)).encode(), b"", 1)
+
+
+def build(built, compiler):
+    """The path of the program, and why it was not built, or None."""
+    path = os.path.join(built.folder, "certify")
+    words = [*compiler, "-std=c11", "-O2", *WARNINGS, "-I" + os.path.join(built.prefix, "include"), "-o", path]
+    made = done([*words, *SOURCES, *built.archive()])
+    return path, None if made.status == 0 else "not built: %s" % made.stderr.decode()
+
+
+def wrong_text(program, path, words, verdict, folder):
+    """Returns why the text that a run writes does not get this verdict from the program, or None."""
+    text = os.path.join(folder, "certify.pair")
+    done([path, "-p", text, *words])
+    return difference(run(program, ["check", text]), Outcome(verdict.encode() + b"\n", b"", status_of(verdict)))
+
+
+def runs(program, folder):
+    built = library(folder)
+    if built is None:
+        return
+    for name, compiler in WAYS:
+        if not usable(folder, name, compiler):
+            continue
+        path, why = build(built, compiler)
+        yield "examples/certify by %s" % name, why
+        if why is None:
+            yield from cases(program, folder, name, path)
+
+
+def cases(program, folder, name, path):
+    for entries in SIZES:
+        wanted = accepted(entries)
+        yield "%d entries, %s" % (entries, name), difference(done([path, str(entries)]), wanted)
+        last = wanted.stdout.decode().split("\n")[2]
+        yield "text of %d entries, %s" % (entries, name), wrong_text(program, path, [str(entries)], last, folder)
+    for bug, entries, verdict, place in REFUSED:
+        words = ["-b", bug, str(entries)]
+        yield "%s in %d entries, %s" % (bug, entries, name), difference(done([path, *words]), refused(verdict, place))
+        yield "text of %s in %d entries, %s" % (bug, entries, name), wrong_text(program, path, words, verdict, folder)
+    yield "a field that is nil anyway, %s" % name, difference(done([path, "-b", "field", "1"]), accepted(1))
+    timed = re.match(TIMES, done([path, "-t", "5"]).stdout)
+    yield "times of 6 objects, %s" % name, None if timed and timed.group(1) == b"6" else "not printed"
+    for words in [[], ["0"], ["100001"], ["-b", "other", "5"], ["-x", "5"], ["-p", folder, "5"]]:
+        status = done([path, *words]).status
+        yield "status of %s, %s" % (words, name), None if status == 2 else "status %d, wanted 2" % status
+
+
+def code_of_readme(_program, _folder):
+    texts = []
+    for path in SOURCES:
+        with open(path, encoding="utf-8") as file:
+            texts.append(" ".join(file.read().split()))
+    for number, block in enumerate(blocks(DOCUMENT, "c"), 1):
+        missing = [piece for piece in pieces(block) if not any(piece in text for text in texts)]
+        yield "code %d of %s" % (number, DOCUMENT), "in no source: %s" % missing if missing else None
+
+
+def table_of_readme(_program, _folder):
+    """The table of bugs shows what a run with five entries prints."""
+    with open(os.path.join(FOLDER, "README.md"), encoding="utf-8") as file:
+        text = file.read()
+    for bug, entries, verdict, place in REFUSED:
+        if entries == 5:
+            missing = [line for line in ("`-b %s`" % bug, "`%s`" % verdict, "`%s`" % place) if line not in text]
+            yield "bug %s in the table" % bug, "not there: %s" % missing if missing else None
+
+
+GROUPS = [runs, code_of_readme, table_of_readme]

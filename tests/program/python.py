@@ -1,0 +1,108 @@
+"""bindings/python: the package over the shared library, built by its pyproject.toml, and tested by the programs of tests/python."""
+import os
+import shutil
+import sys
+
+from .c_library import TOP, done, library, skip, texts_and_lines, traces_and_replies
+from .examples import names_of
+from .harness import Outcome, difference, file_of
+
+PACKAGE = os.path.join(TOP, "bindings", "python")
+TESTS = os.path.join(TOP, "tests", "python")
+README = os.path.join(PACKAGE, "README.md")
+
+
+def built_package(folder):
+    """The folder that has the package as its pyproject.toml builds it, and why it could not be built, or None. Without setuptools
+    it is the source."""
+    if done([sys.executable, "-c", "import setuptools"]).status != 0:
+        skip("the built Python package", "no setuptools; the source is tested")
+        return PACKAGE, None
+    # setuptools writes beside the source.
+    source = shutil.copytree(PACKAGE, os.path.join(folder, "package"), ignore=shutil.ignore_patterns("__pycache__"))
+    target = os.path.join(folder, "site")
+    made = done([sys.executable, "-c", "import setuptools; setuptools.setup()", "build", "--build-lib", target], cwd=source)
+    if made.status != 0:
+        return target, made.stderr.decode()
+    missing = set(os.listdir(os.path.join(source, "gcflip"))) - set(os.listdir(os.path.join(target, "gcflip")))
+    return target, "it lacks %s" % ", ".join(sorted(missing)) if missing else None
+
+
+class Python:
+    """Python with the package and the shared library."""
+
+    def __init__(self, built, folder):
+        path, self.why = built_package(folder)
+        self.environment = dict(os.environ, PYTHONPATH=path, PYTHONDONTWRITEBYTECODE="1",
+                                GCFLIP_LIBRARY=os.path.join(built.lib, "libgcflip.so"))
+
+    def run(self, *words):
+        return done([sys.executable, *words], env=self.environment)
+
+
+def prepared(folder):
+    """Python with the package; None, and said aloud, where the library cannot be built."""
+    built = library(folder)
+    return None if built is None else Python(built, folder)
+
+
+def suites(_program, folder):
+    """The files of tests of the package, and what its page shows."""
+    python = prepared(folder)
+    if python is None:
+        return
+    yield "the package is built", python.why
+    for name in ("test_checker.py", "test_heap.py"):
+        found = python.run(os.path.join(TESTS, name))
+        yield name, None if found.status == 0 and found.stderr.endswith(b"\nOK\n") else found.stderr.decode()
+    shown = python.run("-m", "doctest", "-v", README)
+    last = shown.stdout.decode().strip().split("\n")[-1]
+    yield "what README shows", None if shown.status == 0 and last == "Test passed." else shown.stdout.decode()
+
+
+def texts(_program, folder):
+    """The examples, and all other pair texts, get their verdicts."""
+    python = prepared(folder)
+    if python is None:
+        return
+    cases = [(name, file_of(folder, "text %d" % number, text), line) for number, (name, text, line) in enumerate(texts_and_lines())]
+    found = python.run(os.path.join(TESTS, "texts.py"), *[file for _, file, _ in cases])
+    yield "texts.py", difference(found, Outcome(found.stdout))
+    lines = found.stdout.decode().split("\n")
+    for number, (case, _, line) in enumerate(cases):
+        told = lines[number] if number < len(lines) else None
+        yield "%s, by texts.py" % case, None if told == line else "%r, wanted %r" % (told, line)
+    yield "there are examples", None if names_of(".pair") else "no .pair"
+
+
+def plays(_program, folder):
+    """The examples, and all other traces without faults, get their replies."""
+    python = prepared(folder)
+    if python is None:
+        return
+    cases = [(name, os.path.join(folder, "replies %d" % number), file_of(folder, "trace %d" % number, trace), replies)
+             for number, (name, trace, replies) in enumerate(traces_and_replies())]
+    found = python.run(os.path.join(TESTS, "play.py"), *[path for _, target, source, _ in cases for path in (source, target)])
+    yield "play.py", difference(found, Outcome())
+    for case, target, _, replies in cases:
+        yield "%s, by play.py" % case, None if content_of(target) == replies else "replied %r" % content_of(target)
+    yield "there are examples", None if names_of(".trace") else "no .trace"
+
+
+def content_of(path):
+    """The bytes of a file; None if there is none."""
+    if not os.path.exists(path):
+        return None
+    with open(path, "rb") as file:
+        return file.read()
+
+
+def not_found(_program, folder):
+    """Without the shared library the import says which file is missing."""
+    environment = dict(os.environ, PYTHONPATH=PACKAGE, PYTHONDONTWRITEBYTECODE="1", GCFLIP_LIBRARY=os.path.join(folder, "nothing.so"))
+    found = done([sys.executable, "-c", "import gcflip"], env=environment)
+    said = found.stderr.decode().strip().split("\n")[-1]
+    yield "no shared library", None if said.startswith("OSError: ") and "nothing.so" in said else said
+
+
+GROUPS = [suites, texts, plays, not_found]

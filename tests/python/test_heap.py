@@ -1,0 +1,205 @@
+"""Tests of the package's heap."""
+import array
+import gc
+import threading
+import unittest
+import weakref
+
+import gcflip
+from gcflip import Heap, LogEntry, Object, Step, own, shared
+from limits import at_most
+
+
+class WrittenWhileScanning(unittest.TestCase):
+    """The trace examples/write_while_scanning.trace by calls, with the replies that its file has."""
+
+    def test_replies(self):
+        with Heap(32) as heap:
+            mutator = heap.mutator(0)
+            mutator.new(own(0), 1, 1)
+            mutator.num(own(1), 9)
+            self.assertEqual(heap.begin(), Step.BEGUN)
+            self.assertEqual(heap.roots(), Step.COPIED)
+            self.assertEqual(heap.scan(), Step.SCANNED)
+            mutator.put(own(0), 0, own(1))
+            self.assertEqual(heap.scan(), Step.PASSED)
+            with self.assertRaises(gcflip.NotReady):
+                heap.flip()
+            self.assertEqual(heap.apply(0), Step.APPLIED)
+            self.assertEqual(heap.flip(), 1)
+            self.assertEqual(mutator.get(own(2), own(0), 0), 9)
+
+
+class Commands(unittest.TestCase):
+    def setUp(self):
+        self.heap = Heap(16, mutators=2)
+        self.addCleanup(self.heap.close)
+        self.mutator = self.heap.mutator(0)
+
+    def test_values(self):
+        self.mutator.new(own(0), 7, 2)
+        self.mutator.raw(own(1), 255, 1)
+        self.mutator.num(own(2), (1 << 63) - 1)
+        self.assertEqual(self.mutator.look(own(0)), Object(7, 2))
+        self.assertEqual(self.mutator.look(own(1)), Object(255, 1, raw=True))
+        self.assertEqual(self.mutator.look(own(2)), (1 << 63) - 1)
+        self.mutator.nil(own(2))
+        self.assertIsNone(self.mutator.look(own(2)))
+        self.assertEqual(self.mutator.get(own(2), own(1), 0), 0)
+
+    def test_slots(self):
+        self.mutator.num(shared(15), 5)
+        self.mutator.num(own(15), 6)
+        other = self.heap.mutator(1)
+        self.assertEqual(other.look(shared(15)), 5)
+        self.assertIsNone(other.look(own(15)))
+        other.move(own(15), shared(15))
+        self.assertTrue(other.same(own(15), shared(15)))
+        self.assertFalse(self.mutator.same(own(15), shared(15)))
+
+    def test_refused_commands(self):
+        refused = [
+            (gcflip.NoObject, "no object", lambda: self.mutator.get(own(1), own(0), 0)),
+            (gcflip.NoObject, "no object", lambda: self.mutator.put(own(0), 0, own(1))),
+            (gcflip.Full, "full", lambda: self.mutator.new(own(0), 1, 14)),
+            (gcflip.Full, "full", lambda: self.mutator.raw(own(0), 1, 14)),
+        ]
+        self.mutator.raw(shared(0), 1, 1)
+        refused += [
+            (gcflip.NoField, "no field", lambda: self.mutator.get(own(1), shared(0), 1)),
+            (gcflip.NoNumber, "no number", lambda: self.mutator.put(shared(0), 0, shared(0))),
+        ]
+        for error, reply, call in refused:
+            with self.assertRaises(error) as caught:
+                call()
+            self.assertEqual(str(caught.exception), reply)
+            self.assertIsInstance(caught.exception, gcflip.HeapRefused)
+        self.assertIsNone(self.mutator.look(own(0)))
+
+    def test_arguments_out_of_range(self):
+        calls = [
+            lambda: Heap(0), lambda: Heap(1048577), lambda: Heap(1 << 32), lambda: Heap(16, 0), lambda: Heap(16, 17), lambda: Heap(16, 257),
+            lambda: own(16), lambda: own(-1), lambda: shared(16), lambda: shared(-1),
+            lambda: self.heap.mutator(2), lambda: self.heap.mutator(-1),
+            lambda: self.mutator.new(32, 0, 0), lambda: self.mutator.new(256, 0, 0), lambda: self.mutator.new(0, 256, 0),
+            lambda: self.mutator.new(0, 0, 65536), lambda: self.mutator.num(0, 1 << 63), lambda: self.mutator.num(0, 1 << 64),
+            lambda: self.mutator.num(0, -1), lambda: self.mutator.get(0, 0, 65536), lambda: self.heap.begin(0),
+            lambda: self.heap.begin(1048577), lambda: self.heap.apply(2), lambda: self.heap.work(0), lambda: self.heap.log_length(2),
+            lambda: self.heap.log_entry(0, 0), lambda: self.heap.new_words(),
+        ]
+        for number, call in enumerate(calls):
+            with self.subTest(number), self.assertRaises(gcflip.OutOfRange):
+                call()
+
+
+class Steps(unittest.TestCase):
+    def test_refused_steps(self):
+        with Heap(16) as heap:
+            for step in (heap.roots, heap.scan, heap.flip, heap.drop, lambda: heap.apply(0)):
+                with self.assertRaises(gcflip.Idle):
+                    step()
+            heap.mutator(0).new(own(0), 1, 1)
+            heap.begin(3)
+            with self.assertRaises(gcflip.Busy):
+                heap.begin()
+            with self.assertRaises(gcflip.NoRoom):
+                heap.roots()
+            self.assertEqual(heap.work(5)[:3], (1, 0, Step.NO_ROOM))
+            self.assertEqual(heap.drop(), Step.DROPPED)
+
+    def test_work(self):
+        """begin, the root, the field, past the object, the flip: five steps, and a replica of three words."""
+        with Heap(16) as heap:
+            heap.mutator(0).new(own(0), 1, 1)
+            self.assertEqual(heap.work(1), (1, 0, Step.BEGUN, 0))
+            self.assertEqual(heap.work(2), (2, 3, Step.SCANNED, 0))
+            self.assertEqual(heap.work(9), (2, 0, Step.FLIPPED, 1))
+
+
+class Readings(unittest.TestCase):
+    def test_open_collection(self):
+        with Heap(16, 2) as heap:
+            mutator = heap.mutator(1)
+            mutator.new(shared(0), 3, 1)
+            self.assertEqual(heap.counts(), (16, 4, 12, 2, False, 0, 0, 0, 0))
+            heap.begin(20)
+            heap.roots()
+            mutator.put(shared(0), 0, own(0))
+            self.assertEqual(heap.counts(), (16, 4, 12, 2, True, 20, 4, 1, 0))
+            self.assertIs(heap.counts().is_open, True)
+            self.assertEqual((heap.log_length(0), heap.log_length(1)), (0, 1))
+            self.assertEqual(heap.log_entry(1, 0), LogEntry(1, 0))
+            header = 16777216 + 65536 * 3 + 1
+            self.assertEqual(list(heap.image().words), [0, header, 1, 0])
+            self.assertEqual(list(heap.image().roots), [2] + [0] * 47)
+            self.assertEqual(heap.new_words(), array.array("Q", [0, header, 1, 0]))
+
+    def test_images_can_be_checked(self):
+        with Heap(16) as heap:
+            heap.mutator(0).new(own(0), 1, 0)
+            image = heap.image()
+            self.assertEqual((image.size, gcflip.check(image, image, [(1, 1)])), (16, 1))
+
+
+class Lives(unittest.TestCase):
+    def test_closed(self):
+        with Heap(16) as heap:
+            mutator = heap.mutator(0)
+        for call in (heap.begin, heap.counts, heap.image, lambda: heap.work(1), lambda: mutator.look(0), lambda: heap.mutator(0)):
+            with self.assertRaises(gcflip.Closed):
+                call()
+        heap.close()
+
+    def test_closed_after_an_exception(self):
+        with self.assertRaises(KeyError):
+            with Heap(16) as heap:
+                raise KeyError
+        with self.assertRaises(gcflip.Closed):
+            heap.counts()
+
+    def test_a_heap_that_nobody_has_is_freed(self):
+        """Two thousand heaps of 8 MiB do not fit beside each other."""
+        with at_most(256 << 20):
+            for _ in range(2000):
+                Heap(1048576)
+
+    def test_a_heap_goes_with_its_last_user(self):
+        heap = Heap(16)
+        mutator, gone = heap.mutator(0), weakref.ref(heap)
+        del heap
+        self.assertIsNone(mutator.look(0))
+        del mutator
+        gc.collect()
+        self.assertIsNone(gone())
+
+    def test_out_of_memory(self):
+        heap = Heap(1048576)
+        heap.mutator(0).new(own(0), 1, 1)
+        with at_most(1 << 20):
+            for call in (lambda: Heap(1048576), heap.begin, lambda: heap.work(1)):
+                with self.assertRaises(gcflip.OutOfMemory):
+                    call()
+        self.assertEqual(heap.begin(), Step.BEGUN)
+        heap.close()
+
+    def test_threads_take_turns(self):
+        """Each of four threads counts to 2000 in an object that a collector copies meanwhile."""
+        with Heap(4096, 4) as heap:
+            threads = [threading.Thread(target=count, args=(heap.mutator(number),)) for number in range(4)]
+            for thread in threads:
+                thread.start()
+            while any(thread.is_alive() for thread in threads):
+                heap.work(3)
+            self.assertEqual([heap.mutator(number).get(own(1), own(0), 0) for number in range(4)], [2000] * 4)
+
+
+def count(mutator):
+    mutator.new(own(0), 1, 1)
+    for number in range(1, 2001):
+        mutator.num(own(1), number)
+        mutator.put(own(0), 0, own(1))
+        assert mutator.get(own(2), own(0), 0) == number
+
+
+if __name__ == "__main__":
+    unittest.main()
