@@ -1,4 +1,4 @@
--- Values of two graphs that stand for each other under a set of pairs of names.
+-- When values, objects and graphs correspond, given a list of pairs of names.
 use Rattle.std.specs.Prelude.{◌≡◌, ℕ, ◌==◌, Bool, true, false, ◌&&◌, List, length, Option, Some, None, IsTrue, ⊤}
 use Rattle.std.specs.List.{list_any, AllZip}
 use Rattle.gc_graph.specs.Graph.{Value, Nil, Num, Ref, Object, Graph, lookup}
@@ -6,7 +6,7 @@ use Rattle.gc_graph.specs.Graph.{Value, Nil, Num, Ref, Object, Graph, lookup}
 abbrev pub paired : List (ℕ × ℕ) → ℕ → ℕ → Bool
 paired pairs a b = list_any (λ p. (p.0 == a) && (p.1 == b)) pairs
 
--- both nil, the same number, or names that are a pair
+-- both are nil, both are the same number, or both are references whose names are a pair
 abbrev pub correspond : List (ℕ × ℕ) → Value → Value → Bool
 correspond pairs Nil Nil = true
 correspond pairs Nil (Num b) = false
@@ -18,21 +18,21 @@ correspond pairs (Ref a) Nil = false
 correspond pairs (Ref a) (Num b) = false
 correspond pairs (Ref a) (Ref b) = paired pairs a b
 
--- what two paths find: nothing, or values that correspond
+-- both paths find nothing, or both find values and these correspond
 abbrev pub Agree : List (ℕ × ℕ) → Option Value → Option Value → Type 0
 Agree pairs None None = ⊤
 Agree pairs None (Some w) = ⊥
 Agree pairs (Some v) None = ⊥
 Agree pairs (Some v) (Some w) = IsTrue (correspond pairs v w)
 
--- two objects, both of which exist, are both raw or both not, have one kind and one length, and their values correspond
+-- both objects exist, are both raw or both not, have the same kind and length, and their fields correspond one by one
 abbrev pub EqualFieldByField : List (ℕ × ℕ) → Option Object → Option Object → Type 0
 EqualFieldByField pairs (Some o) (Some q) = (o.raw ≡ q.raw) × (o.kind ≡ q.kind) × (length o.fields ≡ length q.fields) × AllZip (λ v w. IsTrue (correspond pairs v w)) o.fields q.fields
 EqualFieldByField pairs (Some o) None = ⊥
 EqualFieldByField pairs None q = ⊥
 
--- Roots correspond, and objects that are paired; no name has two partners. Only objects that are paired
--- are spoken of: what no root leads to need not have a partner.
+-- The roots correspond, the objects of each pair are equal field by field, and no name has two partners. Nothing is said
+-- about other objects: an unreachable object needs no partner.
 pub record Corresponding (pairs : List (ℕ × ℕ)) (g h : Graph) : Type 0 where
   pub roots : AllZip (λ v w. IsTrue (correspond pairs v w)) g.roots h.roots
   pub objects : (a b : ℕ) → IsTrue (paired pairs a b) → EqualFieldByField pairs (lookup g.objects a) (lookup h.objects b)

@@ -1,31 +1,31 @@
--- The object graph that a mutator sees: named objects, and roots.
+-- The object graph that a mutator sees: named objects and roots.
 use Rattle.std.specs.Prelude.{◌≡◌, ℕ, suc, ◌==◌, Bool, true, false, if◌then◌else◌, max, List, [], ◌∷◌, ◌++◌, map, replicate, slice_get, slice_set, Option, Some, None, IsFalse}
 use Rattle.std.specs.Option.{option_to_list}
 use Rattle.std.specs.List.{flat_map, list_any, fold}
 use Rattle.gc_graph.specs.Slots.{roots_of}
 
--- a name is a number without bound
+-- a name is any natural number
 pub data Value : Type 0 where
   Nil : Value
   Num : (n : ℕ) → Value
   Ref : (name : ℕ) → Value
 
--- The fields of a raw object are numbers, and no one looks for references in them.
+-- The fields of a raw object are numbers and are never scanned for references.
 pub record Object : Type 0 where
   pub raw : Bool
   pub kind : ℕ
   pub fields : List Value
 
--- The objects are a finite map: of two entries with one name the first counts.
+-- The objects form a finite map. If two entries have the same name, the first one counts.
 pub record Graph : Type 0 where
   pub objects : List (ℕ × Object)
   pub roots : List Value
 
--- no objects, and all roots nil
+-- the initial graph: no objects, and every root is nil
 abbrev pub opening : ℕ → Graph
 opening mutators = record { objects = []; roots = replicate (roots_of mutators) Nil }
 
--- the object of a name
+-- the object with this name
 abbrev pub lookup : List (ℕ × Object) → ℕ → Option Object
 lookup [] name = None
 lookup (entry ∷ rest) name = if entry.0 == name then Some entry.1 else lookup rest name
@@ -36,12 +36,12 @@ object_of objects Nil = None
 object_of objects (Num n) = None
 object_of objects (Ref name) = lookup objects name
 
--- field i of an object, if there is an object and it has that field
+-- field i, if the object exists and has that field
 abbrev pub field_of : Option Object → ℕ → Option Value
 field_of None i = None
 field_of (Some object) i = slice_get object.fields i
 
--- what stands at a place of the roots, and nil past their end
+-- the value of a root, or nil past the end of the roots
 abbrev pub value_or_nil : Option Value → Value
 value_or_nil None = Nil
 value_or_nil (Some v) = v
@@ -51,23 +51,23 @@ root g place = value_or_nil (slice_get g.roots place)
 
 -- ---- paths
 
--- the value found by going from a value through fields of these numbers
+-- the value found by following these field numbers from a value
 abbrev pub follow : List (ℕ × Object) → Option Value → List ℕ → Option Value
 follow objects None fields = None
 follow objects (Some v) [] = Some v
 follow objects (Some v) (i ∷ fields) = follow objects (field_of (object_of objects v) i) fields
 
--- a path is a place of the roots and a list of field numbers
+-- a path is a place in the roots and a list of field numbers
 abbrev pub at_path : Graph → ℕ → List ℕ → Option Value
 at_path g place fields = follow g.objects (slice_get g.roots place) fields
 
--- some path leads to the name
+-- some path finds a reference to this name
 abbrev pub Reachable : Graph → ℕ → Type 0
 Reachable g name = (place : ℕ) × (fields : List ℕ) × (at_path g place fields ≡ Some (Ref name))
 
 -- ---- names
 
--- the name that a value is
+-- the name, if the value is a reference
 abbrev pub name_of : Value → Option ℕ
 name_of Nil = None
 name_of (Num n) = None
@@ -76,23 +76,23 @@ name_of (Ref name) = Some name
 abbrev pub names_of : Value → List ℕ
 names_of v = option_to_list (name_of v)
 
--- the names that occur: those of objects, in fields and in roots
+-- all names in the graph: of objects, in fields and in roots
 abbrev pub names_in : Graph → List ℕ
 names_in g = map (λ entry. entry.0) g.objects
     ++ flat_map (λ entry. flat_map names_of entry.1.fields) g.objects
     ++ flat_map names_of g.roots
 
--- a name that occurs nowhere in the graph
+-- the name occurs nowhere in the graph
 abbrev pub IsUnused : Graph → ℕ → Type 0
 IsUnused g name = IsFalse (list_any (λ other. other == name) (names_in g))
 
--- the least number above all names that occur
+-- the least number above all names in the graph
 abbrev pub fresh_name : Graph → ℕ
 fresh_name g = fold (λ least name. max least (suc name)) 0 (names_in g)
 
 -- ---- changes
 
--- what the fields of a new object hold: zero if it is raw, else nil
+-- the initial value of each field: 0 if the object is raw, else nil
 abbrev pub first_value : Bool → Value
 first_value true = Num 0
 first_value false = Nil
@@ -101,7 +101,7 @@ first_value false = Nil
 abbrev pub new_object : Bool → ℕ → ℕ → Object
 new_object raw kind len = record { raw = raw; kind = kind; fields = replicate len (first_value raw) }
 
--- the graph with this value at this place of the roots
+-- the graph with the root at this place set to `v`
 abbrev pub set_root : Graph → ℕ → Value → Graph
 set_root g place v = record g { roots = slice_set g.roots place v }
 
@@ -111,7 +111,7 @@ add_object g name object = record g { objects = g.objects ++ (name, object) ∷ 
 abbrev pub with_field : Object → ℕ → Value → Object
 with_field object i v = record object { fields = slice_set object.fields i v }
 
--- the objects with this value in field i of the named one
+-- the objects with field i of the named one set to `v`
 abbrev pub set_field : List (ℕ × Object) → ℕ → ℕ → Value → List (ℕ × Object)
 set_field [] name i v = []
 set_field (entry ∷ rest) name i v = if entry.0 == name then (entry.0, with_field entry.1 i v) ∷ rest else entry ∷ set_field rest name i v

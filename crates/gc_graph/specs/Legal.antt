@@ -1,4 +1,4 @@
--- What mutators may be told where there is no collector.
+-- The replies that mutators can get from a machine without a collector.
 use Rattle.std.specs.Prelude.{◌≡◌, ℕ, List, [], ◌∷◌, ◌⊎◌, ⊤}
 use Rattle.gc_graph.specs.Graph.{Graph, opening, fresh_name}
 use Rattle.gc_graph.specs.Machine.{step, MakesObject}
@@ -12,8 +12,8 @@ pub record Told : Type 0 where
   pub op : Op
   pub reply : Reply
 
--- The machine without a collector gives these replies from this graph on. A command that makes an object
--- may also be answered `Full`, and then nothing changes.
+-- The machine without a collector gives these replies, starting from this graph. A command that makes an object may also
+-- get the reply `Full`, and then nothing changes.
 abbrev pub IsLegalFrom : Graph → List Told → Type 0
 IsLegalFrom g [] = ⊤
 IsLegalFrom g (told ∷ rest) =

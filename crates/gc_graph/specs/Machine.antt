@@ -1,4 +1,4 @@
--- What a command does to a graph, and the same with a bound on the words in use.
+-- What each command does to a graph, and the same with a count of free words.
 use Rattle.std.specs.Prelude.{ℕ, suc, ◌+◌, ◌-◌, ◌==◌, nat_lt, Bool, true, false, ◌&&◌, not, if◌then◌else◌, List, length, ◌≡◌, ◌≤◌, ⊤, Option, Some, None, is_some}
 use Rattle.gc_graph.specs.Slots.{place, roots_of}
 use Rattle.gc_graph.specs.Graph.{Value, Nil, Num, Ref, Object, Graph, opening, object_of, field_of, root, set_root, new_object, add_object, set_field, lookup, IsUnused}
@@ -9,18 +9,18 @@ use Rattle.gc_graph.specs.declared.reply.Reply.TheVariants.{Full, Made, Done, No
 use Rattle.gc_graph.specs.declared.reply.View.{View}
 use Rattle.gc_graph.specs.declared.reply.View.TheVariants as views
 
--- an object is shown by its kind and length, and by whether it is raw
+-- the view of an object: its kind and length, and whether it is raw
 abbrev pub view_of_object : Option Object → View
 view_of_object None = views.Nil
 view_of_object (Some object) = if object.raw then views.RawObj object.kind (length object.fields) else views.Obj object.kind (length object.fields)
 
--- a name that has no object is shown as nil
+-- the view of a value; a name without an object is shown as nil
 abbrev pub view_of : List (ℕ × Object) → Value → View
 view_of objects Nil = views.Nil
 view_of objects (Num n) = views.Num n
 view_of objects (Ref name) = view_of_object (lookup objects name)
 
--- nil and nil, equal numbers, or one object
+-- both are nil, both are the same number, or both refer to the same object, which exists
 abbrev pub same : List (ℕ × Object) → Value → Value → Bool
 same objects Nil Nil = true
 same objects Nil (Num b) = false
@@ -32,7 +32,7 @@ same objects (Ref a) Nil = false
 same objects (Ref a) (Num b) = false
 same objects (Ref a) (Ref b) = (a == b) && is_some (lookup objects a)
 
--- `get`: d is a place, then what `s` refers to, and its field
+-- `get` into the root at place `d`, given the object that `s` refers to and the value of its field
 abbrev pub get_field : Graph → ℕ → Option Object → Option Value → Reply × Graph
 get_field g d None found = (NoObject, g)
 get_field g d (Some object) None = (NoField, g)
@@ -42,7 +42,7 @@ abbrev pub is_number : Value → Bool
 is_number (Num n) = true
 is_number v = false
 
--- `put`: what `s` holds, what it refers to, and its field as it was; a raw object takes numbers alone
+-- `put`, given the value of `s`, the object that it refers to, and the field's old value; a raw object accepts only numbers
 abbrev pub put_field : Graph → Value → Option Object → Option Value → ℕ → Value → Reply × Graph
 put_field g (Ref name) (Some object) (Some before) i v =
     if object.raw && not (is_number v) then (NoNumber, g)
@@ -50,8 +50,8 @@ put_field g (Ref name) (Some object) (Some before) i v =
 put_field g (Ref name) (Some object) None i v = (NoField, g)
 put_field g target target_object found i v = (NoObject, g)
 
--- The reply to mutator m's command and the graph that it leaves. `name` is one that occurs nowhere in the
--- graph; only `New` and `NewRaw` use it.
+-- The reply to mutator m's command, and the graph after it. `New` and `NewRaw` give the new object the name `name`, which
+-- has to be unused.
 abbrev pub step : Graph → ℕ → Op → ℕ → Reply × Graph
 step g m (ops.New d kind len) name = (Made, set_root (add_object g name (new_object false kind len)) (place d m) (Ref name))
 step g m (ops.NewRaw d kind len) name = (Made, set_root (add_object g name (new_object true kind len)) (place d m) (Ref name))
@@ -69,37 +69,37 @@ MakesObject (ops.New d kind len) = ⊤
 MakesObject (ops.NewRaw d kind len) = ⊤
 MakesObject op = ⊥
 
--- ---- with a bound on the words in use
+-- ---- with a count of free words
 
 pub record Roomy : Type 0 where
   pub graph : Graph
   pub free : ℕ
 
--- the words of an object with this many fields: its header, its link, and its fields
+-- the number of words of an object with this many fields: its header, its link, and its fields
 abbrev pub object_words : ℕ → ℕ
 object_words len = len + 2
 
--- the words that a command takes
+-- the number of words that a command allocates
 abbrev pub words_taken : Op → ℕ
 words_taken (ops.New d kind len) = object_words len
 words_taken (ops.NewRaw d kind len) = object_words len
 words_taken op = 0
 
--- `Full`, with nothing changed, exactly where the free words do not suffice
+-- the reply and the state after a command: `Full`, with no change, exactly if there are too few free words
 abbrev pub roomy_step : Roomy → ℕ → Op → ℕ → Reply × Roomy
 roomy_step s m op name =
     if nat_lt s.free (words_taken op) then (Full, s)
     else (let next = step s.graph m op name in (next.0, record { graph = next.1; free = s.free - words_taken op }))
 
--- an empty space of this many words, the first of which is reserved
+-- the initial state in a space of this many words, of which the first is reserved
 abbrev pub opening_roomy : ℕ → ℕ → Roomy
 opening_roomy size mutators = record { graph = opening mutators; free = size - 1 }
 
--- mutator m's own slots are among the roots
+-- the roots include mutator m's own slots
 abbrev pub HasMutator : Graph → ℕ → Type 0
 HasMutator g m = roots_of (suc m) ≤ length g.roots
 
--- The command is answered so, and leaves this; a new object takes a name that occurred nowhere.
+-- The command gets this reply and leads to this state. A new object gets a name that was unused.
 pub record Answers (old : Roomy) (m : ℕ) (op : Op) (reply : Reply) (new : Roomy) : Type 0 where
   pub name : ℕ
   pub unused : IsUnused old.graph name

@@ -1,4 +1,4 @@
--- What contracts see of a message: its text.
+-- The text of a message, as contracts see it.
 use Rattle.std.specs.Prelude.{ℕ, List, ◌++◌}
 use Rattle.std.specs.Fmt.{decimal}
 use Rattle.gc_graph.specs.declared.text.message.Form.{Form}

@@ -1,4 +1,4 @@
--- What a plain machine stands for, and what its fields satisfy.
+-- The meaning of a plain machine: its graph and its free words.
 use Rattle.gc_graph.specs.Machine.{Roomy}
 use Rattle.gc_graph.specs.Records.{graph_of}
 use Rattle.gc_graph.specs.declared.plain.Plain.TheInside.{Inside}

@@ -1,4 +1,4 @@
--- Commands with numbers as the program's own type of commands has them.
+-- Commands whose numbers are in the ranges of the program's types.
 use Rattle.std.specs.Prelude.{◌<◌, ◌^◌}
 use Rattle.gc_graph.specs.Limits.{slots_each, kinds, lengths}
 use Rattle.gc_graph.specs.Slots.{SlotName}

@@ -1,4 +1,4 @@
--- Worked rows of the machine without a collector.
+-- Worked rows: commands to the machine without a collector, and their replies.
 use Rattle.std.specs.Prelude.{◌≡◌, ℕ, List, [], ◌∷◌, map}
 use Rattle.gc_graph.specs.Slots.{own_slot, shared_slot}
 use Rattle.gc_graph.specs.Machine.{opening_roomy}
@@ -9,7 +9,7 @@ use Rattle.gc_graph.specs.declared.reply.Reply.{Reply}
 use Rattle.gc_graph.specs.declared.reply.Reply.TheVariants.{Full, Made, Done, NoObject, NoField, NoNumber, Saw, Yes, No}
 use Rattle.gc_graph.specs.declared.reply.View.TheVariants as views
 
--- the replies to the first mutator's commands
+-- the replies to commands of one mutator in a space of this many words
 abbrev pub replies_of_one : ℕ → List Op → List Reply
 replies_of_one size commands = replies (opening_roomy size 1) (map (λ op. (0, op)) commands)
 

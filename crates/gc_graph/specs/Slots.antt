@@ -1,4 +1,4 @@
--- Slots, and their places in the list of roots.
+-- Slots and their places in the list of roots.
 use Rattle.std.specs.Prelude.{ℕ, ◌+◌, ◌*◌, Bool, true, false, if◌then◌else◌}
 use Rattle.gc_graph.specs.Limits.{slots_each}
 
@@ -13,10 +13,10 @@ own_slot i = record { shared = false; index = i }
 abbrev pub shared_slot : ℕ → SlotName
 shared_slot i = record { shared = true; index = i }
 
--- how many roots this many mutators have: the shared ones first, then each mutator's own
+-- the number of roots of this many mutators: the shared ones come first, then each mutator's own
 abbrev pub roots_of : ℕ → ℕ
 roots_of mutators = slots_each + slots_each * mutators
 
--- the place in the list of roots of what mutator m calls by this name
+-- the place in the list of roots of the slot that has this name for mutator m
 abbrev pub place : SlotName → ℕ → ℕ
 place s m = if s.shared then s.index else roots_of m + s.index

@@ -1,10 +1,10 @@
--- What contracts see of a source and a sink.
+-- Sources and sinks as contracts see them.
 use Rattle.std.specs.Prelude.{◌≡◌, ℕ, Bool, List, ◌++◌, Option}
 use Rattle.std.specs.Io.KnownBytes.{Appends}
 use Rattle.gc_graph.specs.declared.text.source.Source.{Source}
 use Rattle.gc_graph.specs.declared.text.sink.Sink.{Sink}
 
--- the bytes that reads will give from here on, where the reader tells them
+-- the bytes that the reader has left, if they are known
 abbrev pub bytes_left : {R : Type 0} → (R → Option (List ℕ)) → Source R → Option (List ℕ)
 bytes_left remaining s = remaining s.reader
 
@@ -12,7 +12,7 @@ bytes_left remaining s = remaining s.reader
 abbrev pub source_failed : {R : Type 0} → Source R → Bool
 source_failed s = s.failed
 
--- the bytes that the writer holds, where it tells them
+-- the bytes that the writer holds, if they are known
 abbrev pub bytes_written : {W : Type 0} → (W → Option (List ℕ)) → Sink W → Option (List ℕ)
 bytes_written contents s = contents s.writer
 
@@ -20,11 +20,11 @@ bytes_written contents s = contents s.writer
 abbrev pub sink_failed : {W : Type 0} → Sink W → Bool
 sink_failed s = s.failed
 
--- known bytes grew by a front of the text, and by no more
+-- a prefix of the text, and nothing else, was appended to the known bytes
 abbrev pub SendsFront : Option (List ℕ) → Option (List ℕ) → List ℕ → Type 0
 SendsFront old new text = (front : List ℕ) × (rest : List ℕ) × (text ≡ front ++ rest) × Appends old new front
 
--- all of the text but the rest went out
+-- the text without its suffix `rest` was appended to the known bytes
 pub record HasSent (old new : Option (List ℕ)) (text rest : List ℕ) : Type 0 where
   pub front : List ℕ
   pub parts : text ≡ front ++ rest

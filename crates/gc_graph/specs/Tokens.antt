@@ -1,4 +1,4 @@
--- Taking tokens from the front of a line, from left to right.
+-- Parsers that take tokens from the front of a line.
 use Rattle.std.specs.Prelude.{ℕ, nat_le, ◌&&◌, List, [], ◌∷◌, Option, Some, None, if◌then◌else◌}
 use Rattle.std.specs.Borrow.{Bor}
 use Rattle.std.specs.Fmt.{decimal}
@@ -6,7 +6,7 @@ use Rattle.std.specs.Str.{bytes_eq}
 use Rattle.std.specs.Str.Parse.{digits_value}
 use Rattle.gc_graph.specs.Lines.{tokens_of}
 
--- the tokens of a line, or none behind its end
+-- the tokens of the rest of a line, or none after its end
 abbrev pub tokens_left : Option (Bor (List ℕ)) → List (List ℕ)
 tokens_left None = []
 tokens_left (Some rest) = tokens_of rest.now
@@ -16,11 +16,11 @@ abbrev pub ◌>>=◌ : {A B : Type 0} → Option A → (A → Option B) → Opti
 None >>= f = None
 (Some x) >>= f = f x
 
--- the number whose decimal the token is, if it is at most this
+-- the number that the token spells in decimal, without leading zeros, if it is at most `most`
 unfoldable pub number_of : ℕ → List ℕ → Option ℕ
 number_of most token = if bytes_eq (decimal (digits_value 10 token)) token && nat_le (digits_value 10 token) most then Some (digits_value 10 token) else None
 
--- What follows takes tokens from the front, and answers with those that are left.
+-- Each parser below takes tokens from the front and returns those that are left.
 abbrev pub Tokens : Type 0
 Tokens = List (List ℕ)
 
@@ -30,12 +30,12 @@ number_at most (token ∷ tokens) = do
   n ← number_of most token
   Some (n, tokens)
 
--- this very token
+-- takes exactly this token
 unfoldable pub token_at : List ℕ → Tokens → Option Tokens
 token_at wanted [] = None
 token_at wanted (token ∷ tokens) = if bytes_eq token wanted then Some tokens else None
 
--- no token is left
+-- returns `x` if no token is left
 unfoldable pub end_of : {A : Type 0} → A → Tokens → Option A
 end_of x [] = Some x
 end_of x (token ∷ tokens) = None

@@ -10,7 +10,7 @@ use Rattle.gc_words.specs.declared.refusal.Refusal.{Refusal}
 use Rattle.gc_words.specs.declared.refusal.Refusal.TheVariants.{OldShape, NewShape, RootCount, OldNotStart, NewNotStart, NotRising, Twice, HeaderDiffers, FieldDiffers, RootDiffers}
 
 infixl 20 ◌or_else◌
--- the first, if there is one, else the second
+-- the first option if it has a value, else the second
 abbrev pub ◌or_else◌ : {X : Type 0} → Option X → Option X → Option X
 None or_else y = y
 (Some x) or_else y = Some x
@@ -29,7 +29,7 @@ abbrev pub fault_of_walk : {X : Type 0} → Result X ℕ → Option ℕ
 fault_of_walk (Ok found) = None
 fault_of_walk (Err at) = Some at
 
--- of a space's words, whatever its size
+-- the address of the first fault in a space's words; its size is not checked
 abbrev pub words_fault : Bool → ℕ → List ℕ → Option ℕ
 words_fault raws end words = if (length words == end) && (slice_index words 0 == 0) then fault_of_walk (walk_all raws words) else Some 0
 
@@ -41,20 +41,20 @@ shape_fault image = if has_size image then words_fault image.raws image.end imag
 
 -- ---- pairs
 
--- the fault of the first pair that has one, where the pairs are counted from k
+-- the fault of the first pair that has one; the pairs are numbered from k
 abbrev pub first_over_pairs : (ℕ → ℕ × ℕ → Option Refusal) → ℕ → List (ℕ × ℕ) → Option Refusal
 first_over_pairs fault k [] = None
 first_over_pairs fault k (p ∷ rest) = fault k p or_else first_over_pairs fault (suc k) rest
 
--- ---- the table of pairs: shapes, the number of roots, and where pairs stand
+-- ---- before objects are compared: shapes, the number of roots, and the addresses of pairs
 
--- whether this new address is not above that of the pair before
+-- whether this new address is at most that of the last pair
 abbrev pub not_above_last : List (ℕ × ℕ) → ℕ → Bool
 not_above_last [] address = false
 not_above_last (p ∷ []) address = nat_le address p.1
 not_above_last (p ∷ q ∷ rest) address = not_above_last (q ∷ rest) address
 
--- of pair k, with those before it
+-- the fault in the addresses of pair k, given the pairs before it
 abbrev pub place_fault : Image → Image → List (ℕ × ℕ) → ℕ → ℕ × ℕ → Option Refusal
 place_fault old new before k p =
     when (not (is_start old.words p.0)) (OldNotStart k)
@@ -74,7 +74,7 @@ table_fault old new pairs =
 
 -- ---- objects
 
--- the first place from i on at which there are not two words that correspond
+-- the first place at which two words do not correspond or one list has ended; places are numbered from i
 abbrev pub first_difference : (ℕ → ℕ → Bool) → ℕ → List ℕ → List ℕ → Option ℕ
 first_difference alike i [] [] = None
 first_difference alike i [] (w ∷ ws) = Some i
@@ -95,7 +95,7 @@ block_fault pairs k (Some a) (Some b) =
 block_fault pairs k (Some a) None = None
 block_fault pairs k None b = None
 
--- of the objects that pair k joins
+-- the fault of the two objects of pair k
 abbrev pub pair_fault : Image → Image → List (ℕ × ℕ) → ℕ → ℕ × ℕ → Option Refusal
 pair_fault old new pairs k p = block_fault pairs k (block_at old.words p.0) (block_at new.words p.1)
 
@@ -107,13 +107,13 @@ object_faults old new pairs = first_over_pairs (pair_fault old new pairs) 0 pair
 abbrev pub root_fault : Image → Image → List (ℕ × ℕ) → Option Refusal
 root_fault old new pairs = at_place (first_difference (words_correspond pairs) 0 old.roots new.roots) (λ slot. RootDiffers slot)
 
--- in this order
+-- the first fault: in shapes, the number of roots and addresses, then in objects, then in roots
 abbrev pub first_fault : Image → Image → List (ℕ × ℕ) → Option Refusal
 first_fault old new pairs = table_fault old new pairs or_else object_faults old new pairs or_else root_fault old new pairs
 
 -- ---- the first fault as a relation
 
--- pair k, with the pairs before it
+-- P holds of pair k and the pairs before it
 pub record PairAt (pairs : List (ℕ × ℕ)) (k : ℕ) (P : List (ℕ × ℕ) → ℕ × ℕ → Type 0) : Type 0 where
   pub before : List (ℕ × ℕ)
   pub pair : ℕ × ℕ
@@ -122,18 +122,18 @@ pub record PairAt (pairs : List (ℕ × ℕ)) (k : ℕ) (P : List (ℕ × ℕ) �
   pub place : length before ≡ k
   pub holds : P before pair
 
--- what comes first: shapes, and as many roots
+-- the first conditions: both images are shaped and have the same number of roots
 pub record AreComparable (old new : Image) : Type 0 where
   pub old_shaped : IsShaped old
   pub new_shaped : IsShaped new
   pub roots : length old.roots ≡ length new.roots
 
--- then where pairs stand: at starts, new addresses rising, no old address twice
+-- the conditions on addresses: objects start at them, new addresses rise, and no old address occurs twice
 pub record ArePlaced (old new : Image) (pairs : List (ℕ × ℕ)) : Type 0 where
   pub starts : All (λ p. IsTrue (is_start old.words p.0) × IsTrue (is_start new.words p.1)) pairs
   pub later : AllPairs (λ p q. (p.0 ≢ q.0) × (p.1 < q.1)) pairs
 
--- then objects, pair by pair
+-- the conditions on objects: the two objects of each of the pairs `some` correspond
 abbrev pub ObjectsMatch : Image → Image → List (ℕ × ℕ) → List (ℕ × ℕ) → Type 0
 ObjectsMatch old new pairs some = All (λ p. BlocksCorrespond pairs (block_at old.words p.0) (block_at new.words p.1)) some
 
@@ -147,7 +147,7 @@ FieldsDifferAt pairs i (Some a) (Some b) = (a.header ≡ b.header) × (first_dif
 FieldsDifferAt pairs i (Some a) None = ⊥
 FieldsDifferAt pairs i None b = ⊥
 
--- of the places of pair k, which of its conditions fails while those before it hold
+-- the refusal names the first failing condition on the addresses of pairs
 abbrev pub PlaceFails : Image → Image → List (ℕ × ℕ) → Refusal → Type 0
 PlaceFails old new pairs (OldNotStart k) = PairAt pairs k (λ before p. ArePlaced old new before × (is_start old.words p.0 ≡ false))
 PlaceFails old new pairs (NewNotStart k) = PairAt pairs k (λ before p. ArePlaced old new before × IsTrue (is_start old.words p.0) × (is_start new.words p.1 ≡ false))
@@ -157,7 +157,7 @@ PlaceFails old new pairs (Twice k) = PairAt pairs k (λ before p. ArePlaced old 
     × All (λ q. q.1 < p.1) before × (All (λ q. q.0 ≢ p.0) before → ⊥))
 PlaceFails old new pairs refusal = ⊥
 
--- the same of the objects that pair k joins
+-- the refusal names the first failing condition on the objects of pairs
 abbrev pub ObjectFails : Image → Image → List (ℕ × ℕ) → Refusal → Type 0
 ObjectFails old new pairs (HeaderDiffers k) = PairAt pairs k (λ before p. ObjectsMatch old new pairs before × HeadersDiffer (block_at old.words p.0) (block_at new.words p.1))
 ObjectFails old new pairs (FieldDiffers k i) = PairAt pairs k (λ before p. ObjectsMatch old new pairs before × FieldsDifferAt pairs i (block_at old.words p.0) (block_at new.words p.1))

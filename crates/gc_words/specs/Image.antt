@@ -1,4 +1,4 @@
--- The words of a space: a reserved word, and then objects back to back. An image has root words beside them.
+-- The words of a space: a reserved word, then objects back to back. An image also has root words.
 use Rattle.std.specs.Prelude.{◌≡◌, ℕ, zero, suc, ◌+◌, ◌-◌, ◌≤◌, ◌==◌, nat_le, Bool, true, if◌then◌else◌, List, [], ◌∷◌, length, take, drop, map, replicate, slice_get, slice_index, slice_set, Option, Some, None, Result, Ok, Err, IsOk, is_some}
 use Rattle.gc_graph.specs.Limits.{most_words}
 use Rattle.gc_graph.specs.Graph.{Object, Graph}
@@ -6,12 +6,12 @@ use Rattle.gc_graph.specs.Machine.{Roomy}
 use Rattle.gc_words.specs.Word.{header_in, value_of, field_value}
 use Rattle.gc_words.specs.declared.header.Header.{Header}
 
--- an object as it stands in a space, without its link
+-- an object in a space: its header and its field words, without its link
 pub record Block : Type 0 where
   pub header : Header
   pub fields : List ℕ
 
--- as it is placed: all field words 0
+-- a new object: every field word is 0
 abbrev pub fresh_block : Header → Block
 fresh_block h = record { header = h; fields = replicate h.len 0 }
 
@@ -21,30 +21,31 @@ abbrev pub with_front : {X : Type 0} → X → Result (List X) ℕ → Result (L
 with_front x (Ok xs) = Ok (x ∷ xs)
 with_front x (Err at) = Err at
 
--- one object, where its header has been read, and the words behind the header: a link, then the fields
+-- the object with this header and then the others, or `at` if there is no header or there are too few words; `words` are the
+-- words after the header: a link, then the fields
 abbrev pub object_at : ℕ → Option Header → List ℕ → (ℕ → Result (List (ℕ × Block)) ℕ) → Result (List (ℕ × Block)) ℕ
 object_at at None words others = Err at
 object_at at (Some h) words others =
     if nat_le (h.len + 1) (length words) then with_front (at, record { header = h; fields = take h.len (drop 1 words) }) (others (h.len + 1)) else Err at
 
--- The objects among the words from place `at` on, with their places, where the first `inside` words still
--- belong to an earlier object; or the first place whose word is no header or whose object runs past the end. `raws`
--- says whether headers of raw objects count.
+-- The objects in the words from address `at` on, each with its address. The first `inside` words still belong to an earlier
+-- object. If an object should start at a word that is no header, or if an object runs past the end, the result is the first
+-- such address. `raws` says whether headers of raw objects are accepted.
 abbrev pub walk : Bool → ℕ → ℕ → List ℕ → Result (List (ℕ × Block)) ℕ
 walk raws inside at [] = Ok []
 walk raws zero at (w ∷ words) = object_at at (header_in raws w) words (λ inside. walk raws inside (suc at) words)
 walk raws (suc inside) at (w ∷ words) = walk raws inside (suc at) words
 
--- the walk over all words of a space, or of an image
+-- the walk over all words of a space or an image
 abbrev pub walk_all : Bool → List ℕ → Result (List (ℕ × Block)) ℕ
 walk_all raws words = walk raws 0 1 (drop 1 words)
 
--- where all headers count
+-- the walk that accepts all headers
 abbrev pub walk_words : List ℕ → Result (List (ℕ × Block)) ℕ
 walk_words words = walk_all true words
 
--- A space of this many words is shaped: `end` is the first place that no object takes, and there are as many
--- words; the first of them is reserved, and the walk over the others comes to the end.
+-- A space of this many words is shaped: `end` is the first address that no object takes, and the number of words. Word 0
+-- is reserved and holds 0, and the walk over the other words reaches the end.
 pub record HasShape (raws : Bool) (size end : ℕ) (words : List ℕ) : Type 0 where
   pub size_low : 1 ≤ size
   pub size_high : size ≤ most_words
@@ -60,8 +61,8 @@ abbrev pub ok_or_nil : {X : Type 0} → Result (List X) ℕ → List X
 ok_or_nil (Ok xs) = xs
 ok_or_nil (Err at) = []
 
--- The objects among the words of a space, by their starts. An image in which headers of raw objects do not count has
--- none of them if it is shaped, and so the same objects.
+-- The objects in the words of a space, each with its address. An image that does not accept headers of raw objects contains
+-- none if it is shaped, so it has the same objects.
 abbrev pub blocks : List ℕ → List (ℕ × Block)
 blocks words = ok_or_nil (walk_words words)
 
@@ -69,7 +70,7 @@ abbrev pub block_in : List (ℕ × Block) → ℕ → Option Block
 block_in [] place = None
 block_in (entry ∷ rest) place = if entry.0 == place then Some entry.1 else block_in rest place
 
--- the object that starts at a place
+-- the object that starts at this address
 abbrev pub block_at : List ℕ → ℕ → Option Block
 block_at words place = block_in (blocks words) place
 
@@ -80,7 +81,7 @@ abbrev pub header_of : Option Block → Option Header
 header_of None = None
 header_of (Some b) = Some b.header
 
--- the header of the object that starts at a place
+-- the header of the object that starts at this address
 abbrev pub header_at : List ℕ → ℕ → Option Header
 header_at words place = header_of (block_at words place)
 
@@ -88,22 +89,23 @@ abbrev pub field_in : Option Block → ℕ → Option ℕ
 field_in None i = None
 field_in (Some b) i = slice_get b.fields i
 
--- field word i of the object that starts at a place
+-- field word i of the object that starts at this address
 abbrev pub field_at : List ℕ → ℕ → ℕ → Option ℕ
 field_at words place i = field_in (block_at words place) i
 
--- the block with this word in field i
+-- the block with field i set to this word
 abbrev pub with_field_word : Block → ℕ → ℕ → Block
 with_field_word b i w = record b { fields = slice_set b.fields i w }
 
--- the blocks with this word in field i of the one at a place
+-- the blocks with field i of the one at this address set to this word
 abbrev pub set_block : List (ℕ × Block) → ℕ → ℕ → ℕ → List (ℕ × Block)
 set_block [] place i w = []
 set_block (entry ∷ rest) place i w = if entry.0 == place then (entry.0, with_field_word entry.1 i w) ∷ rest else entry ∷ set_block rest place i w
 
 -- ---- images and their graphs
 
--- Words beyond `end` do not exist. Links are among the words. `raws` says whether headers of raw objects count.
+-- The words of a space up to its end, links included, and its root words. `raws` says whether headers of raw objects are
+-- accepted.
 pub record Image : Type 0 where
   pub size : ℕ
   pub end : ℕ
@@ -120,13 +122,13 @@ object_of_block b = record { raw = b.header.raw; kind = b.header.kind; fields = 
 abbrev pub object_entry : ℕ × Block → ℕ × Object
 object_entry entry = (entry.0, object_of_block entry.1)
 
--- the objects of a space, named by their starts, without their links
+-- the objects of a space, named by their addresses, without their links
 abbrev pub objects_of : List ℕ → List (ℕ × Object)
 objects_of words = map object_entry (blocks words)
 
 abbrev pub graph_of : Image → Graph
 graph_of image = record { objects = objects_of image.words; roots = map value_of image.roots }
 
--- the graph, and the words that are free
+-- the graph of an image and its number of free words
 abbrev pub roomy_of : Image → Roomy
 roomy_of image = record { graph = graph_of image; free = image.size - image.end }

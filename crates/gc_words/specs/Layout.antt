@@ -1,4 +1,4 @@
--- Where the words of an object stand: its header, its link, and then its fields.
+-- The places of an object's words: its header, then its link, then its fields.
 use Rattle.std.specs.Prelude.{ℕ, ◌+◌}
 use Rattle.gc_graph.specs.Machine.{object_words}
 
@@ -11,6 +11,6 @@ fields_place start = start + 2
 abbrev pub field_place : ℕ → ℕ → ℕ
 field_place start i = fields_place start + i
 
--- the place behind an object with this many fields
+-- the address after an object with this many fields
 abbrev pub next_place : ℕ → ℕ → ℕ
 next_place start len = start + object_words len

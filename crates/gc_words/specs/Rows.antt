@@ -1,4 +1,4 @@
--- Vectors and worked rows.
+-- Worked rows: words with their meanings, and certificates with their first faults.
 use Rattle.std.specs.Prelude.{◌≡◌, ℕ, true, false, List, [], ◌∷◌, Some, None}
 use Rattle.gc_graph.specs.Graph.{Nil, Num, Ref}
 use Rattle.gc_words.specs.Word.{read_header, read_value}

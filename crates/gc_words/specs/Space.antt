@@ -1,4 +1,4 @@
--- A space as contracts see it, and what its calls do to it.
+-- Spaces as contracts see them, and what calls do to them.
 use Rattle.std.specs.Prelude.{ℕ, true, ◌-◌, ◌≤◌, List, [], ◌∷◌, ◌++◌, length, slice_set}
 use Rattle.gc_graph.specs.Machine.{object_words}
 use Rattle.gc_words.specs.Layout.{link_place, field_place}
@@ -7,7 +7,7 @@ use Rattle.gc_words.specs.Image.{Image, Block, HasShape, blocks, fresh_block}
 use Rattle.gc_words.specs.Spelling.{block_words, spelled, no_links}
 use Rattle.gc_words.specs.declared.header.Header.{Header}
 
--- how many words there may be, and those up to the end, links among them
+-- the maximum number of words, and the words up to the end, links included
 pub record SpaceWords : Type 0 where
   pub size : ℕ
   pub words : List ℕ
@@ -15,19 +15,19 @@ pub record SpaceWords : Type 0 where
 abbrev pub IsSpace : SpaceWords → Type 0
 IsSpace space = HasShape true space.size (length space.words) space.words
 
--- without objects
+-- the space without objects
 abbrev pub empty_space : ℕ → SpaceWords
 empty_space size = record { size = size; words = 0 ∷ [] }
 
--- the first place that no object takes
+-- the first address that no object takes
 abbrev pub end_of : SpaceWords → ℕ
 end_of space = length space.words
 
--- words that no object takes
+-- the number of free words
 abbrev pub free_in : SpaceWords → ℕ
 free_in space = space.size - end_of space
 
--- an object with this many fields can be placed
+-- there is room for an object with this many fields
 abbrev pub HasRoomFor : SpaceWords → ℕ → Type 0
 HasRoomFor space len = object_words len ≤ free_in space
 
@@ -37,29 +37,29 @@ pub record CanPlace (space : SpaceWords) (h : Header) : Type 0 where
   pub header : IsHeader h
   pub room : HasRoomFor space h.len
 
--- with one object more, at the old end, whose link is 0
+-- the space with one more object at its end, whose link is 0
 abbrev pub with_block : SpaceWords → Block → SpaceWords
 with_block space b = record space { words = space.words ++ block_words 0 b }
 
--- with a new one, all of whose field words are 0
+-- the space with one new object, whose field words are all 0
 abbrev pub with_object : SpaceWords → Header → SpaceWords
 with_object space h = with_block space (fresh_block h)
 
--- with one word changed
+-- the space with one word changed
 abbrev pub with_word : SpaceWords → ℕ → ℕ → SpaceWords
 with_word space place w = record space { words = slice_set space.words place w }
 
--- with this word as field i, or as the link, of the object that starts at a place
+-- the space with this word as field i, or as the link, of the object that starts at this address
 abbrev pub with_field_at : SpaceWords → ℕ → ℕ → ℕ → SpaceWords
 with_field_at space start i w = with_word space (field_place start i) w
 
 abbrev pub with_link : SpaceWords → ℕ → ℕ → SpaceWords
 with_link space start w = with_word space (link_place start) w
 
--- the same objects, all of whose links are 0
+-- the same objects with all links 0
 abbrev pub without_links : SpaceWords → SpaceWords
 without_links space = record space { words = spelled no_links (blocks space.words) }
 
--- a space with roots beside it
+-- the image of a space with these roots
 abbrev pub image_with : SpaceWords → List ℕ → Image
 image_with space roots = record { size = space.size; end = end_of space; words = space.words; roots = roots; raws = true }

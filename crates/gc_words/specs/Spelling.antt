@@ -1,15 +1,15 @@
--- The words of a space, made from its objects and their links.
+-- The words of a space, built from its objects and their links.
 use Rattle.std.specs.Prelude.{◌≡◌, ℕ, List, [], ◌∷◌, length, slice_index, ⊤}
 use Rattle.std.specs.List.{flat_map}
 use Rattle.gc_words.specs.Layout.{link_place, next_place}
 use Rattle.gc_words.specs.Word.{IsHeader, header_word}
 use Rattle.gc_words.specs.Image.{Block}
 
--- header, link, fields
+-- the words of an object: its header, its link, its fields
 abbrev pub block_words : ℕ → Block → List ℕ
 block_words link b = header_word b.header ∷ link ∷ b.fields
 
--- objects back to back, where the one at a place has the link `links place`
+-- objects back to back; the object that starts at a place has the link `links place`
 abbrev pub spelled_from : (ℕ → ℕ) → List (ℕ × Block) → List ℕ
 spelled_from links entries = flat_map (λ entry. block_words (links entry.0) entry.1) entries
 
@@ -20,16 +20,16 @@ spelled links entries = 0 ∷ spelled_from links entries
 abbrev pub no_links : ℕ → ℕ
 no_links place = 0
 
--- the link word of the object that starts at a place
+-- the link word of the object that starts at this address
 abbrev pub link_at : List ℕ → ℕ → ℕ
 link_at words place = slice_index words (link_place place)
 
--- it has as many fields as its header says
+-- the header is valid, and the number of fields is its length
 pub record IsBlock (b : Block) : Type 0 where
   pub header : IsHeader b.header
   pub fields : length b.fields ≡ b.header.len
 
--- objects back to back from a place on
+-- the objects lie back to back from this address on
 abbrev pub LaidOut : ℕ → List (ℕ × Block) → Type 0
 LaidOut at [] = ⊤
 LaidOut at (entry ∷ rest) = (entry.0 ≡ at) × IsBlock entry.1 × LaidOut (next_place at entry.1.header.len) rest

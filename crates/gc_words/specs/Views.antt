@@ -7,7 +7,7 @@ use Rattle.gc_words.specs.declared.value.Value.TheVariants as variants
 use Rattle.gc_words.specs.declared.image.ImageRef.{ImageRef}
 use Rattle.gc_words.specs.declared.image.Pair.{Pair}
 
--- a value as a graph has it: names are addresses
+-- a value as a value of a graph: names are addresses
 abbrev pub graph_value : declared.Value → Value
 graph_value variants.Nil = Nil
 graph_value (variants.Num n) = Num n

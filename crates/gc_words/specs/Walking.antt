@@ -1,4 +1,4 @@
--- The walk over a space's words, one object at a time, as loops make it.
+-- The walk over the words of a space, one object at a time, as loops perform it.
 use Rattle.std.specs.Prelude.{◌≡◌, ℕ, ◌-◌, ◌≤◌, nat_le, Bool, true, if◌then◌else◌, List, length, take, drop, slice_index, Option, Some, None, Result}
 use Rattle.gc_graph.specs.Machine.{object_words}
 use Rattle.gc_words.specs.Layout.{fields_place, next_place}
@@ -11,26 +11,26 @@ abbrev pub next_after : ℕ → Option Header → ℕ → Option ℕ
 next_after at None room = None
 next_after at (Some h) room = if nat_le (object_words h.len) room then Some (next_place at h.len) else None
 
--- the place behind the object that starts at a place, where headers of raw objects count or not
+-- the address after the object that starts at `at`; `raws` says whether headers of raw objects are accepted
 abbrev pub next_in : Bool → List ℕ → ℕ → Option ℕ
 next_in raws words at = next_after at (header_in raws (slice_index words at)) (length words - at)
 
--- where they count
+-- the same if they are accepted
 abbrev pub next_of : List ℕ → ℕ → Option ℕ
 next_of words at = next_in true words at
 
--- the walk from a place on at which an object starts
+-- the walk from an address on, at which an object starts
 abbrev pub walk_on : Bool → List ℕ → ℕ → Result (List (ℕ × Block)) ℕ
 walk_on raws words at = walk raws 0 at (drop at words)
 
 abbrev pub walk_from : List ℕ → ℕ → Result (List (ℕ × Block)) ℕ
 walk_from words at = walk_on true words at
 
--- an object with this header, as it stands at a place of the words
+-- the object with this header whose words start at this address
 abbrev pub block_from : List ℕ → ℕ → Header → Block
 block_from words at h = record { header = h; fields = take h.len (drop (fields_place at) words) }
 
--- one object is met here, and the walk goes on behind it
+-- an object starts at `at` and ends before `next`, where the walk continues
 pub record StepsIn (raws : Bool) (words : List ℕ) (at next : ℕ) : Type 0 where
   pub header : Header
   pub word : header_in raws (slice_index words at) ≡ Some header
@@ -41,7 +41,7 @@ pub record StepsIn (raws : Bool) (words : List ℕ) (at next : ℕ) : Type 0 whe
 abbrev pub StepsTo : List ℕ → ℕ → ℕ → Type 0
 StepsTo words at next = StepsIn true words at next
 
--- the object stands at a place of the words
+-- the words from `place` on are those of the object; its link may be any word
 pub record StandsIn (words : List ℕ) (place : ℕ) (b : Block) : Type 0 where
   pub low : 1 ≤ place
   pub fits : next_place place b.header.len ≤ length words

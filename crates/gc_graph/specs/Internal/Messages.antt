@@ -1,9 +1,9 @@
--- The length up to which a message is printed without an allocation.
+-- The bound on the length of a message, so that printing it does not allocate.
 use Rattle.std.specs.Prelude.{◌≤◌, length}
 use Rattle.gc_graph.specs.declared.text.message.Form.{Form}
 use Rattle.gc_graph.specs.declared.text.message.Form.TheVariants.{Text, Numbered, NumberedTwice}
 
--- short enough to stand in a printer
+-- each fixed text has at most 40 bytes, so the message has at most 120
 abbrev pub IsShort : Form → Type 0
 IsShort (Text text) = length text.now ≤ 40
 IsShort (Numbered text n) = length text.now ≤ 40

@@ -1,4 +1,4 @@
--- A record of the plain machine, if there is one.
+-- The meaning of an optional record of the plain machine.
 use Rattle.std.specs.Prelude.{Option, Some, None}
 use Rattle.gc_graph.specs.Graph.{Object}
 use Rattle.gc_graph.specs.declared.objects.Record.{Record}

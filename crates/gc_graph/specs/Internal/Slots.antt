@@ -1,4 +1,4 @@
--- How a slot is stored.
+-- The encoding of slot names.
 use Rattle.std.specs.Prelude.{ℕ, Bool, refl}
 use Rattle.std.specs.Coded.{Coded, code_by, coded×, coded_ℕ, coded_bool}
 use Rattle.gc_graph.specs.Slots.{SlotName}
