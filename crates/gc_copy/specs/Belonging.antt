@@ -1,4 +1,4 @@
--- What a heap is whose names are addresses, and when a collection belongs to it.
+-- Heaps whose names are addresses, and when a collection belongs to a heap.
 use Rattle.std.specs.Prelude.{◌≡◌, ◌⊎◌, ℕ, Bool, true, false, ◌-◌, ◌<◌, ◌≤◌, ◌^◌, List, [], ◌∷◌, length, map, Option, Some, None, slice_get, IsTrue, ⊤}
 use Rattle.gc_graph.specs.Limits.{most_words, kinds, lengths}
 use Rattle.gc_graph.specs.Slots.{roots_of}
@@ -12,7 +12,7 @@ use Rattle.gc_copy.specs.Members.{In, Distinct}
 
 -- ---- heaps
 
--- objects back to back from a place up to an end
+-- the objects lie back to back from place `at` to `end`
 abbrev pub Laid : ℕ → List (ℕ × Object) → ℕ → Type 0
 Laid at [] end = at ≡ end
 Laid at (entry ∷ rest) end = (entry.0 ≡ at) × Laid (next_place at (length entry.1.fields)) rest end
@@ -21,7 +21,7 @@ Laid at (entry ∷ rest) end = (entry.0 ≡ at) × Laid (next_place at (length e
 abbrev pub IsNamed : List (ℕ × Object) → ℕ → Type 0
 IsNamed objects name = (o : Object) × In (name, o) objects
 
--- nil, a number, or a reference to what P holds of
+-- nil, a number, or a reference to a name that satisfies P
 abbrev pub RefersTo : (ℕ → Type 0) → Value → Type 0
 RefersTo P Nil = ⊤
 RefersTo P (Num n) = ⊤
@@ -36,7 +36,7 @@ pub record IsObject (objects : List (ℕ × Object)) (o : Object) : Type 0 where
 abbrev pub HasRawNumbers : List (ℕ × Object) → Type 0
 HasRawNumbers objects = (a : ℕ) (o : Object) → lookup objects a ≡ Some o → o.raw ≡ true → (v : Value) → In v o.fields → IsTrue (is_number v)
 
--- a graph whose names are the addresses of its objects in a space of this size with this many free words
+-- A graph of objects in a space with this size and this many free words. Each name is the address of its object.
 pub record IsSpaceGraph (size free : ℕ) (g : Graph) : Type 0 where
   pub high : size ≤ most_words
   pub room : free < size
@@ -45,7 +45,7 @@ pub record IsSpaceGraph (size free : ℕ) (g : Graph) : Type 0 where
   pub roots : (v : Value) → In v g.roots → RefersTo (IsNamed g.objects) v
   pub numbers : HasRawNumbers g.objects
 
--- a number is below 2^63
+-- if the value is a number, it is below 2^63
 abbrev pub IsSmall : Value → Type 0
 IsSmall Nil = ⊤
 IsSmall (Num n) = n < 2 ^ 63
@@ -57,21 +57,21 @@ pub record HasSmallNumbers (g : Graph) : Type 0 where
 
 -- ---- fields that are due
 
--- the scan pointer has yet to come to field i of the replica at place p
+-- field i of the replica at place p is not yet scanned
 abbrev pub IsUnscanned : Collection → ℕ → ℕ → Type 0
 IsUnscanned c p i = (c.scan_place < p) ⊎ ((c.scan_place ≡ p) × (c.scan_field ≤ i))
 
--- a log has this entry
+-- some log has the entry (a, i)
 abbrev pub IsLogged : Collection → ℕ → ℕ → Type 0
 IsLogged c a i = (k : ℕ) × In (a, i) (log_at c k)
 
--- Field i of object a and of its replica, at place p, may differ so far. Those of a raw object count as scanned.
+-- Field i of object a may differ from that of its replica at place p. Fields of raw objects count as scanned.
 abbrev pub IsDue : Collection → Bool → ℕ → ℕ → ℕ → Type 0
 IsDue c raw p a i = ((raw ≡ false) × IsUnscanned c p i) ⊎ IsLogged c a i
 
 -- ---- collections
 
--- a replica is raw or not as its original is, has its kind and length, and corresponding fields where they are not due
+-- The replica has its original's kind and length, and is raw exactly if the original is. Fields that are not due correspond.
 pub record IsReplica (objects : List (ℕ × Object)) (pairs : List (ℕ × ℕ)) (Due : Bool → ℕ → ℕ → ℕ → Type 0) (r : Replica) : Type 0 where
   pub original : Object
   pub found : lookup objects r.original ≡ Some original
@@ -80,15 +80,15 @@ pub record IsReplica (objects : List (ℕ × Object)) (pairs : List (ℕ × ℕ)
   pub len : length r.object.fields ≡ length original.fields
   pub current : (i : ℕ) (v w : Value) → slice_get original.fields i ≡ Some v → slice_get r.object.fields i ≡ Some w → Due r.object.raw r.place r.original i ⊎ IsTrue (correspond pairs v w)
 
--- at a field of a replica or at the end of one, or behind the last
+-- the scan pointer is at a field of a replica, at the end of a replica, or after the last replica
 abbrev pub IsScanPlace : ℕ → ℕ → Collection → Type 0
 IsScanPlace place field c = ((r : Replica) × In r c.replicas × (r.place ≡ place) × (field ≤ length r.object.fields)) ⊎ ((place ≡ new_end c) × (field ≡ 0))
 
 abbrev pub HasField : List (ℕ × Object) → ℕ → ℕ → Type 0
 HasField objects a i = (o : Object) × (lookup objects a ≡ Some o) × (i < length o.fields)
 
--- A collection of these objects, where the fields that are due may differ: the replicas are back to back in
--- the new space, each object has one at most, and a log entry names a field.
+-- A collection of these objects. The replicas lie back to back in the new space, and each object has at most one. Only fields
+-- that are due may differ. Each log entry names a field of an object.
 pub record BelongsBy (Due : Bool → ℕ → ℕ → ℕ → Type 0) (objects : List (ℕ × Object)) (c : Collection) : Type 0 where
   pub laid : Laid 1 (new_objects c) (new_end c)
   pub room : new_end c ≤ c.size
@@ -98,17 +98,17 @@ pub record BelongsBy (Due : Bool → ℕ → ℕ → ℕ → Type 0) (objects : 
   pub entries : (a i : ℕ) → IsLogged c a i → HasField objects a i
   pub numbers : HasRawNumbers objects
 
--- a field that is neither unscanned nor logged is up to date
+-- each field that is scanned and not logged is up to date
 abbrev pub Belongs : List (ℕ × Object) → Collection → Type 0
 Belongs objects c = BelongsBy (IsDue c) objects c
 
--- it belongs but for the fields of which E holds
+-- the same, but fields that satisfy E may be out of date as well
 abbrev pub BelongsBut : (ℕ → ℕ → Type 0) → List (ℕ × Object) → Collection → Type 0
 BelongsBut E objects c = BelongsBy (λ raw p a i. IsDue c raw p a i ⊎ E a i) objects c
 
 -- ---- states
 
--- an open collection belongs to the heap, its space is as large as a space may be, and each mutator has a log
+-- the open collection belongs to the heap, its space is within the size limit, and each mutator has a log
 pub record IsOpened (s : State) (c : Collection) : Type 0 where
   pub belongs : Belongs s.heap.graph.objects c
   pub size : c.size ≤ most_words

@@ -1,4 +1,4 @@
--- What a collection can carry over: what could be reached when it began, and what was made since.
+-- What a collection can copy: objects that were reachable when it began, and objects allocated since.
 use Rattle.std.specs.Prelude.{◌⊎◌, ℕ, ◌≤◌, Bool, true, false, if◌then◌else◌, List, [], ◌∷◌, Option, Some, None, ⊤}
 use Rattle.std.specs.List.{All}
 use Rattle.gc_graph.specs.Limits.{most_words}
@@ -17,7 +17,7 @@ abbrev pub is_begun : StepReply → Bool
 is_begun Begun = true
 is_begun reply = false
 
--- the state before the last event that was answered `Begun`, which so far is `base`
+-- the state in which the last collection began; before this event it is `base`
 abbrev pub base_after : State → State → Event → State
 base_after base s (Mutate m op) = base
 base_after base s (Collect step) = if is_begun (collect s step).0 then s else base
@@ -26,7 +26,7 @@ abbrev pub base_of_run : State → State → List Event → State
 base_of_run base s [] = base
 base_of_run base s (event ∷ events) = base_of_run (base_after base s event) (after s event) events
 
--- reachable in the base, or made later
+-- reachable in the base, or allocated since
 abbrev pub IsLiveSince : State → ℕ → Type 0
 IsLiveSince base name = Reachable base.heap.graph name ⊎ (heap_end base ≤ name)
 
@@ -34,12 +34,12 @@ abbrev pub OnlyKeptIsPaired : State → Option Collection → Type 0
 OnlyKeptIsPaired base None = ⊤
 OnlyKeptIsPaired base (Some c) = All (λ p. IsLiveSince base p.0) (pairs_of c)
 
--- in every run each original of an open collection is kept from the state before it began
+-- in every run, each original of an open collection was reachable when the collection began, or was allocated since
 abbrev pub CarriesOnlyKept : Type 0
 CarriesOnlyKept = (size mutators : ℕ) (events : List Event) → 1 ≤ size → size ≤ most_words → AreEvents mutators events
     → (let opening = opening_state size mutators in OnlyKeptIsPaired (base_of_run opening opening events) (state_after opening events).collection)
 
--- P holds of each name in a root, and of each in a field of an object of which it holds
+-- P holds of each name in a root, and of each name in a field of an object that satisfies P
 pub record LeadsOnlyTo (P : ℕ → Type 0) (g : Graph) : Type 0 where
   pub roots : (v : Value) → In v g.roots → RefersTo P v
   pub fields : (a : ℕ) (o : Object) → In (a, o) g.objects → P a → (v : Value) → In v o.fields → RefersTo P v
@@ -48,8 +48,8 @@ abbrev pub OnlyKeptIsNamed : State → Graph → Option Collection → Type 0
 OnlyKeptIsNamed base g None = ⊤
 OnlyKeptIsNamed base g (Some c) = LeadsOnlyTo (IsLiveSince base) g × OnlyKeptIsPaired base (Some c)
 
--- In every run, while a collection is open, each name in a root, on the left of a pair, or in a field of an object kept
--- from the state before it began, is one that is kept from that state.
+-- Call an object live if it was reachable when the open collection began, or was allocated since. In every run, each original
+-- is live, and roots and fields of live objects refer only to live objects.
 abbrev pub NamesOnlyKept : Type 0
 NamesOnlyKept = (size mutators : ℕ) (events : List Event) → 1 ≤ size → size ≤ most_words → AreEvents mutators events
     → (let opening = opening_state size mutators in

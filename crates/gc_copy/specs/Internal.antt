@@ -1,3 +1,3 @@
--- What only private contracts and proofs need: no part of a promise.
+-- Definitions that only private contracts and proofs need. They are no part of a promise.
 pub mod Entries
 pub mod Words

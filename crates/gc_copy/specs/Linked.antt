@@ -1,4 +1,4 @@
--- The image of a graph whose names are addresses, with links as spaces have them. No definition reads a link.
+-- The image of a graph whose names are addresses, with the links of a space. No definition reads a link.
 use Rattle.std.specs.Prelude.{ℕ, if◌then◌else◌, List, length, map, Option, Some, None}
 use Rattle.gc_graph.specs.Graph.{Value, Num, Object, Graph}
 use Rattle.gc_words.specs.Word.{word_of}
@@ -11,7 +11,7 @@ use Rattle.gc_copy.specs.State.{Replica, Collection, State, replica_of, replica_
 abbrev pub object_header : Object → Header
 object_header object = record { raw = object.raw; kind = object.kind; len = length object.fields }
 
--- the number that a value is
+-- the number that a value holds, or 0 if it holds none
 abbrev pub number_of : Value → ℕ
 number_of (Num n) = n
 number_of v = 0
@@ -20,14 +20,14 @@ number_of v = 0
 abbrev pub field_word : Header → Value → ℕ
 field_word h v = if h.raw then number_of v else word_of v
 
--- an object as it stands in a space
+-- an object as a space holds it, without its link
 abbrev pub object_block : Object → Block
 object_block object = record { header = object_header object; fields = map (field_word (object_header object)) object.fields }
 
 abbrev pub block_entry : ℕ × Object → ℕ × Block
 block_entry entry = (entry.0, object_block entry.1)
 
--- a space of these objects, where the one at address a has the link `links a`
+-- a space with these objects; the object at address a has the link `links a`
 abbrev pub linked_space : (ℕ → ℕ) → ℕ → List (ℕ × Object) → SpaceWords
 linked_space links size objects = record { size = size; words = spelled links (map block_entry objects) }
 
@@ -56,7 +56,7 @@ old_links c a = place_or_zero (replica_of c a)
 abbrev pub new_links : Collection → ℕ → ℕ
 new_links c b = original_or_zero (replica_at c b)
 
--- what the checker takes and a flip keeps: the old image with its links, and the new one with the moved roots
+-- the two images, with links, that the checker gets and a flip keeps; the new one has the moved roots
 abbrev pub old_image : State → Collection → Image
 old_image s c = linked_image (old_links c) s.size s.heap.graph
 

@@ -1,4 +1,4 @@
--- What holds of a heap and an open collection that belongs to it.
+-- Properties of a heap with an open collection that belongs to it.
 use Rattle.std.specs.Prelude.{◌≡◌, ◌≢◌, ◌↔◌, ◌≤◌, length, Some, IsTrue}
 use Rattle.gc_graph.specs.Limits.{most_pairs}
 use Rattle.gc_words.specs.Image.{IsShaped, roomy_of}
@@ -10,12 +10,12 @@ use Rattle.gc_copy.specs.declared.step.Step.{Step}
 use Rattle.gc_copy.specs.declared.step.Step.TheVariants as steps
 use Rattle.gc_copy.specs.declared.step.StepReply.TheVariants.{Clean, NoRoom, Refused, Flipped}
 
--- the heap is the graph of its image, with as many free words
+-- the heap's image is shaped, and its graph and its number of free words are those of the heap
 pub record HasImage (s : State) : Type 0 where
   pub shaped : IsShaped (image_of_graph s.size s.heap.graph)
   pub roomy : roomy_of (image_of_graph s.size s.heap.graph) ≡ s.heap
 
--- the collection has a certificate, and its flip passes
+-- the collection's pairs are a certificate that holds of its images, and its flip succeeds
 pub record Passes (s : State) (c : Collection) : Type 0 where
   pub certified : Certified (image_of_graph s.size s.heap.graph) (image_of_graph c.size (new_graph c s.heap.graph.roots)) (pairs_of c)
   pub flips : collect s steps.Flip ≡ (Flipped (length c.replicas), flipped s c)
@@ -26,14 +26,14 @@ PassesWhereReady s = (c : Collection) → s.collection ≡ Some c → IsTrue (is
 abbrev pub NeverRefused : State → Type 0
 NeverRefused s = (step : Step) → (collect s step).0 ≢ Refused
 
--- where the new space is at least as large, each replica has room
+-- if the new space is at least as large as the old one, no replica lacks room
 abbrev pub AlwaysHasRoom : State → Type 0
 AlwaysHasRoom s = (c : Collection) → s.collection ≡ Some c → s.size ≤ c.size → (step : Step) → (collect s step).0 ≢ NoRoom
 
--- scanning is clean exactly where the scan pointer is at the new end
+-- `Scan` replies `Clean` exactly if the scan pointer is at the new end
 abbrev pub ScansToTheEnd : State → Type 0
 ScansToTheEnd s = (c : Collection) → s.collection ≡ Some c → ((collect s steps.Scan).0 ≡ Clean) ↔ IsTrue (scan_done c)
 
--- no more pairs than a space has objects
+-- there are no more pairs than a space can have objects
 abbrev pub HasFewPairs : State → Type 0
 HasFewPairs s = (c : Collection) → s.collection ≡ Some c → length (pairs_of c) ≤ most_pairs

@@ -1,4 +1,4 @@
--- Worked rows: events in a space of this many words, and their answers.
+-- Worked rows: events in a space of a given size, and their answers.
 use Rattle.std.specs.Prelude.{true, ◌≡◌, ℕ, List, [], ◌∷◌, ◌++◌, Option, Some, None}
 use Rattle.gc_graph.specs.Slots.{own_slot, shared_slot}
 use Rattle.gc_graph.specs.declared.command.Op.{Op}
@@ -16,21 +16,21 @@ use Rattle.gc_copy.specs.declared.event.Answer.TheVariants.{Mutator, Collector}
 use Rattle.gc_copy.specs.declared.step.Step.TheVariants as steps
 use Rattle.gc_copy.specs.declared.step.StepReply.TheVariants.{Busy, Begun, Idle, Clean, NoRoom, Copied, Passed, Scanned, Applied, NotReady, Flipped, Dropped}
 
--- the answers to events in an empty heap of one mutator, or of two
+-- the answers to these events in an empty heap with one mutator, or with two
 abbrev pub answers_of_one : ℕ → List Event → List Answer
 answers_of_one size events = answers (opening_state size 1) events
 
 abbrev pub answers_of_two : ℕ → List Event → List Answer
 answers_of_two size events = answers (opening_state size 2) events
 
--- the first mutator's command, the second one's, and a step
+-- a command of the first mutator, and one of the second
 abbrev pub first : Op → Event
 first op = Mutate 0 op
 
 abbrev pub second : Op → Event
 second op = Mutate 1 op
 
--- replicating, scanning, flipping
+-- the collector's steps
 abbrev pub begin : Event
 begin = Collect steps.Begin
 
@@ -71,7 +71,7 @@ pub record Rows : Type 0 where
       ∷ scan ∷ scan ∷ scan ∷ scan ∷ scan ∷ scan ∷ flip ∷ first (ops.Get (own_slot 4) (own_slot 0) 0) ∷ first (ops.Get (own_slot 4) (own_slot 4) 0) ∷ first (ops.Same (own_slot 4) (own_slot 0)) ∷ first (ops.Same (own_slot 4) (own_slot 1)) ∷ [])
       ≡ Mutator Made ∷ Mutator Made ∷ Mutator Done ∷ Mutator Done ∷ Mutator Done ∷ Collector Begun ∷ Collector Copied ∷ Collector Copied ∷ Collector Clean
       ∷ Collector Scanned ∷ Collector Scanned ∷ Collector Passed ∷ Collector Scanned ∷ Collector Passed ∷ Collector Clean ∷ Collector (Flipped 2) ∷ Mutator (Saw (views.Obj 2 1)) ∷ Mutator (Saw (views.Obj 1 2)) ∷ Mutator Yes ∷ Mutator No ∷ []
-  -- a raw object is copied whole, and written while the collection is open
+  -- a raw object is copied whole, and then written while the collection is open
   pub raw_object : answers_of_one 16 (first (ops.NewRaw (own_slot 0) 7 2) ∷ first (ops.Look (own_slot 0)) ∷ first (ops.Get (own_slot 1) (own_slot 0) 1) ∷ first (ops.Put (own_slot 0) 0 (own_slot 2)) ∷ first (ops.Put (own_slot 0) 2 (own_slot 2)) ∷ first (ops.Num (own_slot 1) 8)
       ∷ first (ops.Put (own_slot 0) 0 (own_slot 1)) ∷ begin ∷ roots ∷ first (ops.Num (own_slot 1) 10) ∷ first (ops.Put (own_slot 0) 1 (own_slot 1)) ∷ scan ∷ scan ∷ flip ∷ apply 0 ∷ flip ∷ first (ops.Get (own_slot 2) (own_slot 0) 0) ∷ first (ops.Get (own_slot 2) (own_slot 0) 1) ∷ [])
       ≡ Mutator Made ∷ Mutator (Saw (views.RawObj 7 2)) ∷ Mutator (Saw (views.Num 0)) ∷ Mutator NoNumber ∷ Mutator NoField ∷ Mutator Done
@@ -82,7 +82,7 @@ pub record Rows : Type 0 where
       ≡ Collector Idle ∷ Collector Idle ∷ Collector Idle ∷ Collector Idle ∷ Collector Idle ∷ Mutator Made ∷ Collector Begun ∷ Collector Busy ∷ Collector Copied ∷ Mutator Done ∷ Collector Dropped ∷ Collector Begun ∷ Collector Clean ∷ Collector Copied ∷ Collector Scanned ∷ Collector Passed ∷ Collector (Flipped 1) ∷ []
   pub nothing_to_copy : answers_of_one 8 (begin ∷ flip ∷ []) ≡ Collector Begun ∷ Collector (Flipped 0) ∷ []
 
--- collections that choose their size
+-- collections whose new space has a chosen size
 pub record SizedRows : Type 0 where
   pub too_small_at_first : answers_of_one 7 (first (ops.New (own_slot 0) 3 4) ∷ begin_sized 6 ∷ roots ∷ roots ∷ flip ∷ begin_sized 7 ∷ give_up ∷ begin_sized 12 ∷ roots ∷ scan ∷ scan ∷ scan ∷ scan ∷ scan ∷ flip ∷ first (ops.New (own_slot 1) 0 3) ∷ first (ops.New (own_slot 1) 0 0) ∷ [])
       ≡ Mutator Made ∷ Collector Begun ∷ Collector NoRoom ∷ Collector NoRoom ∷ Collector NotReady ∷ Collector Busy ∷ Collector Dropped ∷ Collector Begun ∷ Collector Copied ∷ Collector Scanned ∷ Collector Scanned ∷ Collector Scanned ∷ Collector Scanned ∷ Collector Passed ∷ Collector (Flipped 1) ∷ Mutator Made ∷ Mutator Full ∷ []
@@ -95,9 +95,9 @@ pub record SizedRows : Type 0 where
       ∷ apply 0 ∷ apply 0 ∷ apply 0 ∷ flip ∷ [])
       ≡ Mutator Made ∷ Collector Begun ∷ Collector Copied ∷ Collector Scanned ∷ Collector Passed ∷ Mutator Made ∷ Mutator Done ∷ Collector NoRoom ∷ Collector NoRoom ∷ Mutator Done ∷ Mutator Done ∷ Collector Applied ∷ Collector Applied ∷ Collector Clean ∷ Collector (Flipped 1) ∷ []
 
--- ---- what a flip shows to the checker
+-- ---- what a flip shows the checker
 
--- the images and pairs of the open collection, old, new and pairs
+-- the old image, the new image and the pairs of an open collection
 pub record FlipPair : Type 0 where
   pub old : Image
   pub new : Image
@@ -107,11 +107,11 @@ abbrev pub flip_pair_of : State → Option Collection → Option FlipPair
 flip_pair_of s None = None
 flip_pair_of s (Some c) = Some (record { old = old_image s c; new = new_image s c; pairs = pairs_of c })
 
--- of the collection that is open after these events of one mutator
+-- the flip pair of the collection, if any, that is open after these events of one mutator
 abbrev pub flip_pair_after : ℕ → List Event → Option FlipPair
 flip_pair_after size events = let s = state_after (opening_state size 1) events in flip_pair_of s s.collection
 
--- sixteen words, the first of which is given
+-- sixteen words: this one, and then zeros
 abbrev pub sixteen : ℕ → List ℕ
 sixteen word = word ∷ 0 ∷ 0 ∷ 0 ∷ 0 ∷ 0 ∷ 0 ∷ 0 ∷ 0 ∷ 0 ∷ 0 ∷ 0 ∷ 0 ∷ 0 ∷ 0 ∷ 0 ∷ []
 

@@ -1,4 +1,4 @@
--- Runs of a heap with its collector: the states that lists of events lead to.
+-- Runs of a heap with its collector: the states and answers that lists of events lead to.
 use Rattle.std.specs.Prelude.{ℕ, ◌<◌, ◌≤◌, ◌==◌, if◌then◌else◌, List, [], ◌∷◌, ⊤}
 use Rattle.std.specs.List.{flat_map}
 use Rattle.gc_graph.specs.Limits.{most_words}
@@ -13,7 +13,7 @@ use Rattle.gc_copy.specs.declared.event.Answer.TheVariants.{Mutator, Collector}
 use Rattle.gc_copy.specs.declared.step.Step.{Step}
 use Rattle.gc_copy.specs.declared.step.Step.TheVariants as steps
 
--- a space's size, and the number of a log
+-- the step's argument is in range: the size of a space, or the number of a log
 abbrev pub IsStep : ℕ → Step → Type 0
 IsStep mutators steps.Begin = ⊤
 IsStep mutators (steps.BeginSized size) = (1 ≤ size) × (size ≤ most_words)
@@ -39,7 +39,7 @@ abbrev pub state_after : State → List Event → State
 state_after s [] = s
 state_after s (event ∷ events) = state_after (after s event) events
 
--- it holds of each state that events lead to from an empty heap
+-- P holds in every state that a run from an empty heap leads to
 abbrev pub InEveryRun : (State → Type 0) → Type 0
 InEveryRun P = (size mutators : ℕ) (events : List Event) → 1 ≤ size → size ≤ most_words → AreEvents mutators events → P (state_after (opening_state size mutators) events)
 
@@ -49,14 +49,14 @@ abbrev pub answer : State → Event → Answer
 answer s (Mutate m op) = Mutator (mutate s m op).0
 answer s (Collect step) = Collector (collect s step).0
 
--- the answers to events, one after the other
+-- the answers to these events, in order
 abbrev pub answers : State → List Event → List Answer
 answers s [] = []
 answers s (event ∷ events) = answer s event ∷ answers (after s event) events
 
--- ---- what one mutator does
+-- ---- the commands of one mutator
 
--- the command, where it is mutator m's
+-- the command, if the event is one of mutator m
 abbrev pub command_by : ℕ → Event → List Op
 command_by m (Mutate other op) = if other == m then op ∷ [] else []
 command_by m (Collect step) = []

@@ -1,18 +1,18 @@
--- What a heap with a collector consists of, seen without links. Names are addresses.
+-- The state of a heap with a collector, without links. Names are addresses.
 use Rattle.std.specs.Prelude.{ℕ, false, ◌-◌, ◌==◌, if◌then◌else◌, List, [], ◌∷◌, length, map, Option, Some, None}
 use Rattle.std.specs.List.{find}
 use Rattle.gc_words.specs.Layout.{next_place}
 use Rattle.gc_graph.specs.Graph.{Value, Nil, Num, Ref, Object, Graph, new_object}
 use Rattle.gc_graph.specs.Machine.{Roomy, opening_roomy}
 
--- an object of the new space, at its place, with the name of its original
+-- an object in the new space (to-space), with its place and the name of its original
 pub record Replica : Type 0 where
   pub original : ℕ
   pub place : ℕ
   pub object : Object
 
--- An open collection. Replicas are in the order in which they were placed, back to back. Each mutator has a
--- log of (object, field number), the oldest first. The scan pointer is a place and a field number.
+-- An open collection. Replicas lie back to back, in the order in which they were placed. Each mutator has a
+-- log of (object, field number), oldest entry first. The scan pointer is a place and a field number.
 pub record Collection : Type 0 where
   pub size : ℕ
   pub replicas : List Replica
@@ -20,7 +20,7 @@ pub record Collection : Type 0 where
   pub scan_place : ℕ
   pub scan_field : ℕ
 
--- The mutators' heap: its graph, whose names are addresses, and its free words; `size` is that of its space.
+-- The mutators' heap, the size of its space, and the open collection, if any. `heap` is a graph with the number of free words.
 pub record State : Type 0 where
   pub mutators : ℕ
   pub size : ℕ
@@ -30,18 +30,18 @@ pub record State : Type 0 where
 abbrev pub opening_state : ℕ → ℕ → State
 opening_state size mutators = record { mutators = mutators; size = size; heap = opening_roomy size mutators; collection = None }
 
--- the first word of the mutators' space that no object takes
+-- the address of the first free word in the mutators' space
 abbrev pub heap_end : State → ℕ
 heap_end s = s.size - s.heap.free
 
 -- ---- the new space
 
--- the place behind objects that lie back to back from a place on
+-- the place after objects that lie back to back, from place `at` on
 abbrev pub objects_end : ℕ → List (ℕ × Object) → ℕ
 objects_end at [] = at
 objects_end at (entry ∷ rest) = objects_end (next_place at (length entry.1.fields)) rest
 
--- what stands in the new space, its first word that no object takes, and how many words no object takes
+-- the objects in the new space, the address of its first free word, and the number of its free words
 abbrev pub new_objects : Collection → List (ℕ × Object)
 new_objects c = map (λ r. (r.place, r.object)) c.replicas
 
@@ -53,11 +53,11 @@ new_free c = c.size - new_end c
 
 -- ---- originals and replicas
 
--- (old address, new address)
+-- the pairs of originals and replicas, as (old address, new address)
 abbrev pub pairs_of : Collection → List (ℕ × ℕ)
 pairs_of c = map (λ r. (r.original, r.place)) c.replicas
 
--- the replica of the object of a name, and the one that stands at a place
+-- the replica of the object with this name, and the replica at this place
 abbrev pub replica_of : Collection → ℕ → Option Replica
 replica_of c name = find (λ r. r.original == name) c.replicas
 
@@ -68,16 +68,16 @@ abbrev pub moved_name : Option Replica → ℕ → Value
 moved_name None name = Ref name
 moved_name (Some r) name = Ref r.place
 
--- the value with a reference to the replica in the place of one to the original
+-- the value; a reference to an original becomes a reference to its replica
 abbrev pub moved : Collection → Value → Value
 moved c Nil = Nil
 moved c (Num n) = Num n
 moved c (Ref name) = moved_name (replica_of c name) name
 
--- an object as its replica is placed: a raw one as it is, another with all fields nil
+-- an object's replica when it is placed: a raw object is copied whole; in any other, all fields are nil
 abbrev pub fresh_object : Object → Object
 fresh_object object = if object.raw then object else new_object false object.kind (length object.fields)
 
--- the new space as a graph, with these roots moved there
+-- the new space as a graph, with these roots moved from originals to replicas
 abbrev pub new_graph : Collection → List Value → Graph
 new_graph c roots = record { objects = new_objects c; roots = map (moved c) roots }

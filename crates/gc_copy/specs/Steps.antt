@@ -1,4 +1,4 @@
--- What a mutator's command and each step of the collector answer and leave.
+-- The reply to each command of a mutator and to each step of the collector, and the state after it.
 use Rattle.std.specs.Prelude.{ℕ, suc, ◌==◌, nat_lt, Bool, true, false, ◌&&◌, ◌||◌, not, if◌then◌else◌, List, [], ◌∷◌, ◌++◌, length, map, replicate, slice_get, slice_set, Option, Some, None, is_none, is_some, ⊤}
 use Rattle.std.specs.List.{list_all, flat_map}
 use Rattle.gc_words.specs.Layout.{next_place}
@@ -19,12 +19,12 @@ use Rattle.gc_copy.specs.declared.step.StepReply.TheVariants.{Busy, Begun, Idle,
 
 -- ---- mutators
 
--- the command writes a field, unless it is refused
+-- the command is a `put`: it writes a field if its reply is `Done`
 abbrev pub WritesField : Op → Type 0
 WritesField (ops.Put s i t) = ⊤
 WritesField op = ⊥
 
--- the field that a command writes, where it is answered `Done`
+-- the field that the command writes, if its reply is `Done`
 abbrev pub written : Graph → ℕ → Op → Reply → List (ℕ × ℕ)
 written g m (ops.Put s i t) Done = map (λ name. (name, i)) (names_of (root g (place s m)))
 written g m op reply = []
@@ -40,12 +40,12 @@ log_at c m = log_or_nil (slice_get c.logs m)
 abbrev pub with_log : Collection → ℕ → List (ℕ × ℕ) → Collection
 with_log c m entries = record c { logs = slice_set c.logs m entries }
 
--- an open collection with these entries behind mutator m's log
+-- the open collection, if any, with these entries appended to mutator m's log
 abbrev pub logged : Option Collection → ℕ → List (ℕ × ℕ) → Option Collection
 logged None m entries = None
 logged (Some c) m entries = Some (with_log c m (log_at c m ++ entries))
 
--- mutator m's command; a new object's name is the end of the space
+-- The reply to mutator m's command, and the next state. A new object lies at the heap's end, and that address is its name.
 abbrev pub mutate : State → ℕ → Op → Reply × State
 mutate s m op =
     let next = roomy_step s.heap m op (heap_end s) in
@@ -56,15 +56,15 @@ mutate s m op =
 abbrev pub fresh_replica : ℕ → ℕ → Object → Replica
 fresh_replica name place object = record { original = name; place = place; object = fresh_object object }
 
--- The collection with a replica of this object at the new end, where there is room for it. A name always has
--- an object where a collection belongs to its heap.
+-- The collection with a replica of this object at the new end, or `None` if there is no room. If a collection belongs to its
+-- heap, the object always exists.
 abbrev pub place_replica : Collection → ℕ → Option Object → Option Collection
 place_replica c name None = None
 place_replica c name (Some object) =
     if nat_lt (new_free c) (object_words (length object.fields)) then None
     else Some (record c { replicas = c.replicas ++ fresh_replica name (new_end c) object ∷ [] })
 
--- the collection with a replica of what the value refers to
+-- The collection, in which the value's target, if any, has a replica; or `None` if there is no room for a new one.
 abbrev pub with_replica : Collection → Graph → Value → Option Collection
 with_replica c g Nil = Some c
 with_replica c g (Num n) = Some c
@@ -73,7 +73,7 @@ with_replica c g (Ref name) = if is_some (replica_of c name) then Some c else pl
 abbrev pub with_written : ℕ → ℕ → Value → Replica → Replica
 with_written name i v r = if r.original == name then record r { object = with_field r.object i v } else r
 
--- field i of the replica of the named object set to v
+-- the collection with field i of the named object's replica set to v
 abbrev pub write_replica : Collection → ℕ → ℕ → Value → Collection
 write_replica c name i v = record c { replicas = map (with_written name i v) c.replicas }
 
@@ -85,24 +85,24 @@ abbrev pub bring_value : Collection → Graph → ℕ → ℕ → Option Value �
 bring_value c g name i None = Some c
 bring_value c g name i (Some v) = copy_value (with_replica c g v) name i v
 
--- field i of the named object's replica brought up to date with the value that the original has now; what
--- that refers to gets a replica first
+-- Brings field i of the named object's replica up to date: reads the original's field as it is now, and writes the
+-- corresponding value. A target without a replica gets one first; the result is `None` if there is no room.
 abbrev pub bring_up_to_date : Collection → Graph → ℕ → ℕ → Option Collection
 bring_up_to_date c g name i = bring_value c g name i (field_of (lookup g.objects name) i)
 
--- ---- what a step leaves
+-- ---- the state after a step
 
 abbrev pub with_collection : State → Option Collection → State
 with_collection s c = record s { collection = c }
 
--- the answer where there was room, else `NoRoom` with nothing changed
+-- this reply and the next collection; if there was no room, `NoRoom` and the state is unchanged
 abbrev pub if_room : State → StepReply → Option Collection → StepReply × State
 if_room s reply None = (NoRoom, s)
 if_room s reply (Some c) = (reply, with_collection s (Some c))
 
 -- ---- beginning
 
--- a collection with nothing in its new space
+-- a collection whose new space and logs are empty
 abbrev pub fresh_collection : ℕ → ℕ → Collection
 fresh_collection mutators size = record { size = size; replicas = []; logs = replicate mutators []; scan_place = 1; scan_field = 0 }
 
@@ -139,25 +139,25 @@ abbrev pub next_field : Option Collection → Option Collection
 next_field None = None
 next_field (Some c) = Some (record c { scan_field = suc c.scan_field })
 
--- The replica at the scan pointer; before the new end there always is one where a collection belongs to its
--- heap. A raw one was copied whole when it was placed.
+-- Scans the replica at the scan pointer. If a collection belongs to its heap, there always is a replica before the new end.
+-- A raw replica is passed at once: it was copied whole when it was placed.
 abbrev pub scan_replica : State → Collection → Option Replica → StepReply × State
 scan_replica s c None = (Clean, s)
 scan_replica s c (Some r) =
     if r.object.raw || (c.scan_field == length r.object.fields) then (Passed, with_collection s (Some (next_object c r)))
     else if_room s Scanned (next_field (bring_up_to_date c s.heap.graph r.original c.scan_field))
 
--- one field, or the step to the next object
+-- scans one field, or moves the scan pointer to the next object
 abbrev pub scan : State → Collection → StepReply × State
 scan s c = if scan_done c then (Clean, s) else scan_replica s c (replica_at c c.scan_place)
 
 -- ---- logs
 
--- an entry's field, skipped where the object has no replica
+-- brings the entry's field up to date; does nothing if the object has no replica
 abbrev pub apply_entry : Collection → Graph → ℕ × ℕ → Option Collection
 apply_entry c g entry = if is_some (replica_of c entry.0) then bring_up_to_date c g entry.0 entry.1 else Some c
 
--- the oldest entry of log m is taken out and applied
+-- removes the oldest entry of log m and applies it; on `NoRoom` the entry stays
 abbrev pub apply_log : State → Collection → ℕ → List (ℕ × ℕ) → StepReply × State
 apply_log s c m [] = (Clean, s)
 apply_log s c m (entry ∷ rest) = if_room s Applied (apply_entry (with_log c m rest) s.heap.graph entry)
@@ -168,15 +168,15 @@ abbrev pub is_empty : {X : Type 0} → List X → Bool
 is_empty [] = true
 is_empty (x ∷ xs) = false
 
--- no log has an entry, all is scanned, and each root's target has a replica
+-- every log is empty, everything is scanned, and every root's target has a replica
 abbrev pub is_ready : Collection → Graph → Bool
 is_ready c g = list_all is_empty c.logs && scan_done c && roots_done c g
 
--- the mutators go on in the new space
+-- the state after a flip: the new space is the mutators' space, and no collection is open
 abbrev pub flipped : State → Collection → State
 flipped s c = record { mutators = s.mutators; size = c.size; heap = record { graph = new_graph c s.heap.graph.roots; free = new_free c }; collection = None }
 
--- The certificate holds of the old image, the new one and the pairs: it does exactly where there is no first
+-- The certificate, which is the list of pairs, holds of the old image and the new one. It holds exactly if there is no first
 -- fault.
 abbrev pub passes_check : State → Collection → Bool
 passes_check s c = is_none (first_fault (image_of_graph s.size s.heap.graph) (image_of_graph c.size (new_graph c s.heap.graph.roots)) (pairs_of c))
@@ -211,11 +211,11 @@ abbrev pub collect_with : State → Option Collection → Step → StepReply × 
 collect_with s None step = step_idle s step
 collect_with s (Some c) step = step_in s c step
 
--- a step's answer and the next state
+-- the reply to a step, and the next state
 abbrev pub collect : State → Step → StepReply × State
 collect s step = collect_with s s.collection step
 
--- the answers that change something
+-- a step with this reply changes the state
 abbrev pub is_change : StepReply → Bool
 is_change Busy = false
 is_change Begun = true
@@ -231,9 +231,9 @@ is_change Refused = false
 is_change (Flipped pairs) = true
 is_change Dropped = true
 
--- ---- the step that brings a collection on
+-- ---- the useful step
 
--- the least log from number k on that has an entry
+-- the number of the first log that has an entry, if the logs are numbered from k on
 abbrev pub first_log : ℕ → List (List (ℕ × ℕ)) → Option ℕ
 first_log k [] = None
 first_log k (log ∷ logs) = if is_empty log then first_log (suc k) logs else Some k
@@ -249,6 +249,6 @@ useful_with s (Some c) =
     else if not (scan_done c) then steps.Scan
     else apply_or_flip (first_log 0 c.logs)
 
--- where none is open `Begin`; else the first of roots, scanning and logs with something left; else `Flip`
+-- `Begin` if no collection is open; else the first of `Roots`, `Scan` and `Apply` that has work left; else `Flip`
 abbrev pub useful_step : State → Step
 useful_step s = useful_with s s.collection

@@ -1,4 +1,4 @@
--- A collection as contracts see it: a new space whose links are originals, logs with their room, and the scan pointer.
+-- A collection as contracts see it: a new space whose links are originals, logs with spare capacity, and the scan pointer.
 use Rattle.std.specs.Prelude.{◌≡◌, ℕ, ◌<◌, ◌^◌, List, length, map, slice_get, IsTrue, Option, Some, None}
 use Rattle.gc_words.specs.Word.{word_of}
 use Rattle.gc_words.specs.Image.{Block, blocks, is_start, object_of_block}
@@ -10,7 +10,7 @@ use Rattle.gc_copy.specs.Linked.{old_links}
 use Rattle.gc_copy.specs.Members.{In}
 use Rattle.gc_copy.specs.Belonging.{Belongs, BelongsBut}
 
--- what a mutator wrote, the oldest first, and how many entries more have their memory
+-- the fields that a mutator wrote, oldest first, and the number of further entries that need no allocation
 pub record Log : Type 0 where
   pub entries : List (ℕ × ℕ)
   pub spare : ℕ
@@ -21,9 +21,9 @@ pub record CollectionWords : Type 0 where
   pub scan_place : ℕ
   pub scan_field : ℕ
 
--- ---- the collection that the words are
+-- ---- the collection that the words represent
 
--- an object of the new space, which is a replica of what its link names
+-- an object of the new space as a replica; its link is its original's address
 abbrev pub replica_entry : List ℕ → ℕ × Block → Replica
 replica_entry words entry = record { original = link_at words entry.0; place = entry.0; object = object_of_block entry.1 }
 
@@ -36,15 +36,15 @@ entries_of log = log.entries
 abbrev pub collection_in : CollectionWords → Collection
 collection_in c = record { size = c.space.size; replicas = replicas_in c.space.words; logs = map entries_of c.logs; scan_place = c.scan_place; scan_field = c.scan_field }
 
--- a space of objects, each of which has an original, and no more logs than a `u8` can number
+-- the words are a space, the address of each original fits in a `u32`, and the number of logs fits in a `u8`
 pub record IsCollection (c : CollectionWords) : Type 0 where
   pub space : IsSpace c.space
   pub logs : length c.logs < 256
   pub originals : (r : Replica) → In r (replicas_in c.space.words) → r.original < 2 ^ 32
 
--- ---- with a heap
+-- ---- a heap with a collection
 
--- the state without a collection, and with this one
+-- the heap's state: with this optional collection, without a collection, and with this one
 abbrev pub state_of : HeapWords → Option Collection → State
 state_of heap collection = record { mutators = heap.mutators; size = heap.space.size; heap = roomy_in heap; collection = collection }
 
@@ -58,27 +58,27 @@ open_state heap c = state_of heap (Some (collection_in c))
 abbrev pub HasNoLinks : HeapWords → Type 0
 HasNoLinks heap = (a : ℕ) → IsTrue (is_start heap.space.words a) → link_at heap.space.words a ≡ 0
 
--- an original's link is its replica's place, every other link is 0
+-- an original's link is its replica's place; every other link is 0
 abbrev pub LinksReplicas : HeapWords → Collection → Type 0
 LinksReplicas heap c = (a : ℕ) → IsTrue (is_start heap.space.words a) → link_at heap.space.words a ≡ old_links c a
 
--- the collection belongs to the heap, whose links tell its replicas
+-- the collection belongs to the heap, the heap's links lead to the replicas, and each mutator has a log
 pub record BelongsTo (heap : HeapWords) (c : CollectionWords) : Type 0 where
   pub belongs : Belongs (graph_in heap).objects (collection_in c)
   pub links : LinksReplicas heap (collection_in c)
   pub logs : length c.logs ≡ heap.mutators
 
--- the same but for these fields, each an object and a number
+-- the same, but these fields, as (object, field number), may be out of date
 pub record BelongsToBut (fields : List (ℕ × ℕ)) (heap : HeapWords) (c : CollectionWords) : Type 0 where
   pub belongs : BelongsBut (λ a i. In {X = ℕ × ℕ} (a, i) fields) (graph_in heap).objects (collection_in c)
   pub links : LinksReplicas heap (collection_in c)
   pub logs : length c.logs ≡ heap.mutators
 
--- the words of the moved roots
+-- the root words after the roots are moved to replicas
 abbrev pub new_root_words : HeapWords → Collection → List ℕ
 new_root_words heap c = map word_of (new_graph c (graph_in heap).roots).roots
 
--- how many entries more mutator m's log has room for
+-- the number of entries that mutator m's log can take without an allocation
 abbrev pub spare_in : Option Log → ℕ
 spare_in None = 0
 spare_in (Some log) = log.spare

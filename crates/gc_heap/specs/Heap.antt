@@ -1,4 +1,4 @@
--- A heap as contracts see it: a space with links among its words, roots, and mutators.
+-- A heap as contracts see it: a space, whose words include links, the root words, and the number of mutators.
 use Rattle.std.specs.Prelude.{◌≡◌, ℕ, List, length, replicate, IsTrue, IsFalse}
 use Rattle.gc_graph.specs.Slots.{roots_of}
 use Rattle.gc_graph.specs.Graph.{Graph}
@@ -16,25 +16,25 @@ pub record HeapWords : Type 0 where
 abbrev pub image_of : HeapWords → Image
 image_of heap = image_with heap.space heap.roots
 
--- what the mutators see
+-- the object graph that mutators see
 abbrev pub graph_in : HeapWords → Graph
 graph_in heap = graph_of (image_of heap)
 
--- the same with the words that are free
+-- the same graph, with the number of free words
 abbrev pub roomy_in : HeapWords → Roomy
 roomy_in heap = roomy_of (image_of heap)
 
--- without objects, and with all roots nil
+-- the heap without objects, in which every root is nil
 abbrev pub empty_heap : ℕ → ℕ → HeapWords
 empty_heap size mutators = record { space = empty_space size; roots = replicate (roots_of mutators) 0; mutators = mutators }
 
--- each field word and each root word is a value, all references are to starts, and the mutators have their roots
+-- field words and root words are valid, references are to starts of objects, and each mutator has its roots
 pub record IsHeap (heap : HeapWords) : Type 0 where
   pub space : IsSpace heap.space
   pub closed : IsClosed heap.space.words heap.roots
   pub roots : length heap.roots ≡ roots_of heap.mutators
 
--- objects keep their links, and those of new objects are 0
+-- existing objects keep their links; the links of new objects are 0
 pub record KeepsLinks (old new : List ℕ) : Type 0 where
   pub kept : (start : ℕ) → IsTrue (is_start old start) → link_at new start ≡ link_at old start
   pub fresh : (start : ℕ) → IsFalse (is_start old start) → IsTrue (is_start new start) → link_at new start ≡ 0

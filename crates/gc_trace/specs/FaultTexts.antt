@@ -1,4 +1,4 @@
--- What is said of a trace's fault.
+-- The texts of faults of traces and of players.
 use Rattle.std.specs.Prelude.{ℕ, List, ◌++◌, codes, decimal}
 use Rattle.gc_trace.specs.declared.fault.TraceFault.{TraceFault}
 use Rattle.gc_trace.specs.declared.fault.TraceFault.TheVariants as trace

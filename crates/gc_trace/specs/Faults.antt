@@ -8,31 +8,31 @@ use Rattle.gc_trace.specs.declared.fault.TraceFault.TheVariants.{Read, TooLarge,
 abbrev pub limit : ℕ
 limit = 16777216
 
--- lines 1 and 2 are those of no trace
+-- the text does not begin with a valid heading
 abbrev pub HasNoHeading : List ℕ → Type 0
 HasNoHeading text = (version size mutators : ℕ) (more : List ℕ) → IsHeading version size mutators → text ≢ heading version size mutators ++ more
 
--- The lines before line n are the text of this trace, and this stands from line n on.
+-- The lines before line n are the text of the trace `front`, and `rest` is the text from line n on.
 pub record GoodBefore (text : List ℕ) (n : ℕ) (front : Recording) (rest : List ℕ) : Type 0 where
   pub lines : List ℕ
   pub good : IsTextOf front lines
   pub parts : text ≡ lines ++ rest
   pub number : n ≡ 3 + length front.events
 
--- no line of the version's grammar stands at the front
+-- the text does not begin with an event line of this version
 abbrev pub BeginsWithNoEvent : ℕ → List ℕ → Type 0
 BeginsWithNoEvent version text = (event : Event) (more : List ℕ) → IsEvent version event → text ≢ event_line event ++ more
 
--- something stands at line n, and it is no line of the grammar with its line feed
+-- the lines before line n are correct, and more text follows, but it does not begin with an event line and its line feed
 abbrev pub HasBadLine : List ℕ → ℕ → Type 0
 HasBadLine text n = (front : Recording) × (rest : List ℕ) × GoodBefore text n front rest × (rest ≢ []) × BeginsWithNoEvent front.version rest
 
--- line n is of the grammar, but of a mutator, or of a log, that does not exist
+-- the lines before line n are correct, and line n is an event line, but its mutator or its log does not exist
 abbrev pub HasStranger : List ℕ → ℕ → Type 0
 HasStranger text n =
     (front : Recording) × (event : Event) × (more : List ℕ) × GoodBefore text n front (event_line event ++ more) × IsEvent front.version event × ¬ IsOf front.mutators event
 
--- this is the text's first fault; `Read` and `NoMemory` are none of the text's
+-- this is the first fault of the text; `Read` and `NoMemory` are not faults of a text
 abbrev pub IsTraceFaultOf : TraceFault → List ℕ → Type 0
 IsTraceFaultOf Read text = ⊥
 IsTraceFaultOf TooLarge text = limit < length text
@@ -41,11 +41,11 @@ IsTraceFaultOf (BadLine n) text = (length text ≤ limit) × HasBadLine text n
 IsTraceFaultOf (NoSuchMutator n) text = (length text ≤ limit) × HasStranger text n
 IsTraceFaultOf NoMemory text = ⊥
 
--- the value that the text is read as
+-- the text is read as this trace: it spells the trace, and it is within the size limit
 abbrev pub IsReadAs : Recording → List ℕ → Type 0
 IsReadAs t text = IsTextOf t text × (length text ≤ limit)
 
--- what may be answered in the place of a value: the text's first fault, or one of the reader or of memory
+-- the reader may fail with this fault: the text's first fault, or the reader cannot read, or it is out of memory
 abbrev pub MayFail : TraceFault → List ℕ → Type 0
 MayFail Read text = ⊤
 MayFail NoMemory text = ⊤

@@ -12,7 +12,7 @@ use Rattle.gc_trace.specs.Faults.{IsReadAs}
 use Rattle.gc_trace.specs.Plays.{opening}
 use Rattle.gc_trace.specs.WorldRuns.{kept_with}
 
--- the pair of the flip that the event is in this state, if it is one
+-- the pair of the event's flip, if the event flips in this state
 abbrev pub flip_at : State → Event → Option CertifiedPair
 flip_at s event = kept_with None s event
 
@@ -29,16 +29,16 @@ flips s (event ∷ events) = with_flip (flip_at s event) (flips (after s event) 
 abbrev pub nth_flip : ℕ → Recording → Option CertifiedPair
 nth_flip n t = slice_get (flips (opening t) t.events) (n - 1)
 
--- ---- what a play of it writes
+-- ---- what is written
 
--- the text is of a trace with this many flips, and the text of the n-th flip's pair went out
+-- the text spells a trace with an n-th flip, and the text of that flip's pair was written
 abbrev pub PlaysPair : ℕ → List ℕ → Option (List ℕ) → Option (List ℕ) → Type 0
 PlaysPair n text old new = (t : Recording) × (pair : CertifiedPair) × IsReadAs t text × (nth_flip n t ≡ Some pair) × Appends old new (pairs.spelling pair)
 
--- the same with a front of the pair's text
+-- the same, but a prefix of the pair's text was written
 abbrev pub PlaysPairFront : ℕ → List ℕ → Option (List ℕ) → Option (List ℕ) → Type 0
 PlaysPairFront n text old new = (t : Recording) × (pair : CertifiedPair) × IsReadAs t text × (nth_flip n t ≡ Some pair) × SendsFront old new (pairs.spelling pair)
 
--- the text is of a trace with fewer flips
+-- the text spells a trace without an n-th flip
 abbrev pub HasNoFlip : ℕ → List ℕ → Type 0
 HasNoFlip n text = (t : Recording) × IsReadAs t text × (nth_flip n t ≡ None)

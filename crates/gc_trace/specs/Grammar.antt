@@ -1,4 +1,4 @@
--- Traces, and the one text of each: a heading, and then one line for each event.
+-- Traces and their texts. Each trace has exactly one text: a heading, and then one line for each event.
 use Rattle.std.specs.Prelude.{◌≡◌, ℕ, ◌≤◌, max, List, [], ◌∷◌, ◌++◌, codes, if◌then◌else◌}
 use Rattle.std.specs.List.{flat_map, AllByRecursion}
 use Rattle.std.specs.Fmt.{decimal}
@@ -13,14 +13,14 @@ use Rattle.gc_copy.specs.declared.step.Step.TheVariants as steps
 use Rattle.gc_copy.specs.declared.event.Event.{Event}
 use Rattle.gc_copy.specs.declared.event.Event.TheVariants.{Mutate, Collect}
 
--- what contracts see of a trace
+-- a trace as contracts see it
 pub record Recording : Type 0 where
   pub version : ℕ
   pub size : ℕ
   pub mutators : ℕ
   pub events : List Event
 
--- ---- its text
+-- ---- the text of a trace
 
 unfoldable pub slot : SlotName → List ℕ
 slot s = (if s.shared then 103 else 114) ∷ decimal s.index
@@ -65,21 +65,21 @@ heading version size mutators = line (version_tokens version) ++ line (size_toke
 unfoldable pub spelling : Recording → List ℕ
 spelling t = heading t.version t.size t.mutators ++ flat_map event_line t.events
 
--- ---- what has a text
+-- ---- which traces have a text
 
--- the newest version that is read
+-- the newest version that the reader accepts
 abbrev pub newest : ℕ
 newest = 3
 
 abbrev pub IsHeading : ℕ → ℕ → ℕ → Type 0
 IsHeading version size mutators = (1 ≤ version) × (version ≤ newest) × (1 ≤ size) × (size ≤ most_words) × (1 ≤ mutators) × (mutators ≤ most_mutators)
 
--- the version that brought the command's line: raw objects came with the third
+-- the version that introduced the command's line; version 3 introduced raw objects
 abbrev pub op_version : Op → ℕ
 op_version (ops.NewRaw d kind len) = 3
 op_version op = 1
 
--- the version that brought the step's line: a collection's own size came with the second
+-- the version that introduced the step's line; version 2 introduced `begin` with a size
 abbrev pub step_version : Step → ℕ
 step_version (steps.BeginSized size) = 2
 step_version step = 1
@@ -88,12 +88,12 @@ abbrev pub version_of : Event → ℕ
 version_of (Mutate m op) = op_version op
 version_of (Collect step) = step_version step
 
--- an event of the version's grammar, whoever the mutators are
+-- an event of this version's grammar, whatever the number of mutators
 pub record IsEvent (version : ℕ) (event : Event) : Type 0 where
   pub range : runs.IsEvent most_mutators event
   pub known : version_of event ≤ version
 
--- it can happen where there are this many mutators: its own, or that of its log, is one of them
+-- the event can happen if there are this many mutators: its mutator, or that of its log, is one of them
 abbrev pub IsOf : ℕ → Event → Type 0
 IsOf mutators event = runs.IsEvent mutators event
 
@@ -101,7 +101,7 @@ pub record IsRecording (t : Recording) : Type 0 where
   pub heading : IsHeading t.version t.size t.mutators
   pub events : AllByRecursion (λ event. IsEvent t.version event × IsOf t.mutators event) t.events
 
--- its numbers are in their ranges, whatever its version is
+-- the trace's numbers are in range, whatever its version
 pub record IsInRange (t : Recording) : Type 0 where
   pub low : 1 ≤ t.size
   pub high : t.size ≤ most_words
@@ -109,14 +109,14 @@ pub record IsInRange (t : Recording) : Type 0 where
   pub few : t.mutators ≤ most_mutators
   pub events : AllByRecursion (IsOf t.mutators) t.events
 
--- the text of the trace
+-- the trace has a text, and this is it
 pub record IsTextOf (t : Recording) (text : List ℕ) : Type 0 where
   pub recording : IsRecording t
   pub spelled : text ≡ spelling t
 
--- ---- what is written of events
+-- ---- the trace that is written for events
 
--- the least version that has all their lines
+-- the least version that has the lines of all these events
 abbrev pub least_version : List Event → ℕ
 least_version [] = 1
 least_version (event ∷ events) = max (version_of event) (least_version events)

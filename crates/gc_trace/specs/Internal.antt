@@ -1,4 +1,4 @@
--- What only private contracts and proofs need: no part of a promise.
+-- Definitions that only private contracts and proofs need. They are no part of a promise.
 pub mod Faults
 pub mod Fronts
 pub mod Playing

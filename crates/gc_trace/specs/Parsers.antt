@@ -12,7 +12,7 @@ use Rattle.gc_copy.specs.declared.step.Step.TheVariants as steps
 use Rattle.gc_copy.specs.declared.event.Event.{Event}
 use Rattle.gc_copy.specs.declared.event.Event.TheVariants.{Mutate, Collect}
 
--- a slot: its letter, and its number
+-- a slot: the letter g if it is shared, or r if it is the mutator's own; then its number
 unfoldable pub slot_of : List ℕ → Option SlotName
 slot_of [] = None
 slot_of (letter ∷ digits) = do
@@ -32,7 +32,7 @@ new_of tokens = do
   len ← number_at 65535 kind.1
   end_of (ops.New d.0 kind.0 len.0) len.1
 
--- a raw object, from the third version on
+-- a new raw object; its line exists from version 3 on
 unfoldable pub raw_of : ℕ → Tokens → Option Op
 raw_of version tokens = if nat_lt version 3 then None else (do
   d ← slot_at tokens
@@ -102,7 +102,7 @@ command_of version tokens = do
   op ← op_of version mutator.1
   Some (Mutate mutator.0 op)
 
--- a collection takes the size of the mutators' space, or, from the second version on, this one
+-- the new space has the size of the mutators' space or, from version 2 on, the size that the line gives
 unfoldable pub begin_of : ℕ → Tokens → Option Step
 begin_of version [] = Some steps.Begin
 begin_of version (token ∷ tokens) = if nat_lt version 2 then None else (do
@@ -130,7 +130,7 @@ collect_of version tokens = do
   step ← step_of version tokens
   Some (Collect step)
 
--- an event's line, of this version
+-- the event of a line, in this version
 unfoldable pub event_of : ℕ → Tokens → Option Event
 event_of version [] = None
 event_of version (letter ∷ tokens) =

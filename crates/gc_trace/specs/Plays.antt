@@ -1,4 +1,4 @@
--- What a play writes.
+-- What the player of a trace writes.
 use Rattle.std.specs.Prelude.{◌≡◌, ℕ, List, Option}
 use Rattle.std.specs.Io.KnownBytes.{Appends}
 use Rattle.gc_graph.specs.Streams.{SendsFront}
@@ -11,15 +11,15 @@ use Rattle.gc_trace.specs.Replies.{reply_text}
 use Rattle.gc_trace.specs.Report.{report_of, report_text}
 use Rattle.gc_trace.specs.declared.report.Report.{Report}
 
--- what is there before the first event
+-- the state before the first event
 abbrev pub opening : Recording → State
 opening t = opening_state t.size t.mutators
 
--- what the core answers to the events, one after the other
+-- the core's answers to the events, in order
 abbrev pub answers : Recording → List Answer
 answers t = runs.answers (opening t) t.events
 
--- what is there after the last event
+-- the state after the last event
 abbrev pub last_state : Recording → State
 last_state t = runs.state_after (opening t) t.events
 
@@ -27,20 +27,20 @@ last_state t = runs.state_after (opening t) t.events
 abbrev pub report_in : Recording → Report
 report_in t = report_of (answers t) (last_state t)
 
--- ---- what goes out
+-- ---- what is written
 
--- the text is of a trace, its reply lines went out, and this is its report
+-- the text spells a trace, its reply lines were written, and this is its report
 abbrev pub Plays : List ℕ → Report → Option (List ℕ) → Option (List ℕ) → Type 0
 Plays text report old new = (t : Recording) × IsReadAs t text × (report ≡ report_in t) × Appends old new (reply_text (answers t))
 
--- the text is of a trace, and a front of its reply lines went out
+-- the text spells a trace, and a prefix of its reply lines was written
 abbrev pub PlaysFront : List ℕ → Option (List ℕ) → Option (List ℕ) → Type 0
 PlaysFront text old new = (t : Recording) × IsReadAs t text × SendsFront old new (reply_text (answers t))
 
--- the text is of a trace, this is its report, and its text went out
+-- the text spells a trace, this is its report, and the report's text was written
 abbrev pub Reports : List ℕ → Report → Option (List ℕ) → Option (List ℕ) → Type 0
 Reports text report old new = (t : Recording) × IsReadAs t text × (report ≡ report_in t) × Appends old new (report_text (report_in t))
 
--- the text is of a trace, and a front of its report's text went out
+-- the text spells a trace, and a prefix of its report's text was written
 abbrev pub ReportsFront : List ℕ → Option (List ℕ) → Option (List ℕ) → Type 0
 ReportsFront text old new = (t : Recording) × IsReadAs t text × SendsFront old new (report_text (report_in t))

@@ -1,4 +1,4 @@
--- What a run is reported by.
+-- The report of a run.
 use Rattle.std.specs.Prelude.{ℕ, Bool, true, false, List, [], ◌∷◌, length, codes, count_by, sum_by}
 use Rattle.std.specs.List.{flat_map}
 use Rattle.std.specs.Fmt.{decimal}
@@ -48,14 +48,14 @@ abbrev pub is_refused : Answer → Bool
 is_refused (Collector steps.Refused) = true
 is_refused answer = false
 
--- the pairs of a flip
+-- the number of pairs, if the answer is a flip's
 abbrev pub pairs_in : Answer → ℕ
 pairs_in (Collector (steps.Flipped pairs)) = pairs
 pairs_in answer = 0
 
 -- ---- the report
 
--- the answers of a run and its last state, as numbers
+-- the counts of a run's answers, and the end and the free words of its last state
 abbrev pub report_of : List Answer → State → Report
 report_of answers s = record {
   events = length answers;
@@ -73,7 +73,7 @@ report_of answers s = record {
   free = s.heap.free;
 }
 
--- ---- its text
+-- ---- the text of a report
 
 abbrev pub report_lines : Report → List (List (List ℕ))
 report_lines r =
@@ -92,6 +92,6 @@ report_lines r =
     ∷ (codes "free" ∷ decimal r.free ∷ [])
     ∷ []
 
--- thirteen lines, each of a name and a number
+-- thirteen lines, each with a name and a number
 abbrev pub report_text : Report → List ℕ
 report_text r = flat_map line (report_lines r)

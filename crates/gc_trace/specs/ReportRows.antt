@@ -9,7 +9,7 @@ use Rattle.gc_copy.specs.State.{opening_state}
 use Rattle.gc_copy.specs.declared.step.Step.TheVariants as steps
 use Rattle.gc_trace.specs.Report.{report_of, report_text}
 
--- of two objects one is kept, and so a third one has room
+-- one of two objects survives the collection, so that a third one fits
 abbrev pub collect_when_full : List Event
 collect_when_full = Mutate 0 (ops.New (own_slot 0) 1 2) ∷ Mutate 0 (ops.New (own_slot 0) 1 2) ∷ Mutate 0 (ops.New (own_slot 1) 0 0) ∷ Collect steps.Begin ∷ Collect steps.Roots ∷ Collect steps.Scan
     ∷ Collect steps.Scan ∷ Collect steps.Scan ∷ Collect steps.Scan ∷ Collect steps.Roots ∷ Collect steps.Flip ∷ Mutate 0 (ops.New (own_slot 1) 0 0) ∷ []

@@ -1,4 +1,4 @@
--- Worked rows: whole texts with their answers, event lines and reply lines.
+-- Worked rows: whole texts and what the reader returns, event lines, and reply lines.
 use Rattle.std.specs.Prelude.{◌≡◌, ℕ, List, [], ◌∷◌, codes}
 use Rattle.gc_graph.specs.Slots.{own_slot, shared_slot}
 use Rattle.gc_graph.specs.declared.command.Op.TheVariants as ops
@@ -36,7 +36,7 @@ pub record TextRows : Type 0 where
   pub strange_log : IsTraceFaultOf (NoSuchMutator 3) (codes "heaptrace 1\nspace 8 mutators 1\nc apply 1\nx\n")
   pub empty_line : IsTraceFaultOf (BadLine 4) (codes "heaptrace 1\nspace 8 mutators 1\nm 0 nil g0\n\n")
 
--- what the second version adds
+-- what version 2 adds
 pub record SizedRows : Type 0 where
   pub read : IsReadAs (small 2 (Collect steps.Begin ∷ Collect (steps.BeginSized 12) ∷ [])) (codes "heaptrace 2\nspace 8 mutators 1\nc begin\nc begin 12\n")
   pub low : IsTraceFaultOf (BadLine 3) (codes "heaptrace 2\nspace 8 mutators 1\nc begin 0\n")
@@ -45,14 +45,14 @@ pub record SizedRows : Type 0 where
   pub least : spelling (written 8 1 (Collect (steps.BeginSized 12) ∷ [])) ≡ codes "heaptrace 2\nspace 8 mutators 1\nc begin 12\n"
   pub lower : spelling (written 8 1 (Collect steps.Begin ∷ [])) ≡ codes "heaptrace 1\nspace 8 mutators 1\nc begin\n"
 
--- a raw object that is written while it is copied
+-- a raw object that is written while a collection is open
 abbrev pub raw_events : List Event
 raw_events =
     Mutate 0 (ops.NewRaw (own_slot 0) 7 2) ∷ Mutate 0 (ops.Look (own_slot 0)) ∷ Mutate 0 (ops.Get (own_slot 1) (own_slot 0) 1) ∷ Mutate 0 (ops.Put (own_slot 0) 0 (own_slot 2)) ∷ Mutate 0 (ops.Put (own_slot 0) 2 (own_slot 2))
     ∷ Mutate 0 (ops.Num (own_slot 1) 8) ∷ Mutate 0 (ops.Put (own_slot 0) 0 (own_slot 1)) ∷ Collect steps.Begin ∷ Collect steps.Roots ∷ Mutate 0 (ops.Num (own_slot 1) 10) ∷ Mutate 0 (ops.Put (own_slot 0) 1 (own_slot 1))
     ∷ Collect steps.Scan ∷ Collect steps.Scan ∷ Collect steps.Flip ∷ Collect (steps.Apply 0) ∷ Collect steps.Flip ∷ Mutate 0 (ops.Get (own_slot 2) (own_slot 0) 0) ∷ Mutate 0 (ops.Get (own_slot 2) (own_slot 0) 1) ∷ []
 
--- what the third version adds
+-- what version 3 adds
 pub record RawRows : Type 0 where
   pub read : IsReadAs (small 3 (Mutate 0 (ops.NewRaw (own_slot 0) 7 2) ∷ [])) (codes "heaptrace 3\nspace 8 mutators 1\nm 0 raw r0 7 2\n")
   pub long : IsTraceFaultOf (BadLine 3) (codes "heaptrace 3\nspace 8 mutators 1\nm 0 raw r0 7 65536\n")
@@ -65,7 +65,7 @@ pub record RawRows : Type 0 where
   pub replies : reply_text (answers (opening_state 16 1) raw_events)
       ≡ codes "made\nsaw raw 7 2\nsaw num 0\nno number\nno field\ndone\ndone\nbegun\ncopied\ndone\ndone\npassed\nclean\nnot ready\napplied\nflipped 1\nsaw num 8\nsaw num 10\n"
 
--- each form of line of the first version once
+-- each kind of line of version 1, once
 abbrev pub all_lines : List Event
 all_lines =
     Mutate 0 (ops.New (own_slot 0) 255 65535) ∷ Mutate 1 (ops.Num (own_slot 1) 9223372036854775807) ∷ Mutate 0 (ops.Nil (shared_slot 15)) ∷ Mutate 0 (ops.Move (shared_slot 0) (own_slot 0))

@@ -1,4 +1,4 @@
--- Scripts: what each mutator does of a trace, without the collector.
+-- Scripts: the commands of each mutator in a trace, without collector steps.
 use Rattle.std.specs.Prelude.{ℕ, List, map}
 use Rattle.std.specs.List.{range_with_len}
 use Rattle.gc_graph.specs.declared.command.Op.{Op}

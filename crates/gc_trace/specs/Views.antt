@@ -1,4 +1,4 @@
--- What contracts see of a trace.
+-- A trace as contracts see it.
 use Rattle.gc_trace.specs.declared.trace.Trace.{Trace}
 use Rattle.gc_trace.specs.Grammar.{Recording}
 

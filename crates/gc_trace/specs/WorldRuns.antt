@@ -11,12 +11,12 @@ use Rattle.gc_copy.specs.declared.event.Event.{Event}
 use Rattle.gc_copy.specs.declared.event.Event.TheVariants.{Mutate, Collect}
 use Rattle.gc_trace.specs.Grammar.{Recording}
 
--- the pair that is kept after an event in this state
+-- the pair that is kept after this event in this state, if `kept` was kept before
 abbrev pub kept_with : Option CertifiedPair → State → Event → Option CertifiedPair
 kept_with kept s (Mutate m op) = kept
 kept_with kept s (Collect step) = kept_after kept s (collect s step).0
 
--- the event happened in the world, and nothing else
+-- this event happened in the world, and nothing else did
 pub record Happens (old : Past) (event : Event) (new : Past) : Type 0 where
   pub size : new.size ≡ old.size
   pub mutators : new.mutators ≡ old.mutators
@@ -24,7 +24,7 @@ pub record Happens (old : Past) (event : Event) (new : Past) : Type 0 where
   pub state : present new ≡ after (present old) event
   pub kept : new.kept ≡ kept_with old.kept (present old) event
 
--- all events of the trace happened in a world of its size and mutators, each once, in order
+-- all events of the trace happened, each once and in order, in a world with the trace's size and number of mutators
 pub record HasRun (t : Recording) (past : Past) : Type 0 where
   pub size : past.size ≡ t.size
   pub mutators : past.mutators ≡ t.mutators

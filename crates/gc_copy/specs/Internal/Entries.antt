@@ -1,4 +1,4 @@
--- The oldest entry of a log, and what a reply lets be logged.
+-- The oldest entry of a log, and whether a reply lets an entry be logged.
 use Rattle.std.specs.Prelude.{ℕ, List, [], ◌∷◌, Option, Some, None}
 use Rattle.gc_graph.specs.declared.reply.Reply.{Reply}
 use Rattle.gc_graph.specs.declared.reply.Reply.TheVariants.{Done}
@@ -7,7 +7,7 @@ abbrev pub oldest : List (ℕ × ℕ) → Option (ℕ × ℕ)
 oldest [] = None
 oldest (entry ∷ rest) = Some entry
 
--- what a command wrote, where it was answered `Done`
+-- the field that a command wrote, if the reply is `Done`
 abbrev pub if_done : Reply → Option (ℕ × ℕ) → Option (ℕ × ℕ)
 if_done Done entry = entry
 if_done reply entry = None

@@ -1,4 +1,4 @@
--- What a reader's and a player's failures are called as faults of the text.
+-- How a reader's fault becomes a trace fault, and a trace fault a player's.
 use Rattle.gc_graph.specs.declared.text.all_bytes.ReadFault.{ReadFault}
 use Rattle.gc_graph.specs.declared.text.all_bytes.ReadFault.TheVariants as reading
 use Rattle.gc_trace.specs.declared.fault.TraceFault.{TraceFault}
@@ -7,13 +7,13 @@ use Rattle.gc_trace.specs.declared.fault.PlayFault.{PlayFault}
 use Rattle.gc_trace.specs.declared.fault.PlayFault.TheVariants as plays
 use Rattle.gc_trace.specs.declared.fault.PlayFault.TheVariants.{Trace}
 
--- what a reader's own fault is called
+-- the trace fault for a reader's fault
 abbrev pub fault_of_reading : ReadFault → TraceFault
 fault_of_reading reading.Read = Read
 fault_of_reading reading.TooLarge = TooLarge
 fault_of_reading reading.NoMemory = NoMemory
 
--- what a player calls a trace's fault: out of memory is a fault of the player itself
+-- the player's fault for a trace fault; out of memory is a fault of the player itself
 abbrev pub fault_of_trace : TraceFault → PlayFault
 fault_of_trace NoMemory = plays.NoMemory
 fault_of_trace fault = Trace fault

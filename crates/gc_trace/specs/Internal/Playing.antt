@@ -1,4 +1,4 @@
--- What a player holds.
+-- The contents of a player.
 use Rattle.std.specs.Prelude.{◌≡◌, ◌++◌, List}
 use Rattle.gc_copy.specs.State.{State}
 use Rattle.gc_copy.specs.Runs.{answers, state_after}
@@ -8,7 +8,7 @@ use Rattle.gc_trace.specs.Report.{report_of}
 use Rattle.gc_trace.specs.declared.playing.Gather.TheVariants.{Replies}
 use Rattle.gc_trace.specs.declared.playing.Player.{Player}
 
--- it has played these events from a state on: what is counted of their answers, and their reply lines, if they are gathered
+-- the player has played these events from state s: it has the last state, the report, and, if it gathers them, the reply lines
 pub record HasPlayed (s : State) (events : List Event) (player : Player) : Type 0 where
   pub state : player.heap ≡ state_after s events
   pub counts : player.report ≡ report_of (answers s events) s

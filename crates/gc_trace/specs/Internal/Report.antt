@@ -1,4 +1,4 @@
--- A report with one answer more, and numbers that fit their type.
+-- A report after one more answer, and counts that fit their type.
 use Rattle.std.specs.Prelude.{ℕ, ◌+◌, ◌<◌, ◌^◌, Bool, if◌then◌else◌}
 use Rattle.gc_copy.specs.declared.event.Answer.{Answer}
 use Rattle.gc_trace.specs.declared.report.Report.{Report}
@@ -22,7 +22,7 @@ with_answer r answer = record r {
   refused = one_more_if (is_refused answer) r.refused;
 }
 
--- each number that counts is one of 64 bits
+-- each count fits in a `u64`
 pub record FitsU64 (r : Report) : Type 0 where
   pub events : r.events < 2 ^ 64
   pub made : r.made < 2 ^ 64
