@@ -22,7 +22,7 @@ SIZES = [1, 2, 3, 4, 5, 9, 100, 100000]
 # entry adds its name, the next entry and the previous one, where they have no replica. So behind the roots of three
 # entries come the first name (2), entry 2 (3), the last name (4), and the name of entry 2 (5).
 REFUSED = [
-    # The last field of an entry is `previous`. It is nil in the first entry, and so replica 1 is the first that is wrong.
+    # The last field of an entry is `previous`. It is nil in the first entry, so replica 1 has the first error.
     ("field", 3, "refused 9 FieldDiffers 1 3", 'the entry of "entry 2" has a replica with another previous'),
     ("field", 5, "refused 9 FieldDiffers 1 3", 'the entry of "entry 4" has a replica with another previous'),
     ("field", 99999, "refused 9 FieldDiffers 1 3", 'the entry of "entry 99998" has a replica with another previous'),
