@@ -1,19 +1,21 @@
 /* The machine on the proved collector: registers are the mutator's own slots, and the stack is an object in slot 16. A
- * collection begins when half of the heap is in use, or, without incremental steps, when the heap is full. */
+ * collection begins when three quarters of the heap are in use, or, without incremental steps, when the heap is full. The
+ * steps for eight objects are made at once. */
 #include "gcflip_heap.h"
+#include <malloc.h>
 
-enum { MUST_FREE = 0, KIND = 1, STACK_SLOT = 16, SCRATCH = 15, MOST_WORDS = 1048576, MOST_STEPS = 1 << 30 };
+enum { MUST_FREE = 0, KIND = 1, STACK_SLOT = 16, SCRATCH = 15, MOST_WORDS = 1048576, MOST_STEPS = 1 << 30, BATCH = 8 };
 
 static gcflip_heap heap = GCFLIP_NO_HEAP;
-static gcflip_reply reply;
-static unsigned depth;
+static uint64_t number;
+static unsigned depth, owed; /* owed: objects since the last steps */
 static unsigned long collections;
 static long words_in_use;
 static bool is_open;
 
 static inline void expect(uint32_t answer, uint32_t wanted, const char *what)
 {
-    if (answer != GCFLIP_HEAP_DONE || reply.reply != wanted)
+    if (answer != wanted)
         give_up(what);
 }
 
@@ -21,71 +23,92 @@ static inline void work(uint32_t most)
 {
     gcflip_work done;
     gcflip_counts counts;
-    if (gcflip_heap_work(&heap, most, &done) != GCFLIP_HEAP_DONE || done.last.reply == GCFLIP_NO_ROOM)
+    if (gcflip_heap_work(&heap, most, &done) != GCFLIP_DONE || done.last == GCFLIP_NO_ROOM)
         give_up("work");
-    is_open = done.last.reply != GCFLIP_FLIPPED;
-    if (!is_open && gcflip_heap_counts(&heap, &counts) == GCFLIP_HEAP_DONE) {
+    is_open = done.last != GCFLIP_FLIPPED;
+    if (!is_open && gcflip_heap_counts(&heap, &counts) == GCFLIP_DONE) {
         words_in_use = counts.end;
         collections++;
     }
 }
 
-static inline void make(int d, int fields, bool is_raw)
+/* Makes the steps that are due for an object of so many fields. */
+static inline void pay(int fields)
 {
-    if (options.steps && (is_open || words_in_use > MOST_WORDS / 2))
-        work((uint32_t)options.steps);
-    for (;;) {
-        uint32_t answer = is_raw ? gcflip_heap_raw(&heap, 0, (uint8_t)d, KIND, (uint16_t)fields, &reply)
-                                 : gcflip_heap_new(&heap, 0, (uint8_t)d, KIND, (uint16_t)fields, &reply);
-        if (answer != GCFLIP_HEAP_DONE)
-            give_up("new");
-        if (reply.reply == GCFLIP_MADE)
-            break;
-        work(MOST_STEPS);
+    if (options.steps && (is_open || words_in_use > MOST_WORDS / 4 * 3) && ++owed == BATCH) {
+        owed = 0;
+        work((uint32_t)options.steps * BATCH);
     }
     words_in_use += fields + 2;
 }
 
-static inline void new_object(int d, int fields) { TIMED(make(d, fields, false)); }
-static inline void new_numbers(int d, int fields) { TIMED(make(d, fields, true)); }
+/* Makes the object, and first a whole collection if the heap has no room for it. */
+#define MADE(call)                            \
+    do {                                      \
+        uint32_t answer_ = call;              \
+        if (answer_ == GCFLIP_MADE)           \
+            break;                            \
+        expect(answer_, GCFLIP_FULL, "new");  \
+        work(MOST_STEPS);                     \
+    } while (1)
 
-static inline void get(int d, int s, int i)
+static inline void make(int d, int fields)
 {
-    expect(gcflip_heap_get(&heap, 0, (uint8_t)d, (uint8_t)s, (uint16_t)i, &reply), GCFLIP_SAW, "get");
+    pay(fields);
+    MADE(gcflip_heap_new(&heap, 0, (uint8_t)d, KIND, (uint16_t)fields));
 }
+
+static inline void make_numbers(int d, int fields)
+{
+    pay(fields);
+    MADE(gcflip_heap_raw(&heap, 0, (uint8_t)d, KIND, (uint16_t)fields));
+}
+
+static inline void make_pair(int d, int s, int t)
+{
+    pay(2);
+    MADE(gcflip_heap_cons(&heap, 0, (uint8_t)d, KIND, (uint8_t)s, (uint8_t)t));
+}
+
+static inline void new_object(int d, int fields) { TIMED(make(d, fields)); }
+static inline void new_numbers(int d, int fields) { TIMED(make_numbers(d, fields)); }
+static inline void new_pair(int d, int s, int t) { TIMED(make_pair(d, s, t)); }
+
+static inline uint32_t seen(int d, int s, int i)
+{
+    uint32_t answer = gcflip_heap_get(&heap, 0, (uint8_t)d, (uint8_t)s, (uint16_t)i, &number);
+    if (answer < GCFLIP_NIL)
+        give_up("get");
+    return answer;
+}
+
+static inline void get(int d, int s, int i) { seen(d, s, i); }
+static inline bool get_object(int d, int s, int i) { return seen(d, s, i) == GCFLIP_OBJECT; }
 
 static inline uint64_t get_number(int s, int i)
 {
-    get(SCRATCH, s, i);
-    return reply.number;
-}
-
-static inline bool get_object(int d, int s, int i)
-{
-    get(d, s, i);
-    return reply.view == GCFLIP_OBJECT;
+    expect(seen(SCRATCH, s, i), GCFLIP_NUMBER, "number");
+    return number;
 }
 
 static inline void put(int s, int i, int t)
 {
-    TIMED(expect(gcflip_heap_put(&heap, 0, (uint8_t)s, (uint16_t)i, (uint8_t)t, &reply), GCFLIP_DONE, "put"));
+    TIMED(expect(gcflip_heap_put(&heap, 0, (uint8_t)s, (uint16_t)i, (uint8_t)t), GCFLIP_DONE, "put"));
 }
 
 static inline void put_number(int s, int i, uint64_t n)
 {
-    expect(gcflip_heap_num(&heap, 0, SCRATCH, n, &reply), GCFLIP_DONE, "num");
-    put(s, i, SCRATCH);
+    TIMED(expect(gcflip_heap_put_number(&heap, 0, (uint8_t)s, (uint16_t)i, SCRATCH, n), GCFLIP_DONE, "put_number"));
 }
 
 static inline void move(int d, int s)
 {
-    expect(gcflip_heap_move(&heap, 0, (uint8_t)d, (uint8_t)s, &reply), GCFLIP_DONE, "move");
+    expect(gcflip_heap_move(&heap, 0, (uint8_t)d, (uint8_t)s), GCFLIP_DONE, "move");
 }
 
 static inline bool same(int a, int b)
 {
-    gcflip_heap_same(&heap, 0, (uint8_t)a, (uint8_t)b, &reply);
-    return reply.reply == GCFLIP_SAME;
+    return gcflip_heap_same(&heap, 0, (uint8_t)a, (uint8_t)b) == GCFLIP_SAME;
 }
 
 static inline void push(int s)
@@ -102,9 +125,12 @@ static inline void free_object(int s) { (void)s; }
 
 static void open_memory(void)
 {
-    if (gcflip_heap_open(&heap, MOST_WORDS, 1) != GCFLIP_HEAP_DONE)
+    /* glibc keeps what is freed, as the Boehm collector does: a new space then costs no page faults. */
+    mallopt(M_MMAP_THRESHOLD, 64 << 20);
+    mallopt(M_TRIM_THRESHOLD, 128 << 20);
+    if (gcflip_heap_open(&heap, MOST_WORDS, 1) != GCFLIP_DONE)
         give_up("open");
-    make(STACK_SLOT, STACK, false);
+    make(STACK_SLOT, STACK);
 }
 
 static void close_memory(void)

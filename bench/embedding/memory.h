@@ -3,6 +3,7 @@
  *
  *     open_memory, close_memory        before all else, and after it
  *     new_object, new_numbers          an object of so many fields, or one whose fields are plain numbers
+ *     new_pair                         an object of two fields, which take the values of two registers
  *     get, get_number, get_object      a field; get_object returns whether it holds a reference
  *     put, put_number                  writes a field
  *     move, same                       between registers

@@ -20,6 +20,13 @@ static inline void make(int d, int fields, bool is_raw)
 static inline void new_object(int d, int fields) { TIMED(make(d, fields, false)); }
 static inline void new_numbers(int d, int fields) { TIMED(make(d, fields, true)); }
 
+static inline void new_pair(int d, int s, int t)
+{
+    TIMED(make(d, 2, false));
+    registers[d]->field[0] = registers[s];
+    registers[d]->field[1] = registers[t];
+}
+
 /* The field's place; a program that is wrong ends here, as it does on the proved heap. */
 static inline object **place(int s, int i)
 {

@@ -17,10 +17,15 @@ static void make_tree(int depth, int fields)
     make_tree(depth - 1, fields);
     push(A);
     make_tree(depth - 1, fields);
-    new_object(B, fields);
-    put(B, 1, A);
-    pop(A);
-    put(B, 0, A);
+    if (fields == 2) {
+        pop(C);
+        new_pair(B, C, A);
+    } else {
+        new_object(B, fields);
+        put(B, 1, A);
+        pop(A);
+        put(B, 0, A);
+    }
     move(A, B);
 }
 

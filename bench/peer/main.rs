@@ -38,6 +38,24 @@ fn checked(path: &str) -> io::Result<ExitCode> {
     })
 }
 
+/// The least time of a check of images in memory, in milliseconds.
+fn checked_alone(path: &str, runs: u32) -> io::Result<ExitCode> {
+    let text = std::fs::read(path)?;
+    let Ok((old, new, pairs)) = pair::read(&text) else {
+        return Ok(told("no pair text", 3));
+    };
+    let mut least = f64::MAX;
+    for _ in 0..runs {
+        let start = std::time::Instant::now();
+        let refused = pair::check(&old, &new, &pairs).is_err();
+        least = least.min(start.elapsed().as_secs_f64() * 1e3);
+        if refused {
+            return Ok(told("refused", 1));
+        }
+    }
+    Ok(written(format!("{least:.3}\n").as_bytes(), 0))
+}
+
 fn played(path: &str, wanted: Wanted) -> io::Result<ExitCode> {
     Ok(match player::played(&mut File::open(path)?, wanted)? {
         Ok(lines) => written(&lines, 0),
@@ -45,7 +63,8 @@ fn played(path: &str, wanted: Wanted) -> io::Result<ExitCode> {
     })
 }
 
-/// `peer play FILE`, `peer report FILE`, `peer pair FILE N` and `peer check FILE`, as gcflip takes them.
+/// `peer play FILE`, `peer report FILE`, `peer pair FILE N` and `peer check FILE`, as gcflip takes them, and `peer check-alone FILE
+/// RUNS`.
 fn main() -> ExitCode {
     let words: Vec<String> = std::env::args().skip(1).collect();
     let words: Vec<&str> = words.iter().map(String::as_str).collect();
@@ -54,6 +73,7 @@ fn main() -> ExitCode {
         ["report", path] => played(path, Wanted::Report),
         ["pair", path, n] => played(path, Wanted::Pair(n.parse().unwrap_or(0))),
         ["check", path] => checked(path),
+        ["check-alone", path, runs] => checked_alone(path, runs.parse().unwrap_or(1)),
         _ => return told("play, report, pair or check", 2),
     };
     ended.unwrap_or_else(|_| told("cannot read", 4))

@@ -167,8 +167,8 @@ pub fn check(old: &Image, new: &Image, pairs: &[(u64, u64)]) -> Result<(), Strin
     (0..old.roots.len()).find(differs).map_or(Ok(()), |slot| Err(format!("10 RootDiffers {slot}")))
 }
 
-/// The verdict on the pair that the text spells and its status, or the line of the text's first fault.
-pub fn verdict(text: &[u8]) -> Result<(String, u8), String> {
+/// The images and the pairs of a text, or the line of its first fault.
+pub fn read(text: &[u8]) -> Result<(Image, Image, Vec<(u64, u64)>), String> {
     if text.len() as u64 > LIMIT {
         return Err("pair: too large".to_string());
     }
@@ -189,8 +189,14 @@ pub fn verdict(text: &[u8]) -> Result<(String, u8), String> {
     if lines.cursor.at < text.len() {
         return Err(format!("pair: bad line {}", lines.number + 1));
     }
+    Ok((old, new, pairs))
+}
+
+/// The verdict on the pair that the text spells and its status, or the line of the text's first fault.
+pub fn verdict(text: &[u8]) -> Result<(String, u8), String> {
+    let (old, new, pairs) = read(text)?;
     Ok(match check(&old, &new, &pairs) {
-        Ok(()) => (format!("yes {count}\n"), 0),
+        Ok(()) => (format!("yes {}\n", pairs.len()), 0),
         Err(refusal) => (format!("refused {refusal}\n"), 1),
     })
 }

@@ -2,15 +2,16 @@
  * every flip has to pass the certificate checker.
  *
  * A handle is a gcflip_heap, set to GCFLIP_NO_HEAP before its first use. gcflip_heap_open gives it a heap and
- * gcflip_heap_close frees it. Every call takes the handle and returns one of gcflip_heap_answer. A call that
- * returns another answer than GCFLIP_HEAP_DONE changed nothing: neither the heap nor what it would have written.
+ * gcflip_heap_close frees it. Every call takes the handle and returns one number of gcflip_heap_answer: the reply, or why
+ * nothing was done. A refused call changed nothing: neither the heap nor what it would have written.
  *
  * The promise, proved of the code behind these calls:
  * - each reply and each state is the one that the definitions of the collector give. So mutators get the
  *   replies of a heap without a collector, except that an allocation may find the heap full;
  * - a flip happens only if the checker accepts its certificate, the flip of a ready collection passes, and no step
  *   lacks room if the new space is at least as large as the heap;
- * - only open, begin, begin_sized, flip, work, and put while a collection is open can return GCFLIP_HEAP_NO_MEMORY.
+ * - only open, begin, begin_sized, flip, work, and put, put_number and cons while a collection is open can return
+ *   GCFLIP_HEAP_NO_MEMORY.
  *
  * What the caller owes, since nothing checks C code:
  * - no pointer is NULL, not even one to no elements, each is aligned, and no two of a call overlap;
@@ -35,13 +36,48 @@ typedef struct gcflip_heap {
 
 #define GCFLIP_NO_HEAP {NULL}
 
+/* What calls return. The numbers from 1 to 15 say that nothing was done, and why; GCFLIP_IS_REFUSED tells them from the rest. All
+ * others are replies: the call was made. */
 enum gcflip_heap_answer {
-    GCFLIP_HEAP_DONE = 0,
+    GCFLIP_DONE = 0, /* the value was written; of a call without other replies: it was made */
+
     GCFLIP_HEAP_NO_MEMORY = 1,    /* an allocation failed */
     GCFLIP_HEAP_OUT_OF_RANGE = 2, /* an argument is out of its range */
     GCFLIP_HEAP_CLOSED = 3,       /* the handle has no heap */
-    GCFLIP_HEAP_OPEN = 4          /* gcflip_heap_open alone: the handle has a heap */
+    GCFLIP_HEAP_OPEN = 4,         /* gcflip_heap_open alone: the handle has a heap */
+
+    /* to commands */
+    GCFLIP_MADE = 16,      /* the object was made */
+    GCFLIP_FULL = 17,      /* the heap has no room for the object; nothing changed */
+    GCFLIP_NO_OBJECT = 18, /* the slot does not refer to an object; nothing changed */
+    GCFLIP_NO_FIELD = 19,  /* the object has no such field; nothing changed */
+    GCFLIP_NO_NUMBER = 20, /* the object is raw and the value no number; nothing changed */
+    GCFLIP_SAME = 21,      /* both slots hold nil, equal numbers, or references to one object */
+    GCFLIP_NOT_SAME = 22,
+
+    /* to get and look, which saw this */
+    GCFLIP_NIL = 24,
+    GCFLIP_NUMBER = 25,
+    GCFLIP_OBJECT = 26,     /* a reference to an object; get does not tell whether that is raw */
+    GCFLIP_RAW_OBJECT = 27, /* look alone: a reference to a raw object */
+
+    /* to steps */
+    GCFLIP_BUSY = 32,         /* a collection is open already */
+    GCFLIP_BEGUN = 33,        /* a collection is open now */
+    GCFLIP_IDLE = 34,         /* no collection is open */
+    GCFLIP_CLEAN = 35,        /* nothing is left for this step */
+    GCFLIP_NO_ROOM = 36,      /* the new space has no room for a replica; nothing changed */
+    GCFLIP_COPIED = 37,       /* a root's target has a replica now */
+    GCFLIP_PASSED = 38,       /* the scan pointer moved on to the next replica */
+    GCFLIP_SCANNED = 39,      /* one field was scanned */
+    GCFLIP_APPLIED = 40,      /* one log entry was applied */
+    GCFLIP_NOT_READY = 41,    /* the collection is not ready for its flip */
+    GCFLIP_FLIP_REFUSED = 42, /* the checker refused the certificate; proved never to come */
+    GCFLIP_FLIPPED = 43,      /* mutators go on in the new space */
+    GCFLIP_DROPPED = 44       /* the collection was given up */
 };
+
+#define GCFLIP_IS_REFUSED(answer) ((answer) - 1u < 15u)
 
 /* ---- Opening and closing */
 
@@ -51,45 +87,6 @@ uint32_t gcflip_heap_open(gcflip_heap *heap, uint32_t size, uint8_t mutators);
 /* Frees the heap, and leaves the handle without one. */
 uint32_t gcflip_heap_close(gcflip_heap *heap);
 
-/* ---- Replies */
-
-typedef struct gcflip_reply {
-    uint32_t reply;  /* a number of gcflip_heap_reply */
-    uint32_t view;   /* of GCFLIP_SAW: a number of gcflip_heap_view; else 0 */
-    uint32_t kind;   /* of an object that was seen: its kind; else 0 */
-    uint32_t count;  /* of an object that was seen: the number of its fields; of GCFLIP_FLIPPED: of pairs; else 0 */
-    uint64_t number; /* of a number that was seen: the number; else 0 */
-} gcflip_reply;
-
-enum gcflip_heap_reply {
-    /* to commands */
-    GCFLIP_FULL = 0,      /* the heap has no room for the object; nothing changed */
-    GCFLIP_MADE = 1,      /* the object was made */
-    GCFLIP_DONE = 2,      /* the value was written */
-    GCFLIP_NO_OBJECT = 3, /* the slot does not refer to an object; nothing changed */
-    GCFLIP_NO_FIELD = 4,  /* the object has no such field; nothing changed */
-    GCFLIP_NO_NUMBER = 5, /* the object is raw and the value no number; nothing changed */
-    GCFLIP_SAW = 6,       /* the value is as `view`, `kind`, `count` and `number` say */
-    GCFLIP_SAME = 7,      /* both slots hold nil, equal numbers, or references to one object */
-    GCFLIP_NOT_SAME = 8,
-    /* to steps */
-    GCFLIP_BUSY = 16,         /* a collection is open already */
-    GCFLIP_BEGUN = 17,        /* a collection is open now */
-    GCFLIP_IDLE = 18,         /* no collection is open */
-    GCFLIP_CLEAN = 19,        /* nothing is left for this step */
-    GCFLIP_NO_ROOM = 20,      /* the new space has no room for a replica; nothing changed */
-    GCFLIP_COPIED = 21,       /* a root's target has a replica now */
-    GCFLIP_PASSED = 22,       /* the scan pointer moved on to the next replica */
-    GCFLIP_SCANNED = 23,      /* one field was scanned */
-    GCFLIP_APPLIED = 24,      /* one log entry was applied */
-    GCFLIP_NOT_READY = 25,    /* the collection is not ready for its flip */
-    GCFLIP_FLIP_REFUSED = 26, /* the checker refused the certificate; proved never to come */
-    GCFLIP_FLIPPED = 27,      /* mutators go on in the new space */
-    GCFLIP_DROPPED = 28       /* the collection was given up */
-};
-
-enum gcflip_heap_view { GCFLIP_NIL = 0, GCFLIP_NUMBER = 1, GCFLIP_OBJECT = 2, GCFLIP_RAW_OBJECT = 3 };
-
 /* ---- Commands of mutator m, a number below that of mutators
  *
  * A slot d, s or t below 16 is the mutator's own. From 16 to 31 it is one that all mutators share. Slots are the
@@ -97,69 +94,85 @@ enum gcflip_heap_view { GCFLIP_NIL = 0, GCFLIP_NUMBER = 1, GCFLIP_OBJECT = 2, GC
 
 /* Makes an object with `count` fields, all nil, and puts a reference to it into slot d: GCFLIP_MADE or GCFLIP_FULL. It
  * takes count + 2 words. */
-uint32_t gcflip_heap_new(gcflip_heap *heap, uint8_t m, uint8_t d, uint8_t kind, uint16_t count, gcflip_reply *reply);
+uint32_t gcflip_heap_new(gcflip_heap *heap, uint8_t m, uint8_t d, uint8_t kind, uint16_t count);
 
 /* The same with an object whose fields are plain numbers, all 0. Nobody scans them. */
-uint32_t gcflip_heap_raw(gcflip_heap *heap, uint8_t m, uint8_t d, uint8_t kind, uint16_t count, gcflip_reply *reply);
+uint32_t gcflip_heap_raw(gcflip_heap *heap, uint8_t m, uint8_t d, uint8_t kind, uint16_t count);
 
 /* Puts the number n into slot d: GCFLIP_DONE. */
-uint32_t gcflip_heap_num(gcflip_heap *heap, uint8_t m, uint8_t d, uint64_t n, gcflip_reply *reply);
+uint32_t gcflip_heap_num(gcflip_heap *heap, uint8_t m, uint8_t d, uint64_t n);
 
 /* Puts nil into slot d: GCFLIP_DONE. */
-uint32_t gcflip_heap_nil(gcflip_heap *heap, uint8_t m, uint8_t d, gcflip_reply *reply);
+uint32_t gcflip_heap_nil(gcflip_heap *heap, uint8_t m, uint8_t d);
 
 /* Copies the value of slot s into slot d: GCFLIP_DONE. */
-uint32_t gcflip_heap_move(gcflip_heap *heap, uint8_t m, uint8_t d, uint8_t s, gcflip_reply *reply);
+uint32_t gcflip_heap_move(gcflip_heap *heap, uint8_t m, uint8_t d, uint8_t s);
 
-/* Reads field i of the object that slot s refers to into slot d: GCFLIP_SAW with the value, GCFLIP_NO_OBJECT or
- * GCFLIP_NO_FIELD. */
-uint32_t gcflip_heap_get(gcflip_heap *heap, uint8_t m, uint8_t d, uint8_t s, uint16_t i, gcflip_reply *reply);
+/* Reads field i of the object that slot s refers to into slot d: GCFLIP_NIL, GCFLIP_NUMBER or GCFLIP_OBJECT, which is what it saw, or
+ * GCFLIP_NO_OBJECT or GCFLIP_NO_FIELD. It writes the number if it saw one, and nothing else. */
+uint32_t gcflip_heap_get(gcflip_heap *heap, uint8_t m, uint8_t d, uint8_t s, uint16_t i, uint64_t *number);
 
 /* Writes the value of slot t into field i of the object that slot s refers to: GCFLIP_DONE, GCFLIP_NO_OBJECT,
  * GCFLIP_NO_FIELD or GCFLIP_NO_NUMBER. While a collection is open, it allocates room in the mutator's log. */
-uint32_t gcflip_heap_put(gcflip_heap *heap, uint8_t m, uint8_t s, uint16_t i, uint8_t t, gcflip_reply *reply);
+uint32_t gcflip_heap_put(gcflip_heap *heap, uint8_t m, uint8_t s, uint16_t i, uint8_t t);
+
+/* Puts the number n into slot t, and then writes it into field i of the object that slot s refers to: what num and put do one after
+ * the other, with the reply to the put. If it is refused, neither was done. */
+uint32_t gcflip_heap_put_number(gcflip_heap *heap, uint8_t m, uint8_t s, uint16_t i, uint8_t t, uint64_t n);
+
+/* Makes an object with two fields, which take the values of slots s and t, and puts a reference to it into slot d: what new and two
+ * puts do one after the other. GCFLIP_MADE, or GCFLIP_FULL, and then nothing changed. Slot d is set first: a field that is given from
+ * slot d refers to the object itself. While a collection is open, it allocates room in the mutator's log. */
+uint32_t gcflip_heap_cons(gcflip_heap *heap, uint8_t m, uint8_t d, uint8_t kind, uint8_t s, uint8_t t);
 
 /* Compares the values of slots s and t: GCFLIP_SAME or GCFLIP_NOT_SAME. */
-uint32_t gcflip_heap_same(gcflip_heap *heap, uint8_t m, uint8_t s, uint8_t t, gcflip_reply *reply);
+uint32_t gcflip_heap_same(gcflip_heap *heap, uint8_t m, uint8_t s, uint8_t t);
 
-/* Looks at the value of slot s: GCFLIP_SAW. */
-uint32_t gcflip_heap_look(gcflip_heap *heap, uint8_t m, uint8_t s, gcflip_reply *reply);
+typedef struct gcflip_view {
+    uint32_t kind;   /* of an object that was seen: its kind; else 0 */
+    uint32_t count;  /* of an object that was seen: the number of its fields; else 0 */
+    uint64_t number; /* of a number that was seen: the number; else 0 */
+} gcflip_view;
+
+/* Looks at the value of slot s: GCFLIP_NIL, GCFLIP_NUMBER, GCFLIP_OBJECT or GCFLIP_RAW_OBJECT. It writes what it saw. */
+uint32_t gcflip_heap_look(gcflip_heap *heap, uint8_t m, uint8_t s, gcflip_view *view);
 
 /* ---- Collector steps */
 
 /* Opens a collection whose new space is as large as the heap, or has `size` words, 1 to 1048576: GCFLIP_BEGUN, or
  * GCFLIP_BUSY if one is open. */
-uint32_t gcflip_heap_begin(gcflip_heap *heap, gcflip_reply *reply);
-uint32_t gcflip_heap_begin_sized(gcflip_heap *heap, uint32_t size, gcflip_reply *reply);
+uint32_t gcflip_heap_begin(gcflip_heap *heap);
+uint32_t gcflip_heap_begin_sized(gcflip_heap *heap, uint32_t size);
 
 /* Replicates the target of the first root whose target has no replica: GCFLIP_COPIED, GCFLIP_CLEAN, GCFLIP_NO_ROOM or
  * GCFLIP_IDLE. */
-uint32_t gcflip_heap_roots(gcflip_heap *heap, gcflip_reply *reply);
+uint32_t gcflip_heap_roots(gcflip_heap *heap);
 
 /* Brings the field at the scan pointer up to date, or moves on to the next replica: GCFLIP_SCANNED, GCFLIP_PASSED,
  * GCFLIP_CLEAN, GCFLIP_NO_ROOM or GCFLIP_IDLE. */
-uint32_t gcflip_heap_scan(gcflip_heap *heap, gcflip_reply *reply);
+uint32_t gcflip_heap_scan(gcflip_heap *heap);
 
 /* Applies the oldest entry of mutator m's log: GCFLIP_APPLIED, GCFLIP_CLEAN, GCFLIP_NO_ROOM or GCFLIP_IDLE. */
-uint32_t gcflip_heap_apply(gcflip_heap *heap, uint8_t m, gcflip_reply *reply);
+uint32_t gcflip_heap_apply(gcflip_heap *heap, uint8_t m);
 
 /* Flips if the collection is ready and the checker accepts its certificate: GCFLIP_FLIPPED, GCFLIP_NOT_READY or
- * GCFLIP_IDLE. It takes a pass of the checker over both spaces. */
-uint32_t gcflip_heap_flip(gcflip_heap *heap, gcflip_reply *reply);
+ * GCFLIP_IDLE. It writes the number of pairs of the certificate if it flipped. It takes a pass of the checker over both spaces. */
+uint32_t gcflip_heap_flip(gcflip_heap *heap, uint32_t *pairs);
 
 /* Frees the new space and the logs: GCFLIP_DROPPED or GCFLIP_IDLE. */
-uint32_t gcflip_heap_drop(gcflip_heap *heap, gcflip_reply *reply);
+uint32_t gcflip_heap_drop(gcflip_heap *heap);
 
 typedef struct gcflip_work {
-    uint32_t steps;    /* how many steps were made, at least 1 */
-    uint32_t copied;   /* how many words replicas took in the new space meanwhile */
-    gcflip_reply last; /* the reply to the last step */
+    uint32_t steps;  /* how many steps were made, at least 1 */
+    uint32_t copied; /* how many words replicas took in the new space meanwhile */
+    uint32_t last;   /* the reply to the last step */
+    uint32_t pairs;  /* the number of pairs if the last step flipped, else 0 */
 } gcflip_work;
 
 /* Makes useful steps, at most `most`, which is not 0. The useful step begins a collection if none is open; else it is
  * the first of roots, scan and apply with something left to do, and at last the flip. Work ends after a flip, and
  * after a step for which there is no room. If an allocation fails, it ends before that step, and returns
- * GCFLIP_HEAP_NO_MEMORY only if that was the first one. */
+ * GCFLIP_HEAP_NO_MEMORY only if that was the first one. It returns GCFLIP_DONE, and writes its report. */
 uint32_t gcflip_heap_work(gcflip_heap *heap, uint32_t most, gcflip_work *work);
 
 /* ---- Reading, for a runtime's own decisions */

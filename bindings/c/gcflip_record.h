@@ -5,8 +5,8 @@
  *
  *     FILE *gcflip_trace;
  *
- * One heap is recorded at a time: what is written from one gcflip_heap_open on is one trace. A call that returns
- * another answer than GCFLIP_HEAP_DONE did not happen and has no line. gcflip_heap_work makes the same useful steps one
+ * One heap is recorded at a time: what is written from one gcflip_heap_open on is one trace. A call that
+ * was refused did not happen and has no line. gcflip_heap_work makes the same useful steps one
  * by one, and each has its line. Calls that only read have none. The stream's own faults are for the program to find
  * (ferror). A trace of more than 16777216 bytes is not replayed.
  */
@@ -25,7 +25,7 @@ extern FILE *gcflip_trace;
 /* Returns whether the call has a line. */
 static inline int gcflip_recorded(uint32_t answer)
 {
-    return answer == GCFLIP_HEAP_DONE && gcflip_trace != NULL;
+    return !GCFLIP_IS_REFUSED(answer) && gcflip_trace != NULL;
 }
 
 static inline void gcflip_trace_slot(uint8_t slot)
@@ -56,9 +56,9 @@ static inline uint32_t gcflip_record_open(gcflip_heap *heap, uint32_t size, uint
     return answer;
 }
 
-static inline uint32_t gcflip_record_new(gcflip_heap *heap, uint8_t m, uint8_t d, uint8_t kind, uint16_t count, gcflip_reply *reply)
+static inline uint32_t gcflip_record_new(gcflip_heap *heap, uint8_t m, uint8_t d, uint8_t kind, uint16_t count)
 {
-    uint32_t answer = gcflip_heap_new(heap, m, d, kind, count, reply);
+    uint32_t answer = gcflip_heap_new(heap, m, d, kind, count);
     if (gcflip_recorded(answer)) {
         gcflip_trace_command(m, "new");
         gcflip_trace_slot(d);
@@ -69,9 +69,9 @@ static inline uint32_t gcflip_record_new(gcflip_heap *heap, uint8_t m, uint8_t d
     return answer;
 }
 
-static inline uint32_t gcflip_record_raw(gcflip_heap *heap, uint8_t m, uint8_t d, uint8_t kind, uint16_t count, gcflip_reply *reply)
+static inline uint32_t gcflip_record_raw(gcflip_heap *heap, uint8_t m, uint8_t d, uint8_t kind, uint16_t count)
 {
-    uint32_t answer = gcflip_heap_raw(heap, m, d, kind, count, reply);
+    uint32_t answer = gcflip_heap_raw(heap, m, d, kind, count);
     if (gcflip_recorded(answer)) {
         gcflip_trace_command(m, "raw");
         gcflip_trace_slot(d);
@@ -82,9 +82,9 @@ static inline uint32_t gcflip_record_raw(gcflip_heap *heap, uint8_t m, uint8_t d
     return answer;
 }
 
-static inline uint32_t gcflip_record_num(gcflip_heap *heap, uint8_t m, uint8_t d, uint64_t n, gcflip_reply *reply)
+static inline uint32_t gcflip_record_num(gcflip_heap *heap, uint8_t m, uint8_t d, uint64_t n)
 {
-    uint32_t answer = gcflip_heap_num(heap, m, d, n, reply);
+    uint32_t answer = gcflip_heap_num(heap, m, d, n);
     if (gcflip_recorded(answer)) {
         gcflip_trace_command(m, "num");
         gcflip_trace_slot(d);
@@ -94,9 +94,9 @@ static inline uint32_t gcflip_record_num(gcflip_heap *heap, uint8_t m, uint8_t d
     return answer;
 }
 
-static inline uint32_t gcflip_record_nil(gcflip_heap *heap, uint8_t m, uint8_t d, gcflip_reply *reply)
+static inline uint32_t gcflip_record_nil(gcflip_heap *heap, uint8_t m, uint8_t d)
 {
-    uint32_t answer = gcflip_heap_nil(heap, m, d, reply);
+    uint32_t answer = gcflip_heap_nil(heap, m, d);
     if (gcflip_recorded(answer)) {
         gcflip_trace_command(m, "nil");
         gcflip_trace_slot(d);
@@ -105,9 +105,9 @@ static inline uint32_t gcflip_record_nil(gcflip_heap *heap, uint8_t m, uint8_t d
     return answer;
 }
 
-static inline uint32_t gcflip_record_move(gcflip_heap *heap, uint8_t m, uint8_t d, uint8_t s, gcflip_reply *reply)
+static inline uint32_t gcflip_record_move(gcflip_heap *heap, uint8_t m, uint8_t d, uint8_t s)
 {
-    uint32_t answer = gcflip_heap_move(heap, m, d, s, reply);
+    uint32_t answer = gcflip_heap_move(heap, m, d, s);
     if (gcflip_recorded(answer)) {
         gcflip_trace_command(m, "move");
         gcflip_trace_slot(d);
@@ -117,9 +117,9 @@ static inline uint32_t gcflip_record_move(gcflip_heap *heap, uint8_t m, uint8_t 
     return answer;
 }
 
-static inline uint32_t gcflip_record_get(gcflip_heap *heap, uint8_t m, uint8_t d, uint8_t s, uint16_t i, gcflip_reply *reply)
+static inline uint32_t gcflip_record_get(gcflip_heap *heap, uint8_t m, uint8_t d, uint8_t s, uint16_t i, uint64_t *number)
 {
-    uint32_t answer = gcflip_heap_get(heap, m, d, s, i, reply);
+    uint32_t answer = gcflip_heap_get(heap, m, d, s, i, number);
     if (gcflip_recorded(answer)) {
         gcflip_trace_command(m, "get");
         gcflip_trace_slot(d);
@@ -130,22 +130,58 @@ static inline uint32_t gcflip_record_get(gcflip_heap *heap, uint8_t m, uint8_t d
     return answer;
 }
 
-static inline uint32_t gcflip_record_put(gcflip_heap *heap, uint8_t m, uint8_t s, uint16_t i, uint8_t t, gcflip_reply *reply)
+static inline void gcflip_trace_put(uint8_t m, uint8_t s, uint16_t i, uint8_t t)
 {
-    uint32_t answer = gcflip_heap_put(heap, m, s, i, t, reply);
+    gcflip_trace_command(m, "put");
+    gcflip_trace_slot(s);
+    gcflip_trace_number(i);
+    gcflip_trace_slot(t);
+    gcflip_trace_end();
+}
+
+static inline uint32_t gcflip_record_put(gcflip_heap *heap, uint8_t m, uint8_t s, uint16_t i, uint8_t t)
+{
+    uint32_t answer = gcflip_heap_put(heap, m, s, i, t);
+    if (gcflip_recorded(answer))
+        gcflip_trace_put(m, s, i, t);
+    return answer;
+}
+
+/* Its lines are those of a num and of a put. */
+static inline uint32_t gcflip_record_put_number(gcflip_heap *heap, uint8_t m, uint8_t s, uint16_t i, uint8_t t, uint64_t n)
+{
+    uint32_t answer = gcflip_heap_put_number(heap, m, s, i, t, n);
     if (gcflip_recorded(answer)) {
-        gcflip_trace_command(m, "put");
-        gcflip_trace_slot(s);
-        gcflip_trace_number(i);
+        gcflip_trace_command(m, "num");
         gcflip_trace_slot(t);
+        gcflip_trace_number(n);
         gcflip_trace_end();
+        gcflip_trace_put(m, s, i, t);
     }
     return answer;
 }
 
-static inline uint32_t gcflip_record_same(gcflip_heap *heap, uint8_t m, uint8_t s, uint8_t t, gcflip_reply *reply)
+/* Its lines are those of a new and, if there was room, of two puts. */
+static inline uint32_t gcflip_record_cons(gcflip_heap *heap, uint8_t m, uint8_t d, uint8_t kind, uint8_t s, uint8_t t)
 {
-    uint32_t answer = gcflip_heap_same(heap, m, s, t, reply);
+    uint32_t answer = gcflip_heap_cons(heap, m, d, kind, s, t);
+    if (gcflip_recorded(answer)) {
+        gcflip_trace_command(m, "new");
+        gcflip_trace_slot(d);
+        gcflip_trace_number(kind);
+        gcflip_trace_number(2);
+        gcflip_trace_end();
+        if (answer != GCFLIP_FULL) {
+            gcflip_trace_put(m, d, 0, s);
+            gcflip_trace_put(m, d, 1, t);
+        }
+    }
+    return answer;
+}
+
+static inline uint32_t gcflip_record_same(gcflip_heap *heap, uint8_t m, uint8_t s, uint8_t t)
+{
+    uint32_t answer = gcflip_heap_same(heap, m, s, t);
     if (gcflip_recorded(answer)) {
         gcflip_trace_command(m, "same");
         gcflip_trace_slot(s);
@@ -155,9 +191,9 @@ static inline uint32_t gcflip_record_same(gcflip_heap *heap, uint8_t m, uint8_t 
     return answer;
 }
 
-static inline uint32_t gcflip_record_look(gcflip_heap *heap, uint8_t m, uint8_t s, gcflip_reply *reply)
+static inline uint32_t gcflip_record_look(gcflip_heap *heap, uint8_t m, uint8_t s, gcflip_view *view)
 {
-    uint32_t answer = gcflip_heap_look(heap, m, s, reply);
+    uint32_t answer = gcflip_heap_look(heap, m, s, view);
     if (gcflip_recorded(answer)) {
         gcflip_trace_command(m, "look");
         gcflip_trace_slot(s);
@@ -166,115 +202,115 @@ static inline uint32_t gcflip_record_look(gcflip_heap *heap, uint8_t m, uint8_t 
     return answer;
 }
 
-static inline uint32_t gcflip_record_begin(gcflip_heap *heap, gcflip_reply *reply)
+static inline uint32_t gcflip_record_begin(gcflip_heap *heap)
 {
-    uint32_t answer = gcflip_heap_begin(heap, reply);
+    uint32_t answer = gcflip_heap_begin(heap);
     if (gcflip_recorded(answer))
         fprintf(gcflip_trace, "c begin\n");
     return answer;
 }
 
-static inline uint32_t gcflip_record_roots(gcflip_heap *heap, gcflip_reply *reply)
+static inline uint32_t gcflip_record_roots(gcflip_heap *heap)
 {
-    uint32_t answer = gcflip_heap_roots(heap, reply);
+    uint32_t answer = gcflip_heap_roots(heap);
     if (gcflip_recorded(answer))
         fprintf(gcflip_trace, "c roots\n");
     return answer;
 }
 
-static inline uint32_t gcflip_record_scan(gcflip_heap *heap, gcflip_reply *reply)
+static inline uint32_t gcflip_record_scan(gcflip_heap *heap)
 {
-    uint32_t answer = gcflip_heap_scan(heap, reply);
+    uint32_t answer = gcflip_heap_scan(heap);
     if (gcflip_recorded(answer))
         fprintf(gcflip_trace, "c scan\n");
     return answer;
 }
 
-static inline uint32_t gcflip_record_flip(gcflip_heap *heap, gcflip_reply *reply)
+static inline uint32_t gcflip_record_flip(gcflip_heap *heap, uint32_t *pairs)
 {
-    uint32_t answer = gcflip_heap_flip(heap, reply);
+    uint32_t answer = gcflip_heap_flip(heap, pairs);
     if (gcflip_recorded(answer))
         fprintf(gcflip_trace, "c flip\n");
     return answer;
 }
 
-static inline uint32_t gcflip_record_drop(gcflip_heap *heap, gcflip_reply *reply)
+static inline uint32_t gcflip_record_drop(gcflip_heap *heap)
 {
-    uint32_t answer = gcflip_heap_drop(heap, reply);
+    uint32_t answer = gcflip_heap_drop(heap);
     if (gcflip_recorded(answer))
         fprintf(gcflip_trace, "c drop\n");
     return answer;
 }
 
-static inline uint32_t gcflip_record_begin_sized(gcflip_heap *heap, uint32_t size, gcflip_reply *reply)
+static inline uint32_t gcflip_record_begin_sized(gcflip_heap *heap, uint32_t size)
 {
-    uint32_t answer = gcflip_heap_begin_sized(heap, size, reply);
+    uint32_t answer = gcflip_heap_begin_sized(heap, size);
     if (gcflip_recorded(answer))
         fprintf(gcflip_trace, "c begin %u\n", size);
     return answer;
 }
 
-static inline uint32_t gcflip_record_apply(gcflip_heap *heap, uint8_t m, gcflip_reply *reply)
+static inline uint32_t gcflip_record_apply(gcflip_heap *heap, uint8_t m)
 {
-    uint32_t answer = gcflip_heap_apply(heap, m, reply);
+    uint32_t answer = gcflip_heap_apply(heap, m);
     if (gcflip_recorded(answer))
         fprintf(gcflip_trace, "c apply %u\n", m);
     return answer;
 }
 
 /* Makes the useful step and records it, but not the steps that were clean. */
-static inline uint32_t gcflip_record_useful(gcflip_heap *heap, const gcflip_counts *counts, gcflip_reply *reply)
+static inline uint32_t gcflip_record_useful(gcflip_heap *heap, const gcflip_counts *counts, uint32_t *pairs)
 {
     uint8_t m;
+    uint32_t answer;
     if (!counts->is_open)
-        return gcflip_record_begin(heap, reply);
-    gcflip_heap_roots(heap, reply);
-    if (reply->reply != GCFLIP_CLEAN) {
+        return gcflip_record_begin(heap);
+    answer = gcflip_heap_roots(heap);
+    if (answer != GCFLIP_CLEAN) {
         if (gcflip_trace)
             fprintf(gcflip_trace, "c roots\n");
-        return GCFLIP_HEAP_DONE;
+        return answer;
     }
-    gcflip_heap_scan(heap, reply);
-    if (reply->reply != GCFLIP_CLEAN) {
+    answer = gcflip_heap_scan(heap);
+    if (answer != GCFLIP_CLEAN) {
         if (gcflip_trace)
             fprintf(gcflip_trace, "c scan\n");
-        return GCFLIP_HEAP_DONE;
+        return answer;
     }
     for (m = 0; m < counts->mutators; m++) {
         size_t length;
         gcflip_heap_log_length(heap, m, &length);
         if (length > 0)
-            return gcflip_record_apply(heap, m, reply);
+            return gcflip_record_apply(heap, m);
     }
-    return gcflip_record_flip(heap, reply);
+    return gcflip_record_flip(heap, pairs);
 }
 
 static inline uint32_t gcflip_record_work(gcflip_heap *heap, uint32_t most, gcflip_work *work)
 {
     gcflip_counts counts;
-    gcflip_work made = {0, 0, {0, 0, 0, 0, 0}};
-    gcflip_reply reply;
+    gcflip_work made = {0, 0, 0, 0};
     uint32_t start, answer = gcflip_heap_counts(heap, &counts);
-    if (answer != GCFLIP_HEAP_DONE)
+    if (answer != GCFLIP_DONE)
         return answer;
     if (most == 0)
         return GCFLIP_HEAP_OUT_OF_RANGE;
     start = counts.is_open ? counts.new_end : 1;
     while (made.steps < most) {
-        answer = gcflip_record_useful(heap, &counts, &reply);
-        if (answer != GCFLIP_HEAP_DONE)
+        answer = gcflip_record_useful(heap, &counts, &made.pairs);
+        if (GCFLIP_IS_REFUSED(answer))
             break;
         made.steps++;
-        made.last = reply;
+        made.last = answer;
         gcflip_heap_counts(heap, &counts);
         made.copied = (counts.is_open ? counts.new_end : counts.end) - start;
-        if (made.last.reply == GCFLIP_FLIPPED || made.last.reply == GCFLIP_NO_ROOM)
+        if (answer == GCFLIP_FLIPPED || answer == GCFLIP_NO_ROOM)
             break;
     }
     if (made.steps == 0)
         return answer;
     *work = made;
-    return GCFLIP_HEAP_DONE;
+    return GCFLIP_DONE;
 }
 
 #ifdef __cplusplus
@@ -289,6 +325,8 @@ static inline uint32_t gcflip_record_work(gcflip_heap *heap, uint32_t most, gcfl
 #define gcflip_heap_move gcflip_record_move
 #define gcflip_heap_get gcflip_record_get
 #define gcflip_heap_put gcflip_record_put
+#define gcflip_heap_put_number gcflip_record_put_number
+#define gcflip_heap_cons gcflip_record_cons
 #define gcflip_heap_same gcflip_record_same
 #define gcflip_heap_look gcflip_record_look
 #define gcflip_heap_begin gcflip_record_begin

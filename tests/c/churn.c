@@ -7,42 +7,36 @@
 enum { LIST = 16, DEPTH = 200, WORDS = 4096 };
 
 static gcflip_heap heap = GCFLIP_NO_HEAP;
-static gcflip_reply reply;
 static unsigned long flips;
-
-static void must_be(uint32_t answer, uint32_t wanted)
-{
-    EXPECT(answer == GCFLIP_HEAP_DONE && reply.reply == wanted);
-}
 
 static void collect(uint32_t most)
 {
     gcflip_work work;
-    EXPECT(gcflip_heap_work(&heap, most, &work) == GCFLIP_HEAP_DONE);
-    EXPECT(work.last.reply != GCFLIP_NO_ROOM && work.last.reply != GCFLIP_FLIP_REFUSED);
-    flips += work.last.reply == GCFLIP_FLIPPED;
+    EXPECT(gcflip_heap_work(&heap, most, &work) == GCFLIP_DONE);
+    EXPECT(work.last != GCFLIP_NO_ROOM && work.last != GCFLIP_FLIP_REFUSED);
+    flips += work.last == GCFLIP_FLIPPED;
 }
 
 /* The list's first cell is a new one with the number n, in front of what was the list. */
 static void push(uint64_t n)
 {
+    EXPECT(gcflip_heap_num(&heap, 0, 1, n) == GCFLIP_DONE);
     for (;;) {
-        EXPECT(gcflip_heap_new(&heap, 0, 0, 1, 2, &reply) == GCFLIP_HEAP_DONE);
-        if (reply.reply == GCFLIP_MADE)
+        uint32_t answer = gcflip_heap_cons(&heap, 0, 0, 1, 1, LIST);
+        if (answer == GCFLIP_MADE)
             break;
+        EXPECT(answer == GCFLIP_FULL);
         collect(UINT32_MAX);
     }
-    must_be(gcflip_heap_num(&heap, 0, 1, n, &reply), GCFLIP_DONE);
-    must_be(gcflip_heap_put(&heap, 0, 0, 0, 1, &reply), GCFLIP_DONE);
-    must_be(gcflip_heap_put(&heap, 0, 0, 1, LIST, &reply), GCFLIP_DONE);
-    must_be(gcflip_heap_move(&heap, 0, LIST, 0, &reply), GCFLIP_DONE);
+    EXPECT(gcflip_heap_move(&heap, 0, LIST, 0) == GCFLIP_DONE);
 }
 
 static void pop(uint64_t n)
 {
-    must_be(gcflip_heap_get(&heap, 1, 0, LIST, 0, &reply), GCFLIP_SAW);
-    EXPECT(reply.view == GCFLIP_NUMBER && reply.number == n);
-    must_be(gcflip_heap_get(&heap, 1, LIST, LIST, 1, &reply), GCFLIP_SAW);
+    uint64_t number = n + 1;
+    EXPECT(gcflip_heap_get(&heap, 1, 0, LIST, 0, &number) == GCFLIP_NUMBER && number == n);
+    uint32_t rest = gcflip_heap_get(&heap, 1, LIST, LIST, 1, &number);
+    EXPECT(rest == GCFLIP_OBJECT || rest == GCFLIP_NIL);
 }
 
 int main(int count, char **arguments)
@@ -52,7 +46,7 @@ int main(int count, char **arguments)
     unsigned long depth = 0;
     size_t in_use = 0;
     unsigned random = 1;
-    EXPECT(gcflip_heap_open(&heap, WORDS, 2) == GCFLIP_HEAP_DONE);
+    EXPECT(gcflip_heap_open(&heap, WORDS, 2) == GCFLIP_DONE);
     for (unsigned long n = 0; n < operations; n++) {
         random = random * 1103515245u + 12345u;
         if (depth == 0 || (depth < DEPTH && random >> 16 & 1)) {
@@ -71,6 +65,6 @@ int main(int count, char **arguments)
         }
     }
     EXPECT(flips > operations / 100000);
-    EXPECT(gcflip_heap_close(&heap) == GCFLIP_HEAP_DONE && blocks_in_use() == 0 && bytes_in_use() == 0);
+    EXPECT(gcflip_heap_close(&heap) == GCFLIP_DONE && blocks_in_use() == 0 && bytes_in_use() == 0);
     return 0;
 }

@@ -9,8 +9,8 @@ namespace {
 
 class Heap {
 public:
-    Heap(uint32_t size, uint8_t mutators) { EXPECT(gcflip_heap_open(&handle, size, mutators) == GCFLIP_HEAP_DONE); }
-    ~Heap() { EXPECT(gcflip_heap_close(&handle) == GCFLIP_HEAP_DONE); }
+    Heap(uint32_t size, uint8_t mutators) { EXPECT(gcflip_heap_open(&handle, size, mutators) == GCFLIP_DONE); }
+    ~Heap() { EXPECT(gcflip_heap_close(&handle) == GCFLIP_DONE); }
     Heap(const Heap &) = delete;
     Heap &operator=(const Heap &) = delete;
     gcflip_heap handle = GCFLIP_NO_HEAP;
@@ -23,11 +23,11 @@ int main()
     gcflip_trace = tmpfile();
     {
         Heap heap(32, 1);
-        gcflip_reply reply = {};
+        gcflip_view view = {};
         gcflip_work work = {};
-        EXPECT(gcflip_heap_new(&heap.handle, 0, 0, 1, 1, &reply) == GCFLIP_HEAP_DONE && reply.reply == GCFLIP_MADE);
-        EXPECT(gcflip_heap_work(&heap.handle, 100, &work) == GCFLIP_HEAP_DONE && work.last.reply == GCFLIP_FLIPPED);
-        EXPECT(gcflip_heap_look(&heap.handle, 0, 0, &reply) == GCFLIP_HEAP_DONE && reply.view == GCFLIP_OBJECT);
+        EXPECT(gcflip_heap_new(&heap.handle, 0, 0, 1, 1) == GCFLIP_MADE);
+        EXPECT(gcflip_heap_work(&heap.handle, 100, &work) == GCFLIP_DONE && work.last == GCFLIP_FLIPPED);
+        EXPECT(gcflip_heap_look(&heap.handle, 0, 0, &view) == GCFLIP_OBJECT && view.kind == 1 && view.count == 1);
     }
     // two lines of the opening, two commands, and the steps begin, roots, scan, scan, flip
     int lines = 0;

@@ -15,22 +15,20 @@ static uint32_t work_at_once(uint32_t most, gcflip_work *work)
 
 static void open_at_once(void)
 {
-    gcflip_reply reply;
-    EXPECT(gcflip_heap_open(&at_once, 64, 2) == GCFLIP_HEAP_DONE);
-    EXPECT(gcflip_heap_new(&at_once, 0, 16, 1, 2, &reply) == GCFLIP_HEAP_DONE);
-    EXPECT(gcflip_heap_new(&at_once, 1, 0, 2, 1, &reply) == GCFLIP_HEAP_DONE);
-    EXPECT(gcflip_heap_put(&at_once, 1, 16, 1, 0, &reply) == GCFLIP_HEAP_DONE);
+    EXPECT(gcflip_heap_open(&at_once, 64, 2) == GCFLIP_DONE);
+    EXPECT(gcflip_heap_new(&at_once, 0, 16, 1, 2) == GCFLIP_MADE);
+    EXPECT(gcflip_heap_new(&at_once, 1, 0, 2, 1) == GCFLIP_MADE);
+    EXPECT(gcflip_heap_put(&at_once, 1, 16, 1, 0) == GCFLIP_DONE);
 }
 
 static uint32_t write_at_once(uint8_t t)
 {
-    gcflip_reply reply;
-    return gcflip_heap_put(&at_once, 1, 16, 0, t, &reply);
+    return gcflip_heap_put(&at_once, 1, 16, 0, t);
 }
 
 static void close_at_once(void)
 {
-    EXPECT(gcflip_heap_close(&at_once) == GCFLIP_HEAP_DONE);
+    EXPECT(gcflip_heap_close(&at_once) == GCFLIP_DONE);
 }
 
 #include "gcflip_record.h"
@@ -44,40 +42,44 @@ static void work(uint32_t most, uint32_t last, long failing)
 {
     gcflip_work recorded, other;
     fail_allocation(failing);
-    EXPECT(gcflip_heap_work(&heap, most, &recorded) == GCFLIP_HEAP_DONE);
+    EXPECT(gcflip_heap_work(&heap, most, &recorded) == GCFLIP_DONE);
     fail_allocation(failing);
-    EXPECT(work_at_once(most, &other) == GCFLIP_HEAP_DONE);
+    EXPECT(work_at_once(most, &other) == GCFLIP_DONE);
     fail_allocation(0);
-    EXPECT(memcmp(&recorded, &other, sizeof recorded) == 0 && recorded.last.reply == last);
+    EXPECT(memcmp(&recorded, &other, sizeof recorded) == 0 && recorded.last == last);
 }
 
 int main(int count, char **names)
 {
-    gcflip_reply reply;
     gcflip_work none;
     EXPECT(count == 2);
     gcflip_trace = fopen(names[1], "w");
     EXPECT(gcflip_heap_work(&heap, 1, &none) == GCFLIP_HEAP_CLOSED);
-    EXPECT(gcflip_heap_open(&heap, 64, 2) == GCFLIP_HEAP_DONE);
+    EXPECT(gcflip_heap_open(&heap, 64, 2) == GCFLIP_DONE);
     EXPECT(gcflip_heap_work(&heap, 0, &none) == GCFLIP_HEAP_OUT_OF_RANGE);
     open_at_once();
-    gcflip_heap_new(&heap, 0, 16, 1, 2, &reply);
-    gcflip_heap_new(&heap, 1, 0, 2, 1, &reply);
-    gcflip_heap_put(&heap, 1, 16, 1, 0, &reply);
+    gcflip_heap_new(&heap, 0, 16, 1, 2);
+    gcflip_heap_new(&heap, 1, 0, 2, 1);
+    gcflip_heap_put(&heap, 1, 16, 1, 0);
     fail_allocation(1);
     EXPECT(gcflip_heap_work(&heap, 1, &none) == GCFLIP_HEAP_NO_MEMORY);
     work(1, GCFLIP_BEGUN, 0);
     work(3, GCFLIP_SCANNED, 0); /* both roots, and a field */
-    EXPECT(gcflip_heap_put(&heap, 1, 16, 0, 0, &reply) == GCFLIP_HEAP_DONE && write_at_once(0) == GCFLIP_HEAP_DONE);
+    EXPECT(gcflip_heap_put(&heap, 1, 16, 0, 0) == GCFLIP_DONE && write_at_once(0) == GCFLIP_DONE);
     work(100, GCFLIP_APPLIED, 1); /* all but the flip, whose first allocation fails */
     work(100, GCFLIP_FLIPPED, 0);
     work(100, GCFLIP_FLIPPED, 0);
-    gcflip_heap_begin_sized(&heap, 3, &reply);
-    EXPECT(gcflip_heap_work(&heap, 100, &none) == GCFLIP_HEAP_DONE && none.steps == 1 && none.last.reply == GCFLIP_NO_ROOM);
-    gcflip_heap_drop(&heap, &reply);
+    gcflip_heap_begin_sized(&heap, 3);
+    EXPECT(gcflip_heap_work(&heap, 100, &none) == GCFLIP_DONE && none.steps == 1 && none.last == GCFLIP_NO_ROOM);
+    gcflip_heap_drop(&heap);
+    /* calls that are several commands; the last has no room, and then it is one */
+    EXPECT(gcflip_heap_put_number(&heap, 1, 16, 0, 5, 9) == GCFLIP_DONE);
+    EXPECT(gcflip_heap_cons(&heap, 1, 6, 3, 16, 5) == GCFLIP_MADE);
+    EXPECT(gcflip_heap_raw(&heap, 1, 7, 4, 50) == GCFLIP_MADE);
+    EXPECT(gcflip_heap_cons(&heap, 1, 7, 3, 16, 5) == GCFLIP_FULL);
     EXPECT(fclose(gcflip_trace) == 0);
     gcflip_trace = NULL;
-    EXPECT(gcflip_heap_close(&heap) == GCFLIP_HEAP_DONE);
+    EXPECT(gcflip_heap_close(&heap) == GCFLIP_DONE);
     close_at_once();
     return 0;
 }

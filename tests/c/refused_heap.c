@@ -8,7 +8,9 @@
 enum { WORDS = 4096, ROOTS = 32 };
 
 static gcflip_heap heap = GCFLIP_NO_HEAP;
-static gcflip_reply reply;
+static gcflip_view view;
+static uint64_t number;
+static uint32_t pairs;
 static gcflip_work work;
 
 /* All that can be read of a heap. */
@@ -21,16 +23,11 @@ struct picture {
 static void draw(struct picture *picture)
 {
     memset(picture, 0, sizeof *picture);
-    EXPECT(gcflip_heap_counts(&heap, &picture->counts) == GCFLIP_HEAP_DONE);
-    EXPECT(gcflip_heap_log_length(&heap, 0, &picture->log_length) == GCFLIP_HEAP_DONE);
-    EXPECT(gcflip_heap_image(&heap, picture->words, picture->counts.end, picture->roots, ROOTS) == GCFLIP_HEAP_DONE);
+    EXPECT(gcflip_heap_counts(&heap, &picture->counts) == GCFLIP_DONE);
+    EXPECT(gcflip_heap_log_length(&heap, 0, &picture->log_length) == GCFLIP_DONE);
+    EXPECT(gcflip_heap_image(&heap, picture->words, picture->counts.end, picture->roots, ROOTS) == GCFLIP_DONE);
     if (picture->counts.is_open)
-        EXPECT(gcflip_heap_new_words(&heap, picture->new_words, picture->counts.new_end) == GCFLIP_HEAP_DONE);
-}
-
-static void must_be(uint32_t answer, uint32_t wanted)
-{
-    EXPECT(answer == GCFLIP_HEAP_DONE && reply.reply == wanted);
+        EXPECT(gcflip_heap_new_words(&heap, picture->new_words, picture->counts.new_end) == GCFLIP_DONE);
 }
 
 static uint32_t open_heap(void)
@@ -42,31 +39,33 @@ static uint32_t open_heap(void)
 static void set_up(void)
 {
     fail_allocation(0);
-    EXPECT(open_heap() == GCFLIP_HEAP_DONE);
-    must_be(gcflip_heap_new(&heap, 0, 0, 1, 1, &reply), GCFLIP_MADE);
+    EXPECT(open_heap() == GCFLIP_DONE);
+    EXPECT(gcflip_heap_new(&heap, 0, 0, 1, 1) == GCFLIP_MADE);
 }
 
 static void set_up_open(void)
 {
     set_up();
-    must_be(gcflip_heap_begin(&heap, &reply), GCFLIP_BEGUN);
+    EXPECT(gcflip_heap_begin(&heap) == GCFLIP_BEGUN);
 }
 
 static void set_up_ready(void)
 {
     set_up_open();
-    EXPECT(gcflip_heap_work(&heap, 3, &work) == GCFLIP_HEAP_DONE && work.last.reply == GCFLIP_PASSED);
+    EXPECT(gcflip_heap_work(&heap, 3, &work) == GCFLIP_DONE && work.last == GCFLIP_PASSED);
 }
 
-static uint32_t begin(void) { return gcflip_heap_begin(&heap, &reply); }
-static uint32_t begin_sized(void) { return gcflip_heap_begin_sized(&heap, 64, &reply); }
-static uint32_t put(void) { return gcflip_heap_put(&heap, 0, 0, 0, 0, &reply); }
-static uint32_t flip(void) { return gcflip_heap_flip(&heap, &reply); }
+static uint32_t begin(void) { return gcflip_heap_begin(&heap); }
+static uint32_t begin_sized(void) { return gcflip_heap_begin_sized(&heap, 64); }
+static uint32_t put(void) { return gcflip_heap_put(&heap, 0, 0, 0, 0); }
+static uint32_t put_number(void) { return gcflip_heap_put_number(&heap, 0, 0, 0, 1, 5); }
+static uint32_t cons(void) { return gcflip_heap_cons(&heap, 0, 1, 1, 0, 0); }
+static uint32_t flip(void) { return gcflip_heap_flip(&heap, &pairs); }
 static uint32_t work_1(void) { return gcflip_heap_work(&heap, 1, &work); }
 
 static void free_all(void)
 {
-    EXPECT(gcflip_heap_close(&heap) == GCFLIP_HEAP_DONE && blocks_in_use() == 0);
+    EXPECT(gcflip_heap_close(&heap) == GCFLIP_DONE && blocks_in_use() == 0);
 }
 
 /* Returns how many allocations can fail. A failed one leaves all as it was, and the call can then be made again. */
@@ -76,23 +75,22 @@ static int failures(void (*prepare)(void), uint32_t (*call)(void))
     for (int n = 1;; n++) {
         prepare();
         draw(&before);
-        gcflip_reply told = {77, 77, 77, 77, 77};
-        gcflip_work report = {77, 77, told};
-        reply = told;
+        const gcflip_work report = {77, 77, 77, 77};
         work = report;
+        pairs = 77;
         fail_allocation(n);
         uint32_t answer = call();
-        if (answer == GCFLIP_HEAP_DONE) {
+        if (!GCFLIP_IS_REFUSED(answer)) {
             EXPECT(!has_failed());
             free_all();
             return n - 1;
         }
         EXPECT(answer == GCFLIP_HEAP_NO_MEMORY && has_failed());
-        EXPECT(memcmp(&reply, &told, sizeof reply) == 0 && memcmp(&work, &report, sizeof work) == 0);
+        EXPECT(pairs == 77 && memcmp(&work, &report, sizeof work) == 0);
         draw(&after);
         EXPECT(memcmp(&before, &after, sizeof before) == 0);
         fail_allocation(0);
-        EXPECT(call() == GCFLIP_HEAP_DONE);
+        EXPECT(!GCFLIP_IS_REFUSED(call()));
         free_all();
     }
 }
@@ -104,7 +102,7 @@ static void opening(void)
     for (;; n++) {
         fail_allocation(n);
         uint32_t answer = open_heap();
-        if (answer == GCFLIP_HEAP_DONE)
+        if (answer == GCFLIP_DONE)
             break;
         EXPECT(answer == GCFLIP_HEAP_NO_MEMORY && has_failed() && heap.at == NULL && blocks_in_use() == 0);
     }
@@ -116,14 +114,14 @@ static void opening(void)
 static void work_before_a_failure(void)
 {
     set_up();
-    EXPECT(gcflip_heap_work(&heap, 1, &work) == GCFLIP_HEAP_DONE && work.last.reply == GCFLIP_BEGUN);
+    EXPECT(gcflip_heap_work(&heap, 1, &work) == GCFLIP_DONE && work.last == GCFLIP_BEGUN);
     fail_allocation(1);
-    EXPECT(gcflip_heap_work(&heap, 1000, &work) == GCFLIP_HEAP_DONE);
-    EXPECT(work.steps == 3 && work.copied == 3 && work.last.reply == GCFLIP_PASSED && has_failed());
+    EXPECT(gcflip_heap_work(&heap, 1000, &work) == GCFLIP_DONE);
+    EXPECT(work.steps == 3 && work.copied == 3 && work.last == GCFLIP_PASSED && has_failed());
     fail_allocation(1);
     EXPECT(gcflip_heap_work(&heap, 1000, &work) == GCFLIP_HEAP_NO_MEMORY);
     fail_allocation(0);
-    EXPECT(gcflip_heap_work(&heap, 1000, &work) == GCFLIP_HEAP_DONE && work.steps == 1 && work.last.reply == GCFLIP_FLIPPED);
+    EXPECT(gcflip_heap_work(&heap, 1000, &work) == GCFLIP_DONE && work.steps == 1 && work.last == GCFLIP_FLIPPED);
     free_all();
 }
 
@@ -132,23 +130,23 @@ static void calls_that_do_not_allocate(void)
 {
     set_up();
     fail_allocation(1);
-    must_be(gcflip_heap_new(&heap, 0, 1, 1, 4, &reply), GCFLIP_MADE);
-    must_be(gcflip_heap_raw(&heap, 0, 2, 1, 4, &reply), GCFLIP_MADE);
-    must_be(gcflip_heap_put(&heap, 0, 1, 0, 2, &reply), GCFLIP_DONE);
-    must_be(gcflip_heap_get(&heap, 0, 3, 1, 0, &reply), GCFLIP_SAW);
+    EXPECT(gcflip_heap_new(&heap, 0, 1, 1, 4) == GCFLIP_MADE);
+    EXPECT(gcflip_heap_raw(&heap, 0, 2, 1, 4) == GCFLIP_MADE);
+    EXPECT(gcflip_heap_put(&heap, 0, 1, 0, 2) == GCFLIP_DONE);
+    EXPECT(gcflip_heap_get(&heap, 0, 3, 1, 0, &number) == GCFLIP_OBJECT);
     fail_allocation(0);
-    must_be(gcflip_heap_begin(&heap, &reply), GCFLIP_BEGUN);
-    must_be(gcflip_heap_put(&heap, 0, 1, 1, 2, &reply), GCFLIP_DONE);
+    EXPECT(gcflip_heap_begin(&heap) == GCFLIP_BEGUN);
+    EXPECT(gcflip_heap_put(&heap, 0, 1, 1, 2) == GCFLIP_DONE);
     fail_allocation(1);
-    must_be(gcflip_heap_num(&heap, 0, 3, 5, &reply), GCFLIP_DONE);
-    must_be(gcflip_heap_move(&heap, 0, 4, 3, &reply), GCFLIP_DONE);
-    must_be(gcflip_heap_nil(&heap, 0, 4, &reply), GCFLIP_DONE);
-    must_be(gcflip_heap_same(&heap, 0, 3, 4, &reply), GCFLIP_NOT_SAME);
-    must_be(gcflip_heap_look(&heap, 0, 3, &reply), GCFLIP_SAW);
-    must_be(gcflip_heap_roots(&heap, &reply), GCFLIP_COPIED);
-    must_be(gcflip_heap_scan(&heap, &reply), GCFLIP_SCANNED);
-    must_be(gcflip_heap_apply(&heap, 0, &reply), GCFLIP_APPLIED);
-    must_be(gcflip_heap_drop(&heap, &reply), GCFLIP_DROPPED);
+    EXPECT(gcflip_heap_num(&heap, 0, 3, 5) == GCFLIP_DONE);
+    EXPECT(gcflip_heap_move(&heap, 0, 4, 3) == GCFLIP_DONE);
+    EXPECT(gcflip_heap_nil(&heap, 0, 4) == GCFLIP_DONE);
+    EXPECT(gcflip_heap_same(&heap, 0, 3, 4) == GCFLIP_NOT_SAME);
+    EXPECT(gcflip_heap_look(&heap, 0, 3, &view) == GCFLIP_NUMBER);
+    EXPECT(gcflip_heap_roots(&heap) == GCFLIP_COPIED);
+    EXPECT(gcflip_heap_scan(&heap) == GCFLIP_SCANNED);
+    EXPECT(gcflip_heap_apply(&heap, 0) == GCFLIP_APPLIED);
+    EXPECT(gcflip_heap_drop(&heap) == GCFLIP_DROPPED);
     EXPECT(!has_failed());
     free_all();
 }
@@ -160,6 +158,10 @@ int main(void)
     EXPECT(failures(set_up, begin_sized) == 2);
     EXPECT(failures(set_up, put) == 0);
     EXPECT(failures(set_up_open, put) == 1);
+    EXPECT(failures(set_up, put_number) == 0);
+    EXPECT(failures(set_up_open, put_number) == 1);
+    EXPECT(failures(set_up, cons) == 0);
+    EXPECT(failures(set_up_open, cons) == 1);
     EXPECT(failures(set_up_ready, flip) == 5); /* the certificate, the moved roots, the checker's three rows */
     EXPECT(failures(set_up, work_1) == 2);
     EXPECT(failures(set_up_ready, work_1) == 5);

@@ -20,27 +20,25 @@ static void check(void)
 
 static void make(gcflip_heap *heap, uint8_t slot, uint64_t n)
 {
-    gcflip_reply reply;
-    EXPECT(gcflip_heap_raw(heap, 0, slot, 1, 1, &reply) == GCFLIP_HEAP_DONE && reply.reply == GCFLIP_MADE);
-    EXPECT(gcflip_heap_num(heap, 0, 15, n, &reply) == GCFLIP_HEAP_DONE);
-    EXPECT(gcflip_heap_put(heap, 0, slot, 0, 15, &reply) == GCFLIP_HEAP_DONE && reply.reply == GCFLIP_DONE);
+    EXPECT(gcflip_heap_raw(heap, 0, slot, 1, 1) == GCFLIP_MADE);
+    EXPECT(gcflip_heap_put_number(heap, 0, slot, 0, 15, n) == GCFLIP_DONE);
 }
 
 static void expect_number(gcflip_heap *heap, uint8_t slot, uint64_t n)
 {
-    gcflip_reply reply;
-    EXPECT(gcflip_heap_get(heap, 0, 14, slot, 0, &reply) == GCFLIP_HEAP_DONE && reply.number == n);
+    uint64_t number = n + 1;
+    EXPECT(gcflip_heap_get(heap, 0, 14, slot, 0, &number) == GCFLIP_NUMBER && number == n);
 }
 
 /* Fills the heap at which the argument points, and collects in between. */
 static void *fill(void *argument)
 {
     gcflip_heap *heap = argument;
-    EXPECT(gcflip_heap_open(heap, 256, 1) == GCFLIP_HEAP_DONE);
+    EXPECT(gcflip_heap_open(heap, 256, 1) == GCFLIP_DONE);
     for (uint64_t n = 0; n < ROUNDS; n++) {
         gcflip_work work;
         make(heap, (uint8_t)(n % 8), n);
-        EXPECT(gcflip_heap_work(heap, 8, &work) == GCFLIP_HEAP_DONE);
+        EXPECT(gcflip_heap_work(heap, 8, &work) == GCFLIP_DONE);
         check();
     }
     return NULL;
@@ -57,7 +55,7 @@ int main(void)
     for (int k = 0; k < THREADS; k++) {
         for (uint8_t slot = 0; slot < 8; slot++)
             expect_number(&heaps[k], slot, ROUNDS - 8 + slot);
-        EXPECT(gcflip_heap_close(&heaps[k]) == GCFLIP_HEAP_DONE);
+        EXPECT(gcflip_heap_close(&heaps[k]) == GCFLIP_DONE);
     }
     return 0;
 }

@@ -62,12 +62,16 @@ class Library:
         self.folder = folder
         self.prefix = os.path.join(folder, "installed")
         self.lib = os.path.join(self.prefix, "lib")
-        words = ["make", "-C", os.path.join(TOP, "bindings", "c"), "install", "PREFIX=" + self.prefix]
-        self.made = done([*words, "OUT=" + os.path.join(folder, "out")], timeout=PROVING_SECONDS)
+        self.made = self.install(self.prefix)
 
-    def flags(self):
+    def install(self, prefix):
+        """Builds the library, and installs it there."""
+        words = ["make", "-C", os.path.join(TOP, "bindings", "c"), "install", "PREFIX=" + prefix]
+        return done([*words, "OUT=" + os.path.join(self.folder, "out")], timeout=PROVING_SECONDS)
+
+    def flags(self, prefix=None):
         """What pkg-config tells of it."""
-        environment = dict(os.environ, PKG_CONFIG_PATH=os.path.join(self.lib, "pkgconfig"))
+        environment = dict(os.environ, PKG_CONFIG_PATH=os.path.join(prefix or self.prefix, "lib", "pkgconfig"))
         return done(["pkg-config", "--cflags", "--libs", "gcflip"], env=environment).stdout.decode().split()
 
     def build(self, compiler, source, linked):
@@ -140,6 +144,10 @@ def pkg_config(_program, folder):
         return
     path, why = built.build(["gcc"], "check.c", [*built.flags(), "-Wl,-rpath," + built.lib])
     yield "check.c by the words of pkg-config", why or difference(done([path]), Outcome())
+    other = os.path.join(folder, "other")
+    built.install(other)
+    wanted = ["-I%s/include" % other, "-L%s/lib" % other, "-lgcflip"]
+    yield "the words for another folder", None if built.flags(other) == wanted else "they are %s" % built.flags(other)
 
 
 def texts_and_lines():
@@ -212,6 +220,7 @@ def plays(_program, folder):
 REPLIES_OF_RECORDED_WORK = (
     b"made\nmade\ndone\nbegun\ncopied\ncopied\nscanned\ndone\nscanned\npassed\nscanned\npassed\napplied\nflipped 2\n"
     b"begun\ncopied\ncopied\nscanned\nscanned\npassed\nscanned\npassed\nflipped 2\nbegun\nno room\ndropped\n"
+    b"done\ndone\nmade\ndone\ndone\nmade\nfull\n"
 )
 
 

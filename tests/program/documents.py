@@ -242,7 +242,7 @@ def pieces(block):
 
 
 def quotes(_program, _folder):
-    texts = [" ".join(text.split()) for path, text in sources() if path.endswith((".rt", ".antt"))]
+    texts = [" ".join(text.split()) for path, text in sources() if path.endswith((".rt", ".antt", ".rs"))]
     for document in documents():
         found = blocks(document, "rust") + blocks(document, "antt")
         missing = [piece[:60] for block in found for piece in pieces(block) if not any(piece in text for text in texts)]

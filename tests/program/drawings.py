@@ -8,18 +8,21 @@ import sys
 import xml.etree.ElementTree as ElementTree
 
 from . import pairs
-from .harness import file_of
-from .traces import PLAYED, trace_and_replies
+from .harness import file_of, run
+from .traces import PLAYED, refused_texts, trace_and_replies
 
 TOP = os.path.normpath(os.path.join(os.path.dirname(os.path.abspath(__file__)), "..", ".."))
 TOOL = os.path.join(TOP, "tools", "draw")
 SVG = "{http://www.w3.org/2000/svg}"
-sys.path.insert(0, os.path.join(TOP, "tools"))
+sys.path[:0] = [os.path.join(TOP, "tools"), os.path.join(TOP, "bindings", "python")]
 
-from drawing import blocks_picture, crates_picture, pair_picture, svg, texts, timeline  # noqa: E402
+from drawing import crates_picture, svg  # noqa: E402
 from drawing.machine import Machine  # noqa: E402
-from drawing.picture import text_width  # noqa: E402
-from drawing.verdicts import MEANINGS, Verdict  # noqa: E402
+from gcflip_drawing import pair_picture, timeline  # noqa: E402
+from gcflip_drawing.pair_text import read_pair, written  # noqa: E402
+from gcflip_drawing.picture import text_width  # noqa: E402
+from gcflip_drawing.trace_text import BadTrace, read_trace  # noqa: E402
+from gcflip_drawing.verdicts import MEANINGS, Verdict  # noqa: E402
 
 
 def draw(*words):
@@ -90,7 +93,7 @@ COUNTS = {
 
 
 def drawn_example(name):
-    return pair_picture.drawn_word_by_word(texts.read_pair(example(name + ".pair")), name, Verdict(example(name + ".verdict").strip()))
+    return pair_picture.drawn(read_pair(example(name + ".pair")), name, Verdict(example(name + ".verdict").strip()))
 
 
 def counted(picture):
@@ -112,17 +115,17 @@ def examples(_program, _folder):
 
 def small_pairs(_program, _folder):
     for name, text, verdict in pairs.texts_and_verdicts():
-        drawn = pair_picture.drawn_word_by_word(texts.read_pair(text.decode()), name, Verdict(verdict))
+        drawn = pair_picture.drawn(read_pair(text.decode()), name, Verdict(verdict))
         yield "drawing of %s" % name, wrong_drawing(drawn)
     for name in COUNTS:
         yield "drawing of %s" % name, wrong_drawing(drawn_example(name))
     text, verdict = pairs.all_paired(40, 3)
-    drawn = pair_picture.drawn_word_by_word(texts.read_pair(text.decode()), "six rows", Verdict(verdict))
+    drawn = pair_picture.drawn(read_pair(text.decode()), "six rows", Verdict(verdict))
     yield "drawing of six rows", wrong_drawing(drawn)
     # Arrows from roots would cross the rows.
     yield "counts of six rows", None if counted(drawn) == (80, 0, 0, 40) else "counted %s" % (counted(drawn),)
     yield "drawing without a verdict", wrong_drawing(
-        pair_picture.drawn_word_by_word(texts.read_pair(example("replica_out_of_date.pair")), "not checked", None))
+        pair_picture.drawn(read_pair(example("replica_out_of_date.pair")), "not checked", None))
 
 
 def within(inner, outer):
@@ -141,11 +144,11 @@ def faults(_program, _folder):
     """The place that the checker names is the one that is marked."""
     found = marked(drawn_example("replica_out_of_date"))
     yield "a field is marked in both heaps", None if found == ["field 1: word 19", "field 1: word 0"] else "marked %s" % found
-    text = texts.read_pair(pairs.text_of(pairs.CHECKED["a_root_refers_to_a_field"][0]).decode())
-    found = marked(pair_picture.drawn_word_by_word(text, "root", Verdict("refused 10 RootDiffers 0")))
+    text = read_pair(pairs.text_of(pairs.CHECKED["a_root_refers_to_a_field"][0]).decode())
+    found = marked(pair_picture.drawn(text, "root", Verdict("refused 10 RootDiffers 0")))
     yield "a root is marked in both heaps", None if found == ["word 6", "word 6"] else "marked %s" % found
-    text = texts.read_pair(pairs.text_of(pairs.CHECKED["no_room_for_the_last_link"][0]).decode())
-    found = marked(pair_picture.drawn_word_by_word(text, "shape", Verdict("refused 1 OldShape 3")))
+    text = read_pair(pairs.text_of(pairs.CHECKED["no_room_for_the_last_link"][0]).decode())
+    found = marked(pair_picture.drawn(text, "shape", Verdict("refused 1 OldShape 3")))
     yield "a word that is no header is marked", None if found == ["word 5"] else "marked %s" % found
     yield "a yes has no mark", None if marked(drawn_example("garbage_left_behind")) == [] else "something is marked"
     refusals = {Verdict(verdict).refusal for _, _, verdict in pairs.texts_and_verdicts()} - {None}
@@ -156,25 +159,52 @@ def large_pairs(_program, _folder):
     """Thousands of objects become blocks."""
     refused, verdict = pairs.all_paired(5000, 1, altered=(4000,))
     for name, (text, verdict) in [("5000 objects", (refused, verdict)), ("all objects that have room", pairs.greatest_text())]:
-        drawn = blocks_picture.drawn_in_blocks(texts.read_pair(text.decode()), name, Verdict(verdict))
+        drawn = pair_picture.drawn(read_pair(text.decode()), name, Verdict(verdict))
         yield "drawing of %s" % name, wrong_drawing(drawn)
         yield "few shapes of %s" % name, None if len(drawn.shapes) < 1000 else "%d shapes" % len(drawn.shapes)
-    drawn = blocks_picture.drawn_in_blocks(texts.read_pair(refused.decode()), "refused", Verdict("refused 8 HeaderDiffers 4000"))
+    drawn = pair_picture.drawn(read_pair(refused.decode()), "refused", Verdict("refused 8 HeaderDiffers 4000"))
     found = [shape["tip"] for shape in shapes_of(drawn, "fault") if shape["kind"] == "box" and shape["tip"]]
     # Each object takes two words.
     wanted = ["address 8001", "address 8001"]
     yield "the refused objects of a large pair are marked", None if found == wanted else "marked %s" % found
 
 
+def written_pairs(_program, _folder):
+    """A pair text that was read is written as it was."""
+    for name, text, _ in pairs.texts_and_verdicts():
+        yield "%s is written again" % name, None if written(read_pair(text.decode())) == text.decode() else "it differs"
+
+
 # ---- traces
+
+def played(trace):
+    machine = Machine(trace.size, trace.mutators)
+    return [machine.measured(event) for event in trace.events]
+
+
+def run_of(name):
+    """Returns the timeline's run of an example."""
+    trace = read_trace(example(name + ".trace").encode())
+    return timeline.Run(trace.mutators, len(trace.events), played(trace))
+
+
+def faults_of_traces(program, folder):
+    """A text that is no trace gets the line that the program prints."""
+    for name, text, line in refused_texts():
+        try:
+            found = "read %s" % (read_trace(text),)
+        except BadTrace as error:
+            found = str(error)
+        said = run(program, ["play", file_of(folder, "text", text)])
+        yield "fault of %s" % name, None if found == line == said.first_error_line() else "%r, and the program says %r" % (found, said.stderr)
+
 
 def replies(_program, _folder):
     """Compares the replies of the machine behind a timeline with those that the rules give."""
     for name, conversation in PLAYED.items():
         text, wanted = trace_and_replies(conversation)
-        trace = texts.read_trace(text.decode())
-        machine = Machine(trace.size, trace.mutators)
-        found = "".join(machine.play(event) + "\n" for event in trace.events)
+        trace = read_trace(text)
+        found = "".join(measure.reply + "\n" for measure in played(trace))
         yield "replies to %s" % name, None if found == wanted.decode() else "replied %r, wanted %r" % (found, wanted.decode())
 
 
@@ -186,23 +216,25 @@ MARKS = {"second_collection": (2, 0, 1, 0), "too_small_and_then_larger": (1, 1, 
 def timelines(_program, folder):
     for name, conversation in PLAYED.items():
         text, _ = trace_and_replies(conversation)
-        yield "timeline of %s" % name, wrong_drawing(timeline.drawn(texts.read_trace(text.decode()), name))
+        trace = read_trace(text)
+        yield "timeline of %s" % name, wrong_drawing(timeline.drawn(trace, played(trace), name))
     for name, wanted in MARKS.items():
-        run = timeline.Run(texts.read_trace(example(name + ".trace")))
+        run = run_of(name)
         found = tuple(run.counts[role] for role in ("flip", "drop", "full", "no-room"))
         yield "marks of %s" % name, None if found == wanted else "counted %s, wanted %s" % (found, wanted)
-    run = timeline.Run(texts.read_trace(example("write_while_scanning.trace")))
+    run = run_of("write_while_scanning")
     found = [(column.used, column.copied, sum(column.entries)) for column in run.columns]
     # An object of one field takes 3 words, and word 0 is reserved. The log has its entry from the put to the apply.
     wanted = [(4, 0, 0)] * 2 + [(4, 1, 0)] + [(4, 4, 0)] * 2 + [(4, 4, 1)] * 3 + [(4, 4, 0)] + [(4, 0, 0)] * 2
     yield "curves of write_while_scanning", None if found == wanted else "found %s" % found
-    found = timeline.Run(texts.read_trace(example("log_across_two_mutators.trace"))).logs()
+    found = run_of("log_across_two_mutators").logs()
     # Mutator 0 writes in event 6, and its entry is applied in event 11. Mutator 1 writes in event 9, applied in event 10.
     wanted = [("log 0", [0] * 6 + [1] * 5 + [0] * 4), ("log 1", [0] * 9 + [1] + [0] * 5)]
     yield "logs of log_across_two_mutators", None if found == wanted else "found %s" % found
-    yield "timeline without events", wrong_drawing(timeline.drawn(texts.read_trace("heaptrace 1\nspace 8 mutators 1\n"), "empty"))
+    yield "timeline without events", wrong_drawing(timeline.drawn(read_trace(b"heaptrace 1\nspace 8 mutators 1\n"), [], "empty"))
     made = subprocess.run([sys.executable, os.path.join(TOP, "bench", "make_collections"), "262144"], stdout=subprocess.PIPE)
-    drawn = timeline.drawn(texts.read_trace(made.stdout.decode()), "many events")
+    trace = read_trace(made.stdout)
+    drawn = timeline.drawn(trace, played(trace), "many events")
     yield "timeline of many events", wrong_drawing(drawn)
     yield "few shapes of many events", None if len(drawn.shapes) < 2500 else "%d shapes" % len(drawn.shapes)
 
@@ -225,11 +257,12 @@ UNREADABLE = {
     "another_text": (b"hello\n", "the first line is neither"),
     "a_picture": (b"\x89PNG\r\n\x1a\n", "is no character of a text"),
     "a_cut_pair": (b"heappair 1\nold 8 3\n0\n", "the text ends before a word of the old heap"),
-    "no_last_line_feed": (b"heaptrace 1\nspace 8 mutators 1\nm 0 look r0", "the last line lacks its line feed"),
+    "no_last_line_feed": (b"heaptrace 1\nspace 8 mutators 1\nm 0 look r0", "trace: bad line 3"),
+    "a_pair_without_its_last_line_feed": (b"heappair 1\nold 8 1\n0", "the last line lacks its line feed"),
     "a_wrong_word": (b"heappair 1\nold 8 1\nx\n", "line 3 is not a word of the old heap"),
-    "a_wrong_event": (b"heaptrace 1\nspace 8 mutators 1\nm 0 look r0\nm 0 peek r0\n", "line 4 is not an event"),
-    "a_mutator_too_many": (b"heaptrace 1\nspace 8 mutators 1\nm 1 look r0\n", "line 3 is not an event"),
-    "a_space_too_large": (b"heaptrace 1\nspace 1048577 mutators 1\n", "line 2 is not a space of 1 to 1048576 words"),
+    "a_wrong_event": (b"heaptrace 1\nspace 8 mutators 1\nm 0 look r0\nm 0 peek r0\n", "trace: bad line 4"),
+    "a_mutator_too_many": (b"heaptrace 1\nspace 8 mutators 1\nm 1 look r0\n", "trace: no such mutator at line 3"),
+    "a_space_too_large": (b"heaptrace 1\nspace 1048577 mutators 1\n", "trace: bad header"),
 }
 
 
@@ -289,4 +322,4 @@ def drawn_by_hand(_program, _folder):
         yield "docs/pictures/%s.svg" % name, None if boxes and inside else "a box is outside of the frame"
 
 
-GROUPS = [examples, small_pairs, faults, large_pairs, replies, timelines, crates, messages, tool, kept, drawn_by_hand]
+GROUPS = [examples, small_pairs, faults, large_pairs, written_pairs, faults_of_traces, replies, timelines, crates, messages, tool, kept, drawn_by_hand]

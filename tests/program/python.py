@@ -10,6 +10,7 @@ from .harness import Outcome, difference, file_of
 PACKAGE = os.path.join(TOP, "bindings", "python")
 TESTS = os.path.join(TOP, "tests", "python")
 README = os.path.join(PACKAGE, "README.md")
+TOUR = os.path.join(TOP, "examples", "python")
 
 
 def built_package(folder):
@@ -18,14 +19,25 @@ def built_package(folder):
     if done([sys.executable, "-c", "import setuptools"]).status != 0:
         skip("the built Python package", "no setuptools; the source is tested")
         return PACKAGE, None
-    # setuptools writes beside the source.
-    source = shutil.copytree(PACKAGE, os.path.join(folder, "package"), ignore=shutil.ignore_patterns("__pycache__"))
+    # setuptools writes beside the source, and takes the examples from the top of the repository.
+    source = shutil.copytree(PACKAGE, os.path.join(folder, "bindings", "python"), ignore=shutil.ignore_patterns("__pycache__"))
+    shutil.copytree(os.path.join(TOP, "examples"), os.path.join(folder, "examples"), ignore=shutil.ignore_patterns("__pycache__"))
     target = os.path.join(folder, "site")
     made = done([sys.executable, "-c", "import setuptools; setuptools.setup()", "build", "--build-lib", target], cwd=source)
     if made.status != 0:
         return target, made.stderr.decode()
-    missing = set(os.listdir(os.path.join(source, "gcflip"))) - set(os.listdir(os.path.join(target, "gcflip")))
+    missing = packaged(source) - packaged(target) | {os.path.join(EXAMPLES, name + ending) for ending in (".trace", ".pair") for name in names_of(ending)
+                                                     if not os.path.exists(os.path.join(target, EXAMPLES, name + ending))}
     return target, "it lacks %s" % ", ".join(sorted(missing)) if missing else None
+
+
+EXAMPLES = os.path.join("gcflip", "explore", "examples")
+
+
+def packaged(folder):
+    """Returns the paths of all files of the packages in a folder."""
+    return {os.path.relpath(os.path.join(path, name), folder) for package in ("gcflip", "gcflip_drawing")
+            for path, _, names in os.walk(os.path.join(folder, package)) for name in names}
 
 
 class Python:
@@ -52,7 +64,7 @@ def suites(_program, folder):
     if python is None:
         return
     yield "the package is built", python.why
-    for name in ("test_checker.py", "test_heap.py"):
+    for name in ("test_checker.py", "test_heap.py", "test_explore.py"):
         found = python.run(os.path.join(TESTS, name))
         yield name, None if found.status == 0 and found.stderr.endswith(b"\nOK\n") else found.stderr.decode()
     shown = python.run("-m", "doctest", "-v", README)
@@ -89,6 +101,15 @@ def plays(_program, folder):
     yield "there are examples", None if names_of(".trace") else "no .trace"
 
 
+def tour(_program, folder):
+    """examples/python prints its railway.output, which the README beside it derives."""
+    python = prepared(folder)
+    if python is None:
+        return
+    wanted = content_of(os.path.join(TOUR, "railway.output"))
+    yield "railway.py", difference(python.run(os.path.join(TOUR, "railway.py")), Outcome(wanted))
+
+
 def content_of(path):
     """The bytes of a file; None if there is none."""
     if not os.path.exists(path):
@@ -102,7 +123,7 @@ def not_found(_program, folder):
     environment = dict(os.environ, PYTHONPATH=PACKAGE, PYTHONDONTWRITEBYTECODE="1", GCFLIP_LIBRARY=os.path.join(folder, "nothing.so"))
     found = done([sys.executable, "-c", "import gcflip"], env=environment)
     said = found.stderr.decode().strip().split("\n")[-1]
-    yield "no shared library", None if said.startswith("OSError: ") and "nothing.so" in said else said
+    yield "no shared library", None if said.startswith("OSError: ") and "nothing.so" in said and "set GCFLIP_LIBRARY" in said else said
 
 
-GROUPS = [suites, texts, plays, not_found]
+GROUPS = [suites, texts, plays, tour, not_found]

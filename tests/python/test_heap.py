@@ -47,6 +47,27 @@ class Commands(unittest.TestCase):
         self.assertIsNone(self.mutator.look(own(2)))
         self.assertEqual(self.mutator.get(own(2), own(1), 0), 0)
 
+    def test_put_number(self):
+        self.mutator.new(own(0), 7, 2)
+        self.mutator.raw(own(1), 255, 1)
+        self.mutator.put(own(0), 0, own(1))
+        self.mutator.put_number(own(0), 1, own(2), 5)
+        self.assertEqual(self.mutator.look(own(2)), 5)
+        self.assertEqual(self.mutator.get(own(3), own(0), 1), 5)
+        self.assertEqual(self.mutator.get(own(3), own(0), 0), Object(255, 1, raw=True))
+        with self.assertRaises(gcflip.NoObject):
+            self.mutator.put_number(own(2), 0, own(2), 6)
+        with self.assertRaises(gcflip.OutOfRange):
+            self.mutator.put_number(own(0), 0, own(2), 1 << 63)
+
+    def test_cons(self):
+        self.mutator.num(own(1), 5)
+        self.mutator.cons(own(0), 7, own(1), own(0))
+        self.assertEqual(self.mutator.look(own(0)), Object(7, 2))
+        self.assertEqual(self.mutator.get(own(2), own(0), 0), 5)
+        self.mutator.get(own(2), own(0), 1)
+        self.assertTrue(self.mutator.same(own(2), own(0)))
+
     def test_slots(self):
         self.mutator.num(shared(15), 5)
         self.mutator.num(own(15), 6)

@@ -1,5 +1,4 @@
-"""Pictures of pair texts, traces and the crates' graph.
+"""What only tools/draw needs: the SVG renderer, the graph of the crates, and a machine that plays traces without the library.
 
-Each picture is first a description, plain data with boxes, arrows and marks (`picture`), and then SVG (`svg`). Another renderer,
-such as a web page, can start from the description, which `tools/draw --json` prints.
+Pictures are laid out by the package `gcflip_drawing` of bindings/python, which the page of `gcflip.explore` shares.
 """

@@ -1,7 +1,20 @@
 """Lays out the graph of the crates: each above those that it stands on, with an arrow to each that no other one covers."""
-from .picture import Picture
+from gcflip_drawing.pair_text import Unreadable
+from gcflip_drawing.picture import Picture
 
 BOX_WIDTH, BOX, GAP_X, GAP_Y, LEFT, TOP = 104, 34, 30, 40, 24, 24
+
+
+def read_crates(text):
+    """Returns the crates that each crate of the list uses, without those of the toolchain."""
+    listed = {}
+    for line in text.split("\n"):
+        name, colon, uses = line.split("#")[0].partition(":")
+        if colon:
+            listed[name.split()[0]] = uses.split()
+    if not listed:
+        raise Unreadable("there is no crate in the list")
+    return {name: [use for use in uses if use in listed] for name, uses in listed.items()}
 
 
 def levels_of(uses):

@@ -1,5 +1,7 @@
 """Plays a trace, to know after each event the words in use and the log entries. It tells nothing that `gcflip play` does not; the
 tests compare its replies with those of the program."""
+from gcflip_drawing.timeline import Measure
+
 NIL = ("nil",)
 
 
@@ -54,28 +56,34 @@ class Machine:
 
     def play(self, event):
         """Performs an event, and returns its reply."""
-        if event[0] == "c":
-            return self.step(event[1], event[2:])
-        m, command, words = int(event[1]), event[2], event[3:]
-        return getattr(self, "do_" + command)(m, *words)
+        if event.mutator is None:
+            return self.step(event.name, event.numbers)
+        return getattr(self, "do_" + event.name)(event.mutator, *event.numbers)
+
+    def measured(self, event):
+        """Performs an event, and returns what it left."""
+        reply, c = self.play(event), self.collection
+        entries = tuple(len(log) for log in c.logs) if c else (0,) * self.mutators
+        return Measure(reply, self.size, self.end, c.end if c else 0, c is not None, entries)
 
     # ---- mutators
 
-    def slot(self, m, name):
-        return int(name[1:]) + (0 if name[0] == "g" else 16 + 16 * m)
+    def place(self, m, slot):
+        """Returns the place of a slot in the list of roots."""
+        return slot - 16 if slot >= 16 else 16 + 16 * m + slot
 
-    def held(self, m, name):
-        return self.roots[self.slot(m, name)]
+    def held(self, m, slot):
+        return self.roots[self.place(m, slot)]
 
-    def hold(self, m, name, value):
-        self.roots[self.slot(m, name)] = value
+    def hold(self, m, slot, value):
+        self.roots[self.place(m, slot)] = value
         return "done"
 
     def make(self, m, d, kind, length, raw):
-        if int(length) + 2 > self.size - self.end:
+        if length + 2 > self.size - self.end:
             return "full"
-        self.hold(m, d, Thing(self.end, raw, int(kind), [("num", 0) if raw else NIL] * int(length)))
-        self.end += int(length) + 2
+        self.hold(m, d, Thing(self.end, raw, kind, [("num", 0) if raw else NIL] * length))
+        self.end += length + 2
         return "made"
 
     def do_new(self, m, d, kind, length):
@@ -85,7 +93,7 @@ class Machine:
         return self.make(m, d, kind, length, True)
 
     def do_num(self, m, d, n):
-        return self.hold(m, d, ("num", int(n)))
+        return self.hold(m, d, ("num", n))
 
     def do_nil(self, m, d):
         return self.hold(m, d, NIL)
@@ -97,22 +105,22 @@ class Machine:
         thing = self.held(m, s)
         if not isinstance(thing, Thing):
             return "no object"
-        if int(i) >= len(thing.fields):
+        if i >= len(thing.fields):
             return "no field"
-        self.hold(m, d, thing.fields[int(i)])
+        self.hold(m, d, thing.fields[i])
         return self.do_look(m, d)
 
     def do_put(self, m, s, i, t):
         thing, value = self.held(m, s), self.held(m, t)
         if not isinstance(thing, Thing):
             return "no object"
-        if int(i) >= len(thing.fields):
+        if i >= len(thing.fields):
             return "no field"
         if thing.raw and not is_number(value):
             return "no number"
-        thing.fields[int(i)] = value
+        thing.fields[i] = value
         if self.collection:
-            self.collection.logs[m].append((thing, int(i)))
+            self.collection.logs[m].append((thing, i))
         return "done"
 
     def do_same(self, m, s, t):
@@ -127,16 +135,16 @@ class Machine:
 
     # ---- the collector
 
-    def step(self, name, words):
+    def step(self, name, numbers):
         if name == "begin":
             if self.collection:
                 return "busy"
-            self.collection = Collection(int(words[0]) if words else self.size, self.mutators)
+            self.collection = Collection(numbers[0] if numbers else self.size, self.mutators)
             return "begun"
         if not self.collection:
             return "idle"
         try:
-            return getattr(self, "step_" + name)(self.collection, *[int(word) for word in words])
+            return getattr(self, "step_" + name)(self.collection, *numbers)
         except NoRoom:
             return "no room"
 

@@ -1,7 +1,7 @@
 """Renders a picture as SVG."""
 from xml.sax.saxutils import escape
 
-from .picture import BOLD, TEXT_SIZES
+from gcflip_drawing.picture import BOLD, TEXT_SIZES
 
 FONT = "font-family: 'DejaVu Sans', Verdana, Helvetica, sans-serif; fill: #24292f"
 
@@ -14,6 +14,9 @@ STYLES = {
     "garbage": "fill: #eaeef2; stroke: #8c959f; stroke-width: 1.5",
     "free": "fill: none; stroke: #d0d7de; stroke-dasharray: 3 3",
     "reserved": "fill: #d0d7de; stroke: #8c959f",
+    "changed": "fill: #fff1a8; stroke: #9a6700",
+    "logged": "fill: none; stroke: #bc4c00; stroke-width: 3",
+    "scan": "fill: #8250df",
     "unknown": "fill: #ffebe9; stroke: #cf222e",
     "cell": "fill: #ffffff; stroke: #afb8c1",
     "head": "fill: none; stroke: none",
@@ -24,10 +27,12 @@ STYLES = {
     "stale": "stroke: #8c959f; stroke-width: 1.2; fill: none",
     "rooted": "stroke: #8250df; stroke-width: 1.4; fill: none",
     "pair": "stroke: #1a7f37; stroke-width: 1.6; stroke-dasharray: 2 4; fill: none",
+    "link": "stroke: #6e7781; stroke-width: 1.6; stroke-dasharray: 2 4; fill: none",
     "uses": "stroke: #57606a; stroke-width: 1.3; fill: none",
     "axis": "stroke: #57606a; fill: none",
     "grid": "stroke: #eaeef2; fill: none",
     "limit": "stroke: #8c959f; stroke-dasharray: 5 4; fill: none",
+    "cursor": "stroke: #8250df; stroke-width: 2; fill: none",
     "collection": "fill: #ddf4ff",
     "used": "fill: #54aeff; fill-opacity: 0.35; stroke: #0969da; stroke-width: 1.4",
     "copied": "fill: #4ac26b; fill-opacity: 0.45; stroke: #1a7f37; stroke-width: 1.4",

@@ -10,22 +10,26 @@ from typing import Any, NamedTuple, Union
 
 from . import library
 from .checker import Image
-from .errors import (Busy, Closed, FlipRefused, Full, HeapRefused, Idle, NoField, NoNumber, NoObject, NoRoom, NotReady, OutOfMemory,
-                     OutOfRange)
-from .library import COUNTS, LIBRARY, OTHERS, REPLIES, ReplyNumber, ViewNumber, check_ranges
+from .errors import (Busy, Closed, FlipRefused, Full, GcflipError, HeapRefused, Idle, NoField, NoNumber, NoObject, NoRoom, NotReady,
+                     OutOfMemory, OutOfRange)
+from .library import COUNTS, HEAP, LIBRARY, Answer, check_ranges
 
 SLOTS = 16
-NO_MEMORY, OUT_OF_RANGE, CLOSED = 1, 2, 3
+NOTHING_DONE: dict[int, type[GcflipError]] = {
+    Answer.NO_MEMORY: OutOfMemory,
+    Answer.OUT_OF_RANGE: OutOfRange,
+    Answer.CLOSED: Closed,
+}
 REFUSED: dict[int, type[HeapRefused]] = {
-    ReplyNumber.FULL: Full,
-    ReplyNumber.NO_OBJECT: NoObject,
-    ReplyNumber.NO_FIELD: NoField,
-    ReplyNumber.NO_NUMBER: NoNumber,
-    ReplyNumber.BUSY: Busy,
-    ReplyNumber.IDLE: Idle,
-    ReplyNumber.NO_ROOM: NoRoom,
-    ReplyNumber.NOT_READY: NotReady,
-    ReplyNumber.FLIP_REFUSED: FlipRefused,
+    Answer.FULL: Full,
+    Answer.NO_OBJECT: NoObject,
+    Answer.NO_FIELD: NoField,
+    Answer.NO_NUMBER: NoNumber,
+    Answer.BUSY: Busy,
+    Answer.IDLE: Idle,
+    Answer.NO_ROOM: NoRoom,
+    Answer.NOT_READY: NotReady,
+    Answer.FLIP_REFUSED: FlipRefused,
 }
 
 
@@ -81,8 +85,8 @@ class Step(enum.Enum):
     """The new space has no room for a replica. Only `work` returns this; a single step raises NoRoom."""
 
 
-def _step_of(reply: library.Reply) -> Step:
-    return Step[ReplyNumber(reply.reply).name]
+def _step_of(answer: int) -> Step:
+    return Step[Answer(answer).name]
 
 
 class Work(NamedTuple):
@@ -180,7 +184,9 @@ class Heap:
     def flip(self) -> int:
         """Flips if the collection is ready and the checker accepts its certificate, and returns the number of pairs. Raises
         NotReady, Idle and OutOfMemory."""
-        return int(self._reply("flip").count)
+        pairs = ctypes.c_uint32()
+        self._call("flip", pairs)
+        return pairs.value
 
     def drop(self) -> Step:
         """Frees the new space and the logs: DROPPED. Raises Idle."""
@@ -195,7 +201,7 @@ class Heap:
         """
         work = library.Work()
         self._call("work", most, work)
-        return Work(work.steps, work.copied, _step_of(work.last), work.last.count)
+        return Work(work.steps, work.copied, _step_of(work.last), work.pairs)
 
     # ---- Reading
 
@@ -233,27 +239,33 @@ class Heap:
     # ---- Calls
 
     def _step(self, name: str, *numbers: int) -> Step:
-        return _step_of(self._reply(name, *numbers))
+        return _step_of(self._call(name, *numbers))
 
-    def _reply(self, name: str, *numbers: int) -> library.Reply:
-        """Makes a call with a reply, and raises what a refusing reply tells."""
-        reply = library.Reply()
-        check_ranges(numbers, REPLIES[name])
-        self._made(name, *numbers, reply)
-        if reply.reply in REFUSED:
-            raise REFUSED[reply.reply]()
-        return reply
-
-    def _call(self, name: str, *arguments: Any) -> None:
-        check_ranges(tuple(argument for argument in arguments if isinstance(argument, int)), OTHERS[name])
-        self._made(name, *arguments)
-
-    def _made(self, name: str, *arguments: Any) -> None:
-        """Makes a call, and raises what an answer other than done tells."""
+    def _call(self, name: str, *arguments: Any) -> Answer:
+        """Makes a call and returns its reply. Raises what a refusal tells."""
+        check_ranges(tuple(argument for argument in arguments if isinstance(argument, int)), HEAP[name])
         with self._lock:
-            answer = getattr(LIBRARY, "gcflip_heap_" + name)(self._handle, *arguments)
-        if answer != 0:
-            raise {NO_MEMORY: OutOfMemory, OUT_OF_RANGE: OutOfRange, CLOSED: Closed}[answer](name)
+            return self._made(name, *arguments)
+
+    def _made(self, name: str, *arguments: Any) -> Answer:
+        """Does the same where the arguments are in range and the lock is held."""
+        answer = Answer(getattr(LIBRARY, "gcflip_heap_" + name)(self._handle, *arguments))
+        if answer in NOTHING_DONE:
+            raise NOTHING_DONE[answer](name)
+        if answer in REFUSED:
+            raise REFUSED[answer]()
+        return answer
+
+    def _get(self, mutator: int, slot: int, source: int, field: int) -> Value:
+        """Gets a field into a slot, and looks at it before another thread can change it."""
+        check_ranges((mutator, slot, source, field), HEAP["get"])
+        number, view = ctypes.c_uint64(), library.View()
+        with self._lock:
+            answer = self._made("get", mutator, slot, source, field, number)
+            view.number = number.value
+            if answer == Answer.OBJECT:
+                answer = self._made("look", mutator, slot, view)
+        return _seen(answer, view)
 
 
 def _zeros(count: int) -> array.array:
@@ -270,49 +282,61 @@ class Mutator:
     def new(self, slot: int, kind: int, length: int) -> None:
         """Makes an object of a kind, 0 to 255, with so many fields, at most 65535, all nil, and puts a reference to it into the
         slot. It takes length + 2 words. Raises Full."""
-        self._reply("new", slot, kind, length)
+        self._call("new", slot, kind, length)
 
     def raw(self, slot: int, kind: int, length: int) -> None:
         """Makes an object whose fields are plain numbers, all 0, like `new`."""
-        self._reply("raw", slot, kind, length)
+        self._call("raw", slot, kind, length)
 
     def num(self, slot: int, number: int) -> None:
         """Puts a number below 2^63 into the slot."""
-        self._reply("num", slot, number)
+        self._call("num", slot, number)
 
     def nil(self, slot: int) -> None:
         """Puts nil into the slot."""
-        self._reply("nil", slot)
+        self._call("nil", slot)
 
     def move(self, slot: int, source: int) -> None:
         """Copies the value of slot `source` into the slot."""
-        self._reply("move", slot, source)
+        self._call("move", slot, source)
 
     def get(self, slot: int, source: int, field: int) -> Value:
         """Reads a field of the object that slot `source` refers to into the slot, and returns what is seen of it. Raises NoObject and
         NoField."""
-        return _seen(self._reply("get", slot, source, field))
+        return self.heap._get(self.number, slot, source, field)
 
     def put(self, slot: int, field: int, source: int) -> None:
         """Writes the value of slot `source` into a field of the object that the slot refers to. Raises NoObject, NoField, NoNumber,
         and OutOfMemory while a collection is open."""
-        self._reply("put", slot, field, source)
+        self._call("put", slot, field, source)
+
+    def put_number(self, slot: int, field: int, source: int, number: int) -> None:
+        """Puts a number below 2^63 into slot `source`, and then writes it into a field like `put`. If that raises OutOfMemory, it did
+        neither."""
+        self._call("put_number", slot, field, source, number)
+
+    def cons(self, slot: int, kind: int, first: int, second: int) -> None:
+        """Makes an object of two fields, which take the values of two slots, and puts a reference to it into the slot: what `new` and two
+        `put` do one after the other. A field that is given from the slot itself refers to the object. Raises Full, and OutOfMemory while
+        a collection is open; then it did nothing."""
+        self._call("cons", slot, kind, first, second)
 
     def same(self, first: int, second: int) -> bool:
         """Returns whether both slots hold nil, equal numbers, or references to one object."""
-        return bool(self._reply("same", first, second).reply == ReplyNumber.SAME)
+        return self._call("same", first, second) == Answer.SAME
 
     def look(self, slot: int) -> Value:
         """Returns what is seen of the slot's value."""
-        return _seen(self._reply("look", slot))
+        view = library.View()
+        return _seen(self._call("look", slot, view), view)
 
-    def _reply(self, name: str, *numbers: int) -> library.Reply:
-        return self.heap._reply(name, self.number, *numbers)
+    def _call(self, name: str, *arguments: Any) -> Answer:
+        return self.heap._call(name, self.number, *arguments)
 
 
-def _seen(reply: library.Reply) -> Value:
-    if reply.view == ViewNumber.NIL:
+def _seen(answer: Answer, view: library.View) -> Value:
+    if answer == Answer.NIL:
         return None
-    if reply.view == ViewNumber.NUMBER:
-        return int(reply.number)
-    return Object(reply.kind, reply.count, reply.view == ViewNumber.RAW_OBJECT)
+    if answer == Answer.NUMBER:
+        return int(view.number)
+    return Object(view.kind, view.count, answer == Answer.RAW_OBJECT)

@@ -18,48 +18,45 @@ class Verdict(ctypes.Structure):
     _fields_ = [("refusal", c_uint32), ("pairs", c_uint32), ("place", c_uint64), ("field", c_uint64)]
 
 
-class Reply(ctypes.Structure):
-    _fields_ = [("reply", c_uint32), ("view", c_uint32), ("kind", c_uint32), ("count", c_uint32), ("number", c_uint64)]
+class View(ctypes.Structure):
+    _fields_ = [("kind", c_uint32), ("count", c_uint32), ("number", c_uint64)]
 
 
 class Work(ctypes.Structure):
-    _fields_ = [("steps", c_uint32), ("copied", c_uint32), ("last", Reply)]
+    _fields_ = [("steps", c_uint32), ("copied", c_uint32), ("last", c_uint32), ("pairs", c_uint32)]
 
 
-class ReplyNumber(enum.IntEnum):
-    """The numbers of replies, as gcflip_heap.h has them."""
+class Answer(enum.IntEnum):
+    """The numbers that calls on a heap return, as gcflip_heap.h has them. From 1 to 15 nothing was done."""
 
-    FULL = 0
-    MADE = 1
-    DONE = 2
-    NO_OBJECT = 3
-    NO_FIELD = 4
-    NO_NUMBER = 5
-    SAW = 6
-    SAME = 7
-    NOT_SAME = 8
-    BUSY = 16
-    BEGUN = 17
-    IDLE = 18
-    CLEAN = 19
-    NO_ROOM = 20
-    COPIED = 21
-    PASSED = 22
-    SCANNED = 23
-    APPLIED = 24
-    NOT_READY = 25
-    FLIP_REFUSED = 26
-    FLIPPED = 27
-    DROPPED = 28
-
-
-class ViewNumber(enum.IntEnum):
-    """The numbers of what is seen of a value, as gcflip_heap.h has them."""
-
-    NIL = 0
-    NUMBER = 1
-    OBJECT = 2
-    RAW_OBJECT = 3
+    DONE = 0
+    NO_MEMORY = 1
+    OUT_OF_RANGE = 2
+    CLOSED = 3
+    MADE = 16
+    FULL = 17
+    NO_OBJECT = 18
+    NO_FIELD = 19
+    NO_NUMBER = 20
+    SAME = 21
+    NOT_SAME = 22
+    NIL = 24
+    NUMBER = 25
+    OBJECT = 26
+    RAW_OBJECT = 27
+    BUSY = 32
+    BEGUN = 33
+    IDLE = 34
+    CLEAN = 35
+    NO_ROOM = 36
+    COPIED = 37
+    PASSED = 38
+    SCANNED = 39
+    APPLIED = 40
+    NOT_READY = 41
+    FLIP_REFUSED = 42
+    FLIPPED = 43
+    DROPPED = 44
 
 
 COUNTS = ("size", "end", "free", "mutators", "is_open", "new_size", "new_end", "scan_place", "scan_field")
@@ -77,32 +74,32 @@ IMAGE = [c_uint32, c_uint32, c_bool, c_void_p, c_size_t, c_void_p, c_size_t]
 SLOT = c_uint8
 MUTATOR = c_uint8
 
-# The calls by their names without `gcflip_`. Those on a heap take a handle first, and those with a reply take it last.
+# The calls by their names without `gcflip_`. Those on a heap take a handle first.
 CHECKS = {
     "check": [*IMAGE, *IMAGE, c_void_p, c_size_t, POINTER(Verdict)],
     "check_text": [c_void_p, c_size_t, POINTER(Verdict)],
 }
-REPLIES = {
+HEAP = {
+    "open": [c_uint32, c_uint8],
+    "close": [],
     "new": [MUTATOR, SLOT, c_uint8, c_uint16],
     "raw": [MUTATOR, SLOT, c_uint8, c_uint16],
     "num": [MUTATOR, SLOT, c_uint64],
     "nil": [MUTATOR, SLOT],
     "move": [MUTATOR, SLOT, SLOT],
-    "get": [MUTATOR, SLOT, SLOT, c_uint16],
+    "get": [MUTATOR, SLOT, SLOT, c_uint16, POINTER(c_uint64)],
     "put": [MUTATOR, SLOT, c_uint16, SLOT],
+    "put_number": [MUTATOR, SLOT, c_uint16, SLOT, c_uint64],
+    "cons": [MUTATOR, SLOT, c_uint8, SLOT, SLOT],
     "same": [MUTATOR, SLOT, SLOT],
-    "look": [MUTATOR, SLOT],
+    "look": [MUTATOR, SLOT, POINTER(View)],
     "begin": [],
     "begin_sized": [c_uint32],
     "roots": [],
     "scan": [],
     "apply": [MUTATOR],
-    "flip": [],
+    "flip": [POINTER(c_uint32)],
     "drop": [],
-}
-OTHERS = {
-    "open": [c_uint32, c_uint8],
-    "close": [],
     "work": [c_uint32, POINTER(Work)],
     "counts": [POINTER(Counts)],
     "log_length": [MUTATOR, POINTER(c_size_t)],
@@ -119,13 +116,14 @@ def declare(library: ctypes.CDLL, name: str, arguments: list[Any]) -> None:
 
 
 def opened() -> ctypes.CDLL:
-    """Loads the file that the environment variable GCFLIP_LIBRARY names, or libgcflip.so by the linker's search."""
-    library = ctypes.CDLL(os.environ.get("GCFLIP_LIBRARY") or "libgcflip.so")
+    """Loads the file that the environment variable GCFLIP_LIBRARY names, or libgcflip.so by the linker's search. Raises OSError."""
+    try:
+        library = ctypes.CDLL(os.environ.get("GCFLIP_LIBRARY") or "libgcflip.so")
+    except OSError as error:
+        raise OSError("%s; install it by 'make -C bindings/c install', or set GCFLIP_LIBRARY to its path" % error) from None
     for name, arguments in CHECKS.items():
         declare(library, "gcflip_" + name, arguments)
-    for name, arguments in REPLIES.items():
-        declare(library, "gcflip_heap_" + name, [POINTER(Handle), *arguments, POINTER(Reply)])
-    for name, arguments in OTHERS.items():
+    for name, arguments in HEAP.items():
         declare(library, "gcflip_heap_" + name, [POINTER(Handle), *arguments])
     return library
 

@@ -10,3 +10,4 @@ pub mod Parts
 pub mod Total
 pub mod WordLists
 pub mod PrintedLines
+pub mod ReadPieces

@@ -31,7 +31,7 @@ ImageSection raws name = Spelled (IsImageBy raws) (image_alone name)
 abbrev pub made_image : Bool → ℕ × ℕ → List ℕ → List ℕ → Image
 made_image raws s words roots = record { size = s.0; end = s.1; words = words; roots = roots; raws = raws }
 
-image_fits : (raws : Bool) (s : ℕ × ℕ) (words roots : List ℕ) → AreSizes s → AreAll IsWord s.1 words → length roots ≤ 272 → AllByRecursion IsWord roots → IsImageBy raws (made_image raws s words roots)
+pub image_fits : (raws : Bool) (s : ℕ × ℕ) (words roots : List ℕ) → AreSizes s → AreAll IsWord s.1 words → length roots ≤ 272 → AllByRecursion IsWord roots → IsImageBy raws (made_image raws s words roots)
 image_fits raws s words roots fits ws le rs = record { fits = record { sizes = fits; count = ws.0; words = ws.1; roots = le; root_words = rs }; raws_are = refl }
 
 -- what stands behind the words
@@ -177,7 +177,7 @@ least_image raws = made_image raws (1, 1) (0 ∷ []) []
 least_fits : (raws : Bool) → IsImageBy raws (least_image raws)
 least_fits raws = image_fits raws (1, 1) (0 ∷ []) [] (omega arith, omega arith, omega arith, omega arith) (refl, (omega arith, tt)) (omega arith) tt
 
-pair_fits : (raws : Bool) (old new : Image) (pairs : List (ℕ × ℕ)) → IsImageBy raws old → IsImageBy raws new → IsCertificate pairs → HasText (made_pair old new pairs)
+pub pair_fits : (raws : Bool) (old new : Image) (pairs : List (ℕ × ℕ)) → IsImageBy raws old → IsImageBy raws new → IsCertificate pairs → HasText (made_pair old new pairs)
 pair_fits raws old new pairs p q r = record { old = p.fits; new = q.fits; raws = p.raws_are ∙ sym q.raws_are; pairs = r }
 
 pub text_heading : BeginsWith AnyFlag (alone heading) (λ lines. TextSection ([] ++ lines))

@@ -3,4 +3,5 @@ pub mod Faults
 pub mod Grammar
 pub mod Parsers
 pub mod PrintedLines
+pub mod Reading
 pub mod Sections

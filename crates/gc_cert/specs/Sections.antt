@@ -1,6 +1,5 @@
 -- Reading a text section by section: what a section took of the text, and where a text has no such section.
-use Rattle.std.specs.Prelude.{◌≡◌, ◌≢◌, ℕ, ◌+◌, ◌≤◌, List, ◌∷◌, ◌++◌, length}
-use Rattle.std.specs.List.{AllByRecursion}
+use Rattle.std.specs.Prelude.{◌≡◌, ◌≢◌, ℕ, ◌+◌, List, ◌∷◌, ◌++◌, length}
 use Rattle.gc_graph.specs.Lines.{newline, HasNo, text_of}
 
 -- the text after the lines that were taken, and their number
@@ -25,7 +24,3 @@ pub record HasTaken (lines : List (List ℕ)) (old new : Place) : Type 0 where
 -- the first line of the text is that of none of these values
 abbrev pub NoneIsFirst : {V : Type 0} → (V → Type 0) → (V → List ℕ) → List ℕ → Type 0
 NoneIsFirst {V = V} InRange line_of text = (v : V) (rest : List ℕ) → InRange v → text ≢ line_of v ++ newline ∷ rest
-
--- each line has a byte or more
-abbrev pub NoneEmpty : List (List ℕ) → Type 0
-NoneEmpty lines = AllByRecursion (λ line. 1 ≤ length line) lines

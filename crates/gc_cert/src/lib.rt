@@ -5,7 +5,9 @@ mod fault;
 mod image;
 mod laws;
 mod limits;
+mod line_kinds;
 mod lines;
+mod pair_reader;
 mod parser;
 mod reader;
 mod writer;
@@ -14,7 +16,7 @@ pub use fault::{PairFault, WriteFault};
 pub use image::{Image, PairFile};
 pub use laws::{texts_have_one_reading, worked_rows, written_is_read};
 pub use limits::pair_fits;
-pub use reader::{pair_in_text, read_pair};
+pub use reader::read_pair;
 pub use writer::write_pair;
 
 #[cfg(test)]

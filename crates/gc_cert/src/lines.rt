@@ -23,21 +23,28 @@ impl<'a> Model for Lines<'a> {
 }
 
 impl<'a> Lines<'a> {
-    ghost use Rattle.std.specs.Prelude.{◌≡◌, ◌≢◌, ◌≤◌, ◌+◌, ◌*◌, ℕ, List, [], ◌∷◌, length, decimal, MatchOption, MatchResult};
+    ghost use Rattle.std.specs.Prelude.{◌≡◌, ◌≢◌, ◌≤◌, ◌<◌, ◌^◌, ◌+◌, ◌*◌, ℕ, List, [], ◌∷◌, length, decimal, MatchOption, MatchResult};
     ghost use Rattle.gc_graph.specs.Lines.{HasNo, newline};
     ghost use Rattle.gc_words.specs.Views.{addresses};
     ghost use Rattle.gc_cert.specs.Grammar.{pair_line, IsWord, AreAddresses};
-    ghost use Rattle.gc_cert.specs.Sections.{start, IsNext, HasTaken, NoneEmpty, NoneIsFirst, Place};
+    ghost use Rattle.gc_cert.specs.Sections.{IsNext, HasTaken, NoneIsFirst};
     ghost use Rattle.gc_cert.specs.Internal.Sections.{IsLineFault};
 
-    /// Returns all lines of the text.
-    pub fn new(text: &'a [u8]) -> Self
-        ensures { result ≡ start text.entry.now }
+    /// Returns the lines of the rest of a text, of which `taken` lines were taken before.
+    #[inline(always)]
+    pub fn behind(text: &'a [u8], taken: u64) -> Self
+        requires { taken + length text.now < 2 ^ 64 }
+        ensures { result ≡ record { rest = text.entry.now; taken = taken } }
     {
-        Lines {
-            rest: text,
-            taken: 0,
-        }
+        Lines { rest: text, taken }
+    }
+
+    /// Returns the number of bytes that are left.
+    #[inline(always)]
+    pub fn left(&self) -> usize
+        ensures { result ≡ length self.now.rest }
+    {
+        self.rest.len()
     }
 
     /// Takes the next line, without its line feed. Returns `None` if no line feed is left.
@@ -90,26 +97,5 @@ impl<'a> Lines<'a> {
         ensures { result ≡ self.now.taken }
     {
         self.taken
-    }
-
-    /// Returns a bound on the nonempty lines that can still come. With its line feed, each takes at least two bytes.
-    pub fn most_left(&self) -> usize
-        ensures enough { (lines : List (List ℕ)) (after : Place) → NoneEmpty lines
-            → HasTaken lines self.now after → length lines ≤ result }
-        ensures within { 2 * result ≤ length self.now.rest }
-    {
-        self.rest.len() / 2
-    }
-
-    /// Checks that nothing is left.
-    pub fn end(&self) -> Result<(), PairFault>
-        ensures { MatchResult result (λ _. self.now.rest ≡ [])
-            (λ fault. (self.now.rest ≢ []) × (fault ≡ PairFault.BadLine (self.now.taken + 1))) }
-    {
-        if self.rest.is_empty() {
-            Ok(())
-        } else {
-            Err(PairFault::BadLine(self.taken + 1))
-        }
     }
 }

@@ -1,4 +1,4 @@
-use crate::{PairFault, WriteFault, pair_fits, pair_in_text, read_pair, write_pair};
+use crate::{PairFault, WriteFault, pair_fits, read_pair, write_pair};
 use gc_graph::{Sink, Source};
 use gc_words::{ImageRef, NewAddr, OldAddr, Pair};
 use std::alloc::Global;
@@ -91,19 +91,6 @@ fn written_back(alloc: Global, text: &[u8]) -> Result<Vec<u8>, Fail> {
     let mut sink = Sink::new(Vec::new(alloc));
     write_pair(&mut sink, old, new, &file.pairs)?;
     Ok(sink.into_inner())
-}
-
-#[test]
-fn a_text_in_memory(rt: HostRuntime) -> Result<(), Fail> {
-    let file = pair_in_text(rt.alloc(), RAW)?;
-    assert_eq!(&rt; file.old.words.get(3).copied(), Some(18446744073709551614));
-    assert!(&rt; file.new.raws);
-    assert_eq!(&rt; file.pairs.len(), 1);
-    let early = pair_in_text(rt.alloc(), b"heappair 1\n").err();
-    assert_eq!(&rt; early, Some(PairFault::EndsEarly));
-    let bad = pair_in_text(rt.alloc(), b"x\n").err();
-    assert_eq!(&rt; bad, Some(PairFault::BadLine(1)));
-    Ok(())
 }
 
 #[test]

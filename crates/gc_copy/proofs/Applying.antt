@@ -12,7 +12,7 @@ use Rattle.gc_copy.specs.Internal.Entries.{oldest}
 use Rattle.gc_copy.specs.Words.{Log, CollectionWords, IsCollection, entries_of, collection_in, open_state, BelongsTo}
 use Rattle.gc_copy.specs.Internal.Words.{KeepsGraph, KeepsRest}
 use Rattle.gc_copy.specs.declared.step.Step.TheVariants as steps
-use Rattle.gc_copy.specs.declared.step.StepReply.TheVariants.{Clean, Applied, NoRoom}
+use Rattle.gc_copy.specs.declared.step.StepReply.TheVariants.{Applied, NoRoom}
 use Rattle.gc_copy.proofs.Logs.{entries_at, entry_dropped}
 use Rattle.gc_copy.proofs.OpenCollection.{state_kept, after_step, field_present}
 

@@ -1,5 +1,5 @@
 -- Which answers change something, and that the useful step's does where there is room.
-use Rattle.std.proofs.Common.{◌||◌, ◌≡◌, ◌⊎◌, inl, inr, ⊎_elim, ℕ, zero, suc, ◌+◌, ◌==◌, Bool, true, false, not, List, [], ◌∷◌, length, Option, Some, None, is_none, slice_get, refl, ap, sym, ◌∙◌, subst, arith}
+use Rattle.std.proofs.Common.{◌||◌, ◌≡◌, ◌⊎◌, inl, inr, ⊎_elim, ℕ, zero, suc, ◌+◌, ◌==◌, true, false, not, List, [], ◌∷◌, length, Option, Some, None, is_none, slice_get, refl, ap, sym, ◌∙◌, subst, arith}
 use Rattle.std.specs.List.{list_all}
 use Rattle.std.proofs.lemmas.Bool.{cond-false, cond_both, and_from, eq-eqb, not-true, not-false}
 use Rattle.gc_copy.specs.State.{Replica, Collection, State, new_end, replica_at}

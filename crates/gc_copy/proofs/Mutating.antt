@@ -1,5 +1,5 @@
 -- A mutator's command with its write barrier, as the code makes it.
-use Rattle.std.proofs.Common.{◌≡◌, ◌≢◌, inl, ℕ, zero, suc, ◌-◌, List, [], ◌∷◌, ◌++◌, Option, Some, refl, ap, sym, ◌∙◌, subst, arith, append-nil}
+use Rattle.std.proofs.Common.{◌≡◌, ◌≢◌, inl, ℕ, zero, suc, ◌-◌, List, [], ◌∷◌, ◌++◌, Option, Some, None, refl, ap, sym, ◌∙◌, subst, arith, append-nil}
 use Rattle.std.specs.Prelude.{slice_get, slice_set}
 use Rattle.std.specs.Option.{option_to_list}
 use Rattle.gc_graph.specs.Machine.{Roomy, roomy_step}
@@ -10,15 +10,16 @@ use Rattle.gc_graph.specs.declared.reply.Reply.{Reply}
 use Rattle.gc_graph.specs.declared.reply.Reply.TheVariants as replies
 use Rattle.gc_words.specs.Space.{end_of}
 use Rattle.gc_heap.specs.Heap.{HeapWords, IsHeap, KeepsLinks, graph_in, roomy_in}
+use Rattle.gc_heap.specs.Commands.{Performs}
 use Rattle.gc_copy.specs.State.{Collection, State}
-use Rattle.gc_copy.specs.Steps.{log_or_nil, log_at, with_log, written, mutate}
+use Rattle.gc_copy.specs.Steps.{log_or_nil, log_at, with_log, WritesField, written, mutate}
 use Rattle.gc_graph.specs.Slots.{SlotName}
 use Rattle.gc_copy.specs.Internal.Entries.{if_done}
 use Rattle.gc_copy.specs.Members.{In}
 use Rattle.gc_copy.specs.Belonging.{HasField}
-use Rattle.gc_copy.specs.Words.{CollectionWords, collection_in, open_state, BelongsTo, BelongsToBut}
+use Rattle.gc_copy.specs.Words.{CollectionWords, collection_in, idle_state, open_state, HasNoLinks, BelongsTo, BelongsToBut}
 use Rattle.gc_copy.proofs.StateLaws.{field_there}
-use Rattle.gc_copy.proofs.LinkedImages.{command_leaves, nothing_left}
+use Rattle.gc_copy.proofs.LinkedImages.{command_leaves, nothing_left, no_links_kept}
 
 -- a log with nothing more is as it was
 set_kept : (logs : List (List (ℕ × ℕ))) (m : ℕ) → slice_set logs m (log_or_nil (slice_get logs m) ++ []) ≡ logs
@@ -89,3 +90,45 @@ one_but heap new c m op reply a f k links mutators step one = (
   subst (λ (x : Reply × Roomy). In {X = ℕ × ℕ} (a, f) (written (graph_in heap) m op x.0) → HasField x.1.graph.objects a f) step (field_there (roomy_in heap) m op (end_of heap.space) a f)
       (subst (In {X = ℕ × ℕ} (a, f)) (sym one) (inl refl)),
 )
+
+-- ---- commands that write no field
+
+no_put : (g : Graph) (m : ℕ) (op : Op) (reply : Reply) → ¬ WritesField op → written g m op reply ≡ []
+no_put g m (ops.New d kind len) reply none = refl
+no_put g m (ops.NewRaw d kind len) reply none = refl
+no_put g m (ops.Num d n) reply none = refl
+no_put g m (ops.Nil d) reply none = refl
+no_put g m (ops.Move d s) reply none = refl
+no_put g m (ops.Get d s i) reply none = refl
+no_put g m (ops.Put s i t) reply none = absurd (none tt)
+no_put g m (ops.Same s t) reply none = refl
+no_put g m (ops.Look s) reply none = refl
+
+pub open_left : (heap new : HeapWords) (c : CollectionWords) (m : ℕ) (op : Op) (reply : Reply) → IsHeap heap → BelongsTo heap c → ¬ WritesField op → Performs heap m op reply new
+    → (mutate (open_state heap c) m op ≡ (reply, open_state new c)) × BelongsTo new c
+open_left heap new c m op reply is belongs none performs = (
+  mutate_is heap new c c m op reply [] is performs.size performs.mutators performs.step (no_put (graph_in heap) m op reply none) (sym (nothing_noted (collection_in c) m)),
+  nothing_belongs heap new c m op reply belongs performs.links performs.mutators performs.step (no_put (graph_in heap) m op reply none),
+)
+
+pub idle_left : (heap new : HeapWords) (m : ℕ) (op : Op) (reply : Reply) → IsHeap heap → HasNoLinks heap → Performs heap m op reply new
+    → (mutate (idle_state heap) m op ≡ (reply, idle_state new)) × HasNoLinks new
+idle_left heap new m op reply is none performs =
+    let end : heap.space.size - (heap.space.size - end_of heap.space) ≡ end_of heap.space = (let high = (is.space).end_high in omega arith) in
+    let steps : roomy_step (roomy_in heap) m op (heap.space.size - (heap.space.size - end_of heap.space)) ≡ (reply, roomy_in new) = ap (roomy_step (roomy_in heap) m op) end ∙ performs.step in
+    let left : Reply × Roomy → Reply × State = λ x. (x.0, record (idle_state heap) { heap = x.1 }) in (
+      ap left steps ∙ (λ i. (reply, record { mutators = sym performs.mutators i; size = sym performs.size i; heap = roomy_in new; collection = None })),
+      no_links_kept heap new none performs.links,
+    )
+
+-- a command other than `Put` writes no field
+pub no_other_writes : (op : Op) → ((s : SlotName) (i : ℕ) (t : SlotName) → op ≡ ops.Put s i t → ⊥) → ¬ WritesField op
+no_other_writes (ops.New d kind len) other = λ none. none
+no_other_writes (ops.NewRaw d kind len) other = λ none. none
+no_other_writes (ops.Num d n) other = λ none. none
+no_other_writes (ops.Nil d) other = λ none. none
+no_other_writes (ops.Move d s) other = λ none. none
+no_other_writes (ops.Get d s i) other = λ none. none
+no_other_writes (ops.Put s i t) other = λ put. other s i t refl
+no_other_writes (ops.Same s t) other = λ none. none
+no_other_writes (ops.Look s) other = λ none. none

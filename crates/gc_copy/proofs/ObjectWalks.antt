@@ -1,5 +1,5 @@
 -- A walk over the objects of a space, as loops make it.
-use Rattle.std.proofs.Common.{◌≡◌, ℕ, ◌+◌, ◌<◌, ◌≤◌, true, List, [], ◌∷◌, ◌++◌, map, length, Some, refl, ap, sym, ◌∙◌, subst, arith, append_assoc, append-nil, length-append, inl}
+use Rattle.std.proofs.Common.{◌≡◌, ℕ, ◌+◌, ◌<◌, ◌≤◌, true, List, [], ◌∷◌, ◌++◌, map, length, Some, refl, ap, sym, ◌∙◌, subst, arith, append_assoc, length-append, inl}
 use Rattle.std.specs.Prelude.{◌^◌, IsOk}
 use Rattle.std.proofs.lemmas.List.{map-append, length-map}
 use Rattle.gc_words.specs.Image.{Block, walk_words, blocks, is_start, ok_or_nil}
@@ -8,7 +8,7 @@ use Rattle.gc_words.specs.Space.{SpaceWords, IsSpace}
 use Rattle.gc_words.specs.Views.{addresses}
 use Rattle.gc_words.specs.Walking.{next_of, walk_from, block_from}
 use Rattle.gc_words.specs.declared.image.Pair.{Pair}
-use Rattle.gc_words.proofs.Steps.{Behind, behind, at_end, has_next}
+use Rattle.gc_words.proofs.Steps.{Behind, behind, has_next}
 use Rattle.gc_words.proofs.Writes.{some_of}
 use Rattle.gc_copy.specs.State.{Replica}
 use Rattle.gc_copy.specs.Members.{In}

@@ -1,10 +1,10 @@
 -- The roots, one word after the other.
-use Rattle.std.proofs.Common.{◌≡◌, ℕ, suc, zero, ◌+◌, ◌<◌, ◌≤◌, Bool, true, false, cond, List, [], ◌∷◌, ◌++◌, map, drop, flat_map, length, get_or, Option, Some, None, is_some, refl, ap, sym, ◌∙◌, subst, arith, append_assoc, append-nil, inl, inr}
-use Rattle.std.proofs.lemmas.List.{drop_more, drop_all}
+use Rattle.std.proofs.Common.{◌≡◌, ℕ, suc, zero, ◌<◌, ◌≤◌, true, List, [], ◌∷◌, ◌++◌, map, drop, flat_map, length, get_or, Option, is_some, refl, ap, sym, ◌∙◌, subst, arith, append-nil, inl, inr}
+use Rattle.std.proofs.lemmas.List.{drop_all}
 use Rattle.gc_graph.specs.Graph.{Value, Nil, Num, Ref, names_of}
 use Rattle.gc_words.specs.Word.{value_of, word_of}
 use Rattle.gc_heap.specs.Heap.{HeapWords, graph_in}
-use Rattle.gc_copy.specs.State.{Collection, replica_of, moved}
+use Rattle.gc_copy.specs.State.{Collection, moved}
 use Rattle.gc_copy.specs.Steps.{first_unreplicated, roots_done}
 use Rattle.gc_copy.specs.Members.{In}
 use Rattle.gc_copy.proofs.Replicas.{HasReplica}

@@ -12,11 +12,12 @@ ghost use Rattle.gc_words.specs.Spelling.{link_at};
 ghost use Rattle.gc_words.specs.Space.{free_in, end_of, image_with};
 ghost use Rattle.gc_words.specs.Certificate.{Certified};
 ghost use Rattle.gc_heap.specs.Heap.{HeapWords, IsHeap, KeepsLinks, image_of, graph_in, roomy_in};
-ghost use Rattle.gc_copy.specs.Words.{CollectionWords, IsCollection, BelongsTo, BelongsToBut, HasNoLinks, collection_in, open_state, new_root_words};
+ghost use Rattle.gc_heap.specs.Commands.{Performs};
+ghost use Rattle.gc_copy.specs.Words.{CollectionWords, IsCollection, BelongsTo, BelongsToBut, HasNoLinks, collection_in, idle_state, open_state, new_root_words};
 ghost use Rattle.gc_graph.specs.declared.reply.Reply.{Reply};
 ghost use Rattle.gc_copy.specs.State.{Replica, Collection, State, opening_state, new_objects, new_free, pairs_of, replica_of, replica_at, moved, new_graph};
 ghost use Rattle.gc_copy.specs.Linked.{image_of_graph, linked_image, old_links, new_links, old_image, new_image};
-ghost use Rattle.gc_copy.specs.Steps.{roots_done, written, log_at, with_log, with_collection, write_replica, fresh_collection, mutate, collect, is_change, is_ready, useful_step};
+ghost use Rattle.gc_copy.specs.Steps.{roots_done, written, log_at, with_log, WritesField, with_collection, write_replica, fresh_collection, mutate, collect, is_change, is_ready, useful_step};
 ghost use Rattle.gc_copy.specs.Members.{In};
 ghost use Rattle.gc_copy.specs.Belonging.{HasRawNumbers, IsSpaceGraph, HasField, Belongs, BelongsBut, IsOpened, IsOpen, IsState};
 ghost use Rattle.gc_copy.specs.Runs.{IsStep, InEveryRun};
@@ -198,6 +199,17 @@ pub fn commands_keep_collections()
     // While no collection is open no object has a link.
     ensures idle { (heap new : HeapWords)
         → HasNoLinks heap → KeepsLinks heap.space.words new.space.words → HasNoLinks new }
+{}
+
+/// A command that is no `Put` leaves an open collection as it is, and the collection still belongs to the heap. So does the reply
+/// and the next state of a heap without a collection follow from what the command does to the heap.
+pub fn commands_leave_collections()
+    ensures collecting { (heap new : HeapWords) (c : CollectionWords) (m : ℕ) (op : Op) (reply : Reply)
+        → IsHeap heap → BelongsTo heap c → ¬ WritesField op → Performs heap m op reply new
+        → (mutate (open_state heap c) m op ≡ (reply, open_state new c)) × BelongsTo new c }
+    ensures idle { (heap new : HeapWords) (m : ℕ) (op : Op) (reply : Reply)
+        → IsHeap heap → HasNoLinks heap → Performs heap m op reply new
+        → (mutate (idle_state heap) m op ≡ (reply, idle_state new)) × HasNoLinks new }
 {}
 
 /// Once the target of each root has a replica, scanning and applying logs leave it so: they take no replica away.

@@ -68,13 +68,13 @@ impl MutationLog {
         self.entries.get(k).copied()
     }
 
-    /// Makes room for one more entry. On `NoMemory` the log is unchanged.
-    pub(crate) fn reserve(&mut self) -> Result<(), NoMemory>
+    /// Makes room for this many more entries. On `NoMemory` the log is unchanged.
+    pub(crate) fn reserve(&mut self, more: usize) -> Result<(), NoMemory>
         ensures entries { self.new.entries ≡ self.old.entries }
-        ensures room { OnOk result (1 ≤ self.new.spare) }
+        ensures room { OnOk result (more ≤ self.new.spare) }
         ensures kept { self.old.spare ≤ self.new.spare }
     {
-        match self.entries.reserve(1) {
+        match self.entries.reserve(more) {
             Ok(()) => Ok(()),
             Err(_) => Err(NoMemory),
         }

@@ -1,3 +1,5 @@
+mod Conses
 mod FirstLog
 mod KeptPair
 pub mod LegalRuns
+mod OtherCommands

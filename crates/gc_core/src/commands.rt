@@ -1,9 +1,13 @@
 use crate::collected_heap::CollectedHeap;
-use gc_graph::{NoMemory, Op, Reply};
+use gc_copy::commands_leave_collections;
+use gc_graph::{NoMemory, Number, Op, Reply, Slot};
+use gc_heap::Fetched;
 
 impl CollectedHeap {
     ghost use Rattle.std.specs.Prelude.{◌≡◌, ◌<◌, IfOk, OnErr, IsSome};
     ghost use Rattle.gc_copy.specs.Steps.{mutate, WritesField};
+    ghost use Rattle.gc_graph.specs.declared.command.Op.{Op};
+    ghost use Rattle.gc_core.specs.CollectedHeap.{Fetches, cons_step};
 
     /// Performs mutator `m`'s command. While a collection is open, a field that the command wrote is logged (the
     /// write barrier). Only a `put` while a collection is open can return `NoMemory`; the heap is then unchanged.
@@ -15,13 +19,207 @@ impl CollectedHeap {
         ensures put { OnErr result (WritesField op.now) }
         ensures mutators { self.new.mutators ≡ self.old.mutators }
     {
-        let Some(collection) = &mut self.collection else {
-            return Ok(self.heap.apply(m, op));
-        };
-        if let Op::Put { .. } = op {
-            collection.reserve(m)?;
+        match *op {
+            Op::New { d, kind, len } => Ok(self.new_object(m, d, kind, len)),
+            Op::NewRaw { d, kind, len } => Ok(self.new_raw(m, d, kind, len)),
+            Op::Num { d, n } => Ok(self.num(m, d, n)),
+            Op::Nil { d } => Ok(self.nil(m, d)),
+            Op::Move { d, s } => Ok(self.move_slot(m, d, s)),
+            Op::Get { d, s, i } => Ok(self.get(m, d, s, i)),
+            Op::Put { s, i, t } => self.put(m, s, i, t),
+            Op::Same { s, t } => Ok(self.same(m, s, t)),
+            Op::Look { s } => Ok(self.look(m, s)),
         }
+    }
+
+    /// Makes an object of this kind with `len` fields, all nil, and sets `d` to a reference to it: `Made`, or `Full`.
+    /// Does not allocate.
+    pub fn new_object(&mut self, m: u8, d: Slot, kind: u8, len: u16) -> Reply
+        requires { m < self.old.mutators }
+        ensures step { mutate self.old m (Op.New d kind len) ≡ (result, self.new) }
+        ensures mutators { self.new.mutators ≡ self.old.mutators }
+    {
+        // Here the prover learns that the heap is sound.
+        let _ = self.heap.space();
         self.roots_done = false;
-        Ok(collection.mutate(&mut self.heap, m, op))
+        self.heap.new_object(m, d, kind, len)
+    }
+
+    /// Makes a raw object, whose fields are plain numbers, all 0, like `new_object`. Does not allocate.
+    pub fn new_raw(&mut self, m: u8, d: Slot, kind: u8, len: u16) -> Reply
+        requires { m < self.old.mutators }
+        ensures step { mutate self.old m (Op.NewRaw d kind len) ≡ (result, self.new) }
+        ensures mutators { self.new.mutators ≡ self.old.mutators }
+    {
+        // Here the prover learns that the heap is sound.
+        let _ = self.heap.space();
+        self.roots_done = false;
+        self.heap.new_raw(m, d, kind, len)
+    }
+
+    /// Sets `d` to the number: `Done`. Does not allocate.
+    pub fn num(&mut self, m: u8, d: Slot, n: Number) -> Reply
+        requires { m < self.old.mutators }
+        ensures step { mutate self.old m (Op.Num d n) ≡ (result, self.new) }
+        ensures mutators { self.new.mutators ≡ self.old.mutators }
+    {
+        // Here the prover learns that the heap is sound.
+        let _ = self.heap.space();
+        self.roots_done = false;
+        self.heap.num(m, d, n)
+    }
+
+    /// Sets `d` to nil: `Done`. Does not allocate.
+    pub fn nil(&mut self, m: u8, d: Slot) -> Reply
+        requires { m < self.old.mutators }
+        ensures step { mutate self.old m (Op.Nil d) ≡ (result, self.new) }
+        ensures mutators { self.new.mutators ≡ self.old.mutators }
+    {
+        // Here the prover learns that the heap is sound.
+        let _ = self.heap.space();
+        self.roots_done = false;
+        self.heap.nil(m, d)
+    }
+
+    /// Sets `d` to what `s` holds: `Done`. Does not allocate.
+    pub fn move_slot(&mut self, m: u8, d: Slot, s: Slot) -> Reply
+        requires { m < self.old.mutators }
+        ensures step { mutate self.old m (Op.Move d s) ≡ (result, self.new) }
+        ensures mutators { self.new.mutators ≡ self.old.mutators }
+    {
+        // Here the prover learns that the heap is sound.
+        let _ = self.heap.space();
+        self.roots_done = false;
+        self.heap.move_slot(m, d, s)
+    }
+
+    /// Sets `d` to field `i` of the object that `s` refers to: `Saw`, `NoObject` or `NoField`. Does not allocate.
+    pub fn get(&mut self, m: u8, d: Slot, s: Slot, i: u16) -> Reply
+        requires { m < self.old.mutators }
+        ensures step { mutate self.old m (Op.Get d s i) ≡ (result, self.new) }
+        ensures mutators { self.new.mutators ≡ self.old.mutators }
+    {
+        // Here the prover learns that the heap is sound.
+        let _ = self.heap.space();
+        self.roots_done = false;
+        self.heap.get(m, d, s, i)
+    }
+
+    /// Does the same as `get`, but does not read the object that it found: it tells no kind and no length. Does not
+    /// allocate.
+    pub fn fetch(&mut self, m: u8, d: Slot, s: Slot, i: u16) -> Fetched
+        requires { m < self.old.mutators }
+        ensures fetches { Fetches self.old m d s i result self.new }
+        ensures mutators { self.new.mutators ≡ self.old.mutators }
+    {
+        // Here the prover learns that the heap is sound.
+        let _ = self.heap.space();
+        self.roots_done = false;
+        self.heap.fetch(m, d, s, i)
+    }
+
+    /// Sets field `i` of the object that `s` refers to to what `t` holds: `Done`, `NoObject`, `NoField` or
+    /// `NoNumber`. While a collection is open, the field is logged (the write barrier). Only then can it return
+    /// `NoMemory`; the heap is then unchanged.
+    pub fn put(&mut self, m: u8, s: Slot, i: u16, t: Slot) -> Result<Reply, NoMemory>
+        requires { m < self.old.mutators }
+        ensures step { IfOk result (λ reply. mutate self.old m (Op.Put s i t) ≡ (reply, self.new)) }
+        ensures refused { OnErr result (self.new ≡ self.old) }
+        ensures open { OnErr result (IsSome self.old.collection) }
+        ensures mutators { self.new.mutators ≡ self.old.mutators }
+    {
+        commands_leave_collections();
+        // Here the prover learns that the heap is sound.
+        let _ = self.heap.space();
+        let Some(collection) = &mut self.collection else {
+            return Ok(self.heap.put(m, s, i, t));
+        };
+        collection.reserve(m)?;
+        self.roots_done = false;
+        Ok(collection.put(&mut self.heap, m, s, i, t))
+    }
+
+    /// Sets `t` to the number, and then field `i` of the object that `s` refers to: what `num` and `put` do one after
+    /// the other, with the reply to the `put`. Only while a collection is open can it return `NoMemory`; then it did
+    /// neither.
+    pub fn put_number(
+        &mut self,
+        m: u8,
+        s: Slot,
+        i: u16,
+        t: Slot,
+        n: Number,
+    ) -> Result<Reply, NoMemory>
+        requires { m < self.old.mutators }
+        ensures step { IfOk result (λ reply. mutate (mutate self.old m (Op.Num t n)).1 m (Op.Put s i t) ≡ (reply, self.new)) }
+        ensures refused { OnErr result (self.new ≡ self.old) }
+        ensures open { OnErr result (IsSome self.old.collection) }
+        ensures mutators { self.new.mutators ≡ self.old.mutators }
+    {
+        commands_leave_collections();
+        // Here the prover learns that the heap is sound.
+        let _ = self.heap.space();
+        let Some(collection) = &mut self.collection else {
+            let _done = self.heap.num(m, t, n);
+            return Ok(self.heap.put(m, s, i, t));
+        };
+        collection.reserve(m)?;
+        self.roots_done = false;
+        let _done = self.heap.num(m, t, n);
+        Ok(collection.put(&mut self.heap, m, s, i, t))
+    }
+
+    /// Makes an object of this kind with two fields, which take what `s` and `t` hold, and sets `d` to a reference to
+    /// it: what `new_object` and two `put`s do one after the other. The reply is `Made`, or `Full`, and then nothing
+    /// changed. `d` is set first, so a field that is given from slot `d` refers to the object itself. Only while a
+    /// collection is open can it return `NoMemory`; then it did nothing.
+    pub fn cons(&mut self, m: u8, d: Slot, kind: u8, s: Slot, t: Slot) -> Result<Reply, NoMemory>
+        requires { m < self.old.mutators }
+        ensures step { IfOk result (λ reply. cons_step self.old m d kind s t ≡ (reply, self.new)) }
+        ensures refused { OnErr result (self.new ≡ self.old) }
+        ensures open { OnErr result (IsSome self.old.collection) }
+        ensures mutators { self.new.mutators ≡ self.old.mutators }
+    {
+        commands_leave_collections();
+        // Here the prover learns that the heap is sound.
+        let _ = self.heap.space();
+        let Some(collection) = &mut self.collection else {
+            let made = self.heap.new_object(m, d, kind, 2);
+            if let Reply::Full = made {
+                return Ok(made);
+            }
+            let _first = self.heap.put(m, d, 0, s);
+            let _second = self.heap.put(m, d, 1, t);
+            return Ok(made);
+        };
+        collection.reserve_more(m, 2)?;
+        self.roots_done = false;
+        let made = self.heap.new_object(m, d, kind, 2);
+        if let Reply::Full = made {
+            return Ok(made);
+        }
+        let _first = collection.put(&mut self.heap, m, d, 0, s);
+        let _second = collection.put(&mut self.heap, m, d, 1, t);
+        Ok(made)
+    }
+
+    /// Compares what `s` and `t` hold: `Yes` or `No`. Changes nothing.
+    pub fn same(&self, m: u8, s: Slot, t: Slot) -> Reply
+        requires { m < self.now.mutators }
+        ensures { mutate self.now m (Op.Same s t) ≡ (result, self.now) }
+    {
+        // Here the prover learns that the heap is sound.
+        let _ = self.heap.space();
+        self.heap.same(m, s, t)
+    }
+
+    /// Looks at what `s` holds: `Saw`. Changes nothing.
+    pub fn look(&self, m: u8, s: Slot) -> Reply
+        requires { m < self.now.mutators }
+        ensures { mutate self.now m (Op.Look s) ≡ (result, self.now) }
+    {
+        // Here the prover learns that the heap is sound.
+        let _ = self.heap.space();
+        self.heap.look(m, s)
     }
 }

@@ -31,6 +31,7 @@ impl CollectedHeap {
     ///
     /// A ready collection is proved to pass. It is checked all the same, so that a flip rests on the checker's
     /// theorem alone, which knows nothing of the collector.
+    #[inline(never)]
     pub fn flip<C: Checks>(&mut self, checker: &C, keep: Keep) -> Result<Flip, NoMemory>
         requires { C.can_check checker.now }
         ensures step { IfOk result (λ flip. collect self.old Step.Flip ≡ (flip.reply, self.new)) }

@@ -16,6 +16,7 @@ impl CollectedHeap {
 
     /// Performs one collector step. A flip happens only if the checker accepts the certificate; its pair is not
     /// kept. On `NoMemory`, which only `Begin`, `BeginSized` and `Flip` return, the heap is unchanged.
+    #[inline(always)]
     pub fn collect<C: Checks>(&mut self, checker: &C, step: Step) -> Result<StepReply, NoMemory>
         requires can { C.can_check checker.now }
         requires step { IsStep self.old.mutators step }
@@ -86,6 +87,7 @@ impl CollectedHeap {
     /// Brings the field at the scan pointer up to date (`Scanned` or `NoRoom`), or moves on to the next replica
     /// (`Passed`). Returns `Clean` at the end of the new space, and `Idle` if no collection is open. Does not
     /// allocate.
+    #[inline(always)]
     pub fn scan(&mut self) -> StepReply
         ensures step { collect self.old Step.Scan ≡ (result, self.new) }
         ensures room { HasRoomIfLarge self.old result }
@@ -127,6 +129,7 @@ impl CollectedHeap {
     }
 
     /// Returns the useful step: the one that brings the collection on, or opens one.
+    #[inline(always)]
     pub fn useful_step(&self) -> Step
         ensures useful { result ≡ useful_step self.now }
         ensures step { IsStep self.now.mutators result }
@@ -148,6 +151,7 @@ impl CollectedHeap {
 
     /// Returns the useful step, and remembers if it found that no root needs a replica: until the next command, the
     /// useful step then looks at no root.
+    #[inline(always)]
     pub fn next_useful_step(&mut self) -> Step
         ensures useful { result ≡ useful_step self.old }
         ensures step { IsStep self.old.mutators result }

@@ -9,6 +9,6 @@ pub mod Stepping
 pub mod Decimals
 pub mod TokenLemmas
 pub mod SentText
-pub mod TakenBytes
+pub mod PieceSteps
 pub mod LineLemmas
 pub mod TokenParsers

@@ -8,6 +8,7 @@ pub mod Limits
 pub mod Lines
 pub mod Machine
 pub mod Messages
+pub mod Pieces
 pub mod PlainMachine
 pub mod Range
 pub mod ReadFaults

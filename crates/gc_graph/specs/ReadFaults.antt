@@ -1,7 +1,7 @@
 -- The faults that reading a text may return.
 use Rattle.std.specs.Prelude.{ℕ, ◌<◌, ⊤, List, length}
-use Rattle.gc_graph.specs.declared.text.all_bytes.ReadFault.{ReadFault}
-use Rattle.gc_graph.specs.declared.text.all_bytes.ReadFault.TheVariants.{Read, TooLarge, NoMemory}
+use Rattle.gc_graph.specs.declared.text.pieces.ReadFault.{ReadFault}
+use Rattle.gc_graph.specs.declared.text.pieces.ReadFault.TheVariants.{Read, TooLarge, NoMemory}
 
 -- a read or an allocation may fail on any text; `TooLarge` means that the text is longer than the limit
 abbrev pub MayFailReading : ReadFault → ℕ → List ℕ → Type 0

@@ -2,7 +2,7 @@ ghost use Rattle.std.specs.Prelude.{◌≤◌, IfOk};
 ghost use Rattle.gc_graph.specs.Limits.{most_words};
 ghost use Rattle.gc_graph.specs.Machine.{HasMutator};
 
-use crate::text::{ReadFault, read_all};
+use crate::text::{Pieces, ReadFault};
 use crate::{Failed, NoMemory, Number, Op, Plain, Reply, Sink, Slot, Source, View};
 use std::alloc::Global;
 use std::io;
@@ -312,8 +312,8 @@ fn a_reader_that_fails_once_is_not_asked_again(rt: HostRuntime) {
         assert_eq!(rt; source.read(&mut buffer), Err(Failed));
         assert_eq!(rt; reader.calls, 1);
         let mut reader = Hesitant::new(Hitch::Error(kind));
-        let had = read_all(rt.alloc(), &mut Source::new(&mut reader), 9);
-        assert_eq!(rt; had.err(), Some(ReadFault::Read));
+        let had = Pieces::new(rt.alloc(), 9).more(&mut Source::new(&mut reader));
+        assert_eq!(rt; had, Err(ReadFault::Read));
         assert_eq!(rt; reader.calls, 1);
     }
 }

@@ -1,5 +1,5 @@
 -- What commands leave of links.
-use Rattle.std.proofs.Common.{◌≡◌, ℕ, List, Option, Some, None, true, false, ◌==◌, is_some, sym, ◌∙◌, ap, subst, inl, inr}
+use Rattle.std.proofs.Common.{◌≡◌, ℕ, List, Option, Some, None, true, false, ◌==◌, is_some, refl, sym, ◌∙◌, ap, subst, inl, inr}
 use Rattle.std.specs.Prelude.{IsSome}
 use Rattle.std.proofs.lemmas.Bool.{eqb-true, eqb-false, cases_Bool}
 use Rattle.gc_words.specs.Image.{Block, fresh_block, block_at, is_start, field_at, field_in}
@@ -14,6 +14,13 @@ use Rattle.gc_heap.specs.Heap.{KeepsLinks}
 -- a start of the one is a start of the other, where the objects there are the same
 differs : (words others : List ℕ) (x : ℕ) → block_at others x ≡ block_at words x → is_start words x ≡ false → is_start others x ≡ true → ⊥
 differs words others x same old new = (let no : true ≡ false = sym new ∙ ap is_some same ∙ old in cc)
+
+-- no word changes
+pub links_kept : (words : List ℕ) → KeepsLinks words words
+links_kept words = record {
+  kept = λ start there. refl;
+  fresh = λ start old new. absurd (let no : true ≡ false = sym new ∙ old in cc);
+}
 
 pub links_placed : (s : SpaceWords) (h : Header) → CanPlace s h → KeepsLinks s.words (with_object s h).words
 links_placed s h can = record {

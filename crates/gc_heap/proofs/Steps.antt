@@ -1,5 +1,5 @@
 -- Commands on a heap of words, as steps of the roomy machine.
-use Rattle.std.proofs.Common.{◌≡◌, ℕ, ◌+◌, ◌-◌, ◌<◌, ◌≤◌, Bool, cond, length, sym, ◌∙◌, ap, arith}
+use Rattle.std.proofs.Common.{◌≡◌, ℕ, ◌+◌, ◌-◌, ◌≤◌, Bool, cond, length, refl, sym, ◌∙◌, ap, subst, arith}
 use Rattle.std.specs.Prelude.{slice_index, slice_set}
 use Rattle.std.proofs.lemmas.Bool.{le-ltb}
 use Rattle.gc_graph.specs.Slots.{SlotName, place}
@@ -19,17 +19,24 @@ use Rattle.gc_words.proofs.Graphs.{graph_root, graph_placed, value_read_back}
 use Rattle.gc_words.proofs.Ends.{free_placed}
 use Rattle.gc_heap.proofs.Views.{meaning}
 use Rattle.gc_heap.specs.Heap.{HeapWords, IsHeap, graph_in, roomy_in}
+use Rattle.gc_heap.specs.Commands.{Performs}
+use Rattle.gc_heap.proofs.Links.{links_kept}
 use Rattle.gc_heap.proofs.Commands.{at_root}
 
 -- a root takes a word
-pub took : (h new : HeapWords) (m : ℕ) (op op' : Op) (p w : ℕ) (v : Value) (reply : Reply) → op' ≡ op → (MakesObject op → ⊥)
+pub took_root : (h new : HeapWords) (m : ℕ) (op : Op) (p w : ℕ) (v : Value) (reply : Reply) → (MakesObject op → ⊥)
     → step (graph_in h) m op (end_of h.space) ≡ (Done, set_root (graph_in h) p v) → value_of w ≡ v → reply ≡ Done → new ≡ record h { roots = slice_set h.roots p w }
-    → roomy_step (roomy_in h) m op' (end_of h.space) ≡ (reply, roomy_in new)
-took h new m op op' p w v reply is makes_none steps value done after =
+    → Performs h m op reply new
+took_root h new m op p w v reply makes_none steps value done after =
     let graph : graph_in (record h { roots = slice_set h.roots p w }) ≡ set_root (graph_in h) p v = graph_root h.space p w h.roots ∙ ap (set_root (graph_in h) p) value in
     let there : roomy_step (roomy_in h) m op (end_of h.space) ≡ (Done, roomy_in (record h { roots = slice_set h.roots p w }))
     = in_place (roomy_in h) m op (end_of h.space) makes_none ∙ ap (with_free (free_in h.space)) steps ∙ (λ i. (Done, record { graph = sym graph i; free = free_in h.space })) in
-    ap (λ o. roomy_step (roomy_in h) m o (end_of h.space)) is ∙ there ∙ (λ i. (sym done i, roomy_in (sym after i)))
+    subst (Performs h m op reply) (sym after) (record {
+      step = there ∙ (λ i. (sym done i, roomy_in (record h { roots = slice_set h.roots p w })));
+      links = links_kept h.space.words;
+      size = refl;
+      mutators = refl;
+    })
 
 -- a root is looked at
 pub looked : (h : HeapWords) (m : ℕ) (op : Op) (s : SlotName) (p w : ℕ) (view : View) → op ≡ ops.Look s → p ≡ place s m → w ≡ slice_index h.roots p → view ≡ view_of (graph_in h).objects (value_of w)

@@ -1,6 +1,9 @@
 ghost use Rattle.std.specs.Prelude.{◌≡◌};
 
-use crate::reading::{field_word, has_field, root_word, view};
+mod commands;
+
+use crate::reading::{field_word, has_field, root_word};
+use crate::taken::Taken;
 use gc_graph::{NoMemory, Op, Reply, Slot, root_count};
 use gc_words::{Addr, Header, ImageRef, NewAddr, OldAddr, Space, Value, encode, target_of};
 use std::alloc::Global;
@@ -53,6 +56,7 @@ impl Heap {
     ghost use Rattle.gc_words.specs.Space.{end_of, with_word, without_links};
     ghost use Rattle.gc_words.specs.Closed.{IsRootWord};
     ghost use Rattle.gc_words.specs.Views as views;
+    ghost use Rattle.gc_heap.specs.Internal.Taken.{taken_reply, IsTakenWord};
     ghost use Rattle.gc_heap.specs.Heap.{IsHeap, KeepsLinks, empty_heap, image_of, graph_in, roomy_in};
 
     /// Returns a heap without objects whose roots are all nil, of `size` words, 1 to `MOST_WORDS`, and for 1 to
@@ -130,24 +134,16 @@ impl Heap {
         ensures mutators { self.new.mutators ≡ self.old.mutators }
         ensures sound { IsHeap self.new }
     {
-        // Here the prover learns how many roots there are.
-        let _ = &self.roots;
         match *op {
-            Op::New { d, kind, len } => self.make(d.place(m), false, kind, len),
-            Op::NewRaw { d, kind, len } => self.make(d.place(m), true, kind, len),
-            Op::Num { d, n } => self.set(d.place(m), encode(Value::Num(n))),
-            Op::Nil { d } => self.set(d.place(m), encode(Value::Nil)),
-            Op::Move { d, s } => {
-                let word = self.roots[s.place(m)];
-                self.set(d.place(m), word)
-            }
-            Op::Get { d, s, i } => self.get(d.place(m), s.place(m), i),
-            Op::Put { s, i, t } => self.put(s.place(m), i, t.place(m)),
-            Op::Same { s, t } => self.same(s.place(m), t.place(m)),
-            Op::Look { s } => {
-                let word = self.roots[s.place(m)];
-                Reply::Saw(view(&self.space, word))
-            }
+            Op::New { d, kind, len } => self.new_object(m, d, kind, len),
+            Op::NewRaw { d, kind, len } => self.new_raw(m, d, kind, len),
+            Op::Num { d, n } => self.num(m, d, n),
+            Op::Nil { d } => self.nil(m, d),
+            Op::Move { d, s } => self.move_slot(m, d, s),
+            Op::Get { d, s, i } => self.get(m, d, s, i),
+            Op::Put { s, i, t } => self.put(m, s, i, t),
+            Op::Same { s, t } => self.same(m, s, t),
+            Op::Look { s } => self.look(m, s),
         }
     }
 
@@ -183,7 +179,7 @@ impl Heap {
     }
 
     /// Makes a new object in root `d`, if it has room.
-    fn make(&mut self, place: usize, raw: bool, kind: u8, len: u16) -> Reply
+    fn make_at(&mut self, place: usize, raw: bool, kind: u8, len: u16) -> Reply
         requires { place < length self.old.roots }
         ensures step { (result, roomy_in self.new) ≡ make_object (roomy_in self.old) place raw kind len (end_of self.old.space) }
         ensures links { KeepsLinks self.old.space.words self.new.space.words }
@@ -200,7 +196,7 @@ impl Heap {
     }
 
     /// Writes a word into a root.
-    fn set(&mut self, place: usize, word: u64) -> Reply
+    fn set_at(&mut self, place: usize, word: u64) -> Reply
         requires root { place < length self.old.roots }
         requires word { IsRootWord self.old.space.words word }
         ensures done { result ≡ Reply.Done }
@@ -211,31 +207,33 @@ impl Heap {
         Reply::Done
     }
 
-    /// Sets root `d` to field `i` of the object that root `s` refers to.
-    fn get(&mut self, d: usize, s: usize, i: u16) -> Reply
+    /// Sets root `d` to field `i` of the object that root `s` refers to, and returns the word that it took.
+    fn take_at(&mut self, d: usize, s: usize, i: u16) -> Taken
         requires taker { d < length self.old.roots }
         requires giver { s < length self.old.roots }
         ensures graph { let object = object_of (graph_in self.old).objects (root (graph_in self.old) s) in
-            (result, graph_in self.new) ≡ get_field (graph_in self.old) d object (field_of object i) }
+            (taken_reply self.old result, graph_in self.new) ≡ get_field (graph_in self.old) d object (field_of object i) }
+        ensures word { IsTakenWord self.old.space.words result }
         ensures space { self.new.space ≡ self.old.space }
         ensures mutators { self.new.mutators ≡ self.old.mutators }
         ensures sound { IsHeap self.new }
     {
         let target = self.roots[s];
         let Some(at) = target_of(target) else {
-            return Reply::NoObject;
+            return Taken::NoObject;
         };
-        if !has_field(&self.space, at, i) {
-            return Reply::NoField;
+        let header = self.space.header(at);
+        if !has_field(&self.space, at, header, i) {
+            return Taken::NoField;
         }
         let field = self.space.field(at, i);
-        let word = root_word(&self.space, self.space.header(at), field);
+        let word = root_word(&self.space, header, field);
         self.roots[d] = word;
-        Reply::Saw(view(&self.space, word))
+        Taken::Word(word)
     }
 
     /// Sets field `i` of the object that root `s` refers to to what root `t` holds.
-    fn put(&mut self, s: usize, i: u16, t: usize) -> Reply
+    fn put_at(&mut self, s: usize, i: u16, t: usize) -> Reply
         requires target { s < length self.old.roots }
         requires giver { t < length self.old.roots }
         ensures graph { let object = object_of (graph_in self.old).objects (root (graph_in self.old) s) in
@@ -250,10 +248,11 @@ impl Heap {
         let Some(at) = target_of(target) else {
             return Reply::NoObject;
         };
-        if !has_field(&self.space, at, i) {
+        let header = self.space.header(at);
+        if !has_field(&self.space, at, header, i) {
             return Reply::NoField;
         }
-        let Some(word) = field_word(&self.space, self.space.header(at), self.roots[t]) else {
+        let Some(word) = field_word(&self.space, header, self.roots[t]) else {
             return Reply::NoNumber;
         };
         self.space.set_field(at, i, word);
@@ -261,7 +260,7 @@ impl Heap {
     }
 
     /// Returns whether two roots hold the same value. Equal values have equal words.
-    fn same(&self, s: usize, t: usize) -> Reply
+    fn same_at(&self, s: usize, t: usize) -> Reply
         requires one { s < length self.now.roots }
         requires other { t < length self.now.roots }
         ensures { result ≡ (if same_in (graph_in self.now).objects (root (graph_in self.now) s) (root (graph_in self.now) t) then Reply.Yes else Reply.No) }

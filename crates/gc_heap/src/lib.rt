@@ -3,8 +3,10 @@
 
 mod heap;
 mod reading;
+mod taken;
 
 pub use heap::Heap;
+pub use taken::Fetched;
 
 #[cfg(test)]
 mod tests;

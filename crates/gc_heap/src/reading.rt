@@ -4,21 +4,24 @@ ghost use Rattle.std.specs.Prelude.{◌≡◌, ◌↔◌, Some, IsTrue, IsSome, 
 ghost use Rattle.std.specs.Option.{option_map};
 ghost use Rattle.gc_graph.specs.Graph.{Num};
 ghost use Rattle.gc_graph.specs.Machine.{view_of, is_number};
+ghost use Rattle.gc_graph.specs.declared.reply.Reply.TheVariants.{Saw};
+ghost use Rattle.gc_heap.specs.Commands.{fetched_of};
 ghost use Rattle.gc_words.specs.Word.{is_value, value_of, field_value};
-ghost use Rattle.gc_words.specs.Image.{is_start, field_at, objects_of};
+ghost use Rattle.gc_words.specs.Image.{header_at, field_at, objects_of};
 ghost use Rattle.gc_words.specs.Space.{IsSpace};
 ghost use Rattle.gc_words.specs.Closed.{IsRootWord, IsFieldWord};
 
+use crate::taken::Fetched;
 use gc_graph::View;
 use gc_words::{Addr, Header, Space, Value, decode};
 
-/// Returns whether the object that starts here has a field `i`.
-pub fn has_field(space: &Space, at: Addr, i: u16) -> bool
-    requires start { IsTrue (is_start space.now.words at.0) }
+/// Returns whether the object that starts here, and has this header, has a field `i`.
+pub fn has_field(space: &Space, at: Addr, header: Header, i: u16) -> bool
+    requires header { header_at space.now.words at.0 ≡ Some header }
     requires shaped { IsSpace space.now }
     ensures { IsTrue result ↔ IsSome (field_at space.now.words at.0 i) }
 {
-    i < space.header(at).len()
+    i < header.len()
 }
 
 /// Returns what a mutator sees of the value of a word.
@@ -43,6 +46,22 @@ pub fn view(space: &Space, word: u64) -> View
                 View::Obj { kind, len }
             }
         }
+    }
+}
+
+/// Returns what `fetch` shows of the value of a word. It does not read the object.
+pub fn fetched(space: &Space, word: u64) -> Fetched
+    requires word { IsRootWord space.now.words word }
+    requires shaped { IsSpace space.now }
+    ensures { result ≡ fetched_of (Saw (view_of (objects_of space.now.words) (value_of word))) }
+{
+    let Some(value) = decode(word) else {
+        return Fetched::Nil;
+    };
+    match &value {
+        Value::Nil => Fetched::Nil,
+        Value::Num(n) => Fetched::Num(*n),
+        Value::Ref(_) => Fetched::Object,
     }
 }
 

@@ -7,12 +7,12 @@ pub mod OneReading
 pub mod EventFronts
 pub mod FrontFaults
 pub mod Total
+pub mod ReadLines
 pub mod RowProofs
 pub mod PrintedLines
 pub mod Versions
 pub mod HistoryTexts
 pub mod FlipPairs
-pub mod PlayOutput
 pub mod PlayedEvents
 pub mod PairsPlaced
 pub mod SpaceEnds

@@ -2,4 +2,5 @@
 pub mod Faults
 pub mod Fronts
 pub mod Playing
+pub mod Reading
 pub mod Report

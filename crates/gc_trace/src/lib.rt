@@ -2,6 +2,7 @@
 //! report, or to the pair of one of its flips.
 #![tactic(auto)]
 
+mod event_reader;
 mod fault;
 mod flips;
 mod front;

@@ -7,7 +7,7 @@ ghost use Rattle.gc_trace.specs.declared.fault.TraceFault.{TraceFault};
 
 use crate::fault::{PlayFault, TraceFault};
 use crate::flips::nth_flip;
-use crate::playing::{Gather, play_trace};
+use crate::playing::{Gather, play_all};
 use crate::reader::read_trace;
 use crate::report::{Report, write_report};
 use gc_cert::{pair_fits, write_pair};
@@ -37,7 +37,7 @@ pub fn play<R: Read, W: Write>(
     ensures front { result ≡ Err PlayFault.Write → IfSome (bytes_left R.remaining reader.old) (λ text.
         PlaysFront text (bytes_written W.contents writer.old) (bytes_written W.contents writer.new)) }
 {
-    let played = play_trace(alloc, &read_trace(alloc, reader)?, Gather::Replies)?;
+    let played = play_all(alloc, reader, Gather::Replies)?;
     match writer.write_all(&played.replies) {
         Ok(()) => Ok(played.report),
         Err(_) => Err(PlayFault::Write),
@@ -66,8 +66,7 @@ pub fn play_report<R: Read, W: Write>(
     ensures front { result ≡ Err PlayFault.Write → IfSome (bytes_left R.remaining reader.old) (λ text.
         ReportsFront text (bytes_written W.contents writer.old) (bytes_written W.contents writer.new)) }
 {
-    let trace = read_trace(alloc, reader)?;
-    let report = play_trace(alloc, &trace, Gather::Nothing)?.report;
+    let report = play_all(alloc, reader, Gather::Nothing)?.report;
     match write_report(writer, &report) {
         Ok(()) => Ok(report),
         Err(_) => Err(PlayFault::Write),

@@ -1,26 +1,30 @@
-ghost use Rattle.std.specs.Prelude.{◌≡◌, ◌≤◌, ◌∷◌, ◌++◌, [], List, true, IfOk, OnOk, OnErr};
+ghost use Rattle.std.specs.Prelude.{◌≡◌, ◌≤◌, ◌∷◌, ◌++◌, ◌↔◌, [], List, ℕ, true, false, IfSome, IfOk, OnOk, OnErr, MatchResult, Err};
 ghost use Rattle.gc_graph.specs.Limits.{most_words, most_mutators};
+ghost use Rattle.gc_graph.specs.Streams.{bytes_left, source_failed};
 ghost use Rattle.gc_copy.specs.State.{State, opening_state};
 ghost use Rattle.gc_copy.specs.Belonging.{IsState};
 ghost use Rattle.gc_copy.specs.Runs.{IsEvent, after, answer, answers, state_after};
 ghost use Rattle.gc_copy.specs.declared.event.Event.{Event};
-ghost use Rattle.gc_trace.specs.Grammar.{IsInRange};
+ghost use Rattle.gc_trace.specs.Faults.{IsReadAs, MayFail};
+ghost use Rattle.gc_trace.specs.Grammar.{Recording};
 ghost use Rattle.gc_trace.specs.Internal.Playing.{HasPlayed};
+ghost use Rattle.gc_trace.specs.Internal.Reading.{IsReading, HasRead, read_so_far};
 ghost use Rattle.gc_trace.specs.Internal.Report.{with_answer, FitsU64};
 ghost use Rattle.gc_trace.specs.Plays.{opening, answers as answers_of_trace, report_in};
 ghost use Rattle.gc_trace.specs.Replies.{reply_text};
 ghost use Rattle.gc_trace.specs.Report.{report_of};
-ghost use Rattle.gc_trace.specs.Views.{recording};
 
+use crate::event_reader::EventReader;
+use crate::fault::TraceFault;
 use crate::replies::{LINE, print_answer};
 use crate::report::Report;
-use crate::trace::Trace;
 use gc_check::Sequential;
 use gc_copy::{Answer, Event, StepReply, heaps_have_addresses_as_names, states_are_kept};
 use gc_core::CollectedHeap;
 use gc_graph::text::Printer;
-use gc_graph::{NoMemory, Reply, View};
+use gc_graph::{NoMemory, Op, Reply, Source, View};
 use std::alloc::Global;
+use std::io::Read;
 
 /// Performs the event in the heap, and returns its answer. On `NoMemory` the heap is unchanged.
 pub fn answer_in(heap: &mut CollectedHeap, event: &Event) -> Result<Answer, NoMemory>
@@ -121,18 +125,31 @@ impl Player {
         Ok(())
     }
 
-    /// Plays all events of the trace, in order, in the empty heap.
-    fn take_all(&mut self, trace: &Trace) -> Result<(), NoMemory>
-        requires trace { IsInRange (recording trace.now) }
-        requires opened { HasPlayed (opening (recording trace.now)) [] self.old }
+    /// Plays the events that the reader still gives, in order.
+    fn take_all<R: Read>(
+        &mut self,
+        lines: &mut EventReader,
+        reader: &mut Source<R>,
+    ) -> Result<(), TraceFault>
+        requires reading { IsReading lines.old }
+        requires number { lines.old.number ≡ 3 }
+        requires unfailed { source_failed reader.old ≡ false }
+        requires opened { HasPlayed (opening (read_so_far lines.old [])) [] self.old }
         requires sound { IsState self.old.heap }
-        requires mutators { self.old.heap.mutators ≡ trace.now.mutators }
-        ensures played { OnOk result (HasPlayed (opening (recording trace.now)) (recording trace.now).events self.new) }
+        requires mutators { self.old.heap.mutators ≡ lines.old.mutators }
+        ensures exact { (text : List ℕ) → HasRead text [] lines.old (bytes_left R.remaining reader.old) → MatchResult result
+            (λ _. (t : Recording) × IsReadAs t text × HasPlayed (opening t) t.events self.new)
+            (λ fault. MayFail fault text) }
         ensures sound { OnOk result (IsState self.new.heap) }
         ensures gather { self.new.gather ≡ self.old.gather }
+        ensures read { (result ≡ Err TraceFault.Read) ↔ (source_failed reader.new ≡ true) }
     {
-        for event in &trace.events {
-            self.take(event)?;
+        // An event's parts have to be named where one is held.
+        let _named: Option<Op> = None;
+        while let Some(event) = lines.next(reader)? {
+            let Ok(()) = self.take(&event) else {
+                return Err(TraceFault::NoMemory);
+            };
         }
         Ok(())
     }
@@ -163,14 +180,25 @@ impl Player {
 
 ghost use Rattle.gc_trace.specs.declared.playing.Gather.{Gather};
 
-/// Plays the events of the trace, in order, in a heap of its own.
-pub fn play_trace(alloc: Global, trace: &Trace, gather: Gather) -> Result<Played, NoMemory>
-    requires { IsInRange (recording trace.now) }
-    ensures report { IfOk result (λ played. played.report ≡ report_in (recording trace.now)) }
-    ensures replies { gather ≡ Gather.Replies
-        → IfOk result (λ played. played.replies.items ≡ reply_text (answers_of_trace (recording trace.now))) }
+/// Plays the trace that the reader gives, in a heap of its own, event by event as its lines come.
+pub fn play_all<R: Read>(
+    alloc: Global,
+    reader: &mut Source<R>,
+    gather: Gather,
+) -> Result<Played, TraceFault>
+    ensures exact { IfSome (bytes_left R.remaining reader.old) (λ text. MatchResult result
+        (λ played. (t : Recording) × IsReadAs t text × (played.report ≡ report_in t)
+        × (gather ≡ Gather.Replies → played.replies.items ≡ reply_text (answers_of_trace t)))
+        (λ fault. MayFail fault text)) }
+    ensures read { (result ≡ Err TraceFault.Read) ↔ (source_failed reader.new ≡ true) }
 {
-    let mut player = Player::open(alloc, trace.size, trace.mutators, gather)?;
-    player.take_all(trace)?;
-    player.finish()
+    let mut lines = EventReader::open(alloc, reader)?;
+    let Ok(mut player) = Player::open(alloc, lines.size, lines.mutators, gather) else {
+        return Err(TraceFault::NoMemory);
+    };
+    player.take_all(&mut lines, reader)?;
+    match player.finish() {
+        Ok(played) => Ok(played),
+        Err(_) => Err(TraceFault::NoMemory),
+    }
 }

@@ -7,7 +7,8 @@ ghost use Rattle.gcflip_c.specs.Verdicts.{IsReportedOf, line_in_c};
 
 use crate::answer::{BAD_LINE, ENDS_EARLY, NO_MEMORY, TOO_LARGE, answer};
 use crate::verdict::GcflipVerdict;
-use gc_cert::{PairFault, pair_in_text, texts_have_one_reading};
+use gc_cert::{PairFault, read_pair, texts_have_one_reading};
+use gc_graph::Source;
 use std::alloc::Global;
 
 /// Checks the pair of heap images that a text spells. Returns 0 (yes), 1 (refused), 2 (an allocation failed),
@@ -29,7 +30,8 @@ pub extern "C" fn gcflip_check_text(alloc: Global, text: &[u8], verdict: &mut Gc
     ensures early { result ≡ 6 → IsPairFaultOf PairFault.EndsEarly text.now }
 {
     texts_have_one_reading();
-    match pair_in_text(alloc, text) {
+    // Reading from memory does not fail.
+    match read_pair(alloc, &mut Source::new(text)) {
         Ok(file) => answer(
             alloc,
             file.old.as_ref(),

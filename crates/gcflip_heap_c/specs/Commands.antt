@@ -5,8 +5,9 @@ use Rattle.gc_graph.specs.declared.command.Op.{Op}
 use Rattle.gc_graph.specs.declared.reply.Reply.{Reply}
 use Rattle.gc_copy.specs.State.{State}
 use Rattle.gc_copy.specs.Steps.{mutate}
-use Rattle.gcflip_heap_c.specs.Replies.{reply_in_c}
-use Rattle.gcflip_heap_c.specs.declared.reply.GcflipReply.{GcflipReply}
+use Rattle.gc_graph.specs.declared.command.Op.TheVariants.{Num, Put}
+use Rattle.gc_core.specs.CollectedHeap.{cons_step}
+use Rattle.gcflip_heap_c.specs.Replies.{IsRefusal, reply_in_c}
 
 -- a mutator's own slot below 16, and from there to 31 one that all mutators share
 abbrev pub slot_at : ℕ → Option SlotName
@@ -26,17 +27,57 @@ abbrev pub IsOutside : ℕ → Option Op → State → Type 0
 IsOutside m None s = ⊤
 IsOutside m (Some op) s = s.mutators ≤ m
 
--- in the state `old`, mutator m's command got this reply and left the state `new`
-abbrev pub Replies : ℕ → Option Op → Option State → Option State → GcflipReply → Type 0
-Replies m (Some op) (Some old) (Some new) told = (reply : Reply) × (mutate old m op ≡ (reply, new)) × (told ≡ reply_in_c reply)
-Replies m op old new told = ⊥
+-- in the state `old`, mutator m's command got a reply of which C was shown this, and left the state `new`
+abbrev pub Replies : ℕ → Option Op → (Reply → Type 0) → Option State → Option State → Type 0
+Replies m (Some op) shown (Some old) (Some new) = (reply : Reply) × (mutate old m op ≡ (reply, new)) × shown reply
+Replies m op shown old new = ⊥
 
--- what a call of a command returns, and what it leaves of the heap and of C's reply
-pub record IsCommandCall (m : ℕ) (op : Option Op) (old new : Option State) (before after : GcflipReply) (answer : ℕ) : Type 0 where
-  pub answers : answer ≤ 3
-  pub done : answer ≡ 0 → Replies m op old new after
+-- what a call of a command returns, and what it leaves of the heap
+pub record IsCommandCall (m : ℕ) (op : Option Op) (shown : Reply → Type 0) (old new : Option State) (answer : ℕ) : Type 0 where
+  pub done : ¬ IsRefusal answer → Replies m op shown old new
   -- a refused call changes nothing
-  pub heap : 1 ≤ answer → new ≡ old
-  pub silent : 1 ≤ answer → after ≡ before
+  pub refused : IsRefusal answer → new ≡ old
+  pub answers : IsRefusal answer → answer ≤ 3
   pub outside : (answer ≡ 2) ↔ IsSomeAnd old (IsOutside m op)
+  pub closed : (answer ≡ 3) ↔ (old ≡ None)
+
+-- ---- putting a number: the commands `Num t n` and `Put s i t`, one after the other, with the reply to the second
+
+-- the arguments are out of their ranges, or the state has no mutator m
+abbrev pub IsNoPutNumber : ℕ → Option SlotName → Option SlotName → Option ℕ → State → Type 0
+IsNoPutNumber m (Some s) (Some t) (Some n) state = state.mutators ≤ m
+IsNoPutNumber m s t n state = ⊤
+
+abbrev pub PutsNumber : ℕ → Option SlotName → ℕ → Option SlotName → Option ℕ → Option State → Option State → ℕ → Type 0
+PutsNumber m (Some s) i (Some t) (Some n) (Some old) (Some new) answer =
+    (reply : Reply) × (mutate (mutate old m (Num t n)).1 m (Put s i t) ≡ (reply, new)) × (answer ≡ reply_in_c reply)
+PutsNumber m s i t n old new answer = ⊥
+
+-- what the call returns, and what it leaves of the heap
+pub record IsPutNumberCall (m : ℕ) (s : Option SlotName) (i : ℕ) (t : Option SlotName) (n : Option ℕ) (old new : Option State) (answer : ℕ) : Type 0 where
+  pub done : ¬ IsRefusal answer → PutsNumber m s i t n old new answer
+  -- a refused call does neither
+  pub refused : IsRefusal answer → new ≡ old
+  pub answers : IsRefusal answer → answer ≤ 3
+  pub outside : (answer ≡ 2) ↔ IsSomeAnd old (IsNoPutNumber m s t n)
+  pub closed : (answer ≡ 3) ↔ (old ≡ None)
+
+-- ---- an object of two fields: the commands of a `cons`, with the reply to the first
+
+-- the arguments are out of their ranges, or the state has no mutator m
+abbrev pub IsNoCons : ℕ → Option SlotName → Option SlotName → Option SlotName → State → Type 0
+IsNoCons m (Some d) (Some s) (Some t) state = state.mutators ≤ m
+IsNoCons m d s t state = ⊤
+
+abbrev pub Conses : ℕ → Option SlotName → ℕ → Option SlotName → Option SlotName → Option State → Option State → ℕ → Type 0
+Conses m (Some d) kind (Some s) (Some t) (Some old) (Some new) answer = (reply : Reply) × (cons_step old m d kind s t ≡ (reply, new)) × (answer ≡ reply_in_c reply)
+Conses m d kind s t old new answer = ⊥
+
+-- what the call returns, and what it leaves of the heap
+pub record IsConsCall (m : ℕ) (d : Option SlotName) (kind : ℕ) (s t : Option SlotName) (old new : Option State) (answer : ℕ) : Type 0 where
+  pub done : ¬ IsRefusal answer → Conses m d kind s t old new answer
+  -- a refused call does none of them
+  pub refused : IsRefusal answer → new ≡ old
+  pub answers : IsRefusal answer → answer ≤ 3
+  pub outside : (answer ≡ 2) ↔ IsSomeAnd old (IsNoCons m d s t)
   pub closed : (answer ≡ 3) ↔ (old ≡ None)

@@ -1,48 +1,80 @@
--- Replies as C has them: a number, and what was seen.
-use Rattle.std.specs.Prelude.{ℕ}
+-- Replies as C has them: the number that a call returns, and what it writes of what was seen.
+use Rattle.std.specs.Prelude.{ℕ, ◌≤◌, ◌<◌}
 use Rattle.gc_graph.specs.declared.reply.Reply.{Reply}
 use Rattle.gc_graph.specs.declared.reply.Reply.TheVariants.{Full, Made, Done, NoObject, NoField, NoNumber, Saw, Yes, No}
 use Rattle.gc_graph.specs.declared.reply.View.{View}
 use Rattle.gc_graph.specs.declared.reply.View.TheVariants.{Nil, Num, Obj, RawObj}
+use Rattle.gc_heap.specs.declared.taken.Fetched.{Fetched}
+use Rattle.gc_heap.specs.declared.taken.Fetched.TheVariants as fetches
 use Rattle.gc_copy.specs.declared.step.StepReply.{StepReply}
 use Rattle.gc_copy.specs.declared.step.StepReply.TheVariants as steps
-use Rattle.gcflip_heap_c.specs.declared.reply.GcflipReply.{GcflipReply}
+use Rattle.gcflip_heap_c.specs.declared.reply.GcflipView.{GcflipView}
 
-abbrev pub words_in_c : ℕ → ℕ → ℕ → ℕ → ℕ → GcflipReply
-words_in_c reply view kind count number = record { reply = reply; view = view; kind = kind; count = count; number = number }
+-- the call was refused: nothing was done
+abbrev pub IsRefusal : ℕ → Type 0
+IsRefusal answer = (1 ≤ answer) × (answer < 16)
 
--- a reply that has nothing but its number
-abbrev pub bare : ℕ → GcflipReply
-bare reply = words_in_c reply 0 0 0 0
+-- ---- commands
 
-abbrev pub view_in_c : View → GcflipReply
-view_in_c Nil = bare 6
-view_in_c (Num n) = words_in_c 6 1 0 0 n
-view_in_c (Obj kind len) = words_in_c 6 2 kind len 0
-view_in_c (RawObj kind len) = words_in_c 6 3 kind len 0
+abbrev pub seen_in_c : View → ℕ
+seen_in_c Nil = 24
+seen_in_c (Num n) = 25
+seen_in_c (Obj kind len) = 26
+seen_in_c (RawObj kind len) = 27
 
-abbrev pub reply_in_c : Reply → GcflipReply
-reply_in_c Full = bare 0
-reply_in_c Made = bare 1
-reply_in_c Done = bare 2
-reply_in_c NoObject = bare 3
-reply_in_c NoField = bare 4
-reply_in_c NoNumber = bare 5
-reply_in_c (Saw view) = view_in_c view
-reply_in_c Yes = bare 7
-reply_in_c No = bare 8
+abbrev pub reply_in_c : Reply → ℕ
+reply_in_c Done = 0
+reply_in_c Made = 16
+reply_in_c Full = 17
+reply_in_c NoObject = 18
+reply_in_c NoField = 19
+reply_in_c NoNumber = 20
+reply_in_c Yes = 21
+reply_in_c No = 22
+reply_in_c (Saw view) = seen_in_c view
 
-abbrev pub step_reply_in_c : StepReply → GcflipReply
-step_reply_in_c steps.Busy = bare 16
-step_reply_in_c steps.Begun = bare 17
-step_reply_in_c steps.Idle = bare 18
-step_reply_in_c steps.Clean = bare 19
-step_reply_in_c steps.NoRoom = bare 20
-step_reply_in_c steps.Copied = bare 21
-step_reply_in_c steps.Passed = bare 22
-step_reply_in_c steps.Scanned = bare 23
-step_reply_in_c steps.Applied = bare 24
-step_reply_in_c steps.NotReady = bare 25
-step_reply_in_c steps.Refused = bare 26
-step_reply_in_c (steps.Flipped pairs) = words_in_c 27 0 0 pairs 0
-step_reply_in_c steps.Dropped = bare 28
+-- the number that a `get` returns, which does not read the object that it found
+abbrev pub fetched_in_c : Fetched → ℕ
+fetched_in_c fetches.NoObject = 18
+fetched_in_c fetches.NoField = 19
+fetched_in_c fetches.Nil = 24
+fetched_in_c (fetches.Num n) = 25
+fetched_in_c fetches.Object = 26
+
+-- the number that was seen, if one was seen
+abbrev pub number_after : ℕ → Fetched → ℕ
+number_after before (fetches.Num n) = n
+number_after before fetched = before
+
+abbrev pub view_in_c : View → GcflipView
+view_in_c Nil = record { kind = 0; count = 0; number = 0 }
+view_in_c (Num n) = record { kind = 0; count = 0; number = n }
+view_in_c (Obj kind len) = record { kind = kind; count = len; number = 0 }
+view_in_c (RawObj kind len) = record { kind = kind; count = len; number = 0 }
+
+-- what was seen, if something was seen
+abbrev pub view_after : GcflipView → Reply → GcflipView
+view_after before (Saw view) = view_in_c view
+view_after before reply = before
+
+-- ---- steps
+
+abbrev pub step_reply_in_c : StepReply → ℕ
+step_reply_in_c steps.Busy = 32
+step_reply_in_c steps.Begun = 33
+step_reply_in_c steps.Idle = 34
+step_reply_in_c steps.Clean = 35
+step_reply_in_c steps.NoRoom = 36
+step_reply_in_c steps.Copied = 37
+step_reply_in_c steps.Passed = 38
+step_reply_in_c steps.Scanned = 39
+step_reply_in_c steps.Applied = 40
+step_reply_in_c steps.NotReady = 41
+step_reply_in_c steps.Refused = 42
+step_reply_in_c (steps.Flipped pairs) = 43
+step_reply_in_c steps.Dropped = 44
+
+-- the number of pairs, if the step flipped
+abbrev pub pairs_after : ℕ → StepReply → ℕ
+pairs_after before (steps.Flipped pairs) = pairs
+pairs_after before reply = before

@@ -5,7 +5,7 @@ use Rattle.gc_copy.specs.Steps.{collect, useful_step}
 use Rattle.gc_copy.specs.declared.step.StepReply.{StepReply}
 use Rattle.gc_copy.specs.declared.step.StepReply.TheVariants.{NoRoom, Flipped}
 use Rattle.gc_core.specs.CollectedHeap.{Allocates}
-use Rattle.gcflip_heap_c.specs.Replies.{step_reply_in_c}
+use Rattle.gcflip_heap_c.specs.Replies.{step_reply_in_c, pairs_after}
 use Rattle.gcflip_heap_c.specs.declared.work.GcflipWork.{GcflipWork}
 
 -- the state that n useful steps lead to
@@ -53,6 +53,7 @@ pub record IsWork (most : ℕ) (s t : State) (work : GcflipWork) : Type 0 where
   pub reply : StepReply
   pub run : IsRun work.steps s t reply
   pub last : work.last ≡ step_reply_in_c reply
+  pub pairs : work.pairs ≡ pairs_after 0 reply
   pub within : work.steps ≤ most
   pub ended : work.steps < most → IsEnd t reply
   pub copied : work.copied ≡ words_copied s t reply

@@ -1,6 +1,6 @@
-//! What the calls return.
+//! The numbers that calls return. From 1 to 15 they say why nothing was done; 0 and all from 16 on are replies.
 
-/// The call was made.
+/// The call was made, and its reply says no more.
 pub(crate) const DONE: u32 = 0;
 
 /// An allocation failed.

@@ -1,105 +1,216 @@
-//! Mutators' commands as C gives them.
+//! Mutators' commands on a heap, with the numbers that C gives.
 
-ghost use Rattle.std.specs.Prelude.{◌≡◌, IsSomeAnd};
-ghost use Rattle.gc_copy.specs.Steps.{WritesField};
+ghost use Rattle.std.specs.Prelude.{◌≡◌, ◌≢◌, Some, IsSome};
 ghost use Rattle.std.specs.Option.{option_map};
 ghost use Rattle.gc_graph.specs.declared.command.Op.{Op};
-ghost use Rattle.gcflip_heap_c.specs.Commands.{slot_at, number_in, with_both};
+ghost use Rattle.gc_heap.specs.Commands.{fetched_of};
+ghost use Rattle.gcflip_heap_c.specs.Commands.{slot_at, number_in, with_both, IsCommandCall, IsPutNumberCall, IsConsCall};
+ghost use Rattle.gcflip_heap_c.specs.Replies.{IsRefusal, reply_in_c, fetched_in_c, number_after, view_after};
 
-use gc_graph::{Number, Op, Slot};
+use crate::answer::{NO_MEMORY, OUT_OF_RANGE};
+use crate::reply::{GcflipView, of_fetched, of_look, of_reply};
+use gc_core::CollectedHeap;
+use gc_graph::{Number, Slot};
 
 /// Returns a mutator's own slot below 16, and from there to 31 one that all mutators share.
 fn slot(place: u8) -> Option<Slot>
     ensures { result ≡ slot_at place }
 {
-    if place < 16 {
+    if place >= 32 {
+        None
+    } else if place < 16 {
         Slot::own(place)
     } else {
         Slot::shared(place - 16)
     }
 }
 
-/// Returns the command that makes a new object; None if the slot is out of range.
-pub(crate) fn new(d: u8, kind: u8, len: u16) -> Option<Op>
-    ensures value { result ≡ option_map (λ d. Op.New d kind len) (slot_at d) }
-    ensures reads { ¬ IsSomeAnd result WritesField }
+pub(crate) fn new(heap: &mut CollectedHeap, m: u8, d: u8, kind: u8, count: u16) -> u32
+    ensures call { IsCommandCall m (option_map (λ d. Op.New d kind count) (slot_at d)) (λ reply. result ≡ reply_in_c reply)
+        (Some heap.old) (Some heap.new) result }
+    ensures memory { result ≢ 1 }
 {
-    let d = slot(d)?;
-    Some(Op::New { d, kind, len })
+    if m >= heap.mutators() {
+        return OUT_OF_RANGE;
+    }
+    let Some(d) = slot(d) else {
+        return OUT_OF_RANGE;
+    };
+    of_reply(&heap.new_object(m, d, kind, count))
 }
 
-/// Returns the command that makes a new raw object; None if the slot is out of range.
-pub(crate) fn raw(d: u8, kind: u8, len: u16) -> Option<Op>
-    ensures value { result ≡ option_map (λ d. Op.NewRaw d kind len) (slot_at d) }
-    ensures reads { ¬ IsSomeAnd result WritesField }
+pub(crate) fn raw(heap: &mut CollectedHeap, m: u8, d: u8, kind: u8, count: u16) -> u32
+    ensures call { IsCommandCall m (option_map (λ d. Op.NewRaw d kind count) (slot_at d)) (λ reply. result ≡ reply_in_c reply)
+        (Some heap.old) (Some heap.new) result }
+    ensures memory { result ≢ 1 }
 {
-    let d = slot(d)?;
-    Some(Op::NewRaw { d, kind, len })
+    if m >= heap.mutators() {
+        return OUT_OF_RANGE;
+    }
+    let Some(d) = slot(d) else {
+        return OUT_OF_RANGE;
+    };
+    of_reply(&heap.new_raw(m, d, kind, count))
 }
 
-/// Returns the command that puts a number into slot `d`; None if one of them is out of range.
-pub(crate) fn num(d: u8, n: u64) -> Option<Op>
-    ensures value { result ≡ with_both (slot_at d) (number_in n) Op.Num }
-    ensures reads { ¬ IsSomeAnd result WritesField }
+pub(crate) fn num(heap: &mut CollectedHeap, m: u8, d: u8, n: u64) -> u32
+    ensures call { IsCommandCall m (with_both (slot_at d) (number_in n) Op.Num) (λ reply. result ≡ reply_in_c reply)
+        (Some heap.old) (Some heap.new) result }
+    ensures memory { result ≢ 1 }
 {
-    let d = slot(d)?;
-    let n = Number::new(n)?;
-    Some(Op::Num { d, n })
+    if m >= heap.mutators() {
+        return OUT_OF_RANGE;
+    }
+    let Some(d) = slot(d) else {
+        return OUT_OF_RANGE;
+    };
+    let Some(n) = Number::new(n) else {
+        return OUT_OF_RANGE;
+    };
+    of_reply(&heap.num(m, d, n))
 }
 
-/// Returns the command that puts nil into slot `d`; None if it is out of range.
-pub(crate) fn nil(d: u8) -> Option<Op>
-    ensures value { result ≡ option_map Op.Nil (slot_at d) }
-    ensures reads { ¬ IsSomeAnd result WritesField }
+pub(crate) fn nil(heap: &mut CollectedHeap, m: u8, d: u8) -> u32
+    ensures call { IsCommandCall m (option_map Op.Nil (slot_at d)) (λ reply. result ≡ reply_in_c reply)
+        (Some heap.old) (Some heap.new) result }
+    ensures memory { result ≢ 1 }
 {
-    let d = slot(d)?;
-    Some(Op::Nil { d })
+    if m >= heap.mutators() {
+        return OUT_OF_RANGE;
+    }
+    let Some(d) = slot(d) else {
+        return OUT_OF_RANGE;
+    };
+    of_reply(&heap.nil(m, d))
 }
 
-/// Returns the command that copies slot `s` into slot `d`; None if one of them is out of range.
-pub(crate) fn moved(d: u8, s: u8) -> Option<Op>
-    ensures value { result ≡ with_both (slot_at d) (slot_at s) Op.Move }
-    ensures reads { ¬ IsSomeAnd result WritesField }
+pub(crate) fn moved(heap: &mut CollectedHeap, m: u8, d: u8, s: u8) -> u32
+    ensures call { IsCommandCall m (with_both (slot_at d) (slot_at s) Op.Move) (λ reply. result ≡ reply_in_c reply)
+        (Some heap.old) (Some heap.new) result }
+    ensures memory { result ≢ 1 }
 {
-    let d = slot(d)?;
-    let s = slot(s)?;
-    Some(Op::Move { d, s })
+    if m >= heap.mutators() {
+        return OUT_OF_RANGE;
+    }
+    let Some(d) = slot(d) else {
+        return OUT_OF_RANGE;
+    };
+    let Some(s) = slot(s) else {
+        return OUT_OF_RANGE;
+    };
+    of_reply(&heap.move_slot(m, d, s))
 }
 
-/// Returns the command that reads a field into slot `d`; None if a slot is out of range.
-pub(crate) fn get(d: u8, s: u8, i: u16) -> Option<Op>
-    ensures value { result ≡ with_both (slot_at d) (slot_at s) (λ d s. Op.Get d s i) }
-    ensures reads { ¬ IsSomeAnd result WritesField }
+pub(crate) fn get(heap: &mut CollectedHeap, m: u8, d: u8, s: u8, i: u16, number: &mut u64) -> u32
+    ensures call { IsCommandCall m (with_both (slot_at d) (slot_at s) (λ d s. Op.Get d s i))
+        (λ reply. (result ≡ fetched_in_c (fetched_of reply)) × (number.new ≡ number_after number.old (fetched_of reply))) (Some heap.old) (Some heap.new) result }
+    ensures silent { IsRefusal result → number.new ≡ number.old }
+    ensures memory { result ≢ 1 }
 {
-    let d = slot(d)?;
-    let s = slot(s)?;
-    Some(Op::Get { d, s, i })
+    if m >= heap.mutators() {
+        return OUT_OF_RANGE;
+    }
+    let Some(d) = slot(d) else {
+        return OUT_OF_RANGE;
+    };
+    let Some(s) = slot(s) else {
+        return OUT_OF_RANGE;
+    };
+    of_fetched(heap.fetch(m, d, s, i), number)
 }
 
-/// Returns the command that writes slot `t` into a field; None if a slot is out of range.
-pub(crate) fn put(s: u8, i: u16, t: u8) -> Option<Op>
-    ensures { result ≡ with_both (slot_at s) (slot_at t) (λ s t. Op.Put s i t) }
+pub(crate) fn put(heap: &mut CollectedHeap, m: u8, s: u8, i: u16, t: u8) -> u32
+    ensures call { IsCommandCall m (with_both (slot_at s) (slot_at t) (λ s t. Op.Put s i t)) (λ reply. result ≡ reply_in_c reply)
+        (Some heap.old) (Some heap.new) result }
+    ensures memory { result ≡ 1 → IsSome heap.old.collection }
 {
-    let s = slot(s)?;
-    let t = slot(t)?;
-    Some(Op::Put { s, i, t })
+    if m >= heap.mutators() {
+        return OUT_OF_RANGE;
+    }
+    let Some(s) = slot(s) else {
+        return OUT_OF_RANGE;
+    };
+    let Some(t) = slot(t) else {
+        return OUT_OF_RANGE;
+    };
+    match heap.put(m, s, i, t) {
+        Ok(reply) => of_reply(&reply),
+        Err(_) => NO_MEMORY,
+    }
 }
 
-/// Returns the command that compares two slots; None if one of them is out of range.
-pub(crate) fn same(s: u8, t: u8) -> Option<Op>
-    ensures value { result ≡ with_both (slot_at s) (slot_at t) Op.Same }
-    ensures reads { ¬ IsSomeAnd result WritesField }
+pub(crate) fn put_number(heap: &mut CollectedHeap, m: u8, s: u8, i: u16, t: u8, n: u64) -> u32
+    ensures call { IsPutNumberCall m (slot_at s) i (slot_at t) (number_in n) (Some heap.old) (Some heap.new) result }
+    ensures memory { result ≡ 1 → IsSome heap.old.collection }
 {
-    let s = slot(s)?;
-    let t = slot(t)?;
-    Some(Op::Same { s, t })
+    if m >= heap.mutators() {
+        return OUT_OF_RANGE;
+    }
+    let Some(s) = slot(s) else {
+        return OUT_OF_RANGE;
+    };
+    let Some(t) = slot(t) else {
+        return OUT_OF_RANGE;
+    };
+    let Some(n) = Number::new(n) else {
+        return OUT_OF_RANGE;
+    };
+    match heap.put_number(m, s, i, t, n) {
+        Ok(reply) => of_reply(&reply),
+        Err(_) => NO_MEMORY,
+    }
 }
 
-/// Returns the command that looks at slot `s`; None if it is out of range.
-pub(crate) fn look(s: u8) -> Option<Op>
-    ensures value { result ≡ option_map Op.Look (slot_at s) }
-    ensures reads { ¬ IsSomeAnd result WritesField }
+pub(crate) fn cons(heap: &mut CollectedHeap, m: u8, d: u8, kind: u8, s: u8, t: u8) -> u32
+    ensures call { IsConsCall m (slot_at d) kind (slot_at s) (slot_at t) (Some heap.old) (Some heap.new) result }
+    ensures memory { result ≡ 1 → IsSome heap.old.collection }
 {
-    let s = slot(s)?;
-    Some(Op::Look { s })
+    if m >= heap.mutators() {
+        return OUT_OF_RANGE;
+    }
+    let Some(d) = slot(d) else {
+        return OUT_OF_RANGE;
+    };
+    let Some(s) = slot(s) else {
+        return OUT_OF_RANGE;
+    };
+    let Some(t) = slot(t) else {
+        return OUT_OF_RANGE;
+    };
+    match heap.cons(m, d, kind, s, t) {
+        Ok(reply) => of_reply(&reply),
+        Err(_) => NO_MEMORY,
+    }
+}
+
+pub(crate) fn same(heap: &CollectedHeap, m: u8, s: u8, t: u8) -> u32
+    ensures call { IsCommandCall m (with_both (slot_at s) (slot_at t) Op.Same) (λ reply. result ≡ reply_in_c reply)
+        (Some heap.now) (Some heap.now) result }
+    ensures memory { result ≢ 1 }
+{
+    if m >= heap.mutators() {
+        return OUT_OF_RANGE;
+    }
+    let Some(s) = slot(s) else {
+        return OUT_OF_RANGE;
+    };
+    let Some(t) = slot(t) else {
+        return OUT_OF_RANGE;
+    };
+    of_reply(&heap.same(m, s, t))
+}
+
+pub(crate) fn look(heap: &CollectedHeap, m: u8, s: u8, view: &mut GcflipView) -> u32
+    ensures call { IsCommandCall m (option_map Op.Look (slot_at s))
+        (λ reply. (result ≡ reply_in_c reply) × (view.new ≡ view_after view.old reply)) (Some heap.now) (Some heap.now) result }
+    ensures silent { IsRefusal result → view.new ≡ view.old }
+    ensures memory { result ≢ 1 }
+{
+    if m >= heap.mutators() {
+        return OUT_OF_RANGE;
+    }
+    let Some(s) = slot(s) else {
+        return OUT_OF_RANGE;
+    };
+    of_look(&heap.look(m, s), view)
 }

@@ -1,63 +1,17 @@
-//! The exports that make mutators' commands.
+//! The exports that make mutators' commands. Each takes the heap out of the handle, makes its own command, and puts the heap back.
 
-ghost use Rattle.std.specs.Prelude.{◌≡◌, ◌≢◌, ◌≤◌, ◌↔◌, Some, IsSomeAnd, IsSome};
+ghost use Rattle.std.specs.Prelude.{◌≡◌, ◌≢◌, IsSomeAnd, IsSome};
 ghost use Rattle.std.specs.Option.{option_map};
 ghost use Rattle.gc_graph.specs.declared.command.Op.{Op};
-ghost use Rattle.gc_copy.specs.Steps.{WritesField};
-ghost use Rattle.gcflip_heap_c.specs.Commands.{slot_at, number_in, with_both, IsOutside, Replies, IsCommandCall};
+ghost use Rattle.gc_heap.specs.Commands.{fetched_of};
+ghost use Rattle.gcflip_heap_c.specs.Commands.{slot_at, number_in, with_both, IsCommandCall, IsPutNumberCall, IsConsCall};
+ghost use Rattle.gcflip_heap_c.specs.Replies.{IsRefusal, reply_in_c, fetched_in_c, number_after, view_after};
 
-use crate::answer::{CLOSED, DONE, NO_MEMORY, OUT_OF_RANGE};
+use crate::answer::CLOSED;
 use crate::commands;
 use crate::handle::GcflipHeap;
-use crate::reply::{GcflipReply, of_reply};
-use gc_core::CollectedHeap;
-use gc_graph::Op;
+use crate::reply::GcflipView;
 use std::alloc::Global;
-
-/// Makes mutator m's command, if the arguments name one.
-fn command(
-    alloc: Global,
-    handle: &mut GcflipHeap,
-    m: u8,
-    op: Option<Op>,
-    reply: &mut GcflipReply,
-) -> u32
-    ensures call { IsCommandCall m op handle.old.state handle.new.state reply.old reply.new result }
-    // Only a `put` while a collection is open allocates.
-    ensures memory { result ≡ 1 → IsSomeAnd op WritesField }
-    ensures open { result ≡ 1 → IsSomeAnd handle.old.state (λ s. IsSome s.collection) }
-{
-    let Some(mut heap) = handle.take(alloc) else {
-        return CLOSED;
-    };
-    let answer = command_on(&mut heap, m, op, reply);
-    *handle = GcflipHeap::full(heap);
-    answer
-}
-
-fn command_on(heap: &mut CollectedHeap, m: u8, op: Option<Op>, reply: &mut GcflipReply) -> u32
-    ensures answers { result ≤ 2 }
-    ensures done { result ≡ 0 → Replies m op (Some heap.old) (Some heap.new) reply.new }
-    ensures heap { 1 ≤ result → heap.new ≡ heap.old }
-    ensures silent { 1 ≤ result → reply.new ≡ reply.old }
-    ensures outside { (result ≡ 2) ↔ IsOutside m op heap.old }
-    ensures memory { result ≡ 1 → IsSomeAnd op WritesField }
-    ensures open { result ≡ 1 → IsSome heap.old.collection }
-{
-    let Some(op) = op else {
-        return OUT_OF_RANGE;
-    };
-    if m >= heap.mutators() {
-        return OUT_OF_RANGE;
-    }
-    match heap.mutate(m, &op) {
-        Ok(made) => {
-            *reply = of_reply(made);
-            DONE
-        }
-        Err(_) => NO_MEMORY,
-    }
-}
 
 /// Makes an object of this kind with `count` fields, all nil, and puts a reference to it into slot `d`.
 #[unsafe(no_mangle)]
@@ -68,13 +22,17 @@ pub extern "C" fn gcflip_heap_new(
     d: u8,
     kind: u8,
     count: u16,
-    reply: &mut GcflipReply,
 ) -> u32
     ensures call { IsCommandCall m (option_map (λ d. Op.New d kind count) (slot_at d))
-        heap.old.state heap.new.state reply.old reply.new result }
+        (λ reply. result ≡ reply_in_c reply) heap.old.state heap.new.state result }
     ensures memory { result ≢ 1 }
 {
-    command(alloc, heap, m, commands::new(d, kind, count), reply)
+    let Some(mut opened) = heap.take(alloc) else {
+        return CLOSED;
+    };
+    let answer = commands::new(&mut opened, m, d, kind, count);
+    *heap = GcflipHeap::full(opened);
+    answer
 }
 
 /// Makes a raw object of this kind, whose `count` fields are plain numbers, all 0, and puts a reference to it into
@@ -87,66 +45,66 @@ pub extern "C" fn gcflip_heap_raw(
     d: u8,
     kind: u8,
     count: u16,
-    reply: &mut GcflipReply,
 ) -> u32
     ensures call { IsCommandCall m (option_map (λ d. Op.NewRaw d kind count) (slot_at d))
-        heap.old.state heap.new.state reply.old reply.new result }
+        (λ reply. result ≡ reply_in_c reply) heap.old.state heap.new.state result }
     ensures memory { result ≢ 1 }
 {
-    command(alloc, heap, m, commands::raw(d, kind, count), reply)
+    let Some(mut opened) = heap.take(alloc) else {
+        return CLOSED;
+    };
+    let answer = commands::raw(&mut opened, m, d, kind, count);
+    *heap = GcflipHeap::full(opened);
+    answer
 }
 
 /// Puts the number `n`, which is below 2^63, into slot `d`.
 #[unsafe(no_mangle)]
-pub extern "C" fn gcflip_heap_num(
-    alloc: Global,
-    heap: &mut GcflipHeap,
-    m: u8,
-    d: u8,
-    n: u64,
-    reply: &mut GcflipReply,
-) -> u32
+pub extern "C" fn gcflip_heap_num(alloc: Global, heap: &mut GcflipHeap, m: u8, d: u8, n: u64) -> u32
     ensures call { IsCommandCall m (with_both (slot_at d) (number_in n) Op.Num)
-        heap.old.state heap.new.state reply.old reply.new result }
+        (λ reply. result ≡ reply_in_c reply) heap.old.state heap.new.state result }
     ensures memory { result ≢ 1 }
 {
-    command(alloc, heap, m, commands::num(d, n), reply)
+    let Some(mut opened) = heap.take(alloc) else {
+        return CLOSED;
+    };
+    let answer = commands::num(&mut opened, m, d, n);
+    *heap = GcflipHeap::full(opened);
+    answer
 }
 
 /// Puts nil into slot `d`.
 #[unsafe(no_mangle)]
-pub extern "C" fn gcflip_heap_nil(
-    alloc: Global,
-    heap: &mut GcflipHeap,
-    m: u8,
-    d: u8,
-    reply: &mut GcflipReply,
-) -> u32
+pub extern "C" fn gcflip_heap_nil(alloc: Global, heap: &mut GcflipHeap, m: u8, d: u8) -> u32
     ensures call { IsCommandCall m (option_map Op.Nil (slot_at d))
-        heap.old.state heap.new.state reply.old reply.new result }
+        (λ reply. result ≡ reply_in_c reply) heap.old.state heap.new.state result }
     ensures memory { result ≢ 1 }
 {
-    command(alloc, heap, m, commands::nil(d), reply)
+    let Some(mut opened) = heap.take(alloc) else {
+        return CLOSED;
+    };
+    let answer = commands::nil(&mut opened, m, d);
+    *heap = GcflipHeap::full(opened);
+    answer
 }
 
 /// Copies the value of slot `s` into slot `d`.
 #[unsafe(no_mangle)]
-pub extern "C" fn gcflip_heap_move(
-    alloc: Global,
-    heap: &mut GcflipHeap,
-    m: u8,
-    d: u8,
-    s: u8,
-    reply: &mut GcflipReply,
-) -> u32
+pub extern "C" fn gcflip_heap_move(alloc: Global, heap: &mut GcflipHeap, m: u8, d: u8, s: u8) -> u32
     ensures call { IsCommandCall m (with_both (slot_at d) (slot_at s) Op.Move)
-        heap.old.state heap.new.state reply.old reply.new result }
+        (λ reply. result ≡ reply_in_c reply) heap.old.state heap.new.state result }
     ensures memory { result ≢ 1 }
 {
-    command(alloc, heap, m, commands::moved(d, s), reply)
+    let Some(mut opened) = heap.take(alloc) else {
+        return CLOSED;
+    };
+    let answer = commands::moved(&mut opened, m, d, s);
+    *heap = GcflipHeap::full(opened);
+    answer
 }
 
-/// Reads field `i` of the object that slot `s` refers to into slot `d`.
+/// Reads field `i` of the object that slot `s` refers to into slot `d`, and writes the number that it saw, if any. It does not
+/// tell a raw object from another.
 #[unsafe(no_mangle)]
 pub extern "C" fn gcflip_heap_get(
     alloc: Global,
@@ -155,13 +113,19 @@ pub extern "C" fn gcflip_heap_get(
     d: u8,
     s: u8,
     i: u16,
-    reply: &mut GcflipReply,
+    number: &mut u64,
 ) -> u32
     ensures call { IsCommandCall m (with_both (slot_at d) (slot_at s) (λ d s. Op.Get d s i))
-        heap.old.state heap.new.state reply.old reply.new result }
+        (λ reply. (result ≡ fetched_in_c (fetched_of reply)) × (number.new ≡ number_after number.old (fetched_of reply))) heap.old.state heap.new.state result }
+    ensures silent { IsRefusal result → number.new ≡ number.old }
     ensures memory { result ≢ 1 }
 {
-    command(alloc, heap, m, commands::get(d, s, i), reply)
+    let Some(mut opened) = heap.take(alloc) else {
+        return CLOSED;
+    };
+    let answer = commands::get(&mut opened, m, d, s, i, number);
+    *heap = GcflipHeap::full(opened);
+    answer
 }
 
 /// Writes the value of slot `t` into field `i` of the object that slot `s` refers to. Allocates only while a collection
@@ -174,44 +138,99 @@ pub extern "C" fn gcflip_heap_put(
     s: u8,
     i: u16,
     t: u8,
-    reply: &mut GcflipReply,
 ) -> u32
     ensures call { IsCommandCall m (with_both (slot_at s) (slot_at t) (λ s t. Op.Put s i t))
-        heap.old.state heap.new.state reply.old reply.new result }
+        (λ reply. result ≡ reply_in_c reply) heap.old.state heap.new.state result }
     ensures memory { result ≡ 1 → IsSomeAnd heap.old.state (λ s. IsSome s.collection) }
 {
-    command(alloc, heap, m, commands::put(s, i, t), reply)
+    let Some(mut opened) = heap.take(alloc) else {
+        return CLOSED;
+    };
+    let answer = commands::put(&mut opened, m, s, i, t);
+    *heap = GcflipHeap::full(opened);
+    answer
 }
 
-/// Compares the values of slots `s` and `t`.
+/// Puts the number `n` into slot `t`, and then writes it into field `i` of the object that slot `s` refers to: what
+/// `gcflip_heap_num` and `gcflip_heap_put` do one after the other. Allocates only while a collection is open.
 #[unsafe(no_mangle)]
-pub extern "C" fn gcflip_heap_same(
+pub extern "C" fn gcflip_heap_put_number(
     alloc: Global,
     heap: &mut GcflipHeap,
     m: u8,
     s: u8,
+    i: u16,
     t: u8,
-    reply: &mut GcflipReply,
+    n: u64,
 ) -> u32
-    ensures call { IsCommandCall m (with_both (slot_at s) (slot_at t) Op.Same)
-        heap.old.state heap.new.state reply.old reply.new result }
-    ensures memory { result ≢ 1 }
+    ensures call { IsPutNumberCall m (slot_at s) i (slot_at t) (number_in n) heap.old.state heap.new.state result }
+    ensures memory { result ≡ 1 → IsSomeAnd heap.old.state (λ s. IsSome s.collection) }
 {
-    command(alloc, heap, m, commands::same(s, t), reply)
+    let Some(mut opened) = heap.take(alloc) else {
+        return CLOSED;
+    };
+    let answer = commands::put_number(&mut opened, m, s, i, t, n);
+    *heap = GcflipHeap::full(opened);
+    answer
 }
 
-/// Looks at the value of slot `s`.
+/// Makes an object of this kind with two fields, which take the values of slots `s` and `t`, and puts a reference to it
+/// into slot `d`: what `gcflip_heap_new` and two `gcflip_heap_put` do one after the other. Allocates only while a
+/// collection is open.
+#[unsafe(no_mangle)]
+pub extern "C" fn gcflip_heap_cons(
+    alloc: Global,
+    heap: &mut GcflipHeap,
+    m: u8,
+    d: u8,
+    kind: u8,
+    s: u8,
+    t: u8,
+) -> u32
+    ensures call { IsConsCall m (slot_at d) kind (slot_at s) (slot_at t) heap.old.state heap.new.state result }
+    ensures memory { result ≡ 1 → IsSomeAnd heap.old.state (λ s. IsSome s.collection) }
+{
+    let Some(mut opened) = heap.take(alloc) else {
+        return CLOSED;
+    };
+    let answer = commands::cons(&mut opened, m, d, kind, s, t);
+    *heap = GcflipHeap::full(opened);
+    answer
+}
+
+/// Compares the values of slots `s` and `t`.
+#[unsafe(no_mangle)]
+pub extern "C" fn gcflip_heap_same(alloc: Global, heap: &mut GcflipHeap, m: u8, s: u8, t: u8) -> u32
+    ensures call { IsCommandCall m (with_both (slot_at s) (slot_at t) Op.Same)
+        (λ reply. result ≡ reply_in_c reply) heap.old.state heap.new.state result }
+    ensures memory { result ≢ 1 }
+{
+    let Some(opened) = heap.take(alloc) else {
+        return CLOSED;
+    };
+    let answer = commands::same(&opened, m, s, t);
+    *heap = GcflipHeap::full(opened);
+    answer
+}
+
+/// Looks at the value of slot `s`, and writes what it saw.
 #[unsafe(no_mangle)]
 pub extern "C" fn gcflip_heap_look(
     alloc: Global,
     heap: &mut GcflipHeap,
     m: u8,
     s: u8,
-    reply: &mut GcflipReply,
+    view: &mut GcflipView,
 ) -> u32
     ensures call { IsCommandCall m (option_map Op.Look (slot_at s))
-        heap.old.state heap.new.state reply.old reply.new result }
+        (λ reply. (result ≡ reply_in_c reply) × (view.new ≡ view_after view.old reply)) heap.old.state heap.new.state result }
+    ensures silent { IsRefusal result → view.new ≡ view.old }
     ensures memory { result ≢ 1 }
 {
-    command(alloc, heap, m, commands::look(s), reply)
+    let Some(opened) = heap.take(alloc) else {
+        return CLOSED;
+    };
+    let answer = commands::look(&opened, m, s, view);
+    *heap = GcflipHeap::full(opened);
+    answer
 }

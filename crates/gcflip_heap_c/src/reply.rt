@@ -1,84 +1,128 @@
 //! Replies as C has them.
 
 ghost use Rattle.std.specs.Prelude.{◌≡◌};
-ghost use Rattle.gcflip_heap_c.specs.Replies.{words_in_c, view_in_c, reply_in_c, step_reply_in_c};
+ghost use Rattle.gcflip_heap_c.specs.Replies.{IsRefusal, seen_in_c, reply_in_c, fetched_in_c, number_after, view_in_c, view_after, step_reply_in_c, pairs_after};
 
+use crate::answer::DONE;
 use gc_copy::StepReply;
 use gc_graph::{Reply, View};
+use gc_heap::Fetched;
 
-/// A reply of a command or a step as C has it.
+/// What was seen of a value, as C has it. What does not apply is 0.
 #[repr(C)]
 #[derive(Clone, Copy, Debug, Drop, PartialEq, Eq)]
-pub struct GcflipReply {
-    /// Which reply it is.
-    pub reply: u32,
-    /// What was seen: 0 nil, 1 a number, 2 an object, 3 a raw object.
-    pub view: u32,
+pub struct GcflipView {
     /// The kind of the object that was seen.
     pub kind: u32,
-    /// The number of its fields. Of a flip the number of pairs.
+    /// The number of its fields.
     pub count: u32,
     /// The number that was seen.
     pub number: u64,
 }
 
-fn words(reply: u32, view: u32, kind: u32, count: u32, number: u64) -> GcflipReply
-    ensures { result ≡ words_in_c reply view kind count number }
+fn seen(view: &View) -> u32
+    ensures { result ≡ seen_in_c view.now }
 {
-    GcflipReply {
-        reply,
-        view,
+    match view {
+        View::Nil => 24,
+        View::Num(_) => 25,
+        View::Obj { .. } => 26,
+        View::RawObj { .. } => 27,
+    }
+}
+
+/// Returns the number of a mutator's reply.
+pub(crate) fn of_reply(reply: &Reply) -> u32
+    ensures value { result ≡ reply_in_c reply.now }
+    ensures made { ¬ IsRefusal result }
+{
+    match reply {
+        Reply::Done => DONE,
+        Reply::Made => 16,
+        Reply::Full => 17,
+        Reply::NoObject => 18,
+        Reply::NoField => 19,
+        Reply::NoNumber => 20,
+        Reply::Yes => 21,
+        Reply::No => 22,
+        Reply::Saw(view) => seen(view),
+    }
+}
+
+/// Returns the number of what a `get` saw, and writes the number that it saw, if any.
+pub(crate) fn of_fetched(fetched: Fetched, number: &mut u64) -> u32
+    ensures value { result ≡ fetched_in_c fetched }
+    ensures number { number.new ≡ number_after number.old fetched }
+    ensures made { ¬ IsRefusal result }
+{
+    match fetched {
+        Fetched::NoObject => 18,
+        Fetched::NoField => 19,
+        Fetched::Nil => 24,
+        Fetched::Num(n) => {
+            *number = n.get();
+            25
+        }
+        Fetched::Object => 26,
+    }
+}
+
+fn view_of(view: &View) -> GcflipView
+    ensures { result ≡ view_in_c view.now }
+{
+    let (kind, count, number) = match view {
+        View::Nil => (0, 0, 0),
+        View::Num(n) => (0, 0, n.get()),
+        View::Obj { kind, len } => (u32::from(*kind), u32::from(*len), 0),
+        View::RawObj { kind, len } => (u32::from(*kind), u32::from(*len), 0),
+    };
+    GcflipView {
         kind,
         count,
         number,
     }
 }
 
-fn of_view(view: View) -> GcflipReply
-    ensures { result ≡ view_in_c view }
+/// Returns the number of the reply to a `look`, and writes what it saw.
+pub(crate) fn of_look(reply: &Reply, view: &mut GcflipView) -> u32
+    ensures value { result ≡ reply_in_c reply.now }
+    ensures view { view.new ≡ view_after view.old reply.now }
+    ensures made { ¬ IsRefusal result }
 {
-    match view {
-        View::Nil => words(6, 0, 0, 0, 0),
-        View::Num(n) => words(6, 1, 0, 0, n.get()),
-        View::Obj { kind, len } => words(6, 2, u32::from(kind), u32::from(len), 0),
-        View::RawObj { kind, len } => words(6, 3, u32::from(kind), u32::from(len), 0),
+    if let Reply::Saw(saw) = reply {
+        *view = view_of(saw);
+    }
+    of_reply(reply)
+}
+
+/// Returns the number of the collector's reply.
+pub(crate) fn of_step(reply: StepReply) -> u32
+    ensures value { result ≡ step_reply_in_c reply }
+    ensures made { ¬ IsRefusal result }
+{
+    match reply {
+        StepReply::Busy => 32,
+        StepReply::Begun => 33,
+        StepReply::Idle => 34,
+        StepReply::Clean => 35,
+        StepReply::NoRoom => 36,
+        StepReply::Copied => 37,
+        StepReply::Passed => 38,
+        StepReply::Scanned => 39,
+        StepReply::Applied => 40,
+        StepReply::NotReady => 41,
+        StepReply::Refused => 42,
+        StepReply::Flipped { .. } => 43,
+        StepReply::Dropped => 44,
     }
 }
 
-/// Returns a mutator's reply as C has it.
-pub(crate) fn of_reply(reply: Reply) -> GcflipReply
-    ensures { result ≡ reply_in_c reply }
+/// Returns the number of pairs if the step flipped, else what was there before.
+pub(crate) fn pairs_of(reply: StepReply, before: u32) -> u32
+    ensures { result ≡ pairs_after before reply }
 {
     match reply {
-        Reply::Full => words(0, 0, 0, 0, 0),
-        Reply::Made => words(1, 0, 0, 0, 0),
-        Reply::Done => words(2, 0, 0, 0, 0),
-        Reply::NoObject => words(3, 0, 0, 0, 0),
-        Reply::NoField => words(4, 0, 0, 0, 0),
-        Reply::NoNumber => words(5, 0, 0, 0, 0),
-        Reply::Saw(view) => of_view(view),
-        Reply::Yes => words(7, 0, 0, 0, 0),
-        Reply::No => words(8, 0, 0, 0, 0),
-    }
-}
-
-/// Returns the collector's reply as C has it.
-pub(crate) fn of_step(reply: StepReply) -> GcflipReply
-    ensures { result ≡ step_reply_in_c reply }
-{
-    match reply {
-        StepReply::Busy => words(16, 0, 0, 0, 0),
-        StepReply::Begun => words(17, 0, 0, 0, 0),
-        StepReply::Idle => words(18, 0, 0, 0, 0),
-        StepReply::Clean => words(19, 0, 0, 0, 0),
-        StepReply::NoRoom => words(20, 0, 0, 0, 0),
-        StepReply::Copied => words(21, 0, 0, 0, 0),
-        StepReply::Passed => words(22, 0, 0, 0, 0),
-        StepReply::Scanned => words(23, 0, 0, 0, 0),
-        StepReply::Applied => words(24, 0, 0, 0, 0),
-        StepReply::NotReady => words(25, 0, 0, 0, 0),
-        StepReply::Refused => words(26, 0, 0, 0, 0),
-        StepReply::Flipped { pairs } => words(27, 0, 0, pairs, 0),
-        StepReply::Dropped => words(28, 0, 0, 0, 0),
+        StepReply::Flipped { pairs } => pairs,
+        _ => before,
     }
 }

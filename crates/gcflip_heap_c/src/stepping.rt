@@ -3,10 +3,11 @@
 ghost use Rattle.std.specs.Prelude.{◌≡◌};
 ghost use Rattle.gc_copy.specs.declared.step.Step.{Step};
 ghost use Rattle.gcflip_heap_c.specs.Steps.{IsStepCall, Flips, HasRoom};
+ghost use Rattle.gcflip_heap_c.specs.Replies.{IsRefusal, step_reply_in_c, pairs_after};
 
-use crate::answer::{CLOSED, DONE, NO_MEMORY, OUT_OF_RANGE};
+use crate::answer::{CLOSED, NO_MEMORY, OUT_OF_RANGE};
 use crate::handle::GcflipHeap;
-use crate::reply::{GcflipReply, of_step};
+use crate::reply::{of_step, pairs_of};
 use gc_check::Sequential;
 use gc_core::Keep;
 use gc_words::MOST_WORDS;
@@ -14,12 +15,8 @@ use std::alloc::Global;
 
 /// Opens a collection whose new space is as large as the heap. Allocates the new space and the logs.
 #[unsafe(no_mangle)]
-pub extern "C" fn gcflip_heap_begin(
-    alloc: Global,
-    heap: &mut GcflipHeap,
-    reply: &mut GcflipReply,
-) -> u32
-    ensures { IsStepCall Step.Begin heap.old.state heap.new.state reply.old reply.new result }
+pub extern "C" fn gcflip_heap_begin(alloc: Global, heap: &mut GcflipHeap) -> u32
+    ensures { IsStepCall Step.Begin (λ reply. result ≡ step_reply_in_c reply) heap.old.state heap.new.state result }
 {
     let Some(mut opened) = heap.take(alloc) else {
         return CLOSED;
@@ -29,19 +26,13 @@ pub extern "C" fn gcflip_heap_begin(
     let Ok(begun) = begun else {
         return NO_MEMORY;
     };
-    *reply = of_step(begun);
-    DONE
+    of_step(begun)
 }
 
 /// Opens a collection whose new space has `size` words, 1 to 1048576. Allocates the new space and the logs.
 #[unsafe(no_mangle)]
-pub extern "C" fn gcflip_heap_begin_sized(
-    alloc: Global,
-    heap: &mut GcflipHeap,
-    size: u32,
-    reply: &mut GcflipReply,
-) -> u32
-    ensures { IsStepCall (Step.BeginSized size) heap.old.state heap.new.state reply.old reply.new result }
+pub extern "C" fn gcflip_heap_begin_sized(alloc: Global, heap: &mut GcflipHeap, size: u32) -> u32
+    ensures { IsStepCall (Step.BeginSized size) (λ reply. result ≡ step_reply_in_c reply) heap.old.state heap.new.state result }
 {
     let Some(mut opened) = heap.take(alloc) else {
         return CLOSED;
@@ -55,56 +46,42 @@ pub extern "C" fn gcflip_heap_begin_sized(
     let Ok(begun) = begun else {
         return NO_MEMORY;
     };
-    *reply = of_step(begun);
-    DONE
+    of_step(begun)
 }
 
 /// Replicates the target of the first root whose target has no replica.
 #[unsafe(no_mangle)]
-pub extern "C" fn gcflip_heap_roots(
-    alloc: Global,
-    heap: &mut GcflipHeap,
-    reply: &mut GcflipReply,
-) -> u32
-    ensures call { IsStepCall Step.Roots heap.old.state heap.new.state reply.old reply.new result }
-    ensures room { result ≡ 0 → HasRoom heap.old.state reply.new }
+pub extern "C" fn gcflip_heap_roots(alloc: Global, heap: &mut GcflipHeap) -> u32
+    ensures call { IsStepCall Step.Roots (λ reply. result ≡ step_reply_in_c reply) heap.old.state heap.new.state result }
+    ensures room { ¬ IsRefusal result → HasRoom heap.old.state result }
 {
     let Some(mut opened) = heap.take(alloc) else {
         return CLOSED;
     };
-    *reply = of_step(opened.roots());
+    let reply = opened.roots();
     *heap = GcflipHeap::full(opened);
-    DONE
+    of_step(reply)
 }
 
 /// Brings the field at the scan pointer up to date, or moves on to the next replica.
 #[unsafe(no_mangle)]
-pub extern "C" fn gcflip_heap_scan(
-    alloc: Global,
-    heap: &mut GcflipHeap,
-    reply: &mut GcflipReply,
-) -> u32
-    ensures call { IsStepCall Step.Scan heap.old.state heap.new.state reply.old reply.new result }
-    ensures room { result ≡ 0 → HasRoom heap.old.state reply.new }
+pub extern "C" fn gcflip_heap_scan(alloc: Global, heap: &mut GcflipHeap) -> u32
+    ensures call { IsStepCall Step.Scan (λ reply. result ≡ step_reply_in_c reply) heap.old.state heap.new.state result }
+    ensures room { ¬ IsRefusal result → HasRoom heap.old.state result }
 {
     let Some(mut opened) = heap.take(alloc) else {
         return CLOSED;
     };
-    *reply = of_step(opened.scan());
+    let reply = opened.scan();
     *heap = GcflipHeap::full(opened);
-    DONE
+    of_step(reply)
 }
 
 /// Applies the oldest entry of mutator `m`'s log.
 #[unsafe(no_mangle)]
-pub extern "C" fn gcflip_heap_apply(
-    alloc: Global,
-    heap: &mut GcflipHeap,
-    m: u8,
-    reply: &mut GcflipReply,
-) -> u32
-    ensures call { IsStepCall (Step.Apply m) heap.old.state heap.new.state reply.old reply.new result }
-    ensures room { result ≡ 0 → HasRoom heap.old.state reply.new }
+pub extern "C" fn gcflip_heap_apply(alloc: Global, heap: &mut GcflipHeap, m: u8) -> u32
+    ensures call { IsStepCall (Step.Apply m) (λ reply. result ≡ step_reply_in_c reply) heap.old.state heap.new.state result }
+    ensures room { ¬ IsRefusal result → HasRoom heap.old.state result }
 {
     let Some(mut opened) = heap.take(alloc) else {
         return CLOSED;
@@ -113,22 +90,20 @@ pub extern "C" fn gcflip_heap_apply(
         *heap = GcflipHeap::full(opened);
         return OUT_OF_RANGE;
     }
-    *reply = of_step(opened.apply_log(m));
+    let reply = opened.apply_log(m);
     *heap = GcflipHeap::full(opened);
-    DONE
+    of_step(reply)
 }
 
 /// Flips if the open collection is ready and the checker accepts its certificate. Allocates the certificate, the moved
 /// roots and the checker's tables, and frees them again.
 #[unsafe(no_mangle)]
-pub extern "C" fn gcflip_heap_flip(
-    alloc: Global,
-    heap: &mut GcflipHeap,
-    reply: &mut GcflipReply,
-) -> u32
-    ensures call { IsStepCall Step.Flip heap.old.state heap.new.state reply.old reply.new result }
+pub extern "C" fn gcflip_heap_flip(alloc: Global, heap: &mut GcflipHeap, pairs: &mut u32) -> u32
+    ensures call { IsStepCall Step.Flip
+        (λ reply. (result ≡ step_reply_in_c reply) × (pairs.new ≡ pairs_after pairs.old reply)) heap.old.state heap.new.state result }
     // It flips only what the checker accepts. A ready collection passes.
-    ensures flips { result ≡ 0 → Flips heap.old.state heap.new.state reply.new }
+    ensures flips { ¬ IsRefusal result → Flips heap.old.state heap.new.state result }
+    ensures silent { IsRefusal result → pairs.new ≡ pairs.old }
 {
     let Some(mut opened) = heap.take(alloc) else {
         return CLOSED;
@@ -138,23 +113,19 @@ pub extern "C" fn gcflip_heap_flip(
     let Ok(flip) = flip else {
         return NO_MEMORY;
     };
-    *reply = of_step(flip.reply);
-    DONE
+    *pairs = pairs_of(flip.reply, *pairs);
+    of_step(flip.reply)
 }
 
 /// Frees the new space and the logs of the open collection.
 #[unsafe(no_mangle)]
-pub extern "C" fn gcflip_heap_drop(
-    alloc: Global,
-    heap: &mut GcflipHeap,
-    reply: &mut GcflipReply,
-) -> u32
-    ensures { IsStepCall Step.Drop heap.old.state heap.new.state reply.old reply.new result }
+pub extern "C" fn gcflip_heap_drop(alloc: Global, heap: &mut GcflipHeap) -> u32
+    ensures { IsStepCall Step.Drop (λ reply. result ≡ step_reply_in_c reply) heap.old.state heap.new.state result }
 {
     let Some(mut opened) = heap.take(alloc) else {
         return CLOSED;
     };
-    *reply = of_step(opened.give_up());
+    let reply = opened.give_up();
     *heap = GcflipHeap::full(opened);
-    DONE
+    of_step(reply)
 }

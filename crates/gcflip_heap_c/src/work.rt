@@ -7,7 +7,7 @@ ghost use Rattle.gcflip_heap_c.specs.Work.{IsRun, IsEnd, IsWork, IsWorkCall, goe
 
 use crate::answer::{CLOSED, DONE, NO_MEMORY, OUT_OF_RANGE};
 use crate::handle::GcflipHeap;
-use crate::reply::{GcflipReply, of_step};
+use crate::reply::{of_step, pairs_of};
 use gc_check::Sequential;
 use gc_copy::StepReply;
 use gc_core::CollectedHeap;
@@ -22,8 +22,10 @@ pub struct GcflipWork {
     pub steps: u32,
     /// The number of words that replicas took in the new space (to-space).
     pub copied: u32,
-    /// The reply to the last step.
-    pub last: GcflipReply,
+    /// The number of the reply to the last step.
+    pub last: u32,
+    /// The number of pairs if the last step flipped, else 0.
+    pub pairs: u32,
 }
 
 /// The number of useful steps that were made, and the reply to the last one.
@@ -33,6 +35,7 @@ struct Run {
 }
 
 /// Makes the useful step.
+#[inline(always)]
 fn one_step(heap: &mut CollectedHeap) -> Result<StepReply, NoMemory>
     ensures step { IfOk result (λ reply. collect heap.old (useful_step heap.old) ≡ (reply, heap.new)) }
     ensures refused { OnErr result (heap.new ≡ heap.old) }
@@ -105,6 +108,7 @@ fn work_on(heap: &mut CollectedHeap, most: u32) -> Result<GcflipWork, NoMemory>
         steps,
         copied: end_behind(heap, reply).saturating_sub(start),
         last: of_step(reply),
+        pairs: pairs_of(reply, 0),
     })
 }
 

@@ -1,4 +1,4 @@
-ghost use Rattle.std.specs.Prelude.{◌≡◌, ◌<◌, ◌≤◌, ◌++◌, ◌∷◌, [], ℕ, length, OnOk};
+ghost use Rattle.std.specs.Prelude.{◌≡◌, ◌<◌, ◌≤◌, ◌+◌, ◌++◌, ◌∷◌, [], ℕ, length, OnOk};
 ghost use Rattle.gc_heap.specs.Heap.{HeapWords, graph_in};
 ghost use Rattle.gc_copy.specs.Steps.{log_at, with_log, first_log};
 ghost use Rattle.gc_copy.specs.Belonging.{HasField};
@@ -19,7 +19,20 @@ impl Collection {
         ensures space { self.new.space ≡ self.old.space }
         ensures belongs { (heap : HeapWords) → BelongsTo heap self.old → BelongsTo heap self.new }
     {
-        self.logs[m as usize].reserve()
+        self.reserve_more(m, 1)
+    }
+
+    /// Makes room for this many more entries in mutator `m`'s log. No entry changes, and no log loses room.
+    #[inline(always)]
+    pub fn reserve_more(&mut self, m: u8, more: usize) -> Result<(), NoMemory>
+        requires { m < length self.old.logs }
+        ensures room { OnOk result (more ≤ spare_of self.new m) }
+        ensures kept { (k : ℕ) → spare_of self.old k ≤ spare_of self.new k }
+        ensures collection { collection_in self.new ≡ collection_in self.old }
+        ensures space { self.new.space ≡ self.old.space }
+        ensures belongs { (heap : HeapWords) → BelongsTo heap self.old → BelongsTo heap self.new }
+    {
+        self.logs[m as usize].reserve(more)
     }
 
     /// Logs a field that mutator `m` wrote. `reserve` has made the room.
@@ -29,6 +42,7 @@ impl Collection {
         ensures collection { collection_in self.new
             ≡ with_log (collection_in self.old) m (log_at (collection_in self.old) m ++ (object.0, field) ∷ []) }
         ensures space { self.new.space ≡ self.old.space }
+        ensures spare { spare_of self.old m ≤ spare_of self.new m + 1 }
         // What is noted may differ from then on.
         ensures belongs { (heap : HeapWords) → HasField (graph_in heap).objects object.0 field
             → BelongsToBut ((object.0, field) ∷ []) heap self.old → BelongsTo heap self.new }

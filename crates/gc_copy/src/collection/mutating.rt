@@ -1,15 +1,18 @@
-ghost use Rattle.std.specs.Prelude.{◌≡◌, ◌<◌, ◌≤◌};
+ghost use Rattle.std.specs.Prelude.{◌≡◌, ◌<◌, ◌≤◌, ◌+◌};
 ghost use Rattle.std.specs.Option.{option_map, option_to_list};
 ghost use Rattle.gc_heap.specs.Heap.{graph_in};
 ghost use Rattle.gc_copy.specs.Steps.{mutate, written, WritesField};
 ghost use Rattle.gc_copy.specs.Entries.{entry_in};
 ghost use Rattle.gc_copy.specs.Internal.Entries.{if_done};
 ghost use Rattle.gc_copy.specs.Words.{open_state, spare_of, BelongsTo};
+ghost use Rattle.gc_graph.specs.Slots.{SlotName};
+ghost use Rattle.gc_graph.specs.declared.command.Op.{Op};
 ghost use Rattle.gc_graph.specs.declared.reply.Reply.{Reply};
 
 use super::Collection;
+use crate::laws::commands_leave_collections;
 use crate::log::LogEntry;
-use gc_graph::{Op, Reply};
+use gc_graph::{Op, Reply, Slot};
 use gc_heap::Heap;
 
 impl Collection {
@@ -23,10 +26,30 @@ impl Collection {
         ensures belongs { BelongsTo heap.new self.new }
         ensures mutators { heap.new.mutators ≡ heap.old.mutators }
     {
+        commands_leave_collections();
         // Here the prover learns that the heap is sound.
         let _ = heap.space();
-        let put = put_field(heap, m, op);
-        let reply = heap.apply(m, op);
+        match *op {
+            Op::Put { s, i, t } => self.put(heap, m, s, i, t),
+            _ => heap.apply(m, op),
+        }
+    }
+
+    /// Performs mutator `m`'s `Put`, and logs the field if it wrote it (the write barrier). `reserve` has made room in the log.
+    #[inline(always)]
+    pub fn put(&mut self, heap: &mut Heap, m: u8, s: Slot, i: u16, t: Slot) -> Reply
+        requires belongs { BelongsTo heap.old self.old }
+        requires mutator { m < heap.old.mutators }
+        requires room { 1 ≤ spare_of self.old m }
+        ensures step { mutate (open_state heap.old self.old) m (Op.Put s i t) ≡ (result, open_state heap.new self.new) }
+        ensures belongs { BelongsTo heap.new self.new }
+        ensures mutators { heap.new.mutators ≡ heap.old.mutators }
+        ensures spare { spare_of self.old m ≤ spare_of self.new m + 1 }
+    {
+        // Here the prover learns that the heap is sound.
+        let _ = heap.space();
+        let put = put_field(heap, m, s, i);
+        let reply = heap.put(m, s, i, t);
         let Some(entry) = written_field(put, &reply) else {
             return reply;
         };
@@ -35,18 +58,15 @@ impl Collection {
     }
 }
 
-// Returns the field that the command writes if its reply is `Done`.
-fn put_field(heap: &Heap, m: u8, op: &Op) -> Option<LogEntry>
+// Returns the field that a put writes if its reply is `Done`.
+fn put_field(heap: &Heap, m: u8, s: Slot, i: u16) -> Option<LogEntry>
     requires { m < heap.now.mutators }
-    ensures { option_to_list (option_map entry_in result) ≡ written (graph_in heap.now) m op.now Reply.Done }
+    ensures { (t : SlotName) → option_to_list (option_map entry_in result) ≡ written (graph_in heap.now) m (Op.Put s i t) Reply.Done }
 {
-    match *op {
-        Op::Put { s, i, t: _ } => Some(LogEntry {
-            object: heap.target(m, s)?,
-            field: i,
-        }),
-        _ => None,
-    }
+    Some(LogEntry {
+        object: heap.target(m, s)?,
+        field: i,
+    })
 }
 
 // Returns the field that was written, given the reply.

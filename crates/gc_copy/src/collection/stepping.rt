@@ -40,6 +40,7 @@ impl Collection {
 
     /// Brings the field at the scan pointer up to date (`Scanned` or `NoRoom`), or moves on to the next replica (`Passed`; at once
     /// from a raw one). Returns `Clean` if all is scanned. Does not allocate.
+    #[inline(always)]
     pub fn scan(&mut self, heap: &mut Heap) -> StepReply
         requires { BelongsTo heap.old self.old }
         ensures step { collect (open_state heap.old self.old) Step.Scan ≡ (result, open_state heap.new self.new) }

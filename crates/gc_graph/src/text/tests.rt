@@ -1,6 +1,4 @@
-use crate::text::{
-    Front, Message, Printer, ReadFault, Sink, Source, Tokens, cut, number, read_all,
-};
+use crate::text::{Front, Message, Pieces, Printer, ReadFault, Sink, Source, Tokens, cut, number};
 use std::alloc::Global;
 use std::io;
 use std::io::Read;
@@ -23,10 +21,20 @@ impl Read for Zeroes {
     }
 }
 
-/// Returns how many bytes one read takes of `left`, and how many are left then.
+/// Reads on until the end was met, 64 times at most. Returns how many bytes wait then.
+fn waiting_at_end(pieces: &mut Pieces, source: &mut Source<Zeroes>) -> Result<usize, ReadFault> {
+    for _ in 0..64 {
+        if !pieces.more(source)? {
+            break;
+        }
+    }
+    Ok(pieces.waiting().len())
+}
+
+/// Reads all of `left` bytes. Returns how many there were, and how many of them one more read takes.
 fn had(alloc: Global, left: usize, limit: usize) -> (Result<usize, ReadFault>, usize) {
     let mut source = Source::new(Zeroes { left, piece: 1 });
-    let had = read_all(alloc, &mut source, limit).map(|bytes| bytes.len());
+    let had = waiting_at_end(&mut Pieces::new(alloc, limit), &mut source);
     let mut rest = [0u8; 64];
     (had, source.read(&mut rest).unwrap_or(0))
 }
@@ -40,6 +48,23 @@ fn all_bytes_up_to_the_limit(rt: HostRuntime) {
         (Err(ReadFault::TooLarge), 1)
     );
     assert_eq!(rt; had(rt.alloc(), 1, 0), (Err(ReadFault::TooLarge), 0));
+}
+
+/// The bytes that were taken go, and the others stay in their order.
+#[test]
+fn bytes_wait_until_they_are_taken(rt: HostRuntime) -> Result<(), ReadFault> {
+    let mut source = Source::new(b"one two".as_slice());
+    let mut pieces = Pieces::new(rt.alloc(), 7);
+    assert_eq!(rt; pieces.waiting(), b"".as_slice());
+    assert!(rt; pieces.more(&mut source)?);
+    assert_eq!(rt; pieces.waiting(), b"one two".as_slice());
+    if pieces.waiting().len() == 7 {
+        pieces.leave(3);
+    }
+    assert_eq!(rt; pieces.waiting(), b"two".as_slice());
+    assert!(rt; !pieces.more(&mut source)?);
+    assert_eq!(rt; pieces.waiting(), b"two".as_slice());
+    Ok(())
 }
 
 #[test]

@@ -2,12 +2,13 @@
 //! gives the reply of a run in which every allocation succeeds, and the history contains it once.
 
 ghost use Rattle.std.specs.Prelude.{◌≡◌, ◌<◌, IfOk};
-ghost use Rattle.gc_copy.specs.Runs.{IsStep};
 
+use super::rows::{Row, new, perform};
 use crate::World;
 use gc_copy::{Step, StepReply};
-use gc_graph::{NoMemory, Number, Op, Reply, Slot, View};
+use gc_graph::{NoMemory, Number, Op, Reply, Slot};
 use std::alloc::Global;
+use std::process::Abort;
 use std::test::Fail;
 use std::thread::Threads;
 
@@ -21,89 +22,68 @@ fn open_again(alloc: Global) -> Result<World, NoMemory>
     }
 }
 
-fn mutate_again(world: &mut World, op: &Op) -> Result<Reply, NoMemory>
+/// Performs a row. Retries if an allocation fails.
+fn perform_again(
+    rt: &(impl Threads + Sync + Abort),
+    world: &mut World,
+    in_threads: bool,
+    place: usize,
+    row: &Row,
+) -> Result<(), NoMemory>
     requires { 0 < world.old.mutators }
     ensures { world.new.mutators ≡ world.old.mutators }
 {
-    match world.mutate(0, op) {
-        Ok(reply) => Ok(reply),
-        Err(NoMemory) => world.mutate(0, op),
+    match perform(rt, world, in_threads, place, row) {
+        Ok(()) => Ok(()),
+        Err(NoMemory) => perform(rt, world, in_threads, place, row),
     }
 }
 
-fn collect_again(world: &mut World, step: Step) -> Result<StepReply, NoMemory>
-    requires { IsStep world.old.mutators step }
-    ensures { world.new.mutators ≡ world.old.mutators }
-{
-    match world.collect(step) {
-        Ok(reply) => Ok(reply),
-        Err(NoMemory) => world.collect(step),
-    }
-}
-
-fn collect_par_again(
-    rt: &(impl Threads + Sync),
+/// Performs the rows in order, as `play` does. Retries each row whose allocation fails.
+fn play_again(
+    rt: &(impl Threads + Sync + Abort),
     world: &mut World,
-    step: Step,
-) -> Result<StepReply, NoMemory>
-    requires { IsStep world.old.mutators step }
+    in_threads: bool,
+    rows: &[Row],
+) -> Result<(), NoMemory>
+    requires { 0 < world.old.mutators }
     ensures { world.new.mutators ≡ world.old.mutators }
 {
-    match world.collect_par(rt, step) {
-        Ok(reply) => Ok(reply),
-        Err(NoMemory) => world.collect_par(rt, step),
+    for (place, row) in rows.iter().enumerate() {
+        perform_again(rt, world, in_threads, place, row)?;
     }
-}
-
-fn useful_again(
-    rt: &(impl Threads + Sync),
-    world: &mut World,
-) -> Result<(Step, StepReply), NoMemory>
-    ensures { world.new.mutators ≡ world.old.mutators }
-{
-    match world.collect_useful(rt) {
-        Ok(made) => Ok(made),
-        Err(NoMemory) => world.collect_useful(rt),
-    }
+    Ok(())
 }
 
 /// Returns a world whose open collection is ready to flip, after eight events.
-fn ready(alloc: Global) -> Result<World, NoMemory>
+fn ready(rt: &(impl Threads + Sync + Abort), alloc: Global) -> Result<World, Fail>
     ensures { IfOk result (λ world. world.mutators ≡ 1) }
 {
-    let _named = View::Nil;
+    let r0 = Slot::own(0).ok_or("slot")?;
+    let r1 = Slot::own(1).ok_or("slot")?;
+    let nine = Number::new(9).ok_or("number")?;
+    let put = Op::Put { s: r0, i: 0, t: r1 };
     let mut world = open_again(alloc)?;
-    let Some(r0) = Slot::own(0) else {
-        return Ok(world);
-    };
-    let Some(r1) = Slot::own(1) else {
-        return Ok(world);
-    };
-    let Some(nine) = Number::new(9) else {
-        return Ok(world);
-    };
-    let new = Op::New {
-        d: r0,
-        kind: 1,
-        len: 1,
-    };
-    let _ = mutate_again(&mut world, &new)?;
-    let _ = mutate_again(&mut world, &Op::Num { d: r1, n: nine })?;
-    let _ = collect_again(&mut world, Step::Begin)?;
-    let _ = collect_again(&mut world, Step::Roots)?;
-    let _ = collect_again(&mut world, Step::Scan)?;
-    let _ = mutate_again(&mut world, &Op::Put { s: r0, i: 0, t: r1 })?;
-    let _ = collect_again(&mut world, Step::Scan)?;
-    let _ = collect_again(&mut world, Step::Apply(0))?;
+    let rows = [
+        Row::Command(new(r0, 1, 1), Reply::Made),
+        Row::Command(Op::Num { d: r1, n: nine }, Reply::Done),
+        Row::Step(Step::Begin, StepReply::Begun),
+        Row::Step(Step::Roots, StepReply::Copied),
+        Row::Step(Step::Scan, StepReply::Scanned),
+        Row::Command(put, Reply::Done),
+        Row::Step(Step::Scan, StepReply::Passed),
+        Row::Step(Step::Apply(0), StepReply::Applied),
+    ];
+    play_again(rt, &mut world, false, &rows)?;
     Ok(world)
 }
 
 #[test]
 fn a_flip_is_made_again(rt: HostRuntime) -> Result<(), Fail> {
-    let mut world = ready(rt.alloc())?;
+    let mut world = ready(&rt, rt.alloc())?;
     assert_eq!(rt; world.history().len(), 8);
-    let flipped = collect_again(&mut world, Step::Flip)?;
-    assert_eq!(rt; flipped, StepReply::Flipped { pairs: 1 });
+    let rows = [Row::Step(Step::Flip, StepReply::Flipped { pairs: 1 })];
+    play_again(&rt, &mut world, false, &rows)?;
     assert_eq!(rt; world.history().len(), 9);
     let file = world.take_flip().ok_or("no pair")?;
     assert_eq!(rt; file.new.roots.get(16).copied(), Some(2));
@@ -112,9 +92,9 @@ fn a_flip_is_made_again(rt: HostRuntime) -> Result<(), Fail> {
 
 #[test]
 fn a_flip_in_threads_is_made_again(rt: HostRuntime) -> Result<(), Fail> {
-    let mut world = ready(rt.alloc())?;
-    let flipped = collect_par_again(&rt, &mut world, Step::Flip)?;
-    assert_eq!(rt; flipped, StepReply::Flipped { pairs: 1 });
+    let mut world = ready(&rt, rt.alloc())?;
+    let rows = [Row::Step(Step::Flip, StepReply::Flipped { pairs: 1 })];
+    play_again(&rt, &mut world, true, &rows)?;
     assert_eq!(rt; world.history().len(), 9);
     assert!(rt; world.take_flip().is_some());
     Ok(())
@@ -122,11 +102,12 @@ fn a_flip_in_threads_is_made_again(rt: HostRuntime) -> Result<(), Fail> {
 
 #[test]
 fn useful_steps_are_made_again(rt: HostRuntime) -> Result<(), Fail> {
-    let mut world = ready(rt.alloc())?;
-    let flipped = (Step::Flip, StepReply::Flipped { pairs: 1 });
-    assert!(rt; useful_again(&rt, &mut world)? == flipped);
-    let begun = (Step::Begin, StepReply::Begun);
-    assert!(rt; useful_again(&rt, &mut world)? == begun);
+    let mut world = ready(&rt, rt.alloc())?;
+    let rows = [
+        Row::Useful(Step::Flip, StepReply::Flipped { pairs: 1 }),
+        Row::Useful(Step::Begin, StepReply::Begun),
+    ];
+    play_again(&rt, &mut world, true, &rows)?;
     assert_eq!(rt; world.history().len(), 10);
     Ok(())
 }

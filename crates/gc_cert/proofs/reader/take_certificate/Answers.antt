@@ -10,34 +10,41 @@ use Rattle.gc_cert.specs.Internal.Sections.{Nothing, alone, AreAll}
 use Rattle.gc_cert.proofs.Forms.{alone_delimits, all_delimit}
 use Rattle.gc_cert.proofs.LineForms.{fixed_form, count_form, pair_form}
 use Rattle.gc_cert.proofs.Parts.{none_taken, CertificateSection, pairs_line, certificate_count, certificate_pairs, up_to_end, certificate_end, certificate_taken}
-use Rattle.gc_cert.proofs.Stops.{stop_within, taken_then}
+use Rattle.gc_cert.proofs.ReadPieces.{end_within}
+use Rattle.gc_cert.proofs.Stops.{taken_then}
 use Rattle.gc_cert.proofs.reader.take_certificate.Goals as goal
 
-pub returns-in_err-count : goal.returns-in_err-count
-returns-in_err-count c =
-    let p = err_from_is_err_and c.from_residual.result c.from_residual.ensures.1 in
-    rw (p.1, p.2) (stop_within (λ n. n ≤ 524287) (alone (count_line (codes "pairs"))) CertificateSection [] c.args.lines.now c.args.lines.now c.in_err-count.field-0.0
-    (alone_delimits (λ n. n ≤ 524287) (count_line (codes "pairs")) (λ line. count_of (codes "pairs") 524287 (tokens_of line)) (count_form (codes "pairs") 524287 refl (omega arith))) certificate_count (none_taken c.args.lines.now) c.in_err-count.ensures)
+pub returns-in_err-count-clause-place : goal.returns-in_err-count-clause-place
+returns-in_err-count-clause-place g c text p h =
+    let fault = err_from_is_err_and c.from_residual.result c.from_residual.ensures.1 in
+    rw (fault.1, fault.2) (end_within (λ n. n ≤ 524287) (alone (count_line (codes "pairs"))) CertificateSection [] text p p _ _
+    (alone_delimits (λ n. n ≤ 524287) (count_line (codes "pairs")) (λ line. count_of (codes "pairs") 524287 (tokens_of line)) (count_form (codes "pairs") 524287 refl (omega arith))) certificate_count (none_taken p) (c.in_err-count.ensures.place text p h))
 
-pub returns-in_err-pairs : goal.returns-in_err-pairs
-returns-in_err-pairs c =
-    let p = err_from_is_err_and c.from_residual-in_err-pairs.result c.from_residual-in_err-pairs.ensures.1 in
-    rw (p.1, p.2) (stop_within (AreAll AreAddresses c.in_ok-count.count) (map pair_line) CertificateSection (pairs_line c.in_ok-count.count ∷ []) c.args.lines.now c.take_count.new.lines c.in_err-pairs.field-0.0
-    (all_delimit AreAddresses pair_line (λ line. pair_of (tokens_of line)) c.in_ok-count.count pair_form) (certificate_pairs c.in_ok-count.count c.in_ok-count.ensures.0) c.in_ok-count.ensures.1 c.in_err-pairs.ensures)
+pub returns-in_err-pairs-clause-place : goal.returns-in_err-pairs-clause-place
+returns-in_err-pairs-clause-place g c text p h =
+    let fault = err_from_is_err_and c.from_residual-in_err-pairs.result c.from_residual-in_err-pairs.ensures.1 in
+    let one = c.in_ok-count.ensures.place text p h in
+    rw (fault.1, fault.2) (end_within (AreAll AreAddresses c.in_ok-count.count) (map pair_line) CertificateSection (pairs_line c.in_ok-count.count ∷ []) text p one.0 _ _
+    (all_delimit AreAddresses pair_line (λ line. pair_of (tokens_of line)) c.in_ok-count.count pair_form) (certificate_pairs c.in_ok-count.count c.in_ok-count.ensures.fits) one.2 (c.in_err-pairs.ensures.place text one.0 one.1))
 
-pub returns-in_err-take_line : goal.returns-in_err-take_line
-returns-in_err-take_line c =
-    let p = err_from_is_err_and c.from_residual-in_err-take_line.result c.from_residual-in_err-take_line.ensures.1 in
+pub returns-in_err-take-clause-place : goal.returns-in_err-take-clause-place
+returns-in_err-take-clause-place g c text p h =
+    let fault = err_from_is_err_and c.from_residual-in_err-take.result c.from_residual-in_err-take.ensures.1 in
     let n = c.in_ok-count.count in
     let pairs = map addresses c.in_ok-pairs.pairs.items in
-    rw (p.1, p.2) (stop_within Nothing (alone (λ _. codes "end")) CertificateSection (up_to_end n pairs) c.args.lines.now c.take_pairs.new.lines c.in_err-take_line.field-0.0
-    (alone_delimits Nothing (λ _. codes "end") (is_line (codes "end")) (fixed_form (codes "end"))) (certificate_end n pairs c.in_ok-count.ensures.0 c.in_ok-pairs.ensures.0)
-    (taken_then (pairs_line n ∷ []) (map pair_line pairs) c.args.lines.now c.take_count.new.lines c.take_pairs.new.lines c.in_ok-count.ensures.1 c.in_ok-pairs.ensures.1) c.in_err-take_line.ensures)
+    let one = c.in_ok-count.ensures.place text p h in
+    let two = c.in_ok-pairs.ensures.place text one.0 one.1 in
+    rw (fault.1, fault.2) (end_within Nothing (alone (λ _. codes "end")) CertificateSection (up_to_end n pairs) text p two.0 _ _
+    (alone_delimits Nothing (λ _. codes "end") (is_line (codes "end")) (fixed_form (codes "end"))) (certificate_end n pairs c.in_ok-count.ensures.fits c.in_ok-pairs.ensures.fits)
+    (taken_then (pairs_line n ∷ []) (map pair_line pairs) p one.0 two.0 one.2 two.2) (c.in_err-take.ensures.place text two.0 two.1))
 
-pub returns : goal.returns
-returns c =
+pub returns-clause-place : goal.returns-clause-place
+returns-clause-place g c text p h =
     let n = c.in_ok-count.count in
     let pairs = map addresses c.in_ok-pairs.pairs.items in
-    certificate_taken n pairs c.args.lines.now c.take_line.new.lines c.in_ok-count.ensures.0 c.in_ok-pairs.ensures.0
-    (taken_then (up_to_end n pairs) (codes "end" ∷ []) c.args.lines.now c.take_pairs.new.lines c.take_line.new.lines
-    (taken_then (pairs_line n ∷ []) (map pair_line pairs) c.args.lines.now c.take_count.new.lines c.take_pairs.new.lines c.in_ok-count.ensures.1 c.in_ok-pairs.ensures.1) c.in_ok-take_line.ensures)
+    let one = c.in_ok-count.ensures.place text p h in
+    let two = c.in_ok-pairs.ensures.place text one.0 one.1 in
+    let three = c.in_ok-take.ensures.place text two.0 two.1 in
+    let taken = certificate_taken n pairs p three.0 c.in_ok-count.ensures.fits c.in_ok-pairs.ensures.fits
+    (taken_then (up_to_end n pairs) (codes "end" ∷ []) p two.0 three.0 (taken_then (pairs_line n ∷ []) (map pair_line pairs) p one.0 two.0 one.2 two.2) three.2) in
+    (three.0, three.1, taken.1)

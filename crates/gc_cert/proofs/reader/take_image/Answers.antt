@@ -9,63 +9,81 @@ use Rattle.gc_cert.specs.Internal.Parsers.{word_in}
 use Rattle.gc_cert.specs.Internal.Sections.{alone, AreAll}
 use Rattle.gc_cert.proofs.Forms.{alone_delimits, all_delimit}
 use Rattle.gc_cert.proofs.LineForms.{word_form, count_form, size_form}
-use Rattle.gc_cert.proofs.Parts.{none_taken, ImageSection, image_sizes, image_words, image_count, up_to_count, image_roots, image_taken}
-use Rattle.gc_cert.proofs.Stops.{stop_within, taken_then}
+use Rattle.gc_cert.proofs.Parts.{none_taken, ImageSection, image_fits, image_sizes, image_words, image_count, up_to_count, image_roots, image_taken}
+use Rattle.gc_cert.proofs.ReadPieces.{end_within}
+use Rattle.gc_cert.proofs.Stops.{taken_then}
 use Rattle.gc_cert.proofs.reader.take_image.Goals as goal
 
-pub returns-in_err-size : goal.returns-in_err-size
-returns-in_err-size c =
-    let p = err_from_is_err_and c.from_residual.result c.from_residual.ensures.1 in
+pub returns-in_err-size-clause-place : goal.returns-in_err-size-clause-place
+returns-in_err-size-clause-place g c text p h =
+    let fault = err_from_is_err_and c.from_residual.result c.from_residual.ensures.1 in
     let raws = c.args.raws in
     let name = c.args.name.now in
-    rw (p.1, p.2) (stop_within AreSizes (alone (λ s. size_line name s.0 s.1)) (ImageSection raws name) [] c.args.lines.now c.args.lines.now c.in_err-size.field-0.0
-    (alone_delimits AreSizes (λ s. size_line name s.0 s.1) (λ line. sizes_of name (tokens_of line)) (size_form name c.requires)) (image_sizes raws name) (none_taken c.args.lines.now) c.in_err-size.ensures)
+    rw (fault.1, fault.2) (end_within AreSizes (alone (λ s. size_line name s.0 s.1)) (ImageSection raws name) [] text p p _ _
+    (alone_delimits AreSizes (λ s. size_line name s.0 s.1) (λ line. sizes_of name (tokens_of line)) (size_form name c.requires.name)) (image_sizes raws name) (none_taken p) (c.in_err-size.ensures.place text p h))
 
-pub returns-in_err-words : goal.returns-in_err-words
-returns-in_err-words c =
-    let p = err_from_is_err_and c.from_residual-in_err-words.result c.from_residual-in_err-words.ensures.1 in
+pub returns-in_err-words-clause-place : goal.returns-in_err-words-clause-place
+returns-in_err-words-clause-place g c text p h =
+    let fault = err_from_is_err_and c.from_residual-in_err-words.result c.from_residual-in_err-words.ensures.1 in
     let raws = c.args.raws in
     let name = c.args.name.now in
     let s : ℕ × ℕ = (c.in_ok-size.size, c.in_ok-size.end) in
-    rw (p.1, p.2) (stop_within (AreAll IsWord s.1) (map decimal) (ImageSection raws name) (size_line name s.0 s.1 ∷ []) c.args.lines.now c.take_sizes.new.lines c.in_err-words.field-0.0
-    (all_delimit IsWord decimal word_in s.1 word_form) (image_words raws name s c.in_ok-size.ensures.0) c.in_ok-size.ensures.1 (rw c.from.ensures at c.in_err-words.ensures))
+    let one = c.in_ok-size.ensures.place text p h in
+    rw (fault.1, fault.2) (end_within (AreAll IsWord s.1) (map decimal) (ImageSection raws name) (size_line name s.0 s.1 ∷ []) text p one.0 _ _
+    (all_delimit IsWord decimal word_in s.1 word_form) (image_words raws name s c.in_ok-size.ensures.fits) one.2 (rw c.from.ensures at c.in_err-words.ensures.place text one.0 one.1))
 
-pub returns-in_err-count : goal.returns-in_err-count
-returns-in_err-count c =
-    let p = err_from_is_err_and c.from_residual-in_err-count.result c.from_residual-in_err-count.ensures.1 in
+pub returns-in_err-count-clause-place : goal.returns-in_err-count-clause-place
+returns-in_err-count-clause-place g c text p h =
+    let fault = err_from_is_err_and c.from_residual-in_err-count.result c.from_residual-in_err-count.ensures.1 in
     let raws = c.args.raws in
     let name = c.args.name.now in
     let s : ℕ × ℕ = (c.in_ok-size.size, c.in_ok-size.end) in
     let words = c.in_ok-words.words.items in
-    let all : AreAll IsWord s.1 words = rw c.from.ensures at c.in_ok-words.ensures.0 in
-    rw (p.1, p.2) (stop_within (λ n. n ≤ 272) (alone (count_line (codes "roots"))) (ImageSection raws name) ((size_line name s.0 s.1 ∷ []) ++ map decimal words) c.args.lines.now c.take_words.new.lines c.in_err-count.field-0.0
-    (alone_delimits (λ n. n ≤ 272) (count_line (codes "roots")) (λ line. count_of (codes "roots") 272 (tokens_of line)) (count_form (codes "roots") 272 refl (omega arith))) (image_count raws name s words c.in_ok-size.ensures.0 all)
-    (taken_then (size_line name s.0 s.1 ∷ []) (map decimal words) c.args.lines.now c.take_sizes.new.lines c.take_words.new.lines c.in_ok-size.ensures.1 c.in_ok-words.ensures.1) c.in_err-count.ensures)
+    let all : AreAll IsWord s.1 words = rw c.from.ensures at c.in_ok-words.ensures.fits in
+    let one = c.in_ok-size.ensures.place text p h in
+    let two = c.in_ok-words.ensures.place text one.0 one.1 in
+    rw (fault.1, fault.2) (end_within (λ n. n ≤ 272) (alone (count_line (codes "roots"))) (ImageSection raws name) ((size_line name s.0 s.1 ∷ []) ++ map decimal words) text p two.0 _ _
+    (alone_delimits (λ n. n ≤ 272) (count_line (codes "roots")) (λ line. count_of (codes "roots") 272 (tokens_of line)) (count_form (codes "roots") 272 refl (omega arith))) (image_count raws name s words c.in_ok-size.ensures.fits all)
+    (taken_then (size_line name s.0 s.1 ∷ []) (map decimal words) p one.0 two.0 one.2 two.2) (c.in_err-count.ensures.place text two.0 two.1))
 
-pub returns-in_err-roots : goal.returns-in_err-roots
-returns-in_err-roots c =
-    let p = err_from_is_err_and c.from_residual-in_err-roots.result c.from_residual-in_err-roots.ensures.1 in
+pub returns-in_err-roots-clause-place : goal.returns-in_err-roots-clause-place
+returns-in_err-roots-clause-place g c text p h =
+    let fault = err_from_is_err_and c.from_residual-in_err-roots.result c.from_residual-in_err-roots.ensures.1 in
     let raws = c.args.raws in
     let name = c.args.name.now in
     let s : ℕ × ℕ = (c.in_ok-size.size, c.in_ok-size.end) in
     let words = c.in_ok-words.words.items in
     let n = c.in_ok-count.count in
-    let all : AreAll IsWord s.1 words = rw c.from.ensures at c.in_ok-words.ensures.0 in
-    let two = taken_then (size_line name s.0 s.1 ∷ []) (map decimal words) c.args.lines.now c.take_sizes.new.lines c.take_words.new.lines c.in_ok-size.ensures.1 c.in_ok-words.ensures.1 in
-    rw (p.1, p.2) (stop_within (AreAll IsWord n) (map decimal) (ImageSection raws name) (up_to_count name s words n) c.args.lines.now c.take_count.new.lines c.in_err-roots.field-0.0
-    (all_delimit IsWord decimal word_in n word_form) (image_roots raws name s words n c.in_ok-size.ensures.0 all c.in_ok-count.ensures.0)
-    (taken_then ((size_line name s.0 s.1 ∷ []) ++ map decimal words) (count_line (codes "roots") n ∷ []) c.args.lines.now c.take_words.new.lines c.take_count.new.lines two c.in_ok-count.ensures.1) c.in_err-roots.ensures)
+    let all : AreAll IsWord s.1 words = rw c.from.ensures at c.in_ok-words.ensures.fits in
+    let one = c.in_ok-size.ensures.place text p h in
+    let two = c.in_ok-words.ensures.place text one.0 one.1 in
+    let three = c.in_ok-count.ensures.place text two.0 two.1 in
+    let before = taken_then (size_line name s.0 s.1 ∷ []) (map decimal words) p one.0 two.0 one.2 two.2 in
+    rw (fault.1, fault.2) (end_within (AreAll IsWord n) (map decimal) (ImageSection raws name) (up_to_count name s words n) text p three.0 _ _
+    (all_delimit IsWord decimal word_in n word_form) (image_roots raws name s words n c.in_ok-size.ensures.fits all c.in_ok-count.ensures.fits)
+    (taken_then ((size_line name s.0 s.1 ∷ []) ++ map decimal words) (count_line (codes "roots") n ∷ []) p two.0 three.0 before three.2) (c.in_err-roots.ensures.place text three.0 three.1))
 
-pub returns : goal.returns
-returns c =
+pub returns-clause-fits : goal.returns-clause-fits
+returns-clause-fits g c =
+    let s : ℕ × ℕ = (c.in_ok-size.size, c.in_ok-size.end) in
+    let all : AreAll IsWord s.1 c.in_ok-words.words.items = rw c.from.ensures at c.in_ok-words.ensures.fits in
+    let roots = c.in_ok-roots.ensures.fits in
+    image_fits c.args.raws s c.in_ok-words.words.items c.in_ok-roots.roots.items c.in_ok-size.ensures.fits all (omega (arith, roots.0, c.in_ok-count.ensures.fits)) roots.1
+
+pub returns-clause-place : goal.returns-clause-place
+returns-clause-place g c text p h =
     let raws = c.args.raws in
     let name = c.args.name.now in
     let s : ℕ × ℕ = (c.in_ok-size.size, c.in_ok-size.end) in
     let words = c.in_ok-words.words.items in
     let n = c.in_ok-count.count in
     let roots = c.in_ok-roots.roots.items in
-    let all : AreAll IsWord s.1 words = rw c.from.ensures at c.in_ok-words.ensures.0 in
-    let two = taken_then (size_line name s.0 s.1 ∷ []) (map decimal words) c.args.lines.now c.take_sizes.new.lines c.take_words.new.lines c.in_ok-size.ensures.1 c.in_ok-words.ensures.1 in
-    let three = taken_then ((size_line name s.0 s.1 ∷ []) ++ map decimal words) (count_line (codes "roots") n ∷ []) c.args.lines.now c.take_words.new.lines c.take_count.new.lines two c.in_ok-count.ensures.1 in
-    image_taken raws name s words roots n c.args.lines.now c.take_words-2.new.lines c.in_ok-size.ensures.0 all c.in_ok-count.ensures.0 c.in_ok-roots.ensures.0
-    (taken_then (up_to_count name s words n) (map decimal roots) c.args.lines.now c.take_count.new.lines c.take_words-2.new.lines three c.in_ok-roots.ensures.1)
+    let all : AreAll IsWord s.1 words = rw c.from.ensures at c.in_ok-words.ensures.fits in
+    let one = c.in_ok-size.ensures.place text p h in
+    let two = c.in_ok-words.ensures.place text one.0 one.1 in
+    let three = c.in_ok-count.ensures.place text two.0 two.1 in
+    let four = c.in_ok-roots.ensures.place text three.0 three.1 in
+    let before = taken_then (size_line name s.0 s.1 ∷ []) (map decimal words) p one.0 two.0 one.2 two.2 in
+    let counted = taken_then ((size_line name s.0 s.1 ∷ []) ++ map decimal words) (count_line (codes "roots") n ∷ []) p two.0 three.0 before three.2 in
+    let taken = image_taken raws name s words roots n p four.0 c.in_ok-size.ensures.fits all c.in_ok-count.ensures.fits c.in_ok-roots.ensures.fits (taken_then (up_to_count name s words n) (map decimal roots) p three.0 four.0 counted four.2) in
+    (four.0, four.1, taken.1)

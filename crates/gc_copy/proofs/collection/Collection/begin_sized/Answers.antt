@@ -1,5 +1,4 @@
-use Rattle.std.proofs.Common.{◌≡◌, [], map, replicate, ◌∙◌, ap}
-use Rattle.gc_copy.specs.Words.{entries_of}
+use Rattle.std.proofs.Common.{[], replicate, ◌∙◌, ap}
 use Rattle.gc_copy.proofs.Beginning.{begun}
 use Rattle.gc_copy.proofs.collection.Collection.begin_sized.Goals as goal
 

@@ -1,15 +1,51 @@
-use Rattle.std.proofs.Common.{◌<◌, ◌^◌, ◌++◌, ◌∷◌, [], length, take, rules, arith, length-append}
-use Rattle.std.proofs.lemmas.List.{length-take}
+use Rattle.std.proofs.Common.{◌≡◌, ◌<◌, ◌^◌, ◌++◌, ◌∷◌, [], false, length, rules, arith, length-append, sym, ap, ◌∙◌, subst}
+use Rattle.std.proofs.lemmas.Result.{err_from_is_err_and}
+use Rattle.gc_graph.specs.Streams.{source_failed}
+use Rattle.gc_trace.specs.Faults.{IsReadAs}
+use Rattle.gc_trace.specs.Grammar.{Recording}
+use Rattle.gc_trace.specs.Internal.Reading.{read_so_far}
+use Rattle.gc_trace.specs.Plays.{opening}
 use Rattle.gc_trace.proofs.PlayedEvents.{next_fits}
+use Rattle.gc_trace.proofs.ReadLines.{same_heading}
 use Rattle.gc_trace.proofs.playing.Player.take_all.Goals as goal
 
+pub returns-in_err-event-clause-exact : goal.returns-in_err-event-clause-exact
+returns-in_err-event-clause-exact g c text h =
+    let p = err_from_is_err_and c.from_residual.result c.from_residual.ensures.1 in
+    let i = c.loop-event.invariant in
+    rw (p.1, p.2) (c.in_err-event.ensures.exact text i.0 (i.1.read text h))
+
 pub take-requires-clause-fits : goal.take-requires-clause-fits
-take-requires-clause-fits c =
-    let t = c.args.trace.now in
-    let front = take c.loop-event.event-index t.events.items in
-    let event = c.event-item.result in
-    let played = c.loop-event.invariant.played in
-    let small : length t.events.items < 2 ^ 64 = search rules in
-    let inside = rw c.deref-event-items.ensures.value at c.loop-event-test.true in
-    let few : length (front ++ event ∷ []) < 2 ^ 64 = omega (arith, small, inside, length-append front (event ∷ []), length-take c.loop-event.event-index t.events.items) in
-    next_fits t.size t.mutators front event c.loop-event.self.heap c.loop-event.self.report played.state played.counts few
+take-requires-clause-fits g c =
+    let i = c.loop-event.invariant in
+    let event = c.in-Some.event in
+    let few : length (i.0 ++ event ∷ []) < 2 ^ 64 = omega (arith, i.1.number, i.1.reading.counted, i.1.reading.bounded, length-append i.0 (event ∷ [])) in
+    next_fits c.args.lines.now.size c.args.lines.now.mutators i.0 event c.loop-event.self.heap c.loop-event.self.report i.1.played.state i.1.played.counts few
+
+pub loop-event-preserved : goal.loop-event-preserved
+loop-event-preserved g c =
+    let i = c.loop-event.invariant in
+    let event = c.in-Some.event in
+    let good : source_failed c.next.new.reader ≡ false = search rules in (
+      i.0 ++ event ∷ [],
+      record {
+        played = c.in-Ok.ensures.played (opening (read_so_far c.args.lines.now [])) i.0 i.1.played;
+        number = omega (arith, i.1.number, rw c.in-Some.is at c.in_ok-event.ensures.number, length-append i.0 (event ∷ []));
+        read = λ text h. rw c.in-Some.is at c.in_ok-event.ensures.exact text i.0 (i.1.read text h);
+        reading = c.in_ok-event.ensures.reading;
+        heading = c.in_ok-event.ensures.heading ∙ i.1.heading;
+        sound = search rules;
+        mutators = c.take.ensures.mutators ∙ i.1.mutators ∙ sym (ap (λ (t : Recording). t.mutators) c.in_ok-event.ensures.heading);
+        gather = search rules;
+        good = good;
+      },
+    )
+
+pub returns-clause-exact : goal.returns-clause-exact
+returns-clause-exact g c text h =
+    let i = c.loop-event.invariant in
+    let same = same_heading c.args.lines.now c.loop-event.lines i.0 i.1.heading in (
+      read_so_far c.args.lines.now i.0,
+      subst (λ (t : Recording). IsReadAs t text) same (rw c.in_default.is at c.in_ok-event.ensures.exact text i.0 (i.1.read text h)),
+      i.1.played,
+    )

@@ -1,14 +1,25 @@
-use Rattle.std.proofs.Common.{◌≡◌, take}
+use Rattle.std.proofs.Common.{◌≡◌, ◌+◌, ◌-◌, ℕ, List, [], length, false}
+use Rattle.gc_graph.specs.Streams.{bytes_left, source_failed}
 use Rattle.gc_copy.specs.Belonging.{IsState}
+use Rattle.gc_copy.specs.declared.event.Event.{Event}
+use Rattle.gc_trace.specs.Faults.{limit}
 use Rattle.gc_trace.specs.Internal.Playing.{HasPlayed}
+use Rattle.gc_trace.specs.Internal.Reading.{IsReading, HasRead, read_so_far}
 use Rattle.gc_trace.specs.Plays.{opening}
-use Rattle.gc_trace.specs.Views.{recording}
 use Rattle.gc_trace.proofs.playing.Player.take_all.Given as goal
 
 abbrev pub invariant-loop-event : goal.invariant-loop-event
-invariant-loop-event l = record {
-  played : HasPlayed (opening (recording l.trace)) (take l.event-index l.trace.events.items) l.self;
+invariant-loop-event g l = (events : List Event) × record {
+  played : HasPlayed (opening (read_so_far l.initial.lines [])) events l.self;
+  number : l.lines.number ≡ 3 + length events;
+  read : (text : List ℕ) → HasRead text [] l.initial.lines (bytes_left g.R.Read.remaining l.initial.reader) → HasRead text events l.lines (bytes_left g.R.Read.remaining l.reader);
+  reading : IsReading l.lines;
+  heading : read_so_far l.lines [] ≡ read_so_far l.initial.lines [];
   sound : IsState l.self.heap;
-  mutators : l.self.heap.mutators ≡ l.trace.mutators;
+  mutators : l.self.heap.mutators ≡ l.lines.mutators;
   gather : l.self.gather ≡ l.initial.self.gather;
+  good : source_failed l.reader ≡ false;
 }
+
+abbrev pub decreases-loop-event : goal.decreases-loop-event
+decreases-loop-event g l = limit + 4 - l.lines.number

@@ -1,0 +1,101 @@
+"""Checks pair texts, draws them, and spoils them."""
+from __future__ import annotations
+
+import random
+from typing import Any, NamedTuple
+
+from gcflip import BadText, Refused, check_text
+from gcflip_drawing.heap import walk
+from gcflip_drawing.pair_picture import scene_of
+from gcflip_drawing.pair_text import Image, PairText, read_pair, written
+from gcflip_drawing.scene_picture import drawn_in_width
+from gcflip_drawing.verdicts import Verdict
+
+
+class Place(NamedTuple):
+    """A word of a pair text: of the words or the roots of a heap."""
+
+    heap: str
+    row: str
+    at: int
+
+
+def checked(text: bytes, width: int, changed: Place | None = None) -> dict[str, Any]:
+    """Returns the line that the checker prints for a text, its meaning, and the picture if the text is a pair text. A changed word is
+    marked in it."""
+    try:
+        verdict = Verdict("yes %d" % check_text(text))
+    except BadText as fault:
+        return {"line": str(fault), "fault": True, "bad_line": getattr(fault, "line", None)}
+    except Refused as refusal:
+        verdict = Verdict(str(refusal))
+    scene = scene_of(read_pair(text.decode("ascii")), "The pair of heaps", verdict)
+    # The page has the verdict above the picture.
+    scene.caption = None
+    if changed:
+        scene.note_changed(changed.heap == "old", changed.row, changed.at)
+        scene.legend = [*scene.legend, ("changed", "just changed")]
+    return {"line": verdict.line, "fault": False, "refused": verdict.refusal is not None, "meaning": verdict.meaning(),
+            "picture": drawn_in_width(scene, width).described()}
+
+
+def row_of(pair: PairText, heap: str, row: str) -> list[int]:
+    image: Image = getattr(pair, heap)
+    return getattr(image, row)
+
+
+def name_of(pair: PairText, place: Place) -> str:
+    """Returns what a word is: a root, or a part of an object."""
+    if place.row == "roots":
+        return "root %d of the %s heap" % (place.at, place.heap)
+    if place.at == 0:
+        return "the reserved word 0 of the %s heap" % place.heap
+    for start, thing in walk(row_of(pair, place.heap, "words"), pair.raws).items():
+        if start <= place.at < start + thing.size():
+            part = {start: "the header", start + 1: "the link"}.get(place.at, "field %d" % (place.at - start - 2))
+            return "%s of the object at %d of the %s heap" % (part, start, place.heap)
+    return "word %d of the %s heap" % (place.at, place.heap)
+
+
+def other_words(word: int, chosen: random.Random) -> list[int]:
+    """Returns words that could take a word's place: nil, a number, a reference, the next word, or one bit changed."""
+    found = [0, 2 * chosen.randrange(100) + 1, 2 * chosen.randrange(1, 16), word + 1, word ^ 1 << chosen.randrange(26)]
+    return [other for other in found if other != word and other < 1 << 64]
+
+
+def why_accepted(pair: PairText, place: Place) -> str:
+    """Returns why the checker says yes although a word changed."""
+    objects = walk(row_of(pair, place.heap, "words"), pair.raws) if place.row == "words" else {}
+    if any(place.at == start + 1 for start in objects):
+        return "It is a link word, and no check reads links."
+    paired = {places[0 if place.heap == "old" else 1] for places in pair.pairs}
+    if any(start <= place.at < start + thing.size() and start not in paired for start, thing in objects.items()):
+        return "It belongs to an object that is in no pair, and that no reachable object refers to: garbage, which need not be copied."
+    return "The pair still meets all conditions."
+
+
+def places_to_spoil(pair: PairText, chosen: random.Random) -> list[Place]:
+    """Returns the places of one heap's words, or now and then those of its roots that are not nil."""
+    heap = chosen.choice(["old", "new"])
+    words = [Place(heap, "words", at) for at in range(len(row_of(pair, heap, "words")))]
+    roots = [Place(heap, "roots", at) for at, word in enumerate(row_of(pair, heap, "roots")) if word != 0]
+    return roots if roots and chosen.randrange(4) == 0 else words
+
+
+def spoiled(text: bytes, width: int, chosen: random.Random) -> dict[str, Any]:
+    """Changes one word of a pair text at random. Returns the new text, what was changed, and what the checker says. Raises BadText."""
+    try:
+        check_text(text)
+    except Refused:
+        pass
+    pair = read_pair(text.decode("ascii"))
+    place = chosen.choice(places_to_spoil(pair, chosen))
+    name, row = name_of(pair, place), row_of(pair, place.heap, place.row)
+    before, after = row[place.at], chosen.choice(other_words(row[place.at], chosen))
+    row[place.at] = after
+    new_text = written(pair)
+    found = checked(new_text.encode("ascii"), width, place)
+    said = "Changed %s from %d to %d." % (name, before, after)
+    if not found["refused"]:
+        said += " The checker still says yes. " + why_accepted(pair, place)
+    return {**found, "text": new_text, "said": said}

@@ -1,0 +1,100 @@
+// Starts the page: its tabs, the keyboard, and what is opened first.
+
+import { Checker } from "./checker.js";
+import { Collector } from "./collector.js";
+import { byId, onFiles } from "./elements.js";
+import { ask, say, textOf } from "./server.js";
+import { Tour } from "./tour.js";
+
+const TABS = ["collector", "checker", "trust"];
+const FIRST_TRACE = "write_while_scanning";
+const FIRST_PAIR = "garbage_left_behind";
+
+function show(shown) {
+  for (const name of TABS) {
+    const tab = byId(`tab-${name}`);
+    tab.setAttribute("aria-selected", String(name === shown));
+    tab.tabIndex = name === shown ? 0 : -1;
+    byId(`panel-${name}`).hidden = name !== shown;
+  }
+  say("");
+}
+
+function listenToTabs() {
+  for (const [at, name] of TABS.entries()) {
+    const tab = byId(`tab-${name}`);
+    tab.addEventListener("click", () => show(name));
+    tab.addEventListener("keydown", (event) => {
+      const step = { ArrowRight: 1, ArrowLeft: -1 }[event.key];
+      if (step) {
+        const other = TABS[(at + step + TABS.length) % TABS.length];
+        show(other);
+        byId(`tab-${other}`).focus();
+        event.stopPropagation();
+      }
+    });
+  }
+}
+
+const KEYS = { ArrowRight: "play-step", ArrowLeft: "play-back", Home: "play-start", r: "play-run", f: "play-flip", w: "play-work" };
+
+// Keys play the trace, unless something is written, chosen or scrolled.
+function listenToKeys() {
+  document.addEventListener("keydown", (event) => {
+    const busy = event.target.closest("textarea, input, select, .picture") || event.ctrlKey || event.altKey || event.metaKey;
+    const id = KEYS[event.key] ?? KEYS[event.key.toLowerCase()];
+    if (!busy && id && !byId("panel-collector").hidden) {
+      event.preventDefault();
+      byId(id).click();
+    }
+  });
+}
+
+// Opens files in the tab of their kind. Another text stays in the tab where it was opened, which says what is wrong with it.
+function listenToFiles(tabs) {
+  const places = { collector: ["trace-file", "panel-collector"], checker: ["pair-file", "panel-checker"] };
+  for (const [tab, [input, area]] of Object.entries(places)) {
+    onFiles(byId(input), byId(area), async (file) => {
+      try {
+        const text = await textOf(file);
+        const shown = text.startsWith("heaptrace ") ? "collector" : text.startsWith("heappair ") ? "checker" : tab;
+        show(shown);
+        tabs[shown].open(text);
+      } catch (error) {
+        say(error.message);
+      }
+    });
+  }
+}
+
+async function start() {
+  const { examples, file } = await ask("start", {});
+  const ofKind = (kind) => examples.filter((example) => example.kind === kind);
+  const checker = new Checker(ofKind("pair"));
+  const collector = new Collector(ofKind("trace"), (text) => {
+    show("checker");
+    checker.open(text);
+  });
+  listenToFiles({ collector, checker });
+  const tour = new Tour(collector, () => show("collector"));
+  listenToTabs();
+  listenToKeys();
+  for (const button of document.querySelectorAll(".tour-start")) {
+    button.addEventListener("click", () => tour.start());
+  }
+  // A picture needs the width of its place, so each tab is shown while it is drawn first.
+  show("checker");
+  await (file?.kind === "pair" ? checker.open(file.text) : checker.choose(FIRST_PAIR));
+  show("collector");
+  await (file?.kind === "trace" ? collector.open(file.text) : collector.choose(FIRST_TRACE));
+  if (file?.kind === "pair") {
+    show("checker");
+  }
+  document.body.dataset.ready = "yes";
+}
+
+// A file that is dropped beside a place for files would be opened instead of the page.
+for (const kind of ["dragover", "drop"]) {
+  addEventListener(kind, (event) => event.preventDefault());
+}
+start().catch((error) => say(error.message));

@@ -1,0 +1,39 @@
+// Asks the server. The address of the page has the token, so paths are relative.
+
+// Returns the answer to a request. Throws an Error with a message for the reader if there is none.
+export async function ask(name, data) {
+  let response;
+  try {
+    response = await fetch(name, {
+      method: "POST", headers: { "Content-Type": "application/json" }, body: JSON.stringify(data),
+    });
+  } catch {
+    throw new Error("The server does not answer. Is 'python3 -m gcflip.explore' still running?");
+  }
+  if (!response.ok) {
+    throw new Error((await response.text()).trim());
+  }
+  const answer = await response.json();
+  if (answer.message) {
+    throw new Error(answer.message);
+  }
+  return answer;
+}
+
+// Shows a message above the page, or hides the last one.
+export function say(text) {
+  const message = document.getElementById("message");
+  message.textContent = text || "";
+  message.hidden = !text;
+}
+
+// The server takes no longer texts.
+const MOST_BYTES = 8388608;
+
+// Returns the text of a file. A byte that is no text becomes a character that no format has. Throws an Error if the file is too large.
+export async function textOf(file) {
+  if (file.size > MOST_BYTES) {
+    throw new Error(`This page takes texts of up to ${MOST_BYTES >> 20} MiB. 'gcflip' itself takes longer ones.`);
+  }
+  return new TextDecoder("utf-8").decode(await file.arrayBuffer());
+}

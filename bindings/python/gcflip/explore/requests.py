@@ -1,0 +1,179 @@
+"""What the page can ask for: each request is a function from its JSON to its answer. A `BadRequest` is told as its message."""
+from __future__ import annotations
+
+import functools
+import os
+import random
+import re
+import threading
+from typing import Any, Callable
+
+from gcflip import BadText
+from gcflip_drawing.trace_text import BadTrace, Event, Trace, event_of, heading, read_trace, version_of
+
+from . import checking, state
+from .playing import Player, Players
+
+MOST_EVENTS = 20000
+HERE = os.path.dirname(os.path.abspath(__file__))
+# An installed package has copies of the examples. In the repository they stand at the top.
+PLACES = (os.path.join(HERE, "examples"), os.path.join(HERE, "..", "..", "..", "..", "examples"))
+EXAMPLES = next((place for place in PLACES if os.path.isdir(place)), PLACES[0])
+TRACE, PAIR = "heaptrace", "heappair"
+
+
+class BadRequest(Exception):
+    """Why a request cannot be answered."""
+
+
+class Asked:
+    """The JSON of a request, whose parts are read by their names. Raises BadRequest for a part that is missing or wrong."""
+
+    def __init__(self, data: Any) -> None:
+        if not isinstance(data, dict):
+            raise BadRequest("The request is no JSON object.")
+        self.data = data
+
+    def text(self, name: str = "text") -> str:
+        value = self.data.get(name)
+        if not isinstance(value, str):
+            raise BadRequest("The request lacks the text '%s'." % name)
+        return value
+
+    def number(self, name: str, most: int) -> int:
+        value = self.data.get(name)
+        if not isinstance(value, int) or isinstance(value, bool) or not 0 <= value <= most:
+            raise BadRequest("'%s' has to be a number up to %d." % (name, most))
+        return value
+
+    def width(self) -> int:
+        return self.number("width", 4000)
+
+    def trace(self) -> Trace:
+        """Returns the trace of the request. Raises BadTrace."""
+        trace = read(self.text())
+        if len(trace.events) > MOST_EVENTS:
+            raise BadRequest("This page plays traces of up to %d events, and this one has %d. 'gcflip play' plays it." % (
+                MOST_EVENTS, len(trace.events)))
+        return trace
+
+    def position(self, trace: Trace) -> int:
+        return self.number("position", len(trace.events))
+
+
+@functools.lru_cache(maxsize=4)
+def read(text: str) -> Trace:
+    return read_trace(text.encode("utf-8", "surrogatepass"))
+
+
+class Desk:
+    """Answers the requests of the page, one at a time."""
+
+    def __init__(self, file: dict[str, str] | None = None) -> None:
+        self.players = Players()
+        self.lock = threading.Lock()
+        self.file = file
+        self.chosen = random.Random()
+        self.answers: dict[str, Callable[[Asked], dict[str, Any]]] = {
+            "start": self.start, "play": self.play, "insert": self.insert, "pair": self.pair, "check": self.check, "spoil": self.spoil}
+
+    def answer(self, name: str, data: Any) -> dict[str, Any]:
+        """Answers a request, whose name is one of `answers`. Raises BadRequest."""
+        with self.lock:
+            try:
+                return self.answers[name](Asked(data))
+            except BadTrace as fault:
+                return {"fault": {"message": str(fault), "line": fault.line}}
+            except MemoryError:
+                raise BadRequest("Out of memory. The request can be tried again.") from None
+
+    def start(self, _asked: Asked) -> dict[str, Any]:
+        """Returns the examples, and the file of the command line."""
+        return {"examples": examples(), "file": self.file}
+
+    def play(self, asked: Asked) -> dict[str, Any]:
+        """Plays a trace up to a position, or up to the next flip behind it."""
+        trace = asked.trace()
+        position = asked.position(trace)
+        player = self.players.at(trace, position)
+        if asked.data.get("to_flip"):
+            player = self.before_flip(trace, position)
+        return self.told(player, trace, asked)
+
+    def before_flip(self, trace: Trace, position: int) -> Player:
+        """Returns a player at the next flip behind a position, or at the position if there is none."""
+        player = self.players.at(trace, len(trace.events))
+        flips = [at for at, measure in enumerate(player.measures) if measure.reply.startswith("flipped") and at > position]
+        return self.players.at(trace, min(flips, default=position))
+
+    def told(self, player: Player, trace: Trace, asked: Asked) -> dict[str, Any]:
+        """Describes a player, with the replies that the page does not have yet."""
+        known = asked.number("known", MOST_EVENTS)
+        replies = [measure.reply for measure in player.measures]
+        return {**state.described(player, trace, asked.width()), "known": min(known, len(replies)), "replies": replies[known:]}
+
+    def insert(self, asked: Asked) -> dict[str, Any]:
+        """Puts an event behind the last one that was played, and plays it. Without a line it is the collector's useful step."""
+        trace = asked.trace()
+        position = asked.position(trace)
+        if len(trace.events) >= MOST_EVENTS:
+            raise BadRequest("This page plays traces of up to %d events." % MOST_EVENTS)
+        if asked.data.get("line") is None:
+            line = self.players.at(trace, position).play_useful()
+        else:
+            line = asked.text("line")
+        event = event_of(line)
+        if event is None:
+            raise BadRequest("'%s' is no event." % line)
+        text = with_event(trace, position, event)
+        # The reader has the last word: the event's mutator may not exist.
+        longer = read(text)
+        return {"text": text, **self.told(self.players.at(longer, position + 1), longer, asked)}
+
+    def pair(self, asked: Asked) -> dict[str, Any]:
+        """Returns the certificate of an open collection as a pair text."""
+        trace = asked.trace()
+        words = self.players.at(trace, asked.position(trace)).words()
+        if words.new is None:
+            raise BadRequest("No collection is open, so there is no certificate.")
+        return {"text": state.Certificate(words).text()}
+
+    def check(self, asked: Asked) -> dict[str, Any]:
+        return checking.checked(asked.text().encode("utf-8", "surrogatepass"), asked.width())
+
+    def spoil(self, asked: Asked) -> dict[str, Any]:
+        """Changes a word of a pair text at random."""
+        try:
+            return checking.spoiled(asked.text().encode("utf-8", "surrogatepass"), asked.width(), self.chosen)
+        except BadText as fault:
+            raise BadRequest("Only a pair text can be spoiled: %s." % fault) from None
+
+
+def with_event(trace: Trace, position: int, event: Event) -> str:
+    """Returns the text of a trace with one more event at a position, in a version that has them all."""
+    events = [*trace.events[:position], event, *trace.events[position:]]
+    version = max(trace.version, version_of(events))
+    return heading(version, trace.size, trace.mutators) + "".join(event.line + "\n" for event in events)
+
+
+def kind_of(text: str) -> str | None:
+    """Returns which text this is by its first word: TRACE, PAIR or None."""
+    return next((kind for kind in (TRACE, PAIR) if text.startswith(kind + " ")), None)
+
+
+@functools.lru_cache(maxsize=1)
+def examples() -> list[dict[str, str]]:
+    """Returns the examples of the repository: kind, name, text, and what to look at."""
+    found = []
+    for name in sorted(os.listdir(EXAMPLES)):
+        stem, ending = os.path.splitext(name)
+        if ending in (".trace", ".pair"):
+            with open(os.path.join(EXAMPLES, name), encoding="ascii") as file:
+                found.append({"kind": ending[1:], "name": stem, "text": file.read(), "about": abouts().get(stem, "")})
+    return found
+
+
+def abouts() -> dict[str, str]:
+    """Returns what to look at in each example, from the tables of their README."""
+    with open(os.path.join(EXAMPLES, "README.md"), encoding="utf-8") as file:
+        return {name: about.replace("`", "") for name, about in re.findall(r"(?m)^\| `(\w+)` \| (.*) \|$", file.read())}

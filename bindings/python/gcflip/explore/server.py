@@ -1,0 +1,185 @@
+"""Serves the page and its requests on loopback, to whoever knows the token in the address.
+
+A web site that the user visits can reach loopback as well, but it does not know the token. The Host header has to be loopback's, so
+that no foreign name can be bound to the address. Files come from a fixed table, and requests are bounded. Other users of the machine who
+may list its processes can see the address with which a browser was started.
+"""
+from __future__ import annotations
+
+import hmac
+import http.server
+import json
+import os
+import secrets
+import socket
+import sys
+import threading
+from typing import Any
+
+from .requests import BadRequest, Desk
+
+PAGE = os.path.join(os.path.dirname(os.path.abspath(__file__)), "page")
+TYPES = {".html": "text/html; charset=utf-8", ".css": "text/css; charset=utf-8", ".js": "text/javascript; charset=utf-8",
+         ".svg": "image/svg+xml"}
+PLAIN = "text/plain; charset=utf-8"
+# A text has at most so many bytes, and the JSON of a request twice as many.
+MOST_TEXT = 8388608
+MOST_BYTES = 2 * MOST_TEXT
+MOST_CONNECTIONS = 32
+# A connection that says nothing for so long is closed.
+SECONDS = 20
+HEADERS = {
+    "Content-Security-Policy": "default-src 'none'; script-src 'self'; style-src 'self'; img-src 'self'; connect-src 'self'; "
+                               "base-uri 'none'; form-action 'none'; frame-ancestors 'none'",
+    "Cache-Control": "no-store",
+    "Cross-Origin-Opener-Policy": "same-origin",
+    "Cross-Origin-Resource-Policy": "same-origin",
+    "Referrer-Policy": "no-referrer",
+    "X-Content-Type-Options": "nosniff",
+}
+
+
+def page_files() -> dict[str, tuple[str, bytes]]:
+    """Reads the files of the page: their types and contents, by the names in the address. The page itself has the empty name."""
+    found = {}
+    for name in os.listdir(PAGE):
+        with open(os.path.join(PAGE, name), "rb") as file:
+            found["" if name == "index.html" else name] = TYPES[os.path.splitext(name)[1]], file.read()
+    return found
+
+
+class Refusal(Exception):
+    """A request that is refused, with its HTTP status."""
+
+    def __init__(self, status: int, message: str) -> None:
+        super().__init__(message)
+        self.status = status
+
+
+class Handler(http.server.BaseHTTPRequestHandler):
+    """Answers one request on each connection."""
+
+    server: "Server"
+    server_version, sys_version = "gcflip", ""
+    timeout = SECONDS
+
+    def do_GET(self) -> None:
+        self.reply(self.file)
+
+    def do_POST(self) -> None:
+        self.reply(self.answer)
+
+    def reply(self, handle: Any) -> None:
+        """Sends what a handler returns, or why the request is refused."""
+        try:
+            kind, body = handle(self.name())
+            self.send(200, kind, body)
+        except Refusal as refusal:
+            self.send(refusal.status, PLAIN, (str(refusal) + "\n").encode())
+        except (ConnectionError, socket.timeout):
+            self.close_connection = True
+        except Exception:
+            self.send(500, PLAIN, b"The server failed. Its terminal says why.\n")
+            raise
+
+    def name(self) -> str:
+        """Returns what is asked for: the path behind the token."""
+        if self.headers.get("Host") not in self.server.hosts():
+            raise Refusal(403, "This server answers requests to 127.0.0.1 alone.")
+        _, _, rest = self.path.partition("/")
+        token, slash, name = rest.partition("/")
+        if not slash or not hmac.compare_digest(token.encode("utf-8", "replace"), self.server.token.encode()):
+            raise Refusal(403, "The address lacks the token. Open the address that 'python3 -m gcflip.explore' printed.")
+        return name
+
+    def file(self, name: str) -> tuple[str, bytes]:
+        if name not in self.server.files:
+            raise Refusal(404, "There is no such file.")
+        return self.server.files[name]
+
+    def answer(self, name: str) -> tuple[str, bytes]:
+        """Answers a request of the page."""
+        if name not in self.server.desk.answers:
+            raise Refusal(404, "There is no such request.")
+        if self.headers.get("Content-Type") != "application/json":
+            raise Refusal(415, "A request has to be JSON.")
+        try:
+            data = json.loads(self.body())
+        except (ValueError, RecursionError):
+            raise Refusal(400, "The request is no JSON.") from None
+        try:
+            answer = self.server.desk.answer(name, data)
+        except BadRequest as fault:
+            answer = {"message": str(fault)}
+        return "application/json", json.dumps(answer).encode()
+
+    def body(self) -> bytes:
+        length = self.headers.get("Content-Length", "")
+        if not length.isascii() or not length.isdigit() or self.headers.get("Transfer-Encoding"):
+            raise Refusal(411, "The request does not tell its length.")
+        if len(length) > 9 or int(length) > MOST_BYTES:
+            self.skip(4 * MOST_BYTES)
+            raise Refusal(413, "This page takes texts of up to %d MiB. 'gcflip' itself takes longer ones." % (MOST_TEXT >> 20))
+        body = self.rfile.read(int(length))
+        if len(body) < int(length):
+            raise Refusal(400, "The request ended early.")
+        return body
+
+    def skip(self, most: int) -> None:
+        """Reads away what is sent, up to a bound. A sender that is cut off would not read the answer."""
+        self.connection.settimeout(1)
+        try:
+            while most > 0:
+                part = self.rfile.read1(65536)
+                if not part:
+                    return
+                most -= len(part)
+        except socket.timeout:
+            return
+
+    def send(self, status: int, kind: str, body: bytes) -> None:
+        self.send_response(status)
+        for header, value in {**HEADERS, "Content-Type": kind, "Content-Length": str(len(body))}.items():
+            self.send_header(header, value)
+        self.end_headers()
+        self.wfile.write(body)
+
+    def log_message(self, *_words: Any) -> None:
+        """Says nothing: the address has the token."""
+
+
+class Server(http.server.ThreadingHTTPServer):
+    """The server, which has its token and the files of the page."""
+
+    daemon_threads = True
+
+    def __init__(self, desk: Desk, port: int = 0) -> None:
+        self.desk = desk
+        self.token = secrets.token_urlsafe(24)
+        self.files = page_files()
+        self.free = threading.BoundedSemaphore(MOST_CONNECTIONS)
+        super().__init__(("127.0.0.1", port), Handler)
+
+    def hosts(self) -> tuple[str, ...]:
+        return "127.0.0.1:%d" % self.server_port, "localhost:%d" % self.server_port
+
+    def address(self) -> str:
+        return "http://127.0.0.1:%d/%s/" % (self.server_port, self.token)
+
+    def process_request(self, request: Any, client_address: Any) -> None:
+        """Starts a thread for a connection, unless there are too many."""
+        if self.free.acquire(blocking=False):
+            super().process_request(request, client_address)
+        else:
+            self.shutdown_request(request)
+
+    def process_request_thread(self, request: Any, client_address: Any) -> None:
+        try:
+            super().process_request_thread(request, client_address)
+        finally:
+            self.free.release()
+
+    def handle_error(self, request: Any, client_address: Any) -> None:
+        """Prints an error to the terminal, but says nothing of a connection that broke off."""
+        if not isinstance(sys.exc_info()[1], (ConnectionError, socket.timeout)):
+            super().handle_error(request, client_address)

@@ -1,0 +1,100 @@
+"""Describes a heap at a position of a trace for the page: the picture, roots, logs, and the certificate with the checker's verdict."""
+from __future__ import annotations
+
+from typing import Any
+
+from gcflip import Image, Refused, check
+from gcflip_drawing import collection_picture, pair_text, timeline
+from gcflip_drawing.collection_picture import State
+from gcflip_drawing.heap import shown, target
+from gcflip_drawing.scene_picture import drawn_in_width
+from gcflip_drawing.trace_text import Trace
+from gcflip_drawing.verdicts import Verdict
+from gcflip_drawing.words_picture import root_names
+
+from .playing import Player, Words
+
+# Longer lists are cut, and their length is told.
+MOST_LISTED = 200
+TIMELINE_HEIGHT = 110
+
+
+class Certificate:
+    """The certificate of an open collection as it stands, and what the checker says of it."""
+
+    def __init__(self, words: Words) -> None:
+        assert words.new is not None
+        self.old = words.old
+        self.pairs = collection_picture.replicas(words.new.words)
+        self.new = Image(words.new.words, collection_picture.new_roots(words.old, words.new.words), words.new.size)
+
+    def verdict(self) -> Verdict:
+        try:
+            return Verdict("yes %d" % check(self.old, self.new, self.pairs))
+        except Refused as refusal:
+            return Verdict(str(refusal))
+
+    def text(self) -> str:
+        images = [pair_text.Image(image.size, image.words, image.roots) for image in (self.old, self.new)]
+        return pair_text.written(pair_text.PairText(True, *images, self.pairs))
+
+
+def conditions(player: Player, words: Words) -> list[dict[str, Any]]:
+    """Returns the conditions of a flip in the order in which the collector fulfils them, and whether each one holds."""
+    assert words.new is not None
+    counts = player.heap.counts()
+    originals = {original for original, _ in collection_picture.replicas(words.new.words)}
+    targets = {target(word) for word in words.old.roots} - {None}
+    return [
+        {"text": "each root's target has a replica", "holds": targets <= originals},
+        {"text": "the scan pointer is at the end", "holds": counts.scan_place == counts.new_end},
+        {"text": "all logs are empty", "holds": not any(player.heap.log_length(mutator.number) for mutator in player.mutators)},
+    ]
+
+
+def roots(player: Player, words: Words) -> list[dict[str, Any]]:
+    """Returns the roots that are not nil, by their owners."""
+    names = root_names(len(words.old.roots))
+    owners = ["all mutators"] + ["mutator %d" % mutator.number for mutator in player.mutators]
+    changed = {change.address for change in player.changed if change.row == "roots"}
+    return [{"owner": owner, "slots": [
+        {"name": names[place].split(" ")[-1], "value": shown(words.old.roots[place]), "changed": place in changed}
+        for place in range(16 * number, 16 * number + 16) if words.old.roots[place] != 0]} for number, owner in enumerate(owners)]
+
+
+def collection(player: Player, words: Words) -> dict[str, Any]:
+    """Returns what the page lists of an open collection."""
+    certificate, found = Certificate(words), conditions(player, words)
+    verdict = certificate.verdict()
+    return {
+        "conditions": found,
+        "ready": all(condition["holds"] for condition in found),
+        "pairs": certificate.pairs[:MOST_LISTED],
+        "count": len(certificate.pairs),
+        "verdict": verdict.line,
+        "meaning": verdict.meaning(),
+    }
+
+
+def logs(player: Player) -> list[dict[str, Any]]:
+    return [{"mutator": mutator, "entries": log[:MOST_LISTED], "count": len(log)} for mutator, log in enumerate(player.logs())]
+
+
+def described(player: Player, trace: Trace, width: int) -> dict[str, Any]:
+    """Returns what the page shows of a player that has played the first events of a trace."""
+    words, counts = player.words(), player.heap.counts()
+    opened = collection(player, words) if words.new else None
+    state = State(words.old, words.new, (counts.scan_place, counts.scan_field), player.logs(), bool(opened and opened["ready"]),
+                  tuple(player.changed))
+    frame = timeline.Frame(max(160, width - timeline.LEFT - timeline.RIGHT), TIMELINE_HEIGHT, False)
+    return {
+        "position": len(player.lines),
+        "total": len(trace.events),
+        "picture": drawn_in_width(collection_picture.scene_of(state, "The heap after %d events" % len(player.lines)), width).described(),
+        "timeline": timeline.drawn(trace, player.measures, "Words in use", frame).described(),
+        "roots": roots(player, words),
+        "logs": logs(player),
+        "collection": opened,
+        "size": counts.size,
+        "mutators": counts.mutators,
+    }

@@ -1,0 +1,89 @@
+"""What the picture of a heap shows while a trace is played: its space, and the new space of an open collection with links, scan pointer
+and log entries."""
+from typing import NamedTuple
+
+from .heap import target, walk
+from .pair_text import Image
+from .scene import Mark, Scan, Scene, Space
+
+LEGEND = [("object", "reachable"), ("raw", "raw"), ("garbage", "unreachable"), ("free", "free"), ("root", "root"), ("changed", "just changed")]
+LEGEND_OF_A_COLLECTION = [("logged", "field of a log entry"), ("scan", "scan pointer")]
+
+
+class State(NamedTuple):
+    """What is drawn of a heap. All addresses are those of the library."""
+
+    old: Image
+    new: "Image | None"
+    """The new space of an open collection. Its roots are those that a flip would make."""
+    scan: "tuple[int, int]"
+    """The replica at the scan pointer, and how many of its fields are scanned."""
+    logs: "list[list[tuple[int, int]]]"
+    """The object and the field of each entry of each mutator's log."""
+    is_ready: bool
+    """Whether a flip would be checked now."""
+    changed: "tuple[Changed, ...]"
+    """What the last event changed."""
+
+
+class Changed(NamedTuple):
+    """A word of the old space or of the new one that the last event changed, or a root word. `row` is words or roots."""
+
+    is_old: bool
+    row: str
+    address: int
+
+
+def replicas(new_words):
+    """Returns the pairs of an open collection: each replica's link is its original's address."""
+    return [(new_words[start + 1], start) for start in walk(new_words, True)]
+
+
+def new_roots(old, new_words):
+    """Returns the root words that a flip would make. A root whose target has no replica becomes nil."""
+    places = dict(replicas(new_words))
+    return [word if target(word) is None else 2 * places.get(target(word), 0) for word in old.roots]
+
+
+def logged(state, places):
+    """Yields marks of the fields that log entries name, in the originals and in their replicas."""
+    for mutator, log in enumerate(state.logs):
+        for thing, field in log:
+            tip = "logged by mutator %d" % mutator
+            yield Mark(True, thing + 2 + field, 1, "logged", tip)
+            if thing in places:
+                yield Mark(False, places[thing] + 2 + field, 1, "logged", tip + ", to be brought up to date")
+
+
+def scan_of(state, objects):
+    """Returns the place of the scan pointer: in front of the next field, or behind an object whose fields are all scanned."""
+    start, field = state.scan
+    if start not in objects:
+        return Scan(len(state.new.words) - 1, True)
+    is_behind = field == len(objects[start].fields)
+    return Scan(start + 2 + field - (1 if is_behind else 0), is_behind)
+
+
+def scene_of(state, title):
+    """Returns what is drawn of a state."""
+    if state.new is None:
+        scene = Scene(title, Space("space", state.old))
+    else:
+        old, pairs = Space("old space", state.old), replicas(state.new.words)
+        live = {new for original, new in pairs if original in old.live}
+        # The roots refer to the old space until the flip.
+        new = Space("new space", Image(state.new.size, state.new.words, []), live=live)
+        scene = Scene(title, old, new, pairs, "pair" if state.is_ready else "link")
+        scene.scan = scan_of(state, new.objects)
+        scene.marks += logged(state, dict(pairs))
+    for changed in state.changed:
+        scene.note_changed(*changed)
+    scene.legend = legend_of(state)
+    return scene
+
+
+def legend_of(state):
+    if state.new is None:
+        return LEGEND
+    line = ("pair", "pair of the certificate") if state.is_ready else ("link", "link of original and replica")
+    return LEGEND + LEGEND_OF_A_COLLECTION + [line]

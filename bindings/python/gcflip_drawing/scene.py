@@ -1,0 +1,74 @@
+"""What a picture of a heap shows: one space or two, which objects belong together, and what is marked."""
+from typing import NamedTuple
+
+from .heap import reachable, walk
+
+
+class Space:
+    """A space with its words and root words, and its objects by their starts. `live` has the starts of the reachable ones."""
+
+    def __init__(self, name, image, raws=True, live=None):
+        self.name, self.size, self.words, self.roots = name, image.size, image.words, image.roots
+        self.objects = walk(image.words, raws)
+        self.live = reachable(self.objects, image.roots) if live is None else live
+
+    def sort(self, thing):
+        return "garbage" if thing.start not in self.live else "raw" if thing.raw else "object"
+
+    def unreachable(self):
+        return sum(1 for start in self.objects if start not in self.live)
+
+
+def counted(count, name):
+    return "%d %s" % (count, name if count == 1 else name + "s")
+
+
+def objects_of(space):
+    """Returns how many objects a space has, in words."""
+    unreachable = space.unreachable()
+    return counted(len(space.objects), "object") + (", %d of them unreachable" % unreachable if unreachable else "")
+
+
+class Mark(NamedTuple):
+    """Words of a space that are marked. `role` says what for."""
+
+    is_old: bool
+    address: int
+    size: int
+    role: str
+    tip: str = ""
+
+
+class Scan(NamedTuple):
+    """The place of the scan pointer: in front of a word of the new space, or behind it."""
+
+    address: int
+    is_behind: bool
+
+
+class Scene:
+    """What is drawn. `new` is None if there is one space. `joined` has pairs of an old address and a new one, which get lines of the role
+    `joined_as`. `scan` is a Scan, or None."""
+
+    def __init__(self, title, old, new=None, joined=(), joined_as="pair"):
+        self.title, self.old, self.new, self.joined, self.joined_as = title, old, new, joined, joined_as
+        self.caption, self.legend = None, []
+        self.marks, self.scan = [], None
+        # Whether they belong to the old space, and their places.
+        self.changed_roots = set()
+        # The place of the root that the checker names.
+        self.root = None
+
+    def note_changed(self, is_old, row, address):
+        """Marks a word of a space, or a root word, that was just changed."""
+        if row == "roots":
+            self.changed_roots.add((is_old, address))
+        else:
+            self.marks.append(Mark(is_old, address, 1, "changed"))
+
+    def spaces(self):
+        """Returns the spaces that there are, each with whether it is the old one."""
+        return [(self.old, True)] + ([] if self.new is None else [(self.new, False)])
+
+    def marks_of(self, role):
+        return [mark for mark in self.marks if mark.role == role]

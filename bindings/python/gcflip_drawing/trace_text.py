@@ -1,0 +1,143 @@
+"""Reads trace texts. A text that is no trace gets the line that `gcflip play` prints; docs/FORMATS.md has the grammar."""
+import re
+from typing import NamedTuple
+
+MOST_BYTES = 16777216
+MOST_WORDS = 1048576
+MOST_MUTATORS = 16
+# No number of a trace has more digits.
+DECIMAL = re.compile("0|[1-9][0-9]{0,18}")
+SLOT = re.compile("[gr](?:[0-9]|1[0-5])")
+FIRST_LINE = re.compile("heaptrace ([123])")
+SECOND_LINE = re.compile("space (%s) mutators (%s)" % (DECIMAL.pattern, DECIMAL.pattern))
+
+
+class BadTrace(Exception):
+    """A text that is no trace. As a text it is the line that `gcflip play` prints; `line` is the faulty line, or None."""
+
+    def __init__(self, message, line=None):
+        super().__init__(message)
+        self.line = line
+
+
+class Event(NamedTuple):
+    """An event line. Slots are numbered as in the binding: a mutator's own are 0 to 15, the shared ones 16 to 31."""
+
+    line: str
+    mutator: "int | None"
+    """The mutator that performs the command; None for a step of the collector."""
+    name: str
+    numbers: "tuple[int, ...]"
+
+
+class Trace(NamedTuple):
+    version: int
+    size: int
+    mutators: int
+    events: "list[Event]"
+
+
+def number_to(most):
+    """Returns a reader of decimals up to `most`. It returns None for any other word."""
+    def read(word):
+        number = int(word) if DECIMAL.fullmatch(word) else most + 1
+        return number if number <= most else None
+    return read
+
+
+def slot(word):
+    if not SLOT.fullmatch(word):
+        return None
+    return int(word[1:]) + (16 if word[0] == "g" else 0)
+
+
+def size(word):
+    return number_to(MOST_WORDS)(word) or None
+
+
+mutator, kind, length, field = number_to(MOST_MUTATORS - 1), number_to(255), number_to(65535), number_to(65535)
+number = number_to(9223372036854775807)
+
+# The forms of each command and of each step: the least version that has the form, and the readers of its words.
+COMMANDS = {
+    "new": [(1, (slot, kind, length))],
+    "raw": [(3, (slot, kind, length))],
+    "num": [(1, (slot, number))],
+    "nil": [(1, (slot,))],
+    "move": [(1, (slot, slot))],
+    "get": [(1, (slot, slot, field))],
+    "put": [(1, (slot, field, slot))],
+    "same": [(1, (slot, slot))],
+    "look": [(1, (slot,))],
+}
+STEPS = {
+    "begin": [(1, ()), (2, (size,))],
+    "roots": [(1, ())],
+    "scan": [(1, ())],
+    "apply": [(1, (mutator,))],
+    "flip": [(1, ())],
+    "drop": [(1, ())],
+}
+
+
+def event_of(line, version=3):
+    """Returns the event that a line spells in a version, or None."""
+    words = line.split(" ")
+    if words[0] == "c" and len(words) > 1:
+        who, forms, name, rest = None, STEPS, words[1], words[2:]
+    elif words[0] == "m" and len(words) > 2 and mutator(words[1]) is not None:
+        who, forms, name, rest = int(words[1]), COMMANDS, words[2], words[3:]
+    else:
+        return None
+    for least, readers in forms.get(name, []):
+        numbers = tuple(read(word) for read, word in zip(readers, rest))
+        if version >= least and len(readers) == len(rest) and None not in numbers:
+            return Event(line, who, name, numbers)
+    return None
+
+
+def version_of(events):
+    """Returns the least version that has all these events."""
+    least = [form[0] for event in events for form in (STEPS if event.mutator is None else COMMANDS)[event.name]
+             if len(form[1]) == len(event.numbers)]
+    return max(least, default=1)
+
+
+def heading(version, size_in_words, mutators):
+    """Returns the first two lines of a trace."""
+    return "heaptrace %d\nspace %d mutators %d\n" % (version, size_in_words, mutators)
+
+
+def names_mutator(event):
+    """Returns the number of the mutator that an event names, or None."""
+    return event.numbers[0] if event.name == "apply" else event.mutator
+
+
+def read_trace(data):
+    """Returns the trace that these bytes spell. Raises BadTrace."""
+    if len(data) > MOST_BYTES:
+        raise BadTrace("trace: too large")
+    # Each byte becomes a character, so that a byte of no text is met where it stands.
+    lines = data.decode("latin-1").split("\n")
+    first = FIRST_LINE.fullmatch(lines[0])
+    second = SECOND_LINE.fullmatch(lines[1]) if len(lines) > 2 else None
+    if not first or not second:
+        raise BadTrace("trace: bad header")
+    version, words, mutators = int(first.group(1)), int(second.group(1)), int(second.group(2))
+    if not 1 <= words <= MOST_WORDS or not 1 <= mutators <= MOST_MUTATORS:
+        raise BadTrace("trace: bad header")
+    return Trace(version, words, mutators, list(read_events(lines[2:], version, mutators)))
+
+
+def read_events(lines, version, mutators):
+    """Yields the events of the lines behind the first two. Raises BadTrace."""
+    for at, line in enumerate(lines, 3):
+        is_last = at == len(lines) + 2
+        if is_last and not line:
+            return
+        event = event_of(line, version)
+        if event is None or is_last:
+            raise BadTrace("trace: bad line %d" % at, at)
+        if (names_mutator(event) or 0) >= mutators:
+            raise BadTrace("trace: no such mutator at line %d" % at, at)
+        yield event

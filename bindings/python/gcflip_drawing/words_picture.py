@@ -1,0 +1,311 @@
+"""Lays out a scene word by word: each space as rows of cells, references as arrows, and a dotted line between objects that belong
+together."""
+from typing import NamedTuple
+
+from .heap import references, shown, target
+from .picture import MARGIN, Picture
+from .scene import counted, objects_of
+
+CELL, HEIGHT = 50, 30
+ROOT_X, ROOT_WIDTH = 24, 96
+GAP = 34
+BETWEEN = 44
+# A row that is wholly free is lower, and nothing is drawn between such rows.
+FREE_HEIGHT, FREE_GAP, LABEL_GAP = 10, 4, 16
+# A caption and a legend need as many columns.
+LEAST_COLUMNS = 11
+MOST_SHOWN_ROOTS = 24
+RIGHT = 24
+LEAST_WIDTH_WITH_ROOTS = 560
+# In a space of more rows, an object has the names of its roots beside its address, and no arrows from them.
+MOST_ROWS_WITH_ARROWS = 2
+
+
+class Grid(NamedTuple):
+    """How a space is put into rows."""
+
+    columns: int = 16
+    has_roots: bool = True
+    """Whether roots stand at the left, with arrows to their targets."""
+    is_whole: bool = False
+    """Whether all free words are drawn, or only as many as fill the last row."""
+
+    def left(self):
+        return 176 if self.has_roots else ROOT_X
+
+
+def grid_of(width, is_whole=False):
+    """Returns the grid for a picture of about this width. Roots stand at the left where enough columns are left."""
+    has_roots = width >= LEAST_WIDTH_WITH_ROOTS
+    left = Grid(has_roots=has_roots).left()
+    return Grid(max(4, min(24, (width - left - RIGHT) // CELL)), has_roots, is_whole)
+
+
+class Side:
+    """A space in the picture: where its words stand."""
+
+    def __init__(self, space, is_old, top, grid, marks=()):
+        self.space, self.is_old, self.top, self.grid = space, is_old, top, grid
+        self.rows = max(1, -(-self.drawn_words() // grid.columns))
+        # The rows that have words of objects, if the free ones behind them are drawn lower.
+        self.high_rows = max(1, -(-len(space.words) // grid.columns)) if grid.is_whole else self.rows
+        self.has_arrows = grid.has_roots and self.high_rows <= MOST_ROWS_WITH_ARROWS
+        self.changed = {mark.address + i for mark in marks if mark.is_old == is_old and mark.role == "changed" for i in range(mark.size)}
+
+    def label(self, thing):
+        """Returns what stands beside an object: its address, and its roots if there are no arrows from them."""
+        if self.has_arrows:
+            return str(thing.start)
+        names = [name for name, word in zip(root_names(len(self.space.roots)), self.space.roots) if target(word) == thing.start]
+        return "%d \u2190 %s" % (thing.start, short(", ".join(names), 18)) if names else str(thing.start)
+
+    def drawn_words(self):
+        """Returns the number of words that have a cell."""
+        end, size = len(self.space.words), self.space.size
+        if self.grid.is_whole:
+            return max(end, size)
+        return max(end, min(size, -(-(end + 1) // self.grid.columns) * self.grid.columns))
+
+    def row_top(self, row):
+        first = self.top + (GAP if self.is_old else 0)
+        if row < self.high_rows:
+            return first + row * (HEIGHT + GAP)
+        between = LABEL_GAP - GAP if self.is_old else 0
+        return first + self.high_rows * (HEIGHT + GAP) + between + (row - self.high_rows) * (FREE_HEIGHT + FREE_GAP)
+
+    def row_height(self, address):
+        return HEIGHT if address // self.grid.columns < self.high_rows else FREE_HEIGHT
+
+    def place(self, address):
+        """Returns the upper left corner of a word's cell."""
+        return self.grid.left() + address % self.grid.columns * CELL, self.row_top(address // self.grid.columns)
+
+    def height(self):
+        if self.rows == self.high_rows:
+            return self.rows * (HEIGHT + GAP)
+        return self.row_top(self.rows) - self.top
+
+    def edge(self, address):
+        """Returns the middle of the side of a cell at which arrows within the space end."""
+        x, y = self.place(address)
+        return x + CELL / 2, y if self.is_old else y + HEIGHT
+
+    def inner_edge(self, address):
+        """Returns the middle of the side that faces the other space."""
+        x, y = self.place(address)
+        return x + CELL / 2, y + HEIGHT if self.is_old else y
+
+    def away(self, distance):
+        """Returns a distance away from the other space."""
+        return -distance if self.is_old else distance
+
+    def segments(self, start, size):
+        """Yields the parts of a run of words that stand in one row, as first address and number of words."""
+        while size > 0:
+            count = min(size, self.grid.columns - start % self.grid.columns)
+            yield start, count
+            start, size = start + count, size - count
+
+
+def short(text, most=7):
+    return text if len(text) <= most else text[: most - 1] + "\u2026"
+
+
+def draw_word(picture, side, address, role, text, tip):
+    x, y = side.place(address)
+    picture.box(x + 3, y + 3, CELL - 6, HEIGHT - 6, "changed" if address in side.changed else role, short(text), tip)
+
+
+def draw_object(picture, side, thing):
+    for address, count in side.segments(thing.start, thing.size()):
+        x, y = side.place(address)
+        tip = "object at %d" if address == thing.start else "rest of the object at %d"
+        picture.box(x, y, count * CELL, HEIGHT, side.space.sort(thing), tip=tip % thing.start)
+    name = "raw" if thing.raw else "kind"
+    draw_word(picture, side, thing.start, "head", "%s %d" % (name, thing.kind), "header: kind %d, %d fields" % (thing.kind, len(thing.fields)))
+    link = side.space.words[thing.start + 1]
+    draw_word(picture, side, thing.start + 1, "head", "link %d" % link, "link word %d" % link)
+    for i, word in enumerate(thing.fields):
+        said = str(word) if thing.raw else shown(word)
+        draw_word(picture, side, thing.start + 2 + i, "cell", said, "field %d: word %d" % (i, word))
+    x, y = side.inner_edge(thing.start)
+    picture.text(x - CELL / 2 + 2, y + (11 if side.is_old else -4), side.label(thing), "small")
+
+
+def draw_rest(picture, side):
+    """Draws the reserved word, words that belong to no object, and free words."""
+    words, known = side.space.words, {0}
+    for thing in side.space.objects.values():
+        known.update(range(thing.start, thing.start + thing.size()))
+    if len(words) > 0:
+        draw_word(picture, side, 0, "reserved", str(words[0]), "word 0 is reserved")
+    for address in range(1, len(words)):
+        if address not in known:
+            draw_word(picture, side, address, "unknown", str(words[address]), "word %d" % words[address])
+    free = range(len(words), min(side.space.size, side.drawn_words()))
+    for address, count in side.segments(free.start, len(free)):
+        x, y = side.place(address)
+        height = side.row_height(address)
+        inset = 3 if height == HEIGHT else 0
+        text = "%d free" % (side.space.size - len(words)) if address == free.start and height == HEIGHT else ""
+        picture.box(x + 3, y + inset, count * CELL - 6, height - 2 * inset, "free", text)
+
+
+def draw_references(picture, side):
+    for thing in side.space.objects.values():
+        for i, address in references(thing):
+            if address in side.space.objects:
+                role = "reference" if thing.start in side.space.live else "stale"
+                draw_reference(picture, side, thing.start + 2 + i, address, role)
+
+
+def draw_reference(picture, side, start, end, role):
+    (x, y), (to_x, to_y) = side.edge(start), side.edge(end)
+    if y == to_y:
+        bend = min(2 * GAP - 16, 22 + abs(to_x - x) / 8)
+        picture.arrow((x, y), ((x + to_x) / 2, y + side.away(bend)), (to_x, to_y), role)
+    else:
+        # From row to row the arrow starts at the side of the cell that faces its target.
+        from_y = side.inner_edge(start)[1] if (to_y > y) == side.is_old else y
+        end_y = side.inner_edge(end)[1] if (to_y < y) == side.is_old else to_y
+        picture.arrow((x, from_y), ((x + to_x) / 2 + 20, (from_y + end_y) / 2), (to_x, end_y), role)
+
+
+def root_names(count):
+    """Returns the names of the places in a list of roots. They are slots if some number of mutators has as many."""
+    if count < 32 or count % 16:
+        return ["root %d" % place for place in range(count)]
+    shared = ["g%d" % place for place in range(16)]
+    one = "r%d" if count == 32 else "m%d r%d"
+    own = [one % (k if count == 32 else (m, k)) for m in range(count // 16 - 1) for k in range(16)]
+    return shared + own
+
+
+def shown_roots(space, wanted):
+    """Returns the places of the roots that are drawn: those that are not nil, and the one that the checker names."""
+    places = [place for place, word in enumerate(space.roots) if word != 0][:MOST_SHOWN_ROOTS]
+    if wanted is not None and wanted < len(space.roots) and wanted not in places:
+        places.append(wanted)
+    return places
+
+
+def draw_roots(picture, side, wanted, changed):
+    """Draws the roots at the left of a space, and marks those that changed and the one that the checker names."""
+    roots = side.space.roots
+    names, places = root_names(len(roots)), shown_roots(side.space, wanted)
+    for line, place in enumerate(places):
+        y = side.row_top(0) + line * (HEIGHT - 4)
+        word = roots[place]
+        role = "changed" if (side.is_old, place) in changed else "root"
+        picture.box(ROOT_X, y, ROOT_WIDTH, HEIGHT - 8, role, "%s  %s" % (names[place], short(shown(word), 9)), "word %d" % word)
+        if place == wanted:
+            picture.box(ROOT_X - 3, y - 3, ROOT_WIDTH + 6, HEIGHT - 2, "fault")
+        address = target(word)
+        if address in side.space.objects and side.has_arrows:
+            x, edge_y = side.edge(address)
+            start = (ROOT_X + ROOT_WIDTH, y + (HEIGHT - 8) / 2)
+            picture.arrow(start, ((start[0] + x) / 2, edge_y + side.away(30)), (x - 12, edge_y), "rooted")
+    hidden = sum(1 for word in roots if word != 0) - len(places)
+    if hidden > 0:
+        picture.text(ROOT_X, side.row_top(0) + len(places) * (HEIGHT - 4) + 12, "and %d more" % hidden, "small")
+
+
+def draw_joined(picture, sides, scene):
+    for old, new in scene.joined:
+        if old < len(scene.old.words) and new < len(scene.new.words):
+            picture.line([sides[0].inner_edge(old), sides[1].inner_edge(new)], scene.joined_as)
+
+
+def draw_marks(picture, side, scene):
+    for mark in scene.marks:
+        if mark.is_old == side.is_old and mark.role != "changed" and mark.address < side.drawn_words():
+            for part, count in side.segments(mark.address, mark.size):
+                x, y = side.place(part)
+                picture.box(x - 1, y - 1, count * CELL + 2, HEIGHT + 2, mark.role, tip=mark.tip)
+
+
+def draw_scan(picture, side, scan):
+    """Draws the scan pointer at the border of a word, left of the address that may stand there."""
+    x, y = side.place(scan.address)
+    x += CELL if scan.is_behind else 0
+    picture.area([(x - 13, y - 12), (x - 1, y - 12), (x - 7, y - 1)], "scan")
+    # In front of a row there is no room for a text.
+    if x > ROOT_X + CELL / 2:
+        picture.text(x - 15, y - 4, "scan", "small", "end")
+
+
+def heading(space):
+    return "%s: %s, end %d, %s" % (space.name, counted(space.size, "word"), len(space.words), objects_of(space))
+
+
+# Roles that a legend shows by a line.
+LINES = ("pair", "link")
+
+
+def draw_legend(picture, legend, y, right):
+    """Draws a sample of each role with its name, in as many lines as they need. Returns the base of the last line."""
+    x = ROOT_X
+    for role, name in legend:
+        sample = 34 if role in LINES else 18
+        if x > ROOT_X and x + sample + 6 + 6 * len(name) + MARGIN > right:
+            x, y = ROOT_X, y + 20
+        if role in LINES:
+            picture.line([(x, y + 6), (x + sample, y + 6)], role)
+        else:
+            picture.box(x, y, sample, 12, role)
+        picture.text(x + sample + 6, y + 10, name, "small")
+        x += sample + 16 + 7 * len(name)
+    return y
+
+
+def side_of(scene, space, is_old, top, grid):
+    """Returns a side of the picture, and its height with the roots."""
+    side = Side(space, is_old, top, grid, scene.marks)
+    roots = len(shown_roots(space, scene.root)) * (HEIGHT - 4) + 16 if grid.has_roots else 0
+    return side, max(side.height(), roots + (GAP if is_old else 0))
+
+
+def draw_side(picture, side, scene):
+    draw_rest(picture, side)
+    for thing in side.space.objects.values():
+        draw_object(picture, side, thing)
+    draw_references(picture, side)
+    if side.grid.has_roots:
+        draw_roots(picture, side, scene.root, scene.changed_roots)
+
+
+def width_of(scene, grid):
+    """Returns the width of the picture: that of its longest row, or of a caption."""
+    least = LEAST_COLUMNS if scene.caption else 0
+    longest = max(Side(space, is_old, 0, grid).drawn_words() for space, is_old in scene.spaces())
+    return grid.left() + min(grid.columns, max(least, longest)) * CELL + RIGHT
+
+
+def drawn_word_by_word(scene, grid=Grid()):
+    """Returns the picture of a scene."""
+    picture, width = Picture(scene.title), width_of(scene, grid)
+    heading_y = picture.paragraph(ROOT_X, draw_caption(picture, scene), heading(scene.old), "label", width)
+    old, old_height = side_of(scene, scene.old, True, heading_y + 2, grid)
+    sides, bottom = [old], old.top + old_height
+    if scene.new:
+        new, new_height = side_of(scene, scene.new, False, bottom + BETWEEN, grid)
+        sides.append(new)
+        bottom = picture.paragraph(ROOT_X, new.top + new_height + 16, heading(scene.new), "label", width)
+        draw_joined(picture, sides, scene)
+    for side in sides:
+        draw_side(picture, side, scene)
+    for side in sides:
+        draw_marks(picture, side, scene)
+    if scene.scan is not None:
+        draw_scan(picture, sides[1], scene.scan)
+    bottom = draw_legend(picture, scene.legend, bottom + 18, width)
+    return picture.sized(width, bottom + 26)
+
+
+def draw_caption(picture, scene):
+    """Draws the title and the caption, if there is one. Returns the base line of the heading below."""
+    if not scene.caption:
+        return 20
+    picture.text(ROOT_X, 26, scene.title, "title")
+    picture.text(ROOT_X, 48, *scene.caption)
+    return 72

@@ -1,0 +1,572 @@
+//! The collected heap: objects of words for 1 to 16 mutators, with an incremental, replicating collector.
+
+use crate::checker::Image;
+use crate::sys::{self, Handle, LogEntry};
+use std::fmt;
+
+const SLOTS: u8 = 16;
+
+/// What calls on a heap return.
+pub type Result<T, E = Error> = std::result::Result<T, E>;
+
+/// Why a call on a heap did nothing. The heap is as it was before the call.
+#[derive(Clone, Copy, Debug, PartialEq, Eq, Hash)]
+pub enum Error {
+    /// An allocation failed. The call can be retried.
+    NoMemory,
+    /// An argument is out of its range.
+    OutOfRange,
+    /// The heap has no room for the object.
+    Full,
+    /// The slot does not refer to an object.
+    NoObject,
+    /// The object has no such field.
+    NoField,
+    /// The object is raw and the value no number.
+    NoNumber,
+    /// A collection is open already.
+    Busy,
+    /// No collection is open.
+    Idle,
+    /// The new space has no room for a replica.
+    NoRoom,
+    /// The collection is not ready for its flip.
+    NotReady,
+    /// The checker refused the certificate of a flip. It is proved that this does not happen.
+    FlipRefused,
+}
+
+impl fmt::Display for Error {
+    fn fmt(&self, formatter: &mut fmt::Formatter) -> fmt::Result {
+        formatter.write_str(match self {
+            Error::NoMemory => "no memory",
+            Error::OutOfRange => "an argument is out of its range",
+            Error::Full => "full",
+            Error::NoObject => "no object",
+            Error::NoField => "no field",
+            Error::NoNumber => "no number",
+            Error::Busy => "busy",
+            Error::Idle => "idle",
+            Error::NoRoom => "no room",
+            Error::NotReady => "not ready",
+            Error::FlipRefused => "refused",
+        })
+    }
+}
+
+impl std::error::Error for Error {}
+
+/// A slot of a mutator: a root, which holds nil, a number, or a reference to an object.
+///
+/// ```
+/// use gcflip::Slot;
+///
+/// const LIST: Slot = Slot::shared(0);
+/// const NUMBER: Slot = Slot::own(15);
+/// assert_eq!((LIST.to_string(), NUMBER.to_string()), ("g0".into(), "r15".into()));
+/// ```
+#[derive(Clone, Copy, Debug, PartialEq, Eq, Hash)]
+pub struct Slot(u8);
+
+impl Slot {
+    /// Returns the slot of this number, 0 to 15, that each mutator has for itself.
+    ///
+    /// # Panics
+    ///
+    /// Panics if there is no such slot; in a constant, the program does not compile.
+    pub const fn own(number: u8) -> Slot {
+        assert!(number < SLOTS, "the slots are 0 to 15");
+        Slot(number)
+    }
+
+    /// Returns the slot of this number, 0 to 15, that all mutators share.
+    ///
+    /// # Panics
+    ///
+    /// Panics if there is no such slot; in a constant, the program does not compile.
+    pub const fn shared(number: u8) -> Slot {
+        assert!(number < SLOTS, "the slots are 0 to 15");
+        Slot(SLOTS + number)
+    }
+}
+
+/// Writes the slot as a trace does: `r0` to `r15`, or `g0` to `g15`.
+impl fmt::Display for Slot {
+    fn fmt(&self, formatter: &mut fmt::Formatter) -> fmt::Result {
+        write!(formatter, "{}{}", if self.0 < SLOTS { 'r' } else { 'g' }, self.0 % SLOTS)
+    }
+}
+
+/// What is seen of a value. No call shows an address.
+#[derive(Clone, Copy, Debug, PartialEq, Eq, Hash)]
+pub enum Value {
+    /// Nil.
+    Nil,
+    /// A number below 2^63.
+    Number(u64),
+    /// A reference to an object.
+    Object {
+        /// The object's kind.
+        kind: u8,
+        /// The number of its fields.
+        fields: u16,
+    },
+    /// A reference to an object whose fields are plain numbers.
+    RawObject {
+        /// The object's kind.
+        kind: u8,
+        /// The number of its fields.
+        fields: u16,
+    },
+}
+
+/// What a step of the collector did.
+#[derive(Clone, Copy, Debug, PartialEq, Eq, Hash)]
+pub enum Step {
+    /// A collection is open now.
+    Begun,
+    /// Nothing is left for this step.
+    Clean,
+    /// A root's target has a replica now.
+    Copied,
+    /// The scan pointer moved on to the next replica.
+    Passed,
+    /// One field was scanned.
+    Scanned,
+    /// One log entry was applied.
+    Applied,
+    /// Mutators go on in the new space.
+    Flipped {
+        /// The number of pairs.
+        pairs: u32,
+    },
+    /// The new space has no room for a replica. Only [`Heap::work`] returns this; a single step returns [`Error::NoRoom`].
+    NoRoom,
+}
+
+/// What [`Heap::work`] did.
+#[derive(Clone, Copy, Debug, PartialEq, Eq, Hash)]
+pub struct Work {
+    /// How many steps were made, at least 1.
+    pub steps: u32,
+    /// How many words replicas took in the new space.
+    pub copied: u32,
+    /// What the last step did.
+    pub last: Step,
+}
+
+/// How full a heap is, and how far an open collection has come.
+#[derive(Clone, Copy, Debug, PartialEq, Eq, Hash)]
+pub struct Counts {
+    /// The words of the heap.
+    pub size: u32,
+    /// The first word that no object takes.
+    pub end: u32,
+    /// The words that no object takes.
+    pub free: u32,
+    /// The number of mutators.
+    pub mutators: u8,
+    /// Whether a collection is open. All numbers below are 0 if none is.
+    pub is_open: bool,
+    /// The words of the new space.
+    pub new_size: u32,
+    /// Its first word that no replica takes.
+    pub new_end: u32,
+    /// The address of the replica at the scan pointer, or `new_end`.
+    pub scan_place: u32,
+    /// How many of its fields are scanned.
+    pub scan_field: u32,
+}
+
+/// The words of a heap, links included, and its root words, the shared slots first.
+#[derive(Clone, Debug, PartialEq, Eq, Hash)]
+pub struct OwnedImage {
+    /// The words of the heap.
+    pub size: u32,
+    /// The words 0 to end - 1.
+    pub words: Vec<u64>,
+    /// The root words.
+    pub roots: Vec<u64>,
+}
+
+impl OwnedImage {
+    /// Returns the image for a check.
+    pub fn as_image(&self) -> Image<'_> {
+        Image { size: self.size, words: &self.words, roots: &self.roots, raws: true }
+    }
+}
+
+/// A collected heap. Each call returns an error if it did nothing; the heap is then as it was.
+///
+/// A heap may move between threads, and one thread at a time uses it: it is `Send` and not `Sync`. Put it into a `Mutex` to share it.
+///
+/// ```
+/// fn moves<T: Send>() {}
+/// moves::<gcflip::Heap>();
+/// ```
+///
+/// ```compile_fail,E0277
+/// fn is_shared<T: Sync>() {}
+/// is_shared::<gcflip::Heap>();
+/// ```
+pub struct Heap {
+    handle: Handle,
+    mutators: u8,
+}
+
+impl fmt::Debug for Heap {
+    fn fmt(&self, formatter: &mut fmt::Formatter) -> fmt::Result {
+        formatter.debug_struct("Heap").field("counts", &self.counts()).finish()
+    }
+}
+
+impl Heap {
+    /// Opens an empty heap of `size` words, 1 to 1048576, for 1 to 16 mutators. All slots hold nil.
+    ///
+    /// # Errors
+    ///
+    /// Returns `OutOfRange`, or `NoMemory`.
+    pub fn open(size: u32, mutators: u8) -> Result<Heap> {
+        let (answer, handle) = Handle::open(size, mutators);
+        done(answer, Heap { handle, mutators })
+    }
+
+    /// Returns the mutator of this number, counted from 0.
+    ///
+    /// # Errors
+    ///
+    /// Returns `OutOfRange` if there is no such mutator.
+    pub fn mutator(&self, number: u8) -> Result<Mutator<'_>> {
+        if number < self.mutators {
+            Ok(Mutator { heap: self, number })
+        } else {
+            Err(Error::OutOfRange)
+        }
+    }
+
+    // ---- Collector steps
+
+    /// Opens a collection whose new space is as large as the heap.
+    ///
+    /// # Errors
+    ///
+    /// Returns `Busy` if a collection is open, or `NoMemory`.
+    pub fn begin(&self) -> Result<()> {
+        replied(self.handle.begin()).map(drop)
+    }
+
+    /// Opens a collection whose new space has `size` words, 1 to 1048576. If it is at least as large as the heap, no step lacks room.
+    ///
+    /// # Errors
+    ///
+    /// Returns `Busy` if a collection is open, `OutOfRange`, or `NoMemory`.
+    pub fn begin_sized(&self, size: u32) -> Result<()> {
+        replied(self.handle.begin_sized(size)).map(drop)
+    }
+
+    /// Replicates the target of the first root whose target has no replica: `Copied` or `Clean`.
+    ///
+    /// # Errors
+    ///
+    /// Returns `NoRoom`, or `Idle` if no collection is open.
+    pub fn roots(&self) -> Result<Step> {
+        stepped(self.handle.roots())
+    }
+
+    /// Brings the field at the scan pointer up to date, or moves on to the next replica: `Scanned`, `Passed` or `Clean`.
+    ///
+    /// # Errors
+    ///
+    /// Returns `NoRoom`, or `Idle` if no collection is open.
+    pub fn scan(&self) -> Result<Step> {
+        stepped(self.handle.scan())
+    }
+
+    /// Applies the oldest entry of a mutator's log: `Applied` or `Clean`.
+    ///
+    /// # Errors
+    ///
+    /// Returns `NoRoom`, `Idle` if no collection is open, or `OutOfRange`.
+    pub fn apply(&self, mutator: u8) -> Result<Step> {
+        stepped(self.handle.apply(mutator))
+    }
+
+    /// Flips if the collection is ready and the checker accepts its certificate, and returns the number of pairs.
+    ///
+    /// # Errors
+    ///
+    /// Returns `NotReady`, `Idle` if no collection is open, or `NoMemory`.
+    pub fn flip(&self) -> Result<u32> {
+        let (answer, pairs) = self.handle.flip();
+        replied(answer).map(|_| pairs)
+    }
+
+    /// Gives the open collection up: frees the new space and the logs.
+    ///
+    /// # Errors
+    ///
+    /// Returns `Idle` if no collection is open.
+    pub fn drop_collection(&self) -> Result<()> {
+        replied(self.handle.give_up()).map(drop)
+    }
+
+    /// Makes useful steps, at most `most`.
+    ///
+    /// The useful step begins a collection if none is open; else it is the first of roots, scan and apply with something left to do, and at last
+    /// the flip. Work ends after a flip, and after a step for which there is no room. If an allocation fails, it ends before that step.
+    ///
+    /// # Errors
+    ///
+    /// Returns `OutOfRange` if `most` is 0, or `NoMemory` if an allocation of the first step fails.
+    pub fn work(&self, most: u32) -> Result<Work> {
+        let (answer, work) = self.handle.work(most);
+        done(answer, ())?;
+        Ok(Work { steps: work.steps, copied: work.copied, last: step_of(work.last, work.pairs) })
+    }
+
+    /// Collects the garbage: finishes the open collection, or makes a whole one, and returns the number of pairs of its flip.
+    ///
+    /// # Errors
+    ///
+    /// Returns `NoRoom` if the open collection has a new space that is too small, or `NoMemory`.
+    pub fn collect(&self) -> Result<u32> {
+        loop {
+            match self.work(u32::MAX)?.last {
+                Step::Flipped { pairs } => return Ok(pairs),
+                Step::NoRoom => return Err(Error::NoRoom),
+                _ => {}
+            }
+        }
+    }
+
+    // ---- Reading
+
+    /// Reads how full the heap is, and how far an open collection has come.
+    pub fn counts(&self) -> Counts {
+        let (_, counts) = self.handle.counts();
+        Counts {
+            size: counts.size,
+            end: counts.end,
+            free: counts.free,
+            mutators: self.mutators,
+            is_open: counts.is_open != 0,
+            new_size: counts.new_size,
+            new_end: counts.new_end,
+            scan_place: counts.scan_place,
+            scan_field: counts.scan_field,
+        }
+    }
+
+    /// Reads the length of a mutator's log, which is 0 while no collection is open.
+    ///
+    /// # Errors
+    ///
+    /// Returns `OutOfRange` if there is no such mutator.
+    pub fn log_length(&self, mutator: u8) -> Result<usize> {
+        let (answer, length) = self.handle.log_length(mutator);
+        done(answer, length)
+    }
+
+    /// Reads an entry of a mutator's log, the oldest being entry 0.
+    ///
+    /// # Errors
+    ///
+    /// Returns `OutOfRange` if there is no such mutator or entry.
+    pub fn log_entry(&self, mutator: u8, number: usize) -> Result<LogEntry> {
+        let (answer, entry) = self.handle.log_entry(mutator, number);
+        done(answer, entry)
+    }
+
+    /// Copies the heap's words, links included, and the root words.
+    pub fn image(&self) -> OwnedImage {
+        let counts = self.counts();
+        let slots = usize::from(SLOTS);
+        let mut image = OwnedImage {
+            size: counts.size,
+            words: vec![0; counts.end as usize],
+            roots: vec![0; slots + slots * usize::from(self.mutators)],
+        };
+        let answer = self.handle.image(&mut image.words, &mut image.roots);
+        assert_eq!(answer, sys::GCFLIP_DONE, "the lengths are those of the heap");
+        image
+    }
+
+    /// Copies the words of the open collection's new space. A replica's link is its original's address.
+    ///
+    /// # Errors
+    ///
+    /// Returns `Idle` if no collection is open.
+    pub fn new_words(&self) -> Result<Vec<u64>> {
+        let counts = self.counts();
+        if !counts.is_open {
+            return Err(Error::Idle);
+        }
+        let mut words = vec![0; counts.new_end as usize];
+        let answer = self.handle.new_words(&mut words);
+        assert_eq!(answer, sys::GCFLIP_DONE, "the length is that of the new space");
+        Ok(words)
+    }
+}
+
+/// A client of a heap, with sixteen slots of its own beside the shared ones. Slots are the roots.
+#[derive(Clone, Copy, Debug)]
+pub struct Mutator<'a> {
+    heap: &'a Heap,
+    number: u8,
+}
+
+impl Mutator<'_> {
+    /// Makes an object of this kind with so many fields, all nil, and puts a reference to it into the slot. It takes two words more than it has
+    /// fields.
+    ///
+    /// # Errors
+    ///
+    /// Returns `Full` if the heap has no room for it.
+    pub fn make(&self, slot: Slot, kind: u8, fields: u16) -> Result<()> {
+        replied(self.heap.handle.make(self.number, slot.0, kind, fields)).map(drop)
+    }
+
+    /// Makes an object whose fields are plain numbers, all 0, like [`Mutator::make`].
+    ///
+    /// # Errors
+    ///
+    /// Returns `Full` if the heap has no room for it.
+    pub fn make_raw(&self, slot: Slot, kind: u8, fields: u16) -> Result<()> {
+        replied(self.heap.handle.make_raw(self.number, slot.0, kind, fields)).map(drop)
+    }
+
+    /// Puts a number below 2^63 into the slot.
+    ///
+    /// # Errors
+    ///
+    /// Returns `OutOfRange` if the number is larger.
+    pub fn num(&self, slot: Slot, number: u64) -> Result<()> {
+        replied(self.heap.handle.num(self.number, slot.0, number)).map(drop)
+    }
+
+    /// Puts nil into the slot.
+    pub fn nil(&self, slot: Slot) {
+        always(self.heap.handle.nil(self.number, slot.0));
+    }
+
+    /// Copies the value of slot `source` into the slot.
+    pub fn copy(&self, slot: Slot, source: Slot) {
+        always(self.heap.handle.copy(self.number, slot.0, source.0));
+    }
+
+    /// Reads a field of the object that slot `source` refers to into the slot, and returns what is seen of it.
+    ///
+    /// # Errors
+    ///
+    /// Returns `NoObject` or `NoField`.
+    pub fn get(&self, slot: Slot, source: Slot, field: u16) -> Result<Value> {
+        let (answer, number) = self.heap.handle.get(self.number, slot.0, source.0, field);
+        Ok(match replied(answer)? {
+            sys::GCFLIP_NIL => Value::Nil,
+            sys::GCFLIP_NUMBER => Value::Number(number),
+            // The library does not read the object that it found.
+            _ => self.look(slot),
+        })
+    }
+
+    /// Writes the value of slot `source` into a field of the object that the slot refers to. While a collection is open, this is logged.
+    ///
+    /// # Errors
+    ///
+    /// Returns `NoObject`, `NoField`, `NoNumber`, or, while a collection is open, `NoMemory`.
+    pub fn put(&self, slot: Slot, field: u16, source: Slot) -> Result<()> {
+        replied(self.heap.handle.put(self.number, slot.0, field, source.0)).map(drop)
+    }
+
+    /// Puts a number below 2^63 into slot `source`, and then writes it into a field like [`Mutator::put`]. If that returns `NoMemory`, it did
+    /// neither.
+    ///
+    /// # Errors
+    ///
+    /// Returns `NoObject` or `NoField`; the slot has the number then. Returns `OutOfRange` if the number is larger, or, while a collection is
+    /// open, `NoMemory`.
+    pub fn put_number(&self, slot: Slot, field: u16, source: Slot, number: u64) -> Result<()> {
+        replied(self.heap.handle.put_number(self.number, slot.0, field, source.0, number)).map(drop)
+    }
+
+    /// Makes an object of two fields, which take the values of two slots, and puts a reference to it into the slot: what [`Mutator::make`] and two
+    /// [`Mutator::put`] do one after the other. A field that is given from the slot itself refers to the object.
+    ///
+    /// # Errors
+    ///
+    /// Returns `Full`, or, while a collection is open, `NoMemory`. Then it did nothing.
+    pub fn cons(&self, slot: Slot, kind: u8, first: Slot, second: Slot) -> Result<()> {
+        replied(self.heap.handle.cons(self.number, slot.0, kind, first.0, second.0)).map(drop)
+    }
+
+    /// Returns whether both slots hold nil, equal numbers, or references to one object.
+    pub fn same(&self, first: Slot, second: Slot) -> bool {
+        always(self.heap.handle.same(self.number, first.0, second.0)) == sys::GCFLIP_SAME
+    }
+
+    /// Returns what is seen of the slot's value.
+    pub fn look(&self, slot: Slot) -> Value {
+        let (answer, view) = self.heap.handle.look(self.number, slot.0);
+        // A kind has 8 bits and a number of fields 16, as the header says.
+        let (kind, fields) = (view.kind as u8, view.count as u16);
+        match always(answer) {
+            sys::GCFLIP_NIL => Value::Nil,
+            sys::GCFLIP_NUMBER => Value::Number(view.number),
+            sys::GCFLIP_OBJECT => Value::Object { kind, fields },
+            sys::GCFLIP_RAW_OBJECT => Value::RawObject { kind, fields },
+            number => unreachable!("a look gives no answer {number}"),
+        }
+    }
+}
+
+// ---- What the library returns
+
+fn done<T>(answer: u32, result: T) -> Result<T> {
+    match answer {
+        sys::GCFLIP_DONE => Ok(result),
+        sys::GCFLIP_HEAP_NO_MEMORY => Err(Error::NoMemory),
+        sys::GCFLIP_HEAP_OUT_OF_RANGE => Err(Error::OutOfRange),
+        _ => unreachable!("an open handle gives no answer {answer}"),
+    }
+}
+
+/// Returns the answer, or the error that it says.
+fn replied(answer: u32) -> Result<u32> {
+    match answer {
+        sys::GCFLIP_HEAP_NO_MEMORY => Err(Error::NoMemory),
+        sys::GCFLIP_HEAP_OUT_OF_RANGE => Err(Error::OutOfRange),
+        sys::GCFLIP_FULL => Err(Error::Full),
+        sys::GCFLIP_NO_OBJECT => Err(Error::NoObject),
+        sys::GCFLIP_NO_FIELD => Err(Error::NoField),
+        sys::GCFLIP_NO_NUMBER => Err(Error::NoNumber),
+        sys::GCFLIP_BUSY => Err(Error::Busy),
+        sys::GCFLIP_IDLE => Err(Error::Idle),
+        sys::GCFLIP_NO_ROOM => Err(Error::NoRoom),
+        sys::GCFLIP_NOT_READY => Err(Error::NotReady),
+        sys::GCFLIP_FLIP_REFUSED => Err(Error::FlipRefused),
+        _ => Ok(answer),
+    }
+}
+
+/// Returns the answer to a command that cannot fail: its mutator and its slots exist.
+fn always(answer: u32) -> u32 {
+    replied(answer).unwrap_or_else(|error| unreachable!("{error}"))
+}
+
+fn stepped(answer: u32) -> Result<Step> {
+    replied(answer).map(|reply| step_of(reply, 0))
+}
+
+fn step_of(reply: u32, pairs: u32) -> Step {
+    match reply {
+        sys::GCFLIP_BEGUN => Step::Begun,
+        sys::GCFLIP_CLEAN => Step::Clean,
+        sys::GCFLIP_COPIED => Step::Copied,
+        sys::GCFLIP_PASSED => Step::Passed,
+        sys::GCFLIP_SCANNED => Step::Scanned,
+        sys::GCFLIP_APPLIED => Step::Applied,
+        sys::GCFLIP_FLIPPED => Step::Flipped { pairs },
+        sys::GCFLIP_NO_ROOM => Step::NoRoom,
+        number => unreachable!("a step gives no answer {number}"),
+    }
+}

@@ -1,0 +1,110 @@
+//! Calls whose allocations fail. This program defines the three functions by which the archive allocates, and lets one allocation fail.
+//! `docs/EMBEDDING.md` says what they owe.
+
+use gcflip::{check, Error, Heap, Image, Pair, Refusal, Slot, Step, Value};
+use std::alloc::{alloc, dealloc, realloc, Layout};
+use std::cell::Cell;
+
+#[repr(C)]
+pub struct Memory {
+    ok: bool,
+    at: *mut u8,
+}
+
+/// The size of a block stands in front of it.
+const HEADER: usize = 16;
+
+thread_local! {
+    /// The allocations from here to the one that fails; 0 if none fails.
+    static FAILING: Cell<u32> = const { Cell::new(0) };
+}
+
+fn fails() -> bool {
+    let left = FAILING.get();
+    FAILING.set(left.saturating_sub(1));
+    left == 1
+}
+
+fn layout(size: usize) -> Layout {
+    Layout::from_size_align(HEADER + size, HEADER).unwrap()
+}
+
+/// Returns the block behind its header, or nothing.
+unsafe fn memory(header: *mut u8, size: usize) -> Memory {
+    if header.is_null() {
+        return Memory { ok: false, at: std::ptr::NonNull::<u8>::dangling().as_ptr() };
+    }
+    header.cast::<usize>().write(size);
+    Memory { ok: true, at: header.add(HEADER) }
+}
+
+#[no_mangle]
+unsafe extern "C" fn rattle_alloc(size: usize, _alignment: usize) -> Memory {
+    memory(if fails() { std::ptr::null_mut() } else { alloc(layout(size)) }, size)
+}
+
+#[no_mangle]
+unsafe extern "C" fn rattle_realloc(old: *mut u8, _used: usize, size: usize, _alignment: usize) -> Memory {
+    let header = old.sub(HEADER);
+    let old_size = header.cast::<usize>().read();
+    memory(if fails() { std::ptr::null_mut() } else { realloc(header, layout(old_size), HEADER + size) }, size)
+}
+
+#[no_mangle]
+unsafe extern "C" fn rattle_dealloc(old: *mut u8) {
+    let header = old.sub(HEADER);
+    dealloc(header, layout(header.cast::<usize>().read()));
+}
+
+/// Makes the call with its n-th allocation failing, for each n until none fails. Each call but the last has to return the error. Returns how
+/// many did.
+fn refused<T, E: Copy + PartialEq + std::fmt::Debug>(error: E, mut call: impl FnMut() -> Result<T, E>) -> u32 {
+    for failing in 1..100 {
+        FAILING.set(failing);
+        let result = call();
+        let was_met = FAILING.replace(0) == 0;
+        if !was_met {
+            assert!(result.is_ok());
+            return failing - 1;
+        }
+        assert_eq!(result.err(), Some(error));
+    }
+    panic!("the call never had enough memory")
+}
+
+const SLOT: Slot = Slot::own(0);
+
+/// A heap with one object.
+fn prepared() -> Heap {
+    let heap = Heap::open(64, 1).unwrap();
+    heap.mutator(0).unwrap().make(SLOT, 1, 1).unwrap();
+    heap
+}
+
+#[test]
+fn opening() {
+    assert!(refused(Error::NoMemory, || Heap::open(64, 1)) > 0);
+}
+
+#[test]
+fn steps() {
+    let heap = prepared();
+    assert!(refused(Error::NoMemory, || heap.begin()) > 0);
+    assert_eq!(heap.work(3).unwrap().last, Step::Passed);
+    assert!(refused(Error::NoMemory, || heap.flip()) > 0);
+    assert!(refused(Error::NoMemory, || heap.begin_sized(128)) > 0);
+    heap.drop_collection().unwrap();
+    assert!(refused(Error::NoMemory, || heap.work(1)) > 0);
+    let mutator = heap.mutator(0).unwrap();
+    assert!(refused(Error::NoMemory, || mutator.put(SLOT, 0, SLOT)) > 0);
+    assert_eq!(heap.log_length(0), Ok(1), "a failed write is not logged");
+    heap.collect().unwrap();
+    assert_eq!(mutator.get(SLOT, SLOT, 0), Ok(Value::Object { kind: 1, fields: 1 }));
+}
+
+#[test]
+fn checking() {
+    let image = Image { size: 8, words: &[0, 16777216, 0], roots: &[2], raws: false };
+    let pairs = [Pair { old_address: 1, new_address: 1 }];
+    assert!(refused(Refusal::NoMemory, || check(&image, &image, &pairs)) > 0);
+}

@@ -1,0 +1,151 @@
+-- What a reader of a pair text has read.
+use Rattle.std.proofs.Common.{◌≡◌, ℕ, ◌+◌, ◌-◌, ◌≤◌, true, List, [], ◌∷◌, ◌++◌, length, drop, refl, sym, ap, ◌∙◌, arith, append_assoc, Option, Some, None, IfSome}
+use Rattle.std.proofs.lemmas.List.{append-nil, drop_all, drop_at, length-append}
+use Rattle.gc_graph.specs.Lines.{text_of}
+use Rattle.gc_graph.specs.ReadFaults.{MayFailReading}
+use Rattle.gc_graph.specs.declared.text.pieces.ReadFault.{ReadFault}
+use Rattle.gc_graph.specs.declared.text.pieces.ReadFault.TheVariants as reading
+use Rattle.gc_cert.specs.Faults.{limit}
+use Rattle.gc_cert.specs.Internal.Faults.{fault_of_reading}
+use Rattle.gc_cert.specs.Internal.Reading.{IsReading, IsAt, CannotRead, GoesOn, MayEnd, MayFailHaving, unread}
+use Rattle.gc_cert.specs.Grammar.{CertifiedPair, HasText, lines_of}
+use Rattle.gc_cert.specs.Internal.Sections.{Section, Spelled, MayStop}
+use Rattle.gc_cert.specs.Sections.{Place, HasTaken, start}
+use Rattle.gc_cert.specs.declared.fault.PairFault.{PairFault}
+use Rattle.gc_cert.specs.declared.fault.PairFault.TheVariants.{Read, TooLarge, BadLine, EndsEarly, NoMemory}
+use Rattle.gc_cert.specs.declared.pair_reader.PairReader.{PairReader}
+use Rattle.gc_cert.proofs.Parts.{TextSection}
+use Rattle.gc_cert.proofs.Stops.{Delimits, BeginsWith, stop_within}
+use Rattle.gc_cert.proofs.Total.{stopped, went_on}
+
+-- ---- faults of reading
+
+pub cannot_read : (fault : ReadFault) (most : ℕ) (text : List ℕ) (left : Option (List ℕ)) → most ≡ limit → MayFailReading fault most text → (fault ≡ reading.TooLarge → left ≡ Some (drop (most + 1) text)) → CannotRead (fault_of_reading fault) text left
+cannot_read reading.Read most text left is h stops = tt
+cannot_read reading.TooLarge most text left is h stops = (omega (arith, is, h), stops refl ∙ ap (λ (n : ℕ). Some (drop (n + 1) text)) is)
+cannot_read reading.NoMemory most text left is h stops = tt
+
+-- what keeps a reader from going on ends every section
+pub cannot_end : (S : Section) (fault : PairFault) (text : List ℕ) (p : Place) (left : Option (List ℕ)) → CannotRead fault text left → MayEnd S fault text p left
+cannot_end S Read text p left h = tt
+cannot_end S TooLarge text p left h = h
+cannot_end S (BadLine n) text p left h = absurd h
+cannot_end S EndsEarly text p left h = absurd h
+cannot_end S NoMemory text p left h = tt
+
+-- what stops a section at the end of the text
+pub stop_ends : (S : Section) (fault : PairFault) (text : List ℕ) (p : Place) (left : Option (List ℕ)) → MayStop S fault p → length text ≤ limit → MayEnd S fault text p left
+stop_ends S Read text p left h short = absurd h
+stop_ends S TooLarge text p left h short = absurd h
+stop_ends S (BadLine n) text p left h short = (h, short)
+stop_ends S EndsEarly text p left h short = (h, short)
+stop_ends S NoMemory text p left h short = tt
+
+pub cannot_go_on : (fault : PairFault) (text : List ℕ) (p : Place) (left : Option (List ℕ)) → CannotRead fault text left → GoesOn fault text p left
+cannot_go_on Read text p left h = h
+cannot_go_on TooLarge text p left h = h
+cannot_go_on (BadLine n) text p left h = absurd h
+cannot_go_on EndsEarly text p left h = h
+cannot_go_on NoMemory text p left h = h
+
+-- ---- lines that are taken off the bytes that wait
+
+-- these bytes, behind so many lines
+abbrev pub waiting_bytes : List ℕ → ℕ → Place
+waiting_bytes bytes taken = record { rest = bytes; taken = taken }
+
+-- where the bytes that wait begin
+abbrev pub waiting_place : PairReader → Place
+waiting_place r = waiting_bytes r.pieces.waiting r.taken
+
+-- where a reader is that has left these lines of them
+abbrev pub left_at : PairReader → Place → PairReader
+left_at r q = record r { pieces = record r.pieces { waiting = drop (length r.pieces.waiting - length q.rest) r.pieces.waiting }; taken = q.taken }
+
+left_is : (front rest waiting : List ℕ) → waiting ≡ front ++ rest → drop (length waiting - length rest) waiting ≡ rest
+left_is front rest waiting is =
+    let count : length front ≡ length waiting - length rest = omega (arith, ap length is, length-append front rest) in
+    ap (drop (length waiting - length rest)) is ∙ drop_at front rest (length waiting - length rest) count
+
+pub lines_left : (text : List ℕ) (p : Place) (r : PairReader) (left : Option (List ℕ)) (lines : List (List ℕ)) (q : Place) → IsAt text p r left → HasTaken lines (waiting_place r) q → (at : Place) × IsAt text at (left_at r q) left × HasTaken lines p at
+lines_left text p r left lines q h taken =
+    let more = drop r.pieces.read text in
+    let waits = left_is (text_of lines) q.rest r.pieces.waiting taken.parts in (
+      record { rest = q.rest ++ more; taken = q.taken },
+      record {
+        within = record { left_is = h.within.left_is; read_is = h.within.read_is; rest_is = ap (λ (l : List ℕ). l ++ more) (sym waits); end_is = h.within.end_is };
+        taken_is = refl;
+      },
+      record {
+        parts = h.within.rest_is ∙ ap (λ (l : List ℕ). l ++ more) taken.parts ∙ append_assoc (text_of lines) q.rest more;
+        number = omega (arith, taken.number, h.taken_is);
+      },
+    )
+
+pub still_reading : (r : PairReader) (lines : List (List ℕ)) (q : Place) → IsReading r → HasTaken lines (waiting_place r) q → length lines ≤ length (text_of lines) → IsReading (left_at r q)
+still_reading r lines q h taken short = record {
+  counted = omega (arith, h.counted, taken.number, short, ap length taken.parts, length-append (text_of lines) q.rest, ap length (left_is (text_of lines) q.rest r.pieces.waiting taken.parts));
+  bounded = h.bounded;
+  limit_is = h.limit_is;
+}
+
+-- ---- the start and the end of the text
+
+-- a reader that has all of the text left is at its start
+pub at_start : (text : List ℕ) (left : Option (List ℕ)) → left ≡ Some text → IsAt text (start text) unread left
+at_start text left is = record { within = record { left_is = is; read_is = omega arith; rest_is = refl; end_is = λ e. cc }; taken_is = refl }
+
+pub no_byte : (bytes : List ℕ) → length bytes ≡ 0 → bytes ≡ []
+no_byte [] none = refl
+no_byte (b ∷ bytes) none = absurd (omega (arith, none))
+
+-- at the end, what is left of the text waits
+pub all_read : (text : List ℕ) (p : Place) (r : PairReader) (left : Option (List ℕ)) → IsAt text p r left → r.pieces.ended ≡ true → (p.rest ≡ r.pieces.waiting) × (length text ≤ r.pieces.read)
+all_read text p r left h ended =
+    let short = h.within.end_is ended in
+    (h.within.rest_is ∙ ap (λ (l : List ℕ). r.pieces.waiting ++ l) (drop_all r.pieces.read text short) ∙ append-nil r.pieces.waiting, short)
+
+pub ends_there : (text : List ℕ) (p : Place) (r : PairReader) (left : Option (List ℕ)) (next : PairReader) (left' : Option (List ℕ)) → IsAt text p r left → IsAt text p next left' → next.pieces.ended ≡ true → next.pieces.read ≡ r.pieces.read → (p ≡ waiting_place r) × (length text ≤ next.pieces.read)
+ends_there text p r left next left' h within ended same =
+    let short : length text ≤ r.pieces.read = omega (arith, within.within.end_is ended, same) in
+    let rest : p.rest ≡ r.pieces.waiting = h.within.rest_is ∙ ap (λ (l : List ℕ). r.pieces.waiting ++ l) (drop_all r.pieces.read text short) ∙ append-nil r.pieces.waiting in
+    (ap (λ (l : List ℕ). record p { rest = l }) rest ∙ ap (λ (n : ℕ). record { rest = r.pieces.waiting; taken = n }) h.taken_is, within.within.end_is ended)
+
+-- ---- what ends a section within a section
+
+pub end_within : {V : Type 0} (InRange : V → Type 0) (lines_of : V → List (List ℕ)) (S : Section) (done : List (List ℕ)) (text : List ℕ) (old mid : Place) (fault : PairFault) (left : Option (List ℕ)) → Delimits InRange lines_of → BeginsWith InRange lines_of (λ lines. S (done ++ lines)) → HasTaken done old mid
+    → MayEnd (Spelled InRange lines_of) fault text mid left → MayEnd S fault text old left
+end_within InRange lines_of S done text old mid Read left one with taken w = w
+end_within InRange lines_of S done text old mid TooLarge left one with taken w = w
+end_within InRange lines_of S done text old mid (BadLine n) left one with taken w = (stop_within InRange lines_of S done old mid (BadLine n) one with taken w.0, w.1)
+end_within InRange lines_of S done text old mid EndsEarly left one with taken w = (stop_within InRange lines_of S done old mid EndsEarly one with taken w.0, w.1)
+end_within InRange lines_of S done text old mid NoMemory left one with taken w = w
+
+-- the first fault of a text that ended
+pub ended_text : (text : List ℕ) (fault : PairFault) (left : Option (List ℕ)) → MayEnd TextSection fault text (start text) left → MayFailHaving fault text left
+ended_text text Read left w = (tt, λ e. cc)
+ended_text text TooLarge left w = (w.0, λ e. w.1)
+ended_text text (BadLine n) left w = (stopped text (start text) (BadLine n) refl w.1 w.0, λ e. cc)
+ended_text text EndsEarly left w = (stopped text (start text) EndsEarly refl w.1 w.0, λ e. cc)
+ended_text text NoMemory left w = (tt, λ e. cc)
+
+-- a text that cannot be read on
+pub unread_text : (text : List ℕ) (fault : PairFault) (left : Option (List ℕ)) → CannotRead fault text left → MayFailHaving fault text left
+unread_text text Read left w = (tt, λ e. cc)
+unread_text text TooLarge left w = (w.0, λ e. w.1)
+unread_text text (BadLine n) left w = absurd w
+unread_text text EndsEarly left w = absurd w
+unread_text text NoMemory left w = (tt, λ e. cc)
+
+-- a text that goes on behind the last line
+pub text_goes_on : (f : CertifiedPair) (text : List ℕ) (after : Place) (fault : PairFault) (left : Option (List ℕ)) → HasText f × HasTaken (lines_of f) (start text) after → GoesOn fault text after left → MayFailHaving fault text left
+text_goes_on f text after Read left taken w = (tt, λ e. cc)
+text_goes_on f text after TooLarge left taken w = (w.0, λ e. w.1)
+text_goes_on f text after (BadLine n) left taken w = (went_on f text (start text) after (BadLine n) refl w.2 taken (w.0, ap BadLine w.1), λ e. cc)
+text_goes_on f text after EndsEarly left taken w = absurd w
+text_goes_on f text after NoMemory left taken w = (tt, λ e. cc)
+
+-- what holds of all known bytes
+pub if_known : {P : List ℕ → Type 0} (known : Option (List ℕ)) → ((text : List ℕ) → known ≡ Some text → P text) → IfSome known P
+if_known None all = tt
+if_known (Some text) all = all text refl

@@ -1,0 +1,93 @@
+use Rattle.std.proofs.Common.{[], ◌∷◌, ◌++◌, map, refl}
+use Rattle.std.specs.Prelude.{codes}
+use Rattle.std.proofs.lemmas.Result.{err_from_is_err_and}
+use Rattle.gc_words.specs.Views.{addresses}
+use Rattle.gc_cert.specs.Grammar.{heading, certificate_lines, IsCertificate}
+use Rattle.gc_cert.specs.Internal.Grammar.{image_alone, IsImageBy}
+use Rattle.gc_cert.specs.Internal.Parsers.{raws_in}
+use Rattle.gc_cert.specs.Internal.Sections.{AnyFlag, alone}
+use Rattle.gc_cert.specs.Sections.{start}
+use Rattle.gc_cert.specs.Views.{image_in}
+use Rattle.gc_cert.proofs.Forms.{alone_delimits}
+use Rattle.gc_cert.proofs.LineForms.{heading_form}
+use Rattle.gc_cert.proofs.Parts.{none_taken, TextSection, image_delimits, certificate_delimits, made_pair, text_heading, text_old, text_new, both_images, text_certificate, pair_fits, text_taken}
+use Rattle.gc_cert.proofs.ReadPieces.{end_within, ended_text, text_goes_on}
+use Rattle.gc_cert.proofs.Stops.{taken_then}
+use Rattle.gc_cert.proofs.Total.{went_through}
+use Rattle.gc_cert.proofs.reader.take_pair_file.Goals as goal
+
+pub returns-in_err-raws-clause-exact : goal.returns-in_err-raws-clause-exact
+returns-in_err-raws-clause-exact g c text h =
+    let fault = err_from_is_err_and c.from_residual.result c.from_residual.ensures.1 in
+    let p = start text in
+    rw (fault.1, fault.2) (ended_text text _ _ (end_within AnyFlag (alone heading) TextSection [] text p p _ _ (alone_delimits AnyFlag heading raws_in heading_form) text_heading (none_taken p) (c.in_err-raws.ensures.place text p h)))
+
+pub returns-in_err-old-clause-exact : goal.returns-in_err-old-clause-exact
+returns-in_err-old-clause-exact g c text h =
+    let fault = err_from_is_err_and c.from_residual-in_err-old.result c.from_residual-in_err-old.ensures.1 in
+    let p = start text in
+    let raws = c.in_ok-raws.raws in
+    let one = c.in_ok-raws.ensures.place text p h in
+    rw (fault.1, fault.2) (ended_text text _ _ (end_within (IsImageBy raws) (image_alone (codes "old")) TextSection (heading raws ∷ []) text p one.0 _ _ (image_delimits raws (codes "old")) (text_old raws) one.2 (c.in_err-old.ensures.place text one.0 one.1)))
+
+pub returns-in_err-new-clause-exact : goal.returns-in_err-new-clause-exact
+returns-in_err-new-clause-exact g c text h =
+    let fault = err_from_is_err_and c.from_residual-in_err-new.result c.from_residual-in_err-new.ensures.1 in
+    let p = start text in
+    let raws = c.in_ok-raws.raws in
+    let old = image_in c.in_ok-old.old in
+    let one = c.in_ok-raws.ensures.place text p h in
+    let two = c.in_ok-old.ensures.place text one.0 one.1 in
+    let taken = taken_then (heading raws ∷ []) (image_alone (codes "old") old) p one.0 two.0 one.2 two.2 in
+    rw (fault.1, fault.2) (ended_text text _ _ (end_within (IsImageBy raws) (image_alone (codes "new")) TextSection ((heading raws ∷ []) ++ image_alone (codes "old") old) text p two.0 _ _ (image_delimits raws (codes "new")) (text_new raws old c.in_ok-old.ensures.fits) taken (c.in_err-new.ensures.place text two.0 two.1)))
+
+pub returns-in_err-pairs-clause-exact : goal.returns-in_err-pairs-clause-exact
+returns-in_err-pairs-clause-exact g c text h =
+    let fault = err_from_is_err_and c.from_residual-in_err-pairs.result c.from_residual-in_err-pairs.ensures.1 in
+    let p = start text in
+    let raws = c.in_ok-raws.raws in
+    let old = image_in c.in_ok-old.old in
+    let new = image_in c.in_ok-new.new in
+    let one = c.in_ok-raws.ensures.place text p h in
+    let two = c.in_ok-old.ensures.place text one.0 one.1 in
+    let three = c.in_ok-new.ensures.place text two.0 two.1 in
+    let before = taken_then (heading raws ∷ []) (image_alone (codes "old") old) p one.0 two.0 one.2 two.2 in
+    let taken = taken_then ((heading raws ∷ []) ++ image_alone (codes "old") old) (image_alone (codes "new") new) p two.0 three.0 before three.2 in
+    rw (fault.1, fault.2) (ended_text text _ _ (end_within IsCertificate certificate_lines TextSection (both_images raws old new) text p three.0 _ _ certificate_delimits (text_certificate raws old new c.in_ok-old.ensures.fits c.in_ok-new.ensures.fits) taken (c.in_err-pairs.ensures.place text three.0 three.1)))
+
+pub returns-in_err-end-clause-exact : goal.returns-in_err-end-clause-exact
+returns-in_err-end-clause-exact g c text h =
+    let fault = err_from_is_err_and c.from_residual-in_err-end.result c.from_residual-in_err-end.ensures.1 in
+    let p = start text in
+    let raws = c.in_ok-raws.raws in
+    let old = image_in c.in_ok-old.old in
+    let new = image_in c.in_ok-new.new in
+    let pairs = map addresses c.in_ok-pairs.pairs.items in
+    let one = c.in_ok-raws.ensures.place text p h in
+    let two = c.in_ok-old.ensures.place text one.0 one.1 in
+    let three = c.in_ok-new.ensures.place text two.0 two.1 in
+    let four = c.in_ok-pairs.ensures.place text three.0 three.1 in
+    let before = taken_then (heading raws ∷ []) (image_alone (codes "old") old) p one.0 two.0 one.2 two.2 in
+    let images = taken_then ((heading raws ∷ []) ++ image_alone (codes "old") old) (image_alone (codes "new") new) p two.0 three.0 before three.2 in
+    let all = taken_then (both_images raws old new) (certificate_lines pairs) p three.0 four.0 images four.2 in
+    rw (fault.1, fault.2) (text_goes_on (made_pair old new pairs) text four.0 _ _ (text_taken raws old new pairs p four.0 c.in_ok-old.ensures.fits c.in_ok-new.ensures.fits c.in_ok-pairs.ensures.fits all) (c.in_err-end.ensures.place text four.0 four.1))
+
+pub returns-clause-exact : goal.returns-clause-exact
+returns-clause-exact g c text h =
+    let p = start text in
+    let raws = c.in_ok-raws.raws in
+    let old = image_in c.in_ok-old.old in
+    let new = image_in c.in_ok-new.new in
+    let pairs = map addresses c.in_ok-pairs.pairs.items in
+    let one = c.in_ok-raws.ensures.place text p h in
+    let two = c.in_ok-old.ensures.place text one.0 one.1 in
+    let three = c.in_ok-new.ensures.place text two.0 two.1 in
+    let four = c.in_ok-pairs.ensures.place text three.0 three.1 in
+    let before = taken_then (heading raws ∷ []) (image_alone (codes "old") old) p one.0 two.0 one.2 two.2 in
+    let images = taken_then ((heading raws ∷ []) ++ image_alone (codes "old") old) (image_alone (codes "new") new) p two.0 three.0 before three.2 in
+    let all = taken_then (both_images raws old new) (certificate_lines pairs) p three.0 four.0 images four.2 in
+    let ends = c.in_ok-end.ensures.place text four.0 four.1 in
+    (went_through (made_pair old new pairs) text p four.0 refl (text_taken raws old new pairs p four.0 c.in_ok-old.ensures.fits c.in_ok-new.ensures.fits c.in_ok-pairs.ensures.fits all) ends.0, ends.1)
+
+pub returns-clause-sound : goal.returns-clause-sound
+returns-clause-sound g c = pair_fits c.in_ok-raws.raws (image_in c.in_ok-old.old) (image_in c.in_ok-new.new) (map addresses c.in_ok-pairs.pairs.items) c.in_ok-old.ensures.fits c.in_ok-new.ensures.fits c.in_ok-pairs.ensures.fits

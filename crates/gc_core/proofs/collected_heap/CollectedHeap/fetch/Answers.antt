@@ -1,0 +1,18 @@
+use Rattle.std.proofs.Common.{◌≡◌, subst}
+use Rattle.std.specs.Option.{option_map}
+use Rattle.gc_graph.specs.declared.command.Op.TheVariants.{Get}
+use Rattle.gc_copy.specs.Steps.{mutate}
+use Rattle.gc_copy.specs.Words.{collection_in, state_of}
+use Rattle.gc_core.proofs.OtherCommands.{fits_after, mutated}
+use Rattle.gc_core.proofs.collected_heap.CollectedHeap.fetch.Goals as goal
+
+pub invariant_of-self : goal.invariant_of-self
+invariant_of-self c =
+    let f = c.fetch.ensures.fetches in
+    fits_after c.self.inside.heap c.fetch.new.self c.self.inside.collection c.args.m (Get c.args.d c.args.s c.args.i) f.0 c.space.ensures.sound (λ none. none) f.1 c.self.invariant.0
+
+pub returns-clause-fetches : goal.returns-clause-fetches
+returns-clause-fetches c =
+    let f = c.fetch.ensures.fetches in
+    let step = mutated c.self.inside.heap c.fetch.new.self c.self.inside.collection c.args.m (Get c.args.d c.args.s c.args.i) f.0 c.space.ensures.sound (λ none. none) f.1 c.self.invariant.0 in
+    (f.0, subst (λ s. mutate s c.args.m (Get c.args.d c.args.s c.args.i) ≡ (f.0, state_of c.fetch.new.self (option_map collection_in c.self.inside.collection))) c.self.view_is step, f.2)

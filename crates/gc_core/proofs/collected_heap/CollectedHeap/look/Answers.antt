@@ -1,0 +1,10 @@
+use Rattle.std.proofs.Common.{◌≡◌, subst}
+use Rattle.gc_graph.specs.declared.command.Op.TheVariants.{Look}
+use Rattle.gc_copy.specs.Steps.{mutate}
+use Rattle.gc_core.proofs.OtherCommands.{mutated}
+use Rattle.gc_core.proofs.collected_heap.CollectedHeap.look.Goals as goal
+
+pub returns : goal.returns
+returns c =
+    let step = mutated c.self.inside.heap c.self.inside.heap c.self.inside.collection c.args.m (Look c.args.s) c.look.result c.space.ensures.sound (λ none. none) c.look.ensures.performs c.self.invariant.0 in
+    subst (λ s. mutate s c.args.m (Look c.args.s) ≡ (c.look.result, s)) c.self.view_is step

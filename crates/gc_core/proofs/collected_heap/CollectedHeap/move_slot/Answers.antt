@@ -1,0 +1,16 @@
+use Rattle.std.proofs.Common.{◌≡◌, subst}
+use Rattle.gc_graph.specs.declared.command.Op.TheVariants.{Move}
+use Rattle.std.specs.Option.{option_map}
+use Rattle.gc_copy.specs.Words.{collection_in, state_of}
+use Rattle.gc_copy.specs.Steps.{mutate}
+use Rattle.gc_core.proofs.OtherCommands.{fits_after, mutated}
+use Rattle.gc_core.proofs.collected_heap.CollectedHeap.move_slot.Goals as goal
+
+pub invariant_of-self : goal.invariant_of-self
+invariant_of-self c =
+    fits_after c.self.inside.heap c.move_slot.new.self c.self.inside.collection c.args.m (Move c.args.d c.args.s) c.move_slot.result c.space.ensures.sound (λ none. none) c.move_slot.ensures.performs c.self.invariant.0
+
+pub returns-clause-step : goal.returns-clause-step
+returns-clause-step c =
+    let step = mutated c.self.inside.heap c.move_slot.new.self c.self.inside.collection c.args.m (Move c.args.d c.args.s) c.move_slot.result c.space.ensures.sound (λ none. none) c.move_slot.ensures.performs c.self.invariant.0 in
+    subst (λ s. mutate s c.args.m (Move c.args.d c.args.s) ≡ (c.move_slot.result, state_of c.move_slot.new.self (option_map collection_in c.self.inside.collection))) c.self.view_is step

@@ -1,0 +1,144 @@
+//! A call for each command of a mutator. Each has the command's own clause, and `Heap::apply` is a match over them. None allocates.
+
+ghost use Rattle.std.specs.Prelude.{◌≡◌, ◌<◌};
+ghost use Rattle.gc_graph.specs.declared.command.Op.{Op};
+ghost use Rattle.gc_heap.specs.Heap.{IsHeap};
+ghost use Rattle.gc_heap.specs.Commands.{Performs, Fetches};
+ghost use Rattle.gc_heap.specs.Internal.Taken.{taken_reply, IsTakenWord};
+
+use super::Heap;
+use crate::reading::{fetched, view};
+use crate::taken::{Fetched, Taken};
+use gc_graph::{Number, Reply, Slot};
+use gc_words::{Value, encode};
+
+impl Heap {
+    /// Makes an object of this kind with `len` fields, all nil, and sets `d` to a reference to it: `Made`, or `Full`.
+    pub fn new_object(&mut self, m: u8, d: Slot, kind: u8, len: u16) -> Reply
+        requires { m < self.old.mutators }
+        ensures performs { Performs self.old m (Op.New d kind len) result self.new }
+        ensures sound { IsHeap self.new }
+    {
+        // Here the prover learns how many roots there are.
+        let _ = &self.roots;
+        self.make_at(d.place(m), false, kind, len)
+    }
+
+    /// Makes a raw object, whose fields are plain numbers, all 0, like `new_object`.
+    pub fn new_raw(&mut self, m: u8, d: Slot, kind: u8, len: u16) -> Reply
+        requires { m < self.old.mutators }
+        ensures performs { Performs self.old m (Op.NewRaw d kind len) result self.new }
+        ensures sound { IsHeap self.new }
+    {
+        // Here the prover learns how many roots there are.
+        let _ = &self.roots;
+        self.make_at(d.place(m), true, kind, len)
+    }
+
+    /// Sets `d` to the number: `Done`.
+    pub fn num(&mut self, m: u8, d: Slot, n: Number) -> Reply
+        requires { m < self.old.mutators }
+        ensures performs { Performs self.old m (Op.Num d n) result self.new }
+        ensures sound { IsHeap self.new }
+    {
+        // Here the prover learns how many roots there are.
+        let _ = &self.roots;
+        self.set_at(d.place(m), encode(Value::Num(n)))
+    }
+
+    /// Sets `d` to nil: `Done`.
+    pub fn nil(&mut self, m: u8, d: Slot) -> Reply
+        requires { m < self.old.mutators }
+        ensures performs { Performs self.old m (Op.Nil d) result self.new }
+        ensures sound { IsHeap self.new }
+    {
+        // Here the prover learns how many roots there are.
+        let _ = &self.roots;
+        self.set_at(d.place(m), encode(Value::Nil))
+    }
+
+    /// Sets `d` to what `s` holds: `Done`.
+    pub fn move_slot(&mut self, m: u8, d: Slot, s: Slot) -> Reply
+        requires { m < self.old.mutators }
+        ensures performs { Performs self.old m (Op.Move d s) result self.new }
+        ensures sound { IsHeap self.new }
+    {
+        // Here the prover learns how many roots there are.
+        let _ = &self.roots;
+        let word = self.roots[s.place(m)];
+        self.set_at(d.place(m), word)
+    }
+
+    /// Sets `d` to field `i` of the object that `s` refers to: `Saw`, `NoObject` or `NoField`.
+    pub fn get(&mut self, m: u8, d: Slot, s: Slot, i: u16) -> Reply
+        requires { m < self.old.mutators }
+        ensures performs { Performs self.old m (Op.Get d s i) result self.new }
+        ensures sound { IsHeap self.new }
+    {
+        match self.take(m, d, s, i) {
+            Taken::NoObject => Reply::NoObject,
+            Taken::NoField => Reply::NoField,
+            Taken::Word(word) => Reply::Saw(view(&self.space, word)),
+        }
+    }
+
+    /// Does the same as `get`, but does not read the object that it found: it tells no kind and no length.
+    pub fn fetch(&mut self, m: u8, d: Slot, s: Slot, i: u16) -> Fetched
+        requires { m < self.old.mutators }
+        ensures fetches { Fetches self.old m d s i result self.new }
+        ensures sound { IsHeap self.new }
+    {
+        match self.take(m, d, s, i) {
+            Taken::NoObject => Fetched::NoObject,
+            Taken::NoField => Fetched::NoField,
+            Taken::Word(word) => fetched(&self.space, word),
+        }
+    }
+
+    /// Performs a `Get`, and returns the word that `d` took.
+    fn take(&mut self, m: u8, d: Slot, s: Slot, i: u16) -> Taken
+        requires { m < self.old.mutators }
+        ensures performs { Performs self.old m (Op.Get d s i) (taken_reply self.old result) self.new }
+        ensures word { IsTakenWord self.old.space.words result }
+        ensures space { self.new.space ≡ self.old.space }
+        ensures sound { IsHeap self.new }
+    {
+        // Here the prover learns how many roots there are.
+        let _ = &self.roots;
+        self.take_at(d.place(m), s.place(m), i)
+    }
+
+    /// Sets field `i` of the object that `s` refers to to what `t` holds: `Done`, `NoObject`, `NoField` or `NoNumber`.
+    pub fn put(&mut self, m: u8, s: Slot, i: u16, t: Slot) -> Reply
+        requires { m < self.old.mutators }
+        ensures performs { Performs self.old m (Op.Put s i t) result self.new }
+        ensures sound { IsHeap self.new }
+    {
+        // Here the prover learns how many roots there are.
+        let _ = &self.roots;
+        self.put_at(s.place(m), i, t.place(m))
+    }
+
+    /// Compares what `s` and `t` hold: `Yes` or `No`.
+    pub fn same(&self, m: u8, s: Slot, t: Slot) -> Reply
+        requires { m < self.now.mutators }
+        ensures performs { Performs self.now m (Op.Same s t) result self.now }
+        ensures sound { IsHeap self.now }
+    {
+        // Here the prover learns how many roots there are.
+        let _ = &self.roots;
+        self.same_at(s.place(m), t.place(m))
+    }
+
+    /// Looks at what `s` holds: `Saw`.
+    pub fn look(&self, m: u8, s: Slot) -> Reply
+        requires { m < self.now.mutators }
+        ensures performs { Performs self.now m (Op.Look s) result self.now }
+        ensures sound { IsHeap self.now }
+    {
+        // Here the prover learns how many roots there are.
+        let _ = &self.roots;
+        let word = self.roots[s.place(m)];
+        Reply::Saw(view(&self.space, word))
+    }
+}

@@ -1,0 +1,21 @@
+use Rattle.std.proofs.Common.{◌≡◌, ◌∙◌}
+use Rattle.gc_trace.specs.Faults.{IsReadAs}
+use Rattle.gc_trace.specs.Grammar.{Recording}
+use Rattle.gc_trace.specs.Plays.{opening, answers, report_in}
+use Rattle.gc_trace.specs.Replies.{reply_text}
+use Rattle.gc_trace.specs.declared.playing.Gather.TheVariants.{Replies}
+use Rattle.gc_trace.proofs.ReadLines.{if_known}
+use Rattle.gc_trace.proofs.playing.play_all.Goals as goal
+
+pub returns-in-Ok-finish-clause-exact : goal.returns-in-Ok-finish-clause-exact
+returns-in-Ok-finish-clause-exact g c = if_known
+    {P = λ text. (t : Recording) × IsReadAs t text × (c.in-Ok-finish.played.report ≡ report_in t) × (c.args.gather ≡ Replies → c.in-Ok-finish.played.replies.items ≡ reply_text (answers t))}
+    _
+    (λ text is.
+    let read = c.in_ok-take_all.ensures.exact text (c.in_ok-lines.ensures.exact text is) in
+    let finished = c.in-Ok-finish.ensures in (
+      read.0,
+      read.1,
+      finished.report (opening read.0) read.0.events read.2,
+      λ gathered. finished.replies (opening read.0) read.0.events read.2 (c.take_all.ensures.gather ∙ c.in-Ok.ensures.gather ∙ gathered),
+    ))

@@ -1,0 +1,265 @@
+ghost use Rattle.std.specs.Prelude.{◌≡◌, ◌≢◌, ◌≤◌, ◌<◌, ◌+◌, ◌-◌, ◌∷◌, ◌++◌, ◌↔◌, ℕ, List, length, drop, true, false, IfSome, IfOk, MatchOption, MatchResult, Ok, Err, Some};
+ghost use Rattle.gc_graph.specs.Lines.{HasNo, newline};
+ghost use Rattle.gc_graph.specs.Pieces.{IsWithin, nothing_read};
+ghost use Rattle.gc_graph.specs.Streams.{bytes_left, source_failed};
+ghost use Rattle.gc_trace.specs.Grammar.{IsHeading, IsEvent, IsOf, newest, heading, event_line};
+ghost use Rattle.gc_trace.specs.Faults.{limit, HasNoHeading, BeginsWithNoEvent, MayFail};
+
+use crate::fault::TraceFault;
+use crate::front;
+use crate::parser::{event, sizes, version};
+use gc_copy::Step;
+use gc_graph::Source;
+use gc_graph::text::{Front, Pieces, cut};
+use gc_world::Event;
+use std::alloc::Global;
+use std::io::Read;
+
+/// The maximum length of a trace text in bytes.
+const LIMIT: usize = 16777216;
+
+/// The contents of the first two lines.
+#[derive(Clone, Copy)]
+struct Heading {
+    version: u8,
+    size: u32,
+    mutators: u8,
+}
+
+/// Returns the first line without its line feed, and what follows it. None if the text has no line feed.
+fn split_line(text: &[u8]) -> Option<(&[u8], &[u8])>
+    ensures { MatchOption result (HasNo newline text.now)
+        (λ parts. (text.now ≡ parts.0.now ++ newline ∷ parts.1.now) × HasNo newline parts.0.now) }
+{
+    cut(b'\n', text)
+}
+
+/// Parses the first two lines, and returns what follows them as well.
+fn split_heading(text: &[u8]) -> Option<(Heading, &[u8])>
+    ensures { MatchOption result (HasNoHeading text.now)
+        (λ found. IsHeading found.0.version found.0.size found.0.mutators
+        × (text.now ≡ heading found.0.version found.0.size found.0.mutators ++ found.1.now)) }
+{
+    let Some((first, rest)) = split_line(text) else {
+        return None;
+    };
+    let Some(version) = version(first) else {
+        return None;
+    };
+    let Some((second, body)) = split_line(rest) else {
+        return None;
+    };
+    let Some((size, mutators)) = sizes(second) else {
+        return None;
+    };
+    Some((
+        Heading {
+            version,
+            size,
+            mutators,
+        },
+        body,
+    ))
+}
+
+/// Returns whether the event's mutator, or that of its log, is below `mutators`.
+#[inline(always)]
+fn is_of(mutators: u8, event: &Event) -> bool
+    requires { IsEvent newest event.now }
+    ensures yes { result ≡ true → IsOf mutators event.now }
+    ensures no { result ≡ false → ¬ IsOf mutators event.now }
+{
+    match event {
+        Event::Mutate { m, .. } => *m < mutators,
+        Event::Collect(Step::Apply(k)) => *k < mutators,
+        Event::Collect(_) => true,
+    }
+}
+
+/// Takes the line of an event of this version. Returns None if no such line stands first.
+#[inline(always)]
+fn take_event(version: u8, front: &mut Front<'_>) -> Option<Event>
+    requires { 1 ≤ version }
+    ensures { MatchOption result (BeginsWithNoEvent version front.old)
+        (λ event. IsEvent version event × (front.old ≡ event_line event ++ front.new)) }
+{
+    let text = front.rest();
+    if let Some(event) = front::line(version, front) {
+        return Some(event);
+    }
+    let Some((line, after)) = split_line(text) else {
+        return None;
+    };
+    let Some(event) = event(version, line) else {
+        return None;
+    };
+    *front = Front::new(after);
+    Some(event)
+}
+
+/// Returns the heading at the front of the text, and how many bytes follow it.
+fn heading_at(text: &[u8]) -> Option<(Heading, usize)>
+    ensures { MatchOption result (HasNoHeading text.now)
+        (λ found. IsHeading found.0.version found.0.size found.0.mutators × (found.1 ≤ length text.now)
+        × (text.now ≡ heading found.0.version found.0.size found.0.mutators ++ drop (length text.now - found.1) text.now)) }
+{
+    let (heading, body) = split_heading(text)?;
+    Some((heading, body.len()))
+}
+
+/// Returns the event whose line stands at the front of the text, and how many bytes follow it.
+#[inline(always)]
+fn event_at(version: u8, text: &[u8]) -> Option<(Event, usize)>
+    requires { 1 ≤ version }
+    ensures { MatchOption result (BeginsWithNoEvent version text.now)
+        (λ found. IsEvent version found.0 × (found.1 ≤ length text.now)
+        × (text.now ≡ event_line found.0 ++ drop (length text.now - found.1) text.now)) }
+{
+    let mut front = Front::new(text);
+    let event = take_event(version, &mut front)?;
+    Some((event, front.rest().len()))
+}
+
+/// Reads more of the text. Returns false once its end was met.
+fn read_more<R: Read>(pieces: &mut Pieces, reader: &mut Source<R>) -> Result<bool, TraceFault>
+    requires { pieces.old.limit ≡ limit }
+    ensures within { (text rest : List ℕ) → IsWithin text rest pieces.old (bytes_left R.remaining reader.old) → MatchResult result
+        (λ _. IsWithin text rest pieces.new (bytes_left R.remaining reader.new))
+        (λ fault. MayFail fault text) }
+    ensures whole { result ≡ Ok false → (pieces.new.ended ≡ true) × (pieces.new.read ≡ pieces.old.read) }
+    ensures grows { result ≡ Ok true → pieces.old.read < pieces.new.read }
+    ensures counts { IfOk result (λ _. (pieces.old.read ≤ pieces.new.read) × (pieces.new.read ≤ limit)
+        × (pieces.new.read + length pieces.old.waiting ≡ pieces.old.read + length pieces.new.waiting)) }
+    ensures limit { pieces.new.limit ≡ limit }
+    ensures stops { (text rest : List ℕ) → IsWithin text rest pieces.old (bytes_left R.remaining reader.old)
+        → result ≡ Err TraceFault.TooLarge
+        → bytes_left R.remaining reader.new ≡ Some (drop (limit + 1) text) }
+    ensures first { pieces.old ≡ nothing_read limit → ((result ≡ Err TraceFault.Read) ↔ (source_failed reader.new ≡ true)) }
+    ensures later { source_failed reader.old ≡ false → ((result ≡ Err TraceFault.Read) ↔ (source_failed reader.new ≡ true)) }
+{
+    match pieces.more(reader) {
+        Ok(more) => Ok(more),
+        Err(fault) => Err(TraceFault::from(fault)),
+    }
+}
+
+/// Reads to the end of the text.
+fn read_to_end<R: Read>(pieces: &mut Pieces, reader: &mut Source<R>) -> Result<(), TraceFault>
+    requires limit { pieces.old.limit ≡ limit }
+    requires bounded { pieces.old.read ≤ limit }
+    requires unfailed { source_failed reader.old ≡ false }
+    ensures exact { (text rest : List ℕ) → IsWithin text rest pieces.old (bytes_left R.remaining reader.old) → MatchResult result
+        (λ _. length text ≤ limit) (λ fault. MayFail fault text) }
+    ensures stops { (text rest : List ℕ) → IsWithin text rest pieces.old (bytes_left R.remaining reader.old)
+        → result ≡ Err TraceFault.TooLarge
+        → bytes_left R.remaining reader.new ≡ Some (drop (limit + 1) text) }
+    ensures read { (result ≡ Err TraceFault.Read) ↔ (source_failed reader.new ≡ true) }
+{
+    while read_more(pieces, reader)? {}
+    Ok(())
+}
+
+/// A trace text that is read event by event. It holds the bytes of a few lines, or the rest of the text once a line is bad.
+#[derive(Drop)]
+pub struct EventReader {
+    pub version: u8,
+    pub size: u32,
+    pub mutators: u8,
+    pieces: Pieces,
+    // The number of the next line.
+    number: u64,
+}
+
+impl EventReader {
+    ghost use Rattle.std.specs.Prelude.{◌≡◌, ◌≢◌, ◌≤◌, ◌+◌, ◌∷◌, ◌++◌, ◌↔◌, ℕ, List, [], true, false, drop, IfOk, IfSome, MatchOption, MatchResult, Err, Some};
+    ghost use Rattle.gc_graph.specs.Streams.{bytes_left, source_failed};
+    ghost use Rattle.gc_copy.specs.declared.event.Event.{Event};
+    ghost use Rattle.gc_trace.specs.Grammar.{IsEvent, IsOf};
+    ghost use Rattle.gc_trace.specs.Faults.{limit, IsReadAs, MayFail};
+    ghost use Rattle.gc_trace.specs.Internal.Reading.{IsReading, HasRead, read_so_far};
+
+    /// Reads the heading of the text that the reader gives.
+    pub fn open<R: Read>(alloc: Global, reader: &mut Source<R>) -> Result<EventReader, TraceFault>
+        ensures exact { (text : List ℕ) → bytes_left R.remaining reader.old ≡ Some text → MatchResult result
+            (λ read. HasRead text [] read (bytes_left R.remaining reader.new))
+            (λ fault. MayFail fault text) }
+        ensures reading { IfOk result IsReading }
+        ensures number { IfOk result (λ read. read.number ≡ 3) }
+        ensures stops { (text : List ℕ) → bytes_left R.remaining reader.old ≡ Some text → result ≡ Err TraceFault.TooLarge
+            → bytes_left R.remaining reader.new ≡ Some (drop (limit + 1) text) }
+        ensures read { (result ≡ Err TraceFault.Read) ↔ (source_failed reader.new ≡ true) }
+    {
+        let mut pieces = Pieces::new(alloc, LIMIT);
+        let mut more = read_more(&mut pieces, reader)?;
+        loop {
+            if let Some((heading, left)) = heading_at(pieces.waiting()) {
+                pieces.leave(left);
+                return Ok(EventReader {
+                    version: heading.version,
+                    size: heading.size,
+                    mutators: heading.mutators,
+                    pieces,
+                    number: 3,
+                });
+            }
+            if !more {
+                return Err(TraceFault::BadHeader);
+            }
+            more = read_more(&mut pieces, reader)?;
+        }
+    }
+
+    /// Takes the event whose line stands at the front of the bytes that wait.
+    #[inline(always)]
+    fn take_waiting(&mut self) -> Option<Event>
+        requires reading { IsReading self.old }
+        ensures event { IfSome result (λ event. IsEvent self.old.version event) }
+        ensures none { result ≡ None → BeginsWithNoEvent self.old.version self.old.pieces.waiting × (self.new ≡ self.old) }
+        ensures line { IfSome result (λ event. (self.old.pieces.waiting ≡ event_line event ++ self.new.pieces.waiting)
+            × (self.new ≡ record self.old {
+              pieces = record self.old.pieces { waiting = self.new.pieces.waiting };
+            })) }
+        ensures reading { IsReading self.new }
+    {
+        let (event, left) = event_at(self.version, self.pieces.waiting())?;
+        self.pieces.leave(left);
+        Some(event)
+    }
+
+    /// Reads the next event. Returns `None` at the end of the text.
+    #[inline(always)]
+    pub fn next<R: Read>(&mut self, reader: &mut Source<R>) -> Result<Option<Event>, TraceFault>
+        requires reading { IsReading self.old }
+        requires unfailed { source_failed reader.old ≡ false }
+        ensures exact { (text : List ℕ) (events : List Event) → HasRead text events self.old (bytes_left R.remaining reader.old)
+            → MatchResult result
+            (λ found. MatchOption found (IsReadAs (read_so_far self.old events) text)
+            (λ event. HasRead text (events ++ event ∷ []) self.new (bytes_left R.remaining reader.new)))
+            (λ fault. MayFail fault text) }
+        ensures event { IfOk result (λ found. IfSome found (λ event. IsEvent self.old.version event × IsOf self.old.mutators event)) }
+        ensures number { IfOk result (λ found. MatchOption found (self.new.number ≡ self.old.number) (λ _. self.new.number ≡ self.old.number + 1)) }
+        ensures heading { read_so_far self.new [] ≡ read_so_far self.old [] }
+        ensures reading { IfOk result (λ _. IsReading self.new) }
+        ensures stops { (text : List ℕ) (events : List Event) → HasRead text events self.old (bytes_left R.remaining reader.old)
+            → result ≡ Err TraceFault.TooLarge
+            → bytes_left R.remaining reader.new ≡ Some (drop (limit + 1) text) }
+        ensures read { (result ≡ Err TraceFault.Read) ↔ (source_failed reader.new ≡ true) }
+    {
+        loop {
+            if let Some(event) = self.take_waiting() {
+                if !is_of(self.mutators, &event) {
+                    read_to_end(&mut self.pieces, reader)?;
+                    return Err(TraceFault::NoSuchMutator(self.number));
+                }
+                self.number += 1;
+                return Ok(Some(event));
+            }
+            if !read_more(&mut self.pieces, reader)? {
+                if self.pieces.waiting().is_empty() {
+                    return Ok(None);
+                }
+                return Err(TraceFault::BadLine(self.number));
+            }
+        }
+    }
+}

@@ -1,0 +1,79 @@
+/* The layer over gcflip_heap.
+ *
+ * The Lisp's values are in slots and in fields of objects, and nowhere else. A function is given slots, and no C variable ever
+ * holds a reference. So the collector may move all objects at any time.
+ *
+ * Each allocation first pays for itself by collector steps; README.md derives the pace. A call for which there is no memory
+ * ends in an error of the Lisp (errors.h). */
+#ifndef HEAP_H
+#define HEAP_H
+
+#include "values.h"
+#include <stdbool.h>
+#include <stdint.h>
+#include <stdio.h>
+
+/* Integers have 63 bits. */
+#define LEAST_INTEGER (-MOST_INTEGER - 1)
+#define MOST_INTEGER INT64_C(0x3fffffffffffffff)
+
+enum { LEAST_HEAP = 1, MOST_HEAP = 1048576, MOST_FIELDS = 65535 };
+
+/* Opens the heap. Writes a trace of all that happens on it, unless `trace` is NULL. Returns whether there is memory for it. */
+bool open_heap(uint32_t words, FILE *trace);
+
+void close_heap(void);
+
+/* ---- Values in slots */
+
+enum type type_of(enum slot slot);
+
+void move(enum slot to, enum slot from);
+
+void clear(enum slot slot);
+
+/* Returns whether both hold the empty list, equal integers, or one object. */
+bool same(enum slot first, enum slot second);
+
+void set_integer(enum slot slot, int64_t integer);
+
+int64_t integer_in(enum slot slot);
+
+/* ---- Objects */
+
+/* Makes an object with this many fields, all empty, or all 0 if it is raw. */
+void make(enum slot to, enum type type, uint32_t fields);
+
+void make_raw(enum slot to, enum type type, uint32_t fields);
+
+uint32_t field_count(enum slot object);
+
+/* Reads a field into the slot, and returns its type. */
+enum type get(enum slot to, enum slot object, uint32_t field);
+
+void put(enum slot object, uint32_t field, enum slot value);
+
+/* The same for a field with a number below 2^63. */
+uint64_t get_word(enum slot object, uint32_t field);
+
+void put_word(enum slot object, uint32_t field, uint64_t word);
+
+/* ---- Room */
+
+/* Sets aside room for the REPL: from here on, allocations leave it free. Returns whether there is as much. */
+bool reserve_room(void);
+
+/* After an allocation that found the heap full: lets the next expression use this room, unless a whole collection frees enough
+ * of it again. To be called between expressions. */
+void restore_room(void);
+
+struct heap_totals {
+    uint64_t allocated;   /* words */
+    uint64_t collections; /* flips */
+    uint64_t waits;       /* whole collections that an allocation waited for */
+    uint64_t pairs;       /* copied objects of all flips */
+};
+
+struct heap_totals totals_of_heap(void);
+
+#endif

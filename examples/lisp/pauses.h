@@ -1,0 +1,28 @@
+/* How long the calls on the heap take: a histogram of all calls, and the longest of each kind. */
+#ifndef PAUSES_H
+#define PAUSES_H
+
+#include <stdbool.h>
+#include <stdint.h>
+#include <stdio.h>
+
+/* The times of the calls of one function. */
+struct call_times {
+    const char *name;
+    uint64_t calls;
+    uint64_t longest; /* nanoseconds */
+    uint32_t flipped; /* the pairs of the flip that the longest call made, or 0 */
+    struct call_times *next;
+};
+
+/* From here on, calls are measured. */
+void measure_pauses(void);
+
+void begin_pause(void);
+
+/* Counts a call that made a flip of so many pairs, or none. */
+void end_pause(struct call_times *times, uint32_t flipped);
+
+void print_pauses(FILE *file);
+
+#endif

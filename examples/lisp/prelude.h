@@ -1,0 +1,7 @@
+/* The functions that are written in Lisp. */
+#ifndef PRELUDE_H
+#define PRELUDE_H
+
+extern const char prelude[];
+
+#endif

@@ -1,0 +1,16 @@
+/* Linked with examples/lisp: the allocation of the library that the environment variable REFUSED_ALLOCATION numbers fails. At the end the program
+   says so. */
+#include "own_allocator.h"
+#include <stdio.h>
+
+__attribute__((constructor)) static void refuse(void)
+{
+    const char *number = getenv("REFUSED_ALLOCATION");
+    fail_allocation(number == NULL ? 0 : strtol(number, NULL, 10));
+}
+
+__attribute__((destructor)) static void report(void)
+{
+    if (has_failed())
+        fprintf(stderr, "refused, and %ld blocks with %zu bytes are left\n", blocks_in_use(), bytes_in_use());
+}

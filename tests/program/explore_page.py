@@ -1,0 +1,398 @@
+"""The page of gcflip.explore in a headless browser. Each reply and verdict is compared with the program's."""
+import json
+import os
+import re
+import time
+import xml.etree.ElementTree as ElementTree
+
+from . import pairs
+from .drawings import SVG, drawn_example, svg
+from .examples import content, names_of
+from .harness import file_of, run
+from .web_page import complaints, page, wrong
+
+# drawings has put the package on the path.
+from gcflip_drawing.picture import Picture  # noqa: E402
+
+with open(os.path.join(os.path.dirname(os.path.abspath(__file__)), "contrast.js"), encoding="utf-8") as script:
+    CONTRAST = script.read()
+
+
+def verdict_of(program, folder, text, number):
+    """Returns the verdict on the pair of the n-th flip of a trace, by the program."""
+    pair = run(program, ["pair", file_of(folder, "flips", text), str(number)]).stdout
+    return run(program, ["check", file_of(folder, "pair", pair)]).stdout.decode().strip()
+
+
+def plays(program, folder):
+    """Each example is played step by step. The replies beside the lines are the program's, and so is the verdict before each flip."""
+    with page(folder) as shown:
+        if shown is None:
+            return
+        for name in names_of(".trace"):
+            shown.set("#trace-examples", name)
+            text = content(name + ".trace")
+            replies = run(program, text=text).stdout.decode().split("\n")[:-1]
+            shown.wait_for("event", "of %d events" % len(replies))
+            found, flips = [], 0
+            for at, reply in enumerate(replies, 1):
+                if reply.startswith("flipped"):
+                    flips += 1
+                    verdict = shown.run("return document.querySelector('#certificate-verdict code').textContent;")
+                    yield "verdict before flip %d of %s" % (flips, name), wrong(verdict, verdict_of(program, folder, text, flips))
+                shown.step(at, len(replies))
+                found.append(shown.replies().get(at + 2))
+                if "undefined" in shown.text("event"):
+                    yield "event %d of %s" % (at, name), shown.text("event")
+            yield "replies to %s" % name, wrong(found, replies)
+            boxes = [shown.run("return document.querySelectorAll('#%s svg rect').length;" % place) for place in ("picture", "timeline")]
+            yield "pictures of %s" % name, None if min(boxes) > 0 else "nothing is drawn"
+        # Back means to play again from the start.
+        shown.set("#trace-examples", "write_while_scanning")
+        shown.wait_for("event", "of 11 events")
+        shown.click("play-run")
+        shown.wait_for("event", "Event 11 of 11")
+        shown.click("play-back")
+        shown.wait_for("event", "Event 10 of 11")
+        yield "replies after a step back", wrong([shown.replies().get(line) for line in (12, 13)], ["flipped 1", None])
+        shown.click("play-start")
+        shown.wait_for("event", "of 11 events")
+        shown.click("play-flip")
+        shown.wait_for("event", "Event 9 of 11")
+        yield "to the next flip stops before it", wrong("c apply 0" in shown.text("event"), True)
+        shown.click("play-flip")
+        shown.wait_for("message", "no further flip")
+        yield "no complaint", complaints(shown)
+
+
+def buttons(program, folder):
+    """A reader acts as the mutators, and drives two whole collections: one step by step, and one by 'Work'."""
+    with page(folder) as shown:
+        if shown is None:
+            return
+        shown.set("#trace-editor textarea", "heaptrace 1\nspace 24 mutators 2\n")
+        shown.wait_for("event", "of 0 events")
+        acts = [("new", {"to": "g0", "kind": 1, "fields": 2}), ("num", {"to": "r0", "number": 9223372036854775807}), ("begin", {}),
+                ("roots", {}), ("scan", {}), ("put", {"object": "g0", "field": 0, "value": "r0"}), ("scan", {}), ("scan", {}), ("flip", {}),
+                ("apply", {"mutator": 0}), ("flip", {}), ("get", {"to": "r1", "object": "g0", "field": 0}), ("same", {"slot": "r0", "and": "r1"}),
+                ("begin sized", {"words": 12}), ("drop", {}), ("raw", {"to": "r2", "kind": 3, "fields": 1}), ("move", {"to": "r3", "from": "r2"}),
+                ("nil", {"to": "r2"}), ("look", {"slot": "r3"})]
+        for at, (name, words) in enumerate(acts, 1):
+            shown.command(name, **words)
+            shown.wait_for("event", "Event %d of %d" % (at, at))
+        wanted = ["made", "done", "begun", "copied", "scanned", "done", "scanned", "passed", "not ready", "applied", "flipped 1",
+                  "saw num 9223372036854775807", "yes", "begun", "dropped", "made", "done", "done", "saw raw 3 1"]
+        shown.set("#commands-mutator", "1")
+        shown.command("new", to="r0", kind=2, fields=0)
+        shown.wait_for("event", "m 1 new r0 2 0")
+        at = len(acts) + 1
+        for at in range(at + 1, at + 30):
+            shown.click("play-work")
+            shown.wait_for("event", "Event %d of %d" % (at, at))
+            if "flipped" in shown.text("event"):
+                break
+        text = shown.trace()
+        played = run(program, text=text.encode())
+        yield "the trace of the buttons is a trace", wrong((played.status, played.stderr), (0, b""))
+        replies = played.stdout.decode().split("\n")[:-1]
+        yield "the replies to it", wrong(replies[:len(wanted)], wanted)
+        # Three objects are left: g0's, r3's, and that of mutator 1. Work begins, copies each root's target, scans 2 fields and
+        # passes 3 replicas, and flips.
+        work = ["begun", "copied", "copied", "copied", "scanned", "scanned", "passed", "passed", "passed", "flipped 3"]
+        yield "the replies to work", wrong(replies[len(wanted):], ["made"] + work)
+        found = []
+        shown.click("play-start")
+        shown.wait_for("event", "of %d events" % len(replies))
+        for at in range(1, len(replies) + 1):
+            shown.step(at, len(replies))
+            found.append(shown.replies().get(at + 2))
+        yield "the replies beside the lines", wrong(found, replies)
+        yield "the version was raised", wrong(text.split("\n")[0], "heaptrace 3")
+        shown.command("num", to="r0", number="x")
+        yield "a number that is none is not sent", wrong(shown.trace(), text)
+        yield "no complaint", complaints(shown)
+
+
+def wrong_texts(program, folder):
+    """A fault of the trace stands at its line, as the program names it, and goes away once it is mended."""
+    with page(folder) as shown:
+        if shown is None:
+            return
+        good = content("write_while_scanning.trace").decode()
+        lines = good.split("\n")
+        texts = {"a bad line": "\n".join(lines[:4] + ["m 0 peek r0"] + lines[4:]), "no line feed": good[:-1] + "x",
+                 "no such mutator": good + "m 1 nil r0\n", "a bad header": good.replace("32", "032"), "nothing": "", "an empty line": good + "\n"}
+        for name, text in texts.items():
+            shown.set("#trace-editor textarea", text)
+            said = run(program, text=text.encode()).first_error_line()
+            shown.wait_for("trace-fault", said)
+            number = re.search(r"\d+$", said)
+            line = int(number.group()) if number else 1
+            yield "the fault of %s stands at its line" % name, wrong(shown.replies().get(line), said)
+            yield "%s cannot be played" % name, wrong(shown.run("return document.getElementById('play-step').getAttribute('aria-disabled');"), "true")
+            shown.set("#trace-editor textarea", good)
+            shown.wait("document.getElementById('trace-fault').hidden")
+        for at in range(1, 7):
+            shown.step(at, 11)
+        shown.set("#trace-editor textarea", good.replace("c roots", "c roots\nc roots"))
+        shown.wait_for("event", "of 12")
+        yield "an edit keeps what stands before it played", wrong("Event 4 of 12" in shown.text("event") or shown.text("event"), True)
+        shown.drop("#picture", "returns.trace", good.replace("\n", "\r\n").encode())
+        shown.wait_for("trace-fault", "trace: bad header")
+        yield "a dropped file with carriage returns is read as it stands", None
+        shown.drop("#trace", "good.trace", good.encode())
+        shown.wait("document.getElementById('trace-fault').hidden")
+        yield "a dropped trace is opened", wrong(shown.trace(), good)
+        shown.drop("#trace", "good.pair", content("garbage_left_behind.pair"))
+        shown.wait("!document.getElementById('panel-checker').hidden")
+        shown.wait_for("verdict-line", "yes 1")
+        yield "a dropped pair is opened in its tab", None
+        shown.drop("#pair", "good.trace", content("second_collection.trace"))
+        shown.wait("!document.getElementById('panel-collector').hidden")
+        shown.wait_for("event", "of 20 events")
+        yield "a dropped trace is opened in its tab", None
+        shown.run("""const transfer = new DataTransfer();
+            transfer.items.add(new File([new Uint8Array(8388609)], "large"));
+            document.getElementById("trace").dispatchEvent(new DragEvent("drop", { dataTransfer: transfer, bubbles: true, cancelable: true }));""")
+        shown.wait_for("message", "This page takes texts of up to 8 MiB")
+        yield "a file that is too large gets a message", None
+        yield "no complaint", complaints(shown)
+
+
+# The marks that the drawing of an example has.
+FAULTS = {"garbage_left_behind": 0, "number_moved_as_a_reference": 2, "numbers_like_references": 0, "one_replica_for_two": 1,
+          "replica_out_of_date": 2}
+LEGEND_MARKS = 1
+
+
+def checks(program, folder):
+    """The checker's tab: examples, dropped files and spoiled words get the verdicts that the program prints."""
+    with page(folder) as shown:
+        if shown is None:
+            return
+        shown.click("tab-checker")
+
+        def marks():
+            return shown.run("return document.querySelectorAll('#pair-picture rect.fault').length;") - LEGEND_MARKS
+
+        for name in names_of(".pair"):
+            shown.set("#pair-examples", name)
+            verdict = content(name + ".verdict").decode().strip()
+            shown.wait_for("verdict-line", verdict)
+            yield "verdict on %s" % name, wrong(shown.text("verdict-line").split(" (")[0], verdict)
+            yield "marks of %s" % name, wrong(marks(), FAULTS[name])
+        good, refused = content("garbage_left_behind.pair"), content("replica_out_of_date.pair")
+        files_to_drop = {"a refused pair": refused, "a cut pair": good[:40], "a pair with a bad line": good.replace(b"\nold", b"\nelder", 1),
+                         "bytes of no text": b"heappair 1\n\xff\xfe\n", "nothing": b"", "carriage returns": good.replace(b"\n", b"\r\n"),
+                         "5000 objects": pairs.all_paired(5000, 1, altered=(4000,))[0], "a good pair": good}
+        for name, data in files_to_drop.items():
+            said = run(program, ["check", file_of(folder, "dropped", data)])
+            line = said.stdout.decode().strip() or said.first_error_line()
+            shown.drop("#panel-checker", name, data)
+            shown.wait_for("verdict-line", line)
+            yield "verdict on %s" % name, wrong(shown.text("verdict-line").split(" (")[0], line)
+            drawn = shown.run("return document.querySelectorAll('#pair-picture svg').length;")
+            yield "picture of %s" % name, wrong(drawn, 0 if line.startswith("pair: ") else 1)
+        seen = set()
+        for number in range(25):
+            shown.run("document.getElementById('spoiled').textContent = '';")
+            shown.click("spoil")
+            shown.wait("document.getElementById('spoiled').textContent")
+            text = shown.run("return document.querySelector('#pair-editor textarea').value;")
+            line = run(program, ["check", file_of(folder, "spoiled", text.encode())]).stdout.decode().strip()
+            seen.add(line.split(" ")[0])
+            unmarked = line.startswith("refused") and marks() == 0
+            if shown.text("verdict-line").split(" (")[0] != line or unmarked:
+                yield "spoiled pair %d" % number, "%r, wanted %r, %d marks" % (shown.text("verdict-line"), line, marks())
+        yield "spoiled pairs are refused", wrong("refused" in seen, True)
+        shown.click("mend")
+        shown.wait_for("verdict-line", "yes 1")
+        yield "undone", wrong(shown.run("return document.querySelector('#pair-editor textarea').value;"), good.decode())
+        shown.click("tab-collector")
+        shown.click("play-flip")
+        shown.wait_for("event", "Event 9 of 11")
+        shown.click("certificate-text")
+        shown.wait_for("verdict-line", "yes 1")
+        text = shown.run("return document.querySelector('#pair-editor textarea').value;")
+        yield "the certificate as a pair text", wrong(run(program, ["check", file_of(folder, "seen", text.encode())]).stdout, b"yes 1\n")
+        yield "no complaint", complaints(shown)
+
+
+def tour(program, folder):
+    """Each stop of the tour shows the event that it speaks of, with the reply that the program gives."""
+    with page(folder) as shown:
+        if shown is None:
+            return
+        stops = shown.run("return (await import('./tour.js')).STOPS;")
+        replies = run(program, text=content("write_while_scanning.trace")).stdout.decode().split("\n")[:-1]
+        yield "the tour goes through the whole trace", wrong([stop["position"] for stop in stops], list(range(len(replies) + 1)))
+        yield "the tour's replies", wrong([stop.get("reply") for stop in stops[1:]], replies)
+        shown.click("tour-start")
+        for at, stop in enumerate(stops):
+            shown.wait_for("tour-title", stop["title"])
+            shown.wait_for("event", "Event %d of 11" % at if at else "Before the first of 11")
+            pointed = shown.run("return [...document.querySelectorAll('.pointed')].map((it) => it.id).sort();")
+            yield "what stop %d points at" % at, wrong(pointed, sorted(stop["look"]))
+            shown.wait("document.activeElement.id === 'tour-title'")
+            if at == 6:
+                yield "the tour's checker refuses", wrong("refused 9 FieldDiffers 0 0" in shown.text("certificate-body"), True)
+                yield "the tour's log has an entry", wrong("object at 1, field 0" in shown.text("logs-body"), True)
+            shown.click("tour-next")
+        shown.wait("document.getElementById('tour').hidden")
+        yield "no complaint", complaints(shown)
+
+
+def keyboard(_program, folder):
+    """Keys play the trace, but not while a text is edited. Tabs are reached by arrows."""
+    with page(folder) as shown:
+        if shown is None:
+            return
+        for key, wanted in [("ArrowRight", "Event 1 of 11"), ("ArrowRight", "Event 2 of 11"), ("ArrowLeft", "Event 1 of 11"), ("f", "Event 9 of 11"),
+                            ("Home", "Before the first"), ("r", "Event 11 of 11"), ("w", "Event 12 of 12")]:
+            shown.press(key)
+            shown.wait_for("event", wanted)
+            yield "the key %s" % key, None
+        before, event = shown.trace(), shown.text("event")
+        shown.run("const area = document.querySelector('#trace-editor textarea'); area.focus(); area.setSelectionRange(0, 0);")
+        shown.press("w")
+        shown.press("ArrowLeft")
+        shown.wait_for("trace-fault", "trace: bad header")
+        yield "keys in the editor are text", wrong((shown.trace(), shown.text("event")), ("w" + before, event))
+        shown.run("document.getElementById('tab-collector').focus();")
+        shown.press("ArrowRight")
+        selected = shown.run("""return [document.activeElement.id, document.getElementById("panel-checker").hidden,
+            document.getElementById("panel-collector").hidden];""")
+        yield "the next tab", wrong(selected, ["tab-checker", False, True])
+        unnamed = shown.run("""return [...document.querySelectorAll("button, input, select, textarea")].filter((it) => !(it.innerText || "").trim()
+            && !it.getAttribute("aria-label") && !(it.labels && it.labels.length)).map((it) => it.outerHTML);""")
+        yield "each control has a name", wrong(unnamed, [])
+        yield "no complaint", complaints(shown)
+
+
+def picture_of(described):
+    """Returns the picture of a description."""
+    picture = Picture(described["title"])
+    picture.width, picture.height, picture.shapes = described["width"], described["height"], described["shapes"]
+    return picture
+
+
+def hurry(_program, folder):
+    """A reader who does not wait: each click counts, edits that were not told yet come first, and a new width changes no position."""
+    with page(folder) as shown:
+        if shown is None:
+            return
+        shown.run("for (let i = 0; i < 5; i += 1) { document.getElementById('play-step').click(); }")
+        shown.wait_for("event", "Event 5 of 11")
+        yield "five clicks at once are five steps", None
+        shown.run("for (let i = 0; i < 2; i += 1) { document.getElementById('play-work').click(); }")
+        # The one field is scanned and nothing was written, so work passes the replica, and flips.
+        shown.wait_for("event", "flipped 1")
+        yield "work twice at once", wrong([shown.replies().get(line) for line in (8, 9)], ["passed", "flipped 1"])
+        shown.set("#trace-examples", "write_while_scanning")
+        shown.wait_for("event", "of 11 events")
+        shown.run("""const area = document.querySelector("#trace-editor textarea");
+            area.value = area.value.replace("m 0 new r0 1 1", "m 0 new r0 1 7");
+            area.dispatchEvent(new Event("input"));
+            document.getElementById("play-step").click();""")
+        shown.wait_for("event", "with 7 fields")
+        yield "an edit comes before the click behind it", None
+        shown.run("""document.getElementById("tour-start").click();
+            for (let i = 0; i < 6; i += 1) { document.getElementById("tour-next").click(); }""")
+        shown.wait_for("event", "Event 6 of 11")
+        yield "six clicks through the tour", wrong("out of date" in shown.text("tour-title"), True)
+        shown.resize(700, 900)
+        shown.run("for (let i = 0; i < 3; i += 1) { document.getElementById('play-step').click(); }")
+        shown.wait("document.querySelector('#picture svg').getBoundingClientRect().width < 660")
+        time.sleep(0.5)
+        yield "another width at the same position", wrong("Event 9 of 11" in shown.text("event"), True)
+        yield "no complaint", complaints(shown)
+
+
+def shapes_in_page(shown, picture):
+    """Returns the shapes that the page draws of a description: names, roles and attributes."""
+    return shown.run("""const { render } = await import("./picture.js");
+        return [...render(%s).children].filter((it) => it.tagName !== "defs").map((it) => [it.tagName, it.getAttribute("class"),
+            Object.fromEntries(["x", "y", "width", "height", "points", "d", "text-anchor", "transform"].filter((name) => it.hasAttribute(name))
+                .map((name) => [name, it.getAttribute(name)])), it.textContent]);""" % json.dumps(picture))
+
+
+def numbers_of(value):
+    return [round(float(number), 1) for number in re.findall(r"-?\d+(?:\.\d+)?", value)]
+
+
+def same_drawing(_program, folder):
+    """The page and tools/draw draw the same shapes of one description."""
+    with page(folder) as shown:
+        if shown is None:
+            return
+        told = shown.server.ask("play", text=content("log_across_two_mutators.trace").decode(), position=10, known=0, width=900)
+        pictures = {name: picture_of(told[name]) for name in ("picture", "timeline")}
+        pictures.update({name: drawn_example(name) for name in ("replica_out_of_date", "garbage_left_behind")})
+        for name, picture in pictures.items():
+            shapes = ("rect", "text", "polyline", "polygon", "path")
+            nodes = [node for node in ElementTree.fromstring(svg.render(picture)) if node.tag[len(SVG):] in shapes]
+            # The first one is the ground.
+            wanted = [[node.tag[len(SVG):], node.get("class"), "".join(node.itertext())] for node in nodes[1:]]
+            found = shapes_in_page(shown, picture.described())
+            yield "shapes of %s" % name, wrong([[shape[0], shape[1], shape[3]] for shape in found], wanted)
+            places = [{key: numbers_of(value) for key, value in shape[2].items() if key != "text-anchor"} for shape in found]
+            theirs = [{key: numbers_of(node.get(key)) for key in shape[2] if key != "text-anchor"}
+                      for node, shape in zip(nodes[1:], found)]
+            yield "places of %s" % name, wrong(places, theirs)
+        yield "no complaint", complaints(shown)
+
+
+def large(program, folder):
+    """Thousands of objects become blocks, and a step stays quick."""
+    text = "heaptrace 1\nspace 65536 mutators 1\n" + "m 0 new r0 1 3\nm 0 put r0 0 r1\nm 0 move r1 r0\n" * 5000
+    text += "c begin\n" + "c roots\nc scan\n" * 2000
+    with page(folder, file_of(folder, "large.trace", text.encode())) as shown:
+        if shown is None:
+            return
+        shown.wait_for("event", "of 19001 events")
+        shown.run("window.began = performance.now();")
+        shown.click("play-run")
+        shown.wait_for("event", "Event 19001 of 19001")
+        replies = run(program, text=text.encode()).stdout.decode().split("\n")
+        yield "the last reply", wrong(shown.replies().get(19003), replies[19000])
+        shown.run("window.began = performance.now();")
+        shown.click("play-work")
+        shown.wait_for("event", "Event 19002 of 19002")
+        took = shown.run("return performance.now() - window.began;")
+        yield "a step takes less than 3 seconds", None if took < 3000 else "%.1f s" % (took / 1000)
+        count = shown.run("return document.querySelectorAll('*').length;")
+        yield "few elements", None if count < 4000 else "%d elements" % count
+        yield "no complaint", complaints(shown)
+
+
+def looks(_program, folder):
+    """Contrast in light and dark, nothing too wide for small screens, and no motion for readers who want none."""
+    with page(folder) as shown:
+        if shown is None:
+            return
+        shown.set("#trace-examples", "string_while_copied")
+        count = len(content("string_while_copied.replies").split(b"\n")) - 1
+        shown.wait_for("event", "of %d events" % count)
+        for at in range(1, 14):
+            shown.step(at, count)
+        for scheme in ("light", "dark"):
+            shown.prefer(color_scheme=scheme, reduced_motion="reduce")
+            for tab in ("collector", "checker", "trust"):
+                shown.click("tab-" + tab)
+                found = shown.run(CONTRAST)
+                right = not found["low"] and found["count"] > 10
+                yield "contrast of %s, %s" % (tab, scheme), None if right else str(found)
+        for width in (1360, 1024, 760, 390, 320):
+            shown.resize(width, 844, width < 500)
+            for tab in ("collector", "checker", "trust"):
+                shown.click("tab-" + tab)
+                time.sleep(0.4)
+                over = shown.run("return document.documentElement.scrollWidth - document.documentElement.clientWidth;")
+                yield "%s is not wider than %d" % (tab, width), wrong(over, 0)
+        shown.click("tab-collector")
+        small = shown.run("""return [...document.querySelectorAll("button, select, input:not([type=file])")].filter((it) => it.offsetParent
+            && it.getBoundingClientRect().height < 24).map((it) => it.outerHTML);""")
+        yield "controls are at least 24 pixels high", wrong(small, [])
+        animated = shown.run("return [...document.querySelectorAll('*')].filter((it) => getComputedStyle(it).animationName !== 'none').length;")
+        yield "no motion for readers who want none", wrong(animated, 0)
+        yield "no complaint", complaints(shown)

@@ -1,0 +1,181 @@
+"""The server of the page of gcflip.explore, by requests: what it refuses, what its command says, and its answers."""
+import contextlib
+import http.client
+import os
+import re
+import socket
+import subprocess
+import sys
+import time
+
+from . import pairs
+from .c_library import TOP
+from .examples import FOLDER as EXAMPLES, content, names_of
+from .harness import file_of
+from .python import prepared
+from .traces import PLAYED, refused_texts, trace_and_replies
+from .web_page import ADDRESS, SECONDS, Server, hear_interrupts, served, wrong
+
+PAGE = os.path.join(TOP, "bindings", "python", "gcflip", "explore", "page")
+
+# The addresses that are refused, by their paths behind the host. T is the token.
+REFUSED_PATHS = {
+    "no token": ("/", 403), "no token before a file": ("/main.js", 403), "nothing behind the token": ("/T", 403),
+    "a part of the token": ("/T-/", 403), "another token": ("/" + "A" * 32 + "/", 403), "a token of letters beyond ASCII": ("/%C3%A4/", 403),
+    "no such file": ("/T/nothing.js", 404), "a file of the package": ("/T/server.py", 404), "a path upwards": ("/T/../server.py", 404),
+    "a path upwards, coded": ("/T/%2e%2e/server.py", 404), "a path upwards, coded twice": ("/T/%252e%252e/server.py", 404),
+    "a path from the root": ("/T//etc/passwd", 404), "a path with a query": ("/T/?file=main.js", 404), "the page by its file": ("/T/index.html", 404),
+    "a folder": ("/T/page/", 404), "a request of the page": ("/T/play", 404),
+}
+
+
+def files(_program, folder):
+    """The files of the page come with the token, and nothing else comes."""
+    with served(folder) as server:
+        if server is None:
+            return
+        top = "/%s/" % server.token
+        for name in sorted(os.listdir(PAGE)):
+            status, headers, body = server.request("GET", top + ("" if name == "index.html" else name))
+            with open(os.path.join(PAGE, name), "rb") as file:
+                right = status == 200 and body == file.read()
+            yield "the file %s" % name, None if right else "status %d" % status
+            policy = headers.get("Content-Security-Policy", "")
+            right = policy.startswith("default-src 'none'; script-src 'self';") and "unsafe" not in policy and "*" not in policy
+            yield "the policy of %s" % name, None if right else policy
+            right = headers.get("X-Content-Type-Options") == "nosniff" and headers.get("Referrer-Policy") == "no-referrer"
+            yield "the headers of %s" % name, None if right else str(headers)
+        for name, (path, wanted) in REFUSED_PATHS.items():
+            for method in ("GET", "POST"):
+                status, _, body = server.request(method, path.replace("T", server.token, 1), Content_Type="application/json")
+                # The last one is a request of the page, without the data that it needs.
+                expected = 400 if method == "POST" and path == "/T/play" else wanted
+                right = status == expected and len(body.split()) > 3
+                yield "%s, by %s" % (name, method), None if right else "status %d, said %r" % (status, body)
+
+
+HOSTS = {"another name": "example.org", "another name with the port": "example.org:P", "the right name without the port": "127.0.0.1",
+         "another port": "127.0.0.1:1", "an empty name": "", "a name that begins like ours": "127.0.0.1:P.example.org"}
+
+
+def refusals(_program, folder):
+    """Requests that are refused: of another host, not of the page, too long, and broken ones. The server goes on."""
+    with served(folder) as server:
+        if server is None:
+            return
+        path = "/%s/start" % server.token
+        for name, host in HOSTS.items():
+            status, _, _ = server.request("GET", "/%s/" % server.token, Host=host.replace("P", str(server.port)))
+            yield name, wrong(status, 403)
+            status, _, _ = server.request("POST", path, "{}", Host=host.replace("P", str(server.port)), Content_Type="application/json")
+            yield "%s, for a request" % name, wrong(status, 403)
+        status, _, _ = server.request("GET", "/%s/" % server.token, Host="localhost:%d" % server.port)
+        yield "localhost is the host as well", wrong(status, 200)
+        for kind in ("text/plain", "application/x-www-form-urlencoded", "multipart/form-data"):
+            # A form of another site can send these kinds alone.
+            yield "a body of type %s" % kind, wrong(server.request("POST", path, "{}", Content_Type=kind)[0], 415)
+        json_type = {"Content_Type": "application/json"}
+        for name, body in {"no JSON": "{", "a byte of no text": b"\xff", "much nesting": "[" * 100000}.items():
+            yield name, wrong(server.request("POST", path, body, **json_type)[0], 400)
+        for length, wanted in {"16777217": 413, "99999999999999999999": 413, "-1": 411, "1x": 411, "": 411, "\u00b2": 411}.items():
+            status = raw_request(server, path, "Content-Length: %s\r\n" % length)
+            yield "a length of %r" % length, wrong(status, wanted)
+        yield "a body that is too long is read away", wrong(server.request("POST", path, b" " * 20000000, **json_type)[0], 413)
+        idle = [socket.create_connection(("127.0.0.1", server.port), timeout=SECONDS) for _ in range(40)]
+        yield "more than 32 connections are closed", wrong([is_closed(connection) for connection in idle[32:]], [True] * 8)
+        for connection in idle:
+            connection.close()
+        yield "it answers again once they are gone", None if answers_again(server, path) else "it does not"
+        yield "a body in pieces", wrong(raw_request(server, path, "Transfer-Encoding: chunked\r\n"), 411)
+        for method in ("PUT", "DELETE", "OPTIONS", "HEAD", "TRACE"):
+            yield "the method %s" % method, wrong(server.request(method, "/%s/" % server.token)[0], 501)
+        yield "a request that does not exist", wrong(server.ask("dance"), {"status": 404, "message": "There is no such request.\n"})
+        with open("/proc/net/tcp", encoding="ascii") as file:
+            bound = [line.split()[1] for line in file if line.split()[1].endswith(":%04X" % server.port) and line.split()[3] == "0A"]
+        yield "it listens on loopback alone", wrong(bound, ["0100007F:%04X" % server.port])
+        yield "it still answers", wrong(len(server.ask("start")["examples"]) > 10, True)
+        yield "it ends without complaint", wrong(server.end(), "")
+
+
+def is_closed(connection):
+    """Returns whether the server closes a connection soon. It waits longer for a request."""
+    connection.settimeout(5)
+    try:
+        return connection.recv(1) == b""
+    except ConnectionError:
+        return True
+    except socket.timeout:
+        return False
+
+
+def answers_again(server, path):
+    """Waits until the server takes a request again."""
+    end = time.monotonic() + SECONDS
+    while time.monotonic() < end:
+        with contextlib.suppress(OSError, http.client.HTTPException):
+            return server.request("POST", path, "{}", Content_Type="application/json")[0] == 200
+        time.sleep(0.1)
+    return False
+
+
+def raw_request(server, path, headers):
+    """Sends a request as it stands, and returns the status of the answer."""
+    with socket.create_connection(("127.0.0.1", server.port), timeout=SECONDS) as connection:
+        connection.sendall(("POST %s HTTP/1.1\r\nHost: 127.0.0.1:%d\r\nContent-Type: application/json\r\n%s\r\n" % (
+            path, server.port, headers)).encode("latin-1"))
+        return int(connection.makefile("rb").readline().split()[1])
+
+
+def commands(_program, folder):
+    """What the command says of its arguments."""
+    python = prepared(folder)
+    if python is None:
+        return
+    taken = socket.create_server(("127.0.0.1", 0))
+    cases = {
+        "a file that does not exist": ([os.path.join(folder, "nothing")], "No such file or directory"),
+        "a folder": ([folder], "Is a directory"),
+        "another text": ([file_of(folder, "text", b"hello\n")], "the first line is neither that of a trace nor that of a pair text"),
+        "a text too large": ([file_of(folder, "large", b"heappair 1\n" + b"x" * 8388608)], "the page takes texts of up to 8 MiB"),
+        "a port that is taken": (["--port", str(taken.getsockname()[1])], "Address already in use"),
+        "a port that does not exist": (["--port", "65536"], "port 65536"),
+    }
+    for name, (words, part) in cases.items():
+        found = python.run("-m", "gcflip.explore", "--no-browser", *words)
+        said = found.stderr.decode()
+        right = found.status == 1 and found.stdout == b"" and said.startswith("explore: ") and part in said and said.count("\n") == 1
+        yield name, None if right else "status %s, said %r" % (found.status, said)
+    taken.close()
+    process = subprocess.Popen([sys.executable, "-m", "gcflip.explore"], env={**python.environment, "BROWSER": "echo opened %s"},
+                               stdout=subprocess.PIPE, text=True, preexec_fn=hear_interrupts)
+    said = [process.stdout.readline() for _ in range(3)]
+    process.send_signal(2)
+    process.communicate(timeout=SECONDS)
+    yield "it opens the browser", wrong(said[2], "opened %s\n" % ADDRESS.search(said[0]).group(0))
+    yield "Ctrl+C ends it well", wrong(process.returncode, 0)
+    for name in ("write_while_scanning.trace", "one_replica_for_two.pair"):
+        server = Server(python, os.path.join(EXAMPLES, name))
+        opened = server.ask("start")["file"]
+        server.end()
+        yield "opens %s" % name, wrong(opened, {"kind": name.split(".")[1], "name": name, "text": content(name).decode()})
+
+
+def answers(_program, folder):
+    """The replies to all traces, the faults of all other texts, and the verdicts on all pair texts, over HTTP."""
+    with served(folder) as server:
+        if server is None:
+            return
+        played = [(name, *trace_and_replies(conversation)) for name, conversation in PLAYED.items()]
+        played += [("example %s" % name, content(name + ".trace"), content(name + ".replies")) for name in names_of(".trace")]
+        for name, text, replies in played:
+            count = text.count(b"\n") - 2
+            found = server.ask("play", text=text.decode(), position=count, known=0, width=900)
+            yield "replies to %s" % name, wrong(found.get("replies"), replies.decode().split("\n")[:-1])
+        for name, text, line in refused_texts():
+            found = server.ask("play", text=text.decode("utf-8", "replace"), position=0, known=0, width=900)
+            number = re.search(r"\d+$", line)
+            yield "fault of %s" % name, wrong(found.get("fault"), {"message": line, "line": int(number.group()) if number else None})
+        verdicts = [(name, text.decode(), verdict) for name, text, verdict in pairs.texts_and_verdicts()]
+        verdicts += [(name, text.decode("utf-8", "replace"), line) for name, text, line in pairs.refused_texts() if len(text) < 1 << 20]
+        for name, text, verdict in verdicts:
+            yield "verdict on %s" % name, wrong(server.ask("check", text=text, width=900).get("line"), verdict)

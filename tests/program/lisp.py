@@ -1,0 +1,437 @@
+"""examples/lisp: a Lisp in C on the collected heap. Its programs, its errors, heaps that are small, full or without memory, and traces."""
+import atexit
+import functools
+import glob
+import os
+import re
+import resource
+import shutil
+import signal
+import subprocess
+import tempfile
+import time
+
+from .c_library import SANITIZERS, SOURCES as C_SOURCES, TOP, WARNINGS, done, library, usable
+from .documents import blocks, pieces
+from .harness import Outcome, difference, file_of, run
+
+FOLDER = os.path.join(TOP, "examples", "lisp")
+SOURCES = sorted(glob.glob(os.path.join(FOLDER, "*.c")))
+PROGRAMS = os.path.join(FOLDER, "programs")
+DOCUMENT = os.path.join("examples", "lisp", "README.md")
+
+# The programs by their names, with the sizes of heaps that they run in. The strings need 32771 words for one string.
+HEAPS = {
+    "churn": [20000],
+    "nqueens": [6000, 262144],
+    "primes": [8000, 1048576],
+    "queue": [20000, 262144],
+    "strings": [262144],
+    "tak": [5000, 262144],
+}
+
+# What is read, and the values that are printed, with | or spaces between them.
+EVALUATED = {
+    "integers": (
+        "(+ 1 2 3) (+) (- 5) (- 10 1 2) (* 2 3 4) (quotient -7 2) (remainder -7 2) (modulo -7 2) (modulo 7 -2) +7 -0",
+        "6 0 -5 7 24 -3 -1 1 -1 7 0"),
+    "bounds of integers": (
+        "4611686018427387903 -4611686018427387904 (+ 4611686018427387902 1) (- -4611686018427387903 1) (* 2147483648 -2147483648)"
+        " (- -4611686018427387904 -4611686018427387904) (= -1 (- 4611686018427387902 4611686018427387903))",
+        "4611686018427387903|-4611686018427387904|4611686018427387903|-4611686018427387904|-4611686018427387904|0|#t"),
+    "comparisons": ("(< 1 2 3) (< 1 3 2) (= 1 1 1) (>= 3 3 1) (> 3 3) (<= -1 0)", "#t #f #t #t #f #t"),
+    "lists": (
+        "'(1 (2 . 3) () \"x\") (cons 1 2) (list) (append '(1) '() '(2 3) 4) (append) (append 5) (reverse '(1 2 3)) (length '(1 2))",
+        '(1 (2 . 3) () "x")|(1 . 2)|()|(1 2 3 . 4)|()|5|(3 2 1)|2'),
+    "library": (
+        "(map - '(1 2)) (filter zero? '(0 1 0)) (fold cons '() '(1 2)) (assoc \"b\" '((\"a\" 1) (\"b\" 2))) (member 3 '(1 2)) (iota 3)",
+        '(-1 -2)|(0 0)|(2 1)|("b" 2)|#f|(0 1 2)'),
+    "strings": (
+        '(string-append "ab" "" "cdefgh") (string-length "é") (substring "abcdefghij" 6 8) (string=? "a" "a") (number->string -12)'
+        ' (string->symbol "x y") "a\\n\\t\\"\\\\"', '"abcdefgh"|2|"gh"|#t|"-12"|x y|"a\\n\\t\\"\\\\"'),
+    "same and equal": (
+        "(eq? 'a 'a) (eq? \"a\" \"a\") (equal? \"a\" \"a\") (equal? '(1 (2 \"x\")) (list 1 (list 2 \"x\"))) (equal? '(1 2) '(1 3)) (eq? '() '())",
+        "#t|#f|#t|#t|#f|#t"),
+    "forms": (
+        "(if #f 1 2) (if '() 1 2) (cond (#f 1) ((+ 1 1)) (else 3)) (cond (#f 1) (else 3 4)) (and) (and 1 2) (and #f (car 1)) (or) (or #f 3)"
+        " (or 1 (car 1)) (begin 1 2)", "2|1|2|4|#t|2|#f|#f|3|1|2"),
+    "let": (
+        "(let ((x 1) (y 2)) (+ x y)) (let* ((x 1) (y (+ x 1)) (z (* y 2))) (list x y z)) (let* () 7)"
+        " (letrec ((even (lambda (n) (or (= n 0) (odd (- n 1))))) (odd (lambda (n) (and (> n 0) (even (- n 1)))))) (even 101))"
+        " (let loop ((i 0) (sum 0)) (if (= i 5) sum (loop (+ i 1) (+ sum i))))", "3|(1 2 4)|7|#f|10"),
+    "functions": (
+        "((lambda (a . others) (list a others)) 1 2 3) ((lambda all all)) (apply max '(3 4))"
+        " (define (adder n) (lambda (m) (+ n m))) ((adder 3) 4) (adder 1) car adder"
+        " (define (f n) (define two 2) (define (g n) (* two n)) (g n)) (f 21)",
+        "(1 (2 3))|()|4|7|#<function>|#<function car>|#<function adder>|42"),
+    "counter": (
+        "(define (counter) (let ((n 0)) (lambda () (set! n (+ n 1)) n))) (define a (counter)) (define b (counter)) (a) (a) (b)", "1|2|1"),
+    "comments and quotes": ("; nothing\n'a ''a '(a . (b)) ; behind\n#t #f", "a|(quote a)|(a b)|#t|#f"),
+    "a list that contains itself": ("(define x (list 1)) (set-cdr! x x) (car (cdr (cdr x)))", "1"),
+    "exit": ("1 (exit) 2", "1"),
+}
+
+# What is read, and its errors.
+WRONG = [
+    ("(car 7)", "input, line 1, column 1: car expects a pair, but found 7"),
+    ("\n  (list 1\n   (car \"é\" ))", "input, line 3, column 4: car expects a pair, but found \"é\""),
+    ("(define (f x) (+ x 'a))\n(f 1)", "input, line 1, column 15: + expects an integer, but found a"),
+    ("nowhere", "input, line 1, column 1: nothing is defined as nowhere"),
+    ("(+ 1 (quotient 2 1) nowhere)", "input, line 1, column 21: nothing is defined as nowhere"),
+    ("(set! nowhere 1)", "input, line 1, column 7: nothing is defined as nowhere"),
+    ("(let ((x (car '()))) x)", "input, line 1, column 10: car expects a pair, but found ()"),
+    ("(letrec ((x y) (y 1)) x)", "input, line 1, column 13: no value yet for y"),
+    ("((lambda (x) x))", "input, line 1, column 1: expected 1 argument, but found 0, for #<function>"),
+    ("(define (f x y . z) x) (f 1)", "input, line 1, column 24: expected at least 2 arguments, but found 1, for #<function f>"),
+    ("(cons 1)", "input, line 1, column 1: expected 2 arguments, but found 1, for cons"),
+    ("(5 6)", "input, line 1, column 1: expected a function to call, but found 5"),
+    ("(length '(1 . 2))", "input, line 1, column 1: length expects a list, but found (1 . ...)"),
+    ("(let ((x (list 1))) (set-cdr! x x) (length x))", "input, line 1, column 36: length expects a list, but found (1 1 1 1 1 1 1 1 ...)"),
+    ("(quotient 1 0)", "input, line 1, column 1: quotient by 0"),
+    ("(* 4611686018427387903 2)", "input, line 1, column 1: the result of * is out of range: integers have 63 bits"),
+    ("(+ 4611686018427387903 1)", "input, line 1, column 1: the result of + is out of range: integers have 63 bits"),
+    ("(- -4611686018427387904)", "input, line 1, column 1: the result of - is out of range: integers have 63 bits"),
+    ("4611686018427387904", "input, line 1, column 1: 4611686018427387904 is out of range: integers are -4611686018427387904 to"
+                            " 4611686018427387903"),
+    ("-99999999999999999999999", "input, line 1, column 1: -99999999999999999999999 is out of range: integers are -4611686018427387904 to"
+                                 " 4611686018427387903"),
+    ("(substring \"abc\" 2 5)", "input, line 1, column 1: substring expects 0 <= start <= end <= 3, but found 2 and 5"),
+    ("()", "input, line 1, column 1: expected an expression, but found (): '() is the empty list"),
+    ("(if)", "input, line 1, column 1: expected (if TEST THEN) or (if TEST THEN ELSE)"),
+    ("(if 1 2 3 4)", "input, line 1, column 1: expected (if TEST THEN) or (if TEST THEN ELSE)"),
+    ("(let ((x)) x)", "input, line 1, column 1: expected (let ((NAME EXPRESSION) ...) EXPRESSION ...), perhaps with a name behind the let"),
+    ("(let* 5 x)", "input, line 1, column 1: expected (let* ((NAME EXPRESSION) ...) EXPRESSION ...)"),
+    ("(cond (#f 1) (else))", "input, line 1, column 14: expected (cond (TEST EXPRESSION ...) ... (else EXPRESSION ...))"),
+    ("(define (f) (define x 1))", "input, line 1, column 1: expected an expression behind the definitions of a body"),
+    ("((lambda () (define x 1) (define y 2)))", "input, line 1, column 2: expected an expression behind the definitions of a body"),
+    ("((lambda () 1 (define x 2)))", "input, line 1, column 15: expected an expression: definitions stand outside of functions, or first in a body"),
+    ("(list \0)", "input, line 1, column 7: expected an expression, but found a byte 0"),
+    ("(define x)", "input, line 1, column 1: expected (define NAME EXPRESSION) or (define (NAME NAME ...) EXPRESSION ...)"),
+    ("(lambda (1) 2)", "input, line 1, column 1: expected a name for an argument, but found 1"),
+    ("(define if 3)", "input, line 1, column 9: expected the name of a variable, but found the keyword if"),
+    ("(error \"no such room:\" '(1 (2) \"x\"))", 'input, line 1, column 1: no such room: (1 (...) "x")'),
+    ("(1 . 2)", "input, line 1, column 1: expected a call, but found a list that ends in a ."),
+    (")", "input, line 1, column 1: expected an expression, but found a ) without a ("),
+    ("(1 .)", "input, line 1, column 5: expected an expression behind the ., but found a )"),
+    ("(. 1)", "input, line 1, column 2: expected an expression, but found a ."),
+    ("(1 . 2 3)", "input, line 1, column 8: expected a ) behind the one expression that follows a ."),
+    ("(quote ')", "input, line 1, column 9: expected an expression behind the ', but found a )"),
+    ("\"a\\q\"", "input, line 1, column 4: expected n, t, \" or \\ behind a \\ in a string"),
+    ("#x", "input, line 1, column 1: expected an expression, but found #x"),
+    ("(list\n (+ 1\n", "input, line 2, column 2: the text ends inside the list that begins here: a ) is missing"),
+    (" \"abc", "input, line 1, column 2: the text ends inside the string that begins here: a \" is missing"),
+    ("'", "input, line 1, column 1: the text ends behind this ': an expression is missing"),
+    ("x" * 256, "input, line 1, column 1: a name or a number has at most 255 bytes"),
+]
+
+# Words of options that are wrong.
+WRONG_OPTIONS = [["--heap"], ["--heap", "0"], ["--heap", "1048577"], ["--heap", "12x"], ["--heap", "-1"], ["--heep", "5"], ["--record"],
+                 ["--record", "/"]]
+
+TOTALS = re.compile(rb"(\d+) words were allocated, [\d.]+ times the heap\n(\d+) collections copied (\d+) objects\n"
+                    rb"(\d+) whole collections held up an allocation\n$")
+FULL = re.compile(rb"error: input, line \d+, column \d+: the heap is full: (\d+) of its (\d+) words are in use, and \d+ more are needed"
+                  rb" \(--heap WORDS makes it larger\)\n")
+
+
+class Lisp:
+    """The Lisp, built by a compiler."""
+
+    def __init__(self, built, name, compiler, more=()):
+        self.path = os.path.join(built.folder, "lisp by %s" % name)
+        words = [*compiler, "-std=c11", "-O2", *WARNINGS, "-I" + os.path.join(built.prefix, "include"), "-I" + FOLDER, "-o", self.path]
+        made = done([*words, *SOURCES, *more, *built.archive()])
+        self.why = None if made.status == 0 else "not built: %s" % made.stderr.decode()
+
+    def run(self, text, *words, **more):
+        return done([self.path, *words], input=text.encode(), **more)
+
+    def run_program(self, name, *words):
+        return done([self.path, *words, os.path.join(PROGRAMS, name + ".lisp")])
+
+
+WAYS = [("gcc", ["gcc"]), ("gcc with sanitizers", ["gcc", *SANITIZERS])]
+
+
+@functools.lru_cache(maxsize=None)
+def built_lisps():
+    """The name of each way of building, and the Lisp: built once for all groups, in a folder that lives as long as the run."""
+    folder = tempfile.mkdtemp()
+    atexit.register(shutil.rmtree, folder)
+    built = library(folder)
+    return [(name, Lisp(built, name, compiler)) for name, compiler in WAYS if built and usable(folder, name, compiler)]
+
+
+def content(name):
+    with open(os.path.join(PROGRAMS, name), "rb") as file:
+        return file.read()
+
+
+def totals(outcome):
+    """The words, the collections, the copied objects and the waits that --pauses prints."""
+    return [int(number) for number in TOTALS.search(outcome.stderr).groups()]
+
+
+def programs(_program, _folder):
+    """Each program prints what its comments derive."""
+    known = sorted(name[:-len(".lisp")] for name in os.listdir(PROGRAMS) if name.endswith(".lisp"))
+    yield "each program has a heap", None if known == sorted(HEAPS) else "there are %s" % known
+    for way, lisp in built_lisps():
+        yield "examples/lisp by %s" % way, lisp.why
+        for name, heaps in HEAPS.items() if lisp.why is None else []:
+            for heap in heaps:
+                found = lisp.run_program(name, "--heap", str(heap))
+                yield "%s in %d words, %s" % (name, heap, way), difference(found, Outcome(content(name + ".output")))
+
+
+def evaluating(_program, _folder):
+    """Values, errors with their places, and that the REPL goes on behind each error."""
+    for way, lisp in built_lisps():
+        for name, (text, values) in EVALUATED.items() if lisp.why is None else []:
+            lines = values.split("|" if "|" in values else " ")
+            wanted = Outcome("".join(line + "\n" for line in lines).encode())
+            yield "%s, %s" % (name, way), difference(lisp.run(text + "\n"), wanted)
+        for text, error in WRONG:
+            wanted = Outcome(b"", ("error: %s\n" % error).encode())
+            yield "error of %s, %s" % (text[:40], way), difference(lisp.run(text), wanted)
+            goes_on = lisp.run(text + "\n3\n").stdout if "text ends" not in error else b"3\n"
+            yield "behind the error of %s, %s" % (text[:40], way), None if goes_on == b"3\n" else "printed %r" % goes_on
+
+
+def command_line(_program, folder):
+    """Files, options and statuses."""
+    for way, lisp in built_lisps():
+        for words in WRONG_OPTIONS:
+            status = lisp.run("", *words).status
+            yield "status of %s, %s" % (words, way), None if status == 2 else "status %d, wanted 2" % status
+        wrong = file_of(folder, "wrong.lisp", b"(display 1)\n(car\n 2)\n(display 3)\n")
+        error = "error: %s, line 2, column 1: car expects a pair, but found 2\n" % wrong
+        yield "an error in a file, %s" % way, difference(lisp.run("", wrong), Outcome(b"1", error.encode(), 1))
+        first, second = file_of(folder, "first.lisp", b"(define x 4)"), file_of(folder, "second.lisp", b"(display x)")
+        yield "two files, %s" % way, difference(lisp.run("", first, second), Outcome(b"4"))
+        left = file_of(folder, "left.lisp", b"(display 1) (exit)")
+        yield "exit in the first of two files, %s" % way, difference(lisp.run("", left, second), Outcome(b"1"))
+        missing = lisp.run("", os.path.join(folder, "nothing.lisp"))
+        yield "a file that does not exist, %s" % way, None if missing.status == 1 and b"nothing.lisp" in missing.stderr else missing.stderr
+        with open("/dev/full", "wb") as full:
+            status = run(lisp.path, text=b"1\n", stdout=full).status if way == "gcc" else 1
+        yield "a full disk, %s" % way, None if status == 1 else "status %s, wanted 1" % status
+
+
+def interrupted(path, endless):
+    """What a run printed whose endless expression was interrupted. Signals come until it ends, since one before the expression has no
+    effect."""
+    ran = subprocess.Popen([path], stdin=subprocess.PIPE, stdout=subprocess.PIPE, stderr=subprocess.PIPE)
+    ran.stdin.write(("(car 1)\n%s\n(+ 1 2)\n" % endless).encode())
+    ran.stdin.close()
+    first = ran.stderr.readline()
+    while ran.poll() is None:
+        ran.send_signal(signal.SIGINT)
+        time.sleep(0.1)
+    return Outcome(ran.stdout.read(), first + ran.stderr.read(), ran.returncode)
+
+
+# Expressions that never end: tail calls, and a comparison of two circles.
+ENDLESS = ["((lambda (f) (f f)) (lambda (f) (f f)))",
+           "((lambda (a b) (set-cdr! a a) (set-cdr! b b) (equal? a b)) (list 1) (list 1))"]
+
+
+def interrupting(_program, _folder):
+    """Ctrl-C ends an endless expression, and the REPL goes on."""
+    for way, lisp in built_lisps():
+        for endless in ENDLESS:
+            found = interrupted(lisp.path, endless)
+            errors = re.fullmatch(rb"error: .*column 1: car expects.*\nerror: input, line 2, column \d+: interrupted\n", found.stderr)
+            yield "%s, %s" % (endless, way), None if errors and found.stdout == b"3\n" and found.status == 0 else found.stderr
+
+
+def most_live(heap):
+    """The words that may be live so that no allocation waits for a whole collection, as the README derives."""
+    return (2 * (heap - 1 - heap // 32) - 2) // 3
+
+
+# The Lisp itself, and the program below without what it keeps, take less than this.
+OWN_WORDS = 4200
+
+# Keeps functions, each with a scope of 60 variables. A function takes 7 words, its scope 64, and its pair 4. To copy these objects takes 6, 63
+# and 3 steps, since a scan copies what a field refers to. So they cost nearly as many steps as they have words, as README assumes.
+NAMES = " ".join("v%d" % number for number in range(60))
+KEEPING = """(define (wide %s) (lambda () v0))
+(define numbers (iota 60))
+(define (keep n kept) (if (= n 0) kept (keep (- n 1) (cons (apply wide numbers) kept))))
+(define (spin n) (if (= n 0) 'done (spin (- n 1))))
+(define kept (keep %%d '()))
+(spin %%d)
+(length kept)
+""" % NAMES
+KEPT_WORDS = 7 + 64 + 4
+
+
+def pace(_program, _folder):
+    """No allocation waits for a whole collection while live data stay below the bound, and memory stays constant."""
+    for way, lisp in built_lisps():
+        for heap in (8000, 20000, 65536, 262144):
+            kept = (most_live(heap) - OWN_WORDS) // KEPT_WORDS
+            found = lisp.run(KEEPING % (kept, heap // 5), "--heap", str(heap), "--pauses")
+            _, collections, _, waits = totals(found)
+            yield "%d live scopes in %d words, %s" % (kept, heap, way), difference(found, Outcome(b"done\n%d\n" % kept, found.stderr))
+            yield "waits in %d words, %s" % (heap, way), None if waits == 0 < collections else "%d of %d" % (waits, collections)
+        loop = "(define (spin n) (if (= n 0) 'done (spin (- n 1)))) (spin 100000)"
+        found = lisp.run(loop, "--heap", "4500", "--pauses")
+        yield "a long loop in 4500 words, %s" % way, difference(found, Outcome(b"done\n", found.stderr))
+        allocated, _, _, waits = totals(lisp.run_program("churn", "--heap", "20000", "--pauses"))
+        yield "churn allocates 100 heaps, %s" % way, None if allocated >= 100 * 20000 else "%d words" % allocated
+        yield "churn does not wait, %s" % way, None if waits == 0 else "%d waits" % waits
+
+
+FILLING = """(define big '())
+(define (fill) (set! big (cons 1 big)) (fill))
+(fill)
+(set! big '())
+(define (deep n) (if (= n 0) 0 (+ 1 (deep (- n 1)))))
+(deep 1000000)
+(deep 100)
+"""
+
+
+def limits(_program, _folder):
+    """Heaps that are too small or full, and data and calls that are deep."""
+    for way, lisp in built_lisps():
+        for heap in [1, 2, 10, 100, 1000, 2500]:
+            found = lisp.run("(+ 1 2)", "--heap", str(heap))
+            said = found.stderr.endswith(b"lisp: the heap is too small for the Lisp itself\n")
+            yield "%d words are too small, %s" % (heap, way), None if found.status == 2 and said and not found.stdout else found.stderr
+        for heap in range(2500, 4500, 97):
+            found = lisp.run("(+ 1 2)", "--heap", str(heap))
+            works = found.status == 0 and found.stdout == b"3\n" or found.status == 2 or FULL.fullmatch(found.stderr)
+            yield "%d words, %s" % (heap, way), None if works else "status %d, %r" % (found.status, found.stderr)
+        for heap in (6000, 65536, 1048576):
+            found = lisp.run(FILLING, "--heap", str(heap))
+            errors = FULL.findall(found.stderr)
+            yield "full heaps of %d, %s" % (heap, way), None if len(errors) == 2 and found.status == 0 else found.stderr
+            yield "behind full heaps of %d, %s" % (heap, way), None if found.stdout == b"100\n" else "printed %r" % found.stdout
+        deep = "(define (deep n) (if (= n 0) 0 (+ 1 (deep (- n 1))))) (deep 30000)"
+        yield "30000 calls deep, %s" % way, difference(lisp.run(deep, "--heap", "1048576"), Outcome(b"30000\n"))
+        nested = "(" * 30000 + ")" * 30000
+        yield "30000 lists deep, %s" % way, difference(lisp.run("'" + nested, "--heap", "1048576"), Outcome(nested.encode() + b"\n"))
+        equal = "(define (nest n x) (if (= n 0) x (nest (- n 1) (list x)))) (equal? (nest 10000 1) (nest 10000 1))"
+        yield "10000 lists deep are equal, %s" % way, difference(lisp.run(equal), Outcome(b"#t\n"))
+        circle = lisp.run("(define x (list 1)) (set-cdr! x x) x (car x)\n").stdout
+        yield "a circle is printed, %s" % way, None if circle.startswith(b"(1 1 1") and circle.endswith(b" ...\n1\n") else circle[-40:]
+
+
+REFUSED_TEXT = """(define (build n) (if (= n 0) '() (cons n (build (- n 1)))))
+(length (build 200))
+(length (build 300))
+(length (build 100))
+(+ 1 2)
+"""
+REFUSED_VALUES = [b"200", b"300", b"100", b"3"]
+
+
+def wrong_refusal(found):
+    """Why a run is not right in which one allocation was refused, or None. There may be an error in its place, and later expressions have
+    their values; if there is none, all have. The collector tries again."""
+    if found.status == 2 and b"out of memory: the system has none for the heap" in found.stderr:
+        return None
+    values, errors = found.stdout.split(), found.stderr.count(b"error: ")
+    missing = [value for value in REFUSED_VALUES if value not in values]
+    in_order = [value for value in REFUSED_VALUES if value in values] == values
+    is_right = found.status == 0 and in_order and len(missing) <= errors == found.stderr.count(b"out of memory") <= 1
+    leaves_nothing = b"refused, and 0 blocks with 0 bytes are left" in found.stderr
+    return None if is_right and values[-1:] == [b"3"] and leaves_nothing else "%d, %r, %r" % (found.status, found.stdout, found.stderr)
+
+
+def refused_allocations(_program, folder):
+    """Each allocation of the library fails in turn: an error at most, and the REPL goes on."""
+    built = library(folder)
+    if built is None or not usable(folder, *WAYS[1]):
+        return
+    lisp = Lisp(built, "gcc that refuses", WAYS[1][1], [os.path.join(C_SOURCES, "refused_lisp.c"), "-I" + C_SOURCES])
+    yield "refused_lisp.c", lisp.why
+    errors = refused = 0
+    while lisp.why is None:
+        found = lisp.run(REFUSED_TEXT, "--heap", "16000", env=dict(os.environ, REFUSED_ALLOCATION=str(refused + 1)))
+        if b"refused, and" not in found.stderr and found.status == 0:
+            yield "no allocation is left", None if found.stdout.split() == REFUSED_VALUES else found.stdout
+            break
+        refused += 1
+        errors += found.stderr.count(b"error: ")
+        yield "refused allocation %d" % refused, wrong_refusal(found)
+    yield "allocations were refused", None if refused > 20 and errors > 0 else "%d, with %d errors" % (refused, errors)
+
+
+# More than the program and one space of 8 MiB take, and less than they take with two.
+ONE_SPACE = 16 << 20
+
+
+def limit_memory():
+    resource.setrlimit(resource.RLIMIT_AS, (ONE_SPACE, ONE_SPACE))
+
+
+def no_collector(_program, _folder):
+    """The system has no memory for a second space: what fits in the heap is evaluated, then there is an error, and the REPL goes on."""
+    for way, lisp in built_lisps()[:1]:
+        text = "(define (spin n) (if (= n 0) 'done (spin (- n 1)))) (spin 20000)\n(spin 100000)\n(+ 1 2)\n"
+        found = lisp.run(text, "--heap", "1048576", preexec_fn=limit_memory)
+        error = re.fullmatch(rb"error: input, line \d, column \d+: out of memory: the system has none for the collector\n", found.stderr)
+        yield "no memory for a collection, %s" % way, None if error and found.stdout == b"done\n3\n" else "%r, %r" % (found.stdout, found.stderr)
+
+
+def traces(program, folder):
+    """A recorded run is replayed with status 0, and its reports and pairs are right."""
+    for way, lisp in built_lisps():
+        trace = os.path.join(folder, "trace")
+        found = lisp.run_program("primes", "--heap", "8000", "--pauses", "--record", trace)
+        yield "primes recorded, %s" % way, difference(found, Outcome(content("primes.output"), found.stderr))
+        played = run(program, ["play", trace])
+        replies = set(played.stdout.split(b"\n"))
+        yield "played, %s" % way, None if played.status == 0 and played.stdout else played.stderr
+        bad = replies & {b"full", b"no object", b"no field", b"no number", b"no room", b"busy", b"idle", b"refused", b"not ready"}
+        yield "replies, %s" % way, "there are %s" % bad if bad else None
+        report = dict(line.split() for line in run(program, ["report", trace]).stdout.decode().splitlines())
+        _, collections, copied, _ = totals(found)
+        counted = (int(report["flips"]), int(report["pairs"]))
+        yield "report, %s" % way, None if counted == (collections, copied) and collections > 10 else "%s, %s" % (counted, (collections, copied))
+        pair = file_of(folder, "pair", run(program, ["pair", trace, str(collections)]).stdout)
+        checked = run(program, ["check", pair])
+        yield "the last flip, %s" % way, None if checked.status == 0 and checked.stdout.startswith(b"yes ") else checked.stdout
+
+
+def histogram(_program, _folder):
+    """The counts of the histogram add up, and the longest call is one of those that are listed."""
+    for way, lisp in built_lisps():
+        printed = lisp.run_program("tak", "--heap", "20000", "--pauses").stderr.decode()
+        calls = int(re.match(r"(\d+) calls on the heap by their times\n", printed).group(1))
+        rows = [int(count) for count in re.findall(r"  below +[\d.]+ us +(\d+) #*\n", printed)]
+        yield "rows of the histogram, %s" % way, None if sum(rows) == calls > 0 else "%d, not %d" % (sum(rows), calls)
+        kinds = re.findall(r"\n  ([\d.]+) us: (gcflip_heap_\w+)", printed)
+        longest = re.search(r"\nthe longest call took ([\d.]+) us: (gcflip_heap_\w+)", printed).groups()
+        yield "the longest call, %s" % way, None if longest in kinds and float(longest[0]) == max(float(time) for time, _ in kinds) else printed
+
+
+def without_counts(line):
+    """A line without the place and the numbers of an error of a full heap, which depend on where the heap was full."""
+    return re.sub(r"\d+", "N", line) if "the heap is full" in line else line
+
+
+def readme(_program, _folder):
+    """The code of the README is in the sources, and its sessions print what they show, but for the numbers of a full heap."""
+    texts = []
+    for path in SOURCES:
+        with open(path, encoding="utf-8") as file:
+            texts.append(" ".join(file.read().split()))
+    for number, block in enumerate(blocks(DOCUMENT, "c"), 1):
+        missing = [piece for piece in pieces(block) if not any(piece in text for text in texts)]
+        yield "code %d of %s" % (number, DOCUMENT), "in no source: %s" % missing if missing else None
+    for way, lisp in built_lisps()[:1]:
+        for number, block in enumerate(blocks(DOCUMENT, "lisp"), 1):
+            typed = [line[2:] for line in block if line.startswith("> ")]
+            shown = [line for line in block if not line.startswith("> ")]
+            found = lisp.run("\n".join(typed) + "\n", "--heap", "65536")
+            printed = (found.stdout + found.stderr).decode().splitlines()
+            is_shown = [without_counts(line) for line in printed] == [without_counts(line) for line in shown]
+            yield "session %d of %s" % (number, DOCUMENT), None if is_shown else "printed %s" % printed
+
+
+GROUPS = [programs, evaluating, command_line, interrupting, pace, limits, refused_allocations, no_collector, traces, histogram, readme]

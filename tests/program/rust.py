@@ -1,0 +1,127 @@
+"""bindings/rust: the crate over the library, by cargo: its own tests, its lints, its examples, and all pair texts and traces."""
+import os
+import shutil
+
+from .c_library import TOP, done, library, skip, texts_and_lines, traces_and_replies
+from .examples import names_of
+from .harness import Outcome, difference, file_of
+from .python import content_of
+
+CRATE = os.path.join(TOP, "bindings", "rust")
+SECONDS = 600
+
+# What the example programs print, as their comments derive.
+EXAMPLE_OUTPUT = {"first_check": b"flip: 1 pairs\n", "first_heap": b"Number(42)\n", "two_threads": b"50005000\n"}
+
+
+class Cargo:
+    """Cargo in the crate, with the installed library, and without a registry. What it builds goes to a folder of the tests."""
+
+    def __init__(self, built, folder):
+        self.target = os.path.join(folder, "target")
+        self.environment = dict(os.environ, GCFLIP_LIB_DIR=built.lib, CARGO_TARGET_DIR=self.target, RUSTDOCFLAGS="-D warnings")
+
+    def run(self, *words, **environment):
+        return done(["cargo", words[0], "--offline", "--locked", *words[1:]], timeout=SECONDS, cwd=CRATE, env=dict(self.environment, **environment))
+
+    def example(self, name):
+        return os.path.join(self.target, "debug", "examples", name)
+
+
+def prepared(folder):
+    """Cargo with the library; None, and said aloud, where either is missing."""
+    if shutil.which("cargo") is None or done(["cargo", "--version"]).status != 0:
+        skip("rust", "no cargo")
+        return None
+    built = library(folder)
+    return None if built is None else Cargo(built, folder)
+
+
+def failed(outcome):
+    """Why the run failed, or None."""
+    return None if outcome.status == 0 else (outcome.stdout + outcome.stderr).decode()
+
+
+def counted_tests(outcome):
+    """The numbers of tests that passed, for each program of tests."""
+    return [int(line.split()[3]) for line in outcome.stdout.decode().split("\n") if line.startswith("test result: ok.")]
+
+
+def suites(_program, folder):
+    """The tests of the crate, those in its documents, its lints, its layout, and that the links of its documents lead somewhere."""
+    cargo = prepared(folder)
+    if cargo is None:
+        return
+    tested = cargo.run("test")
+    counts = counted_tests(tested)
+    yield "cargo test", failed(tested)
+    # Unit tests, three files of tests, and the documents; examples and the library alone may have none.
+    yield "tests of each kind ran", None if len([count for count in counts if count > 0]) >= 5 else "passed: %s" % counts
+    yield "a heap is not shared", None if b"heap::Heap" in tested.stdout and b"compile fail ... ok" in tested.stdout else "no such test"
+    if done(["cargo", "clippy", "--version"]).status == 0:
+        yield "cargo clippy", failed(cargo.run("clippy", "--all-targets", "--", "-D", "warnings"))
+    else:
+        skip("cargo clippy", "it is not there")
+    yield "cargo doc", failed(cargo.run("doc"))
+    if done(["cargo", "fmt", "--version"]).status == 0:
+        yield "cargo fmt", failed(done(["cargo", "fmt", "--check"], cwd=CRATE))
+    else:
+        skip("cargo fmt", "it is not there")
+
+
+def examples(_program, folder):
+    """The example programs print what their comments say."""
+    cargo = prepared(folder)
+    if cargo is None:
+        return
+    yield "the examples are built", failed(cargo.run("build", "--examples"))
+    for name, wanted in EXAMPLE_OUTPUT.items():
+        yield name, difference(done([cargo.example(name)]), Outcome(wanted))
+    yield from texts(cargo, folder)
+    yield from plays(cargo, folder)
+
+
+def texts(cargo, folder):
+    """The examples, and all other pair texts, get their verdicts."""
+    cases = [(name, file_of(folder, "text %d" % number, text), line) for number, (name, text, line) in enumerate(texts_and_lines())]
+    found = done([cargo.example("check"), *[file for _, file, _ in cases]])
+    yield "check.rs", difference(found, Outcome(found.stdout))
+    lines = found.stdout.decode().split("\n")
+    for number, (case, _, line) in enumerate(cases):
+        told = lines[number] if number < len(lines) else None
+        yield "%s, by check.rs" % case, None if told == line else "%r, wanted %r" % (told, line)
+    yield "there are examples", None if names_of(".pair") else "no .pair"
+
+
+def plays(cargo, folder):
+    """The examples, and all other traces without faults, get their replies."""
+    cases = [(name, os.path.join(folder, "replies %d" % number), file_of(folder, "trace %d" % number, trace), replies)
+             for number, (name, trace, replies) in enumerate(traces_and_replies())]
+    found = done([cargo.example("play"), *[path for _, target, source, _ in cases for path in (source, target)]])
+    yield "play.rs", difference(found, Outcome())
+    for case, target, _, replies in cases:
+        yield "%s, by play.rs" % case, None if content_of(target) == replies else "replied %r" % content_of(target)
+    yield "there are traces", None if names_of(".trace") else "no .trace"
+
+
+def linking(_program, folder):
+    """The library is found by pkg-config, as a shared library where there is no archive, and what is missing is said."""
+    cargo = prepared(folder)
+    if cargo is None:
+        return
+    installed = os.path.join(folder, "installed", "lib")
+    nowhere = {"PKG_CONFIG_PATH": folder, "PKG_CONFIG_LIBDIR": folder}
+    del cargo.environment["GCFLIP_LIB_DIR"]
+    missing = cargo.run("build", **nowhere)
+    yield "no library", None if missing.status != 0 and b"libgcflip is not found" in missing.stderr else missing.stderr.decode()
+    if shutil.which("pkg-config"):
+        found = cargo.run("run", "-q", "--example", "first_heap", PKG_CONFIG_PATH=os.path.join(installed, "pkgconfig"))
+        yield "by pkg-config", difference(found, Outcome(EXAMPLE_OUTPUT["first_heap"]))
+    else:
+        skip("by pkg-config", "no pkg-config")
+    os.remove(os.path.join(installed, "libgcflip.a"))
+    found = cargo.run("run", "-q", "--example", "first_heap", GCFLIP_LIB_DIR=installed, LD_LIBRARY_PATH=installed)
+    yield "the shared library", difference(found, Outcome(EXAMPLE_OUTPUT["first_heap"]))
+
+
+GROUPS = [suites, examples, linking]
