@@ -10,8 +10,8 @@
  *   replies of a heap without a collector, except that an allocation may find the heap full;
  * - a flip happens only if the checker accepts its certificate, the flip of a ready collection passes, and no step
  *   lacks room if the new space is at least as large as the heap;
- * - only open, begin, begin_sized, flip, work, and put, put_number and cons while a collection is open can return
- *   GCFLIP_HEAP_NO_MEMORY.
+ * - only open, begin, begin_sized, flip, work, and put, put_number, cons and new_from while a collection is open can
+ *   return GCFLIP_HEAP_NO_MEMORY.
  *
  * What the caller owes, since nothing checks C code:
  * - no pointer is NULL, not even one to no elements, each is aligned, and no two of a call overlap;
@@ -124,6 +124,9 @@ uint32_t gcflip_heap_put_number(gcflip_heap *heap, uint8_t m, uint8_t s, uint16_
  * puts do one after the other. GCFLIP_MADE, or GCFLIP_FULL, and then nothing changed. Slot d is set first: a field that is given from
  * slot d refers to the object itself. While a collection is open, it allocates room in the mutator's log. */
 uint32_t gcflip_heap_cons(gcflip_heap *heap, uint8_t m, uint8_t d, uint8_t kind, uint8_t s, uint8_t t);
+
+/* The same with `count` fields, at most 65535, which take the values of the slots at fields[0] to fields[count - 1]. */
+uint32_t gcflip_heap_new_from(gcflip_heap *heap, uint8_t m, uint8_t d, uint8_t kind, const uint8_t *fields, size_t count);
 
 /* Compares the values of slots s and t: GCFLIP_SAME or GCFLIP_NOT_SAME. */
 uint32_t gcflip_heap_same(gcflip_heap *heap, uint8_t m, uint8_t s, uint8_t t);

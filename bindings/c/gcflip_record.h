@@ -161,22 +161,31 @@ static inline uint32_t gcflip_record_put_number(gcflip_heap *heap, uint8_t m, ui
     return answer;
 }
 
-/* Its lines are those of a new and, if there was room, of two puts. */
-static inline uint32_t gcflip_record_cons(gcflip_heap *heap, uint8_t m, uint8_t d, uint8_t kind, uint8_t s, uint8_t t)
+/* The lines of an object that takes its fields from slots: a new and, if there was room, a put for each field. */
+static inline uint32_t gcflip_trace_new_from(uint32_t answer, uint8_t m, uint8_t d, uint8_t kind, const uint8_t *fields, size_t count)
 {
-    uint32_t answer = gcflip_heap_cons(heap, m, d, kind, s, t);
+    size_t i;
     if (gcflip_recorded(answer)) {
         gcflip_trace_command(m, "new");
         gcflip_trace_slot(d);
         gcflip_trace_number(kind);
-        gcflip_trace_number(2);
+        gcflip_trace_number(count);
         gcflip_trace_end();
-        if (answer != GCFLIP_FULL) {
-            gcflip_trace_put(m, d, 0, s);
-            gcflip_trace_put(m, d, 1, t);
-        }
+        for (i = 0; answer != GCFLIP_FULL && i < count; i++)
+            gcflip_trace_put(m, d, (uint16_t)i, fields[i]);
     }
     return answer;
+}
+
+static inline uint32_t gcflip_record_cons(gcflip_heap *heap, uint8_t m, uint8_t d, uint8_t kind, uint8_t s, uint8_t t)
+{
+    const uint8_t fields[] = {s, t};
+    return gcflip_trace_new_from(gcflip_heap_cons(heap, m, d, kind, s, t), m, d, kind, fields, 2);
+}
+
+static inline uint32_t gcflip_record_new_from(gcflip_heap *heap, uint8_t m, uint8_t d, uint8_t kind, const uint8_t *fields, size_t count)
+{
+    return gcflip_trace_new_from(gcflip_heap_new_from(heap, m, d, kind, fields, count), m, d, kind, fields, count);
 }
 
 static inline uint32_t gcflip_record_same(gcflip_heap *heap, uint8_t m, uint8_t s, uint8_t t)
@@ -327,6 +336,7 @@ static inline uint32_t gcflip_record_work(gcflip_heap *heap, uint32_t most, gcfl
 #define gcflip_heap_put gcflip_record_put
 #define gcflip_heap_put_number gcflip_record_put_number
 #define gcflip_heap_cons gcflip_record_cons
+#define gcflip_heap_new_from gcflip_record_new_from
 #define gcflip_heap_same gcflip_record_same
 #define gcflip_heap_look gcflip_record_look
 #define gcflip_heap_begin gcflip_record_begin

@@ -15,6 +15,7 @@ static gcflip_counts counts;
 static gcflip_log_entry entry;
 static size_t length;
 static uint64_t words[64], roots[48];
+static uint8_t slots[65536];
 
 #define REPLIES(call, wanted) EXPECT((call) == (wanted))
 
@@ -42,6 +43,7 @@ static void close_heap(void)
 
 static void commands(void)
 {
+    static const uint8_t from[] = {9, G1, 7};
     open_heap(32, 2);
     LOOKS(gcflip_heap_look(&heap, 0, 31, &view), GCFLIP_NIL, 0, 0, 0);
     REPLIES(gcflip_heap_new(&heap, 0, G0, KIND, 2), GCFLIP_MADE);
@@ -86,10 +88,18 @@ static void commands(void)
     GETS(gcflip_heap_get(&heap, 1, 10, 7, 0, &number), GCFLIP_OBJECT, 77);
     REPLIES(gcflip_heap_same(&heap, 1, 7, 10), GCFLIP_SAME);
     GETS(gcflip_heap_get(&heap, 1, 10, 7, 1, &number), GCFLIP_NUMBER, 11);
+    REPLIES(gcflip_heap_new_from(&heap, 1, 7, 9, from, 3), GCFLIP_MADE); /* the last field refers to the object itself */
+    LOOKS(gcflip_heap_look(&heap, 1, 7, &view), GCFLIP_OBJECT, 9, 3, 0);
+    GETS(gcflip_heap_get(&heap, 1, 10, 7, 0, &number), GCFLIP_NUMBER, 11);
+    GETS(gcflip_heap_get(&heap, 1, 10, 7, 1, &number), GCFLIP_OBJECT, 77);
+    REPLIES(gcflip_heap_same(&heap, 1, G1, 10), GCFLIP_SAME);
+    GETS(gcflip_heap_get(&heap, 1, 10, 7, 2, &number), GCFLIP_OBJECT, 77);
+    REPLIES(gcflip_heap_same(&heap, 1, 7, 10), GCFLIP_SAME);
     REPLIES(gcflip_heap_raw(&heap, 0, 0, KIND, 65535), GCFLIP_FULL);
-    REPLIES(gcflip_heap_new(&heap, 0, 0, KIND, 12), GCFLIP_MADE);
+    REPLIES(gcflip_heap_new(&heap, 0, 0, KIND, 7), GCFLIP_MADE);
     REPLIES(gcflip_heap_new(&heap, 0, 0, KIND, 0), GCFLIP_FULL);
     REPLIES(gcflip_heap_cons(&heap, 1, 12, 8, 9, 9), GCFLIP_FULL);
+    REPLIES(gcflip_heap_new_from(&heap, 1, 12, 8, from, 0), GCFLIP_FULL);
     LOOKS(gcflip_heap_look(&heap, 1, 12, &view), GCFLIP_NIL, 0, 0, 0);
     close_heap();
 }
@@ -248,6 +258,12 @@ static void out_of_range(void)
     EXPECT(gcflip_heap_cons(&heap, 0, 0, 0, 32, 0) == GCFLIP_HEAP_OUT_OF_RANGE);
     EXPECT(gcflip_heap_cons(&heap, 0, 0, 0, 0, 32) == GCFLIP_HEAP_OUT_OF_RANGE);
     EXPECT(gcflip_heap_cons(&heap, 2, 0, 0, 0, 0) == GCFLIP_HEAP_OUT_OF_RANGE);
+    EXPECT(gcflip_heap_new_from(&heap, 0, 32, 0, slots, 1) == GCFLIP_HEAP_OUT_OF_RANGE);
+    EXPECT(gcflip_heap_new_from(&heap, 2, 0, 0, slots, 1) == GCFLIP_HEAP_OUT_OF_RANGE);
+    EXPECT(gcflip_heap_new_from(&heap, 0, 0, 0, slots, 65536) == GCFLIP_HEAP_OUT_OF_RANGE);
+    slots[65534] = 32;
+    EXPECT(gcflip_heap_new_from(&heap, 0, 0, 0, slots, 65535) == GCFLIP_HEAP_OUT_OF_RANGE);
+    REPLIES(gcflip_heap_new_from(&heap, 0, 0, 0, slots, 65534), GCFLIP_FULL);
     EXPECT(gcflip_heap_put_number(&heap, 0, 32, 0, 0, 0) == GCFLIP_HEAP_OUT_OF_RANGE);
     EXPECT(gcflip_heap_put_number(&heap, 0, 0, 0, 32, 0) == GCFLIP_HEAP_OUT_OF_RANGE);
     EXPECT(gcflip_heap_put_number(&heap, 0, 0, 0, 0, 9223372036854775808u) == GCFLIP_HEAP_OUT_OF_RANGE);
@@ -282,6 +298,7 @@ static void closed(void)
     EXPECT(gcflip_heap_get(&heap, 0, 0, 0, 0, &number) == GCFLIP_HEAP_CLOSED);
     EXPECT(gcflip_heap_put(&heap, 0, 0, 0, 0) == GCFLIP_HEAP_CLOSED);
     EXPECT(gcflip_heap_cons(&heap, 0, 0, 0, 0, 0) == GCFLIP_HEAP_CLOSED);
+    EXPECT(gcflip_heap_new_from(&heap, 0, 0, 0, slots, 1) == GCFLIP_HEAP_CLOSED);
     EXPECT(gcflip_heap_put_number(&heap, 0, 0, 0, 0, 0) == GCFLIP_HEAP_CLOSED);
     EXPECT(gcflip_heap_same(&heap, 0, 0, 0) == GCFLIP_HEAP_CLOSED);
     EXPECT(gcflip_heap_look(&heap, 0, 0, &view) == GCFLIP_HEAP_CLOSED);

@@ -51,6 +51,7 @@ static void work(uint32_t most, uint32_t last, long failing)
 
 int main(int count, char **names)
 {
+    static const uint8_t fields[] = {6, 16, 7};
     gcflip_work none;
     EXPECT(count == 2);
     gcflip_trace = fopen(names[1], "w");
@@ -75,8 +76,10 @@ int main(int count, char **names)
     /* calls that are several commands; the last has no room, and then it is one */
     EXPECT(gcflip_heap_put_number(&heap, 1, 16, 0, 5, 9) == GCFLIP_DONE);
     EXPECT(gcflip_heap_cons(&heap, 1, 6, 3, 16, 5) == GCFLIP_MADE);
-    EXPECT(gcflip_heap_raw(&heap, 1, 7, 4, 50) == GCFLIP_MADE);
+    EXPECT(gcflip_heap_new_from(&heap, 1, 7, 3, fields, 3) == GCFLIP_MADE);
+    EXPECT(gcflip_heap_raw(&heap, 1, 7, 4, 45) == GCFLIP_MADE);
     EXPECT(gcflip_heap_cons(&heap, 1, 7, 3, 16, 5) == GCFLIP_FULL);
+    EXPECT(gcflip_heap_new_from(&heap, 1, 7, 3, fields, 3) == GCFLIP_FULL);
     EXPECT(fclose(gcflip_trace) == 0);
     gcflip_trace = NULL;
     EXPECT(gcflip_heap_close(&heap) == GCFLIP_DONE);

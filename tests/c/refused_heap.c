@@ -60,6 +60,11 @@ static uint32_t begin_sized(void) { return gcflip_heap_begin_sized(&heap, 64); }
 static uint32_t put(void) { return gcflip_heap_put(&heap, 0, 0, 0, 0); }
 static uint32_t put_number(void) { return gcflip_heap_put_number(&heap, 0, 0, 0, 1, 5); }
 static uint32_t cons(void) { return gcflip_heap_cons(&heap, 0, 1, 1, 0, 0); }
+static uint32_t new_from(void)
+{
+    static const uint8_t fields[40] = {0};
+    return gcflip_heap_new_from(&heap, 0, 1, 1, fields, 40);
+}
 static uint32_t flip(void) { return gcflip_heap_flip(&heap, &pairs); }
 static uint32_t work_1(void) { return gcflip_heap_work(&heap, 1, &work); }
 
@@ -162,6 +167,8 @@ int main(void)
     EXPECT(failures(set_up_open, put_number) == 1);
     EXPECT(failures(set_up, cons) == 0);
     EXPECT(failures(set_up_open, cons) == 1);
+    EXPECT(failures(set_up, new_from) == 0);
+    EXPECT(failures(set_up_open, new_from) == 1);
     EXPECT(failures(set_up_ready, flip) == 5); /* the certificate, the moved roots, the checker's three rows */
     EXPECT(failures(set_up, work_1) == 2);
     EXPECT(failures(set_up_ready, work_1) == 5);

@@ -220,7 +220,7 @@ def plays(_program, folder):
 REPLIES_OF_RECORDED_WORK = (
     b"made\nmade\ndone\nbegun\ncopied\ncopied\nscanned\ndone\nscanned\npassed\nscanned\npassed\napplied\nflipped 2\n"
     b"begun\ncopied\ncopied\nscanned\nscanned\npassed\nscanned\npassed\nflipped 2\nbegun\nno room\ndropped\n"
-    b"done\ndone\nmade\ndone\ndone\nmade\nfull\n"
+    b"done\ndone\nmade\ndone\ndone\nmade\ndone\ndone\ndone\nmade\nfull\nfull\n"
 )
 
 

@@ -68,6 +68,20 @@ class Commands(unittest.TestCase):
         self.mutator.get(own(2), own(0), 1)
         self.assertTrue(self.mutator.same(own(2), own(0)))
 
+    def test_new_from(self):
+        self.mutator.num(own(1), 5)
+        self.mutator.new_from(own(0), 7, [own(1), own(0), own(2)])
+        self.assertEqual(self.mutator.look(own(0)), Object(7, 3))
+        self.assertEqual(self.mutator.get(own(2), own(0), 0), 5)
+        self.assertIsNone(self.mutator.get(own(2), own(0), 2))
+        self.mutator.get(own(2), own(0), 1)
+        self.assertTrue(self.mutator.same(own(2), own(0)))
+        self.mutator.new_from(own(0), 7, [])
+        self.assertEqual(self.mutator.look(own(0)), Object(7, 0))
+        for fields in ([32], [own(1)] * 65536, [256]):
+            with self.assertRaises(gcflip.OutOfRange):
+                self.mutator.new_from(own(0), 7, fields)
+
     def test_slots(self):
         self.mutator.num(shared(15), 5)
         self.mutator.num(own(15), 6)

@@ -6,13 +6,13 @@ import ctypes
 import enum
 import threading
 import weakref
-from typing import Any, NamedTuple, Union
+from typing import Any, NamedTuple, Sequence, Union
 
 from . import library
 from .checker import Image
 from .errors import (Busy, Closed, FlipRefused, Full, GcflipError, HeapRefused, Idle, NoField, NoNumber, NoObject, NoRoom, NotReady,
                      OutOfMemory, OutOfRange)
-from .library import COUNTS, HEAP, LIBRARY, Answer, check_ranges
+from .library import COUNTS, HEAP, LIBRARY, MUTATOR, SLOT, Answer, check_ranges
 
 SLOTS = 16
 NOTHING_DONE: dict[int, type[GcflipError]] = {
@@ -256,6 +256,13 @@ class Heap:
             raise REFUSED[answer]()
         return answer
 
+    def _new_from(self, mutator: int, slot: int, kind: int, sources: Sequence[int]) -> None:
+        """Makes an object that takes its fields from slots."""
+        check_ranges((mutator, slot, kind, *sources), (MUTATOR, SLOT, ctypes.c_uint8, *[SLOT] * len(sources)))
+        numbers = (ctypes.c_uint8 * max(1, len(sources)))(*sources)
+        with self._lock:
+            self._made("new_from", mutator, slot, kind, numbers, len(sources))
+
     def _get(self, mutator: int, slot: int, source: int, field: int) -> Value:
         """Gets a field into a slot, and looks at it before another thread can change it."""
         check_ranges((mutator, slot, source, field), HEAP["get"])
@@ -320,6 +327,10 @@ class Mutator:
         `put` do one after the other. A field that is given from the slot itself refers to the object. Raises Full, and OutOfMemory while
         a collection is open; then it did nothing."""
         self._call("cons", slot, kind, first, second)
+
+    def new_from(self, slot: int, kind: int, sources: Sequence[int]) -> None:
+        """Makes an object with a field for each of these slots, at most 65535, which takes the slot's value, like `cons`."""
+        self.heap._new_from(self.number, slot, kind, sources)
 
     def same(self, first: int, second: int) -> bool:
         """Returns whether both slots hold nil, equal numbers, or references to one object."""

@@ -91,6 +91,7 @@ HEAP = {
     "put": [MUTATOR, SLOT, c_uint16, SLOT],
     "put_number": [MUTATOR, SLOT, c_uint16, SLOT, c_uint64],
     "cons": [MUTATOR, SLOT, c_uint8, SLOT, SLOT],
+    "new_from": [MUTATOR, SLOT, c_uint8, c_void_p, c_size_t],
     "same": [MUTATOR, SLOT, SLOT],
     "look": [MUTATOR, SLOT, POINTER(View)],
     "begin": [],

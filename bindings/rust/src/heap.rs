@@ -65,6 +65,7 @@ impl std::error::Error for Error {}
 /// const NUMBER: Slot = Slot::own(15);
 /// assert_eq!((LIST.to_string(), NUMBER.to_string()), ("g0".into(), "r15".into()));
 /// ```
+#[repr(transparent)]
 #[derive(Clone, Copy, Debug, PartialEq, Eq, Hash)]
 pub struct Slot(u8);
 
@@ -497,6 +498,15 @@ impl Mutator<'_> {
     /// Returns `Full`, or, while a collection is open, `NoMemory`. Then it did nothing.
     pub fn cons(&self, slot: Slot, kind: u8, first: Slot, second: Slot) -> Result<()> {
         replied(self.heap.handle.cons(self.number, slot.0, kind, first.0, second.0)).map(drop)
+    }
+
+    /// Makes an object with a field for each of these slots, which takes the slot's value, like [`Mutator::cons`].
+    ///
+    /// # Errors
+    ///
+    /// Returns `OutOfRange` if there are more than 65535, `Full`, or, while a collection is open, `NoMemory`. Then it did nothing.
+    pub fn make_from(&self, slot: Slot, kind: u8, fields: &[Slot]) -> Result<()> {
+        replied(self.heap.handle.new_from(self.number, slot.0, kind, fields)).map(drop)
     }
 
     /// Returns whether both slots hold nil, equal numbers, or references to one object.

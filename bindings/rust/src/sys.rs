@@ -7,6 +7,7 @@
 //! process with threads. A program gets there by unsafe code of its own alone, which has to keep these two rules.
 #![allow(unsafe_code)]
 
+use crate::heap::Slot;
 use std::cell::UnsafeCell;
 use std::ffi::c_void;
 
@@ -162,6 +163,7 @@ calls! {
     gcflip_heap_put(*mut RawHeap, u8, u8, u16, u8);
     gcflip_heap_put_number(*mut RawHeap, u8, u8, u16, u8, u64);
     gcflip_heap_cons(*mut RawHeap, u8, u8, u8, u8, u8);
+    gcflip_heap_new_from(*mut RawHeap, u8, u8, u8, *const u8, usize);
     gcflip_heap_same(*mut RawHeap, u8, u8, u8);
     gcflip_heap_look(*mut RawHeap, u8, u8, *mut RawView);
     gcflip_heap_begin(*mut RawHeap);
@@ -313,6 +315,11 @@ impl Handle {
         // SAFETY: each pointer and the count behind it are those of one exclusive slice, and the handle is the cell's own. No other call on it
         // is running, as in `results`.
         unsafe { gcflip_heap_image(self.heap.get(), words.as_mut_ptr(), words.len(), roots.as_mut_ptr(), roots.len()) }
+    }
+
+    pub fn new_from(&self, m: u8, d: u8, kind: u8, fields: &[Slot]) -> u32 {
+        // SAFETY: as in `image`, with a shared slice. A `Slot` is represented as its number.
+        unsafe { gcflip_heap_new_from(self.heap.get(), m, d, kind, fields.as_ptr().cast(), fields.len()) }
     }
 
     pub fn new_words(&self, words: &mut [u64]) -> u32 {

@@ -181,3 +181,21 @@ fn numbers_and_pairs_in_one_call() {
     assert_eq!(mutator.get(seen, list, 0), Ok(Value::Object { kind: 3, fields: 2 }));
     assert!(mutator.same(seen, list));
 }
+
+#[test]
+fn fields_from_slots() {
+    let heap = Heap::open(64, 1).unwrap();
+    let mutator = heap.mutator(0).unwrap();
+    let (row, number, seen) = (Slot::own(0), Slot::own(1), Slot::own(2));
+    mutator.num(number, 7).unwrap();
+    mutator.make_from(row, 3, &[number, row, seen]).unwrap();
+    assert_eq!(mutator.look(row), Value::Object { kind: 3, fields: 3 });
+    assert_eq!(mutator.get(seen, row, 0), Ok(Value::Number(7)));
+    assert_eq!(mutator.get(seen, row, 2), Ok(Value::Nil));
+    assert_eq!(mutator.get(seen, row, 1), Ok(Value::Object { kind: 3, fields: 3 }));
+    assert!(mutator.same(seen, row));
+    mutator.make_from(row, 4, &[]).unwrap();
+    assert_eq!(mutator.look(row), Value::Object { kind: 4, fields: 0 });
+    assert_eq!(mutator.make_from(row, 4, &[number; 60]), Err(Error::Full));
+    assert_eq!(mutator.make_from(row, 4, &[number; 65536]), Err(Error::OutOfRange));
+}

@@ -1,5 +1,5 @@
-mod Conses
 mod FirstLog
 mod KeptPair
 pub mod LegalRuns
+mod NewFrom
 mod OtherCommands

@@ -1,5 +1,5 @@
--- Which steps allocate, what a `Get` shows that does not read the object that it found, and the commands of a `cons`.
-use Rattle.std.specs.Prelude.{◌≡◌, ℕ, ⊤}
+-- Which steps allocate, what a `Get` shows that does not read the object that it found, and the commands that make an object with its fields.
+use Rattle.std.specs.Prelude.{◌≡◌, ℕ, suc, ⊤, List, [], ◌∷◌, length}
 use Rattle.gc_graph.specs.Slots.{SlotName}
 use Rattle.gc_graph.specs.declared.command.Op.TheVariants.{New, Get, Put}
 use Rattle.gc_graph.specs.declared.reply.Reply.{Reply}
@@ -22,13 +22,18 @@ Allocates step = ⊥
 abbrev pub Fetches : State → ℕ → SlotName → SlotName → ℕ → Fetched → State → Type 0
 Fetches old m d s i fetched new = (reply : Reply) × (mutate old m (Get d s i) ≡ (reply, new)) × (fetched ≡ fetched_of reply)
 
--- what the commands of a `cons` do, one after the other: `New d kind 2` and, if there was room, `Put d 0 s` and `Put d 1 t`
-abbrev pub cons_fields : Reply → State → ℕ → SlotName → SlotName → SlotName → State
-cons_fields Full made m d s t = made
-cons_fields reply made m d s t = (mutate (mutate made m (Put d 0 s)).1 m (Put d 1 t)).1
+-- field i and those after it take what these slots hold: a `Put` for each, one after the other
+abbrev pub fill_step : State → ℕ → SlotName → ℕ → List SlotName → State
+fill_step s m d i [] = s
+fill_step s m d i (t ∷ rest) = fill_step (mutate s m (Put d i t)).1 m d (suc i) rest
 
--- the reply to the first of them, and the state that they leave
-abbrev pub cons_step : State → ℕ → SlotName → ℕ → SlotName → SlotName → Reply × State
-cons_step old m d kind s t =
-    let made = mutate old m (New d kind 2) in
-    (made.0, cons_fields made.0 made.1 m d s t)
+-- the fields are filled if there was room for the object
+abbrev pub filled : Reply → State → ℕ → SlotName → List SlotName → State
+filled Full made m d fields = made
+filled reply made m d fields = fill_step made m d 0 fields
+
+-- an object whose fields take what these slots hold: the reply to its `New`, and the state that all commands leave
+abbrev pub new_from_step : State → ℕ → SlotName → ℕ → List SlotName → Reply × State
+new_from_step old m d kind fields =
+    let made = mutate old m (New d kind (length fields)) in
+    (made.0, filled made.0 made.1 m d fields)

@@ -3,3 +3,4 @@ pub mod Flip
 pub mod Internal
 pub mod Readings
 pub mod Replies
+pub mod Slots

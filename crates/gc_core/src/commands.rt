@@ -1,13 +1,17 @@
 use crate::collected_heap::CollectedHeap;
+use crate::fields::{fill, fill_and_log};
 use gc_copy::commands_leave_collections;
 use gc_graph::{NoMemory, Number, Op, Reply, Slot};
 use gc_heap::Fetched;
 
 impl CollectedHeap {
-    ghost use Rattle.std.specs.Prelude.{◌≡◌, ◌<◌, IfOk, OnErr, IsSome};
+    ghost use Rattle.std.specs.Prelude.{◌≡◌, ◌<◌, ◌∷◌, [], IfOk, OnErr, IsSome, length, map};
+    ghost use Rattle.std.specs.List.{AllByRecursion};
+    ghost use Rattle.gc_graph.specs.Limits.{lengths};
     ghost use Rattle.gc_copy.specs.Steps.{mutate, WritesField};
     ghost use Rattle.gc_graph.specs.declared.command.Op.{Op};
-    ghost use Rattle.gc_core.specs.CollectedHeap.{Fetches, cons_step};
+    ghost use Rattle.gc_core.specs.CollectedHeap.{Fetches, new_from_step};
+    ghost use Rattle.gc_core.specs.Slots.{slot_numbers, numbered_slot};
 
     /// Performs mutator `m`'s command. While a collection is open, a field that the command wrote is logged (the
     /// write barrier). Only a `put` while a collection is open can return `NoMemory`; the heap is then unchanged.
@@ -175,7 +179,7 @@ impl CollectedHeap {
     /// collection is open can it return `NoMemory`; then it did nothing.
     pub fn cons(&mut self, m: u8, d: Slot, kind: u8, s: Slot, t: Slot) -> Result<Reply, NoMemory>
         requires { m < self.old.mutators }
-        ensures step { IfOk result (λ reply. cons_step self.old m d kind s t ≡ (reply, self.new)) }
+        ensures step { IfOk result (λ reply. new_from_step self.old m d kind (s ∷ t ∷ []) ≡ (reply, self.new)) }
         ensures refused { OnErr result (self.new ≡ self.old) }
         ensures open { OnErr result (IsSome self.old.collection) }
         ensures mutators { self.new.mutators ≡ self.old.mutators }
@@ -200,6 +204,42 @@ impl CollectedHeap {
         }
         let _first = collection.put(&mut self.heap, m, d, 0, s);
         let _second = collection.put(&mut self.heap, m, d, 1, t);
+        Ok(made)
+    }
+
+    /// Makes an object of this kind with a field for each of these slot numbers, which takes what the slot holds, and
+    /// sets `d` to a reference to it: what `new_object` and a `put` for each field do one after the other. The reply
+    /// is `Made`, or `Full`, and then nothing changed. `d` is set first, so a field that is given from slot `d` refers
+    /// to the object itself. Only while a collection is open can it return `NoMemory`; then it did nothing.
+    pub fn new_from(&mut self, m: u8, d: Slot, kind: u8, fields: &[u8]) -> Result<Reply, NoMemory>
+        requires mutator { m < self.old.mutators }
+        requires few { length fields.now < lengths }
+        requires slots { AllByRecursion (λ n. n < slot_numbers) fields.now }
+        ensures step { IfOk result (λ reply.
+            new_from_step self.old m d kind (map numbered_slot fields.now) ≡ (reply, self.new)) }
+        ensures refused { OnErr result (self.new ≡ self.old) }
+        ensures open { OnErr result (IsSome self.old.collection) }
+        ensures mutators { self.new.mutators ≡ self.old.mutators }
+    {
+        commands_leave_collections();
+        // Here the prover learns that the heap is sound.
+        let _ = self.heap.space();
+        let count = fields.len() as u16;
+        let Some(collection) = &mut self.collection else {
+            let made = self.heap.new_object(m, d, kind, count);
+            if let Reply::Full = made {
+                return Ok(made);
+            }
+            fill(&mut self.heap, m, d, fields);
+            return Ok(made);
+        };
+        collection.reserve_more(m, fields.len())?;
+        self.roots_done = false;
+        let made = self.heap.new_object(m, d, kind, count);
+        if let Reply::Full = made {
+            return Ok(made);
+        }
+        fill_and_log(collection, &mut self.heap, m, d, fields);
         Ok(made)
     }
 

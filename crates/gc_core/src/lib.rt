@@ -3,16 +3,19 @@
 
 mod collected_heap;
 mod commands;
+mod fields;
 mod flip;
 mod flipping;
 mod laws;
 mod reading;
+mod slots;
 mod steps;
 
 pub use collected_heap::CollectedHeap;
 pub use flip::{Flip, Keep};
 pub use laws::runs_are_legal;
 pub use reading::NewSpace;
+pub use slots::{SLOT_NUMBERS, numbered_slot};
 
 #[cfg(test)]
 mod tests;

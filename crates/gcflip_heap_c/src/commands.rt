@@ -1,28 +1,40 @@
 //! Mutators' commands on a heap, with the numbers that C gives.
 
-ghost use Rattle.std.specs.Prelude.{◌≡◌, ◌≢◌, Some, IsSome};
+ghost use Rattle.std.specs.Prelude.{◌≡◌, ◌≢◌, ◌<◌, ◌↔◌, ◌∷◌, [], Some, IsSome, IsTrue};
+ghost use Rattle.std.specs.List.{AllByRecursion};
+ghost use Rattle.gc_core.specs.Slots.{slot_numbers};
 ghost use Rattle.std.specs.Option.{option_map};
 ghost use Rattle.gc_graph.specs.declared.command.Op.{Op};
 ghost use Rattle.gc_heap.specs.Commands.{fetched_of};
-ghost use Rattle.gcflip_heap_c.specs.Commands.{slot_at, number_in, with_both, IsCommandCall, IsPutNumberCall, IsConsCall};
+ghost use Rattle.gcflip_heap_c.specs.Commands.{slot_at, number_in, with_both, IsCommandCall, IsPutNumberCall, IsNewFromCall};
 ghost use Rattle.gcflip_heap_c.specs.Replies.{IsRefusal, reply_in_c, fetched_in_c, number_after, view_after};
 
 use crate::answer::{NO_MEMORY, OUT_OF_RANGE};
 use crate::reply::{GcflipView, of_fetched, of_look, of_reply};
-use gc_core::CollectedHeap;
+use gc_core::{CollectedHeap, SLOT_NUMBERS, numbered_slot};
 use gc_graph::{Number, Slot};
 
-/// Returns a mutator's own slot below 16, and from there to 31 one that all mutators share.
-fn slot(place: u8) -> Option<Slot>
-    ensures { result ≡ slot_at place }
+/// Returns the slot of this number, if it has one.
+fn slot(number: u8) -> Option<Slot>
+    ensures { result ≡ slot_at number }
 {
-    if place >= 32 {
-        None
-    } else if place < 16 {
-        Slot::own(place)
+    if number < SLOT_NUMBERS {
+        Some(numbered_slot(number))
     } else {
-        Slot::shared(place - 16)
+        None
     }
+}
+
+/// Returns whether each number is that of a slot.
+fn are_slots(numbers: &[u8]) -> bool
+    ensures { IsTrue result ↔ AllByRecursion (λ n. n < slot_numbers) numbers.now }
+{
+    for number in numbers {
+        if *number >= SLOT_NUMBERS {
+            return false;
+        }
+    }
+    true
 }
 
 pub(crate) fn new(heap: &mut CollectedHeap, m: u8, d: u8, kind: u8, count: u16) -> u32
@@ -162,7 +174,7 @@ pub(crate) fn put_number(heap: &mut CollectedHeap, m: u8, s: u8, i: u16, t: u8, 
 }
 
 pub(crate) fn cons(heap: &mut CollectedHeap, m: u8, d: u8, kind: u8, s: u8, t: u8) -> u32
-    ensures call { IsConsCall m (slot_at d) kind (slot_at s) (slot_at t) (Some heap.old) (Some heap.new) result }
+    ensures call { IsNewFromCall m d kind (s ∷ t ∷ []) (Some heap.old) (Some heap.new) result }
     ensures memory { result ≡ 1 → IsSome heap.old.collection }
 {
     if m >= heap.mutators() {
@@ -178,6 +190,25 @@ pub(crate) fn cons(heap: &mut CollectedHeap, m: u8, d: u8, kind: u8, s: u8, t: u
         return OUT_OF_RANGE;
     };
     match heap.cons(m, d, kind, s, t) {
+        Ok(reply) => of_reply(&reply),
+        Err(_) => NO_MEMORY,
+    }
+}
+
+pub(crate) fn new_from(heap: &mut CollectedHeap, m: u8, d: u8, kind: u8, fields: &[u8]) -> u32
+    ensures call { IsNewFromCall m d kind fields.now (Some heap.old) (Some heap.new) result }
+    ensures memory { result ≡ 1 → IsSome heap.old.collection }
+{
+    if m >= heap.mutators() {
+        return OUT_OF_RANGE;
+    }
+    let Some(d) = slot(d) else {
+        return OUT_OF_RANGE;
+    };
+    if fields.len() > usize::from(u16::MAX) || !are_slots(fields) {
+        return OUT_OF_RANGE;
+    }
+    match heap.new_from(m, d, kind, fields) {
         Ok(reply) => of_reply(&reply),
         Err(_) => NO_MEMORY,
     }

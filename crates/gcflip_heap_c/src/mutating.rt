@@ -1,10 +1,10 @@
 //! The exports that make mutators' commands. Each takes the heap out of the handle, makes its own command, and puts the heap back.
 
-ghost use Rattle.std.specs.Prelude.{◌≡◌, ◌≢◌, IsSomeAnd, IsSome};
+ghost use Rattle.std.specs.Prelude.{◌≡◌, ◌≢◌, ◌∷◌, [], IsSomeAnd, IsSome};
 ghost use Rattle.std.specs.Option.{option_map};
 ghost use Rattle.gc_graph.specs.declared.command.Op.{Op};
 ghost use Rattle.gc_heap.specs.Commands.{fetched_of};
-ghost use Rattle.gcflip_heap_c.specs.Commands.{slot_at, number_in, with_both, IsCommandCall, IsPutNumberCall, IsConsCall};
+ghost use Rattle.gcflip_heap_c.specs.Commands.{slot_at, number_in, with_both, IsCommandCall, IsPutNumberCall, IsNewFromCall};
 ghost use Rattle.gcflip_heap_c.specs.Replies.{IsRefusal, reply_in_c, fetched_in_c, number_after, view_after};
 
 use crate::answer::CLOSED;
@@ -187,13 +187,36 @@ pub extern "C" fn gcflip_heap_cons(
     s: u8,
     t: u8,
 ) -> u32
-    ensures call { IsConsCall m (slot_at d) kind (slot_at s) (slot_at t) heap.old.state heap.new.state result }
+    ensures call { IsNewFromCall m d kind (s ∷ t ∷ []) heap.old.state heap.new.state result }
     ensures memory { result ≡ 1 → IsSomeAnd heap.old.state (λ s. IsSome s.collection) }
 {
     let Some(mut opened) = heap.take(alloc) else {
         return CLOSED;
     };
     let answer = commands::cons(&mut opened, m, d, kind, s, t);
+    *heap = GcflipHeap::full(opened);
+    answer
+}
+
+/// Makes an object of this kind with `count` fields, which take the values of the slots at `fields`, and puts a reference to it
+/// into slot `d`: what `gcflip_heap_new` and a `gcflip_heap_put` for each field do one after the other. Allocates only
+/// while a collection is open.
+#[unsafe(no_mangle)]
+pub extern "C" fn gcflip_heap_new_from(
+    alloc: Global,
+    heap: &mut GcflipHeap,
+    m: u8,
+    d: u8,
+    kind: u8,
+    fields: &[u8],
+) -> u32
+    ensures call { IsNewFromCall m d kind fields.now heap.old.state heap.new.state result }
+    ensures memory { result ≡ 1 → IsSomeAnd heap.old.state (λ s. IsSome s.collection) }
+{
+    let Some(mut opened) = heap.take(alloc) else {
+        return CLOSED;
+    };
+    let answer = commands::new_from(&mut opened, m, d, kind, fields);
     *heap = GcflipHeap::full(opened);
     answer
 }

@@ -1,4 +1,4 @@
-use Rattle.std.proofs.Common.{◌≡◌, ap, ◌∙◌, subst, arith}
+use Rattle.std.proofs.Common.{◌≡◌, ap, ◌∙◌, subst, arith, [], ◌∷◌}
 use Rattle.std.specs.Option.{option_map}
 use Rattle.gc_graph.specs.declared.command.Op.TheVariants.{New, Put}
 use Rattle.gc_heap.specs.Heap.{HeapWords}
@@ -6,8 +6,8 @@ use Rattle.gc_copy.specs.State.{State}
 use Rattle.gc_copy.specs.Words.{collection_in, state_of, open_state}
 use Rattle.gc_copy.proofs.Mutating.{open_left}
 use Rattle.gc_core.specs.Internal.CollectedHeap.{Fits}
-use Rattle.gc_core.specs.CollectedHeap.{cons_step}
-use Rattle.gc_core.proofs.Conses.{consed, consed_full, opened_at}
+use Rattle.gc_core.specs.CollectedHeap.{new_from_step}
+use Rattle.gc_core.proofs.NewFrom.{made_from, full_from, filled_two, opened_at}
 use Rattle.gc_core.proofs.OtherCommands.{idle_mutated}
 use Rattle.gc_core.proofs.collected_heap.CollectedHeap.cons.Goals as goal
 
@@ -20,8 +20,9 @@ returns-in_default c =
     let two = idle_mutated new.new.self c.put-first.new.self o c.args.m (Put c.args.d 0 c.args.s) c.put-first.result new.ensures.sound c.in_default.not-Some c.put-first.ensures.performs one.1 in
     let three = idle_mutated c.put-first.new.self c.put-second.new.self o c.args.m (Put c.args.d 1 c.args.t) c.put-second.result c.put-first.ensures.sound c.in_default.not-Some c.put-second.ensures.performs two.1 in
     record {
-      step = subst (λ x. cons_step x c.args.m c.args.d c.args.kind c.args.s c.args.t ≡ (new.result, state c.put-second.new.self)) c.self.view_is
-          (consed (state c.self.inside.heap) (state new.new.self) (state c.put-first.new.self) (state c.put-second.new.self) c.args.m c.args.kind c.args.d c.args.s c.args.t new.result c.put-first.result c.put-second.result one.0 c.in_default-made.not-Full two.0 three.0);
+      step = subst (λ x. new_from_step x c.args.m c.args.d c.args.kind (c.args.s ∷ c.args.t ∷ []) ≡ (new.result, state c.put-second.new.self)) c.self.view_is
+          (made_from (state c.self.inside.heap) (state new.new.self) (state c.put-second.new.self) c.args.m c.args.kind c.args.d (c.args.s ∷ c.args.t ∷ []) new.result one.0 c.in_default-made.not-Full
+          (filled_two (state new.new.self) (state c.put-first.new.self) (state c.put-second.new.self) c.args.m c.args.d c.args.s c.args.t c.put-first.result c.put-second.result two.0 three.0));
       refused = tt;
       «open» = tt;
       mutators = c.put-second.ensures.performs.mutators ∙ c.put-first.ensures.performs.mutators ∙ new.ensures.performs.mutators ∙ ap (λ (s : State). s.mutators) c.self.view_is;
@@ -39,8 +40,8 @@ returns-in-Full-made-clause-step c =
     (c.in_ok-reserve_more.ensures.belongs c.self.inside.heap (subst (Fits c.self.inside.heap) c.in-Some.is c.self.invariant.0)) (λ none. none) c.new_object-made-2.ensures.performs in
     let before = opened_at c.self.inside.heap c.self.inside.collection c.in-Some.collection c.reserve_more.new.self c.args.self.now c.in-Some.is c.in_ok-reserve_more.ensures.collection c.self.view_is in
     let after = open_state c.new_object-made-2.new.self c.reserve_more.new.self in
-    subst (λ x. cons_step x c.args.m c.args.d c.args.kind c.args.s c.args.t ≡ (c.new_object-made-2.result, after)) before
-    (consed_full (open_state c.self.inside.heap c.reserve_more.new.self) after c.args.m c.args.kind c.args.d c.args.s c.args.t c.new_object-made-2.result made.0 c.in-Full-made.is)
+    subst (λ x. new_from_step x c.args.m c.args.d c.args.kind (c.args.s ∷ c.args.t ∷ []) ≡ (c.new_object-made-2.result, after)) before
+    (full_from (open_state c.self.inside.heap c.reserve_more.new.self) after c.args.m c.args.kind c.args.d (c.args.s ∷ c.args.t ∷ []) c.new_object-made-2.result made.0 c.in-Full-made.is)
 
 pub put-first-requires-2 : goal.put-first-requires-2
 put-first-requires-2 c =
@@ -59,8 +60,9 @@ returns c =
     let two = c.put-second-2 in
     let after = open_state two.new.heap two.new.self in
     record {
-      step = subst (λ x. cons_step x c.args.m c.args.d c.args.kind c.args.s c.args.t ≡ (c.new_object-made-2.result, after)) before
-          (consed (open_state c.self.inside.heap c.reserve_more.new.self) (open_state c.new_object-made-2.new.self c.reserve_more.new.self) (open_state one.new.heap one.new.self) after c.args.m c.args.kind c.args.d c.args.s c.args.t c.new_object-made-2.result one.result two.result made.0 c.in_default-made-2.not-Full one.ensures.step two.ensures.step);
+      step = subst (λ x. new_from_step x c.args.m c.args.d c.args.kind (c.args.s ∷ c.args.t ∷ []) ≡ (c.new_object-made-2.result, after)) before
+          (made_from (open_state c.self.inside.heap c.reserve_more.new.self) (open_state c.new_object-made-2.new.self c.reserve_more.new.self) after c.args.m c.args.kind c.args.d (c.args.s ∷ c.args.t ∷ []) c.new_object-made-2.result made.0 c.in_default-made-2.not-Full
+          (filled_two (open_state c.new_object-made-2.new.self c.reserve_more.new.self) (open_state one.new.heap one.new.self) after c.args.m c.args.d c.args.s c.args.t one.result two.result one.ensures.step two.ensures.step));
       refused = tt;
       «open» = tt;
       mutators = two.ensures.mutators ∙ one.ensures.mutators ∙ c.new_object-made-2.ensures.performs.mutators ∙ ap (λ (s : State). s.mutators) c.self.view_is;

@@ -1,0 +1,51 @@
+-- The commands that make an object with its fields, one after the other.
+use Rattle.std.proofs.Common.{◌≡◌, ℕ, suc, ◌+◌, List, [], ◌∷◌, length, map, Option, Some, refl, sym, ◌∙◌, ap}
+use Rattle.std.proofs.lemmas.List.{length-map}
+use Rattle.std.specs.Option.{option_map}
+use Rattle.gc_graph.specs.Slots.{SlotName}
+use Rattle.gc_graph.specs.declared.command.Op.TheVariants.{New, Put}
+use Rattle.gc_graph.specs.declared.reply.Reply.{Reply}
+use Rattle.gc_graph.specs.declared.reply.Reply.TheVariants as replies
+use Rattle.gc_heap.specs.Heap.{HeapWords}
+use Rattle.gc_copy.specs.State.{Collection, State}
+use Rattle.gc_copy.specs.Words.{CollectionWords, collection_in, state_of, open_state}
+use Rattle.gc_copy.specs.Steps.{mutate}
+use Rattle.gc_core.specs.CollectedHeap.{fill_step, filled, new_from_step}
+use Rattle.gc_core.specs.Slots.{numbered_slot}
+
+filled_is : (reply : Reply) (made : State) (m : ℕ) (d : SlotName) (fields : List SlotName) → (reply ≡ replies.Full → ⊥) → filled reply made m d fields ≡ fill_step made m d 0 fields
+filled_is replies.Full made m d fields other = absurd (other refl)
+filled_is replies.Made made m d fields other = refl
+filled_is replies.Done made m d fields other = refl
+filled_is replies.NoObject made m d fields other = refl
+filled_is replies.NoField made m d fields other = refl
+filled_is replies.NoNumber made m d fields other = refl
+filled_is (replies.Saw view) made m d fields other = refl
+filled_is replies.Yes made m d fields other = refl
+filled_is replies.No made m d fields other = refl
+
+pub made_from : (old made new : State) (m kind : ℕ) (d : SlotName) (fields : List SlotName) (reply : Reply) → mutate old m (New d kind (length fields)) ≡ (reply, made) → (reply ≡ replies.Full → ⊥)
+    → fill_step made m d 0 fields ≡ new → new_from_step old m d kind fields ≡ (reply, new)
+made_from old made new m kind d fields reply first other fill =
+    ap (λ (x : Reply × State). (x.0, filled x.0 x.1 m d fields)) first
+    ∙ ap (λ (x : State). (reply, x)) (filled_is reply made m d fields other ∙ fill)
+
+pub full_from : (old made : State) (m kind : ℕ) (d : SlotName) (fields : List SlotName) (reply : Reply) → mutate old m (New d kind (length fields)) ≡ (reply, made) → reply ≡ replies.Full
+    → new_from_step old m d kind fields ≡ (reply, made)
+full_from old made m kind d fields reply first full =
+    ap (λ (x : Reply × State). (x.0, filled x.0 x.1 m d fields)) first
+    ∙ ap (λ (x : State). (reply, x)) (ap (λ r. filled r made m d fields) full)
+
+-- there are as many slots as numbers
+pub counted : (old made : State) (m kind : ℕ) (d : SlotName) (numbers : List ℕ) (reply : Reply) → mutate old m (New d kind (length numbers)) ≡ (reply, made)
+    → mutate old m (New d kind (length (map numbered_slot numbers))) ≡ (reply, made)
+counted old made m kind d numbers reply first = ap (λ n. mutate old m (New d kind n)) (length-map numbers numbered_slot) ∙ first
+
+-- two fields
+pub filled_two : (made one two : State) (m : ℕ) (d s t : SlotName) (first second : Reply) → mutate made m (Put d 0 s) ≡ (first, one) → mutate one m (Put d 1 t) ≡ (second, two)
+    → fill_step made m d 0 (s ∷ t ∷ []) ≡ two
+filled_two made one two m d s t first second a b = ap (λ (x : Reply × State). (mutate x.1 m (Put d 1 t)).1) a ∙ ap (λ (x : Reply × State). x.1) b
+
+-- the state of a heap with its open collection, whose logs may have got room
+pub opened_at : (heap : HeapWords) (o : Option CollectionWords) (c next : CollectionWords) (now : State) → o ≡ Some c → collection_in next ≡ collection_in c → state_of heap (option_map collection_in o) ≡ now → open_state heap next ≡ now
+opened_at heap o c next now is same view = ap (λ (d : Collection). state_of heap (Some d)) same ∙ ap (λ o. state_of heap (option_map collection_in o)) (sym is) ∙ view

@@ -1,0 +1,51 @@
+use Rattle.std.proofs.Common.{◌≡◌, ap, ◌∙◌, subst, arith, map}
+use Rattle.gc_copy.specs.State.{State}
+use Rattle.gc_copy.specs.Words.{open_state}
+use Rattle.gc_copy.proofs.Mutating.{open_left}
+use Rattle.gc_core.specs.Internal.CollectedHeap.{Fits}
+use Rattle.gc_core.specs.CollectedHeap.{new_from_step}
+use Rattle.gc_core.specs.Slots.{numbered_slot}
+use Rattle.gc_core.proofs.NewFrom.{counted, made_from, full_from, opened_at}
+use Rattle.gc_core.proofs.collected_heap.CollectedHeap.new_from.Goals as goal
+
+pub invariant_of-self-in-Full-made : goal.invariant_of-self-in-Full-made
+invariant_of-self-in-Full-made c =
+    let made = open_left c.self.inside.heap c.new_object-made-2.new.self c.reserve_more.new.self c.args.m _ c.new_object-made-2.result c.space.ensures.sound
+    (c.in_ok-reserve_more.ensures.belongs c.self.inside.heap (subst (Fits c.self.inside.heap) c.in-Some.is c.self.invariant.0)) (λ none. none) c.new_object-made-2.ensures.performs in
+    (made.1, λ no. absurd cc)
+
+pub returns-in-Full-made-clause-step : goal.returns-in-Full-made-clause-step
+returns-in-Full-made-clause-step c =
+    let made = open_left c.self.inside.heap c.new_object-made-2.new.self c.reserve_more.new.self c.args.m _ c.new_object-made-2.result c.space.ensures.sound
+    (c.in_ok-reserve_more.ensures.belongs c.self.inside.heap (subst (Fits c.self.inside.heap) c.in-Some.is c.self.invariant.0)) (λ none. none) c.new_object-made-2.ensures.performs in
+    let before = opened_at c.self.inside.heap c.self.inside.collection c.in-Some.collection c.reserve_more.new.self c.args.self.now c.in-Some.is c.in_ok-reserve_more.ensures.collection c.self.view_is in
+    let after = open_state c.new_object-made-2.new.self c.reserve_more.new.self in
+    let fields = map numbered_slot c.args.fields.now in
+    let first = counted (open_state c.self.inside.heap c.reserve_more.new.self) (open_state c.new_object-made-2.new.self c.reserve_more.new.self) c.args.m c.args.kind c.args.d c.args.fields.now c.new_object-made-2.result made.0 in
+    subst (λ x. new_from_step x c.args.m c.args.d c.args.kind fields ≡ (c.new_object-made-2.result, after)) before
+    (full_from (open_state c.self.inside.heap c.reserve_more.new.self) after c.args.m c.args.kind c.args.d fields c.new_object-made-2.result first c.in-Full-made.is)
+
+pub fill_and_log-requires : goal.fill_and_log-requires
+fill_and_log-requires c =
+    let made = open_left c.self.inside.heap c.new_object-made-2.new.self c.reserve_more.new.self c.args.m _ c.new_object-made-2.result c.space.ensures.sound
+    (c.in_ok-reserve_more.ensures.belongs c.self.inside.heap (subst (Fits c.self.inside.heap) c.in-Some.is c.self.invariant.0)) (λ none. none) c.new_object-made-2.ensures.performs in
+    let count : c.new_object-made-2.new.self.mutators ≡ c.args.self.now.mutators = c.new_object-made-2.ensures.performs.mutators ∙ ap (λ (s : State). s.mutators) c.self.view_is in
+    let mutator = c.requires.mutator in
+    record { belongs = made.1; mutator = omega (arith, count, mutator); few = c.requires.few; slots = c.requires.slots; room = c.in_ok-reserve_more.ensures.room }
+
+pub returns : goal.returns
+returns c =
+    let made = open_left c.self.inside.heap c.new_object-made-2.new.self c.reserve_more.new.self c.args.m _ c.new_object-made-2.result c.space.ensures.sound
+    (c.in_ok-reserve_more.ensures.belongs c.self.inside.heap (subst (Fits c.self.inside.heap) c.in-Some.is c.self.invariant.0)) (λ none. none) c.new_object-made-2.ensures.performs in
+    let before = opened_at c.self.inside.heap c.self.inside.collection c.in-Some.collection c.reserve_more.new.self c.args.self.now c.in-Some.is c.in_ok-reserve_more.ensures.collection c.self.view_is in
+    let filled = c.fill_and_log in
+    let after = open_state filled.new.heap filled.new.collection in
+    let fields = map numbered_slot c.args.fields.now in
+    let first = counted (open_state c.self.inside.heap c.reserve_more.new.self) (open_state c.new_object-made-2.new.self c.reserve_more.new.self) c.args.m c.args.kind c.args.d c.args.fields.now c.new_object-made-2.result made.0 in
+    record {
+      step = subst (λ x. new_from_step x c.args.m c.args.d c.args.kind fields ≡ (c.new_object-made-2.result, after)) before
+          (made_from (open_state c.self.inside.heap c.reserve_more.new.self) (open_state c.new_object-made-2.new.self c.reserve_more.new.self) after c.args.m c.args.kind c.args.d fields c.new_object-made-2.result first c.in_default-made-2.not-Full filled.ensures.step);
+      refused = tt;
+      «open» = tt;
+      mutators = filled.ensures.mutators ∙ c.new_object-made-2.ensures.performs.mutators ∙ ap (λ (s : State). s.mutators) c.self.view_is;
+    }

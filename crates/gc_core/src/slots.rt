@@ -1,0 +1,20 @@
+ghost use Rattle.std.specs.Prelude.{◌≡◌, ◌<◌};
+ghost use Rattle.gc_core.specs.Slots.{slot_numbers, numbered_slot};
+
+use gc_graph::Slot;
+
+/// The number of slots that a mutator can name: its own sixteen, and then the sixteen that all mutators share.
+pub const SLOT_NUMBERS: u8 = 32;
+
+/// Returns the slot of this number, below `SLOT_NUMBERS`: a mutator's own below 16, else a shared one.
+#[inline(always)]
+pub fn numbered_slot(number: u8) -> Slot
+    requires { number < slot_numbers }
+    ensures { result ≡ numbered_slot number }
+{
+    if number < 16 {
+        Slot::own(number).unwrap()
+    } else {
+        Slot::shared(number - 16).unwrap()
+    }
+}
