@@ -1,6 +1,6 @@
-use crate::images::image_fault;
 use crate::object::object_at;
 use crate::partners::partners_of;
+use crate::starts::Starts;
 use crate::verdict::CheckFault;
 use gc_words::{Addr, Header, ImageRef, Pair, Refusal, Value, decode};
 use std::alloc::Global;
@@ -66,10 +66,18 @@ impl<'a> Tables<'a> {
             }))
             (IsRefusalOf (table_fault (image_of old.entry) (image_of new.entry) (pairs_of cert.now))) }
     {
-        if let Some(refusal) = image_fault(old, new) {
-            return Err(CheckFault::Refused(refusal));
+        let old_starts = match Starts::new(alloc, old) {
+            Ok(starts) => starts,
+            Err(fault) => return Err(fault.of_old()),
+        };
+        let new_starts = match Starts::new(alloc, new) {
+            Ok(starts) => starts,
+            Err(fault) => return Err(fault.of_new()),
+        };
+        if old.roots.len() != new.roots.len() {
+            return Err(CheckFault::Refused(Refusal::RootCount));
         }
-        let partners = partners_of(alloc, old, new, cert)?;
+        let partners = partners_of(alloc, &old_starts, &new_starts, cert)?;
         Ok(Tables {
             old,
             new,
