@@ -1,10 +1,10 @@
 -- The marks of a space's starts, set one after the other as a walk meets them.
-use Rattle.std.proofs.Common.{◌≡◌, ℕ, zero, suc, ◌-◌, ◌+◌, ◌<◌, ◌≤◌, Bool, true, false, cond, ◌==◌, List, [], length, get_or, set, replicate, Option, Some, None, Result, Ok, Err, is_some, is_ok, refl, sym, ◌∙◌, ap, subst, inl, inr, arith, length-set, get_or-set_same, get_or-set_other}
+use Rattle.std.proofs.Common.{◌≡◌, ℕ, zero, suc, ◌-◌, ◌+◌, ◌<◌, ◌≤◌, Bool, true, false, cond, ◌==◌, List, [], length, take, drop, get_or, set, replicate, Option, Some, None, Result, Ok, Err, is_some, is_ok, refl, sym, ◌∙◌, ap, subst, inl, inr, arith, length-set, get_or-set_same, get_or-set_other}
 use Rattle.std.specs.Prelude.{slice_index, IsOk}
 use Rattle.std.proofs.lemmas.Bool.{eq-eqb, ne_eqb, cases_eq}
 use Rattle.std.proofs.lemmas.List.{length-replicate, drop_all}
 use Rattle.gc_words.specs.Word.{header_in}
-use Rattle.gc_words.specs.Image.{Block, walk, walk_all, walk_words, with_front, ok_or_nil, block_in, block_at, is_start}
+use Rattle.gc_words.specs.Image.{Block, walk, walk_all, walk_words, with_front, ok_or_nil, block_in, block_at, header_of, header_at, is_start}
 use Rattle.gc_words.specs.Fault.{fault_of_walk}
 use Rattle.gc_words.specs.Walking.{next_after, next_in, next_of, walk_on, walk_from, block_from, StandsIn}
 use Rattle.gc_words.specs.declared.header.Header.{Header}
@@ -123,3 +123,18 @@ start_within words place ok start =
     let found : (b : Block) × (block_at words place ≡ Some b) × StandsIn words place b = start_stands words place ok start in
     let fits : place + (found.0.header.len + 2) ≤ length words = found.2.fits in
     omega arith
+
+-- the object with this header that starts here
+pub header_stands : (words : List ℕ) (place : ℕ) (h : Header) → IsOk (walk_words words) → header_at words place ≡ Some h
+    → (place + (h.len + 2) ≤ length words) × (block_at words place ≡ Some (record { header = h; fields = take h.len (drop (place + 2) words) }))
+header_stands words place h ok e = from (block_at words place) refl e
+  where
+    from : (o : Option Block) → block_at words place ≡ o → header_of o ≡ Some h
+        → (place + (h.len + 2) ≤ length words) × (block_at words place ≡ Some (record { header = h; fields = take h.len (drop (place + 2) words) }))
+    from None is e = absurd (let no : None ≡ Some h = e in cc)
+    from (Some b) is e =
+        let s : StandsIn words place b = stands_in words place b ok is in
+        let same : b.header ≡ h = (let is : Some b.header ≡ Some h = e in cc) in (
+          subst (λ (h : Header). place + (h.len + 2) ≤ length words) same s.fits,
+          is ∙ (λ i. Some (record { header = same i; fields = (s.fields ∙ ap (λ (h : Header). take h.len (drop (place + 2) words)) same) i })),
+        )
