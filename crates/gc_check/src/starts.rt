@@ -29,8 +29,8 @@ impl<'a> Starts<'a> {
     ghost use Rattle.gc_words.specs.Views.{image_of};
     ghost use Rattle.gc_check.specs.Internal.Starts.{IsStartsFault};
 
-    /// Walks an image once. Returns the table of its starts if it is shaped. Allocates once, and not at all where the
-    /// frame of the image is wrong.
+    /// Returns the table of an image, from one walk over its words. Returns `NotShaped` with the first place at which the
+    /// image is not shaped. Allocates once, and not at all if its size, its end, the number of its words or word 0 is wrong.
     pub(crate) fn new(alloc: Global, image: ImageRef<'a>) -> Result<Starts<'a>, StartsFault>
         ensures { MatchResult result
             (λ starts. (shape_fault (image_of image.entry) ≡ None) × (starts ≡ image_of image.entry))
@@ -113,7 +113,7 @@ ghost use Rattle.gc_words.specs.Fault.{fault_of_walk, shape_fault};
 ghost use Rattle.gc_words.specs.Views.{image_of};
 ghost use Rattle.gc_check.specs.Internal.Tables.{MarksStarts};
 
-// Returns whether the image has the frame of a shaped one: its size, its end, its number of words, and word 0.
+// Returns whether size, end, the number of words and word 0 are those of a shaped image.
 fn is_framed(image: ImageRef) -> bool
     ensures { shape_fault (image_of image.entry)
         ≡ (if result then fault_of_walk (walk_all image.entry.raws image.entry.words.now) else Some 0) }

@@ -144,7 +144,7 @@ impl<'a> Tables<'a> {
         None
     }
 
-    // Returns whether the words are values that correspond. Only references are decoded, and words that differ.
+    // Returns whether the words are values that correspond. Decodes neither of them if both are nil or the same number.
     fn is_correspondence(&self, old: u64, new: u64) -> bool
         ensures { result ≡ words_correspond self.now.pairs old new }
     {
