@@ -1,21 +1,22 @@
 -- What is known where nothing is wrong with the images and with the places of the pairs.
-use Rattle.std.proofs.Common.{◌≡◌, ℕ, zero, suc, ◌<◌, true, false, cond, ap, not, ◌==◌, List, [], ◌∷◌, length, get_or, take, Some, None, subst, arith, sym, ◌∙◌}
+use Rattle.std.proofs.Common.{◌≡◌, ℕ, zero, suc, ◌<◌, true, false, cond, ap, not, ◌==◌, List, [], ◌∷◌, length, get_or, take, Option, Some, None, refl, subst, arith, sym, ◌∙◌}
 use Rattle.std.specs.Prelude.{IsOk}
 use Rattle.std.specs.List.{list_any}
-use Rattle.std.proofs.lemmas.Bool.{eqb-true, not-false}
+use Rattle.std.proofs.lemmas.Bool.{eqb-true, eq-eqb, not-false}
 use Rattle.std.proofs.lemmas.List.{get_or-map, length-map}
 use Rattle.gc_words.specs.Word.{words_correspond, field_words_correspond}
 use Rattle.gc_words.specs.declared.header.Header.{Header}
-use Rattle.gc_words.specs.Image.{Image, Block, IsShaped, walk_words, is_start, block_at}
+use Rattle.gc_words.specs.Image.{Image, IsShaped, walk_words, is_start}
 use Rattle.gc_words.specs.Views.{addresses}
 use Rattle.gc_words.specs.Fault.{◌or_else◌, when, at_place, shape_fault, first_over_pairs, not_above_last, place_fault, place_faults, table_fault, first_difference}
 use Rattle.gc_words.specs.declared.image.Pair.{Pair}
+use Rattle.gc_words.specs.declared.refusal.Refusal.{Refusal}
 use Rattle.gc_words.specs.declared.refusal.Refusal.TheVariants.{OldShape, NewShape, RootCount, OldNotStart, NewNotStart, NotRising, Twice}
 use Rattle.gc_words.proofs.Faults.{shaped, or_none, when_none, at_place_none}
-use Rattle.gc_words.proofs.Starts.{stands_in}
 use Rattle.gc_words.proofs.Walks.{same_walk}
-use Rattle.gc_check.specs.Internal.Tables.{image_fault}
-use Rattle.gc_check.specs.Verdict.{pairs_of}
+use Rattle.gc_check.specs.Verdict.{pairs_of, IsRefusalOf}
+use Rattle.gc_check.specs.declared.verdict.CheckFault.{CheckFault}
+use Rattle.gc_check.specs.declared.verdict.CheckFault.TheVariants.{Refused, NoMemory}
 
 pub record Fits (old new : Image) : Type 0 where
   pub old_shaped : IsShaped old
@@ -26,7 +27,14 @@ pub record Fits (old new : Image) : Type 0 where
 pub walks : (image : Image) → IsShaped image → IsOk (walk_words image.words)
 walks image shape = subst IsOk (same_walk image.raws image.words shape.walked) shape.walked
 
-pub images_fit : (old new : Image) → image_fault old new ≡ None → Fits old new
+-- the faults of the images alone: their shapes, and the number of their roots
+abbrev image_fault : Image → Image → Option Refusal
+image_fault old new =
+    at_place (shape_fault old) (λ at. OldShape at)
+    or_else at_place (shape_fault new) (λ at. NewShape at)
+    or_else when (not (length old.roots == length new.roots)) RootCount
+
+images_fit : (old new : Image) → image_fault old new ≡ None → Fits old new
 images_fit old new e =
     let s2 : ((at_place (shape_fault old) (λ at. OldShape at) or_else at_place (shape_fault new) (λ at. NewShape at)) ≡ None) × (when (not (length old.roots == length new.roots)) RootCount ≡ None) = or_none _ _ e in
     let s1 : (at_place (shape_fault old) (λ at. OldShape at) ≡ None) × (at_place (shape_fault new) (λ at. NewShape at) ≡ None) = or_none _ _ s2.0 in
@@ -64,11 +72,6 @@ pair_joins old new cert k d e inside =
     let within : k < length cert = omega (arith, length-map cert addresses) in
     subst (JoinsStarts old new) (get_or-map addresses cert k d (0, 0) within) (all_join old new (pairs_of cert) (pairs_of cert) 0 k (0, 0) parts.1 inside)
 
--- ---- objects with one header have as many fields
-
-pub same_length : (old new : List ℕ) (a b : ℕ) (x y : Block) → IsOk (walk_words old) → IsOk (walk_words new) → block_at old a ≡ Some x → block_at new b ≡ Some y → x.header.len ≡ y.header.len → length x.fields ≡ length y.fields
-same_length old new a b x y old_ok new_ok e f same = (stands_in old a x old_ok e).whole.fields ∙ same ∙ sym (stands_in new b y new_ok f).whole.fields
-
 -- ---- raw fields are compared as words, and others as values
 
 pub raw_alike : (h : Header) (pairs : List (ℕ × ℕ)) (old new : List ℕ) → h.raw ≡ true → first_difference (λ v w. v == w) 0 old new ≡ first_difference (field_words_correspond h pairs) 0 old new
@@ -76,3 +79,21 @@ raw_alike h pairs old new e = ap (λ b. first_difference (λ v w. cond b (v == w
 
 pub value_alike : (h : Header) (pairs : List (ℕ × ℕ)) (old new : List ℕ) → h.raw ≡ false → first_difference (words_correspond pairs) 0 old new ≡ first_difference (field_words_correspond h pairs) 0 old new
 value_alike h pairs old new e = ap (λ b. first_difference (λ v w. cond b (v == w) (words_correspond pairs v w)) 0 old new) (sym e)
+
+pub none_unequal : (i : ℕ) (ws : List ℕ) → None ≡ first_difference (λ v w. v == w) i ws ws
+none_unequal i [] = refl
+none_unequal i (w ∷ ws) = none_unequal (suc i) ws ∙ sym (ap (λ t. cond t (first_difference (λ v w. v == w) (suc i) ws ws) (Some i)) (eq-eqb w w refl))
+
+-- ---- an image that is not shaped is the first fault
+
+refused_first : (x y : Option Refusal) (f : CheckFault) → IsRefusalOf x f → IsRefusalOf (x or_else y) f
+refused_first x y (Refused refusal) is = ap (λ o. o or_else y) is
+refused_first x y NoMemory is = tt
+
+pub old_refused : (old new : Image) (pairs : List (ℕ × ℕ)) (f : CheckFault) → IsRefusalOf (at_place (shape_fault old) (λ at. OldShape at)) f → IsRefusalOf (table_fault old new pairs) f
+old_refused old new pairs f is = refused_first _ _ f (refused_first _ _ f (refused_first _ _ f is))
+
+pub new_refused : (old new : Image) (pairs : List (ℕ × ℕ)) (f : CheckFault) → shape_fault old ≡ None → IsRefusalOf (at_place (shape_fault new) (λ at. NewShape at)) f → IsRefusalOf (table_fault old new pairs) f
+new_refused old new pairs f none is =
+    refused_first _ _ f (refused_first _ _ f
+    (subst (λ o. IsRefusalOf (at_place o (λ at. OldShape at) or_else at_place (shape_fault new) (λ at. NewShape at)) f) (sym none) is))

@@ -1,76 +1,108 @@
 -- The marks of a space's starts, set one after the other as a walk meets them.
-use Rattle.std.proofs.Common.{◌≡◌, ℕ, ◌+◌, ◌<◌, ◌≤◌, Bool, true, false, cond, ◌==◌, List, ◌∷◌, length, get_or, set, Option, Some, None, is_some, refl, sym, ◌∙◌, ap, subst, inl, inr, arith, length-set, get_or-set_same, get_or-set_other}
-use Rattle.std.specs.Prelude.{slice_index, IsOk, IsSome}
+use Rattle.std.proofs.Common.{◌≡◌, ℕ, zero, suc, ◌-◌, ◌+◌, ◌<◌, ◌≤◌, Bool, true, false, cond, ◌==◌, List, [], length, take, drop, get_or, set, replicate, Option, Some, None, Result, Ok, Err, is_some, is_ok, refl, sym, ◌∙◌, ap, subst, inl, inr, arith, length-set, get_or-set_same, get_or-set_other}
+use Rattle.std.specs.Prelude.{slice_index, IsOk}
 use Rattle.std.proofs.lemmas.Bool.{eq-eqb, ne_eqb, cases_eq}
-use Rattle.gc_words.specs.Word.{read_header}
-use Rattle.gc_words.specs.Image.{Block, walk_words, ok_or_nil, block_in, block_at, is_start}
-use Rattle.gc_words.specs.Walking.{next_of, walk_from, block_from, StandsIn}
+use Rattle.std.proofs.lemmas.List.{length-replicate, drop_all}
+use Rattle.gc_words.specs.Word.{header_in}
+use Rattle.gc_words.specs.Image.{Block, walk, walk_all, walk_words, with_front, ok_or_nil, block_in, block_at, header_of, header_at, is_start}
+use Rattle.gc_words.specs.Fault.{fault_of_walk}
+use Rattle.gc_words.specs.Walking.{next_after, next_in, next_of, walk_on, walk_from, block_from, StandsIn}
 use Rattle.gc_words.specs.declared.header.Header.{Header}
-use Rattle.gc_words.proofs.Steps.{has_next, Behind, behind, has_start_from}
+use Rattle.gc_words.proofs.Steps.{step, at_end, Behind, behind, has_start_from}
 use Rattle.gc_words.proofs.Starts.{stands_in}
+use Rattle.gc_words.proofs.Walks.{header_counted, same_walk}
+use Rattle.gc_check.specs.Internal.Tables.{MarksStarts}
 
--- the object that a walk which comes to its end meets at a place
-pub record Met (words : List ℕ) (at : ℕ) : Type 0 where
-  pub header : Header
-  pub word : read_header (slice_index words at) ≡ Some header
-  pub within : at + (header.len + 2) ≤ length words
-  pub walked : IsOk (walk_from words (at + (header.len + 2)))
-  pub objects : ok_or_nil (walk_from words at) ≡ (at, block_from words at header) ∷ ok_or_nil (walk_from words (at + (header.len + 2)))
-
-pub met : (words : List ℕ) (at : ℕ) → at < length words → IsOk (walk_from words at) → Met words at
-met words at inside ok = from (next_of words at) refl (has_next words at inside ok)
-  where
-    from : (o : Option ℕ) → next_of words at ≡ o → IsSome o → Met words at
-    from None e some = absurd (let no : false ≡ true = some in cc)
-    from (Some next) e some =
-        let b : Behind words at next = behind words at next inside ok e in
-        let place : next ≡ at + (b.step.header.len + 2) = b.step.place in
-        record {
-          header = b.step.header;
-          word = b.step.word;
-          within = subst (λ n. n ≤ length words) place b.step.within;
-          walked = subst (λ n. IsOk (walk_from words n)) place b.walked;
-          objects = subst (λ n. ok_or_nil (walk_from words at) ≡ (at, block_from words at b.step.header) ∷ ok_or_nil (walk_from words n)) place b.objects;
-        }
-
--- what is marked, or still to be met from a place on, are the starts
+-- if the walk comes to its end, what is marked, or still to be met from a place on, are the starts
 pub record MarksTo (words : List ℕ) (marks : List Bool) (at : ℕ) : Type 0 where
   pub len : length marks ≡ length words
-  pub walked : IsOk (walk_from words at)
-  pub starts : (place : ℕ) → cond (get_or marks place false) true (has_start_from words at place) ≡ is_start words place
+  pub starts : IsOk (walk_from words at) → (place : ℕ) → cond (get_or marks place false) true (has_start_from words at place) ≡ is_start words place
 
-marked_already : (b : Bool) → cond b true true ≡ true
-marked_already true = refl
-marked_already false = refl
-
-marks_one : (words : List ℕ) (marks : List Bool) (at : ℕ) (h : Header) → at < length words → read_header (slice_index words at) ≡ Some h → MarksTo words marks at → MarksTo words (set marks at true) (at + (h.len + 2))
-marks_one words marks at h inside word before =
-    let m : Met words at = met words at inside before.walked in
-    let same : m.header ≡ h = (let s : Some m.header ≡ Some h = sym m.word ∙ word in cc) in
-    subst (λ (h : Header). MarksTo words (set marks at true) (at + (h.len + 2))) same (record {
-      len = length-set marks at true ∙ before.len;
-      walked = m.walked;
-      starts = starts m;
-    })
+-- nothing is marked, and the walk begins
+pub none_marked : (words : List ℕ) (marks : List Bool) → marks ≡ replicate (length words) false → MarksTo words marks 1
+none_marked words marks e = record {
+  len = ap length e ∙ length-replicate (length words) false;
+  starts = λ ok place. ap (λ b. cond b true (is_start words place)) (ap (λ marks. get_or marks place false) e ∙ unmarked (length words) place);
+}
   where
-    here : (m : Met words at) (place : ℕ) (b : Bool) → (at == place) ≡ b → has_start_from words at place ≡ is_some (cond b (Some (block_from words at m.header)) (block_in (ok_or_nil (walk_from words (at + (m.header.len + 2)))) place))
-    here m place b e = ap (λ bs. is_some (block_in bs place)) m.objects ∙ ap (λ t. is_some (cond t (Some (block_from words at m.header)) (block_in (ok_or_nil (walk_from words (at + (m.header.len + 2)))) place))) e
+    unmarked : (n place : ℕ) → get_or (replicate n false) place false ≡ false
+    unmarked zero place = refl
+    unmarked (suc n) zero = refl
+    unmarked (suc n) (suc place) = unmarked n place
 
-    starts : (m : Met words at) (place : ℕ) → cond (get_or (set marks at true) place false) true (has_start_from words (at + (m.header.len + 2)) place) ≡ is_start words place
-    starts m place =
-        let rest : Bool = has_start_from words (at + (m.header.len + 2)) place in
+-- an object is marked, and the walk goes on behind it
+pub marks_next : (raws : Bool) (words : List ℕ) (marks : List Bool) (at next : ℕ) → at < length words → next_in raws words at ≡ Some next → MarksTo words marks at → MarksTo words (set marks at true) next
+marks_next raws words marks at next inside e before = record { len = length-set marks at true ∙ before.len; starts = starts }
+  where
+    next_counted : (o : Option Header) → header_in raws (slice_index words at) ≡ o → next_after at o (length words - at) ≡ Some next → next_of words at ≡ Some next
+    next_counted None is e = absurd (let no : None ≡ Some next = e in cc)
+    next_counted (Some h) is e = ap (λ o. next_after at o (length words - at)) (header_counted raws (slice_index words at) h is) ∙ e
+
+    step_is : next_of words at ≡ Some next
+    step_is = next_counted (header_in raws (slice_index words at)) refl e
+
+    ok_front : (x : ℕ × Block) (r : Result (List (ℕ × Block)) ℕ) → IsOk r → IsOk (with_front x r)
+    ok_front x (Ok xs) ok = refl
+    ok_front x (Err at) ok = absurd (let no : false ≡ true = ok in cc)
+
+    walked : IsOk (walk_from words next) → IsOk (walk_from words at)
+    walked ok = subst IsOk (sym (step true words at next inside step_is).walk_is) (ok_front _ (walk_from words next) ok)
+
+    here : (ok : IsOk (walk_from words next)) (place : ℕ) (b : Bool) → (at == place) ≡ b → has_start_from words at place ≡ cond b true (has_start_from words next place)
+    here ok place b e =
+        let m : Behind words at next = behind words at next inside (walked ok) step_is in
+        let block : Block = block_from words at m.step.header in
+        ap (λ bs. is_some (block_in bs place)) m.objects
+        ∙ ap (λ t. is_some (cond t (Some block) (block_in (ok_or_nil (walk_from words next)) place))) e
+        ∙ first_of b block (block_in (ok_or_nil (walk_from words next)) place)
+      where
+        first_of : (b : Bool) (block : Block) (others : Option Block) → is_some (cond b (Some block) others) ≡ cond b true (is_some others)
+        first_of true block others = refl
+        first_of false block others = refl
+
+    starts : IsOk (walk_from words next) → (place : ℕ) → cond (get_or (set marks at true) place false) true (has_start_from words next place) ≡ is_start words place
+    starts ok place =
+        let rest : Bool = has_start_from words next place in
+        let mark : Bool = get_or marks place false in
         elim (cases_eq at place) [
           | inl same ↦ (let now : get_or (set marks at true) place false ≡ true = ap (λ p. get_or (set marks at true) p false) (sym same) ∙ get_or-set_same marks at true false (omega (arith, before.len, inside)) in
-              ap (λ b. cond b true rest) now ∙ sym (marked_already (get_or marks place false)) ∙ ap (cond (get_or marks place false) true) (sym (here m place true (eq-eqb at place same))) ∙ before.starts place)
-          | inr other ↦ (let kept : get_or (set marks at true) place false ≡ get_or marks place false = get_or-set_other marks at place true false (λ e. other (sym e)) in
-              ap (λ b. cond b true rest) kept ∙ ap (cond (get_or marks place false) true) (sym (here m place false (ne_eqb at place other))) ∙ before.starts place)
+              ap (λ b. cond b true rest) now ∙ sym (either_way mark) ∙ ap (cond mark true) (sym (here ok place true (eq-eqb at place same))) ∙ before.starts (walked ok) place)
+          | inr other ↦ (let kept : get_or (set marks at true) place false ≡ mark = get_or-set_other marks at place true false (λ e. other (sym e)) in
+              ap (λ b. cond b true rest) kept ∙ ap (cond mark true) (sym (here ok place false (ne_eqb at place other))) ∙ before.starts (walked ok) place)
         ]
+      where
+        either_way : (b : Bool) → cond b true true ≡ true
+        either_way true = refl
+        either_way false = refl
 
-pub marks_next : (words : List ℕ) (marks : List Bool) (at next : ℕ) → at < length words → next_of words at ≡ Some next → MarksTo words marks at → MarksTo words (set marks at true) next
-marks_next words marks at next inside e before =
-    let b : Behind words at next = behind words at next inside before.walked e in
-    let place : next ≡ at + (b.step.header.len + 2) = b.step.place in
-    subst (MarksTo words (set marks at true)) (sym place) (marks_one words marks at b.step.header inside b.step.word before)
+-- the walk has come to its end
+pub all_marked : (raws : Bool) (words : List ℕ) (marks : List Bool) (at : ℕ) → length words ≤ at → fault_of_walk (walk_all raws words) ≡ fault_of_walk (walk_on raws words at) → MarksTo words marks at
+    → (fault_of_walk (walk_all raws words) ≡ None) × MarksStarts words marks
+all_marked raws words marks at past same m = (
+  none,
+  record {
+    len = m.len;
+    walked = subst IsOk (same_walk raws words walked) walked;
+    starts = λ place. sym (none_left place (get_or marks place false)) ∙ m.starts (ap is_ok done) place;
+  },
+)
+  where
+    none : fault_of_walk (walk_all raws words) ≡ None
+    none = same ∙ ap (λ rest. fault_of_walk (walk raws 0 at rest)) (drop_all at words past)
+
+    no_fault : (r : Result (List (ℕ × Block)) ℕ) → fault_of_walk r ≡ None → IsOk r
+    no_fault (Ok bs) e = refl
+    no_fault (Err at) e = absurd (let no : Some at ≡ None = e in cc)
+
+    walked : IsOk (walk_all raws words)
+    walked = no_fault (walk_all raws words) none
+
+    done : walk_from words at ≡ Ok []
+    done = at_end words at past
+
+    none_left : (place : ℕ) (b : Bool) → cond b true (has_start_from words at place) ≡ b
+    none_left place true = refl
+    none_left place false = ap (λ r. is_some (block_in (ok_or_nil r) place)) done
 
 -- ---- what a mark says
 
@@ -91,3 +123,18 @@ start_within words place ok start =
     let found : (b : Block) × (block_at words place ≡ Some b) × StandsIn words place b = start_stands words place ok start in
     let fits : place + (found.0.header.len + 2) ≤ length words = found.2.fits in
     omega arith
+
+-- the object with this header that starts here
+pub header_stands : (words : List ℕ) (place : ℕ) (h : Header) → IsOk (walk_words words) → header_at words place ≡ Some h
+    → (place + (h.len + 2) ≤ length words) × (block_at words place ≡ Some (record { header = h; fields = take h.len (drop (place + 2) words) }))
+header_stands words place h ok e = from (block_at words place) refl e
+  where
+    from : (o : Option Block) → block_at words place ≡ o → header_of o ≡ Some h
+        → (place + (h.len + 2) ≤ length words) × (block_at words place ≡ Some (record { header = h; fields = take h.len (drop (place + 2) words) }))
+    from None is e = absurd (let no : None ≡ Some h = e in cc)
+    from (Some b) is e =
+        let s : StandsIn words place b = stands_in words place b ok is in
+        let same : b.header ≡ h = (let is : Some b.header ≡ Some h = e in cc) in (
+          subst (λ (h : Header). place + (h.len + 2) ≤ length words) same s.fits,
+          is ∙ (λ i. Some (record { header = same i; fields = (s.fields ∙ ap (λ (h : Header). take h.len (drop (place + 2) words)) same) i })),
+        )

@@ -3,7 +3,6 @@
 
 mod checker;
 mod checks;
-mod images;
 mod laws;
 mod object;
 mod partners;

@@ -1,27 +1,28 @@
-ghost use Rattle.std.specs.Prelude.{◌≡◌, Some, IsOk, IsTrue};
-ghost use Rattle.gc_words.specs.Image.{walk_words, is_start, block_at};
+//! Objects as they stand among words, without their links.
+
+ghost use Rattle.std.specs.Prelude.{◌≡◌, Some, IsOk, IsSome, IsTrue, length};
+ghost use Rattle.gc_words.specs.Word.{read_header};
+ghost use Rattle.gc_words.specs.Image.{walk_words, is_start, header_at, block_at};
 
 use gc_words::{Addr, Header, field_index};
 
-/// An object as it stands among words, without its link.
-#[derive(Clone, Copy, Debug)]
-pub(crate) struct Object<'a> {
-    pub(crate) header: Header,
-    pub(crate) fields: &'a [u64],
-}
-
-/// Returns the object that starts at this place of a space's words.
-pub(crate) fn object_at(words: &[u64], start: u32) -> Object<'_>
+/// Returns the header word of the object that starts at this place of a space's words.
+pub(crate) fn header_word_at(words: &[u64], start: u32) -> u64
     requires walked { IsOk (walk_words words.now) }
     requires start { IsTrue (is_start words.now start) }
-    ensures { block_at words.now start
-        ≡ Some (record { header = result.header; fields = result.fields.now }) }
+    ensures value { read_header result ≡ header_at words.now start }
+    ensures header { IsSome (read_header result) }
 {
-    let at = start as usize;
-    let header = Header::read(words[at]).unwrap();
-    let fields = field_index(Addr(start), 0);
-    Object {
-        header,
-        fields: &words[fields..fields + usize::from(header.len())],
-    }
+    words[start as usize]
+}
+
+/// Returns the fields of the object with this header that starts at this place of a space's words.
+pub(crate) fn fields_at(words: &[u64], start: u32, header: Header) -> &[u64]
+    requires walked { IsOk (walk_words words.now) }
+    requires header { header_at words.now start ≡ Some header }
+    ensures object { block_at words.now start ≡ Some (record { header = header; fields = result.now }) }
+    ensures count { length result.now ≡ header.len }
+{
+    let first = field_index(Addr(start), 0);
+    &words[first..first + usize::from(header.len())]
 }

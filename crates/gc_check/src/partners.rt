@@ -1,45 +1,36 @@
 //! The table of partners: the pairs of a certificate, entered one after the other.
 
 ghost use Rattle.std.specs.Prelude.{◌≡◌, None, Some, length, replicate, IsOk, MatchResult};
-ghost use Rattle.gc_words.specs.Image.{IsShaped, walk_words};
+ghost use Rattle.gc_words.specs.Image.{walk_words};
 ghost use Rattle.gc_words.specs.Fault.{place_faults};
-ghost use Rattle.gc_words.specs.Views.{addresses, image_of};
+ghost use Rattle.gc_words.specs.Views.{addresses};
 ghost use Rattle.gc_check.specs.Internal.Tables.{HoldsPartners, entry_fault};
 ghost use Rattle.gc_check.specs.Verdict.{pairs_of, IsRefusalOf};
 
 use crate::starts::Starts;
 use crate::verdict::CheckFault;
-use gc_words::{ImageRef, NewAddr, Pair, Refusal, raws_change_no_objects};
+use gc_words::{NewAddr, Pair, Refusal};
 use std::alloc::Global;
 
 /// Returns the partners by old address if all pairs are in their places, otherwise the first fault of a place.
-/// Allocates all three tables first.
+/// Allocates once.
 pub(crate) fn partners_of(
     alloc: Global,
-    old: ImageRef,
-    new: ImageRef,
+    old: &Starts,
+    new: &Starts,
     cert: &[Pair],
 ) -> Result<Vec<u32>, CheckFault>
-    requires old_shaped { IsShaped (image_of old) }
-    requires new_shaped { IsShaped (image_of new) }
+    requires old_walked { IsOk (walk_words old.now.words) }
+    requires new_walked { IsOk (walk_words new.now.words) }
     ensures { MatchResult result
-        (λ partners.
-        (place_faults (image_of old.entry) (image_of new.entry) (pairs_of cert.now) ≡ None)
+        (λ partners. (place_faults old.now new.now (pairs_of cert.now) ≡ None)
         × HoldsPartners partners.items (pairs_of cert.now))
-        (IsRefusalOf
-        (place_faults (image_of old.entry) (image_of new.entry) (pairs_of cert.now))) }
+        (IsRefusalOf (place_faults old.now new.now (pairs_of cert.now))) }
 {
-    raws_change_no_objects();
-    let Ok(old_starts) = Starts::new(alloc, old) else {
+    let Ok(mut partners) = vec![in alloc; 0u32; old.places()] else {
         return Err(CheckFault::NoMemory);
     };
-    let Ok(new_starts) = Starts::new(alloc, new) else {
-        return Err(CheckFault::NoMemory);
-    };
-    let Ok(mut partners) = vec![in alloc; 0u32; old.words.len()] else {
-        return Err(CheckFault::NoMemory);
-    };
-    match enter_pairs(&old_starts, &new_starts, cert, partners.as_mut_slice()) {
+    match enter_pairs(old, new, cert, partners.as_mut_slice()) {
         Ok(()) => Ok(partners),
         Err(refusal) => Err(CheckFault::Refused(refusal)),
     }

@@ -1,9 +1,9 @@
-use gc_graph::NoMemory;
-use gc_words::{ImageRef, next_start};
+use crate::verdict::CheckFault;
+use gc_words::{ImageRef, MOST_WORDS, Refusal, ShapeFault, next_in};
 use std::alloc::Global;
 use std::marker::Model;
 
-/// The table of the places at which an image's objects start. Contracts see the image.
+/// The table of the places at which the objects of a shaped image start. Contracts see the image.
 #[derive(Drop)]
 pub(crate) struct Starts<'a> {
     image: ImageRef<'a>,
@@ -23,20 +23,36 @@ impl<'a> Model for Starts<'a> {
 }
 
 impl<'a> Starts<'a> {
-    ghost use Rattle.std.specs.Prelude.{◌≡◌, ◌<◌, IfOk, IsOk, IsTrue, length};
-    ghost use Rattle.gc_words.specs.Image.{walk_words, is_start};
+    ghost use Rattle.std.specs.Prelude.{◌≡◌, ◌<◌, None, MatchResult, IsTrue, length};
+    ghost use Rattle.gc_words.specs.Image.{is_start};
+    ghost use Rattle.gc_words.specs.Fault.{shape_fault};
     ghost use Rattle.gc_words.specs.Views.{image_of};
+    ghost use Rattle.gc_check.specs.Internal.Starts.{IsStartsFault};
 
-    /// Returns the table of an image. Allocates once.
-    pub(crate) fn new(alloc: Global, image: ImageRef<'a>) -> Result<Starts<'a>, NoMemory>
-        requires { IsOk (walk_words image.words.now) }
-        ensures { IfOk result (λ starts. starts ≡ image_of image.entry) }
+    /// Returns the table of an image, from one walk over its words. Returns `NotShaped` with the first place at which the
+    /// image is not shaped. Allocates once, and not at all if its size, its end, the number of its words or word 0 is wrong.
+    pub(crate) fn new(alloc: Global, image: ImageRef<'a>) -> Result<Starts<'a>, StartsFault>
+        ensures { MatchResult result
+            (λ starts. (shape_fault (image_of image.entry) ≡ None) × (starts ≡ image_of image.entry))
+            (IsStartsFault (shape_fault (image_of image.entry))) }
     {
+        if !is_framed(image) {
+            return Err(StartsFault::NotShaped(ShapeFault { at: 0 }));
+        }
         let Ok(mut marks) = vec![in alloc; false; image.words.len()] else {
-            return Err(NoMemory);
+            return Err(StartsFault::NoMemory);
         };
-        mark_starts(image.words, marks.as_mut_slice());
-        Ok(Starts { image, marks })
+        match mark_starts(image.words, image.raws, marks.as_mut_slice()) {
+            Ok(()) => Ok(Starts { image, marks }),
+            Err(fault) => Err(StartsFault::NotShaped(fault)),
+        }
+    }
+
+    /// Returns the number of places, which is that of the image's words.
+    pub(crate) fn places(&self) -> usize
+        ensures { result ≡ length self.now.words }
+    {
+        self.image.words.len()
     }
 
     /// Returns whether an object starts at this place.
@@ -49,19 +65,79 @@ impl<'a> Starts<'a> {
     }
 }
 
-ghost use Rattle.std.specs.Prelude.{◌≡◌, length, replicate, false, IsOk};
-ghost use Rattle.gc_words.specs.Image.{walk_words};
+/// Why an image has no table of starts.
+#[derive(Clone, Copy, Debug)]
+pub(crate) enum StartsFault {
+    NotShaped(ShapeFault),
+    /// An allocation failed.
+    NoMemory,
+}
+
+impl StartsFault {
+    ghost use Rattle.std.specs.Prelude.{ℕ, Option};
+    ghost use Rattle.gc_words.specs.Fault.{at_place};
+    ghost use Rattle.gc_words.specs.declared.refusal.Refusal.TheVariants.{OldShape, NewShape};
+    ghost use Rattle.gc_check.specs.Internal.Starts.{IsStartsFault};
+    ghost use Rattle.gc_check.specs.Verdict.{IsRefusalOf};
+
+    /// Returns what a check says of it in the old image.
+    pub(crate) fn of_old(self) -> CheckFault
+        ensures { (fault : Option ℕ) → IsStartsFault fault self
+            → IsRefusalOf (at_place fault (λ at. OldShape at)) result }
+    {
+        match self {
+            StartsFault::NotShaped(fault) => CheckFault::Refused(Refusal::OldShape {
+                at: fault.at,
+            }),
+            StartsFault::NoMemory => CheckFault::NoMemory,
+        }
+    }
+
+    /// Returns what a check says of it in the new image.
+    pub(crate) fn of_new(self) -> CheckFault
+        ensures { (fault : Option ℕ) → IsStartsFault fault self
+            → IsRefusalOf (at_place fault (λ at. NewShape at)) result }
+    {
+        match self {
+            StartsFault::NotShaped(fault) => CheckFault::Refused(Refusal::NewShape {
+                at: fault.at,
+            }),
+            StartsFault::NoMemory => CheckFault::NoMemory,
+        }
+    }
+}
+
+ghost use Rattle.std.specs.Prelude.{◌≡◌, if◌then◌else◌, length, replicate, false, None, Some, MatchResult};
+ghost use Rattle.gc_words.specs.Image.{walk_all};
+ghost use Rattle.gc_words.specs.Fault.{fault_of_walk, shape_fault};
+ghost use Rattle.gc_words.specs.Views.{image_of};
 ghost use Rattle.gc_check.specs.Internal.Tables.{MarksStarts};
 
-// Sets the marks of the places at which objects start.
-fn mark_starts(words: &[u64], marks: &mut [bool])
-    requires walked { IsOk (walk_words words.now) }
+// Returns whether size, end, the number of words and word 0 are those of a shaped image.
+fn is_framed(image: ImageRef) -> bool
+    ensures { shape_fault (image_of image.entry)
+        ≡ (if result then fault_of_walk (walk_all image.entry.raws image.entry.words.now) else Some 0) }
+{
+    (1..=MOST_WORDS).contains(&image.size)
+        && (1..=image.size).contains(&image.end)
+        && image.words.len() == image.end as usize
+        && image.words[0] == 0
+}
+
+// Marks the places at which objects start, up to the first place where an object has to start and none does.
+fn mark_starts(words: &[u64], raws: bool, marks: &mut [bool]) -> Result<(), ShapeFault>
     requires unmarked { marks.old ≡ replicate (length words.now) false }
-    ensures { MarksStarts words.now marks.new }
+    ensures { MatchResult result
+        (λ _. (fault_of_walk (walk_all raws words.now) ≡ None) × MarksStarts words.now marks.new)
+        (λ fault. fault_of_walk (walk_all raws words.now) ≡ Some fault.at) }
 {
     let mut at = 1;
     while at < words.len() {
+        let Some(next) = next_in(words, at, raws) else {
+            return Err(ShapeFault { at: at as u64 });
+        };
         marks[at] = true;
-        at = next_start(words, at).unwrap();
+        at = next;
     }
+    Ok(())
 }

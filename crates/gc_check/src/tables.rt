@@ -1,6 +1,6 @@
-use crate::images::image_fault;
-use crate::object::object_at;
+use crate::object::{fields_at, header_word_at};
 use crate::partners::partners_of;
+use crate::starts::Starts;
 use crate::verdict::CheckFault;
 use gc_words::{Addr, Header, ImageRef, Pair, Refusal, Value, decode};
 use std::alloc::Global;
@@ -66,10 +66,18 @@ impl<'a> Tables<'a> {
             }))
             (IsRefusalOf (table_fault (image_of old.entry) (image_of new.entry) (pairs_of cert.now))) }
     {
-        if let Some(refusal) = image_fault(old, new) {
-            return Err(CheckFault::Refused(refusal));
+        let old_starts = match Starts::new(alloc, old) {
+            Ok(starts) => starts,
+            Err(fault) => return Err(fault.of_old()),
+        };
+        let new_starts = match Starts::new(alloc, new) {
+            Ok(starts) => starts,
+            Err(fault) => return Err(fault.of_new()),
+        };
+        if old.roots.len() != new.roots.len() {
+            return Err(CheckFault::Refused(Refusal::RootCount));
         }
-        let partners = partners_of(alloc, old, new, cert)?;
+        let partners = partners_of(alloc, &old_starts, &new_starts, cert)?;
         Ok(Tables {
             old,
             new,
@@ -85,12 +93,15 @@ impl<'a> Tables<'a> {
     {
         let pair = self.cert[k as usize];
         let k = u64::from(k);
-        let old = object_at(self.old.words, pair.old.0);
-        let new = object_at(self.new.words, pair.new.0);
-        if old.header != new.header {
+        // Two headers are the same exactly if their words are.
+        let word = header_word_at(self.old.words, pair.old.0);
+        if word != header_word_at(self.new.words, pair.new.0) {
             return Some(Refusal::HeaderDiffers { k });
         }
-        match self.field_difference(old.header, old.fields, new.fields) {
+        let header = Header::read(word).unwrap();
+        let old = fields_at(self.old.words, pair.old.0, header);
+        let new = fields_at(self.new.words, pair.new.0, header);
+        match self.field_difference(header, old, new) {
             Some(i) => Some(Refusal::FieldDiffers { k, i }),
             None => None,
         }
@@ -133,27 +144,20 @@ impl<'a> Tables<'a> {
         None
     }
 
-    // Returns whether the words are values that correspond.
+    // Returns whether the words are values that correspond. Decodes neither of them if both are nil or the same number.
     fn is_correspondence(&self, old: u64, new: u64) -> bool
         ensures { result ≡ words_correspond self.now.pairs old new }
     {
-        let Some(old) = decode(old) else {
-            return false;
-        };
-        let Some(new) = decode(new) else {
-            return false;
-        };
-        match old {
-            Value::Nil => matches!(new, Value::Nil),
-            Value::Num(number) => match new {
-                Value::Num(other) => number == other,
-                _ => false,
-            },
-            Value::Ref(address) => match new {
-                Value::Ref(other) => self.is_partner(address, other),
-                _ => false,
-            },
+        if old == new && (old == 0 || old % 2 == 1) {
+            return true;
         }
+        let Some(Value::Ref(address)) = decode(old) else {
+            return false;
+        };
+        let Some(Value::Ref(other)) = decode(new) else {
+            return false;
+        };
+        self.is_partner(address, other)
     }
 
     // Returns whether the addresses are a pair.
@@ -174,6 +178,9 @@ fn first_unequal(old: &[u64], new: &[u64]) -> Option<u64>
     requires { length old.now ≡ length new.now }
     ensures { result ≡ first_difference (λ v w. v == w) 0 old.now new.now }
 {
+    if old == new {
+        return None;
+    }
     for i in 0..old.len() {
         if old[i] != new[i] {
             return Some(i as u64);

@@ -23,7 +23,7 @@ pub use laws::{
 };
 pub use layout::field_index;
 pub use refusal::Refusal;
-pub use shape::{ShapeFault, next_start, walk};
+pub use shape::{ShapeFault, next_in, walk};
 pub use space::Space;
 pub use value::{Addr, NewAddr, OldAddr, Value, decode, encode, target_of};
 

@@ -38,16 +38,8 @@ pub fn walk(words: &[u64], end: u32, raws: bool) -> Result<(), ShapeFault>
 }
 
 /// Returns the place behind the object that starts here; None if no header stands here, or if the object runs past
-/// the words.
-pub fn next_start(words: &[u64], at: usize) -> Option<usize>
-    requires { at < length words.now }
-    ensures { result ≡ next_of words.now at }
-{
-    next_in(words, at, true)
-}
-
-// The same; `raws` says whether headers of raw objects count.
-fn next_in(words: &[u64], at: usize, raws: bool) -> Option<usize>
+/// the words. `raws` says whether headers of raw objects count.
+pub fn next_in(words: &[u64], at: usize, raws: bool) -> Option<usize>
     requires { at < length words.now }
     ensures { result ≡ next_in raws words.now at }
 {
@@ -58,4 +50,12 @@ fn next_in(words: &[u64], at: usize, raws: bool) -> Option<usize>
     } else {
         None
     }
+}
+
+/// Returns the same where headers of raw objects count.
+pub(crate) fn next_start(words: &[u64], at: usize) -> Option<usize>
+    requires { at < length words.now }
+    ensures { result ≡ next_of words.now at }
+{
+    next_in(words, at, true)
 }

@@ -3,17 +3,10 @@ use Rattle.std.specs.Prelude.{◌≡◌, ℕ, ◌<◌, ◌≤◌, ◌^◌, ◌==
 use Rattle.std.specs.List.{list_any}
 use Rattle.gc_graph.specs.Correspond.{paired}
 use Rattle.gc_words.specs.Image.{Image, walk_words, is_start}
-use Rattle.gc_words.specs.Fault.{◌or_else◌, when, at_place, shape_fault, table_fault}
+use Rattle.gc_words.specs.Fault.{◌or_else◌, when, table_fault}
 use Rattle.gc_words.specs.declared.refusal.Refusal.{Refusal}
-use Rattle.gc_words.specs.declared.refusal.Refusal.TheVariants.{OldShape, NewShape, RootCount, OldNotStart, NewNotStart, NotRising, Twice}
+use Rattle.gc_words.specs.declared.refusal.Refusal.TheVariants.{OldNotStart, NewNotStart, NotRising, Twice}
 use Rattle.gc_check.specs.Tables.{Checked}
-
--- of the images alone: their shapes, and the number of their roots
-abbrev pub image_fault : Image → Image → Option Refusal
-image_fault old new =
-    at_place (shape_fault old) (λ at. OldShape at)
-    or_else at_place (shape_fault new) (λ at. NewShape at)
-    or_else when (not (length old.roots == length new.roots)) RootCount
 
 -- exactly the places at which objects start are marked
 pub record MarksStarts (words : List ℕ) (marks : List Bool) : Type 0 where

@@ -1,11 +1,15 @@
-use Rattle.std.proofs.Common.{sym, ◌∙◌, ap}
-use Rattle.std.specs.Prelude.{is_some}
-use Rattle.gc_words.proofs.Steps.{has_next}
-use Rattle.gc_check.proofs.StartMarks.{marks_next}
+use Rattle.std.proofs.Common.{sym, ◌∙◌}
+use Rattle.gc_words.proofs.Steps.{same_fault}
+use Rattle.gc_check.proofs.StartMarks.{marks_next, all_marked}
 use Rattle.gc_check.proofs.starts.mark_starts.Goals as goal
 
-pub unwrap-at-requires : goal.unwrap-at-requires
-unwrap-at-requires c = ap is_some c.next_start.ensures ∙ has_next c.args.words.now c.loop-at.at c.loop-at-test.true c.loop-at.invariant.walked
-
 pub loop-at-preserved : goal.loop-at-preserved
-loop-at-preserved c = marks_next c.args.words.now c.loop-at.marks c.loop-at.at c.unwrap-at.result c.loop-at-test.true (sym c.next_start.ensures ∙ c.unwrap-at.ensures) c.loop-at.invariant
+loop-at-preserved c =
+    let next = sym c.next_in.ensures ∙ c.in-Some.is in
+    record {
+      same = c.loop-at.invariant.same ∙ same_fault c.args.raws c.args.words.now c.loop-at.at c.in-Some.next c.loop-at-test.true next;
+      marked = marks_next c.args.raws c.args.words.now c.loop-at.marks c.loop-at.at c.in-Some.next c.loop-at-test.true next c.loop-at.invariant.marked;
+    }
+
+pub returns : goal.returns
+returns c = all_marked c.args.raws c.args.words.now c.loop-at.marks c.loop-at.at c.loop-at-test.false c.loop-at.invariant.same c.loop-at.invariant.marked
