@@ -1,6 +1,5 @@
 pub mod ReceiptMarks
 pub mod SeatNumbers
-pub mod Equality
 pub mod ScriptEvents
 pub mod Players
 pub mod PossibleReceipts

@@ -155,7 +155,7 @@ fn is_recorded(history: &[Entry], receipt: &Receipt) -> bool
 fn is_of(entry: &Entry, receipt: &Receipt) -> bool
     ensures { IsTrue result ↔ (entry.now ≡ entry_of receipt.now.event receipt.now.answer) }
 {
-    entry.event == receipt.event && entry.answer == receipt.answer
+    entry.is(&receipt.entry)
 }
 
 fn count_marked(marks: &[bool]) -> usize

@@ -2,18 +2,62 @@ ghost use Rattle.std.specs.Prelude.{◌≡◌, ◌≤◌, ◌+◌, IfOk, map};
 ghost use Rattle.std.specs.List.{range_with_len};
 ghost use Rattle.gc_shared.specs.Seats.{fresh};
 
-use gc_world::{Answer, Event};
+use gc_world::{Answer, Entry, Event};
 use std::alloc::{AllocError, Global};
 use std::marker::Model;
 
-/// The record of an answered call: its event, the answer, and its place in the history.
+/// The record of an answered call: its event, the answer, and its place in the history. It takes 32 bytes.
 #[derive(Clone, Copy, Debug, PartialEq, Eq)]
 pub struct Receipt {
-    /// The number of events before it.
-    pub place: usize,
-    pub event: Event,
-    pub answer: Answer,
+    pub(crate) place: usize,
+    pub(crate) entry: Entry,
 }
+
+impl Model for Receipt {
+    ghost use Rattle.gc_shared.specs.ReceiptValues.{ReceiptValue};
+    ghost use Rattle.gc_world.specs.World.{entry_of};
+
+    ghost Value = { ReceiptValue };
+
+    ghost view = { λ r. record { place = r.place; event = r.entry.event; answer = r.entry.answer } };
+
+    ghost inverse = { λ v. record { place = v.place; entry = entry_of v.event v.answer } };
+}
+
+impl Receipt {
+    ghost use Rattle.std.specs.Prelude.{◌≡◌};
+    ghost use Rattle.gc_world.specs.World.{entry_of};
+
+    /// Returns the event's place in the history: the number of events before it.
+    pub fn place(&self) -> usize
+        ensures { result ≡ self.now.place }
+    {
+        self.place
+    }
+
+    /// Returns the event.
+    pub fn event(&self) -> Event
+        ensures { result ≡ self.now.event }
+    {
+        self.entry.event()
+    }
+
+    /// Returns the answer.
+    pub fn answer(&self) -> Answer
+        ensures { result ≡ self.now.answer }
+    {
+        self.entry.answer()
+    }
+
+    /// Returns the event and the answer as an entry of a history.
+    pub fn entry(&self) -> Entry
+        ensures { result ≡ entry_of self.now.event self.now.answer }
+    {
+        self.entry
+    }
+}
+
+const _: () = prove!(size_of::<Receipt>() == 32);
 
 /// The right to make calls under one number, a mutator's or a collector's. It has a receipt for each answered call, in
 /// order.

@@ -3,7 +3,7 @@ use crate::fault::{CallFault, CloseFault};
 use crate::seat::{Receipt, Seat, seats_of};
 use gc_copy::{Step, StepReply};
 use gc_graph::{NoMemory, Op, Reply};
-use gc_world::{Answer, Event, World};
+use gc_world::{Entry, World};
 use std::alloc::Global;
 use std::marker::Model;
 use std::sync::{Mutex, Wait};
@@ -115,13 +115,8 @@ impl Shared {
         let reply = world.mutate(m, op)?;
         let place = world.history().len() - 1;
         drop(world);
-        let event = Event::Mutate { m, op: *op };
-        let answer = Answer::of_mutator(&reply);
-        seat.receipts.push_reserved(Receipt {
-            place,
-            event,
-            answer,
-        });
+        let entry = Entry::command(m, op, &reply);
+        seat.receipts.push_reserved(Receipt { place, entry });
         Ok(reply)
     }
 
@@ -160,13 +155,8 @@ impl Shared {
         let reply = world.collect_par(rt, step)?;
         let place = world.history().len() - 1;
         drop(world);
-        let event = Event::Collect(step);
-        let answer = Answer::Collector(reply);
-        seat.receipts.push_reserved(Receipt {
-            place,
-            event,
-            answer,
-        });
+        let entry = Entry::step(step, reply);
+        seat.receipts.push_reserved(Receipt { place, entry });
         Ok(reply)
     }
 
@@ -192,13 +182,8 @@ impl Shared {
         let (step, reply) = world.collect_useful(rt)?;
         let place = world.history().len() - 1;
         drop(world);
-        let event = Event::Collect(step);
-        let answer = Answer::Useful(reply);
-        seat.receipts.push_reserved(Receipt {
-            place,
-            event,
-            answer,
-        });
+        let entry = Entry::useful(step, reply);
+        seat.receipts.push_reserved(Receipt { place, entry });
         Ok((step, reply))
     }
 

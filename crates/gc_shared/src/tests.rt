@@ -51,45 +51,29 @@ fn one_seat_of_each_kind(rt: HostRuntime) -> Result<(), Fail> {
     assert!(rt; shared.useful(&rt, &mut collector) == Ok((Step::Flip, flipped)));
     assert_eq!(rt; mutator.receipts().len(), 2);
     assert_eq!(rt; collector.receipts().len(), 8);
+    let written = mutator.receipts().last().ok_or("two receipts")?;
+    assert_eq!(rt; written.place(), 7);
+    assert!(rt; written.event() == Event::Mutate { m: 0, op: put });
+    assert!(rt; written.answer() == Answer::Mutator(Reply::Done));
+    assert!(rt; written.entry() == Entry::command(0, &put, &Reply::Done));
 
     seats.push(collector)?;
     seats.push(mutator)?;
     let world = shared.close(seats).map_err(|fault| fault.kind)?;
     let expected = [
-        of_mutator(&new, Reply::Made),
-        of_collector(Step::Scan, StepReply::Idle),
-        of_collector(Step::Apply(0), StepReply::Idle),
-        of_useful(Step::Begin, StepReply::Begun),
-        of_useful(Step::Roots, StepReply::Copied),
-        of_useful(Step::Scan, StepReply::Scanned),
-        of_useful(Step::Scan, StepReply::Passed),
-        of_mutator(&put, Reply::Done),
-        of_useful(Step::Apply(0), StepReply::Applied),
-        of_useful(Step::Flip, flipped),
+        Entry::command(0, &new, &Reply::Made),
+        Entry::step(Step::Scan, StepReply::Idle),
+        Entry::step(Step::Apply(0), StepReply::Idle),
+        Entry::useful(Step::Begin, StepReply::Begun),
+        Entry::useful(Step::Roots, StepReply::Copied),
+        Entry::useful(Step::Scan, StepReply::Scanned),
+        Entry::useful(Step::Scan, StepReply::Passed),
+        Entry::command(0, &put, &Reply::Done),
+        Entry::useful(Step::Apply(0), StepReply::Applied),
+        Entry::useful(Step::Flip, flipped),
     ];
     assert!(rt; world.history() == expected.as_slice());
     Ok(())
-}
-
-fn of_mutator(op: &Op, reply: Reply) -> Entry {
-    Entry {
-        event: Event::Mutate { m: 0, op: *op },
-        answer: Answer::Mutator(reply),
-    }
-}
-
-fn of_collector(step: Step, reply: StepReply) -> Entry {
-    Entry {
-        event: Event::Collect(step),
-        answer: Answer::Collector(reply),
-    }
-}
-
-fn of_useful(step: Step, reply: StepReply) -> Entry {
-    Entry {
-        event: Event::Collect(step),
-        answer: Answer::Useful(reply),
-    }
 }
 
 #[test]

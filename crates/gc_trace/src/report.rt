@@ -158,7 +158,7 @@ pub fn report_of(world: &World) -> Report
     heaps_have_addresses_as_names();
     let mut report = Report::of_space(world.heap().space());
     for entry in world.history() {
-        report.count(&entry.answer);
+        report.count(&entry.answer());
     }
     report
 }

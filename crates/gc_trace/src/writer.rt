@@ -179,7 +179,7 @@ fn least_version(history: &[Entry]) -> u8
 {
     let mut version = 1;
     for entry in history {
-        version = version.max(version_of(&entry.event));
+        version = version.max(version_of(&entry.event()));
     }
     version
 }
@@ -204,7 +204,7 @@ pub fn write_trace<W: Write>(
     print_heading(&mut printer, least_version(history), size, mutators);
     for entry in history {
         match printer.make_room(writer, LINE) {
-            Ok(()) => print_event(&mut printer, &entry.event),
+            Ok(()) => print_event(&mut printer, &entry.event()),
             Err(_) => return Err(WriteFault::Write),
         }
     }

@@ -1,2 +1,3 @@
 -- Definitions that only private contracts and proofs need. They are no part of a promise.
+pub mod Forms
 pub mod World

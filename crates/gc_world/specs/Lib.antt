@@ -1,3 +1,5 @@
+pub mod Entries
+pub mod Forms
 pub mod History
 pub mod Internal
 pub mod World

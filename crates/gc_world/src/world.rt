@@ -2,7 +2,7 @@ use crate::entry::Entry;
 use crate::laws::histories_grow;
 use gc_cert::PairFile;
 use gc_check::{Checks, Sequential};
-use gc_copy::{Answer, Event, Step, StepReply};
+use gc_copy::{Step, StepReply};
 use gc_core::{CollectedHeap, Flip, Keep};
 use gc_graph::{NoMemory, Op, Reply};
 use gc_heap::Heap;
@@ -114,7 +114,7 @@ impl World {
     {
         make_room(&mut self.history)?;
         let reply = perform(&mut self.heap, &mut self.kept, &Sequential, step)?;
-        record_step(&mut self.history, step, Answer::Collector(reply));
+        self.history.push_reserved(Entry::step(step, reply));
         Ok(reply)
     }
 
@@ -138,7 +138,7 @@ impl World {
     {
         make_room(&mut self.history)?;
         let reply = perform(&mut self.heap, &mut self.kept, &Parallel::new(rt), step)?;
-        record_step(&mut self.history, step, Answer::Collector(reply));
+        self.history.push_reserved(Entry::step(step, reply));
         Ok(reply)
     }
 
@@ -162,7 +162,7 @@ impl World {
         make_room(&mut self.history)?;
         let step = self.heap.next_useful_step();
         let reply = perform(&mut self.heap, &mut self.kept, &Parallel::new(rt), step)?;
-        record_step(&mut self.history, step, Answer::Useful(reply));
+        self.history.push_reserved(Entry::useful(step, reply));
         Ok((step, reply))
     }
 
@@ -231,6 +231,7 @@ ghost use Rattle.gc_copy.specs.declared.step.StepReply.{StepReply};
 ghost use Rattle.gc_world.specs.World.{entry_of};
 ghost use Rattle.gc_world.specs.Internal.World.{IsKept};
 ghost use Rattle.gc_copy.specs.declared.event.Event.{Event};
+ghost use Rattle.gc_copy.specs.declared.event.Answer.{Answer};
 
 // Makes room for one more entry.
 fn make_room(history: &mut Vec<Entry>) -> Result<(), NoMemory>
@@ -250,18 +251,7 @@ fn record_command(history: &mut Vec<Entry>, m: u8, op: Op, reply: &Reply)
         ≡ history.old.items ++ entry_of (Event.Mutate m op) (Answer.Mutator reply.now) ∷ [] }
     ensures command { IsCommand op }
 {
-    let event = Event::Mutate { m, op };
-    let answer = Answer::of_mutator(reply);
-    history.push_reserved(Entry { event, answer });
-}
-
-// Appends a step to the history, which has room for it.
-fn record_step(history: &mut Vec<Entry>, step: Step, answer: Answer)
-    requires { vec_len history.old < vec_capacity history.old }
-    ensures { history.new.items ≡ history.old.items ++ entry_of (Event.Collect step) answer ∷ [] }
-{
-    let event = Event::Collect(step);
-    history.push_reserved(Entry { event, answer });
+    history.push_reserved(Entry::command(m, &op, reply));
 }
 
 // Performs a step, and keeps the pair if it flipped. Only a flip handles a pair.

@@ -166,8 +166,8 @@ fn a_write_to_a_raw_object_is_seen(rt: HostRuntime) -> Result<(), Fail> {
 fn answers_of(world: &World, m: u8, answer: Answer) -> u32 {
     let mut count: u32 = 0;
     for entry in world.history() {
-        if let Event::Mutate { m: by, op: _ } = entry.event {
-            if by == m && entry.answer == answer {
+        if let Event::Mutate { m: by, op: _ } = entry.event() {
+            if by == m && entry.answer() == answer {
                 count = count.saturating_add(1);
             }
         }
@@ -316,8 +316,8 @@ fn a_command_between_two_turns(rt: HostRuntime) -> Result<(), Fail> {
     let history = world.history();
     assert_eq!(rt; history.len(), 3);
     let command = Event::Mutate { m: 0, op: nil };
-    assert!(rt; history[1].event == command);
-    assert!(rt; history[1].answer == Answer::Mutator(Reply::Done));
+    assert!(rt; history[1].event() == command);
+    assert!(rt; history[1].answer() == Answer::Mutator(Reply::Done));
     Ok(())
 }
 
@@ -395,6 +395,6 @@ fn a_step_is_told_once_it_is_made(rt: HostRuntime) -> Result<(), Fail> {
     let world = run_threads(&rt, rt.alloc(), 8, scripts, 1, &gate)?;
     let history = world.history();
     assert_eq!(rt; history.len(), 3);
-    assert!(rt; history[0].event == Event::Collect(Step::Begin));
+    assert!(rt; history[0].event() == Event::Collect(Step::Begin));
     Ok(())
 }

@@ -3,9 +3,9 @@ use crate::tests::streams::{End, Narrow, Taking, nine_thousand_flips, played};
 use crate::tests::worlds::{command, step, useful};
 use crate::{read_trace, run_trace, write_trace};
 use gc_cert::WriteFault;
-use gc_copy::Step;
+use gc_copy::{Step, StepReply};
 use gc_graph::{Number, Op, Reply, Sink, Slot, Source, View};
-use gc_world::{Answer, Entry, Event, World};
+use gc_world::{Entry, World};
 use std::alloc::Global;
 use std::test::Fail;
 use std::thread::Threads;
@@ -24,11 +24,10 @@ fn written_of(alloc: Global, world: &World) -> Result<Vec<u8>, WriteFault> {
     Ok(sink.into_inner())
 }
 
-/// Returns the text that is written of one event. Its answer does not matter.
-fn written_alone(alloc: Global, event: Event) -> Result<Vec<u8>, WriteFault> {
-    let answer = Answer::Mutator(Reply::Done);
+/// Returns the text that is written of one entry. Its answer does not matter.
+fn written_alone(alloc: Global, entry: Entry) -> Result<Vec<u8>, WriteFault> {
     let mut sink = Sink::new(Vec::new(alloc));
-    write_trace(&mut sink, 9, 16, &[Entry { event, answer }])?;
+    write_trace(&mut sink, 9, 16, &[entry])?;
     Ok(sink.into_inner())
 }
 
@@ -94,7 +93,7 @@ fn each_command_has_its_line_in_the_least_version(rt: HostRuntime) -> Result<(),
         (Op::Same { s: r15, t: g0 }, 1, "m 15 same r15 g0"),
         (Op::Look { s: g10 }, 1, "m 15 look g10"),
     ] {
-        let found = written_alone(alloc, Event::Mutate { m: 15, op })?;
+        let found = written_alone(alloc, Entry::command(15, &op, &Reply::Done))?;
         let want = format!(in alloc; "heaptrace {version}\nspace 9 mutators 16\n{line}\n")?;
         assert_eq!(rt; found.as_slice(), want.as_bytes());
     }
@@ -115,7 +114,7 @@ fn each_step_has_its_line_in_the_least_version(rt: HostRuntime) -> Result<(), Fa
         (Step::Flip, 1, "c flip"),
         (Step::Drop, 1, "c drop"),
     ] {
-        let found = written_alone(alloc, Event::Collect(step))?;
+        let found = written_alone(alloc, Entry::step(step, StepReply::Idle))?;
         let want = format!(in alloc; "heaptrace {version}\nspace 9 mutators 16\n{line}\n")?;
         assert_eq!(rt; found.as_slice(), want.as_bytes());
     }

@@ -154,7 +154,7 @@ fn times_seen(world: &World) -> Result<u32, Fail> {
     let seen = Answer::Mutator(Reply::Saw(View::Num(five)));
     let mut times: u32 = 0;
     for entry in world.history() {
-        if matches!(entry.event, Event::Mutate { m: 1, op: _ }) && entry.answer == seen {
+        if matches!(entry.event(), Event::Mutate { m: 1, op: _ }) && entry.answer() == seen {
             times = times.saturating_add(1);
         }
     }
@@ -169,8 +169,8 @@ fn what_threads_recorded_plays_to_the_same_replies(rt: HostRuntime) -> Result<()
     assert_eq!(rt; world.history().len(), 44);
     assert_eq!(rt; played.history().len(), 44);
     for (entry, again) in world.history().iter().zip(played.history()) {
-        assert!(rt; again.event == entry.event);
-        assert!(rt; again.answer == as_played(&entry.answer));
+        assert!(rt; again.event() == entry.event());
+        assert!(rt; again.answer() == as_played(&entry.answer()));
     }
     assert_eq!(rt; times_seen(&world)?, 1);
     assert_eq!(rt; times_seen(&played)?, 1);

@@ -27,9 +27,9 @@ count-requires c =
     let i = c.loop-entry.entry-index in
     let history = subst (IsHistory world.size world.mutators) (sym c.history-entry-items.ensures.entries) c.history-entry-items.ensures.history in
     let small : length items < 2 ^ 64 = search rules in
-    subst FitsU64 (sym (next_counted items i c.entry-item.result c.loop-entry.report (present world) c.loop-entry-test.true c.entry-item.is c.loop-entry.invariant)) (front_fits world.size world.mutators items (i + 1) (present world) history small)
+    rw c.answer.ensures (subst FitsU64 (sym (next_counted items i c.entry-item.result c.loop-entry.report (present world) c.loop-entry-test.true c.entry-item.is c.loop-entry.invariant)) (front_fits world.size world.mutators items (i + 1) (present world) history small))
 
 pub loop-entry-preserved : goal.loop-entry-preserved
 loop-entry-preserved c =
-    c.count.ensures
+    (rw c.answer.ensures at c.count.ensures)
     ∙ next_counted c.history-entry-items.result.now c.loop-entry.entry-index c.entry-item.result c.loop-entry.report (present c.args.world.now) c.loop-entry-test.true c.entry-item.is c.loop-entry.invariant

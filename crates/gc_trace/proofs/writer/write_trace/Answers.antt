@@ -14,7 +14,7 @@ returns-in-Err-clause-err g c =
 
 pub loop-entry-preserved : goal.loop-entry-preserved
 loop-entry-preserved g c =
-    line_sent (first_lines c.args.size c.args.mutators c.args.history.now) entry_line _ _ _ c.args.history.now c.loop-entry.entry-index c.entry-item.result c.loop-entry.printer c.make_room.new.self _ c.loop-entry-test.true c.entry-item.is c.loop-entry.invariant c.in-Ok.ensures.ok c.print_event.ensures
+    line_sent (first_lines c.args.size c.args.mutators c.args.history.now) entry_line _ _ _ c.args.history.now c.loop-entry.entry-index c.entry-item.result c.loop-entry.printer c.make_room.new.self _ c.loop-entry-test.true c.entry-item.is c.loop-entry.invariant c.in-Ok.ensures.ok (rw c.event.ensures at c.print_event.ensures)
 
 pub returns-in-Ok-flush-clause-ok : goal.returns-in-Ok-flush-clause-ok
 returns-in-Ok-flush-clause-ok g c =

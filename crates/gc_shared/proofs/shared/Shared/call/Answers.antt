@@ -5,6 +5,6 @@ use Rattle.gc_shared.proofs.shared.Shared.call.Goals as goal
 pub returns-clause-answered : goal.returns-clause-answered
 returns-clause-answered g c = record {
   place = length c.history.result.now - 1;
-  added = rw (c.push_reserved.ensures.items, c.in_ok-reserve.ensures.items, c.of_mutator-answer.ensures, ← c.seat.view_is) refl;
+  added = rw (c.push_reserved.ensures.items, c.in_ok-reserve.ensures.items, c.command-entry.ensures, ← c.seat.view_is) refl;
   possible = rw (← c.seat.view_is) (last_is_possible _ _ c.deref_mut.result.now.entries _ _ c.history.result.now c.in_ok-reply.ensures.answered refl (search rules) (search rules));
 }

@@ -5,7 +5,6 @@ use Rattle.gc_copy.specs.Steps.{collect}
 use Rattle.gc_copy.specs.Runs.{IsStep}
 use Rattle.gc_world.specs.World.{Past, present, entry_of}
 use Rattle.gc_copy.specs.declared.event.Answer.TheVariants.{Collector}
-use Rattle.gc_world.specs.declared.entry.Entry.{Entry}
 use Rattle.gc_copy.specs.declared.event.Event.TheVariants.{Collect}
 use Rattle.gc_world.proofs.Worlds.{stepped}
 use Rattle.gc_world.proofs.world.World.collect_par.Goals as goal
@@ -14,11 +13,10 @@ pub invariant_of-self-2 : goal.invariant_of-self-2
 invariant_of-self-2 g c =
     let done = c.in_ok-reply.ensures in
     let range : IsStep c.self.inside.heap.mutators c.args.step = subst (λ (p : Past). IsStep p.mutators c.args.step) (sym c.self.view_is) c.requires in
-    let items : c.record_step.new.history.items ≡ c.self.inside.history.items ++ entry_of (Collect c.args.step) (Collector c.in_ok-reply.reply) ∷ []
-    = ◌∙◌ {A = List Entry} c.record_step.ensures
-    (λ i. c.make_room.ensures.items i ++ entry_of (Collect c.args.step) (Collector c.in_ok-reply.reply) ∷ []) in
+    let items : c.push_reserved.new.self.items ≡ c.self.inside.history.items ++ entry_of (Collect c.args.step) (Collector c.in_ok-reply.reply) ∷ []
+    = rw (c.push_reserved.ensures.items, c.step.ensures, c.make_room.ensures.items) refl in
     stepped c.self.inside.heap c.perform.new.heap c.self.inside.size c.self.inside.heap.mutators c.perform.new.heap.mutators c.args.step c.in_ok-reply.reply (Collector c.in_ok-reply.reply)
-    c.self.inside.history.items c.record_step.new.history.items (option_map pair_in c.self.inside.kept) (option_map pair_in c.perform.new.kept) c.self.invariant range done.step refl tt c.perform.ensures.mutators items (c.perform.ensures.certified (c.self.invariant).kept)
+    c.self.inside.history.items c.push_reserved.new.self.items (option_map pair_in c.self.inside.kept) (option_map pair_in c.perform.new.kept) c.self.invariant range done.step refl tt c.perform.ensures.mutators items (c.perform.ensures.certified (c.self.invariant).kept)
 
 pub returns-clause-step : goal.returns-clause-step
 returns-clause-step g c =

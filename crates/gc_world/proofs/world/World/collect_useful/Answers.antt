@@ -5,7 +5,6 @@ use Rattle.gc_copy.specs.State.{State}
 use Rattle.gc_copy.specs.Steps.{collect}
 use Rattle.gc_world.specs.World.{present, entry_of}
 use Rattle.gc_copy.specs.declared.event.Answer.TheVariants.{Useful}
-use Rattle.gc_world.specs.declared.entry.Entry.{Entry}
 use Rattle.gc_copy.specs.declared.event.Event.TheVariants.{Collect}
 use Rattle.gc_world.proofs.Worlds.{stepped}
 use Rattle.gc_world.proofs.world.World.collect_useful.Goals as goal
@@ -15,11 +14,10 @@ invariant_of-self-2 g c =
     let done = c.in_ok-reply.ensures in
     let same = c.next_useful_step-step.ensures.same in
     let made = ap (λ s. collect s c.next_useful_step-step.result) (sym same) ∙ done.step in
-    let items : c.record_step.new.history.items ≡ c.self.inside.history.items ++ entry_of (Collect c.next_useful_step-step.result) (Useful c.in_ok-reply.reply) ∷ []
-    = ◌∙◌ {A = List Entry} c.record_step.ensures
-    (λ i. c.make_room.ensures.items i ++ entry_of (Collect c.next_useful_step-step.result) (Useful c.in_ok-reply.reply) ∷ []) in
+    let items : c.push_reserved.new.self.items ≡ c.self.inside.history.items ++ entry_of (Collect c.next_useful_step-step.result) (Useful c.in_ok-reply.reply) ∷ []
+    = rw (c.push_reserved.ensures.items, c.useful.ensures, c.make_room.ensures.items) refl in
     stepped c.self.inside.heap c.perform.new.heap c.self.inside.size c.self.inside.heap.mutators c.perform.new.heap.mutators c.next_useful_step-step.result c.in_ok-reply.reply (Useful c.in_ok-reply.reply)
-    c.self.inside.history.items c.record_step.new.history.items (option_map pair_in c.self.inside.kept) (option_map pair_in c.perform.new.kept) c.self.invariant c.next_useful_step-step.ensures.step made refl c.next_useful_step-step.ensures.useful (c.perform.ensures.mutators ∙ ap (λ (s : State). s.mutators) same) items (c.perform.ensures.certified (c.self.invariant).kept)
+    c.self.inside.history.items c.push_reserved.new.self.items (option_map pair_in c.self.inside.kept) (option_map pair_in c.perform.new.kept) c.self.invariant c.next_useful_step-step.ensures.step made refl c.next_useful_step-step.ensures.useful (c.perform.ensures.mutators ∙ ap (λ (s : State). s.mutators) same) items (c.perform.ensures.certified (c.self.invariant).kept)
 
 pub returns-clause-step : goal.returns-clause-step
 returns-clause-step g c =

@@ -1,0 +1,92 @@
+-- Forms that compare equal are the same.
+use Rattle.std.proofs.Common.{◌≡◌, ◌↔◌, ◌&&◌, Bool, true, false, refl, rules, subst, sym, ap, ◌∙◌}
+use Rattle.std.proofs.lemmas.Bool.{false≢true, eqb-true}
+use Rattle.gc_graph.specs.Slots.{SlotName}
+use Rattle.gc_graph.specs.declared.command.Op.{Op}
+use Rattle.gc_copy.specs.declared.step.Step.{Step}
+use Rattle.gc_copy.specs.declared.step.StepReply.{StepReply}
+use Rattle.gc_world.specs.declared.bare.BareOp.{BareOp}
+use Rattle.gc_world.specs.declared.bare.BareReply.{BareReply}
+use Rattle.gc_world.specs.declared.entry.Form.{Form}
+use Rattle.gc_world.specs.declared.entry.Form.TheVariants.{Command, Shown, GivenAndShown, Step as StepForm}
+use Rattle.gc_world.specs.Entries.{EntryValue}
+use Rattle.gc_world.specs.Forms.{meaning}
+use Rattle.gc_world.specs.Internal.Forms.{form_of, forms_come_back}
+use Rattle.gc_graph.specs.contracts.slot.SlotPartialEq.TheImpl as of_slots
+use Rattle.gc_graph.specs.contracts.command.OpPartialEq.TheImpl as of_ops
+use Rattle.gc_copy.specs.contracts.step.StepPartialEq.TheImpl as of_steps
+use Rattle.gc_copy.specs.contracts.step.StepReplyPartialEq.TheImpl as of_step_replies
+use Rattle.gc_world.specs.contracts.bare.BareOpPartialEq.TheImpl as of_bare_ops
+use Rattle.gc_world.specs.contracts.bare.BareReplyPartialEq.TheImpl as of_bare_replies
+use Rattle.gc_world.specs.contracts.entry.FormPartialEq.TheImpl as of_forms
+
+same_slot : (a b : SlotName) → (of_slots.ghosts.eq a b ≡ true) ↔ (a ≡ b)
+same_slot a b = search rules
+
+same_op : (a b : Op) → (of_ops.ghosts.eq a b ≡ true) ↔ (a ≡ b)
+same_op a b = search (rules, same_slot)
+
+same_bare_op : (a b : BareOp) → (of_bare_ops.ghosts.eq a b ≡ true) ↔ (a ≡ b)
+same_bare_op a b = search (rules, same_slot)
+
+same_bare_reply : (a b : BareReply) → (of_bare_replies.ghosts.eq a b ≡ true) ↔ (a ≡ b)
+same_bare_reply a b = search rules
+
+same_step : (a b : Step) → (of_steps.ghosts.eq a b ≡ true) ↔ (a ≡ b)
+same_step a b = search rules
+
+same_step_reply : (a b : StepReply) → (of_step_replies.ghosts.eq a b ≡ true) ↔ (a ≡ b)
+same_step_reply a b = search rules
+
+both : (s t : Bool) → (s && t) ≡ true → (s ≡ true) × (t ≡ true)
+both true t e = (refl, e)
+both false t e = absurd (false≢true e)
+
+from_form : (a b : Form) → of_forms.ghosts.eq a b ≡ true → a ≡ b
+from_form (Command m reply op) (Command k other_reply other) e =
+    let first = both _ _ e in
+    let rest = both _ _ first.1 in
+    let mutator : m ≡ k = eqb-true m k first.0 in
+    let replied : reply ≡ other_reply = (same_bare_reply reply other_reply).0 rest.0 in
+    let command : op ≡ other = (same_op op other).0 rest.1 in
+    cc
+from_form (Shown m op n) (Shown k other i) e =
+    let first = both _ _ e in
+    let rest = both _ _ first.1 in
+    let mutator : m ≡ k = eqb-true m k first.0 in
+    let command : op ≡ other = (same_bare_op op other).0 rest.0 in
+    let number : n ≡ i = eqb-true n i rest.1 in
+    cc
+from_form (GivenAndShown m d given n) (GivenAndShown k c other i) e =
+    let first = both _ _ e in
+    let second = both _ _ first.1 in
+    let rest = both _ _ second.1 in
+    let mutator : m ≡ k = eqb-true m k first.0 in
+    let slot : d ≡ c = (same_slot d c).0 second.0 in
+    let command : given ≡ other = eqb-true given other rest.0 in
+    let number : n ≡ i = eqb-true n i rest.1 in
+    cc
+from_form (StepForm false step reply) (StepForm false other other_reply) e =
+    let parts = both _ _ e in
+    let made : step ≡ other = (same_step step other).0 parts.0 in
+    let replied : reply ≡ other_reply = (same_step_reply reply other_reply).0 parts.1 in
+    cc
+from_form (StepForm true step reply) (StepForm true other other_reply) e =
+    let parts = both _ _ e in
+    let made : step ≡ other = (same_step step other).0 parts.0 in
+    let replied : reply ≡ other_reply = (same_step_reply reply other_reply).0 parts.1 in
+    cc
+from_form a b e = absurd (false≢true e)
+
+to_itself : (a : Form) → of_forms.ghosts.eq a a ≡ true
+to_itself (Command m reply op) = search (rules, same_op, same_bare_reply)
+to_itself (Shown m op n) = search (rules, same_bare_op)
+to_itself (GivenAndShown m d given n) = search (rules, same_slot)
+to_itself (StepForm useful step reply) = search (rules, same_step, same_step_reply)
+
+pub same_form : (a b : Form) → (of_forms.ghosts.eq a b ≡ true) ↔ (a ≡ b)
+same_form a b = (from_form a b, λ e. subst (λ (x : Form). of_forms.ghosts.eq a x ≡ true) e (to_itself a))
+
+-- forms with one meaning are the same
+pub one_form : (a b : Form) → meaning a ≡ meaning b → a ≡ b
+one_form a b e = sym (forms_come_back a) ∙ ap (λ (v : EntryValue). form_of v.event v.answer) e ∙ forms_come_back b
