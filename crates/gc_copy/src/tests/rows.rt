@@ -11,7 +11,7 @@ use std::fmt::Debug;
 use std::process::Abort;
 
 /// A row of a table: a command, a step or a question, with the answer that the collection must give.
-#[derive(Clone, Copy, Debug)]
+#[derive(Clone, Copy)]
 pub enum Row {
     /// This mutator performs a command.
     Command(u8, Op, Reply),

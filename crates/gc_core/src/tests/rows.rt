@@ -11,7 +11,7 @@ use std::fmt::Debug;
 use std::process::Abort;
 
 /// A row of a table: an event or a question, with the answer that the heap must give.
-#[derive(Clone, Copy, Debug)]
+#[derive(Clone, Copy)]
 pub enum Row {
     /// The first mutator performs a command.
     Command(Op, Reply),
