@@ -1,5 +1,5 @@
 -- What is read of tokens is what the grammar says.
-use Rattle.std.proofs.Common.{◌≡◌, ℕ, ◌≤◌, Bool, true, false, cond, eqb, ltb, sym, List, [], ◌∷◌, refl, ap, ◌∙◌, arith, Option, Some, None, subst, inl, inr, ◌⊎◌}
+use Rattle.std.proofs.Common.{◌≡◌, ℕ, ◌<◌, ◌≤◌, Bool, true, false, cond, eqb, ltb, sym, List, [], ◌∷◌, refl, ap, ◌∙◌, arith, Option, Some, None, subst, inl, inr, ◌⊎◌}
 use Rattle.std.specs.Prelude.{codes}
 use Rattle.std.specs.Fmt.{decimal}
 use Rattle.std.proofs.lemmas.Bool.{eqb-true, ltb-false}

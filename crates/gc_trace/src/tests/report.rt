@@ -1,7 +1,7 @@
 use crate::report::NOTHING;
 use crate::tests::rows::{COLLECT_WHEN_FULL, NO_EVENTS, RAW_WORDS_KEEP_NOTHING, ROWS};
 use crate::tests::streams::{End, Narrow, Slow};
-use crate::tests::worlds::{run_of, useful};
+use crate::tests::worlds::run_of;
 use crate::{PlayFault, Report, TraceFault, play, play_report, report_of, write_report};
 use gc_cert::WriteFault;
 use gc_copy::StepReply;
@@ -68,7 +68,7 @@ fn useful_steps_count_as_the_collectors(rt: HostRuntime) -> Result<(), Fail> {
         StepReply::Passed,
         StepReply::Flipped { pairs: 1 },
     ] {
-        assert_eq!(rt; useful(&rt, &mut world)?.1, reply);
+        assert_eq!(rt; world.collect_useful(&rt)?.1, reply);
     }
     let want = Report {
         events: 8,
