@@ -6,13 +6,12 @@ use Rattle.std.proofs.lemmas.Bool.{and_parts, leb-true, ne_eqb}
 use Rattle.std.proofs.lemmas.Option.{cond_some}
 use Rattle.std.proofs.lemmas.Slice.Eq.{bytes_eq-Decides}
 use Rattle.gc_graph.specs.Lines.{HasNo, space, joined, tokens_of}
-use Rattle.gc_graph.specs.Tokens.{◌>>=◌, Tokens, number_at, token_at, end_of}
+use Rattle.gc_graph.specs.Tokens.{◌>>=◌, Tokens, number_at, token_at, if_all_taken}
 use Rattle.gc_graph.proofs.Decimals.{number_found, number_again}
 use Rattle.gc_graph.proofs.LineLemmas.{HasNo-decimal, tokens_of-joined, joined-tokens_of}
 use Rattle.gc_graph.proofs.TokenParsers.{bind_some, onto, number_at_found, number_at_again, token_at_found, token_at_again, end_found, end_again, positive, some_is}
 use Rattle.gc_cert.specs.Grammar.{heading, pair_line, count_line, size_line, IsWord, AreAddresses, AreSizes}
-use Rattle.gc_cert.specs.Parsers.{count_of, sizes_of}
-use Rattle.gc_cert.specs.Internal.Parsers.{pair_of, is_name, is_line, raws_in, word_in}
+use Rattle.gc_cert.specs.Internal.Parsers.{count_of, sizes_of, pair_of, is_name, is_line, raws_in, word_in}
 use Rattle.gc_cert.specs.Internal.Sections.{Nothing, AnyFlag}
 use Rattle.gc_cert.proofs.Forms.{IsForm}
 
@@ -79,8 +78,8 @@ word_form = record {
 count_found : (name : List ℕ) (most : ℕ) (tokens : Tokens) (n : ℕ) → count_of name most tokens ≡ Some n → (n ≤ most) × (tokens ≡ name ∷ decimal n ∷ [])
 unfolding count_of
 count_found name most tokens n e =
-    let a0 = bind_some (token_at name tokens) (λ rest. number_at most rest >>= λ count. end_of count.0 count.1) n e in
-    let a1 = bind_some (number_at most a0.0) (λ count. end_of count.0 count.1) n a0.2 in
+    let a0 = bind_some (token_at name tokens) (λ rest. number_at most rest >>= λ count. if_all_taken count.0 count.1) n e in
+    let a1 = bind_some (number_at most a0.0) (λ count. if_all_taken count.0 count.1) n a0.2 in
     let z = end_found a1.0.0 a1.0.1 n a1.2 in
     let w0 = token_at_found name tokens a0.0 a0.1 in
     let w1 = number_at_found most a0.0 a1.0 a1.1 in
@@ -104,7 +103,7 @@ sizes_checked x s e =
     let q = positive x.1 (eqb x.1 0) (Some x) s refl p.1 in
     (p.0, q.0, some_is x s q.1)
 
-sizes_are : (name : List ℕ) (tokens rest : Tokens) (size end : ℕ × Tokens) (x s : ℕ × ℕ) → token_at name tokens ≡ Some rest → number_at 1048576 rest ≡ Some size → number_at 1048576 size.1 ≡ Some end → end_of (size.0, end.0) end.1 ≡ Some x
+sizes_are : (name : List ℕ) (tokens rest : Tokens) (size end : ℕ × Tokens) (x s : ℕ × ℕ) → token_at name tokens ≡ Some rest → number_at 1048576 rest ≡ Some size → number_at 1048576 size.1 ≡ Some end → if_all_taken (size.0, end.0) end.1 ≡ Some x
     → (1 ≤ x.0) × (1 ≤ x.1) × (x ≡ s) → AreSizes s × (tokens ≡ name ∷ decimal s.0 ∷ decimal s.1 ∷ [])
 sizes_are name tokens rest size end x s named first second last c =
     let z = end_found {A = ℕ × ℕ} (size.0, end.0) end.1 x last in
@@ -117,10 +116,10 @@ sizes_are name tokens rest size end x s named first second last c =
 sizes_found : (name : List ℕ) (tokens : Tokens) (s : ℕ × ℕ) → sizes_of name tokens ≡ Some s → AreSizes s × (tokens ≡ name ∷ decimal s.0 ∷ decimal s.1 ∷ [])
 unfolding sizes_of
 sizes_found name tokens s e =
-    let a0 = bind_some (token_at name tokens) (λ rest. number_at 1048576 rest >>= λ size. number_at 1048576 size.1 >>= λ end. end_of (size.0, end.0) end.1 >>= λ sizes. cond (eqb sizes.0 0) None (cond (eqb sizes.1 0) None (Some sizes))) s e in
-    let a1 = bind_some (number_at 1048576 a0.0) (λ size. number_at 1048576 size.1 >>= λ end. end_of (size.0, end.0) end.1 >>= λ sizes. cond (eqb sizes.0 0) None (cond (eqb sizes.1 0) None (Some sizes))) s a0.2 in
-    let a2 = bind_some (number_at 1048576 a1.0.1) (λ end. end_of (a1.0.0, end.0) end.1 >>= λ sizes. cond (eqb sizes.0 0) None (cond (eqb sizes.1 0) None (Some sizes))) s a1.2 in
-    let a3 = bind_some (end_of (a1.0.0, a2.0.0) a2.0.1) (λ sizes. cond (eqb sizes.0 0) None (cond (eqb sizes.1 0) None (Some sizes))) s a2.2 in
+    let a0 = bind_some (token_at name tokens) (λ rest. number_at 1048576 rest >>= λ size. number_at 1048576 size.1 >>= λ end. if_all_taken (size.0, end.0) end.1 >>= λ sizes. cond (eqb sizes.0 0) None (cond (eqb sizes.1 0) None (Some sizes))) s e in
+    let a1 = bind_some (number_at 1048576 a0.0) (λ size. number_at 1048576 size.1 >>= λ end. if_all_taken (size.0, end.0) end.1 >>= λ sizes. cond (eqb sizes.0 0) None (cond (eqb sizes.1 0) None (Some sizes))) s a0.2 in
+    let a2 = bind_some (number_at 1048576 a1.0.1) (λ end. if_all_taken (a1.0.0, end.0) end.1 >>= λ sizes. cond (eqb sizes.0 0) None (cond (eqb sizes.1 0) None (Some sizes))) s a1.2 in
+    let a3 = bind_some (if_all_taken (a1.0.0, a2.0.0) a2.0.1) (λ sizes. cond (eqb sizes.0 0) None (cond (eqb sizes.1 0) None (Some sizes))) s a2.2 in
     sizes_are name tokens a0.0 a1.0 a2.0 a3.0 s a0.1 a1.1 a2.1 a3.1 (sizes_checked a3.0 s a3.2)
 
 sizes_again : (name : List ℕ) (size end : ℕ) → AreSizes (size, end) → sizes_of name (name ∷ decimal size ∷ decimal end ∷ []) ≡ Some (size, end)
@@ -141,8 +140,8 @@ size_form name named = record {
 pair_found : (tokens : Tokens) (p : ℕ × ℕ) → pair_of tokens ≡ Some p → AreAddresses p × (tokens ≡ decimal p.0 ∷ decimal p.1 ∷ [])
 unfolding pair_of
 pair_found tokens p e =
-    let a0 = bind_some (number_at 4294967295 tokens) (λ old. number_at 4294967295 old.1 >>= λ new. end_of (old.0, new.0) new.1) p e in
-    let a1 = bind_some (number_at 4294967295 a0.0.1) (λ new. end_of (a0.0.0, new.0) new.1) p a0.2 in
+    let a0 = bind_some (number_at 4294967295 tokens) (λ old. number_at 4294967295 old.1 >>= λ new. if_all_taken (old.0, new.0) new.1) p e in
+    let a1 = bind_some (number_at 4294967295 a0.0.1) (λ new. if_all_taken (a0.0.0, new.0) new.1) p a0.2 in
     let z = end_found {A = ℕ × ℕ} (a0.0.0, a1.0.0) a1.0.1 p a1.2 in
     let w0 = number_at_found 4294967295 tokens a0.0 a0.1 in
     let w1 = number_at_found 4294967295 a0.0.1 a1.0 a1.1 in

@@ -4,7 +4,7 @@ use Rattle.std.proofs.lemmas.List.{append-nil}
 use Rattle.std.proofs.lemmas.List.Concat.{flat_map-cons}
 use Rattle.gc_graph.specs.Lines.{newline, HasNo, ended, text_of}
 use Rattle.gc_cert.specs.Grammar.{CertifiedPair, lines_of, spelling, HasText, IsTextOf}
-use Rattle.gc_cert.specs.Faults.{AreFirst, AreWhole, HasWrongLine, HasByteBehind, IsCutOff, IsPairFaultOf, IsReadAs}
+use Rattle.gc_cert.specs.Faults.{AreFirst, AreWhole, HasWrongLine, HasByteBehind, IsCutOff, IsPairFaultOf, IsReadAsPair}
 use Rattle.gc_cert.specs.declared.fault.PairFault.{PairFault}
 use Rattle.gc_cert.specs.declared.fault.PairFault.TheVariants.{Read, TooLarge, BadLine, EndsEarly, NoMemory}
 use Rattle.gc_graph.proofs.LineLemmas.{not_cut, one_cut}
@@ -99,7 +99,7 @@ good_bad : (f : CertifiedPair) (text : List ℕ) (n : ℕ) → IsTextOf f text �
 good_bad f text n p (inl w) = good_wrong f text n p w
 good_bad f text n p (inr w) = good_behind f text n p w
 
-pub no_fault : (f : CertifiedPair) (fault : PairFault) (text : List ℕ) → IsReadAs f text → IsPairFaultOf fault text → ⊥
+pub no_fault : (f : CertifiedPair) (fault : PairFault) (text : List ℕ) → IsReadAsPair f text → IsPairFaultOf fault text → ⊥
 no_fault f Read text p q = q
 no_fault f TooLarge text p q = omega (arith, p.1, q)
 no_fault f (BadLine n) text p q = good_bad f text n p.0 q.1

@@ -1,6 +1,6 @@
 -- What a reader of a pair text has read.
-use Rattle.std.proofs.Common.{◌≡◌, ℕ, ◌+◌, ◌-◌, ◌≤◌, true, List, [], ◌∷◌, ◌++◌, length, drop, refl, sym, ap, ◌∙◌, arith, append_assoc, Option, Some, None, IfSome}
-use Rattle.std.proofs.lemmas.List.{append-nil, drop_all, drop_at, length-append}
+use Rattle.std.proofs.Common.{◌≡◌, ℕ, ◌+◌, ◌-◌, ◌≤◌, true, List, [], ◌∷◌, ◌++◌, length, drop, refl, sym, ap, ◌∙◌, arith, append_assoc, Option, Some}
+use Rattle.std.proofs.lemmas.List.{drop_at, length-append}
 use Rattle.gc_graph.specs.Lines.{text_of}
 use Rattle.gc_graph.specs.ReadFaults.{MayFailReading}
 use Rattle.gc_graph.specs.declared.text.pieces.ReadFault.{ReadFault}
@@ -14,6 +14,7 @@ use Rattle.gc_cert.specs.Sections.{Place, HasTaken, start}
 use Rattle.gc_cert.specs.declared.fault.PairFault.{PairFault}
 use Rattle.gc_cert.specs.declared.fault.PairFault.TheVariants.{Read, TooLarge, BadLine, EndsEarly, NoMemory}
 use Rattle.gc_cert.specs.declared.pair_reader.PairReader.{PairReader}
+use Rattle.gc_graph.proofs.PieceSteps.{within_all, ends_there}
 use Rattle.gc_cert.proofs.Parts.{TextSection}
 use Rattle.gc_cert.proofs.Stops.{Delimits, BeginsWith, stop_within}
 use Rattle.gc_cert.proofs.Total.{stopped, went_on}
@@ -93,23 +94,13 @@ still_reading r lines q h taken short = record {
 
 -- a reader that has all of the text left is at its start
 pub at_start : (text : List ℕ) (left : Option (List ℕ)) → left ≡ Some text → IsAt text (start text) unread left
-at_start text left is = record { within = record { left_is = is; read_is = omega arith; rest_is = refl; end_is = λ e. cc }; taken_is = refl }
+at_start text left is = record { within = within_all text _ left is; taken_is = refl }
 
-pub no_byte : (bytes : List ℕ) → length bytes ≡ 0 → bytes ≡ []
-no_byte [] none = refl
-no_byte (b ∷ bytes) none = absurd (omega (arith, none))
-
--- at the end, what is left of the text waits
-pub all_read : (text : List ℕ) (p : Place) (r : PairReader) (left : Option (List ℕ)) → IsAt text p r left → r.pieces.ended ≡ true → (p.rest ≡ r.pieces.waiting) × (length text ≤ r.pieces.read)
-all_read text p r left h ended =
-    let short = h.within.end_is ended in
-    (h.within.rest_is ∙ ap (λ (l : List ℕ). r.pieces.waiting ++ l) (drop_all r.pieces.read text short) ∙ append-nil r.pieces.waiting, short)
-
-pub ends_there : (text : List ℕ) (p : Place) (r : PairReader) (left : Option (List ℕ)) (next : PairReader) (left' : Option (List ℕ)) → IsAt text p r left → IsAt text p next left' → next.pieces.ended ≡ true → next.pieces.read ≡ r.pieces.read → (p ≡ waiting_place r) × (length text ≤ next.pieces.read)
-ends_there text p r left next left' h within ended same =
-    let short : length text ≤ r.pieces.read = omega (arith, within.within.end_is ended, same) in
-    let rest : p.rest ≡ r.pieces.waiting = h.within.rest_is ∙ ap (λ (l : List ℕ). r.pieces.waiting ++ l) (drop_all r.pieces.read text short) ∙ append-nil r.pieces.waiting in
-    (ap (λ (l : List ℕ). record p { rest = l }) rest ∙ ap (λ (n : ℕ). record { rest = r.pieces.waiting; taken = n }) h.taken_is, within.within.end_is ended)
+-- if a reader meets the end without another byte, the bytes that waited before are all that is left
+pub place_ends_there : (text : List ℕ) (p : Place) (r : PairReader) (left : Option (List ℕ)) (next : PairReader) (new : Option (List ℕ)) → IsAt text p r left → IsAt text p next new → next.pieces.ended ≡ true → next.pieces.read ≡ r.pieces.read → (p ≡ waiting_place r) × (length text ≤ next.pieces.read)
+place_ends_there text p r left next new h at ended same =
+    let ends = ends_there text p.rest r.pieces next.pieces left new h.within at.within ended same in
+    (ap (λ (l : List ℕ). record p { rest = l }) ends.0 ∙ ap (λ (n : ℕ). record { rest = r.pieces.waiting; taken = n }) h.taken_is, ends.1)
 
 -- ---- what ends a section within a section
 
@@ -144,8 +135,3 @@ text_goes_on f text after TooLarge left taken w = (w.0, λ e. w.1)
 text_goes_on f text after (BadLine n) left taken w = (went_on f text (start text) after (BadLine n) refl w.2 taken (w.0, ap BadLine w.1), λ e. cc)
 text_goes_on f text after EndsEarly left taken w = absurd w
 text_goes_on f text after NoMemory left taken w = (tt, λ e. cc)
-
--- what holds of all known bytes
-pub if_known : {P : List ℕ → Type 0} (known : Option (List ℕ)) → ((text : List ℕ) → known ≡ Some text → P text) → IfSome known P
-if_known None all = tt
-if_known (Some text) all = all text refl

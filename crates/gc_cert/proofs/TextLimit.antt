@@ -8,7 +8,7 @@ use Rattle.std.proofs.lemmas.Fmt.{length-decimal-le}
 use Rattle.gc_graph.specs.Lines.{space, newline, ended, text_of}
 use Rattle.gc_words.specs.Image.{Image}
 use Rattle.gc_cert.specs.Grammar.{CertifiedPair, heading, pair_line, count_line, size_line, image_lines, certificate_lines, lines_of, spelling, IsWord, AreAddresses, HasImageText, HasText}
-use Rattle.gc_cert.specs.Faults.{limit, IsReadAs}
+use Rattle.gc_cert.specs.Faults.{limit, IsReadAsPair}
 
 bytes : List (List ℕ) → ℕ
 bytes lines = length (text_of lines)
@@ -86,6 +86,6 @@ lines_bytes f fits =
     let new = image_lines (codes "new") f.new (certificate_lines f.pairs) in
     omega (arith, heading_length f.old.raws, bytes_cons (heading f.old.raws) (image_lines (codes "old") f.old new), image_bytes (codes "old") f.old new (omega arith) fits.old, image_bytes (codes "new") f.new (certificate_lines f.pairs) (omega arith) fits.new, certificate_bytes f.pairs fits.pairs.0 fits.pairs.1)
 
-pub written_reads : (f : CertifiedPair) → HasText f → IsReadAs f (spelling f)
+pub written_reads : (f : CertifiedPair) → HasText f → IsReadAsPair f (spelling f)
 unfolding spelling bytes
 written_reads f fits = (record { fits = fits; spelled = refl }, lines_bytes f fits)

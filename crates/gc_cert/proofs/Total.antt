@@ -9,11 +9,10 @@ use Rattle.gc_graph.specs.Lines.{text_of, tokens_of}
 use Rattle.gc_graph.proofs.LineLemmas.{Cut, cut}
 use Rattle.gc_cert.specs.Grammar.{CertifiedPair, heading, pair_line, count_line, size_line, certificate_lines, lines_of, spelling, IsWord, AreAddresses, AreSizes, IsCertificate, HasText, IsTextOf}
 use Rattle.gc_cert.specs.Internal.Grammar.{image_alone, IsImageBy}
-use Rattle.gc_cert.specs.Faults.{limit, AreFirst, AreWhole, HasWrongLine, HasByteBehind, IsCutOff, IsPairFaultOf, IsReadAs, MayFail}
+use Rattle.gc_cert.specs.Faults.{limit, AreFirst, AreWhole, HasWrongLine, HasByteBehind, IsCutOff, IsPairFaultOf, IsReadAsPair, MayFail}
 use Rattle.gc_cert.specs.Sections.{Place, start, IsNext, HasTaken}
 use Rattle.gc_cert.specs.Internal.Sections.{Nothing, AnyFlag, alone, AreAll, Section, Spelled, Begins, IsWrongAt, IsCutIn, MayStop}
-use Rattle.gc_cert.specs.Parsers.{count_of, sizes_of}
-use Rattle.gc_cert.specs.Internal.Parsers.{pair_of, is_name, is_line, raws_in, word_in}
+use Rattle.gc_cert.specs.Internal.Parsers.{count_of, sizes_of, pair_of, is_name, is_line, raws_in, word_in}
 use Rattle.gc_cert.specs.declared.fault.PairFault.{PairFault}
 use Rattle.gc_cert.specs.declared.fault.PairFault.TheVariants.{Read, TooLarge, BadLine, EndsEarly, NoMemory}
 use Rattle.gc_cert.proofs.Stops.{Delimits, BeginsWith, taken_then, wrong_within, cut_within}
@@ -177,7 +176,7 @@ went_on f text p after fault began le taken (some, is) = subst (λ (g : PairFaul
 
 -- a value, or a first fault
 abbrev pub Answered : List ℕ → Type 0
-Answered text = ((f : CertifiedPair) × IsReadAs f text) ⊎ ((fault : PairFault) × IsPairFaultOf fault text)
+Answered text = ((f : CertifiedPair) × IsReadAsPair f text) ⊎ ((fault : PairFault) × IsPairFaultOf fault text)
 
 answered : (text : List ℕ) → length text ≤ limit → Outcome HasText lines_of (start text) → Answered text
 unfolding Outcome Stops

@@ -54,8 +54,8 @@ IsPairFaultOf EndsEarly text = (length text ≤ limit) × IsCutOff text
 IsPairFaultOf NoMemory text = ⊥
 
 -- the value that the text is read as
-abbrev pub IsReadAs : CertifiedPair → List ℕ → Type 0
-IsReadAs f text = IsTextOf f text × (length text ≤ limit)
+abbrev pub IsReadAsPair : CertifiedPair → List ℕ → Type 0
+IsReadAsPair f text = IsTextOf f text × (length text ≤ limit)
 
 -- the faults that may replace a value: the text's first fault, or one of the reader or of memory
 abbrev pub MayFail : PairFault → List ℕ → Type 0

@@ -3,7 +3,6 @@ pub mod FaultTexts
 pub mod Faults
 pub mod Grammar
 pub mod Internal
-pub mod Parsers
 pub mod Rows
 pub mod Sections
 pub mod Views

@@ -2,7 +2,7 @@
 use Rattle.std.specs.Prelude.{◌≡◌, true, false, [], ◌∷◌, ◌++◌, replicate, codes}
 use Rattle.gc_words.specs.Image.{Image}
 use Rattle.gc_cert.specs.Grammar.{CertifiedPair, lines_of}
-use Rattle.gc_cert.specs.Faults.{IsReadAs, IsPairFaultOf}
+use Rattle.gc_cert.specs.Faults.{IsReadAsPair, IsPairFaultOf}
 use Rattle.gc_cert.specs.declared.fault.PairFault.TheVariants.{BadLine, EndsEarly}
 
 abbrev pub least_image : Image
@@ -24,8 +24,8 @@ one_kept = record {
 }
 
 pub record Rows : Type 0 where
-  pub least_read : IsReadAs least (codes "heappair 1\nold 1 1\n0\nroots 1\n0\nnew 1 1\n0\nroots 1\n0\npairs 0\nend\n")
-  pub raws_read : IsReadAs least_with_raws (codes "heappair 2\nold 1 1\n0\nroots 1\n0\nnew 1 1\n0\nroots 1\n0\npairs 0\nend\n")
+  pub least_read : IsReadAsPair least (codes "heappair 1\nold 1 1\n0\nroots 1\n0\nnew 1 1\n0\nroots 1\n0\npairs 0\nend\n")
+  pub raws_read : IsReadAsPair least_with_raws (codes "heappair 2\nold 1 1\n0\nroots 1\n0\nnew 1 1\n0\nroots 1\n0\npairs 0\nend\n")
   pub without_end : IsPairFaultOf EndsEarly (codes "heappair 1\nold 1 1\n0\nroots 1\n0\nnew 1 1\n0\nroots 1\n0\npairs 0\n")
   pub unfinished_end : IsPairFaultOf EndsEarly (codes "heappair 1\nold 1 1\n0\nroots 1\n0\nnew 1 1\n0\nroots 1\n0\npairs 0\nend")
   pub nothing : IsPairFaultOf EndsEarly []

@@ -3,7 +3,7 @@ ghost use Rattle.gc_graph.specs.Streams.{bytes_left, source_failed};
 ghost use Rattle.gc_words.specs.Views.{addresses};
 ghost use Rattle.gc_cert.specs.Grammar.{pair_line, certificate_lines, IsWord, AreAddresses, IsCertificate, HasText};
 ghost use Rattle.gc_cert.specs.Internal.Grammar.{image_alone, IsImageBy};
-ghost use Rattle.gc_cert.specs.Faults.{limit, IsReadAs, MayFail};
+ghost use Rattle.gc_cert.specs.Faults.{limit, IsReadAsPair, MayFail};
 ghost use Rattle.gc_cert.specs.Internal.Parsers.{is_name};
 ghost use Rattle.gc_cert.specs.Internal.Reading.{IsReading, IsAt, Takes, MayFailHaving};
 ghost use Rattle.gc_cert.specs.Internal.Sections.{AreAll, Spelled};
@@ -136,7 +136,7 @@ fn take_pair_file<R: Read>(
     requires reading { IsReading lines.old }
     requires unfailed { source_failed reader.old ≡ false }
     ensures exact { (text : List ℕ) → IsAt text (start text) lines.old (bytes_left R.remaining reader.old) → MatchResult result
-        (λ file. IsReadAs (pair_in file) text)
+        (λ file. IsReadAsPair (pair_in file) text)
         (λ fault. MayFailHaving fault text (bytes_left R.remaining reader.new)) }
     ensures sound { IfOk result (λ file. HasText (pair_in file)) }
     ensures read { (result ≡ Err PairFault.Read) ↔ (source_failed reader.new ≡ true) }
@@ -153,7 +153,7 @@ fn take_pair_file<R: Read>(
 /// 67108864 bytes, one byte more than these is read.
 pub fn read_pair<R: Read>(alloc: Global, reader: &mut Source<R>) -> Result<PairFile, PairFault>
     ensures exact { IfSome (bytes_left R.remaining reader.old) (λ text.
-        MatchResult result (λ file. IsReadAs (pair_in file) text) (λ fault. MayFail fault text)) }
+        MatchResult result (λ file. IsReadAsPair (pair_in file) text) (λ fault. MayFail fault text)) }
     ensures sound { IfOk result (λ file. HasText (pair_in file)) }
     ensures stops { result ≡ Err PairFault.TooLarge → IfSome (bytes_left R.remaining reader.old)
         (λ text. bytes_left R.remaining reader.new ≡ Some (drop (limit + 1) text)) }

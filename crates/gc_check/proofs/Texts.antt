@@ -2,7 +2,7 @@
 use Rattle.std.proofs.Common.{◌≡◌, ℕ, List, Option, Some, None, IfSome, subst}
 use Rattle.gc_graph.specs.Streams.{SendsFront}
 use Rattle.gc_cert.specs.Grammar.{CertifiedPair, IsTextOf}
-use Rattle.gc_cert.specs.Faults.{IsReadAs}
+use Rattle.gc_cert.specs.Faults.{IsReadAsPair}
 use Rattle.gc_check.specs.Verdict.{verdict_line}
 use Rattle.gc_check.specs.Texts.{verdict_on, TellsFront}
 use Rattle.gc_check.specs.declared.verdict.Verdict.{Verdict}
@@ -11,12 +11,12 @@ use Rattle.gc_check.specs.declared.verdict.Verdict.{Verdict}
 abbrev pub HasOneReading : Type 0
 HasOneReading = (f g : CertifiedPair) (text : List ℕ) → IsTextOf f text → IsTextOf g text → f ≡ g
 
-pub of_each_reading : HasOneReading → (o : Option (List ℕ)) (P : CertifiedPair → Type 0) (file : CertifiedPair) → IfSome o (λ text. IsReadAs file text) → P file
-    → IfSome o (λ text. (pair : CertifiedPair) → IsReadAs pair text → P pair)
+pub of_each_reading : HasOneReading → (o : Option (List ℕ)) (P : CertifiedPair → Type 0) (file : CertifiedPair) → IfSome o (λ text. IsReadAsPair file text) → P file
+    → IfSome o (λ text. (pair : CertifiedPair) → IsReadAsPair pair text → P pair)
 of_each_reading one None P file read holds = tt
 of_each_reading one (Some text) P file read holds = λ pair other. subst P (one file pair text read.0 other.0) holds
 
-pub front_of_text : (o : Option (List ℕ)) (v : Verdict) (file : CertifiedPair) (old new : Option (List ℕ)) → IfSome o (λ text. IsReadAs file text) → v ≡ verdict_on file → SendsFront old new (verdict_line v)
+pub front_of_text : (o : Option (List ℕ)) (v : Verdict) (file : CertifiedPair) (old new : Option (List ℕ)) → IfSome o (λ text. IsReadAsPair file text) → v ≡ verdict_on file → SendsFront old new (verdict_line v)
     → TellsFront o old new
 front_of_text None v file old new read same front = record { verdict = v; about = tt; front = front }
 front_of_text (Some text) v file old new read same front = record { verdict = v; about = record { pair = file; read = read; verdict_is = same }; front = front }

@@ -2,7 +2,7 @@
 use Rattle.std.specs.Prelude.{◌≡◌, ℕ, List, Option, IfSome, ⊤}
 use Rattle.gc_graph.specs.Streams.{SendsFront}
 use Rattle.gc_cert.specs.Grammar.{CertifiedPair}
-use Rattle.gc_cert.specs.Faults.{IsReadAs}
+use Rattle.gc_cert.specs.Faults.{IsReadAsPair}
 use Rattle.gc_check.specs.Headline.{Replicated}
 use Rattle.gc_check.specs.Verdict.{verdict_of, verdict_line}
 use Rattle.gc_check.specs.declared.verdict.Verdict.{Verdict}
@@ -24,7 +24,7 @@ Promises = OnYes (λ pair. Replicated pair.old pair.new pair.pairs)
 -- the text spells a pair, and this is the verdict on it
 pub record IsVerdictOn (text : List ℕ) (verdict : Verdict) : Type 0 where
   pub pair : CertifiedPair
-  pub read : IsReadAs pair text
+  pub read : IsReadAsPair pair text
   pub verdict_is : verdict ≡ verdict_on pair
 
 -- a prefix of this verdict's line went out; if the reader tells its text, the verdict is that on the text

@@ -2,7 +2,7 @@ ghost use Rattle.std.specs.Prelude.{◌≡◌, ◌≢◌, ◌↔◌, true, IfSom
 ghost use Rattle.std.specs.Io.KnownBytes.{Appends};
 ghost use Rattle.gc_graph.specs.Streams.{bytes_left, bytes_written, source_failed, sink_failed};
 ghost use Rattle.gc_cert.specs.Grammar.{CertifiedPair, HasText};
-ghost use Rattle.gc_cert.specs.Faults.{IsReadAs, MayFail};
+ghost use Rattle.gc_cert.specs.Faults.{IsReadAsPair, MayFail};
 ghost use Rattle.gc_cert.specs.Views.{pair_in};
 ghost use Rattle.gc_check.specs.Verdict.{verdict_line};
 ghost use Rattle.gc_check.specs.Texts.{verdict_on, OnYes, Promises, IsVerdictOn, TellsFront};
@@ -31,7 +31,7 @@ pub fn check_text<R: Read, W: Write>(
         (bytes_written W.contents writer.old) (bytes_written W.contents writer.new) (verdict_line verdict)) }
     // The soundness theorem for the images that the text spells.
     ensures replicated { IfOk result (λ verdict. IfSome (bytes_left R.remaining reader.old)
-        (λ text. (pair : CertifiedPair) → IsReadAs pair text → Promises verdict pair)) }
+        (λ text. (pair : CertifiedPair) → IsReadAsPair pair text → Promises verdict pair)) }
 
     // The first fault of a bad text.
     ensures fault { (fault : PairFault) → result ≡ Err (RunFault.Pair fault) →
@@ -60,7 +60,7 @@ pub fn check_text_by<C: Checks, R: Read, W: Write>(
     requires { C.can_check checker.now }
     // This checker said yes to the images that the text spells.
     ensures asked { IfOk result (λ verdict. IfSome (bytes_left R.remaining reader.old)
-        (λ text. (pair : CertifiedPair) → IsReadAs pair text → OnYes (C.says_yes checker.now) verdict pair)) }
+        (λ text. (pair : CertifiedPair) → IsReadAsPair pair text → OnYes (C.says_yes checker.now) verdict pair)) }
     ensures verdict { IfOk result (λ verdict. IfSome (bytes_left R.remaining reader.old)
         (λ text. IsVerdictOn text verdict)) }
     // The verdict's line, and nothing else.
@@ -68,7 +68,7 @@ pub fn check_text_by<C: Checks, R: Read, W: Write>(
         (bytes_written W.contents writer.old) (bytes_written W.contents writer.new) (verdict_line verdict)) }
     // The soundness theorem for the images that the text spells.
     ensures replicated { IfOk result (λ verdict. IfSome (bytes_left R.remaining reader.old)
-        (λ text. (pair : CertifiedPair) → IsReadAs pair text → Promises verdict pair)) }
+        (λ text. (pair : CertifiedPair) → IsReadAsPair pair text → Promises verdict pair)) }
 
     // The first fault of a bad text.
     ensures fault { (fault : PairFault) → result ≡ Err (RunFault.Pair fault) →

@@ -14,8 +14,9 @@ use Rattle.gc_graph.specs.declared.command.Op.{Op}
 use Rattle.gc_graph.specs.declared.command.Op.TheVariants as ops
 use Rattle.gc_graph.specs.declared.reply.Reply.{Reply}
 use Rattle.gc_graph.specs.declared.reply.Reply.TheVariants.{Full, Done, NoObject, NoField, NoNumber}
+use Rattle.gc_graph.proofs.Lookups.{lookup_set_none}
 use Rattle.gc_copy.proofs.Lists.{in_left, in_right, in_push, in_set, in_replicate, get_in, get_past}
-use Rattle.gc_copy.proofs.Heap.{refers_map, laid_push, laid_set, lookup_in, lookup_left, lookup_written, lookup_set_none, pushed_last, set_from, named_set, written_entry, written_length, written_kind, written_raw, written_in, written_here, written_get}
+use Rattle.gc_copy.proofs.Heap.{refers_map, laid_push, laid_set, lookup_in, lookup_left, lookup_written, pushed_last, set_from, named_set, written_entry, written_length, written_kind, written_raw, written_in, written_here, written_get}
 
 -- an object as it is later, with the fields that may have changed
 pub record Still (objects : List (ℕ × Object)) (Touched : ℕ → Type 0) (a : ℕ) (o : Object) : Type 0 where
@@ -302,28 +303,3 @@ full_writes_nothing g m (ops.Get d s i) a j h = h
 full_writes_nothing g m (ops.Put s i t) a j h = h
 full_writes_nothing g m (ops.Same s t) a j h = h
 full_writes_nothing g m (ops.Look s) a j h = h
-
--- ---- there are as many roots as before
-
-get_roots : (g : Graph) (d : ℕ) (target : Option Object) (found : Option Value) → length (get_field g d target found).1.roots ≡ length g.roots
-get_roots g d None found = refl
-get_roots g d (Some o) None = refl
-get_roots g d (Some o) (Some v) = length-set g.roots d v
-
-put_roots : (g : Graph) (v : Value) (target : Option Object) (found : Option Value) (i : ℕ) (w : Value) → length (put_field g v target found i w).1.roots ≡ length g.roots
-put_roots g Nil target found i w = refl
-put_roots g (Num n) target found i w = refl
-put_roots g (Ref a) None found i w = refl
-put_roots g (Ref a) (Some o) None i w = refl
-put_roots g (Ref a) (Some o) (Some before) i w = cond_both (o.raw && not (is_number w)) _ _ (λ (next : Reply × Graph). length next.1.roots ≡ length g.roots) (λ t. refl) (λ t. refl)
-
-pub step_roots : (g : Graph) (m : ℕ) (op : Op) (name : ℕ) → length (step g m op name).1.roots ≡ length g.roots
-step_roots g m (ops.New d kind len) name = length-set g.roots (place d m) (Ref name)
-step_roots g m (ops.NewRaw d kind len) name = length-set g.roots (place d m) (Ref name)
-step_roots g m (ops.Num d n) name = length-set g.roots (place d m) (Num n)
-step_roots g m (ops.Nil d) name = length-set g.roots (place d m) Nil
-step_roots g m (ops.Move d s) name = length-set g.roots (place d m) (root g (place s m))
-step_roots g m (ops.Get d s i) name = get_roots g (place d m) _ _
-step_roots g m (ops.Put s i t) name = put_roots g (root g (place s m)) _ _ i (root g (place t m))
-step_roots g m (ops.Same s t) name = refl
-step_roots g m (ops.Look s) name = refl

@@ -169,18 +169,6 @@ lookup_written name i v (e ∷ rest) a o h = ⊎_elim there (beside (λ k. looku
         lookup_there e (set_field rest name i v) a n ∙ more (sym (lookup_there e rest a n) ∙ h))
         (cases_Bool (e.0 == a))
 
-pub lookup_set_none : (objects : List (ℕ × Object)) (name i : ℕ) (v : Value) (a : ℕ) → lookup objects a ≡ None → lookup (set_field objects name i v) a ≡ None
-lookup_set_none [] name i v a h = refl
-lookup_set_none (e ∷ rest) name i v a h = ⊎_elim
-    (λ s. absurd (let no : Some e.1 ≡ None = sym (lookup_here e rest a (eqb-true e.0 a s)) ∙ h in cc))
-    (λ f. let n : e.0 ≢ a = eqb-false e.0 a f in
-    let later : lookup rest a ≡ None = sym (lookup_there e rest a n) ∙ h in
-    ⊎_elim
-    (λ t. ap (λ l. lookup l a) (cond-true (e.0 == name) ((e.0, with_field e.1 i v) ∷ rest) (e ∷ set_field rest name i v) t) ∙ (lookup_there (e.0, with_field e.1 i v) rest a n ∙ later))
-    (λ t. ap (λ l. lookup l a) (cond-false (e.0 == name) ((e.0, with_field e.1 i v) ∷ rest) (e ∷ set_field rest name i v) t) ∙ (lookup_there e (set_field rest name i v) a n ∙ lookup_set_none rest name i v a later))
-    (cases_Bool (e.0 == name)))
-    (cases_Bool (e.0 == a))
-
 -- the object behind all others
 pub pushed_last : (objects : List (ℕ × Object)) (a name : ℕ) (o q : Object) → lookup objects a ≡ None → lookup (objects ++ (name, o) ∷ []) a ≡ Some q → o ≡ q
 pushed_last [] a name o q none h = ⊎_elim

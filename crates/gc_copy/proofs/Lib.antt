@@ -22,6 +22,7 @@ pub mod Logs
 pub mod Scanning
 pub mod Applying
 pub mod ObjectWalks
+mod FieldWords
 pub mod Flipping
 pub mod LinkedImages
 pub mod Dropping

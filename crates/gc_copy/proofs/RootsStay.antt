@@ -40,15 +40,15 @@ replicated c g Nil = λ a e. e
 replicated c g (Num n) = λ a e. e
 replicated c g (Ref name) = cond_both (is_some (replica_of c name)) _ _ (KeepsIfRoom c) (λ t. λ a e. e) (λ t. placed c name (lookup g.objects name))
 
-some_of : {X Y : Type 0} (f : X → Y) (o : Option X) → is_some (option_map f o) ≡ is_some o
-some_of f None = refl
-some_of f (Some x) = refl
+is_some_map : {X Y : Type 0} (f : X → Y) (o : Option X) → is_some (option_map f o) ≡ is_some o
+is_some_map f None = refl
+is_some_map f (Some x) = refl
 
 written : (c : Collection) (name i : ℕ) (v : Value) → Keeps c (write_replica c name i v)
 written c name i v a e =
-    sym (some_of (λ (r : Replica). r.place) (replica_of (write_replica c name i v) a))
+    sym (is_some_map (λ (r : Replica). r.place) (replica_of (write_replica c name i v) a))
     ∙ ap is_some (place_written c.replicas name i a v)
-    ∙ some_of (λ (r : Replica). r.place) (replica_of c a)
+    ∙ is_some_map (λ (r : Replica). r.place) (replica_of c a)
     ∙ e
 
 copied : (c : Collection) (o : Option Collection) (name i : ℕ) (v : Value) → KeepsIfRoom c o → KeepsIfRoom c (copy_value o name i v)

@@ -1,7 +1,7 @@
 -- Each event keeps a heap and the collection that belongs to it.
 use Rattle.std.proofs.Common.{◌≡◌, ◌≢◌, ◌⊎◌, inl, inr, ⊎_elim, ℕ, zero, suc, ◌+◌, ◌-◌, ◌<◌, ◌≤◌, ◌==◌, nat_lt, Bool, true, false, cond, ◌&&◌, ◌||◌, List, [], ◌∷◌, ◌++◌, map, length, set, replicate, Option, Some, None, is_some, slice_get, flat_map, refl, ap, sym, ◌∙◌, subst, arith, length-set}
 use Rattle.std.specs.List.{list_all}
-use Rattle.std.proofs.lemmas.Bool.{cases_Bool, cases_eq, cases_lt, cond-true, cond-false, cond_both, eqb-true, eqb-false, ltb-false, and_parts, or_cases, not-true}
+use Rattle.std.proofs.lemmas.Bool.{cases_Bool, cases_eq, cases_lt, cond-true, cond-false, cond_both, eqb-true, eqb-false, ltb-false, and_parts, or_cases, or_parts, not-true}
 use Rattle.std.proofs.lemmas.List.{length-replicate, length-map, map-append}
 use Rattle.gc_graph.specs.Graph.{Value, Nil, Num, Ref, Object, Graph, lookup, field_of, names_of}
 use Rattle.gc_graph.specs.Machine.{Roomy, words_taken, is_number, step}
@@ -29,10 +29,6 @@ use Rattle.gc_words.proofs.Writes.{some_of}
 use Rattle.gc_heap.proofs.Commands.{none_of}
 
 -- neither of two
-or_parts : (x y : Bool) → (x || y) ≡ false → (x ≡ false) × (y ≡ false)
-or_parts true y e = absurd cc
-or_parts false y e = (refl, e)
-
 -- ---- what belonging says of replicas
 
 pub its_replicas : (Due : Bool → ℕ → ℕ → ℕ → Type 0) (objects : List (ℕ × Object)) (c : Collection) → BelongsBy Due objects c → AreReplicas objects c.size Due c.replicas

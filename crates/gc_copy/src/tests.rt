@@ -1,27 +1,18 @@
 mod growths;
+mod rows;
 
-ghost use Rattle.std.specs.Prelude.{◌≡◌, ◌<◌, ◌≤◌, IfOk};
+ghost use Rattle.std.specs.Prelude.{◌≡◌, ◌≤◌, IfOk};
 ghost use Rattle.gc_graph.specs.Limits.{most_words, most_mutators};
 ghost use Rattle.gc_copy.specs.Words.{BelongsTo, HasNoLinks};
 
-use crate::{Collection, StepReply, commands_keep_collections};
-use gc_graph::{NoMemory, Number, Op, Reply, Slot, View};
+use crate::{Collection, StepReply};
+use gc_graph::{NoMemory, Op, Reply, Slot, View};
 use gc_heap::Heap;
 use gc_words::{NewAddr, OldAddr, Pair};
+use rows::{Row, get, new, num, own, play, play_idle, put, saw};
 use std::alloc::Global;
 use std::process::Abort;
 use std::test::Fail;
-
-/// Performs a command of mutator `m` while no collection is open.
-fn command(heap: &mut Heap, m: u8, op: &Op) -> Reply
-    requires mutator { m < heap.old.mutators }
-    requires idle { HasNoLinks heap.old }
-    ensures idle { HasNoLinks heap.new }
-    ensures mutators { heap.new.mutators ≡ heap.old.mutators }
-{
-    commands_keep_collections();
-    heap.apply(m, op)
-}
 
 /// Returns a heap without objects.
 fn empty(alloc: Global, size: u32, mutators: u8) -> Result<Heap, NoMemory>
@@ -35,21 +26,6 @@ fn empty(alloc: Global, size: u32, mutators: u8) -> Result<Heap, NoMemory>
     Heap::new(alloc, size, mutators)
 }
 
-fn new(d: Slot, kind: u8, len: u16) -> Op {
-    Op::New { d, kind, len }
-}
-
-/// Performs a command of mutator `m` while the collection is open.
-fn mutate(collection: &mut Collection, heap: &mut Heap, m: u8, op: &Op) -> Result<Reply, NoMemory>
-    requires belongs { BelongsTo heap.old collection.old }
-    requires mutator { m < heap.old.mutators }
-    ensures belongs { BelongsTo heap.new collection.new }
-    ensures mutators { heap.new.mutators ≡ heap.old.mutators }
-{
-    collection.reserve(m)?;
-    Ok(collection.mutate(heap, m, op))
-}
-
 /// Flips, and returns the pairs and the new roots.
 fn flip(
     alloc: Global,
@@ -57,6 +33,7 @@ fn flip(
     heap: &mut Heap,
 ) -> Result<(Vec<Pair>, Vec<u64>), NoMemory>
     requires belongs { BelongsTo heap.old collection }
+    ensures idle { IfOk result (λ _. HasNoLinks heap.new) }
     ensures mutators { heap.new.mutators ≡ heap.old.mutators }
 {
     if !collection.ready(heap) {
@@ -71,182 +48,149 @@ fn flip(
 
 #[test]
 fn write_while_scanning(rt: HostRuntime) -> Result<(), Fail> {
-    let r0 = Slot::own(0).ok_or("slot")?;
-    let r1 = Slot::own(1).ok_or("slot")?;
-    let r2 = Slot::own(2).ok_or("slot")?;
-    let nine = Number::new(9).ok_or("number")?;
+    let r0 = own(&rt, 0);
+    let r1 = own(&rt, 1);
+    let r2 = own(&rt, 2);
     let mut heap = empty(rt.alloc(), 32, 1)?;
-    assert_eq!(rt; heap.apply(0, &new(r0, 1, 1)), Reply::Made);
-    assert_eq!(rt;
-        command(&mut heap, 0, &Op::Num { d: r1, n: nine }),
-        Reply::Done
-    );
+    let made = [(new(r0, 1, 1), Reply::Made), (num(&rt, r1, 9), Reply::Done)];
+    play_idle(&rt, &mut heap, &made);
     let mut collection = Collection::begin(rt.alloc(), &heap)?;
-    assert_eq!(rt; collection.roots(&mut heap), StepReply::Copied);
-    assert_eq!(rt; collection.scan(&mut heap), StepReply::Scanned);
-    let put = Op::Put { s: r0, i: 0, t: r1 };
-    assert_eq!(rt; mutate(&mut collection, &mut heap, 0, &put)?, Reply::Done);
-    assert_eq!(rt; collection.scan(&mut heap), StepReply::Passed);
-    assert!(rt; !collection.ready(&heap));
-    assert_eq!(rt; collection.apply_log(0, &mut heap), StepReply::Applied);
-    assert!(rt; collection.ready(&heap));
+    let rows = [
+        Row::Roots(StepReply::Copied),
+        Row::Scan(StepReply::Scanned),
+        Row::Command(0, put(r0, 0, r1), Reply::Done),
+        Row::Scan(StepReply::Passed),
+        Row::Ready(false),
+        Row::Apply(0, StepReply::Applied),
+        Row::Ready(true),
+    ];
+    play(&rt, &mut collection, &mut heap, &rows)?;
     let (pairs, roots) = flip(rt.alloc(), collection, &mut heap)?;
-    assert_eq!(rt;
-        pairs.as_slice(),
-        [Pair {
-            old: OldAddr(1),
-            new: NewAddr(1)
-        }]
-        .as_slice()
-    );
+    let copied = [Pair {
+        old: OldAddr(1),
+        new: NewAddr(1),
+    }];
+    assert_eq!(rt; pairs.as_slice(), copied.as_slice());
     assert_eq!(rt; roots.get(16).copied(), Some(2));
-    let get = Op::Get { d: r2, s: r0, i: 0 };
-    assert_eq!(rt; heap.apply(0, &get), Reply::Saw(View::Num(nine)));
+    play_idle(&rt, &mut heap, &[(get(r2, r0, 0), saw(&rt, 9))]);
     Ok(())
 }
 
 /// Makes a raw object of two fields in r0, and writes 8 to its first one by way of r1.
-fn raw_eight(rt: &impl Abort, heap: &mut Heap, r0: Slot, r1: Slot) -> Result<(), Fail>
-    requires mutators { heap.old.mutators ≡ 1 }
-    requires idle { HasNoLinks heap.old }
-    ensures idle { HasNoLinks heap.new }
-    ensures mutators { heap.new.mutators ≡ 1 }
+fn raw_eight(rt: &impl Abort, alloc: Global, r0: Slot, r1: Slot) -> Result<Heap, NoMemory>
+    ensures idle { IfOk result HasNoLinks }
+    ensures mutators { IfOk result (λ heap. heap.mutators ≡ 1) }
 {
-    let eight = Number::new(8).ok_or("number")?;
-    let new = Op::NewRaw {
+    let new_raw = Op::NewRaw {
         d: r0,
         kind: 7,
         len: 2,
     };
-    assert_eq!(rt; command(heap, 0, &new), Reply::Made);
-    let num = Op::Num { d: r1, n: eight };
-    assert_eq!(rt; command(heap, 0, &num), Reply::Done);
-    let put = Op::Put { s: r0, i: 0, t: r1 };
-    assert_eq!(rt; command(heap, 0, &put), Reply::Done);
-    Ok(())
-}
-
-/// Copies the raw object, writes 10 to its second field, and brings the copy up to date.
-fn copied_and_written(
-    rt: &impl Abort,
-    collection: &mut Collection,
-    heap: &mut Heap,
-    r0: Slot,
-    r1: Slot,
-) -> Result<(), Fail>
-    requires belongs { BelongsTo heap.old collection.old }
-    requires mutators { heap.old.mutators ≡ 1 }
-    ensures belongs { BelongsTo heap.new collection.new }
-    ensures mutators { heap.new.mutators ≡ 1 }
-{
-    let ten = Number::new(10).ok_or("number")?;
-    assert_eq!(rt; collection.roots(heap), StepReply::Copied);
-    let num = Op::Num { d: r1, n: ten };
-    assert_eq!(rt; mutate(collection, heap, 0, &num)?, Reply::Done);
-    let put = Op::Put { s: r0, i: 1, t: r1 };
-    assert_eq!(rt; mutate(collection, heap, 0, &put)?, Reply::Done);
-    assert_eq!(rt; collection.scan(heap), StepReply::Passed);
-    assert_eq!(rt; collection.scan(heap), StepReply::Clean);
-    assert!(rt; !collection.ready(heap));
-    assert_eq!(rt; collection.apply_log(0, heap), StepReply::Applied);
-    Ok(())
+    let rows = [
+        (new_raw, Reply::Made),
+        (num(rt, r1, 8), Reply::Done),
+        (put(r0, 0, r1), Reply::Done),
+    ];
+    let mut heap = empty(alloc, 16, 1)?;
+    play_idle(rt, &mut heap, &rows);
+    Ok(heap)
 }
 
 #[test]
 fn raw_object_is_written_while_it_is_copied(rt: HostRuntime) -> Result<(), Fail> {
-    let r0 = Slot::own(0).ok_or("slot")?;
-    let r1 = Slot::own(1).ok_or("slot")?;
-    let eight = Number::new(8).ok_or("number")?;
-    let ten = Number::new(10).ok_or("number")?;
-    let mut heap = empty(rt.alloc(), 16, 1)?;
-    raw_eight(&rt, &mut heap, r0, r1)?;
+    let r0 = own(&rt, 0);
+    let r1 = own(&rt, 1);
+    let mut heap = raw_eight(&rt, rt.alloc(), r0, r1)?;
     let mut collection = Collection::begin(rt.alloc(), &heap)?;
-    copied_and_written(&rt, &mut collection, &mut heap, r0, r1)?;
+    let rows = [
+        Row::Roots(StepReply::Copied),
+        Row::Command(0, num(&rt, r1, 10), Reply::Done),
+        Row::Command(0, put(r0, 1, r1), Reply::Done),
+        Row::Scan(StepReply::Passed),
+        Row::Scan(StepReply::Clean),
+        Row::Ready(false),
+        Row::Apply(0, StepReply::Applied),
+    ];
+    play(&rt, &mut collection, &mut heap, &rows)?;
     let (_, roots) = flip(rt.alloc(), collection, &mut heap)?;
-    assert_eq!(&rt; roots.get(16).copied(), Some(2));
-    let first = Op::Get { d: r1, s: r0, i: 0 };
-    assert_eq!(&rt; heap.apply(0, &first), Reply::Saw(View::Num(eight)));
-    let second = Op::Get { d: r1, s: r0, i: 1 };
-    assert_eq!(&rt; heap.apply(0, &second), Reply::Saw(View::Num(ten)));
+    assert_eq!(rt; roots.get(16).copied(), Some(2));
+    let read = [
+        (get(r1, r0, 0), saw(&rt, 8)),
+        (get(r1, r0, 1), saw(&rt, 10)),
+    ];
+    play_idle(&rt, &mut heap, &read);
     Ok(())
 }
 
 #[test]
 fn refused_write_to_a_raw_object_is_not_logged(rt: HostRuntime) -> Result<(), Fail> {
-    let _named = View::Nil;
-    let r0 = Slot::own(0).ok_or("slot")?;
-    let r1 = Slot::own(1).ok_or("slot")?;
-    let r2 = Slot::own(2).ok_or("slot")?;
-    let mut heap = empty(rt.alloc(), 16, 1)?;
-    raw_eight(&rt, &mut heap, r0, r1)?;
+    let r0 = own(&rt, 0);
+    let r1 = own(&rt, 1);
+    let r2 = own(&rt, 2);
+    let mut heap = raw_eight(&rt, rt.alloc(), r0, r1)?;
     let mut collection = Collection::begin(rt.alloc(), &heap)?;
-    let refused = Op::Put { s: r0, i: 1, t: r2 };
-    assert_eq!(&rt;
-        mutate(&mut collection, &mut heap, 0, &refused)?,
-        Reply::NoNumber
-    );
-    assert_eq!(&rt; collection.next_log(), None);
+    let rows = [
+        Row::Command(0, put(r0, 1, r2), Reply::NoNumber),
+        Row::NextLog(None),
+    ];
+    play(&rt, &mut collection, &mut heap, &rows)?;
     Ok(())
 }
 
 #[test]
 fn log_across_two_mutators(rt: HostRuntime) -> Result<(), Fail> {
-    let g0 = Slot::shared(0).ok_or("slot")?;
-    let r0 = Slot::own(0).ok_or("slot")?;
-    let r1 = Slot::own(1).ok_or("slot")?;
-    let seven = Number::new(7).ok_or("number")?;
-    let eight = Number::new(8).ok_or("number")?;
+    let g0 = Slot::shared(0).expect(&rt, "a slot");
+    let r0 = own(&rt, 0);
+    let r1 = own(&rt, 1);
     let mut heap = empty(rt.alloc(), 32, 2)?;
-    assert_eq!(rt; command(&mut heap, 0, &new(g0, 1, 1)), Reply::Made);
+    play_idle(&rt, &mut heap, &[(new(g0, 1, 1), Reply::Made)]);
     let mut collection = Collection::begin(rt.alloc(), &heap)?;
-    assert_eq!(rt; collection.roots(&mut heap), StepReply::Copied);
-    assert_eq!(rt; collection.scan(&mut heap), StepReply::Scanned);
-    assert_eq!(rt; collection.scan(&mut heap), StepReply::Passed);
-    let put = Op::Put { s: g0, i: 0, t: r0 };
-    let num = Op::Num { d: r0, n: seven };
-    assert_eq!(rt; mutate(&mut collection, &mut heap, 0, &num)?, Reply::Done);
-    assert_eq!(rt; mutate(&mut collection, &mut heap, 0, &put)?, Reply::Done);
-    let look = Op::Look { s: r0 };
-    assert_eq!(rt;
-        mutate(&mut collection, &mut heap, 1, &look)?,
-        Reply::Saw(View::Nil)
-    );
-    let num = Op::Num { d: r0, n: eight };
-    assert_eq!(rt; mutate(&mut collection, &mut heap, 1, &num)?, Reply::Done);
-    assert_eq!(rt; mutate(&mut collection, &mut heap, 1, &put)?, Reply::Done);
-    assert_eq!(rt; collection.next_log(), Some(0));
-    // The later write is applied first, and the earlier one does not undo it.
-    assert_eq!(rt; collection.apply_log(1, &mut heap), StepReply::Applied);
-    assert_eq!(rt; collection.apply_log(0, &mut heap), StepReply::Applied);
-    assert_eq!(rt; collection.apply_log(0, &mut heap), StepReply::Clean);
-    assert_eq!(rt; collection.next_log(), None);
-    let (pairs, _roots) = flip(rt.alloc(), collection, &mut heap)?;
+    let rows = [
+        Row::Roots(StepReply::Copied),
+        Row::Scan(StepReply::Scanned),
+        Row::Scan(StepReply::Passed),
+        Row::Command(0, num(&rt, r0, 7), Reply::Done),
+        Row::Command(0, put(g0, 0, r0), Reply::Done),
+        Row::Command(1, Op::Look { s: r0 }, Reply::Saw(View::Nil)),
+        Row::Command(1, num(&rt, r0, 8), Reply::Done),
+        Row::Command(1, put(g0, 0, r0), Reply::Done),
+        Row::NextLog(Some(0)),
+        // The later write is applied first, and the earlier one does not undo it.
+        Row::Apply(1, StepReply::Applied),
+        Row::Apply(0, StepReply::Applied),
+        Row::Apply(0, StepReply::Clean),
+        Row::NextLog(None),
+    ];
+    play(&rt, &mut collection, &mut heap, &rows)?;
+    let (pairs, _) = flip(rt.alloc(), collection, &mut heap)?;
     assert_eq!(rt; pairs.len(), 1);
-    let get = Op::Get { d: r1, s: g0, i: 0 };
-    assert_eq!(rt; heap.apply(0, &get), Reply::Saw(View::Num(eight)));
+    play_idle(&rt, &mut heap, &[(get(r1, g0, 0), saw(&rt, 8))]);
     Ok(())
 }
 
 #[test]
 fn link_left_over(rt: HostRuntime) -> Result<(), Fail> {
-    // The prover knows what replies are only where a view is named.
-    let _named = View::Nil;
-    let r0 = Slot::own(0).ok_or("slot")?;
+    let r0 = own(&rt, 0);
     let mut heap = empty(rt.alloc(), 16, 1)?;
-    assert_eq!(rt; command(&mut heap, 0, &new(r0, 2, 1)), Reply::Made);
+    play_idle(&rt, &mut heap, &[(new(r0, 2, 1), Reply::Made)]);
     let mut given_up = Collection::begin(rt.alloc(), &heap)?;
-    assert_eq!(rt; given_up.roots(&mut heap), StepReply::Copied);
-    let put = Op::Put { s: r0, i: 0, t: r0 };
-    assert_eq!(rt; mutate(&mut given_up, &mut heap, 0, &put)?, Reply::Done);
+    let copied_and_logged = [
+        Row::Roots(StepReply::Copied),
+        Row::Command(0, put(r0, 0, r0), Reply::Done),
+    ];
+    play(&rt, &mut given_up, &mut heap, &copied_and_logged)?;
     given_up.drop_into(&mut heap);
     let mut collection = Collection::begin(rt.alloc(), &heap)?;
-    assert_eq!(rt; collection.apply_log(0, &mut heap), StepReply::Clean);
-    assert_eq!(rt; collection.roots(&mut heap), StepReply::Copied);
-    assert!(rt; collection.roots_done(&heap));
-    assert!(rt; !collection.scan_done());
-    assert_eq!(rt; collection.scan(&mut heap), StepReply::Scanned);
-    assert_eq!(rt; collection.scan(&mut heap), StepReply::Passed);
-    assert!(rt; collection.scan_done());
+    let rows = [
+        Row::Apply(0, StepReply::Clean),
+        Row::Roots(StepReply::Copied),
+        Row::RootsDone(true),
+        Row::ScanDone(false),
+        Row::Scan(StepReply::Scanned),
+        Row::Scan(StepReply::Passed),
+        Row::ScanDone(true),
+    ];
+    play(&rt, &mut collection, &mut heap, &rows)?;
     let (pairs, roots) = flip(rt.alloc(), collection, &mut heap)?;
     assert_eq!(rt; pairs.len(), 1);
     assert_eq!(rt; roots.get(16).copied(), Some(2));
@@ -255,31 +199,27 @@ fn link_left_over(rt: HostRuntime) -> Result<(), Fail> {
 
 #[test]
 fn entry_stays_without_room(rt: HostRuntime) -> Result<(), Fail> {
-    // The prover knows what replies are only where a view is named.
-    let _named = View::Nil;
-    let r0 = Slot::own(0).ok_or("slot")?;
-    let r1 = Slot::own(1).ok_or("slot")?;
+    let r0 = own(&rt, 0);
+    let r1 = own(&rt, 1);
     let mut heap = empty(rt.alloc(), 16, 1)?;
-    assert_eq!(rt; command(&mut heap, 0, &new(r0, 1, 1)), Reply::Made);
+    play_idle(&rt, &mut heap, &[(new(r0, 1, 1), Reply::Made)]);
     let mut collection = Collection::begin_sized(rt.alloc(), &heap, 5)?;
-    assert_eq!(rt; collection.roots(&mut heap), StepReply::Copied);
-    assert_eq!(rt; collection.scan(&mut heap), StepReply::Scanned);
-    assert_eq!(rt; collection.scan(&mut heap), StepReply::Passed);
-    let put = Op::Put { s: r0, i: 0, t: r1 };
-    assert_eq!(rt;
-        mutate(&mut collection, &mut heap, 0, &new(r1, 2, 0))?,
-        Reply::Made
-    );
-    assert_eq!(rt; mutate(&mut collection, &mut heap, 0, &put)?, Reply::Done);
-    assert_eq!(rt; collection.apply_log(0, &mut heap), StepReply::NoRoom);
-    assert_eq!(rt; collection.apply_log(0, &mut heap), StepReply::NoRoom);
-    let nil = Op::Nil { d: r1 };
-    assert_eq!(rt; mutate(&mut collection, &mut heap, 0, &nil)?, Reply::Done);
-    assert_eq!(rt; mutate(&mut collection, &mut heap, 0, &put)?, Reply::Done);
-    assert_eq!(rt; collection.apply_log(0, &mut heap), StepReply::Applied);
-    assert_eq!(rt; collection.apply_log(0, &mut heap), StepReply::Applied);
-    assert_eq!(rt; collection.apply_log(0, &mut heap), StepReply::Clean);
-    let (pairs, _roots) = flip(rt.alloc(), collection, &mut heap)?;
+    let rows = [
+        Row::Roots(StepReply::Copied),
+        Row::Scan(StepReply::Scanned),
+        Row::Scan(StepReply::Passed),
+        Row::Command(0, new(r1, 2, 0), Reply::Made),
+        Row::Command(0, put(r0, 0, r1), Reply::Done),
+        Row::Apply(0, StepReply::NoRoom),
+        Row::Apply(0, StepReply::NoRoom),
+        Row::Command(0, Op::Nil { d: r1 }, Reply::Done),
+        Row::Command(0, put(r0, 0, r1), Reply::Done),
+        Row::Apply(0, StepReply::Applied),
+        Row::Apply(0, StepReply::Applied),
+        Row::Apply(0, StepReply::Clean),
+    ];
+    play(&rt, &mut collection, &mut heap, &rows)?;
+    let (pairs, _) = flip(rt.alloc(), collection, &mut heap)?;
     assert_eq!(rt; pairs.len(), 1);
     // The mutators' space has the new size.
     assert_eq!(rt; heap.space().size(), 5);
@@ -288,21 +228,24 @@ fn entry_stays_without_room(rt: HostRuntime) -> Result<(), Fail> {
 
 #[test]
 fn too_small_for_a_replica(rt: HostRuntime) -> Result<(), Fail> {
-    let r0 = Slot::own(0).ok_or("slot")?;
+    let r0 = own(&rt, 0);
     let mut heap = empty(rt.alloc(), 7, 1)?;
-    assert_eq!(rt; command(&mut heap, 0, &new(r0, 3, 4)), Reply::Made);
+    play_idle(&rt, &mut heap, &[(new(r0, 3, 4), Reply::Made)]);
     let mut small = Collection::begin_sized(rt.alloc(), &heap, 6)?;
-    assert_eq!(rt; small.roots(&mut heap), StepReply::NoRoom);
-    assert!(rt; !small.ready(&heap));
+    let full = [Row::Roots(StepReply::NoRoom), Row::Ready(false)];
+    play(&rt, &mut small, &mut heap, &full)?;
     small.drop_into(&mut heap);
     let mut collection = Collection::begin_sized(rt.alloc(), &heap, 12)?;
-    assert_eq!(rt; collection.roots(&mut heap), StepReply::Copied);
-    assert_eq!(rt; collection.scan(&mut heap), StepReply::Scanned);
-    assert_eq!(rt; collection.scan(&mut heap), StepReply::Scanned);
-    assert_eq!(rt; collection.scan(&mut heap), StepReply::Scanned);
-    assert_eq!(rt; collection.scan(&mut heap), StepReply::Scanned);
-    assert_eq!(rt; collection.scan(&mut heap), StepReply::Passed);
-    let (pairs, _roots) = flip(rt.alloc(), collection, &mut heap)?;
+    let rows = [
+        Row::Roots(StepReply::Copied),
+        Row::Scan(StepReply::Scanned),
+        Row::Scan(StepReply::Scanned),
+        Row::Scan(StepReply::Scanned),
+        Row::Scan(StepReply::Scanned),
+        Row::Scan(StepReply::Passed),
+    ];
+    play(&rt, &mut collection, &mut heap, &rows)?;
+    let (pairs, _) = flip(rt.alloc(), collection, &mut heap)?;
     assert_eq!(rt; pairs.len(), 1);
     assert_eq!(rt; heap.space().free(), 5);
     Ok(())

@@ -20,8 +20,8 @@ use Rattle.gc_graph.specs.Fronts.{BeginsWithNumber}
 use Rattle.gc_graph.specs.Tokens.{number_of}
 use Rattle.gc_graph.specs.Internal.Tokens.{IsDecimal}
 
-model : IsNumeralModel (AllDigits 10) (digits_value 10)
-model = numerals_by_value (AllDigits 10) tells_digits
+pub decimals : IsNumeralModel (AllDigits 10) (digits_value 10)
+decimals = numerals_by_value (AllDigits 10) tells_digits
 
 pub number_found : (most : ℕ) (token : List ℕ) (n : ℕ) → number_of most token ≡ Some n → (token ≡ decimal n) × (n ≤ most)
 unfolding number_of
@@ -70,7 +70,7 @@ no_zero_leads : (ds : List ℕ) → IsDecimal ds → get_or ds 0 0 ≡ 48 → le
 no_zero_leads ds is leads = omega (arith, ap length is.spelled, zero_leads (digits_value 10 ds) is.small (sym (ap (λ (xs : List ℕ). get_or xs 0 0) is.spelled) ∙ leads))
 
 spelled_by : (ds : List ℕ) → AllDigits 10 ds → 0 < length ds → (get_or ds 0 0 ≡ 48 → length ds ≡ 1) → digits_value 10 ds < 2 ^ 64 → IsDecimal ds
-spelled_by ds digits some first small = record { small = small; spelled = sym (decimal-digits_value model ds digits some first small) }
+spelled_by ds digits some first small = record { small = small; spelled = sym (decimal-digits_value decimals ds digits some first small) }
 
 -- the first digit of twenty
 pub record IsFirstOfTwenty (ds : List ℕ) (tail : ℕ) : Type 0 where
@@ -106,7 +106,7 @@ are_first text count some is =
 short_is : (text : List ℕ) (count : ℕ) → 0 < count → count < 20 → (get_or text 0 0 ≡ 48 → count ≡ 1) → AreFirst text count → IsDecimal (take count text)
 short_is text count some short leads are =
     spelled_by (take count text) are.digits (omega (arith, are.long, some)) (λ e. omega (arith, are.long, leads (sym are.first ∙ e)))
-    (omega (arith, digits_value_short model (take count text) 19 are.digits (omega (arith, are.long, short))))
+    (omega (arith, digits_value_short decimals (take count text) 19 are.digits (omega (arith, are.long, short))))
 
 pub after_zero : (text : List ℕ) (count : ℕ) → 0 < count → get_or text 0 0 ≡ 48 → AreFirst text count → IsTrue (eqb count 1) ↔ IsDecimal (take count text)
 after_zero text count some leads are = (

@@ -12,7 +12,7 @@ use Rattle.std.specs.Vec.{with_item}
 use Rattle.std.proofs.Common.{is_some}
 use Rattle.std.proofs.lemmas.Bool.{lt-ltb, le-ltb, eq-eqb, ne_eqb, cases_order}
 use Rattle.std.specs.Prelude.{slice_get, slice_set, replicate}
-use Rattle.gc_graph.specs.Graph.{Value, Nil, Object, Graph, lookup, object_of, field_of, set_root, set_field, with_field}
+use Rattle.gc_graph.specs.Graph.{Value, Object, Graph, lookup, object_of, field_of, set_root, set_field, with_field}
 use Rattle.gc_graph.specs.Machine.{view_of, get_field}
 use Rattle.gc_graph.specs.declared.reply.View.{View}
 use Rattle.gc_graph.specs.declared.reply.Reply.{Reply}
@@ -21,7 +21,6 @@ use Rattle.gc_graph.specs.Records.{plain_value, object_of_record, named_object, 
 use Rattle.gc_graph.specs.Internal.Records.{record_option}
 use Rattle.gc_graph.specs.declared.objects.Record.{Record}
 use Rattle.gc_graph.specs.declared.objects.PlainValue.{PlainValue}
-use Rattle.gc_graph.specs.declared.objects.PlainValue.TheVariants as held
 
 at_key : (q k : ℕ) → is_eq (nat_cmp q k) ≡ (k == q)
 at_key q k = elim (cases_order q k) [

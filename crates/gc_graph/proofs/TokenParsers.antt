@@ -5,7 +5,7 @@ use Rattle.std.specs.Str.{bytes_eq}
 use Rattle.std.proofs.lemmas.Bool.{eqb-false}
 use Rattle.std.proofs.lemmas.Option.{cond_some}
 use Rattle.std.proofs.lemmas.Slice.Eq.{bytes_eq-Decides}
-use Rattle.gc_graph.specs.Tokens.{◌>>=◌, Tokens, number_of, number_at, token_at, end_of}
+use Rattle.gc_graph.specs.Tokens.{◌>>=◌, Tokens, number_of, number_at, token_at, if_all_taken}
 use Rattle.gc_graph.proofs.Decimals.{number_found, number_again}
 
 -- ---- what was written is read
@@ -21,8 +21,8 @@ pub token_at_again : (wanted : List ℕ) (tokens : Tokens) → token_at wanted (
 unfolding token_at
 token_at_again wanted tokens = rw (bytes_same wanted) refl
 
-pub end_again : {A : Type 0} (x : A) → end_of x [] ≡ Some x
-unfolding end_of
+pub end_again : {A : Type 0} (x : A) → if_all_taken x [] ≡ Some x
+unfolding if_all_taken
 end_again x = refl
 
 -- ---- what is read was written
@@ -57,8 +57,8 @@ token_at_found wanted (token ∷ tokens) rest e =
     let c = cond_some (bytes_eq token wanted) tokens rest e in
     rw ((bytes_eq-Decides token wanted).0 c.0, c.1) refl
 
-pub end_found : {A : Type 0} (x : A) (tokens : Tokens) (y : A) → end_of x tokens ≡ Some y → (tokens ≡ []) × (x ≡ y)
-unfolding end_of
+pub end_found : {A : Type 0} (x : A) (tokens : Tokens) (y : A) → if_all_taken x tokens ≡ Some y → (tokens ≡ []) × (x ≡ y)
+unfolding if_all_taken
 end_found x [] y e = (refl, some_is x y e)
 end_found x (token ∷ tokens) y e = absurd cc
 

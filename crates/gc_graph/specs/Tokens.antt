@@ -36,6 +36,6 @@ token_at wanted [] = None
 token_at wanted (token ∷ tokens) = if bytes_eq token wanted then Some tokens else None
 
 -- returns `x` if no token is left
-unfoldable pub end_of : {A : Type 0} → A → Tokens → Option A
-end_of x [] = Some x
-end_of x (token ∷ tokens) = None
+unfoldable pub if_all_taken : {A : Type 0} → A → Tokens → Option A
+if_all_taken x [] = Some x
+if_all_taken x (token ∷ tokens) = None

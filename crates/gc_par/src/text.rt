@@ -2,7 +2,7 @@ ghost use Rattle.std.specs.Prelude.{◌≡◌, ◌≢◌, ◌↔◌, true, IfSom
 ghost use Rattle.std.specs.Io.KnownBytes.{Appends};
 ghost use Rattle.gc_graph.specs.Streams.{bytes_left, bytes_written, source_failed, sink_failed};
 ghost use Rattle.gc_cert.specs.Grammar.{CertifiedPair};
-ghost use Rattle.gc_cert.specs.Faults.{IsReadAs, MayFail};
+ghost use Rattle.gc_cert.specs.Faults.{IsReadAsPair, MayFail};
 ghost use Rattle.gc_check.specs.Verdict.{verdict_line};
 ghost use Rattle.gc_check.specs.Texts.{Promises, IsVerdictOn, TellsFront};
 ghost use Rattle.gc_cert.specs.declared.fault.PairFault.{PairFault};
@@ -31,7 +31,7 @@ pub fn check_text_par<R: Read, W: Write>(
         (bytes_written W.contents writer.old) (bytes_written W.contents writer.new) (verdict_line verdict)) }
     // The soundness theorem for the images that the text spells.
     ensures replicated { IfOk result (λ verdict. IfSome (bytes_left R.remaining reader.old)
-        (λ text. (pair : CertifiedPair) → IsReadAs pair text → Promises verdict pair)) }
+        (λ text. (pair : CertifiedPair) → IsReadAsPair pair text → Promises verdict pair)) }
 
     // The first fault of a bad text.
     ensures fault { (fault : PairFault) → result ≡ Err (RunFault.Pair fault) →

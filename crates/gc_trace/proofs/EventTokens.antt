@@ -1,5 +1,5 @@
 -- Reading the tokens of an event gives the event.
-use Rattle.std.proofs.Common.{◌≡◌, ℕ, ◌≤◌, Bool, true, false, cond, eqb, ltb, [], ◌∷◌, refl, arith, Some}
+use Rattle.std.proofs.Common.{◌≡◌, ℕ, ◌<◌, ◌≤◌, Bool, true, false, cond, eqb, ltb, [], ◌∷◌, refl, arith, Some}
 use Rattle.std.specs.Prelude.{codes}
 use Rattle.std.specs.Fmt.{decimal}
 use Rattle.std.proofs.lemmas.Bool.{ne_eqb, le-ltb}
@@ -15,8 +15,8 @@ use Rattle.gc_copy.specs.declared.step.Step.{Step}
 use Rattle.gc_copy.specs.declared.step.Step.TheVariants as steps
 use Rattle.gc_copy.specs.declared.event.Event.{Event}
 use Rattle.gc_copy.specs.declared.event.Event.TheVariants.{Mutate, Collect}
-use Rattle.gc_trace.specs.Parsers.{slot_of, slot_at, new_of, raw_of, num_of, nil_of, move_of, get_of, put_of, same_of, look_of, op_of, begin_of, apply_of, step_of, command_of, collect_of, event_of, version_at, sizes_of}
-use Rattle.gc_trace.specs.Grammar.{newest, slot, op_tokens, step_tokens, event_tokens, version_tokens, size_tokens, op_version, step_version, IsEvent, IsHeading}
+use Rattle.gc_trace.specs.Internal.Parsers.{slot_of, slot_at, new_op, new_of, raw_of, num_of, nil_of, move_of, get_of, put_of, same_of, look_of, op_of, begin_of, apply_of, step_of, command_of, collect_of, event_of, version_at, sizes_of}
+use Rattle.gc_trace.specs.Grammar.{newest, slot, object_tokens, op_tokens, step_tokens, event_tokens, version_tokens, size_tokens, op_version, step_version, IsEvent, IsHeading}
 
 slot_again : (s : SlotName) → IsSlot s → slot_of (slot s) ≡ Some s
 unfolding slot_of slot
@@ -30,16 +30,20 @@ slot_at_again : (s : SlotName) (tokens : Tokens) → IsSlot s → slot_at (slot 
 unfolding slot_at
 slot_at_again s tokens fits = rw (slot_again s fits) refl
 
-raw_again : (version kind len : ℕ) (d : SlotName) → IsCommand (ops.NewRaw d kind len) → 3 ≤ version → raw_of version (slot d ∷ decimal kind ∷ decimal len ∷ []) ≡ Some (ops.NewRaw d kind len)
+object_again : (raw : Bool) (d : SlotName) (kind len : ℕ) → IsSlot d → kind < 256 → len < 65536 → new_of raw (object_tokens d kind len) ≡ Some (new_op raw d kind len)
+unfolding new_of
+object_again raw d kind len slot_fits kind_fits len_fits =
+    rw (slot_at_again d (decimal kind ∷ decimal len ∷ []) slot_fits, number_at_again 255 kind (decimal len ∷ []) (omega (arith, kind_fits)) (omega (arith, kind_fits)), number_at_again 65535 len [] (omega (arith, len_fits)) (omega (arith, len_fits)), end_again (new_op raw d kind len)) refl
+
+raw_again : (version kind len : ℕ) (d : SlotName) → IsCommand (ops.NewRaw d kind len) → 3 ≤ version → raw_of version (object_tokens d kind len) ≡ Some (ops.NewRaw d kind len)
 unfolding raw_of
 raw_again version kind len d fits known =
     let has_raws : ltb version 3 ≡ false = le-ltb version 3 known in
-    rw (has_raws, slot_at_again d (decimal kind ∷ decimal len ∷ []) fits.0, number_at_again 255 kind (decimal len ∷ []) (omega (arith, fits.1)) (omega (arith, fits.1)), number_at_again 65535 len [] (omega (arith, fits.2)) (omega (arith, fits.2)), end_again (ops.NewRaw d kind len)) refl
+    rw has_raws (object_again true d kind len fits.0 fits.1 fits.2)
 
 op_again : (version : ℕ) (op : Op) → IsCommand op → op_version op ≤ version → op_of version (op_tokens op) ≡ Some op
-unfolding op_of op_tokens new_of num_of nil_of move_of get_of put_of same_of look_of
-op_again version (ops.New d kind len) fits known =
-    rw (slot_at_again d (decimal kind ∷ decimal len ∷ []) fits.0, number_at_again 255 kind (decimal len ∷ []) (omega (arith, fits.1)) (omega (arith, fits.1)), number_at_again 65535 len [] (omega (arith, fits.2)) (omega (arith, fits.2)), end_again (ops.New d kind len)) refl
+unfolding op_of op_tokens num_of nil_of move_of get_of put_of same_of look_of
+op_again version (ops.New d kind len) fits known = object_again false d kind len fits.0 fits.1 fits.2
 op_again version (ops.NewRaw d kind len) fits known = raw_again version kind len d fits known
 op_again version (ops.Num d n) fits known =
     rw (slot_at_again d (decimal n ∷ []) fits.0, number_at_again 9223372036854775807 n [] (omega (arith, fits.1)) (omega (arith, fits.1)), end_again (ops.Num d n)) refl

@@ -1,7 +1,7 @@
 -- What a front of a text shows of its faults.
 use Rattle.std.proofs.Common.{◌≡◌, ℕ, List, ◌∷◌, ◌++◌, sym, ap, ◌∙◌, Some, None}
 use Rattle.gc_graph.specs.Lines.{newline, joined, tokens_of, HasNo}
-use Rattle.gc_trace.specs.Parsers.{event_of, version_at, sizes_of}
+use Rattle.gc_trace.specs.Internal.Parsers.{event_of, version_at, sizes_of}
 use Rattle.gc_trace.specs.Grammar.{event_tokens, version_tokens, size_tokens, heading, IsHeading}
 use Rattle.gc_trace.specs.Faults.{HasNoHeading, BeginsWithNoEvent}
 use Rattle.gc_trace.proofs.EventTokens.{event_again, version_again, sizes_again}

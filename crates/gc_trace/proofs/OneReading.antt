@@ -6,9 +6,9 @@ use Rattle.std.proofs.lemmas.List.Concat.{flat_map-cons}
 use Rattle.std.proofs.lemmas.Option.{same_Some}
 use Rattle.gc_graph.specs.Lines.{newline, joined, line, tokens_of}
 use Rattle.gc_copy.specs.declared.event.Event.{Event}
-use Rattle.gc_trace.specs.Parsers.{event_of, version_at, sizes_of}
+use Rattle.gc_trace.specs.Internal.Parsers.{event_of, version_at, sizes_of}
 use Rattle.gc_trace.specs.Grammar.{Recording, event_tokens, event_line, version_tokens, size_tokens, heading, spelling, IsEvent, IsOf, IsHeading, IsRecording, IsTextOf}
-use Rattle.gc_trace.specs.Faults.{HasNoHeading, GoodBefore, BeginsWithNoEvent, HasBadLine, HasStranger, IsTraceFaultOf, IsReadAs}
+use Rattle.gc_trace.specs.Faults.{HasNoHeading, GoodBefore, BeginsWithNoEvent, HasBadLine, HasStranger, IsTraceFaultOf, IsReadAsTrace}
 use Rattle.gc_trace.specs.declared.fault.TraceFault.{TraceFault}
 use Rattle.gc_trace.specs.declared.fault.TraceFault.TheVariants.{Read, TooLarge, BadHeader, BadLine, NoSuchMutator, NoMemory}
 use Rattle.gc_trace.proofs.EventTokens.{event_again, version_again, sizes_again}
@@ -159,7 +159,7 @@ good_strange t text n p h =
     let b = strange_stop text n h in
     line_some b.1 b.2 (sym (one_stop t b.0 [] (event_line b.1 ++ b.2) text (good_stop t text p) b.3).1)
 
-pub no_fault : (t : Recording) (fault : TraceFault) (text : List ℕ) → IsReadAs t text → IsTraceFaultOf fault text → ⊥
+pub no_fault : (t : Recording) (fault : TraceFault) (text : List ℕ) → IsReadAsTrace t text → IsTraceFaultOf fault text → ⊥
 no_fault t Read text p q = q
 no_fault t TooLarge text p q = omega (arith, p.1, q)
 no_fault t BadHeader text p q = headed t [] text (good_stop t text p.0) q.1

@@ -1,11 +1,10 @@
 -- What an event reader has read of a text.
-use Rattle.std.proofs.Common.{◌≡◌, ◌≢◌, ℕ, ◌+◌, ◌≤◌, true, List, [], ◌∷◌, ◌++◌, length, drop, refl, sym, ap, ◌∙◌, arith, subst, append_assoc, Option, Some, None, IfSome}
+use Rattle.std.proofs.Common.{◌≡◌, ◌≢◌, ℕ, ◌+◌, ◌≤◌, List, [], ◌∷◌, ◌++◌, length, drop, refl, sym, ap, ◌∙◌, arith, subst, append_assoc, Option}
 use Rattle.std.specs.List.{AllByRecursion}
-use Rattle.std.proofs.lemmas.List.{append-nil, drop_all}
 use Rattle.gc_graph.specs.ReadFaults.{MayFailReading}
 use Rattle.gc_graph.specs.declared.text.pieces.ReadFault.{ReadFault}
 use Rattle.gc_graph.specs.declared.text.pieces.ReadFault.TheVariants as reading
-use Rattle.gc_graph.specs.Pieces.{Progress, IsWithin, nothing_read}
+use Rattle.gc_graph.specs.Pieces.{Progress, IsWithin}
 use Rattle.gc_copy.specs.declared.event.Event.{Event}
 use Rattle.gc_trace.specs.Grammar.{Recording, heading, event_line, IsHeading, IsEvent, IsOf, IsRecording}
 use Rattle.gc_trace.specs.Faults.{limit, GoodBefore, HasStranger, HasBadLine, BeginsWithNoEvent, MayFail}
@@ -16,20 +15,6 @@ use Rattle.gc_trace.specs.declared.event_reader.EventReader.{EventReader}
 use Rattle.gc_graph.proofs.Bounds.{all_push}
 use Rattle.gc_trace.proofs.EventFronts.{line_takes}
 use Rattle.gc_trace.proofs.Total.{made_of, good_start, good_more}
-
--- a reader that has all of the text left is within it
-pub within_all : (text : List ℕ) (most : ℕ) (left : Option (List ℕ)) → left ≡ Some text → IsWithin text text (nothing_read most) left
-within_all text most left is = record { left_is = is; read_is = omega arith; rest_is = refl; end_is = λ e. cc }
-
-pub no_byte : (bytes : List ℕ) → length bytes ≡ 0 → bytes ≡ []
-no_byte [] none = refl
-no_byte (b ∷ bytes) none = absurd (omega (arith, none))
-
--- at the end, what is left of the text waits
-pub all_waits : (text rest : List ℕ) (p : Progress) (left : Option (List ℕ)) → IsWithin text rest p left → p.ended ≡ true → (rest ≡ p.waiting) × (length text ≤ p.read)
-all_waits text rest p left h ended =
-    let short = h.end_is ended in
-    (h.rest_is ∙ ap (λ (l : List ℕ). p.waiting ++ l) (drop_all p.read text short) ∙ append-nil p.waiting, short)
 
 -- ---- faults of reading
 
@@ -42,11 +27,6 @@ pub too_large : (fault : ReadFault) → fault_of_reading fault ≡ TooLarge → 
 too_large reading.Read e = absurd cc
 too_large reading.TooLarge e = refl
 too_large reading.NoMemory e = absurd cc
-
--- what holds of all known bytes
-pub if_known : {P : List ℕ → Type 0} (known : Option (List ℕ)) → ((text : List ℕ) → known ≡ Some text → P text) → IfSome known P
-if_known None all = tt
-if_known (Some text) all = all text refl
 
 -- ---- lines that were read
 
@@ -111,11 +91,6 @@ still_counted r next event reading taken after = record {
 }
 
 -- ---- a reader with no line of an event among the bytes that wait, whose text ends there
-
-pub ends_there : (text : List ℕ) (events : List Event) (r : EventReader) (left : Option (List ℕ)) (p : Progress) (left' : Option (List ℕ)) → (h : HasRead text events r left) → IsWithin text h.rest p left' → p.ended ≡ true → p.read ≡ r.pieces.read → (h.rest ≡ r.pieces.waiting) × (length text ≤ p.read)
-ends_there text events r left p left' h within ended same =
-    let short : length text ≤ r.pieces.read = omega (arith, within.end_is ended, same) in
-    (h.within.rest_is ∙ ap (λ (l : List ℕ). r.pieces.waiting ++ l) (drop_all r.pieces.read text short) ∙ append-nil r.pieces.waiting, within.end_is ended)
 
 pub bad_line : (text : List ℕ) (events : List Event) (r : EventReader) (left : Option (List ℕ)) → (h : HasRead text events r left) → h.rest ≡ r.pieces.waiting → r.pieces.waiting ≢ [] → BeginsWithNoEvent r.version r.pieces.waiting → HasBadLine text r.number
 bad_line text events r left h same some none = (read_so_far r events, h.rest, h.good, (λ empty. some (sym same ∙ empty)), subst (BeginsWithNoEvent r.version) (sym same) none)

@@ -6,14 +6,14 @@ use Rattle.std.specs.Prelude.{codes}
 use Rattle.std.specs.Fmt.{digits}
 use Rattle.gc_graph.specs.Lines.{newline, ended, tokens_of}
 use Rattle.gc_graph.specs.Slots.{own_slot, shared_slot}
-use Rattle.gc_graph.specs.Tokens.{number_of, number_at, token_at, end_of}
+use Rattle.gc_graph.specs.Tokens.{number_of, number_at, token_at, if_all_taken}
 use Rattle.gc_graph.specs.declared.command.Op.TheVariants as ops
 use Rattle.gc_copy.specs.declared.step.Step.TheVariants as steps
 use Rattle.gc_graph.proofs.LineLemmas.{lacks, HasNo-lacks}
 use Rattle.gc_copy.specs.declared.event.Event.TheVariants.{Mutate, Collect}
 use Rattle.gc_trace.specs.Grammar.{Recording, slot, op_tokens, step_tokens, event_tokens, event_line, version_tokens, size_tokens, heading, spelling, IsTextOf}
 use Rattle.gc_trace.specs.Faults.{limit, BeginsWithNoEvent, IsTraceFaultOf}
-use Rattle.gc_trace.specs.Parsers.{slot_of, slot_at, new_of, raw_of, num_of, look_of, op_of, begin_of, apply_of, step_of, command_of, collect_of, event_of, version_at, sizes_of}
+use Rattle.gc_trace.specs.Internal.Parsers.{slot_of, slot_at, new_of, raw_of, num_of, look_of, op_of, begin_of, apply_of, step_of, command_of, collect_of, event_of, version_at, sizes_of}
 use Rattle.gc_trace.specs.Replies.{view_tokens, reply_tokens, step_reply_tokens, answer_tokens}
 use Rattle.gc_trace.specs.Rows.{small, TextRows, SizedRows, RawRows, LineRows}
 use Rattle.gc_trace.specs.declared.fault.TraceFault.TheVariants.{BadHeader, BadLine}
@@ -61,7 +61,7 @@ second_line line h none small-enough = (
 )
 
 pub text_rows : TextRows
-unfolding digits slot op_tokens step_tokens event_tokens event_line version_tokens size_tokens heading number_of slot_of number_at slot_at token_at end_of new_of num_of look_of op_of apply_of step_of command_of collect_of event_of sizes_of
+unfolding digits slot op_tokens step_tokens event_tokens event_line version_tokens size_tokens heading number_of slot_of number_at slot_at token_at if_all_taken new_of num_of look_of op_of apply_of step_of command_of collect_of event_of sizes_of
 text_rows = record {
   nothing = (short [] refl, no_first [] tt);
   no_size = second_line (codes "space 0 mutators 1") refl refl refl;
@@ -102,7 +102,7 @@ sized_text = record {
 }
 
 pub sized_rows : SizedRows
-unfolding digits step_tokens event_tokens event_line version_tokens size_tokens heading spelling number_of number_at token_at end_of begin_of step_of collect_of event_of version_at
+unfolding digits step_tokens event_tokens event_line version_tokens size_tokens heading spelling number_of number_at token_at if_all_taken begin_of step_of collect_of event_of version_at
 sized_rows = record {
   read = (sized_text, short (codes "heaptrace 2\nspace 8 mutators 1\nc begin\nc begin 12\n") refl);
   low = third_line 2 (codes "c begin 0") (omega arith) (omega arith) refl refl refl;
@@ -123,7 +123,7 @@ raw_text = record {
 }
 
 pub raw_rows : RawRows
-unfolding digits slot op_tokens step_tokens event_tokens event_line version_tokens size_tokens heading spelling view_tokens reply_tokens step_reply_tokens answer_tokens number_of slot_of number_at slot_at token_at end_of raw_of op_of command_of event_of version_at
+unfolding digits slot op_tokens step_tokens event_tokens event_line version_tokens size_tokens heading spelling view_tokens reply_tokens step_reply_tokens answer_tokens number_of slot_of number_at slot_at token_at if_all_taken new_of raw_of op_of command_of event_of version_at
 raw_rows = record {
   read = (raw_text, short (codes "heaptrace 3\nspace 8 mutators 1\nm 0 raw r0 7 2\n") refl);
   long = third_line 3 (codes "m 0 raw r0 7 65536") (omega arith) (omega arith) refl refl refl;

@@ -2,14 +2,11 @@
 use mir.Val.{bool_byte}
 use Rattle.std.proofs.Common.{Bool, true, false, ltb, ◌≡◌, ℕ, ◌+◌, ◌-◌, ◌*◌, ◌%◌, ◌<◌, ◌≤◌, [], ◌∷◌, take, refl, sym, ap, ◌∙◌, arith}
 use Rattle.std.specs.Fmt.{decimal}
-use Rattle.std.specs.Str.Parse.{digits_value, AllDigits}
+use Rattle.std.specs.Str.Parse.{digits_value}
 use Rattle.std.proofs.lemmas.Bool.{ltb-true}
 use Rattle.std.proofs.lemmas.Fmt.{decimal-digits_value, decimal_digit}
 use Rattle.std.proofs.lemmas.Str.{digit_value_digit}
-use Rattle.std.proofs.lemmas.Str.Parse.{IsNumeralModel, numerals_by_value, tells_digits}
-
-model : IsNumeralModel (AllDigits 10) (digits_value 10)
-model = numerals_by_value (AllDigits 10) tells_digits
+use Rattle.gc_graph.proofs.Decimals.{decimals}
 
 pub one_digit : (a n : ℕ) → 48 ≤ a → a ≤ 57 → n ≡ a - 48 → decimal n ≡ a ∷ []
 one_digit a n low high is = decimal_digit n (omega arith) ∙ ap (λ (d : ℕ). d ∷ []) (omega (arith, is))
@@ -19,7 +16,7 @@ two_digits a b n low high low-b high-b is =
     let u = digit_value_digit a (omega arith, high) in
     let v = digit_value_digit b (low-b, high-b) in
     let value : digits_value 10 (a ∷ b ∷ []) ≡ n = omega (arith, u, v, is) in
-    ap decimal (sym value) ∙ decimal-digits_value model (a ∷ b ∷ []) (omega (arith, u), (omega (arith, v), tt)) (omega arith) (λ e. absurd (omega (arith, low, e))) (omega (arith, value, is))
+    ap decimal (sym value) ∙ decimal-digits_value decimals (a ∷ b ∷ []) (omega (arith, u), (omega (arith, v), tt)) (omega arith) (λ e. absurd (omega (arith, low, e))) (omega (arith, value, is))
 
 -- what one or two digits write
 pub record IsSmallNumber (a b two n : ℕ) : Type 0 where

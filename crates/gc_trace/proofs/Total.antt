@@ -11,9 +11,9 @@ use Rattle.gc_copy.specs.declared.step.Step.{Step}
 use Rattle.gc_copy.specs.declared.step.Step.TheVariants as steps
 use Rattle.gc_copy.specs.declared.event.Event.{Event}
 use Rattle.gc_copy.specs.declared.event.Event.TheVariants.{Mutate, Collect}
-use Rattle.gc_trace.specs.Parsers.{event_of, version_at, sizes_of}
+use Rattle.gc_trace.specs.Internal.Parsers.{event_of, version_at, sizes_of}
 use Rattle.gc_trace.specs.Grammar.{Recording, event_tokens, event_line, version_tokens, size_tokens, heading, spelling, IsHeading, IsEvent, IsOf, IsTextOf}
-use Rattle.gc_trace.specs.Faults.{limit, GoodBefore, HasNoHeading, HasBadLine, HasStranger, IsTraceFaultOf, IsReadAs}
+use Rattle.gc_trace.specs.Faults.{limit, GoodBefore, HasNoHeading, HasBadLine, HasStranger, IsTraceFaultOf, IsReadAsTrace}
 use Rattle.gc_trace.specs.declared.fault.TraceFault.{TraceFault}
 use Rattle.gc_trace.specs.declared.fault.TraceFault.TheVariants.{TooLarge, BadHeader, BadLine, NoSuchMutator}
 use Rattle.gc_trace.proofs.ParsedTokens.{event_found, version_found, sizes_found}
@@ -154,7 +154,7 @@ headed text =
 
 -- a trace, or a first fault
 abbrev pub Answered : List ℕ → Type 0
-Answered text = ((t : Recording) × IsReadAs t text) ⊎ ((f : TraceFault) × IsTraceFaultOf f text)
+Answered text = ((t : Recording) × IsReadAsTrace t text) ⊎ ((f : TraceFault) × IsTraceFaultOf f text)
 
 answered : (text : List ℕ) → length text ≤ limit → Reading text → Answered text
 answered text le (inl r) = inl (r.0, (r.1, le))

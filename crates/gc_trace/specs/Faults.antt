@@ -42,8 +42,8 @@ IsTraceFaultOf (NoSuchMutator n) text = (length text ≤ limit) × HasStranger t
 IsTraceFaultOf NoMemory text = ⊥
 
 -- the text is read as this trace: it spells the trace, and it is within the size limit
-abbrev pub IsReadAs : Recording → List ℕ → Type 0
-IsReadAs t text = IsTextOf t text × (length text ≤ limit)
+abbrev pub IsReadAsTrace : Recording → List ℕ → Type 0
+IsReadAsTrace t text = IsTextOf t text × (length text ≤ limit)
 
 -- the reader may fail with this fault: the text's first fault, or the reader cannot read, or it is out of memory
 abbrev pub MayFail : TraceFault → List ℕ → Type 0

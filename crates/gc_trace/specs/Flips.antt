@@ -8,7 +8,7 @@ use Rattle.gc_copy.specs.State.{State}
 use Rattle.gc_copy.specs.Runs.{after}
 use Rattle.gc_copy.specs.declared.event.Event.{Event}
 use Rattle.gc_trace.specs.Grammar.{Recording}
-use Rattle.gc_trace.specs.Faults.{IsReadAs}
+use Rattle.gc_trace.specs.Faults.{IsReadAsTrace}
 use Rattle.gc_trace.specs.Plays.{opening}
 use Rattle.gc_trace.specs.WorldRuns.{kept_with}
 
@@ -33,12 +33,12 @@ nth_flip n t = slice_get (flips (opening t) t.events) (n - 1)
 
 -- the text spells a trace with an n-th flip, and the text of that flip's pair was written
 abbrev pub PlaysPair : ℕ → List ℕ → Option (List ℕ) → Option (List ℕ) → Type 0
-PlaysPair n text old new = (t : Recording) × (pair : CertifiedPair) × IsReadAs t text × (nth_flip n t ≡ Some pair) × Appends old new (pairs.spelling pair)
+PlaysPair n text old new = (t : Recording) × (pair : CertifiedPair) × IsReadAsTrace t text × (nth_flip n t ≡ Some pair) × Appends old new (pairs.spelling pair)
 
 -- the same, but a prefix of the pair's text was written
 abbrev pub PlaysPairFront : ℕ → List ℕ → Option (List ℕ) → Option (List ℕ) → Type 0
-PlaysPairFront n text old new = (t : Recording) × (pair : CertifiedPair) × IsReadAs t text × (nth_flip n t ≡ Some pair) × SendsFront old new (pairs.spelling pair)
+PlaysPairFront n text old new = (t : Recording) × (pair : CertifiedPair) × IsReadAsTrace t text × (nth_flip n t ≡ Some pair) × SendsFront old new (pairs.spelling pair)
 
 -- the text spells a trace without an n-th flip
 abbrev pub HasNoFlip : ℕ → List ℕ → Type 0
-HasNoFlip n text = (t : Recording) × IsReadAs t text × (nth_flip n t ≡ None)
+HasNoFlip n text = (t : Recording) × IsReadAsTrace t text × (nth_flip n t ≡ None)

@@ -3,7 +3,6 @@ pub mod Faults
 pub mod Flips
 pub mod Grammar
 pub mod Internal
-pub mod Parsers
 pub mod Plays
 pub mod Replies
 pub mod Report

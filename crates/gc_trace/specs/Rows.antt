@@ -12,7 +12,7 @@ use Rattle.gc_copy.specs.Runs.{answers}
 use Rattle.gc_copy.specs.declared.event.Event.{Event}
 use Rattle.gc_copy.specs.declared.event.Event.TheVariants.{Mutate, Collect}
 use Rattle.gc_trace.specs.Grammar.{Recording, spelling, written}
-use Rattle.gc_trace.specs.Faults.{IsReadAs, IsTraceFaultOf}
+use Rattle.gc_trace.specs.Faults.{IsReadAsTrace, IsTraceFaultOf}
 use Rattle.gc_trace.specs.Replies.{reply_text}
 use Rattle.gc_trace.specs.declared.fault.TraceFault.TheVariants.{BadHeader, BadLine, NoSuchMutator}
 
@@ -25,7 +25,7 @@ pub record TextRows : Type 0 where
   pub no_size : IsTraceFaultOf BadHeader (codes "heaptrace 1\nspace 0 mutators 1\n")
   pub many_mutators : IsTraceFaultOf BadHeader (codes "heaptrace 1\nspace 8 mutators 17\n")
   pub no_line_feed : IsTraceFaultOf BadHeader (codes "heaptrace 1\nspace 8 mutators 1")
-  pub no_events : IsReadAs (small 1 []) (codes "heaptrace 1\nspace 8 mutators 1\n")
+  pub no_events : IsReadAsTrace (small 1 []) (codes "heaptrace 1\nspace 8 mutators 1\n")
   pub cut_line : IsTraceFaultOf (BadLine 3) (codes "heaptrace 1\nspace 8 mutators 1\nm 0 look r0")
   pub no_slot : IsTraceFaultOf (BadLine 3) (codes "heaptrace 1\nspace 8 mutators 1\nm 0 look r16\n")
   pub two_spaces : IsTraceFaultOf (BadLine 3) (codes "heaptrace 1\nspace 8 mutators 1\nm 0  look r0\n")
@@ -38,7 +38,7 @@ pub record TextRows : Type 0 where
 
 -- what version 2 adds
 pub record SizedRows : Type 0 where
-  pub read : IsReadAs (small 2 (Collect steps.Begin ∷ Collect (steps.BeginSized 12) ∷ [])) (codes "heaptrace 2\nspace 8 mutators 1\nc begin\nc begin 12\n")
+  pub read : IsReadAsTrace (small 2 (Collect steps.Begin ∷ Collect (steps.BeginSized 12) ∷ [])) (codes "heaptrace 2\nspace 8 mutators 1\nc begin\nc begin 12\n")
   pub low : IsTraceFaultOf (BadLine 3) (codes "heaptrace 2\nspace 8 mutators 1\nc begin 0\n")
   pub high : IsTraceFaultOf (BadLine 3) (codes "heaptrace 2\nspace 8 mutators 1\nc begin 1048577\n")
   pub not_in_first : IsTraceFaultOf (BadLine 3) (codes "heaptrace 1\nspace 8 mutators 1\nc begin 12\n")
@@ -54,7 +54,7 @@ raw_events =
 
 -- what version 3 adds
 pub record RawRows : Type 0 where
-  pub read : IsReadAs (small 3 (Mutate 0 (ops.NewRaw (own_slot 0) 7 2) ∷ [])) (codes "heaptrace 3\nspace 8 mutators 1\nm 0 raw r0 7 2\n")
+  pub read : IsReadAsTrace (small 3 (Mutate 0 (ops.NewRaw (own_slot 0) 7 2) ∷ [])) (codes "heaptrace 3\nspace 8 mutators 1\nm 0 raw r0 7 2\n")
   pub long : IsTraceFaultOf (BadLine 3) (codes "heaptrace 3\nspace 8 mutators 1\nm 0 raw r0 7 65536\n")
   pub not_in_first : IsTraceFaultOf (BadLine 3) (codes "heaptrace 1\nspace 8 mutators 1\nm 0 raw r0 7 2\n")
   pub not_in_second : IsTraceFaultOf (BadLine 3) (codes "heaptrace 2\nspace 8 mutators 1\nm 0 raw r0 7 2\n")

@@ -175,7 +175,7 @@ impl EventReader {
     ghost use Rattle.gc_graph.specs.Streams.{bytes_left, source_failed};
     ghost use Rattle.gc_copy.specs.declared.event.Event.{Event};
     ghost use Rattle.gc_trace.specs.Grammar.{IsEvent, IsOf};
-    ghost use Rattle.gc_trace.specs.Faults.{limit, IsReadAs, MayFail};
+    ghost use Rattle.gc_trace.specs.Faults.{limit, IsReadAsTrace, MayFail};
     ghost use Rattle.gc_trace.specs.Internal.Reading.{IsReading, HasRead, read_so_far};
 
     /// Reads the heading of the text that the reader gives.
@@ -233,7 +233,7 @@ impl EventReader {
         requires unfailed { source_failed reader.old ≡ false }
         ensures exact { (text : List ℕ) (events : List Event) → HasRead text events self.old (bytes_left R.remaining reader.old)
             → MatchResult result
-            (λ found. MatchOption found (IsReadAs (read_so_far self.old events) text)
+            (λ found. MatchOption found (IsReadAsTrace (read_so_far self.old events) text)
             (λ event. HasRead text (events ++ event ∷ []) self.new (bytes_left R.remaining reader.new)))
             (λ fault. MayFail fault text) }
         ensures event { IfOk result (λ found. IfSome found (λ event. IsEvent self.old.version event × IsOf self.old.mutators event)) }

@@ -5,7 +5,7 @@ ghost use Rattle.gc_world.specs.History.{IsHistory, answers_of, state_after, eve
 ghost use Rattle.gc_world.specs.declared.entry.Entry.{Entry};
 ghost use Rattle.gc_copy.specs.declared.event.Event.{Event};
 ghost use Rattle.gc_trace.specs.Grammar.{Recording, IsTextOf, IsOf, spelling, written};
-ghost use Rattle.gc_trace.specs.Faults.{limit, IsTraceFaultOf, IsReadAs};
+ghost use Rattle.gc_trace.specs.Faults.{limit, IsTraceFaultOf, IsReadAsTrace};
 ghost use Rattle.gc_trace.specs.Plays.{answers};
 ghost use Rattle.gc_trace.specs.Rows.{TextRows, SizedRows, RawRows, LineRows};
 ghost use Rattle.gc_trace.specs.Report.{report_of};
@@ -17,8 +17,8 @@ ghost use Rattle.gc_trace.specs.declared.fault.TraceFault.{TraceFault};
 /// A text has one reading: one trace, or one first fault.
 pub fn texts_have_one_reading()
     ensures value { (t u : Recording) (text : List ℕ) → IsTextOf t text → IsTextOf u text → t ≡ u }
-    ensures good { (t : Recording) (fault : TraceFault) (text : List ℕ) → IsReadAs t text → IsTraceFaultOf fault text → ⊥ }
-    ensures some { (text : List ℕ) → ((t : Recording) × IsReadAs t text) ⊎ ((f : TraceFault) × IsTraceFaultOf f text) }
+    ensures good { (t : Recording) (fault : TraceFault) (text : List ℕ) → IsReadAsTrace t text → IsTraceFaultOf fault text → ⊥ }
+    ensures some { (text : List ℕ) → ((t : Recording) × IsReadAsTrace t text) ⊎ ((f : TraceFault) × IsTraceFaultOf f text) }
     ensures fault { (f g : TraceFault) (text : List ℕ) → IsTraceFaultOf f text → IsTraceFaultOf g text → f ≡ g }
 {}
 
@@ -28,7 +28,7 @@ pub fn written_is_read()
     ensures read { (size mutators : ℕ) (entries : List Entry)
         → IsHistory size mutators entries
         → length (spelling (written size mutators (events_of entries))) ≤ limit
-        → IsReadAs (written size mutators (events_of entries)) (spelling (written size mutators (events_of entries))) }
+        → IsReadAsTrace (written size mutators (events_of entries)) (spelling (written size mutators (events_of entries))) }
     ensures answers { (size mutators : ℕ) (entries : List Entry) → IsHistory size mutators entries
         → answers (written size mutators (events_of entries)) ≡ answers_of entries }
 {}

@@ -1,7 +1,7 @@
 ghost use Rattle.std.specs.Prelude.{◌≡◌, None, Some, MatchOption};
 ghost use Rattle.gc_graph.specs.Lines.{tokens_of};
-ghost use Rattle.gc_graph.specs.Tokens.{end_of};
-ghost use Rattle.gc_trace.specs.Parsers.{slot_of, slot_at, new_of, raw_of, num_of, nil_of, move_of, get_of, put_of, same_of, look_of, op_of, begin_of, apply_of, step_of, command_of, collect_of, event_of, version_at, sizes_of};
+ghost use Rattle.gc_graph.specs.Tokens.{if_all_taken};
+ghost use Rattle.gc_trace.specs.Internal.Parsers.{slot_of, slot_at, new_of, raw_of, num_of, nil_of, move_of, get_of, put_of, same_of, look_of, op_of, begin_of, apply_of, step_of, command_of, collect_of, event_of, version_at, sizes_of};
 
 use gc_copy::Step;
 use gc_graph::text::{Tokens, number};
@@ -19,7 +19,7 @@ pub const SIZED: u8 = 2;
 pub const RAW: u8 = 3;
 
 /// Returns the slot that the token names.
-#[tactic(auto, unfolding(crate::specs::Parsers::slot_of))]
+#[tactic(auto, unfolding(crate::specs::Internal::Parsers::slot_of))]
 fn slot_in(token: &[u8]) -> Option<Slot>
     ensures { result ≡ slot_of token.now }
 {
@@ -31,7 +31,7 @@ fn slot_in(token: &[u8]) -> Option<Slot>
 }
 
 /// Takes a slot.
-#[tactic(auto, unfolding(crate::specs::Parsers::slot_at))]
+#[tactic(auto, unfolding(crate::specs::Internal::Parsers::slot_at))]
 fn slot(tokens: &mut Tokens<'_>) -> Option<Slot>
     ensures { MatchOption result (slot_at tokens.old ≡ None) (λ s. slot_at tokens.old ≡ Some (s, tokens.new)) }
 {
@@ -39,45 +39,47 @@ fn slot(tokens: &mut Tokens<'_>) -> Option<Slot>
 }
 
 /// Returns the command, if no token is left.
-#[tactic(auto, unfolding(gc_graph::specs::Tokens::end_of))]
+#[tactic(auto, unfolding(gc_graph::specs::Tokens::if_all_taken))]
 fn whole(tokens: &Tokens<'_>, op: Op) -> Option<Op>
-    ensures { result ≡ end_of op tokens.now }
+    ensures { result ≡ if_all_taken op tokens.now }
 {
     if tokens.is_empty() { Some(op) } else { None }
 }
 
 /// Returns the step, if no token is left.
-#[tactic(auto, unfolding(gc_graph::specs::Tokens::end_of))]
+#[tactic(auto, unfolding(gc_graph::specs::Tokens::if_all_taken))]
 fn whole_step(tokens: &Tokens<'_>, step: Step) -> Option<Step>
-    ensures { result ≡ end_of step tokens.now }
+    ensures { result ≡ if_all_taken step tokens.now }
 {
     if tokens.is_empty() { Some(step) } else { None }
 }
 
-#[tactic(auto, unfolding(crate::specs::Parsers::new_of))]
-fn new_op(mut tokens: Tokens<'_>) -> Option<Op>
-    ensures { result ≡ new_of tokens.entry }
+/// Parses what follows the name of a command that makes an object.
+#[tactic(auto, unfolding(crate::specs::Internal::Parsers::new_of))]
+fn new_op(raw: bool, mut tokens: Tokens<'_>) -> Option<Op>
+    ensures { result ≡ new_of raw tokens.entry }
 {
     let d = slot(&mut tokens)?;
     let kind = tokens.number(255)? as u8;
     let len = tokens.number(65535)? as u16;
-    whole(&tokens, Op::New { d, kind, len })
+    if raw {
+        whole(&tokens, Op::NewRaw { d, kind, len })
+    } else {
+        whole(&tokens, Op::New { d, kind, len })
+    }
 }
 
-#[tactic(auto, unfolding(crate::specs::Parsers::raw_of))]
-fn raw_op(version: u8, mut tokens: Tokens<'_>) -> Option<Op>
+#[tactic(auto, unfolding(crate::specs::Internal::Parsers::raw_of))]
+fn raw_op(version: u8, tokens: Tokens<'_>) -> Option<Op>
     ensures { result ≡ raw_of version tokens.entry }
 {
     if version < RAW {
         return None;
     }
-    let d = slot(&mut tokens)?;
-    let kind = tokens.number(255)? as u8;
-    let len = tokens.number(65535)? as u16;
-    whole(&tokens, Op::NewRaw { d, kind, len })
+    new_op(true, tokens)
 }
 
-#[tactic(auto, unfolding(crate::specs::Parsers::num_of))]
+#[tactic(auto, unfolding(crate::specs::Internal::Parsers::num_of))]
 fn num_op(mut tokens: Tokens<'_>) -> Option<Op>
     ensures { result ≡ num_of tokens.entry }
 {
@@ -86,7 +88,7 @@ fn num_op(mut tokens: Tokens<'_>) -> Option<Op>
     whole(&tokens, Op::Num { d, n })
 }
 
-#[tactic(auto, unfolding(crate::specs::Parsers::nil_of))]
+#[tactic(auto, unfolding(crate::specs::Internal::Parsers::nil_of))]
 fn nil_op(mut tokens: Tokens<'_>) -> Option<Op>
     ensures { result ≡ nil_of tokens.entry }
 {
@@ -94,7 +96,7 @@ fn nil_op(mut tokens: Tokens<'_>) -> Option<Op>
     whole(&tokens, Op::Nil { d })
 }
 
-#[tactic(auto, unfolding(crate::specs::Parsers::move_of))]
+#[tactic(auto, unfolding(crate::specs::Internal::Parsers::move_of))]
 fn move_op(mut tokens: Tokens<'_>) -> Option<Op>
     ensures { result ≡ move_of tokens.entry }
 {
@@ -103,7 +105,7 @@ fn move_op(mut tokens: Tokens<'_>) -> Option<Op>
     whole(&tokens, Op::Move { d, s })
 }
 
-#[tactic(auto, unfolding(crate::specs::Parsers::get_of))]
+#[tactic(auto, unfolding(crate::specs::Internal::Parsers::get_of))]
 fn get_op(mut tokens: Tokens<'_>) -> Option<Op>
     ensures { result ≡ get_of tokens.entry }
 {
@@ -113,7 +115,7 @@ fn get_op(mut tokens: Tokens<'_>) -> Option<Op>
     whole(&tokens, Op::Get { d, s, i })
 }
 
-#[tactic(auto, unfolding(crate::specs::Parsers::put_of))]
+#[tactic(auto, unfolding(crate::specs::Internal::Parsers::put_of))]
 fn put_op(mut tokens: Tokens<'_>) -> Option<Op>
     ensures { result ≡ put_of tokens.entry }
 {
@@ -123,7 +125,7 @@ fn put_op(mut tokens: Tokens<'_>) -> Option<Op>
     whole(&tokens, Op::Put { s, i, t })
 }
 
-#[tactic(auto, unfolding(crate::specs::Parsers::same_of))]
+#[tactic(auto, unfolding(crate::specs::Internal::Parsers::same_of))]
 fn same_op(mut tokens: Tokens<'_>) -> Option<Op>
     ensures { result ≡ same_of tokens.entry }
 {
@@ -132,7 +134,7 @@ fn same_op(mut tokens: Tokens<'_>) -> Option<Op>
     whole(&tokens, Op::Same { s, t })
 }
 
-#[tactic(auto, unfolding(crate::specs::Parsers::look_of))]
+#[tactic(auto, unfolding(crate::specs::Internal::Parsers::look_of))]
 fn look_op(mut tokens: Tokens<'_>) -> Option<Op>
     ensures { result ≡ look_of tokens.entry }
 {
@@ -141,13 +143,13 @@ fn look_op(mut tokens: Tokens<'_>) -> Option<Op>
 }
 
 /// Parses a command.
-#[tactic(auto, unfolding(crate::specs::Parsers::op_of))]
+#[tactic(auto, unfolding(crate::specs::Internal::Parsers::op_of))]
 fn op(version: u8, mut tokens: Tokens<'_>) -> Option<Op>
     ensures { result ≡ op_of version tokens.entry }
 {
     let name = tokens.next_token()?;
     if name == b"new".as_slice() {
-        new_op(tokens)
+        new_op(false, tokens)
     } else if name == b"raw".as_slice() {
         raw_op(version, tokens)
     } else if name == b"num".as_slice() {
@@ -170,7 +172,7 @@ fn op(version: u8, mut tokens: Tokens<'_>) -> Option<Op>
 }
 
 /// Parses a mutator and its command.
-#[tactic(auto, unfolding(crate::specs::Parsers::command_of))]
+#[tactic(auto, unfolding(crate::specs::Internal::Parsers::command_of))]
 fn command(version: u8, mut tokens: Tokens<'_>) -> Option<Event>
     ensures { result ≡ command_of version tokens.entry }
 {
@@ -180,7 +182,7 @@ fn command(version: u8, mut tokens: Tokens<'_>) -> Option<Event>
 }
 
 /// Parses the beginning of a collection: without a size, or with one of its own.
-#[tactic(auto, unfolding(crate::specs::Parsers::begin_of))]
+#[tactic(auto, unfolding(crate::specs::Internal::Parsers::begin_of))]
 fn begin(version: u8, mut tokens: Tokens<'_>) -> Option<Step>
     ensures { result ≡ begin_of version tokens.entry }
 {
@@ -197,7 +199,7 @@ fn begin(version: u8, mut tokens: Tokens<'_>) -> Option<Step>
     whole_step(&tokens, Step::BeginSized(size))
 }
 
-#[tactic(auto, unfolding(crate::specs::Parsers::apply_of))]
+#[tactic(auto, unfolding(crate::specs::Internal::Parsers::apply_of))]
 fn apply(mut tokens: Tokens<'_>) -> Option<Step>
     ensures { result ≡ apply_of tokens.entry }
 {
@@ -206,7 +208,7 @@ fn apply(mut tokens: Tokens<'_>) -> Option<Step>
 }
 
 /// Parses a step.
-#[tactic(auto, unfolding(crate::specs::Parsers::step_of))]
+#[tactic(auto, unfolding(crate::specs::Internal::Parsers::step_of))]
 fn step(version: u8, mut tokens: Tokens<'_>) -> Option<Step>
     ensures { result ≡ step_of version tokens.entry }
 {
@@ -229,7 +231,7 @@ fn step(version: u8, mut tokens: Tokens<'_>) -> Option<Step>
 }
 
 /// Parses a step, as an event.
-#[tactic(auto, unfolding(crate::specs::Parsers::collect_of))]
+#[tactic(auto, unfolding(crate::specs::Internal::Parsers::collect_of))]
 fn collect(version: u8, tokens: Tokens<'_>) -> Option<Event>
     ensures { result ≡ collect_of version tokens.entry }
 {
@@ -238,7 +240,7 @@ fn collect(version: u8, tokens: Tokens<'_>) -> Option<Event>
 }
 
 /// Parses an event's line in this version. The line is given without its line feed.
-#[tactic(auto, unfolding(crate::specs::Parsers::event_of))]
+#[tactic(auto, unfolding(crate::specs::Internal::Parsers::event_of))]
 pub fn event(version: u8, line: &[u8]) -> Option<Event>
     ensures { result ≡ event_of version (tokens_of line.now) }
 {
@@ -254,7 +256,7 @@ pub fn event(version: u8, line: &[u8]) -> Option<Event>
 }
 
 /// Parses the first line, and returns its version.
-#[tactic(auto, unfolding(crate::specs::Parsers::version_at, gc_graph::specs::Tokens::end_of))]
+#[tactic(auto, unfolding(crate::specs::Internal::Parsers::version_at, gc_graph::specs::Tokens::if_all_taken))]
 pub fn version(line: &[u8]) -> Option<u8>
     ensures { result ≡ version_at (tokens_of line.now) }
 {
@@ -268,7 +270,7 @@ pub fn version(line: &[u8]) -> Option<u8>
 }
 
 /// Parses the second line, and returns the size of the space and the number of mutators.
-#[tactic(auto, unfolding(crate::specs::Parsers::sizes_of, gc_graph::specs::Tokens::end_of))]
+#[tactic(auto, unfolding(crate::specs::Internal::Parsers::sizes_of, gc_graph::specs::Tokens::if_all_taken))]
 pub fn sizes(line: &[u8]) -> Option<(u32, u8)>
     ensures { result ≡ sizes_of (tokens_of line.now) }
 {

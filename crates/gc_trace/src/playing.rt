@@ -5,7 +5,7 @@ ghost use Rattle.gc_copy.specs.State.{State, opening_state};
 ghost use Rattle.gc_copy.specs.Belonging.{IsState};
 ghost use Rattle.gc_copy.specs.Runs.{IsEvent, after, answer, answers, state_after};
 ghost use Rattle.gc_copy.specs.declared.event.Event.{Event};
-ghost use Rattle.gc_trace.specs.Faults.{IsReadAs, MayFail};
+ghost use Rattle.gc_trace.specs.Faults.{IsReadAsTrace, MayFail};
 ghost use Rattle.gc_trace.specs.Grammar.{Recording};
 ghost use Rattle.gc_trace.specs.Internal.Playing.{HasPlayed};
 ghost use Rattle.gc_trace.specs.Internal.Reading.{IsReading, HasRead, read_so_far};
@@ -138,7 +138,7 @@ impl Player {
         requires sound { IsState self.old.heap }
         requires mutators { self.old.heap.mutators ≡ lines.old.mutators }
         ensures exact { (text : List ℕ) → HasRead text [] lines.old (bytes_left R.remaining reader.old) → MatchResult result
-            (λ _. (t : Recording) × IsReadAs t text × HasPlayed (opening t) t.events self.new)
+            (λ _. (t : Recording) × IsReadAsTrace t text × HasPlayed (opening t) t.events self.new)
             (λ fault. MayFail fault text) }
         ensures sound { OnOk result (IsState self.new.heap) }
         ensures gather { self.new.gather ≡ self.old.gather }
@@ -187,7 +187,7 @@ pub fn play_all<R: Read>(
     gather: Gather,
 ) -> Result<Played, TraceFault>
     ensures exact { IfSome (bytes_left R.remaining reader.old) (λ text. MatchResult result
-        (λ played. (t : Recording) × IsReadAs t text × (played.report ≡ report_in t)
+        (λ played. (t : Recording) × IsReadAsTrace t text × (played.report ≡ report_in t)
         × (gather ≡ Gather.Replies → played.replies.items ≡ reply_text (answers_of_trace t)))
         (λ fault. MayFail fault text)) }
     ensures read { (result ≡ Err TraceFault.Read) ↔ (source_failed reader.new ≡ true) }

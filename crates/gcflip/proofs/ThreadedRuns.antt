@@ -9,7 +9,7 @@ use Rattle.std.specs.Prelude.{slice_index_or}
 use Rattle.gc_graph.specs.Streams.{SendsFront}
 use Rattle.gc_graph.specs.declared.command.Op.{Op}
 use Rattle.gc_shared.specs.Scripts.{HasRun}
-use Rattle.gc_trace.specs.Faults.{IsReadAs}
+use Rattle.gc_trace.specs.Faults.{IsReadAsTrace}
 use Rattle.gc_trace.specs.Grammar.{Recording}
 use Rattle.gc_copy.specs.Runs.{commands_of}
 use Rattle.gc_trace.specs.Scripts.{scripts}
@@ -37,7 +37,7 @@ threaded t turns given past are ran history =
 
 -- the text that the reader gave, where it tells it, is this trace's
 abbrev Reads : Option (List ℕ) → Recording → Type 0
-Reads bytes t = IfSome bytes (λ text. IsReadAs t text)
+Reads bytes t = IfSome bytes (λ text. IsReadAsTrace t text)
 
 pub writes_run : (bytes old new : Option (List ℕ)) (t : Recording) (turns : ℕ) (entries : List Entry) → Reads bytes t → IsThreadedRun t turns entries → Appends old new (recorded t entries) → IfSome bytes (λ text. WritesRun text turns old new)
 writes_run None old new t turns entries read ran out = tt

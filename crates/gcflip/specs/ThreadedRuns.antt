@@ -3,7 +3,7 @@ use Rattle.std.specs.Prelude.{◌≡◌, ℕ, ◌<◌, List, Option, length, All
 use Rattle.std.specs.Io.KnownBytes.{Appends}
 use Rattle.gc_graph.specs.Streams.{SendsFront}
 use Rattle.gc_shared.specs.Scripts.{IsUsefulStep, steps_of}
-use Rattle.gc_trace.specs.Faults.{IsReadAs}
+use Rattle.gc_trace.specs.Faults.{IsReadAsTrace}
 use Rattle.gc_trace.specs.Grammar.{Recording, spelling, written}
 use Rattle.gc_copy.specs.Runs.{commands_of}
 use Rattle.gc_world.specs.History.{events_of, IsHistory}
@@ -23,8 +23,8 @@ recorded t entries = spelling (written t.size t.mutators (events_of entries))
 
 -- the text is of a trace, and the trace of a run of its scripts went out
 abbrev pub WritesRun : List ℕ → ℕ → Option (List ℕ) → Option (List ℕ) → Type 0
-WritesRun text turns old new = (t : Recording) × (entries : List Entry) × IsReadAs t text × IsThreadedRun t turns entries × Appends old new (recorded t entries)
+WritesRun text turns old new = (t : Recording) × (entries : List Entry) × IsReadAsTrace t text × IsThreadedRun t turns entries × Appends old new (recorded t entries)
 
 -- the text is of a trace, and a prefix of the trace of such a run went out
 abbrev pub WritesRunFront : List ℕ → ℕ → Option (List ℕ) → Option (List ℕ) → Type 0
-WritesRunFront text turns old new = (t : Recording) × (entries : List Entry) × IsReadAs t text × IsThreadedRun t turns entries × SendsFront old new (recorded t entries)
+WritesRunFront text turns old new = (t : Recording) × (entries : List Entry) × IsReadAsTrace t text × IsThreadedRun t turns entries × SendsFront old new (recorded t entries)

@@ -2,7 +2,7 @@
 use Rattle.std.specs.Prelude.{◌≡◌, ℕ, List, Option}
 use Rattle.std.specs.Io.KnownBytes.{Appends}
 use Rattle.gc_cert.specs.Grammar.{CertifiedPair}
-use Rattle.gc_cert.specs.Faults.{IsReadAs}
+use Rattle.gc_cert.specs.Faults.{IsReadAsPair}
 use Rattle.gc_check.specs.Headline.{Replicated}
 use Rattle.gc_check.specs.Texts.{verdict_on}
 use Rattle.gc_check.specs.Verdict.{verdict_line}
@@ -11,10 +11,10 @@ use Rattle.gcflip.specs.Statuses.{verdict_status}
 -- the text spells a pair, the status is that of the verdict on it, and the verdict's line went out and nothing else
 pub record TellsVerdict (text : List ℕ) (status : ℕ) (old new : Option (List ℕ)) : Type 0 where
   pub pair : CertifiedPair
-  pub read : IsReadAs pair text
+  pub read : IsReadAsPair pair text
   pub status_is : status ≡ verdict_status (verdict_on pair)
   pub line : Appends old new (verdict_line (verdict_on pair))
 
 -- what the text spells is replicated
 abbrev pub SpellsReplicated : List ℕ → Type 0
-SpellsReplicated text = (pair : CertifiedPair) → IsReadAs pair text → Replicated pair.old pair.new pair.pairs
+SpellsReplicated text = (pair : CertifiedPair) → IsReadAsPair pair text → Replicated pair.old pair.new pair.pairs

@@ -1,6 +1,6 @@
 ghost use Rattle.std.specs.Prelude.{◌≡◌, ◌≢◌, ◌<◌, ◌≤◌};
 ghost use Rattle.gc_cert.specs.Grammar.{CertifiedPair};
-ghost use Rattle.gc_cert.specs.Faults.{IsReadAs, IsPairFaultOf};
+ghost use Rattle.gc_cert.specs.Faults.{IsReadAsPair, IsPairFaultOf};
 ghost use Rattle.gc_cert.specs.declared.fault.PairFault.{PairFault};
 ghost use Rattle.gc_check.specs.Headline.{Replicated};
 ghost use Rattle.gcflip_c.specs.Verdicts.{IsReportedOf, line_in_c};
@@ -21,7 +21,7 @@ pub extern "C" fn gcflip_check_text(alloc: Global, text: &[u8], verdict: &mut Gc
     // The verdict on the pair that the text spells.
     ensures verdict { result < 2 → IsReportedOf text.now result verdict.new }
     // What a yes promises of the images that the text spells.
-    ensures replicated { result ≡ 0 → (pair : CertifiedPair) → IsReadAs pair text.now
+    ensures replicated { result ≡ 0 → (pair : CertifiedPair) → IsReadAsPair pair text.now
         → Replicated pair.old pair.new pair.pairs }
     // The first fault of a bad text.
     ensures large { result ≡ 4 → IsPairFaultOf PairFault.TooLarge text.now }

@@ -40,6 +40,6 @@ Flips (Some old) (Some new) answer = (reply : StepReply) × (collect old steps.F
 Flips old new answer = ⊥
 
 -- a step in the state `old` that got the reply with this number lacked no room, if the new space is at least as large as the heap
-abbrev pub HasRoom : Option State → ℕ → Type 0
-HasRoom None answer = ⊥
-HasRoom (Some old) answer = (reply : StepReply) × (answer ≡ step_reply_in_c reply) × HasRoomIfLarge old reply
+abbrev pub LacksNoRoom : Option State → ℕ → Type 0
+LacksNoRoom None answer = ⊥
+LacksNoRoom (Some old) answer = (reply : StepReply) × (answer ≡ step_reply_in_c reply) × HasRoomIfLarge old reply

@@ -2,7 +2,7 @@
 
 ghost use Rattle.std.specs.Prelude.{◌≡◌};
 ghost use Rattle.gc_copy.specs.declared.step.Step.{Step};
-ghost use Rattle.gcflip_heap_c.specs.Steps.{IsStepCall, Flips, HasRoom};
+ghost use Rattle.gcflip_heap_c.specs.Steps.{IsStepCall, Flips, LacksNoRoom};
 ghost use Rattle.gcflip_heap_c.specs.Replies.{IsRefusal, step_reply_in_c, pairs_after};
 
 use crate::answer::{CLOSED, NO_MEMORY, OUT_OF_RANGE};
@@ -53,7 +53,7 @@ pub extern "C" fn gcflip_heap_begin_sized(alloc: Global, heap: &mut GcflipHeap, 
 #[unsafe(no_mangle)]
 pub extern "C" fn gcflip_heap_roots(alloc: Global, heap: &mut GcflipHeap) -> u32
     ensures call { IsStepCall Step.Roots (λ reply. result ≡ step_reply_in_c reply) heap.old.state heap.new.state result }
-    ensures room { ¬ IsRefusal result → HasRoom heap.old.state result }
+    ensures room { ¬ IsRefusal result → LacksNoRoom heap.old.state result }
 {
     let Some(mut opened) = heap.take(alloc) else {
         return CLOSED;
@@ -67,7 +67,7 @@ pub extern "C" fn gcflip_heap_roots(alloc: Global, heap: &mut GcflipHeap) -> u32
 #[unsafe(no_mangle)]
 pub extern "C" fn gcflip_heap_scan(alloc: Global, heap: &mut GcflipHeap) -> u32
     ensures call { IsStepCall Step.Scan (λ reply. result ≡ step_reply_in_c reply) heap.old.state heap.new.state result }
-    ensures room { ¬ IsRefusal result → HasRoom heap.old.state result }
+    ensures room { ¬ IsRefusal result → LacksNoRoom heap.old.state result }
 {
     let Some(mut opened) = heap.take(alloc) else {
         return CLOSED;
@@ -81,7 +81,7 @@ pub extern "C" fn gcflip_heap_scan(alloc: Global, heap: &mut GcflipHeap) -> u32
 #[unsafe(no_mangle)]
 pub extern "C" fn gcflip_heap_apply(alloc: Global, heap: &mut GcflipHeap, m: u8) -> u32
     ensures call { IsStepCall (Step.Apply m) (λ reply. result ≡ step_reply_in_c reply) heap.old.state heap.new.state result }
-    ensures room { ¬ IsRefusal result → HasRoom heap.old.state result }
+    ensures room { ¬ IsRefusal result → LacksNoRoom heap.old.state result }
 {
     let Some(mut opened) = heap.take(alloc) else {
         return CLOSED;

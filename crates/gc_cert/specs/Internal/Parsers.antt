@@ -1,7 +1,8 @@
--- Tokens and lines of a pair text that the parsers test.
-use Rattle.std.specs.Prelude.{ℕ, ◌&&◌, Bool, true, false, nat_le, List, [], ◌∷◌, Option, Some, None, if◌then◌else◌}
+-- Reading the lines of a pair text, and their tokens from left to right.
+use Rattle.std.specs.Prelude.{ℕ, ◌==◌, ◌&&◌, Bool, true, false, nat_le, List, [], ◌∷◌, Option, Some, None, if◌then◌else◌}
 use Rattle.std.specs.Str.{bytes_eq}
-use Rattle.gc_graph.specs.Tokens.{◌>>=◌, Tokens, number_of, number_at, end_of}
+use Rattle.gc_graph.specs.Limits.{most_words}
+use Rattle.gc_graph.specs.Tokens.{◌>>=◌, Tokens, number_of, number_at, token_at, if_all_taken}
 use Rattle.gc_cert.specs.Grammar.{heading}
 
 -- each byte is above the digits, so none is a space or a line feed
@@ -26,4 +27,20 @@ unfoldable pub pair_of : Tokens → Option (ℕ × ℕ)
 pair_of tokens = do
   old ← number_at 4294967295 tokens
   new ← number_at 4294967295 old.1
-  end_of (old.0, new.0) new.1
+  if_all_taken (old.0, new.0) new.1
+
+-- a name and a number up to this
+unfoldable pub count_of : List ℕ → ℕ → Tokens → Option ℕ
+count_of name most tokens = do
+  rest ← token_at name tokens
+  count ← number_at most rest
+  if_all_taken count.0 count.1
+
+-- a name, and the size and the end of an image
+unfoldable pub sizes_of : List ℕ → Tokens → Option (ℕ × ℕ)
+sizes_of name tokens = do
+  rest ← token_at name tokens
+  size ← number_at most_words rest
+  end ← number_at most_words size.1
+  sizes ← if_all_taken (size.0, end.0) end.1
+  if sizes.0 == 0 then None else if sizes.1 == 0 then None else Some sizes

@@ -8,8 +8,9 @@ ghost use Rattle.gc_copy.specs.Steps.{roots_done};
 ghost use Rattle.gc_copy.specs.Words.{collection_in, new_root_words, BelongsTo, HasNoLinks};
 
 use super::empty;
+use super::rows::{mutate, own};
 use crate::Collection;
-use gc_graph::{NoMemory, Op, Reply, Slot, View};
+use gc_graph::{NoMemory, Op, Reply, View};
 use gc_heap::Heap;
 use gc_words::Pair;
 use std::alloc::Global;
@@ -62,7 +63,7 @@ fn mutate_again(
 {
     match collection.reserve(m) {
         Ok(()) => Ok(collection.mutate(heap, m, op)),
-        Err(NoMemory) => super::mutate(collection, heap, m, op),
+        Err(NoMemory) => mutate(collection, heap, m, op),
     }
 }
 
@@ -118,7 +119,7 @@ fn calls_are_made_again(rt: HostRuntime) -> Result<(), Fail> {
 
 #[test]
 fn room_is_reserved_again(rt: HostRuntime) -> Result<(), Fail> {
-    let r0 = Slot::own(0).ok_or("slot")?;
+    let r0 = own(&rt, 0);
     let mut heap = empty_again(rt.alloc())?;
     let mut collection = begin_again(rt.alloc(), &heap)?;
     let look = Op::Look { s: r0 };

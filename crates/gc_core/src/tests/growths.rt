@@ -3,14 +3,16 @@
 
 ghost use Rattle.std.specs.Prelude.{◌≡◌, ◌<◌, IfOk};
 
+use super::rows::{Row, new, own, perform, put};
 use crate::{CollectedHeap, Flip, Keep};
 use gc_check::Sequential;
-use gc_copy::StepReply;
-use gc_graph::{NoMemory, Op, Reply, Slot, View};
+use gc_copy::{Step, StepReply};
+use gc_graph::{NoMemory, Reply, Slot};
 use std::alloc::Global;
 use std::process::Abort;
 use std::test::Fail;
 
+/// Opens a heap of 32 words and one mutator. Retries if an allocation fails.
 fn open_again(alloc: Global) -> Result<CollectedHeap, NoMemory>
     ensures { IfOk result (λ heap. heap.mutators ≡ 1) }
 {
@@ -20,25 +22,34 @@ fn open_again(alloc: Global) -> Result<CollectedHeap, NoMemory>
     }
 }
 
-fn mutate_again(heap: &mut CollectedHeap, op: &Op) -> Result<Reply, NoMemory>
+/// Performs a row. Retries if an allocation fails.
+fn perform_again(
+    rt: &impl Abort,
+    heap: &mut CollectedHeap,
+    place: usize,
+    row: &Row,
+) -> Result<(), NoMemory>
     requires { 0 < heap.old.mutators }
     ensures { heap.new.mutators ≡ heap.old.mutators }
 {
-    match heap.mutate(0, op) {
-        Ok(reply) => Ok(reply),
-        Err(NoMemory) => heap.mutate(0, op),
+    match perform(rt, heap, place, row) {
+        Ok(()) => Ok(()),
+        Err(NoMemory) => perform(rt, heap, place, row),
     }
 }
 
-fn begin_again(heap: &mut CollectedHeap) -> Result<StepReply, NoMemory>
+/// Performs the rows in order, as `play` does. Retries each row whose allocation fails.
+fn play_again(rt: &impl Abort, heap: &mut CollectedHeap, rows: &[Row]) -> Result<(), NoMemory>
+    requires { 0 < heap.old.mutators }
     ensures { heap.new.mutators ≡ heap.old.mutators }
 {
-    match heap.begin() {
-        Ok(reply) => Ok(reply),
-        Err(NoMemory) => heap.begin(),
+    for (place, row) in rows.iter().enumerate() {
+        perform_again(rt, heap, place, row)?;
     }
+    Ok(())
 }
 
+/// Flips. Retries if an allocation fails.
 fn flip_again(heap: &mut CollectedHeap, keep: Keep) -> Result<Flip, NoMemory>
     ensures { heap.new.mutators ≡ heap.old.mutators }
 {
@@ -54,32 +65,27 @@ fn collect_again(
     heap: &mut CollectedHeap,
     r0: Slot,
     keep: Keep,
-) -> Result<Flip, Fail>
+) -> Result<Flip, NoMemory>
     requires { 0 < heap.old.mutators }
     ensures { heap.new.mutators ≡ heap.old.mutators }
 {
-    let _named = View::Nil;
-    assert_eq!(rt; begin_again(heap)?, StepReply::Begun);
-    let put = Op::Put { s: r0, i: 0, t: r0 };
-    assert_eq!(rt; mutate_again(heap, &put)?, Reply::Done);
-    assert_eq!(rt; heap.apply_log(0), StepReply::Applied);
-    assert_eq!(rt; heap.roots(), StepReply::Copied);
-    assert_eq!(rt; heap.scan(), StepReply::Scanned);
-    assert_eq!(rt; heap.scan(), StepReply::Passed);
-    Ok(flip_again(heap, keep)?)
+    let rows = [
+        Row::Call(Step::Begin, StepReply::Begun),
+        Row::Command(put(r0, 0, r0), Reply::Done),
+        Row::Call(Step::Apply(0), StepReply::Applied),
+        Row::Call(Step::Roots, StepReply::Copied),
+        Row::Call(Step::Scan, StepReply::Scanned),
+        Row::Call(Step::Scan, StepReply::Passed),
+    ];
+    play_again(rt, heap, &rows)?;
+    flip_again(heap, keep)
 }
 
 #[test]
 fn each_call_is_retried(rt: HostRuntime) -> Result<(), Fail> {
-    let _named = View::Nil;
-    let r0 = Slot::own(0).ok_or("slot")?;
+    let r0 = own(&rt, 0);
     let mut heap = open_again(rt.alloc())?;
-    let new = Op::New {
-        d: r0,
-        kind: 1,
-        len: 1,
-    };
-    assert_eq!(rt; mutate_again(&mut heap, &new)?, Reply::Made);
+    play_again(&rt, &mut heap, &[Row::Command(new(r0, 1, 1), Reply::Made)])?;
     let kept = collect_again(&rt, &mut heap, r0, Keep::Pair)?;
     assert_eq!(rt; kept.reply, StepReply::Flipped { pairs: 1 });
     assert!(rt; kept.pair.is_some());

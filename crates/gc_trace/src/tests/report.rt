@@ -1,14 +1,11 @@
-ghost use Rattle.std.specs.Prelude.{◌≡◌, IfOk};
-
 use crate::report::NOTHING;
 use crate::tests::rows::{COLLECT_WHEN_FULL, NO_EVENTS, RAW_WORDS_KEEP_NOTHING, ROWS};
 use crate::tests::streams::{End, Narrow, Slow};
-use crate::tests::worlds::{command, step, useful};
+use crate::tests::worlds::run_of;
 use crate::{PlayFault, Report, TraceFault, play, play_report, report_of, write_report};
 use gc_cert::WriteFault;
-use gc_copy::{Step, StepReply};
-use gc_graph::{NoMemory, Op, Reply, Sink, Slot, Source, View};
-use gc_world::World;
+use gc_copy::StepReply;
+use gc_graph::{Sink, Source};
 use std::alloc::Global;
 use std::test::Fail;
 
@@ -16,42 +13,9 @@ use std::test::Fail;
 pub const COLLECTED: &[u8] = b"events 12\nmade 3\nfull 1\nbegun 1\ncopied 1\nscanned 2\napplied 0\n\
     flips 1\npairs 1\ndropped 0\nrefused 0\nend 7\nfree 2\n";
 
-/// Returns a world of nine words that two objects fill. A root refers to one of them.
-fn full_world(alloc: Global) -> Result<World, Fail>
-    ensures { IfOk result (λ world. world.mutators ≡ 1) }
-{
-    let _named = View::Nil;
-    let d = Slot::own(0).ok_or("slot")?;
-    let op = Op::New { d, kind: 1, len: 2 };
-    let mut world = World::open(alloc, 9, 1)?;
-    command(&mut world, &op)?;
-    command(&mut world, &op)?;
-    Ok(world)
-}
-
-/// Performs the steps of a collection.
-fn collect(world: &mut World) -> Result<StepReply, NoMemory>
-    ensures { world.new.mutators ≡ world.old.mutators }
-{
-    step(world, Step::Begin)?;
-    step(world, Step::Roots)?;
-    step(world, Step::Scan)?;
-    step(world, Step::Scan)?;
-    step(world, Step::Scan)?;
-    step(world, Step::Scan)?;
-    step(world, Step::Roots)?;
-    step(world, Step::Flip)
-}
-
 #[test]
 fn each_answer_is_counted(rt: HostRuntime) -> Result<(), Fail> {
-    let _named = View::Nil;
-    let d = Slot::own(1).ok_or("slot")?;
-    let third = Op::New { d, kind: 0, len: 0 };
-    let mut world = full_world(rt.alloc())?;
-    assert_eq!(rt; command(&mut world, &third)?, Reply::Full);
-    assert_eq!(rt; collect(&mut world)?, StepReply::Flipped { pairs: 1 });
-    assert_eq!(rt; command(&mut world, &third)?, Reply::Made);
+    let world = run_of(rt.alloc(), COLLECT_WHEN_FULL.trace)?;
     let report = report_of(&world);
     let want = Report {
         events: 12,
@@ -75,16 +39,9 @@ fn each_answer_is_counted(rt: HostRuntime) -> Result<(), Fail> {
 
 #[test]
 fn logs_and_drops_are_counted(rt: HostRuntime) -> Result<(), Fail> {
-    let _named = View::Nil;
-    let d = Slot::own(0).ok_or("slot")?;
-    let mut world = World::open(rt.alloc(), 16, 1)?;
-    let made = command(&mut world, &Op::New { d, kind: 1, len: 1 })?;
-    assert_eq!(rt; made, Reply::Made);
-    assert_eq!(rt; step(&mut world, Step::Begin)?, StepReply::Begun);
-    let put = command(&mut world, &Op::Put { s: d, i: 0, t: d })?;
-    assert_eq!(rt; put, Reply::Done);
-    assert_eq!(rt; step(&mut world, Step::Apply(0))?, StepReply::Applied);
-    assert_eq!(rt; step(&mut world, Step::Drop)?, StepReply::Dropped);
+    let text =
+        b"heaptrace 1\nspace 16 mutators 1\nm 0 new r0 1 1\nc begin\nm 0 put r0 0 r0\nc apply 0\nc drop\n";
+    let world = run_of(rt.alloc(), text)?;
     let want = Report {
         events: 5,
         made: 1,
@@ -101,13 +58,18 @@ fn logs_and_drops_are_counted(rt: HostRuntime) -> Result<(), Fail> {
 
 #[test]
 fn useful_steps_count_as_the_collectors(rt: HostRuntime) -> Result<(), Fail> {
-    let mut world = full_world(rt.alloc())?;
-    assert_eq!(rt; useful(&rt, &mut world)?.1, StepReply::Begun);
-    assert_eq!(rt; useful(&rt, &mut world)?.1, StepReply::Copied);
-    assert_eq!(rt; useful(&rt, &mut world)?.1, StepReply::Scanned);
-    assert_eq!(rt; useful(&rt, &mut world)?.1, StepReply::Scanned);
-    assert_eq!(rt; useful(&rt, &mut world)?.1, StepReply::Passed);
-    assert_eq!(rt; useful(&rt, &mut world)?.1, StepReply::Flipped { pairs: 1 });
+    let full = b"heaptrace 1\nspace 9 mutators 1\nm 0 new r0 1 2\nm 0 new r0 1 2\n";
+    let mut world = run_of(rt.alloc(), full)?;
+    for reply in [
+        StepReply::Begun,
+        StepReply::Copied,
+        StepReply::Scanned,
+        StepReply::Scanned,
+        StepReply::Passed,
+        StepReply::Flipped { pairs: 1 },
+    ] {
+        assert_eq!(rt; world.collect_useful(&rt)?.1, reply);
+    }
     let want = Report {
         events: 8,
         made: 2,

@@ -1,12 +1,13 @@
 use crate::tests::rows::{ROWS, WRITE_WHILE_SCANNING};
 use crate::tests::streams::{End, Narrow, Taking, nine_thousand_flips, played};
-use crate::tests::worlds::{command, step, useful};
+use crate::tests::worlds::run_of;
 use crate::{read_trace, run_trace, write_trace};
 use gc_cert::WriteFault;
 use gc_copy::{Step, StepReply};
-use gc_graph::{Number, Op, Reply, Sink, Slot, Source, View};
+use gc_graph::{NoMemory, Number, Op, Reply, Sink, Slot, Source};
 use gc_world::{Entry, World};
 use std::alloc::Global;
+use std::process::Abort;
 use std::test::Fail;
 use std::thread::Threads;
 
@@ -151,26 +152,23 @@ fn more_lines_than_wait_at_once(rt: HostRuntime) -> Result<(), Fail> {
     Ok(())
 }
 
-/// A world in which the useful step was made six times.
-fn useful_world(rt: &(impl Threads + Sync), alloc: Global) -> Result<World, Fail> {
-    let _named = View::Nil;
-    let r0 = Slot::own(0).ok_or("slot")?;
-    let mut world = World::open(alloc, 8, 1)?;
-    let new = Op::New {
-        d: r0,
-        kind: 0,
-        len: 1,
-    };
-    command(&mut world, &new)?;
-    step(&mut world, Step::Scan)?;
-    step(&mut world, Step::Apply(0))?;
-    useful(rt, &mut world)?;
-    useful(rt, &mut world)?;
-    useful(rt, &mut world)?;
-    useful(rt, &mut world)?;
-    command(&mut world, &Op::Put { s: r0, i: 0, t: r0 })?;
-    useful(rt, &mut world)?;
-    useful(rt, &mut world)?;
+/// Performs the useful step this often.
+fn useful_often(rt: &(impl Threads + Sync), world: &mut World, count: u32) -> Result<(), NoMemory> {
+    for _ in 0..count {
+        world.collect_useful(rt)?;
+    }
+    Ok(())
+}
+
+/// Returns a world in which the useful step was made six times.
+fn useful_world(rt: &(impl Threads + Sync + Abort), alloc: Global) -> Result<World, Fail> {
+    let before = b"heaptrace 1\nspace 8 mutators 1\nm 0 new r0 0 1\nc scan\nc apply 0\n";
+    let r0 = Slot::own(0).expect(rt, "a slot");
+    let mut world = run_of(alloc, before)?;
+    useful_often(rt, &mut world, 4)?;
+    assert!(rt; world.mutators() == 1);
+    world.mutate(0, &Op::Put { s: r0, i: 0, t: r0 })?;
+    useful_often(rt, &mut world, 2)?;
     Ok(world)
 }
 

@@ -1,7 +1,7 @@
 use Rattle.std.proofs.Common.{◌≤◌, sym, arith}
 use Rattle.gc_graph.specs.Lines.{tokens_of}
 use Rattle.gc_cert.specs.Grammar.{count_line}
-use Rattle.gc_cert.specs.Parsers.{count_of}
+use Rattle.gc_cert.specs.Internal.Parsers.{count_of}
 use Rattle.gc_cert.proofs.Forms.{line_cut, line_wrong, line_taken}
 use Rattle.gc_cert.proofs.LineForms.{count_form}
 use Rattle.gc_cert.proofs.line_kinds.take_count.Goals as goal

@@ -1,7 +1,7 @@
 use Rattle.std.proofs.Common.{sym}
 use Rattle.gc_graph.specs.Lines.{tokens_of}
 use Rattle.gc_cert.specs.Grammar.{size_line, AreSizes}
-use Rattle.gc_cert.specs.Parsers.{sizes_of}
+use Rattle.gc_cert.specs.Internal.Parsers.{sizes_of}
 use Rattle.gc_cert.proofs.Forms.{line_cut, line_wrong, line_taken}
 use Rattle.gc_cert.proofs.LineForms.{size_form}
 use Rattle.gc_cert.proofs.line_kinds.take_sizes.Goals as goal

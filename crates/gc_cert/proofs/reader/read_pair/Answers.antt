@@ -1,13 +1,14 @@
 use Rattle.std.proofs.Common.{◌≡◌, ◌+◌, Some, rules, refl, drop, MatchResult}
 use Rattle.std.proofs.lemmas.Result.{err_from_is_err_and}
 use Rattle.gc_graph.specs.Streams.{bytes_left}
-use Rattle.gc_cert.specs.Faults.{limit, IsReadAs, MayFail}
+use Rattle.gc_cert.specs.Faults.{limit, IsReadAsPair, MayFail}
 use Rattle.gc_cert.specs.Views.{pair_in}
-use Rattle.gc_cert.proofs.ReadPieces.{if_known, unread_text}
+use Rattle.gc_graph.proofs.PieceSteps.{if_known}
+use Rattle.gc_cert.proofs.ReadPieces.{unread_text}
 use Rattle.gc_cert.proofs.reader.read_pair.Goals as goal
 
 pub returns-in_err-begin-clause-exact : goal.returns-in_err-begin-clause-exact
-returns-in_err-begin-clause-exact g c = if_known {P = λ text. MatchResult c.from_residual.result (λ file. IsReadAs (pair_in file) text) (λ fault. MayFail fault text)} _ (λ text is.
+returns-in_err-begin-clause-exact g c = if_known {P = λ text. MatchResult c.from_residual.result (λ file. IsReadAsPair (pair_in file) text) (λ fault. MayFail fault text)} _ (λ text is.
     let fault = err_from_is_err_and c.from_residual.result c.from_residual.ensures.1 in
     rw (fault.1, fault.2) (unread_text text _ _ (c.in_err-begin.ensures.place text is)).0)
 

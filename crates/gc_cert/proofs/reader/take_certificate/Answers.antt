@@ -4,8 +4,7 @@ use Rattle.std.proofs.lemmas.Result.{err_from_is_err_and}
 use Rattle.gc_graph.specs.Lines.{tokens_of}
 use Rattle.gc_words.specs.Views.{addresses}
 use Rattle.gc_cert.specs.Grammar.{pair_line, count_line, AreAddresses}
-use Rattle.gc_cert.specs.Parsers.{count_of}
-use Rattle.gc_cert.specs.Internal.Parsers.{pair_of, is_line}
+use Rattle.gc_cert.specs.Internal.Parsers.{count_of, pair_of, is_line}
 use Rattle.gc_cert.specs.Internal.Sections.{Nothing, alone, AreAll}
 use Rattle.gc_cert.proofs.Forms.{alone_delimits, all_delimit}
 use Rattle.gc_cert.proofs.LineForms.{fixed_form, count_form, pair_form}

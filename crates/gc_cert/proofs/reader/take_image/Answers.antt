@@ -4,8 +4,7 @@ use Rattle.std.specs.Fmt.{decimal}
 use Rattle.std.proofs.lemmas.Result.{err_from_is_err_and}
 use Rattle.gc_graph.specs.Lines.{tokens_of}
 use Rattle.gc_cert.specs.Grammar.{count_line, size_line, IsWord, AreSizes}
-use Rattle.gc_cert.specs.Parsers.{count_of, sizes_of}
-use Rattle.gc_cert.specs.Internal.Parsers.{word_in}
+use Rattle.gc_cert.specs.Internal.Parsers.{count_of, sizes_of, word_in}
 use Rattle.gc_cert.specs.Internal.Sections.{alone, AreAll}
 use Rattle.gc_cert.proofs.Forms.{alone_delimits, all_delimit}
 use Rattle.gc_cert.proofs.LineForms.{word_form, count_form, size_form}

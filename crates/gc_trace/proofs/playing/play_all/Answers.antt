@@ -1,15 +1,15 @@
 use Rattle.std.proofs.Common.{◌≡◌, ◌∙◌}
-use Rattle.gc_trace.specs.Faults.{IsReadAs}
+use Rattle.gc_trace.specs.Faults.{IsReadAsTrace}
 use Rattle.gc_trace.specs.Grammar.{Recording}
 use Rattle.gc_trace.specs.Plays.{opening, answers, report_in}
 use Rattle.gc_trace.specs.Replies.{reply_text}
 use Rattle.gc_trace.specs.declared.playing.Gather.TheVariants.{Replies}
-use Rattle.gc_trace.proofs.ReadLines.{if_known}
+use Rattle.gc_graph.proofs.PieceSteps.{if_known}
 use Rattle.gc_trace.proofs.playing.play_all.Goals as goal
 
 pub returns-in-Ok-finish-clause-exact : goal.returns-in-Ok-finish-clause-exact
 returns-in-Ok-finish-clause-exact g c = if_known
-    {P = λ text. (t : Recording) × IsReadAs t text × (c.in-Ok-finish.played.report ≡ report_in t) × (c.args.gather ≡ Replies → c.in-Ok-finish.played.replies.items ≡ reply_text (answers t))}
+    {P = λ text. (t : Recording) × IsReadAsTrace t text × (c.in-Ok-finish.played.report ≡ report_in t) × (c.args.gather ≡ Replies → c.in-Ok-finish.played.replies.items ≡ reply_text (answers t))}
     _
     (λ text is.
     let read = c.in_ok-take_all.ensures.exact text (c.in_ok-lines.ensures.exact text is) in

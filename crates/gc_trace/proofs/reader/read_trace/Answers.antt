@@ -3,11 +3,12 @@ use Rattle.std.specs.Result.{is_ok}
 use Rattle.std.proofs.lemmas.Result.{err_from_is_err_and}
 use Rattle.gc_graph.specs.Streams.{source_failed}
 use Rattle.gc_trace.specs.Grammar.{Recording}
-use Rattle.gc_trace.specs.Faults.{IsReadAs, MayFail}
+use Rattle.gc_trace.specs.Faults.{IsReadAsTrace, MayFail}
 use Rattle.gc_trace.specs.Internal.Reading.{read_so_far}
 use Rattle.gc_trace.specs.Views.{recording}
 use Rattle.gc_trace.proofs.Ranges.{in_range}
-use Rattle.gc_trace.proofs.ReadLines.{if_known, same_heading, all_can, still_recording}
+use Rattle.gc_graph.proofs.PieceSteps.{if_known}
+use Rattle.gc_trace.proofs.ReadLines.{same_heading, all_can, still_recording}
 use Rattle.gc_trace.proofs.reader.read_trace.Goals as goal
 
 pub loop-events-init : goal.loop-events-init
@@ -21,7 +22,7 @@ loop-events-init g c =
     }
 
 pub returns-in_err-event-clause-exact : goal.returns-in_err-event-clause-exact
-returns-in_err-event-clause-exact g c = if_known {P = λ text. MatchResult c.from_residual-in_err-event.result (λ t. IsReadAs (recording t) text) (λ fault. MayFail fault text)} _ (λ text is.
+returns-in_err-event-clause-exact g c = if_known {P = λ text. MatchResult c.from_residual-in_err-event.result (λ t. IsReadAsTrace (recording t) text) (λ fault. MayFail fault text)} _ (λ text is.
     let p = err_from_is_err_and c.from_residual-in_err-event.result c.from_residual-in_err-event.ensures.1 in
     rw (p.1, p.2) (c.in_err-event.ensures.exact text c.loop-events.events.items (c.loop-events.invariant.read text is)))
 
@@ -43,10 +44,10 @@ loop-events-preserved g c =
     }
 
 pub returns-clause-exact : goal.returns-clause-exact
-returns-clause-exact g c = if_known {P = λ text. IsReadAs (read_so_far c.next.new.self c.loop-events.events.items) text} _ (λ text is.
+returns-clause-exact g c = if_known {P = λ text. IsReadAsTrace (read_so_far c.next.new.self c.loop-events.events.items) text} _ (λ text is.
     let i = c.loop-events.invariant in
     let same = same_heading c.loop-events.lines c.next.new.self c.loop-events.events.items c.in_ok-event.ensures.heading in
-    subst (λ (t : Recording). IsReadAs t text) (sym same) (rw c.in_default.is at c.in_ok-event.ensures.exact text c.loop-events.events.items (i.read text is)))
+    subst (λ (t : Recording). IsReadAsTrace t text) (sym same) (rw c.in_default.is at c.in_ok-event.ensures.exact text c.loop-events.events.items (i.read text is)))
 
 pub returns-clause-sound : goal.returns-clause-sound
 returns-clause-sound g c = still_recording c.loop-events.lines c.next.new.self c.loop-events.events.items c.in_ok-event.ensures.heading c.loop-events.invariant.reading c.loop-events.invariant.all

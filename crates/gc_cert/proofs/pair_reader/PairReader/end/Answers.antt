@@ -1,7 +1,8 @@
 use Rattle.std.proofs.Common.{rules, arith, ◌≡◌, ◌≢◌, [], false, length, sym, ◌∙◌}
 use Rattle.std.proofs.lemmas.Result.{err_from_is_err_and}
 use Rattle.gc_graph.specs.Streams.{source_failed}
-use Rattle.gc_cert.proofs.ReadPieces.{cannot_go_on, all_read, no_byte}
+use Rattle.gc_graph.proofs.PieceSteps.{all_waits, no_byte}
+use Rattle.gc_cert.proofs.ReadPieces.{cannot_go_on}
 use Rattle.gc_cert.proofs.pair_reader.PairReader.end.Goals as goal
 
 pub returns-in_err-more-clause-place : goal.returns-in_err-more-clause-place
@@ -21,13 +22,13 @@ loop-preserved g c =
 pub returns-then-is_empty-clause-place : goal.returns-then-is_empty-clause-place
 returns-then-is_empty-clause-place g c text p h =
     let at = c.in_ok-more.ensures.place text p (c.loop.invariant.place text p h) in
-    let all = all_read text p c.more.new.self _ at (c.in_ok-more.ensures.whole (search rules)).0 in
+    let all = all_waits text p.rest c.more.new.self.pieces _ at.within (c.in_ok-more.ensures.whole (search rules)).0 in
     let none : length c.more.new.self.pieces.waiting ≡ 0 = search rules in
     (all.0 ∙ no_byte c.more.new.self.pieces.waiting none, omega (arith, all.1, c.in_ok-more.ensures.reading.bounded))
 
 pub returns-else-is_empty-clause-place : goal.returns-else-is_empty-clause-place
 returns-else-is_empty-clause-place g c text p h =
     let at = c.in_ok-more.ensures.place text p (c.loop.invariant.place text p h) in
-    let all = all_read text p c.more.new.self _ at (c.in_ok-more.ensures.whole (search rules)).0 in
+    let all = all_waits text p.rest c.more.new.self.pieces _ at.within (c.in_ok-more.ensures.whole (search rules)).0 in
     let some : c.more.new.self.pieces.waiting ≢ [] = search rules in
     ((λ empty. some (sym all.0 ∙ empty)), omega (arith, at.taken_is), omega (arith, all.1, c.in_ok-more.ensures.reading.bounded))

@@ -3,7 +3,7 @@ use Rattle.std.proofs.lemmas.Result.{err_from_is_err_and}
 use Rattle.gc_graph.specs.Streams.{bytes_left, source_failed}
 use Rattle.gc_cert.specs.Internal.Reading.{IsAt}
 use Rattle.gc_cert.specs.declared.pair_reader.PairReader.{PairReader}
-use Rattle.gc_cert.proofs.ReadPieces.{cannot_end, stop_ends, waiting_bytes, waiting_place, left_at, lines_left, ends_there}
+use Rattle.gc_cert.proofs.ReadPieces.{cannot_end, stop_ends, waiting_bytes, waiting_place, left_at, lines_left, place_ends_there}
 use Rattle.gc_cert.proofs.pair_reader.PairReader.take.Goals as goal
 
 pub returns-in-Ok-clause-place : goal.returns-in-Ok-clause-place
@@ -25,7 +25,7 @@ returns-then-not-branch-clause-place g c text p h =
     let before = c.loop-value.invariant.place text p h in
     let after = c.in_ok-more-in-Err.ensures.place text p before in
     let whole = c.in_ok-more-in-Err.ensures.whole (search rules) in
-    let ends = ends_there text p c.loop-value.self _ c.more.new.self _ before after whole.0 whole.1 in
+    let ends = place_ends_there text p c.loop-value.self _ c.more.new.self _ before after whole.0 whole.1 in
     let start : c.behind-lines.result ≡ p = c.behind-lines.ensures ∙ ap (λ (bytes : List ℕ). waiting_bytes bytes c.loop-value.self.taken) c.waiting.ensures ∙ sym ends.0 in
     stop_ends (g.K.LineKind.section c.args.kind.now) c.in-Err.fault text p _ (rw start at c.in-Err.ensures) (omega (arith, ends.1, c.in_ok-more-in-Err.ensures.reading.bounded))
 

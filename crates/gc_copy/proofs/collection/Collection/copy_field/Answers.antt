@@ -1,24 +1,19 @@
-use Rattle.std.proofs.Common.{◌≡◌, ℕ, Some, ap, subst}
-use Rattle.gc_words.specs.Image.{field_at}
+use Rattle.std.proofs.Common.{ap}
 use Rattle.gc_words.specs.Space.{SpaceWords}
-use Rattle.gc_heap.specs.Heap.{HeapWords}
 use Rattle.gc_copy.specs.Words.{CollectionWords}
+use Rattle.gc_copy.proofs.FieldWords.{read_in_heap}
 use Rattle.gc_copy.proofs.OpenCollection.{raw_present, Brought, copied_words}
 use Rattle.gc_copy.proofs.collection.Collection.copy_field.Goals as goal
 
--- the field's word, in the heap
-read : (heap : HeapWords) (s : SpaceWords) (name i w : ℕ) → s ≡ heap.space → field_at s.words name i ≡ Some w → field_at heap.space.words name i ≡ Some w
-read heap s name i w same e = subst (λ (s : SpaceWords). field_at s.words name i ≡ Some w) same e
-
 pub set_field-requires : goal.set_field-requires
 set_field-requires c = raw_present c.args.heap.now c.args.self.now _ c.args.original.0 c.args.field c.field-word.result c.args.replica.0 c.space.ensures.sound c.requires.raw c.self.invariant c.self.view_is
-    c.requires.belongs (read c.args.heap.now _ _ _ _ c.space.ensures.value c.field-word.ensures) c.requires.replica
+    c.requires.belongs (read_in_heap c.args.heap.now _ _ _ _ c.space.ensures.value c.field-word.ensures) c.requires.replica
 
 done : (c : goal.After-set_field) → Brought c.args.heap.now c.args.heap.now c.args.self.now (record { space = c.set_field.new.self; logs = c.self.inside.logs.items; scan_place = c.self.inside.scan_place.0; scan_field = c.self.inside.scan_field }) c.args.original.0 c.args.field
 done c =
     let x : CollectionWords = record { space = c.self.inside.space; logs = c.self.inside.logs.items; scan_place = c.self.inside.scan_place.0; scan_field = c.self.inside.scan_field } in
     copied_words c.args.heap.now c.args.self.now x c.args.original.0 c.args.field c.field-word.result c.args.replica.0 c.space.ensures.sound c.requires.raw c.self.invariant c.self.view_is
-    c.requires.belongs (read c.args.heap.now _ _ _ _ c.space.ensures.value c.field-word.ensures) c.requires.replica
+    c.requires.belongs (read_in_heap c.args.heap.now _ _ _ _ c.space.ensures.value c.field-word.ensures) c.requires.replica
     (record x { space = c.set_field.new.self }) (ap (λ (s : SpaceWords). record x { space = s }) c.set_field.ensures.words)
 
 pub invariant_of-self : goal.invariant_of-self

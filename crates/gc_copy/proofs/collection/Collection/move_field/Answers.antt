@@ -1,39 +1,35 @@
-use Rattle.std.proofs.Common.{◌≡◌, ℕ, Some, ap, subst}
+use Rattle.std.proofs.Common.{ap}
 use Rattle.gc_words.specs.Word.{value_of}
-use Rattle.gc_words.specs.Image.{field_at}
 use Rattle.gc_words.specs.Space.{SpaceWords}
-use Rattle.gc_heap.specs.Heap.{HeapWords, graph_in}
+use Rattle.gc_heap.specs.Heap.{graph_in}
 use Rattle.gc_copy.specs.Words.{CollectionWords, collection_in}
+use Rattle.gc_copy.proofs.FieldWords.{read_in_heap}
 use Rattle.gc_copy.proofs.OpenCollection.{if_err, field_word_is, plain_value_is, root_word_kept, not_brought, present, Brought, brought_words}
 use Rattle.gc_copy.proofs.collection.Collection.move_field.Goals as goal
 
--- the field's word, in the heap
-read : (heap : HeapWords) (s : SpaceWords) (name i w : ℕ) → s ≡ heap.space → field_at s.words name i ≡ Some w → field_at heap.space.words name i ≡ Some w
-read heap s name i w same e = subst (λ (s : SpaceWords). field_at s.words name i ≡ Some w) same e
-
 pub replicate_target-requires-clause-word : goal.replicate_target-requires-clause-word
-replicate_target-requires-clause-word c = field_word_is c.args.heap.now c.args.original.0 c.args.field c.field-word.result c.space.ensures.sound c.requires.plain (read c.args.heap.now _ _ _ _ c.space.ensures.value c.field-word.ensures)
+replicate_target-requires-clause-word c = field_word_is c.args.heap.now c.args.original.0 c.args.field c.field-word.result c.space.ensures.sound c.requires.plain (read_in_heap c.args.heap.now _ _ _ _ c.space.ensures.value c.field-word.ensures)
 
 pub returns-in_err-replicate_target-clause-full : goal.returns-in_err-replicate_target-clause-full
 returns-in_err-replicate_target-clause-full c =
     let full = c.in_err-replicate_target.ensures.full in
-    let field = plain_value_is c.args.heap.now c.args.original.0 c.args.field c.field-word.result c.requires.plain (read c.args.heap.now _ _ _ _ c.space.ensures.value c.field-word.ensures) in
+    let field = plain_value_is c.args.heap.now c.args.original.0 c.args.field c.field-word.result c.requires.plain (read_in_heap c.args.heap.now _ _ _ _ c.space.ensures.value c.field-word.ensures) in
     if_err _ c.from_residual.result (not_brought (graph_in c.args.heap.now) (collection_in c.args.self.now) c.args.original.0 c.args.field (value_of c.field-word.result) field full.0, full.1, full.2)
 
 pub moved_word-moved-requires-clause-word : goal.moved_word-moved-requires-clause-word
 moved_word-moved-requires-clause-word c = root_word_kept c.args.heap.now c.replicate_target.new.heap c.field-word.result c.in_ok-replicate_target.ensures.graph
-    (field_word_is c.args.heap.now c.args.original.0 c.args.field c.field-word.result c.space.ensures.sound c.requires.plain (read c.args.heap.now _ _ _ _ c.space.ensures.value c.field-word.ensures))
+    (field_word_is c.args.heap.now c.args.original.0 c.args.field c.field-word.result c.space.ensures.sound c.requires.plain (read_in_heap c.args.heap.now _ _ _ _ c.space.ensures.value c.field-word.ensures))
 
 pub set_field-requires : goal.set_field-requires
 set_field-requires c = present c.args.heap.now c.replicate_target.new.heap c.args.self.now c.replicate_target.new.self _ c.args.original.0 c.args.field c.field-word.result c.args.replica.0 c.space.ensures.sound c.requires.plain c.self.invariant c.self.view_is
-    c.in_ok-replicate_target.ensures.belongs c.in_ok-replicate_target.ensures.graph c.in_ok-replicate_target.ensures.rest (read c.args.heap.now _ _ _ _ c.space.ensures.value c.field-word.ensures)
+    c.in_ok-replicate_target.ensures.belongs c.in_ok-replicate_target.ensures.graph c.in_ok-replicate_target.ensures.rest (read_in_heap c.args.heap.now _ _ _ _ c.space.ensures.value c.field-word.ensures)
     c.in_ok-replicate_target.ensures.placed c.in_ok-replicate_target.ensures.replica c.requires.replica
 
 done : (c : goal.After-set_field) → Brought c.args.heap.now c.replicate_target.new.heap c.args.self.now (record { space = c.set_field.new.self; logs = c.self.inside.logs.items; scan_place = c.self.inside.scan_place.0; scan_field = c.self.inside.scan_field }) c.args.original.0 c.args.field
 done c =
     let x : CollectionWords = record { space = c.self.inside.space; logs = c.self.inside.logs.items; scan_place = c.self.inside.scan_place.0; scan_field = c.self.inside.scan_field } in
     brought_words c.args.heap.now c.replicate_target.new.heap c.args.self.now c.replicate_target.new.self x c.args.original.0 c.args.field c.field-word.result c.args.replica.0 c.space.ensures.sound c.requires.plain c.self.invariant c.self.view_is
-    c.in_ok-replicate_target.ensures.belongs c.in_ok-replicate_target.ensures.graph c.in_ok-replicate_target.ensures.rest (read c.args.heap.now _ _ _ _ c.space.ensures.value c.field-word.ensures)
+    c.in_ok-replicate_target.ensures.belongs c.in_ok-replicate_target.ensures.graph c.in_ok-replicate_target.ensures.rest (read_in_heap c.args.heap.now _ _ _ _ c.space.ensures.value c.field-word.ensures)
     c.in_ok-replicate_target.ensures.placed c.in_ok-replicate_target.ensures.replica c.requires.replica
     c.moved_word-moved.result c.moved_word-moved.ensures (record x { space = c.set_field.new.self }) (ap (λ (s : SpaceWords). record x { space = s }) c.set_field.ensures.words)
 

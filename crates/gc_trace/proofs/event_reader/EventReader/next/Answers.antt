@@ -5,7 +5,8 @@ use Rattle.gc_trace.specs.Grammar.{Recording, IsTextOf}
 use Rattle.gc_trace.specs.Internal.Reading.{read_so_far}
 use Rattle.gc_trace.specs.declared.event_reader.EventReader.{EventReader}
 use Rattle.gc_trace.proofs.Total.{good_end}
-use Rattle.gc_trace.proofs.ReadLines.{within_taken, event_taken, stranger_taken, still_counted, no_byte, all_waits, ends_there, bad_line}
+use Rattle.gc_graph.proofs.PieceSteps.{all_waits, ends_there, no_byte}
+use Rattle.gc_trace.proofs.ReadLines.{within_taken, event_taken, stranger_taken, still_counted, bad_line}
 use Rattle.gc_trace.proofs.event_reader.EventReader.next.Goals as goal
 
 pub returns-in_err-read_to_end-clause-exact : goal.returns-in_err-read_to_end-clause-exact
@@ -65,7 +66,7 @@ returns-then-not-branch-clause-exact g c text events h =
     let whole = c.in_ok-read_more.ensures.whole (search rules) in
     let within = c.in_ok-read_more.ensures.within text read.rest (rw none.1 read.within) in
     let all = all_waits text read.rest c.read_more.new.pieces _ within whole.0 in
-    let ends = ends_there text events c.loop-event.self _ c.read_more.new.pieces _ read within whole.0 (whole.1 ∙ ap (λ (r : EventReader). r.pieces.read) none.1) in
+    let ends = ends_there text read.rest c.loop-event.self.pieces c.read_more.new.pieces _ _ read.within within whole.0 (whole.1 ∙ ap (λ (r : EventReader). r.pieces.read) none.1) in
     let some : c.read_more.new.pieces.waiting ≢ [] = search rules in (
       omega (arith, all.1, c.in_ok-read_more.ensures.counts.1),
       rw none.1 (bad_line text events c.loop-event.self _ read ends.0 (λ empty. some (sym all.0 ∙ ends.0 ∙ empty)) none.0),

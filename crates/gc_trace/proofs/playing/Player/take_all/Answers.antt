@@ -1,7 +1,7 @@
 use Rattle.std.proofs.Common.{◌≡◌, ◌<◌, ◌^◌, ◌++◌, ◌∷◌, [], false, length, rules, arith, length-append, sym, ap, ◌∙◌, subst}
 use Rattle.std.proofs.lemmas.Result.{err_from_is_err_and}
 use Rattle.gc_graph.specs.Streams.{source_failed}
-use Rattle.gc_trace.specs.Faults.{IsReadAs}
+use Rattle.gc_trace.specs.Faults.{IsReadAsTrace}
 use Rattle.gc_trace.specs.Grammar.{Recording}
 use Rattle.gc_trace.specs.Internal.Reading.{read_so_far}
 use Rattle.gc_trace.specs.Plays.{opening}
@@ -46,6 +46,6 @@ returns-clause-exact g c text h =
     let i = c.loop-event.invariant in
     let same = same_heading c.args.lines.now c.loop-event.lines i.0 i.1.heading in (
       read_so_far c.args.lines.now i.0,
-      subst (λ (t : Recording). IsReadAs t text) same (rw c.in_default.is at c.in_ok-event.ensures.exact text i.0 (i.1.read text h)),
+      subst (λ (t : Recording). IsReadAsTrace t text) same (rw c.in_default.is at c.in_ok-event.ensures.exact text i.0 (i.1.read text h)),
       i.1.played,
     )

@@ -1,0 +1,126 @@
+//! Rows: a test states what happens to a heap, and each answer, as one table. `play` performs the rows in order.
+
+ghost use Rattle.std.specs.Prelude.{◌≡◌, ◌<◌, ◌↔◌, IsTrue};
+ghost use Rattle.gc_copy.specs.Runs.{IsStep};
+
+use crate::{CollectedHeap, Keep};
+use gc_check::Sequential;
+use gc_copy::{Step, StepReply};
+use gc_graph::{MOST_WORDS, NoMemory, Number, Op, Reply, Slot, View};
+use std::fmt::Debug;
+use std::process::Abort;
+
+/// A row of a table: an event or a question, with the answer that the heap must give.
+#[derive(Clone, Copy)]
+pub enum Row {
+    /// The first mutator performs a command.
+    Command(Op, Reply),
+    /// `collect` performs this step.
+    Step(Step, StepReply),
+    /// The call that is named for this step performs it.
+    Call(Step, StepReply),
+    /// Asks `useful_step`, and performs nothing.
+    Useful(Step),
+    /// Asks `next_useful_step`, which remembers what it found.
+    NextUseful(Step),
+}
+
+/// Returns slot r0, r1, .. of a mutator.
+pub fn own(rt: &impl Abort, index: u8) -> Slot {
+    Slot::own(index).expect(rt, "a slot")
+}
+
+/// Returns the command that makes an object of `len` fields, and sets `d` to a reference to it.
+pub fn new(d: Slot, kind: u8, len: u16) -> Op {
+    Op::New { d, kind, len }
+}
+
+/// Returns the command that sets `d` to a number.
+pub fn num(rt: &impl Abort, d: Slot, number: u64) -> Op {
+    let n = Number::new(number).expect(rt, "a number");
+    Op::Num { d, n }
+}
+
+/// Returns the command that writes slot `t` to field `i` of the object in slot `s`.
+pub fn put(s: Slot, i: u16, t: Slot) -> Op {
+    Op::Put { s, i, t }
+}
+
+/// Returns the command that reads field `i` of the object in slot `s` to slot `d`.
+pub fn get(d: Slot, s: Slot, i: u16) -> Op {
+    Op::Get { d, s, i }
+}
+
+/// Returns the reply that shows a number.
+pub fn saw(rt: &impl Abort, number: u64) -> Reply {
+    Reply::Saw(View::Num(Number::new(number).expect(rt, "a number")))
+}
+
+/// Performs the rows in order and tests each answer.
+pub fn play(rt: &impl Abort, heap: &mut CollectedHeap, rows: &[Row]) -> Result<(), NoMemory>
+    requires { 0 < heap.old.mutators }
+    ensures { heap.new.mutators ≡ heap.old.mutators }
+{
+    for (place, row) in rows.iter().enumerate() {
+        perform(rt, heap, place, row)?;
+    }
+    Ok(())
+}
+
+/// Performs a row and tests its answer. On `NoMemory` the heap is unchanged.
+pub fn perform(
+    rt: &impl Abort,
+    heap: &mut CollectedHeap,
+    place: usize,
+    row: &Row,
+) -> Result<(), NoMemory>
+    requires { 0 < heap.old.mutators }
+    ensures { heap.new.mutators ≡ heap.old.mutators }
+{
+    match row {
+        Row::Command(op, reply) => expect(rt, place, heap.mutate(0, op)?, *reply),
+        Row::Step(step, reply) => {
+            assert!(rt; is_possible(heap, *step), "row {place}");
+            expect(rt, place, heap.collect(&Sequential, *step)?, *reply);
+        }
+        Row::Call(step, reply) => {
+            assert!(rt; is_possible(heap, *step), "row {place}");
+            expect(rt, place, call(heap, *step)?, *reply);
+        }
+        Row::Useful(step) => expect(rt, place, heap.useful_step(), *step),
+        Row::NextUseful(step) => expect(rt, place, heap.next_useful_step(), *step),
+    }
+    Ok(())
+}
+
+/// Tests that the answer at this place of a table is the one that the row has.
+fn expect<T: Copy + PartialEq + Debug>(rt: &impl Abort, place: usize, got: T, want: T) {
+    assert_eq!(rt; got, want, "row {place}");
+}
+
+/// Performs a step by the call that is named for it.
+fn call(heap: &mut CollectedHeap, step: Step) -> Result<StepReply, NoMemory>
+    requires { IsStep heap.old.mutators step }
+    ensures { heap.new.mutators ≡ heap.old.mutators }
+{
+    match step {
+        Step::Begin => heap.begin(),
+        Step::BeginSized(size) => heap.begin_sized(size),
+        Step::Roots => Ok(heap.roots()),
+        Step::Scan => Ok(heap.scan()),
+        Step::Apply(m) => Ok(heap.apply_log(m)),
+        Step::Flip => Ok(heap.flip(&Sequential, Keep::Nothing)?.reply),
+        Step::Drop => Ok(heap.give_up()),
+    }
+}
+
+/// Returns whether the step's argument is in range, as `CollectedHeap::collect` requires.
+fn is_possible(heap: &CollectedHeap, step: Step) -> bool
+    ensures { IsTrue result ↔ IsStep heap.now.mutators step }
+{
+    match step {
+        Step::BeginSized(size) => 1 <= size && size <= MOST_WORDS,
+        Step::Apply(m) => m < heap.mutators(),
+        _ => true,
+    }
+}
