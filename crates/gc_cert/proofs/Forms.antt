@@ -1,4 +1,4 @@
--- Sections of one line, and of a number of lines of one form.
+-- Sections of one line, and of several lines of one form.
 use Rattle.std.proofs.Common.{◌≡◌, ◌≢◌, ℕ, suc, zero, ◌-◌, ◌<◌, List, [], ◌∷◌, ◌++◌, length, map, replicate, refl, sym, ap, ◌∙◌, arith, append_assoc, subst, length-append, Option, Some, None}
 use Rattle.std.specs.List.{AllByRecursion}
 use Rattle.std.proofs.lemmas.List.{append-nil, map-append}
@@ -106,7 +106,7 @@ all_delimit {V} InRange line_of read n form vs ws x y p q e = same vs ws p.1 q.1
         let rest = same vs ws p.1 q.1 (omega (arith, len)) h.1 in
         (rw (one_form InRange line_of read form v w p.0 q.0 h.0, rest.0) refl, rest.1)
 
--- behind fewer lines than there are, one more stands
+-- while lines are left, the next one follows
 one_more : {V : Type 0} (InRange : V → Type 0) (line_of : V → List ℕ) (done lines : Lines) (vs : List V) → length done < length vs → AllByRecursion InRange vs → done ++ lines ≡ map line_of vs → (v : V) × (more : Lines) × InRange v × (lines ≡ line_of v ∷ more)
 one_more InRange line_of done lines [] lt p e = absurd (omega (arith, lt))
 one_more InRange line_of [] lines (v ∷ vs) lt p e = (v, map line_of vs, p.0, e)

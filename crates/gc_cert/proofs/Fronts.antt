@@ -13,7 +13,7 @@ use Rattle.gc_cert.proofs.Forms.{IsForm, line_cut, line_wrong}
 
 -- ---- words
 
--- no number up to this stands first
+-- the text does not begin with a number up to this
 abbrev pub HasNoNumber : ℕ → List ℕ → Type 0
 HasNoNumber most text = (n : ℕ) (rest : List ℕ) → n ≤ most → ¬ BeginsWithNumber text n rest
 
@@ -60,7 +60,7 @@ no_pair_end text more last n m begins then never p rest fits e =
 pub pair_is_first : (text more rest : List ℕ) (n m : ℕ) → BeginsWithNumber text n (space ∷ more) → BeginsWithNumber more m (newline ∷ rest) → text ≡ pair_line (n, m) ++ newline ∷ rest
 pair_is_first text more rest n m begins then = begins.parts ∙ ap (λ (t : List ℕ). decimal n ++ space ∷ t) then.parts ∙ sym (pair_parts (n, m) rest)
 
--- ---- what is wrong with a line
+-- ---- faults of a line
 
 -- a line of no value is not read
 unread : {V : Type 0} (InRange : V → Type 0) (line_of : V → List ℕ) (read : List ℕ → Option V) (line rest : List ℕ) → IsForm InRange line_of read → NoneIsFirst InRange line_of (line ++ newline ∷ rest) → (found : Option V) → read line ≡ found → found ≡ None
@@ -69,7 +69,7 @@ unread InRange line_of read line rest form none (Some v) e =
     let is = form.found line v e in
     absurd (none v rest is.0 (ap (λ (l : List ℕ). l ++ newline ∷ rest) is.1))
 
--- what is wrong with a first line of no value
+-- the fault of a first line that has no value
 pub line_stops : {V : Type 0} (InRange : V → Type 0) (line_of : V → List ℕ) (read : List ℕ → Option V) (p : Place) (fault : PairFault) → IsForm InRange line_of read → NoneIsFirst InRange line_of p.rest → IsLineFault fault p → MayStop (Spelled InRange (alone line_of)) fault p
 line_stops InRange line_of read p Read form none is = is
 line_stops InRange line_of read p TooLarge form none is = is

@@ -1,4 +1,4 @@
--- Each line of a pair text is of a form: what is read of it is what it was written of.
+-- Each line of a pair text has a form, whose value is read back from the line.
 use Rattle.std.proofs.Common.{◌≡◌, ℕ, ◌^◌, ◌<◌, ◌≤◌, Bool, true, false, cond, eqb, leb, List, [], ◌∷◌, refl, sym, ap, ◌∙◌, arith, subst, Some, None}
 use Rattle.std.specs.Fmt.{decimal}
 use Rattle.std.specs.Str.{bytes_eq}
@@ -21,7 +21,7 @@ HasNo-name c (b ∷ name) low e =
     let p = and_parts (leb 58 b) (is_name name) e in
     (omega (arith, low, leb-true 58 b p.0), HasNo-name c name low p.1)
 
--- what was read of the tokens of a line was joined to it
+-- tokens that were read join to the line
 from_tokens : (line : List ℕ) (tokens : Tokens) → tokens_of line ≡ tokens → line ≡ joined tokens
 from_tokens line tokens e = sym (joined-tokens_of line) ∙ ap joined e
 

@@ -13,11 +13,11 @@ use Rattle.gc_cert.proofs.SameLines.{AreLines, All-front, are_lines, lines_same}
 text_more : (l : List ℕ) (ls : List (List ℕ)) (x : List ℕ) → text_of (l ∷ ls) ++ x ≡ l ++ newline ∷ (text_of ls ++ x)
 text_more l ls x = ap (λ (t : List ℕ). t ++ x) (flat_map-cons ended l ls) ∙ append_assoc (ended l) (text_of ls) x ∙ append_assoc l (newline ∷ []) (text_of ls ++ x)
 
--- no further line of some text stands at the front
+-- the text does not begin with a further line of a pair text
 abbrev Stops : List (List ℕ) → List ℕ → Type 0
 Stops before rest = (l more : List ℕ) → HasNo newline l → rest ≡ l ++ newline ∷ more → AreFirst (before ++ l ∷ []) → ⊥
 
--- lines that begin some text, and what stands behind them
+-- lines that begin a pair text, and what follows them
 abbrev StopsAt : List (List ℕ) → List ℕ → List ℕ → Type 0
 StopsAt before rest text = AreFirst before × (text ≡ text_of before ++ rest) × Stops before rest
 
@@ -27,7 +27,7 @@ first_lines before (f, rest, fits, is) = All-front before rest (subst AreLines i
 fewer : (before more : List (List ℕ)) (l : List ℕ) → AreFirst (before ++ l ∷ more) → AreFirst (before ++ l ∷ [])
 fewer before more l (f, rest, fits, is) = (f, more ++ rest, fits, is ∙ ap (λ (ls : List (List ℕ)). ls ++ rest) (sym (append_assoc before (l ∷ []) more)) ∙ append_assoc (before ++ l ∷ []) more rest)
 
--- one goes on where the other stops, after the same lines before both
+-- after equal lines, one goes on where the other stops
 same_stop : (done xs ys : List (List ℕ)) (a b : List ℕ) → AreLines xs → AreLines ys → AreFirst (done ++ xs) → AreFirst (done ++ ys) → Stops (done ++ xs) a → Stops (done ++ ys) b → text_of xs ++ a ≡ text_of ys ++ b → (xs ≡ ys) × (a ≡ b)
 same_stop done [] [] a b p q first first' stop stop' e = (refl, e)
 same_stop done [] (y ∷ ys) a b p q first first' stop stop' e =

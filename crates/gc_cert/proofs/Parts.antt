@@ -1,4 +1,4 @@
--- What each part of a pair text begins with, behind the lines that stand before.
+-- How each part of a pair text begins, after the lines before it.
 use Rattle.std.proofs.Common.{◌≡◌, ℕ, ◌≤◌, Bool, List, [], ◌∷◌, ◌++◌, length, map, replicate, refl, sym, ap, ◌∙◌, arith, append_assoc, subst}
 use Rattle.std.specs.Prelude.{codes}
 use Rattle.std.specs.Fmt.{decimal}
@@ -34,7 +34,7 @@ made_image raws s words roots = record { size = s.0; end = s.1; words = words; r
 pub image_fits : (raws : Bool) (s : ℕ × ℕ) (words roots : List ℕ) → AreSizes s → AreAll IsWord s.1 words → length roots ≤ 272 → AllByRecursion IsWord roots → IsImageBy raws (made_image raws s words roots)
 image_fits raws s words roots fits ws le rs = record { fits = record { sizes = fits; count = ws.0; words = ws.1; roots = le; root_words = rs }; raws_are = refl }
 
--- what stands behind the words
+-- what follows the words
 abbrev root_lines : List ℕ → Lines
 root_lines roots = count_line (codes "roots") (length roots) ∷ (map decimal roots ++ [])
 
@@ -189,7 +189,7 @@ text_heading = record {
   only = λ lines (f, fits, e). (f.old.raws, image_lines (codes "old") f.old (image_lines (codes "new") f.new (certificate_lines f.pairs)), tt, e);
 }
 
--- what a text whose first line is this has behind it
+-- what follows this first line
 record Behind (raws : Bool) (f : CertifiedPair) (lines : Lines) : Type 0 where
   old : IsImageBy raws f.old
   new : IsImageBy raws f.new
@@ -222,7 +222,7 @@ text_old raws = record {
   only = λ lines (f, fits, e). (let behind = behind_heading raws f lines fits e in (f.old, image_lines (codes "new") f.new (certificate_lines f.pairs), behind.old, behind.lines_are));
 }
 
--- what stands behind the lines of the old image
+-- what follows the lines of the old image
 record BehindOld (raws : Bool) (f : CertifiedPair) (lines : Lines) : Type 0 where
   new : IsImageBy raws f.new
   lines_are : lines ≡ image_alone (codes "new") f.new ++ certificate_lines f.pairs

@@ -17,7 +17,7 @@ Bytes = Option (List ℕ)
 more_text : (before : List ℕ) (xs ys : Lines) → (before ++ text_of xs) ++ text_of ys ≡ before ++ text_of (xs ++ ys)
 more_text before xs ys = append_assoc before (text_of xs) (text_of ys) ∙ ap (λ (t : List ℕ). before ++ t) (sym (flat_map-append ended xs ys))
 
--- the same, with lines behind both
+-- the same with more lines after both
 both_longer : (a b : Bytes) (xs ys : Lines) (before mid : List ℕ) → Prints xs a b before mid → HasSent a b (before ++ text_of (xs ++ ys)) (mid ++ text_of ys)
 both_longer a b xs ys before mid first = subst (λ (t : List ℕ). HasSent a b t (mid ++ text_of ys)) (more_text before xs ys) (sent_then a b b (before ++ text_of xs) mid mid (text_of ys) (mid ++ text_of ys) first (nothing_sent b mid) refl)
 
@@ -26,7 +26,7 @@ prints_then a b c xs ys before mid after first second =
     subst (λ (t : List ℕ). HasSent a c t after) (append-nil (before ++ text_of (xs ++ ys)))
     (sent_then a b c (before ++ text_of (xs ++ ys)) (mid ++ text_of ys) after [] after (both_longer a b xs ys before mid first) second (sym (append-nil after)))
 
--- a front of a text is one of a longer text
+-- a prefix of a text is a prefix of a longer text
 pub front_longer : (a b : Bytes) (before : List ℕ) (lines : Lines) → SendsFront a b before → PrintsFront lines a b before
 front_longer a b before lines failed = front_sent a a b before before (text_of lines) (nothing_sent a before) failed
 
@@ -34,7 +34,7 @@ pub front_then : (a b c : Bytes) (xs ys : Lines) (before mid : List ℕ) → Pri
 front_then a b c xs ys before mid first failed =
     subst (SendsFront a c) (append-nil (before ++ text_of (xs ++ ys))) (front_sent a b c (before ++ text_of (xs ++ ys)) (mid ++ text_of ys) [] (both_longer a b xs ys before mid first) failed)
 
--- behind these lines some others went out in part, and more would have come
+-- after these lines, part of the others was written
 pub front_within : (a b c : Bytes) (xs ys zs all : Lines) (before mid : List ℕ) → Prints xs a b before mid → PrintsFront ys b c mid → (xs ++ ys) ++ zs ≡ all → PrintsFront all a c before
 front_within a b c xs ys zs all before mid first failed is =
     subst (λ (ls : Lines). PrintsFront ls a c before) is (subst (SendsFront a c) (more_text before (xs ++ ys) zs) (front_longer a c (before ++ text_of (xs ++ ys)) zs (front_then a b c xs ys before mid first failed)))
@@ -63,7 +63,7 @@ pub map_map : {X Y : Type 0} (g : X → Y) (f : Y → List ℕ) (xs : List X) �
 map_map g f [] = refl
 map_map g f (x ∷ xs) = ap (λ (ls : Lines). f (g x) ∷ ls) (map_map g f xs)
 
--- what waited goes out at last
+-- the buffer is written at the end
 pub printed_out : (a b c : Bytes) (lines : Lines) (before after : List ℕ) → before ≡ [] → Prints lines a b before after → Appends b c after → Appends a c (text_of lines)
 printed_out a b c lines before after none printed out = sent_at_last a b c (text_of lines) after (subst (λ (t : List ℕ). HasSent a b (t ++ text_of lines) after) none printed) out
 

@@ -1,4 +1,4 @@
--- What a reader of a pair text has read.
+-- How much of a pair text a reader has read.
 use Rattle.std.proofs.Common.{◌≡◌, ℕ, ◌+◌, ◌-◌, ◌≤◌, true, List, [], ◌∷◌, ◌++◌, length, drop, refl, sym, ap, ◌∙◌, arith, append_assoc, Option, Some}
 use Rattle.std.proofs.lemmas.List.{drop_at, length-append}
 use Rattle.gc_graph.specs.Lines.{text_of}
@@ -26,7 +26,7 @@ cannot_read reading.Read most text left is h stops = tt
 cannot_read reading.TooLarge most text left is h stops = (omega (arith, is, h), stops refl ∙ ap (λ (n : ℕ). Some (drop (n + 1) text)) is)
 cannot_read reading.NoMemory most text left is h stops = tt
 
--- what keeps a reader from going on ends every section
+-- a fault of the reader stops every section
 pub cannot_end : (S : Section) (fault : PairFault) (text : List ℕ) (p : Place) (left : Option (List ℕ)) → CannotRead fault text left → MayEnd S fault text p left
 cannot_end S Read text p left h = tt
 cannot_end S TooLarge text p left h = h
@@ -34,7 +34,7 @@ cannot_end S (BadLine n) text p left h = absurd h
 cannot_end S EndsEarly text p left h = absurd h
 cannot_end S NoMemory text p left h = tt
 
--- what stops a section at the end of the text
+-- the end of the text stops a section
 pub stop_ends : (S : Section) (fault : PairFault) (text : List ℕ) (p : Place) (left : Option (List ℕ)) → MayStop S fault p → length text ≤ limit → MayEnd S fault text p left
 stop_ends S Read text p left h short = absurd h
 stop_ends S TooLarge text p left h short = absurd h
@@ -49,17 +49,17 @@ cannot_go_on (BadLine n) text p left h = absurd h
 cannot_go_on EndsEarly text p left h = h
 cannot_go_on NoMemory text p left h = h
 
--- ---- lines that are taken off the bytes that wait
+-- ---- lines that are taken from the buffer
 
--- these bytes, behind so many lines
+-- these bytes, after this many lines
 abbrev pub waiting_bytes : List ℕ → ℕ → Place
 waiting_bytes bytes taken = record { rest = bytes; taken = taken }
 
--- where the bytes that wait begin
+-- the place at which the buffer begins
 abbrev pub waiting_place : PairReader → Place
 waiting_place r = waiting_bytes r.pieces.waiting r.taken
 
--- where a reader is that has left these lines of them
+-- the place of a reader that has these lines of the buffer left
 abbrev pub left_at : PairReader → Place → PairReader
 left_at r q = record r { pieces = record r.pieces { waiting = drop (length r.pieces.waiting - length q.rest) r.pieces.waiting }; taken = q.taken }
 
@@ -92,17 +92,17 @@ still_reading r lines q h taken short = record {
 
 -- ---- the start and the end of the text
 
--- a reader that has all of the text left is at its start
+-- a reader that has read nothing is at the start
 pub at_start : (text : List ℕ) (left : Option (List ℕ)) → left ≡ Some text → IsAt text (start text) unread left
 at_start text left is = record { within = within_all text _ left is; taken_is = refl }
 
--- if a reader meets the end without another byte, the bytes that waited before are all that is left
+-- if the input ends without another byte, the buffer has the rest of the text
 pub place_ends_there : (text : List ℕ) (p : Place) (r : PairReader) (left : Option (List ℕ)) (next : PairReader) (new : Option (List ℕ)) → IsAt text p r left → IsAt text p next new → next.pieces.ended ≡ true → next.pieces.read ≡ r.pieces.read → (p ≡ waiting_place r) × (length text ≤ next.pieces.read)
 place_ends_there text p r left next new h at ended same =
     let ends = ends_there text p.rest r.pieces next.pieces left new h.within at.within ended same in
     (ap (λ (l : List ℕ). record p { rest = l }) ends.0 ∙ ap (λ (n : ℕ). record { rest = r.pieces.waiting; taken = n }) h.taken_is, ends.1)
 
--- ---- what ends a section within a section
+-- ---- sections within sections
 
 pub end_within : {V : Type 0} (InRange : V → Type 0) (lines_of : V → List (List ℕ)) (S : Section) (done : List (List ℕ)) (text : List ℕ) (old mid : Place) (fault : PairFault) (left : Option (List ℕ)) → Delimits InRange lines_of → BeginsWith InRange lines_of (λ lines. S (done ++ lines)) → HasTaken done old mid
     → MayEnd (Spelled InRange lines_of) fault text mid left → MayEnd S fault text old left
@@ -120,7 +120,7 @@ ended_text text (BadLine n) left w = (stopped text (start text) (BadLine n) refl
 ended_text text EndsEarly left w = (stopped text (start text) EndsEarly refl w.1 w.0, λ e. cc)
 ended_text text NoMemory left w = (tt, λ e. cc)
 
--- a text that cannot be read on
+-- a text whose reader fails
 pub unread_text : (text : List ℕ) (fault : PairFault) (left : Option (List ℕ)) → CannotRead fault text left → MayFailHaving fault text left
 unread_text text Read left w = (tt, λ e. cc)
 unread_text text TooLarge left w = (w.0, λ e. w.1)

@@ -50,7 +50,7 @@ at_start = ((least, lines_of least, fits, refl), not_whole [] (codes "heappair 1
 whole : AreWhole (but_end ++ codes "end" ∷ [])
 whole = (least, fits, least_lines)
 
--- behind no pairs the line `end` stands, and no other
+-- without pairs the next line is `end`
 no_pairs : (pairs : List (ℕ × ℕ)) (l : List ℕ) (rest : List (List ℕ)) → length pairs ≡ 0 → map pair_line pairs ++ codes "end" ∷ [] ≡ l ∷ rest → codes "end" ≡ l
 no_pairs [] l rest none e = (head_of (codes "end") l [] rest e).0
 no_pairs (p ∷ pairs) l rest none e = absurd (omega (arith, none))

@@ -75,7 +75,7 @@ two_same a b c d pa pb pc pd e =
     let cut = one_cut space (decimal a) (decimal b) (decimal c) (decimal d) (HasNo-decimal space a (omega arith) pa) (HasNo-decimal space c (omega arith) pc) e in
     (decimal_injective a c pa pc cut.0, decimal_injective b d pb pd cut.1)
 
--- as many lines of the same form, and then others
+-- equally many lines of one form, and then others
 pub same_lines : {X : Type 0} (P : X → Type 0) (f : X → List ℕ) → ((x y : X) → P x → P y → f x ≡ f y → x ≡ y)
     → (xs ys : List X) (a b : List (List ℕ)) → AllByRecursion P xs → AllByRecursion P ys → length xs ≡ length ys → map f xs ++ a ≡ map f ys ++ b → (xs ≡ ys) × (a ≡ b)
 same_lines P f one [] [] a b p q len e = (refl, e)
@@ -131,7 +131,7 @@ lines_more f x =
     ap (λ (l : List (List ℕ)). heading f.old.raws ∷ l) (image_more (codes "old") f.old (image_lines (codes "new") f.new (certificate_lines f.pairs)) x
     ∙ ap (image_lines (codes "old") f.old) (image_more (codes "new") f.new (certificate_lines f.pairs) x))
 
--- of two first lines the last byte tells which it is
+-- the last byte distinguishes the two first lines
 abbrev version : List ℕ → Bool
 version line = eqb (get_or line 9 0) 50
 

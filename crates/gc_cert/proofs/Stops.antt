@@ -1,4 +1,4 @@
--- Where a section goes no further, the sections that it is part of go no further.
+-- If the reading of a section stops, so does that of every section around it.
 use Rattle.std.proofs.Common.{◌≡◌, ℕ, List, [], ◌∷◌, ◌++◌, refl, sym, ap, ◌∙◌, arith, append_assoc, subst, inl, inr, ◌⊎◌, length-append}
 use Rattle.std.proofs.lemmas.List.{append-nil}
 use Rattle.std.proofs.lemmas.List.Concat.{flat_map-append}
@@ -12,7 +12,7 @@ use Rattle.gc_cert.specs.Internal.Sections.{Section, Spelled, Begins, IsWrongAt,
 abbrev pub Delimits : {V : Type 0} → (V → Type 0) → (V → List (List ℕ)) → Type 0
 Delimits {V = V} InRange lines_of = (v w : V) (x y : List (List ℕ)) → InRange v → InRange w → lines_of v ++ x ≡ lines_of w ++ y → (v ≡ w) × (x ≡ y)
 
--- a section begins with the lines of these values, and with no others
+-- a section begins with the lines of these values and no others
 pub record BeginsWith {V : Type 0} (InRange : V → Type 0) (lines_of : V → List (List ℕ)) (S : Section) : Type 0 where
   pub some : (v : V) → InRange v → Begins S (lines_of v)
   pub only : (lines : List (List ℕ)) → S lines → (v : V) × (more : List (List ℕ)) × InRange v × (lines ≡ lines_of v ++ more)
@@ -22,7 +22,7 @@ pub record BeginsWith {V : Type 0} (InRange : V → Type 0) (lines_of : V → Li
 abbrev Lines : Type 0
 Lines = List (List ℕ)
 
--- of two fronts of a list one begins the other
+-- of two prefixes of a list, one is a prefix of the other
 fronts : (xs ys a b : Lines) → xs ++ a ≡ ys ++ b → ((k : Lines) × (ys ≡ xs ++ k) × (a ≡ k ++ b)) ⊎ ((k : Lines) × (xs ≡ ys ++ k) × (b ≡ k ++ a))
 fronts [] ys a b e = inl (ys, refl, e)
 fronts (x ∷ xs) [] a b e = inr (x ∷ xs, refl, sym e)
@@ -68,7 +68,7 @@ wrong_first {V} InRange lines_of S before line one with (more, (v, p, is)) none 
         never (k, (w, q, append_assoc before (line ∷ []) k ∙ ap (λ (m : List ℕ). before ++ m ∷ k) (sym same) ∙ sym e))
     at w x q (inr (k, e, h)) = none (open_front InRange lines_of before more v w k one p is q e)
 
--- ---- from what is left of a section to the whole of it
+-- ---- from the rest of a section to the whole section
 
 taken_text : (done before : Lines) (rest : List ℕ) → text_of done ++ (text_of before ++ rest) ≡ text_of (done ++ before) ++ rest
 taken_text done before rest = sym (append_assoc (text_of done) (text_of before) rest) ∙ ap (λ (t : List ℕ). t ++ rest) (sym (flat_map-append ended done before))
@@ -111,7 +111,7 @@ cut_within InRange lines_of S done old mid one with taken w = record {
   not_all = open_first InRange lines_of (λ lines. S (done ++ lines)) w.before one with w.good w.not_all;
 }
 
--- what stops a section behind these lines stops the whole of it
+-- what stops the rest of a section stops the whole section
 pub stop_within : {V : Type 0} (InRange : V → Type 0) (lines_of : V → Lines) (S : Section) (done : Lines) (old mid : Place) (fault : PairFault) → Delimits InRange lines_of → BeginsWith InRange lines_of (λ lines. S (done ++ lines)) → HasTaken done old mid
     → MayStop (Spelled InRange lines_of) fault mid → MayStop S fault old
 stop_within InRange lines_of S done old mid Read one with taken w = w

@@ -29,7 +29,7 @@ Stops S p = ((n : ℕ) × IsWrongAt S p n) ⊎ IsCutIn S p
 Outcome : {V : Type 0} → (V → Type 0) → (V → List (List ℕ)) → Place → Type 0
 Outcome {V} InRange lines_of p = ((v : V) × (after : Place) × InRange v × HasTaken (lines_of v) p after) ⊎ Stops (Spelled InRange lines_of) p
 
--- one part after the others
+-- the parts in order
 next : {V : Type 0} {A : Type 0} (InRange : V → Type 0) (lines_of : V → List (List ℕ)) (S : Section) (done : List (List ℕ)) (old mid : Place) → Delimits InRange lines_of → BeginsWith InRange lines_of (λ lines. S (done ++ lines)) → HasTaken done old mid
     → Outcome InRange lines_of mid → ((v : V) (after : Place) → InRange v → HasTaken (done ++ lines_of v) old after → A ⊎ Stops S old) → A ⊎ Stops S old
 unfolding Stops Outcome
@@ -135,7 +135,7 @@ cut_off text w = record {
   not_all = λ whole. w.not_all (all_lines w.before whole);
 }
 
--- what stopped the reading of a text is its first fault, or want of memory
+-- the fault that stopped a reading is the text's first fault, or `NoMemory`
 pub stop_of_text : (text : List ℕ) (fault : PairFault) → length text ≤ limit → MayStop TextSection fault (start text) → MayFail fault text
 stop_of_text text Read le stop = absurd stop
 stop_of_text text TooLarge le stop = absurd stop
@@ -159,7 +159,7 @@ byte_behind f text after byte bytes fits taken some = record {
   whole = (f, fits, refl);
 }
 
--- ---- the same, of a reader that began at the start
+-- ---- the same for a reader that began at the start
 
 pub stopped : (text : List ℕ) (p : Place) (fault : PairFault) → p ≡ start text → length text ≤ limit → MayStop TextSection fault p → MayFail fault text
 stopped text p fault began le stop = stop_of_text text fault le (subst (MayStop TextSection fault) began stop)

@@ -1,4 +1,4 @@
--- Words of a program are words of a text, since each number of their type is.
+-- Every list of 64-bit words is one of a text.
 use Rattle.std.proofs.Common.{ℕ, suc, zero, ◌<◌, ◌^◌, List, [], ◌∷◌, get_or}
 use Rattle.std.specs.List.{AllByRecursion}
 use Rattle.gc_cert.specs.Grammar.{IsWord}

@@ -34,7 +34,7 @@ paired_push pairs p a b =
 taken_push : (pairs : List (ℕ × ℕ)) (p : ℕ × ℕ) (a : ℕ) → list_any (λ q. q.0 == a) (pairs ++ p ∷ []) ≡ (list_any (λ q. q.0 == a) pairs || (p.0 == a))
 taken_push pairs p a = list_any-append (λ q. q.0 == a) pairs (p ∷ []) ∙ ap (λ t. list_any (λ q. q.0 == a) pairs || t) (or_false (p.0 == a))
 
--- one pair more, whose old address is free
+-- one more pair, whose old address is free
 pub holds_one : (row : List ℕ) (pairs : List (ℕ × ℕ)) (p : ℕ × ℕ) → p.0 < length row → 1 ≤ p.1 → slice_index row p.0 ≡ 0 → HoldsPartners row pairs → HoldsPartners (set row p.0 p.1) (pairs ++ p ∷ [])
 holds_one row pairs p inside low free h = record { pair = pair; taken = taken }
   where
@@ -65,7 +65,7 @@ holds_one row pairs p inside low free h = record { pair = pair; taken = taken }
 
 -- ---- new addresses rise
 
--- the last new address among the pairs; 0, below all starts, where there is none
+-- the last new address among the pairs, or 0, which is below all starts
 abbrev pub EndsAt : List (ℕ × ℕ) → ℕ → Type 0
 EndsAt before last = (n : ℕ) → 1 ≤ n → not_above_last before n ≡ nat_le n last
 
@@ -77,7 +77,7 @@ ends_one before p n low = push before
     push (x ∷ []) = refl
     push (x ∷ y ∷ rest) = push (y ∷ rest)
 
--- ---- what the tables say of a pair's place is what is wrong with it
+-- ---- the fault that the tables find in a pair's place is the right one
 
 settled : (o : Option Refusal) (r s : Refusal) (b c : Bool) (w : Option Refusal) → (o or_else Some r or_else when b s or_else w) ≡ (o or_else Some r or_else when c s or_else w)
 settled None r s b c w = refl

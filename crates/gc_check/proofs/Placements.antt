@@ -1,4 +1,4 @@
--- What is known where nothing is wrong with the images and with the places of the pairs.
+-- What follows if the images and the places of the pairs have no fault.
 use Rattle.std.proofs.Common.{◌≡◌, ℕ, zero, suc, ◌<◌, true, false, cond, ap, not, ◌==◌, List, [], ◌∷◌, length, get_or, take, Option, Some, None, refl, subst, arith, sym, ◌∙◌}
 use Rattle.std.specs.Prelude.{IsOk}
 use Rattle.std.specs.List.{list_any}
@@ -23,7 +23,7 @@ pub record Fits (old new : Image) : Type 0 where
   pub new_shaped : IsShaped new
   pub roots : length old.roots ≡ length new.roots
 
--- the walk that meets all headers comes to the end, also where those of raw objects do not count
+-- the walk that accepts all headers reaches the end, even if those of raw objects do not count
 pub walks : (image : Image) → IsShaped image → IsOk (walk_words image.words)
 walks image shape = subst IsOk (same_walk image.raws image.words shape.walked) shape.walked
 

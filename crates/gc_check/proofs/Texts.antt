@@ -1,4 +1,4 @@
--- What holds of the pair that was read holds of each pair that the text spells.
+-- A fact of the pair that was read holds of each pair that the text spells.
 use Rattle.std.proofs.Common.{◌≡◌, ℕ, List, Option, Some, None, IfSome, subst}
 use Rattle.gc_graph.specs.Streams.{SendsFront}
 use Rattle.gc_cert.specs.Grammar.{CertifiedPair, IsTextOf}

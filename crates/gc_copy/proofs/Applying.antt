@@ -1,4 +1,4 @@
--- The oldest entry of a log applied, as the code does it; and when a collection is ready.
+-- The code that applies a log's oldest entry, and the test whether a collection is ready.
 use Rattle.std.proofs.Common.{◌≡◌, inl, ℕ, suc, ◌+◌, Bool, true, false, cond, ◌&&◌, not, List, [], ◌∷◌, ◌++◌, map, drop, length, Option, Some, None, is_some, refl, ap, sym, ◌∙◌, subst, length-set}
 use Rattle.std.specs.Prelude.{IsSome, nat_lt, slice_get, slice_set}
 use Rattle.std.specs.List.{list_all}
@@ -16,9 +16,9 @@ use Rattle.gc_copy.specs.declared.step.StepReply.TheVariants.{Applied, NoRoom}
 use Rattle.gc_copy.proofs.Logs.{entries_at, entry_dropped}
 use Rattle.gc_copy.proofs.OpenCollection.{state_kept, after_step, field_present}
 
--- ---- a log that is taken out is not looked at
+-- ---- nothing reads the log that was taken out
 
--- with these entries as log m, where there is a collection
+-- an open collection with these entries as log m
 abbrev pub relogged : ℕ → List (ℕ × ℕ) → Option Collection → Option Collection
 relogged m entries o = option_map (λ c. with_log c m entries) o
 
@@ -112,7 +112,7 @@ module _ (heap : HeapWords) (x : CollectionWords) (m : ℕ) (log : Log) (there :
 
 -- ---- ready
 
--- what tells whether there is a first log with an entry tells whether all are empty
+-- all logs are empty exactly if there is no first log with an entry
 none_first : (k : ℕ) (logs : List (List (ℕ × ℕ))) (b : Bool) → is_some (first_log k logs) ≡ b → list_all is_empty logs ≡ not b
 none_first k [] b e = ap not e
 none_first k (log ∷ logs) b e = by (is_empty log) (none_first (suc k) logs b) e

@@ -1,4 +1,4 @@
--- Which answers change something, and that the useful step's does where there is room.
+-- Which replies mean a change, and that the useful step makes one if there is room.
 use Rattle.std.proofs.Common.{◌||◌, ◌≡◌, ◌⊎◌, inl, inr, ⊎_elim, ℕ, zero, suc, ◌+◌, ◌==◌, true, false, not, List, [], ◌∷◌, length, Option, Some, None, is_none, slice_get, refl, ap, sym, ◌∙◌, subst, arith}
 use Rattle.std.specs.List.{list_all}
 use Rattle.std.proofs.lemmas.Bool.{cond-false, cond_both, and_from, eq-eqb, not-true, not-false}
@@ -12,7 +12,7 @@ use Rattle.gc_copy.specs.declared.step.StepReply.TheVariants.{Clean, NoRoom, Cop
 use Rattle.gc_copy.proofs.Links.{found_by_place}
 use Rattle.gc_copy.proofs.Flips.{flips}
 
--- ---- an answer of no change leaves the state
+-- ---- a reply that means no change leaves the state as it is
 
 abbrev Quiet : State → StepReply × State → Type 0
 Quiet s next = is_change next.0 ≡ false → next.1 ≡ s
@@ -84,7 +84,7 @@ log_brings : (s : State) (c : Collection) (m : ℕ) (l : List (ℕ × ℕ)) → 
 log_brings s c m [] h = absurd cc
 log_brings s c m (entry ∷ rest) h = room_brings s Applied _ refl
 
--- the first log that has an entry has one, and where there is none all are empty
+-- the first log with an entry has one; if there is no such log, all are empty
 found_log : (logs : List (List (ℕ × ℕ))) (k m : ℕ) → first_log k logs ≡ Some m → (j : ℕ) × (m ≡ k + j) × (is_empty (log_or_nil (slice_get logs j)) ≡ false)
 found_log [] k m h = absurd cc
 found_log ([] ∷ logs) k m h = let r = found_log logs (suc k) m h in (suc r.0, (let e = r.1 in omega arith), r.2)

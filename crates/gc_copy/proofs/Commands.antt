@@ -1,4 +1,4 @@
--- A mutator's command keeps the heap, and its objects but for the field that it writes.
+-- A mutator's command keeps the heap well formed, and changes no field but the one that it writes.
 use Rattle.std.proofs.Common.{◌≡◌, ◌⊎◌, inl, inr, ⊎_elim, ℕ, ◌+◌, ◌-◌, ◌<◌, ◌≤◌, Bool, true, false, cond, ◌&&◌, ap, ◌∙◌, List, [], ◌∷◌, ◌++◌, map, length, Option, Some, None, slice_get, refl, sym, subst, arith, length-set}
 use Rattle.std.specs.Prelude.{not}
 use Rattle.std.proofs.lemmas.Bool.{cond_both}
@@ -18,7 +18,7 @@ use Rattle.gc_graph.proofs.Lookups.{lookup_set_none}
 use Rattle.gc_copy.proofs.Lists.{in_left, in_right, in_push, in_set, in_replicate, get_in, get_past}
 use Rattle.gc_copy.proofs.Heap.{refers_map, laid_push, laid_set, lookup_in, lookup_left, lookup_written, pushed_last, set_from, named_set, written_entry, written_length, written_kind, written_raw, written_in, written_here, written_get}
 
--- an object as it is later, with the fields that may have changed
+-- an object before and after, where only these fields may differ
 pub record Still (objects : List (ℕ × Object)) (Touched : ℕ → Type 0) (a : ℕ) (o : Object) : Type 0 where
   pub now : Object
   pub found : lookup objects a ≡ Some now
@@ -203,7 +203,7 @@ keeps_new size free g raw d kind len name h k l fits is = record {
 at_free : (size free : ℕ) (next : Graph) → IsSpaceGraph size free next → IsSpaceGraph size (free - 0) next
 at_free size free next k = let e : free ≡ free - 0 = omega arith in subst (λ f. IsSpaceGraph size f next) e k
 
--- a command that has room keeps the heap
+-- a command for which there is room keeps the heap well formed
 pub step_keeps : (size free : ℕ) (g : Graph) (m : ℕ) (op : Op) (name : ℕ) → IsSpaceGraph size free g → IsCommand op → words_taken op ≤ free → name ≡ size - free
     → IsSpaceGraph size (free - words_taken op) (step g m op name).1
 step_keeps size free g m (ops.New d kind len) name h r fits is = keeps_new size free g false (place d m) kind len name h r.1 r.2 fits is
@@ -247,7 +247,7 @@ put_evolves g Touched (Ref a) (Some o) (Some before) i w t = cond_both (o.raw &&
     (λ f. unchanged g.objects (Touched NoNumber))
     (λ f. set_evolves g.objects (Touched Done) a i w (t a refl))
 
--- whatever the name of a new object
+-- for every name of a new object
 pub step_evolves : (g : Graph) (m : ℕ) (op : Op) (name : ℕ) → Evolves g.objects (step g m op name).1.objects (WrittenBy g m op (step g m op name).0)
 step_evolves g m (ops.NewRaw d kind len) name = λ a o x. record { now = o; found = lookup_left g.objects ((name, new_object true kind len) ∷ []) a o x; raw = refl; kind = refl; len = refl; fields = λ j w y. inl y }
 step_evolves g m (ops.New d kind len) name = λ a o x. record { now = o; found = lookup_left g.objects ((name, new_object false kind len) ∷ []) a o x; raw = refl; kind = refl; len = refl; fields = λ j w y. inl y }

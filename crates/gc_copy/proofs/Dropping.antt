@@ -27,9 +27,9 @@ use Rattle.gc_copy.proofs.ObjectWalks.{Met, met_none, Passing, passing}
 use Rattle.gc_copy.proofs.OpenCollection.{linked_heap, same_graph, start_kept}
 use Rattle.gc_copy.proofs.LinkedImages.{spelled_agree}
 
--- ---- what the loop keeps
+-- ---- the loop's invariant
 
--- the object's replica stands at this place of the new space's words, or behind it
+-- the object's replica is at this place of the new space or behind it
 abbrev pub IsAhead : List ℕ → ℕ → ℕ → Type 0
 IsAhead words at a = (e : ℕ × Block) × In e (ok_or_nil (walk_from words at)) × (link_at words e.0 ≡ a)
 
@@ -57,7 +57,7 @@ then_kept old now new k l = record {
   blocks = l.blocks ∙ k.blocks;
 }
 
--- at the beginning each replica is ahead
+-- at first every replica is ahead
 pub clears_none : (heap : HeapWords) (x c : CollectionWords) → x ≡ c → IsHeap heap → IsCollection x → BelongsTo heap c → Clears x.space.words heap heap 1
 clears_none heap x c seen sound is belongs = record {
   done = [];
@@ -85,7 +85,7 @@ clears_none heap x c seen sound is belongs = record {
         let entry = in_map_from (replica_entry x.space.words) r (blocks x.space.words) found.0 in
         inr (entry.0, subst (In entry.0) met.split entry.1, ap (λ (q : Replica). q.original) entry.2 ∙ found.1)
 
--- what the replica's link names here
+-- the original that the replica here names
 pub original_here : (words : List ℕ) (old now : HeapWords) (at : ℕ) → Clears words old now at → at < length words → (is_start now.space.words (link_at words at) ≡ true) × (link_at words at < 2 ^ 32)
 original_here words old now at k less =
     let n = some_of (next_of words at) (has_next words at less (k.met).walked) in
@@ -93,7 +93,7 @@ original_here words old now at k less =
     let original = k.originals (replica_entry words (at, p.block)) (in_map (replica_entry words) (at, p.block) (blocks words) p.found) in
     (start_kept old now (link_at words at) k.graph ∙ original.0, original.1)
 
--- one replica's original is cleared
+-- the link of one replica's original is cleared
 pub clears_more : (words : List ℕ) (old now new : HeapWords) (at next : ℕ) → Clears words old now at → at < length words → next_of words at ≡ Some next
     → new ≡ record now { space = with_word now.space (link_place (link_at words at)) 0 } → IsHeap new → Clears words old new next
 clears_more words old now new at next k less e is sound =

@@ -1,4 +1,4 @@
--- The end of a collection, as the code makes it.
+-- The code of a flip.
 use Rattle.gc_copy.proofs.Numbers.{small_corresponding}
 use Rattle.gc_copy.proofs.Replicas.{placed}
 use Rattle.std.specs.Prelude.{◌^◌}
@@ -50,7 +50,7 @@ dropped heap c is =
 
 -- ---- words that refer to objects
 
--- a heap's raw words are small
+-- the raw words of a heap are below 2^63
 raw_words_small : (heap : HeapWords) → IsHeap heap → (a : ℕ) (o : Object) → lookup (graph_in heap).objects a ≡ Some o → o.raw ≡ true → (v : Value) → In v o.fields → IsSmall v
 raw_words_small heap is a o found raw v m = from (block_at heap.space.words a) refl (sym (object_found heap.space.words a) ∙ found)
   where
@@ -120,7 +120,7 @@ module _ (heap : HeapWords) (x : CollectionWords) (heap_is : IsHeap heap) (is : 
       let rest = roots_back vs (λ w l. h w (inr l)) in
       λ i. e i ∷ rest i
 
-  -- a raw word is that of an original
+  -- a replica's raw words are its original's
   raw_small : (e : ℕ × Block) → In e (blocks x.space.words) → e.1.header.raw ≡ true → (w : ℕ) → In w e.1.fields → w < 2 ^ 63
   raw_small e l raw w m =
       let o : In (object_entry e) (new_objects (collection_in x)) = subst (In (object_entry e)) (sym (new_objects_are x)) (in_map object_entry e (blocks x.space.words) l) in

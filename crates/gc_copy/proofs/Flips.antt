@@ -44,7 +44,7 @@ fields_zip alike f g [] (w ∷ ws) len h = absurd (omega arith)
 fields_zip alike f g (v ∷ vs) [] len h = absurd (omega arith)
 fields_zip alike f g (v ∷ vs) (w ∷ ws) len h = (h 0 v w refl refl, fields_zip alike f g vs ws (omega arith) (λ i x y k l. h (suc i) x y k l))
 
--- those of two fields, of objects that are both raw or both not
+-- the words of two corresponding fields
 field_words_of_corresponding : (h k : Header) (pairs : List (ℕ × ℕ)) (v w : Value) → k.raw ≡ h.raw → (h.raw ≡ true → is_number v ≡ true) → RefersTo IsAddress v → RefersTo IsAddress w → correspond pairs v w ≡ true
     → field_words_correspond h pairs (field_word h v) (field_word k w) ≡ true
 field_words_of_corresponding h k pairs v w same number f g agree = go h.raw refl
@@ -95,7 +95,7 @@ pairs_once (r ∷ rest) h (suc i) (suc j) d l within = pairs_once rest h.1 i j d
 
 -- ---- the certificate
 
--- whatever the links are
+-- for all links
 pub certified : (links links' : ℕ → ℕ) (size free : ℕ) (g : Graph) (c : Collection) → IsSpaceGraph size free g → Belongs g.objects c → c.size ≤ 1048576 → IsReady g c
     → Certified (linked_image links size g) (linked_image links' c.size (new_graph c g.roots)) (pairs_of c)
 certified links links' size free g c h k same ready = record {

@@ -30,7 +30,7 @@ pub end_push : (at : ℕ) (objects : List (ℕ × Object)) (e : ℕ × Object) �
 end_push at [] e = omega arith
 end_push at (d ∷ rest) e = end_push (at + (length d.1.fields + 2)) rest e
 
--- where an object stands
+-- an object's place lies within the heap
 pub laid_range : (at : ℕ) (objects : List (ℕ × Object)) (end : ℕ) (e : ℕ × Object) → Laid at objects end → In e objects → (at ≤ e.0) × (e.0 + (length e.1.fields + 2) ≤ end)
 laid_range at [] end e h k = absurd k
 laid_range at (d ∷ rest) end e h (inl k) =
@@ -38,7 +38,7 @@ laid_range at (d ∷ rest) end e h (inl k) =
     (let l : at + (length d.1.fields + 2) ≤ end = laid_end (at + (length d.1.fields + 2)) rest end h.1 in let m : d.0 ≡ at = h.0 in omega arith)
 laid_range at (d ∷ rest) end e h (inr k) = let r = laid_range (at + (length d.1.fields + 2)) rest end e h.1 k in omega arith
 
--- of two objects one ends before the other begins, or they are one
+-- two objects are the same, or one ends before the other begins
 pub laid_apart : (at : ℕ) (objects : List (ℕ × Object)) (end : ℕ) (d e : ℕ × Object) → Laid at objects end → In d objects → In e objects → (d ≡ e) ⊎ ((d.0 + (length d.1.fields + 2) ≤ e.0) ⊎ (e.0 + (length e.1.fields + 2) ≤ d.0))
 laid_apart at [] end d e h k l = absurd k
 laid_apart at (c ∷ rest) end d e h (inl k) (inl l) = inl (sym k ∙ l)
@@ -169,7 +169,7 @@ lookup_written name i v (e ∷ rest) a o h = ⊎_elim there (beside (λ k. looku
         lookup_there e (set_field rest name i v) a n ∙ more (sym (lookup_there e rest a n) ∙ h))
         (cases_Bool (e.0 == a))
 
--- the object behind all others
+-- an object placed behind all others
 pub pushed_last : (objects : List (ℕ × Object)) (a name : ℕ) (o q : Object) → lookup objects a ≡ None → lookup (objects ++ (name, o) ∷ []) a ≡ Some q → o ≡ q
 pushed_last [] a name o q none h = ⊎_elim
     (λ t. cc (sym (cond-true (name == a) (Some o) None t) ∙ h))
@@ -181,7 +181,7 @@ pushed_last (e ∷ rest) a name o q none h = ⊎_elim
     pushed_last rest a name o q (sym (lookup_there e rest a n) ∙ none) (sym (lookup_there e (rest ++ (name, o) ∷ []) a n) ∙ h))
     (cases_Bool (e.0 == a))
 
--- an entry that was there, or is written
+-- an entry was there before, or is the one written
 abbrev pub WasEntry : ℕ → ℕ → Value → List (ℕ × Object) → ℕ × Object → Type 0
 WasEntry name i v objects e = (d : ℕ × Object) × In d objects × ((d ≡ e) ⊎ (written_entry name i v d ≡ e))
 
@@ -200,7 +200,7 @@ set_from name i v (d ∷ rest) e h = ⊎_elim
     others more (inl k) = (d, inl refl, inl k)
     others more (inr k) = let r = more k in (r.0, inr r.1, r.2)
 
--- names stay
+-- names are kept
 pub named_set : (name i : ℕ) (v : Value) (objects : List (ℕ × Object)) (a : ℕ) → IsNamed objects a → IsNamed (set_field objects name i v) a
 named_set name i v objects a n =
     let o = lookup_named objects a n in

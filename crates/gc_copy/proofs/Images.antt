@@ -1,4 +1,4 @@
--- The image of a heap: its objects are met by the walk, and its words mean the heap's values.
+-- The image of a heap: the walk finds its objects, and its words mean the heap's values.
 use Rattle.std.proofs.Common.{◌≡◌, ⊎_elim, inl, inr, is_ok, ℕ, ◌+◌, ◌-◌, ◌<◌, ◌≤◌, ◌==◌, Bool, true, false, cond, List, [], ◌∷◌, map, length, Some, Ok, refl, ap, sym, ◌∙◌, arith, length-append}
 use Rattle.std.proofs.lemmas.Bool.{cases_Bool, cond-true, cond-false}
 use Rattle.std.proofs.lemmas.List.{length-map}
@@ -17,7 +17,7 @@ use Rattle.gc_copy.proofs.Heap.{refers_map, laid_range, lookup_laid}
 
 -- ---- words
 
--- a place that a reference may have
+-- an address that a reference can hold
 abbrev pub IsAddress : ℕ → Type 0
 IsAddress a = (1 ≤ a) × (a < 1048576)
 

@@ -1,4 +1,4 @@
--- What a heap and its collection show to the checker, and what commands leave of them.
+-- The images that a heap and its collection give the checker, and how commands change them.
 use Rattle.std.proofs.Common.{◌≡◌, ⊎_elim, inl, inr, ℕ, true, false, List, [], ◌∷◌, ◌++◌, map, flat_map, length, Option, Some, None, is_some, refl, ap, sym, ◌∙◌, subst}
 use Rattle.std.specs.Option.{option_map}
 use Rattle.std.proofs.lemmas.Bool.{cases_Bool}
@@ -29,7 +29,7 @@ use Rattle.gc_copy.proofs.Spaces.{in_start, new_objects_are}
 
 -- ---- links
 
--- the same words, where the links of all objects are the same
+-- equal objects with equal links have equal words
 pub spelled_agree : (links others : ℕ → ℕ) (bs : List (ℕ × Block)) → ((e : ℕ × Block) → In e bs → links e.0 ≡ others e.0) → flat_map (λ e. block_words (links e.0) e.1) bs ≡ flat_map (λ (e : ℕ × Block). block_words (others e.0) e.1) bs
 spelled_agree links others [] h = refl
 spelled_agree links others (e ∷ bs) h =
@@ -37,7 +37,7 @@ spelled_agree links others (e ∷ bs) h =
     let rest = spelled_agree links others bs (λ d k. h d (inr k)) in
     λ i. block_words (here i) e.1 ++ rest i
 
--- a space with its links told
+-- a space is spelled by its objects and these links
 links_told : (space : SpaceWords) (links : ℕ → ℕ) → IsSpace space → ((e : ℕ × Block) → In e (blocks space.words) → link_at space.words e.0 ≡ links e.0) → space.words ≡ spelled links (map block_entry (objects_of space.words))
 links_told space links is told =
     let same = space_blocks space is in
@@ -74,7 +74,7 @@ shown_certified heap c heap_is is k ready =
 
 -- ---- commands
 
--- what is no object has no replica
+-- a place where no object starts has no replica
 no_link : (heap : HeapWords) (c : CollectionWords) (a : ℕ) → BelongsTo heap c → is_start heap.space.words a ≡ false → old_links (collection_in c) a ≡ 0
 no_link heap c a k none = from (replica_of (collection_in c) a) refl
   where
@@ -105,7 +105,7 @@ command_leaves heap new c m op reply k kept mutators step = record {
   logs = k.logs ∙ sym mutators;
 }
 
--- where nothing was written, nothing differs
+-- a command that writes no field leaves no difference
 pub nothing_left : (heap : HeapWords) (c : CollectionWords) → BelongsToBut [] heap c → BelongsTo heap c
 nothing_left heap c k = record { belongs = same; links = k.links; logs = k.logs }
   where
@@ -114,6 +114,6 @@ nothing_left heap c k = record { belongs = same; links = k.links; logs = k.logs 
         (replicas_due (graph_in heap).objects c.space.size _ (IsDue (collection_in c)) (collection_in c).replicas (its_replicas _ (graph_in heap).objects (collection_in c) k.belongs) (λ r l i w d. ⊎_elim (λ x. x) (λ x. absurd x) d))
         (k.belongs).scan (k.belongs).entries (k.belongs).numbers
 
--- no link comes from a command
+-- a command sets no link
 pub no_links_kept : (heap new : HeapWords) → HasNoLinks heap → KeepsLinks heap.space.words new.space.words → HasNoLinks new
 no_links_kept heap new none kept a there = ⊎_elim (λ t. kept.kept a t ∙ none a t) (λ f. kept.fresh a f there) (cases_Bool (is_start heap.space.words a))

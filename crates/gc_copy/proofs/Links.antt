@@ -1,4 +1,4 @@
--- What the links of a collection's two spaces tell.
+-- What the links in the two spaces of a collection mean.
 use Rattle.std.proofs.Common.{Bool, ◌≡◌, inl, inr, ⊎_elim, ℕ, ◌+◌, ◌==◌, true, false, List, [], ◌∷◌, map, length, Option, Some, None, is_none, refl, ap, sym, ◌∙◌, subst, arith}
 use Rattle.std.proofs.lemmas.Bool.{cases_Bool, cond-true, cond-false, eqb-true, eqb-false, eq-eqb, ne_eqb}
 use Rattle.gc_graph.specs.Graph.{Value, Ref, Object, set_field, with_field}
@@ -31,7 +31,7 @@ unwritten name i v (q ∷ rest) f =
     let others = unwritten name i v rest (λ p k. f p (inr k)) in
     λ n. here n ∷ others n
 
--- a written replica is the object at its place written
+-- writing a replica writes the object at its place
 written_objects : (name place i : ℕ) (v : Value) (at : ℕ) (replicas : List Replica) (end : ℕ) → Laid at (map placed replicas) end → ((q : Replica) → In q replicas → (q.original == name) ≡ (q.place == place))
     → map placed (map (with_written name i v) replicas) ≡ set_field (map placed replicas) place i v
 written_objects name place i v at [] end l f = refl

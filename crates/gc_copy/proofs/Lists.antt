@@ -70,7 +70,7 @@ get_set_same [] i y h = absurd (omega arith)
 get_set_same (x ∷ xs) zero y h = refl
 get_set_same (x ∷ xs) (suc i) y h = get_set_same xs i y (omega arith)
 
--- what stands at place j after a write at place i
+-- the element at place j after a write at place i
 pub get_set : {X : Type 0} (xs : List X) (i j : ℕ) (y z : X) → slice_get (set xs i y) j ≡ Some z → ((j ≡ i) × (y ≡ z)) ⊎ ((j ≢ i) × (slice_get xs j ≡ Some z))
 get_set [] i j y z h = absurd cc
 get_set (x ∷ xs) zero zero y z h = inl (refl, cc)

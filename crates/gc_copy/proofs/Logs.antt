@@ -1,4 +1,4 @@
--- Mutation logs in their list.
+-- The list of mutation logs.
 use Rattle.std.proofs.Common.{◌≡◌, ℕ, suc, zero, ◌+◌, ◌<◌, ◌≤◌, true, false, List, [], ◌∷◌, ◌++◌, map, drop, length, get_or, Option, Some, None, refl, ap, sym, ◌∙◌, subst, arith, inl, inr}
 use Rattle.std.specs.Prelude.{slice_get, slice_set}
 use Rattle.std.proofs.lemmas.Option.{slice_get-get_or}
@@ -30,7 +30,7 @@ entries_at (l ∷ logs) (suc m) log e = entries_at logs m log e
 
 -- ---- one log changes
 
--- the same entries, with other room
+-- equal entries, whatever room the logs have
 pub room_made : (c : CollectionWords) (m : ℕ) (log later : Log) → slice_get c.logs m ≡ Some log → later.entries ≡ log.entries → collection_in (record c { logs = slice_set c.logs m later }) ≡ collection_in c
 room_made c m log later there same =
     let logs = entries_set c.logs m later ∙ ap (slice_set (map entries_of c.logs) m) same ∙ set_same c.logs m log there in
@@ -43,7 +43,7 @@ spares_set (l ∷ logs) zero log later e more (suc k) = omega arith
 spares_set (l ∷ logs) (suc m) log later e more zero = omega arith
 spares_set (l ∷ logs) (suc m) log later e more (suc k) = spares_set logs m log later e more k
 
--- where one log gains room, none loses any
+-- no log loses room when one gains some
 pub room_kept : (c : CollectionWords) (m : ℕ) (log later : Log) → slice_get c.logs m ≡ Some log → log.spare ≤ later.spare → (k : ℕ) → spare_of c k ≤ spare_of (record c { logs = slice_set c.logs m later }) k
 room_kept c m log later there more k = spares_set c.logs m log later there more k
 
@@ -61,7 +61,7 @@ entry_dropped c m log later there less =
     let logs = entries_set c.logs m later ∙ ap (slice_set (map entries_of c.logs) m) (less ∙ ap (λ (es : List (ℕ × ℕ)). drop 1 es) (sym was)) in
     λ i. record (collection_in c) { logs = logs i }
 
--- what belongs to a heap goes on to
+-- a collection goes on belonging to the heap when a log gains room
 pub same_belongs : (heap : HeapWords) (c next : CollectionWords) → collection_in next ≡ collection_in c → length next.logs ≡ length c.logs → BelongsTo heap c → BelongsTo heap next
 same_belongs heap c next same count k = record {
   belongs = subst (Belongs (graph_in heap).objects) (sym same) k.belongs;

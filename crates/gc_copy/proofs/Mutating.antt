@@ -1,4 +1,4 @@
--- A mutator's command with its write barrier, as the code makes it.
+-- The code of a mutator's command with its write barrier.
 use Rattle.std.proofs.Common.{◌≡◌, ◌≢◌, inl, ℕ, zero, suc, ◌-◌, List, [], ◌∷◌, ◌++◌, Option, Some, None, refl, ap, sym, ◌∙◌, subst, arith, append-nil}
 use Rattle.std.specs.Prelude.{slice_get, slice_set}
 use Rattle.std.specs.Option.{option_to_list}
@@ -21,7 +21,7 @@ use Rattle.gc_copy.specs.Words.{CollectionWords, collection_in, idle_state, open
 use Rattle.gc_copy.proofs.StateLaws.{field_there}
 use Rattle.gc_copy.proofs.LinkedImages.{command_leaves, nothing_left, no_links_kept}
 
--- a log with nothing more is as it was
+-- appending nothing leaves a log as it is
 set_kept : (logs : List (List (ℕ × ℕ))) (m : ℕ) → slice_set logs m (log_or_nil (slice_get logs m) ++ []) ≡ logs
 set_kept [] m = refl
 set_kept (l ∷ logs) zero = let same = append-nil l in λ i. same i ∷ logs
@@ -41,7 +41,7 @@ mutate_is heap new c next m op reply entries is size mutators step wrote noted =
     ∙ (λ i. (reply, record { mutators = sym mutators i; size = sym size i; heap = roomy_in new; collection = Some (with_log (collection_in c) m (log_at (collection_in c) m ++ wrote i)) }))
     ∙ ap (λ d. (reply, record { mutators = new.mutators; size = new.space.size; heap = roomy_in new; collection = Some d })) (sym noted)
 
--- only a put that is done writes
+-- a `Put` writes only if its reply is `Done`
 nothing_put : (g : Graph) (m : ℕ) (s t : SlotName) (i : ℕ) (reply : Reply) → reply ≢ replies.Done → written g m (ops.Put s i t) reply ≡ []
 nothing_put g m s t i replies.Done other = absurd (other refl)
 nothing_put g m s t i replies.Full other = refl
@@ -75,7 +75,7 @@ wrote_by_reply g m op (replies.Saw view) o e = nothing g m op (replies.Saw view)
 wrote_by_reply g m op replies.Yes o e = nothing g m op replies.Yes (λ no. cc no)
 wrote_by_reply g m op replies.No o e = nothing g m op replies.No (λ no. cc no)
 
--- the entries, from what the code found of the put and of the answer
+-- the entries to log, from the field that the code found and the reply
 pub wrote : (g : Graph) (m : ℕ) (op : Op) (reply : Reply) (put found : Option (ℕ × ℕ)) → option_to_list put ≡ written g m op replies.Done → found ≡ if_done reply put → written g m op reply ≡ option_to_list found
 wrote g m op reply put found e f = wrote_by_reply g m op reply put e ∙ ap option_to_list (sym f)
 

@@ -1,4 +1,4 @@
--- A walk over the objects of a space, as loops make it.
+-- Loops over the objects of a space.
 use Rattle.std.proofs.Common.{◌≡◌, ℕ, ◌+◌, ◌<◌, ◌≤◌, true, List, [], ◌∷◌, ◌++◌, map, length, Some, refl, ap, sym, ◌∙◌, subst, arith, append_assoc, length-append, inl}
 use Rattle.std.specs.Prelude.{◌^◌, IsOk}
 use Rattle.std.proofs.lemmas.List.{map-append, length-map}
@@ -18,7 +18,7 @@ use Rattle.gc_copy.proofs.Spaces.{in_start}
 
 -- ---- the walk so far
 
--- the objects that were met, and that the walk goes on from here
+-- the objects passed so far; the walk goes on from here
 pub record Met (words : List ℕ) (at : ℕ) (done : List (ℕ × Block)) : Type 0 where
   pub split : blocks words ≡ done ++ ok_or_nil (walk_from words at)
   pub walked : IsOk (walk_from words at)
@@ -32,7 +32,7 @@ met_none space is = from space.words is.walked is.end_low is.count
     from [] walked low same = absurd (omega arith)
     from (w ∷ ws) walked low same = record { split = refl; walked = walked; few = omega arith; within = omega arith }
 
--- the object that is met here, and the walk behind it
+-- the object here, and the walk behind it
 pub record Passing (words : List ℕ) (at next : ℕ) (done : List (ℕ × Block)) : Type 0 where
   pub block : Block
   pub found : In {X = ℕ × Block} (at, block) (blocks words)
@@ -66,7 +66,7 @@ start_met words at done m less =
     let p : Passing words at n.0 done = passing words at n.0 done m less n.1 in
     in_start words (at, p.block) p.found
 
--- ---- what loops keep
+-- ---- what loops maintain
 
 abbrev pub Counts : List ℕ → ℕ → ℕ → Type 0
 Counts words at count = (done : List (ℕ × Block)) × Met words at done × (count ≡ length done)
@@ -93,14 +93,14 @@ lists_more words at next pairs more pair k less e is after =
           ∙ sym (ap (map pair_of) (map-append (replica_entry words) k.0 ((at, p.block) ∷ [])) ∙ map-append pair_of (map (replica_entry words) k.0) (replica_entry words (at, p.block) ∷ [])),
     )
 
--- what the object here names
+-- the original that the object here names
 pub link_small : (words : List ℕ) (at : ℕ) (done : List (ℕ × Block)) → ((r : Replica) → In r (replicas_in words) → r.original < 2 ^ 32) → Met words at done → at < length words → link_at words at < 2 ^ 32
 link_small words at done small m less =
     let n = some_of (next_of words at) (has_next words at less m.walked) in
     let p : Passing words at n.0 done = passing words at n.0 done m less n.1 in
     small (replica_entry words (at, p.block)) (in_map (replica_entry words) (at, p.block) (blocks words) p.found)
 
--- no more pairs than words
+-- there are no more pairs than words
 pub lists_few : (space : SpaceWords) (at : ℕ) (pairs : List Pair) → IsSpace space → Lists space.words at pairs → length pairs < 2 ^ 32
 lists_few space at pairs is k =
     let count : length pairs ≡ length k.0 = sym (length-map pairs addresses) ∙ ap length k.2 ∙ length-map (map (replica_entry space.words) k.0) pair_of ∙ length-map k.0 (replica_entry space.words) in

@@ -1,4 +1,4 @@
--- A heap of words with a collection of words, as a state, and what keeps them together.
+-- The state of a heap of words with its open collection, and the invariant that ties them together.
 use Rattle.gc_words.proofs.Blocks.{block_there}
 use Rattle.std.proofs.Common.{◌≡◌, ◌≢◌, ⊎_elim, inl, ℕ, ◌+◌, ◌-◌, ◌<◌, ◌≤◌, ◌==◌, nat_lt, Bool, true, false, cond, List, [], ◌∷◌, ◌++◌, map, length, Option, Some, None, Result, Ok, Err, is_some, refl, ap, sym, ◌∙◌, subst, arith}
 use Rattle.std.specs.List.{find}
@@ -43,7 +43,7 @@ use Rattle.gc_copy.proofs.Steps.{open_keeps, placing_keeps, bringing_keeps}
 use Rattle.gc_copy.proofs.Words.{word_back}
 use Rattle.gc_copy.proofs.Spaces.{replica_at_end, replica_block_object, space_placed, space_written, new_objects_are, new_end_is}
 
--- ---- the heap, links apart
+-- ---- the heap without its links
 
 pub graph_kept : (old new : HeapWords) → KeepsGraph old new → graph_in new ≡ graph_in old
 graph_kept old new k = ap (λ h. h.graph) k.heap
@@ -65,7 +65,7 @@ root_word_kept old new w k is = record { value = is.value; start = by (value_of 
     by (Num n) h = tt
     by (Ref a) h = start_kept old new a k ∙ h
 
--- a link is no part of what mutators see
+-- mutators do not see links
 pub linked_heap : (heap : HeapWords) (name place : ℕ) → IsHeap heap → is_start heap.space.words name ≡ true → KeepsGraph heap (record heap { space = with_word heap.space (link_place name) place })
 linked_heap heap name place is start =
     let graph = graph_link heap.space name place heap.roots is.space start in
@@ -83,7 +83,7 @@ linked_heap heap name place is start =
 pub opened : (heap : HeapWords) (c : CollectionWords) → IsCollection c → BelongsTo heap c → IsOpened (open_state heap c) (collection_in c)
 opened heap c is k = record { belongs = k.belongs; size = (is.space).size_high; logs = length-map c.logs entries_of ∙ k.logs }
 
--- a collection of the state that belongs to it, and whose replicas the links tell, belongs to the heap
+-- a collection belongs to the heap of words if it belongs to the state and the links name its replicas
 pub closed : (heap new : HeapWords) (before after : CollectionWords) → KeepsGraph heap new → BelongsTo heap before → length after.logs ≡ length before.logs → IsOpened (open_state heap before) (collection_in after) → LinksReplicas new (collection_in after) → BelongsTo new after
 closed heap new before after same k count is links = record {
   belongs = subst (λ (g : Graph). Belongs g.objects (collection_in after)) (sym (graph_kept heap new same)) is.belongs;
@@ -115,7 +115,7 @@ find_push_other p (x ∷ xs) y is = ⊎_elim
     (λ f. cond-false (p x) (Some x) (find p (xs ++ y ∷ [])) f ∙ find_push_other p xs y is ∙ sym (cond-false (p x) (Some x) (find p xs) f))
     (cases_Bool (p x))
 
--- a written replica is found where it was
+-- a replica is found at the same place after a write
 pub place_written : (replicas : List Replica) (name i a : ℕ) (v : Value) → option_map (λ r. r.place) (find (λ r. r.original == a) (map (with_written name i v) replicas)) ≡ option_map (λ r. r.place) (find (λ (r : Replica). r.original == a) replicas)
 place_written [] name i a v = refl
 place_written (r ∷ rs) name i a v =
@@ -163,7 +163,7 @@ can_place_replica s b shaped whole room = cond_both b.header.raw b (fresh_block 
     (λ t. record { shaped = shaped; whole = whole; room = room })
     (λ t. can_place_fresh s b.header (record { shaped = shaped; header = whole.header; room = room }))
 
--- the replica then starts at the old end
+-- the new replica starts at the old end
 pub placed_start : (s one : SpaceWords) (words : List ℕ) (a place : ℕ) → IsSpace s → IsOk (walk_words words) → is_start words a ≡ true → ((h : Header) → header_at words a ≡ Some h → HasRoomFor s h.len)
     → ((b : Block) → block_at words a ≡ Some b → one ≡ with_block s (replica_block b)) → place ≡ end_of s → is_start one.words place ≡ true
 placed_start s one words a place shaped walked start room made at =
@@ -254,9 +254,9 @@ module _ (heap : HeapWords) (c : CollectionWords) (name : ℕ) (h : Header) (hea
           ∙ ap (λ r. Some (record (collection_in c) { replicas = replicas_in c.space.words ++ r ∷ [] })) same
           ∙ ap Some (sym grown)
 
--- ---- what a word refers to is replicated
+-- ---- the target of a word gets its replica
 
--- what the word refers to has a replica already, or it refers to nothing
+-- the target has a replica already, or there is no target
 pub replicated_already : (c : Collection) (g : Graph) (w : ℕ) → HasReplicaOf c (value_of w) → with_replica c g (value_of w) ≡ Some c
 replicated_already c g w h = by (value_of w) h
   where
@@ -265,7 +265,7 @@ replicated_already c g w h = by (value_of w) h
     by (Num n) h = refl
     by (Ref a) h = cond-true (is_some (replica_of c a)) (Some c) (place_replica c a (lookup g.objects a)) h
 
--- once it is placed it has one
+-- once placed, the target has a replica
 pub placed_has : (c next : Collection) (a : ℕ) (o : Option Object) → place_replica c a o ≡ Some next → IsSome (replica_of next a)
 placed_has c next a None e = absurd (let no : None ≡ Some next = e in cc)
 placed_has c next a (Some o) e = by (nat_lt (new_free c) (length o.fields + 2)) e
@@ -284,7 +284,7 @@ pub record Bringing (c next : CollectionWords) (name i : ℕ) (v : Value) : Type
   pub copied : collection_in next ≡ write_replica (collection_in c) name i v
   pub rest : KeepsRest c next
 
--- the replica's field word as written by the code
+-- the word that the code writes into the replica's field
 pub bringing : (objects : List (ℕ × Object)) (c : CollectionWords) (name i w place : ℕ) (v : Value) → IsCollection c → Belongs objects (collection_in c) → option_map (λ r. r.place) (replica_of (collection_in c) name) ≡ Some place → IsSome (field_at c.space.words place i)
     → ((r : Replica) → replica_of (collection_in c) name ≡ Some r → cond r.object.raw (Num w) (value_of w) ≡ v)
     → Bringing c (record c { space = with_word c.space (field_place place i) w }) name i v
@@ -321,7 +321,7 @@ block_of_object words a o e = from (block_at words a) refl (sym (object_found wo
     from None f g = absurd (let no : None ≡ Some o = g in cc)
     from (Some b) f g = (b, f, (let s : Some (object_of_block b) ≡ Some o = g in cc))
 
--- an object has the fields that the words have
+-- an object has as many fields as its words say
 pub field_present : (words : List ℕ) (a i : ℕ) (o : Object) → lookup (objects_of words) a ≡ Some o → i < length o.fields → IsSome (field_at words a i)
 field_present words a i o e less =
     let b = block_of_object words a o e in
@@ -342,7 +342,7 @@ replica_object objects c r belongs l =
     subst (λ os. lookup os r.place ≡ Some r.object) (new_objects_are c)
     (lookup_laid 1 (new_objects (collection_in c)) (new_end (collection_in c)) r.place r.object belongs.laid (in_map placed r (replicas_in c.space.words) l))
 
--- the replica has the field that the original has
+-- the replica has every field that the original has
 pub field_of_replica : (heap : HeapWords) (c : CollectionWords) (name i place : ℕ) → Belongs (graph_in heap).objects (collection_in c) → option_map (λ r. r.place) (replica_of (collection_in c) name) ≡ Some place
     → IsSome (field_at heap.space.words name i) → IsSome (field_at c.space.words place i)
 field_of_replica heap c name i place belongs found there = from (replica_of (collection_in c) name) refl found
@@ -357,7 +357,7 @@ field_of_replica heap c name i place belongs found there = from (replica_of (col
         subst (λ n. IsSome (field_at c.space.words n i)) p
         (field_present c.space.words r.place i r.object (replica_object (graph_in heap).objects c r belongs l.0) (let same = ok.len in omega arith))
 
--- it is raw or not as its original is
+-- a replica is raw exactly if its original is
 pub replica_raw : (heap : HeapWords) (c : CollectionWords) (name i w : ℕ) (r : Replica) (raw : Bool) → Belongs (graph_in heap).objects (collection_in c) → replica_of (collection_in c) name ≡ Some r → field_at heap.space.words name i ≡ Some w
     → ((h : Header) → header_at heap.space.words name ≡ Some h → h.raw ≡ raw) → r.object.raw ≡ raw
 replica_raw heap c name i w r raw belongs e field is =
@@ -368,7 +368,7 @@ replica_raw heap c name i w r raw belongs e field is =
 
 -- ---- moved values
 
--- a replica stands at an address
+-- the place of a replica is an address
 pub replica_address : (objects : List (ℕ × Object)) (c : CollectionWords) (r : Replica) → IsCollection c → Belongs objects (collection_in c) → In r (replicas_in c.space.words) → (1 ≤ r.place) × (r.place < 1048576)
 replica_address objects c r is belongs l =
     let range = laid_range 1 (new_objects (collection_in c)) (new_end (collection_in c)) (placed r) belongs.laid (in_map placed r (replicas_in c.space.words) l) in
@@ -391,7 +391,7 @@ header_of_field words name i w e = from (block_at words name) refl e
     from None f g = absurd (let no : None ≡ Some w = g in cc)
     from (Some b) f g = (b.header, ap header_of f)
 
--- what stands in the field of a heap's object
+-- the word in a field of a heap's object
 pub field_value_is : (heap : HeapWords) (name i w : ℕ) (h : Header) → header_at heap.space.words name ≡ Some h → field_at heap.space.words name i ≡ Some w → field_of (lookup (graph_in heap).objects name) i ≡ Some (field_value h w)
 field_value_is heap name i w h header e =
     let b = block_of_header heap.space.words name h header in
@@ -406,7 +406,7 @@ plain_value_is heap name i w plain e =
     let h = header_of_field heap.space.words name i w e in
     field_value_is heap name i w h.0 h.1 e ∙ ap Some (plain_value h.0 w (plain h.0 h.1))
 
--- the definition's step, put together from the code's: the target first, then the field
+-- the step of the definition, made of the code's two: the target first, then the field
 pub brought : (g : Graph) (c one : Collection) (name i : ℕ) (v : Value) → field_of (lookup g.objects name) i ≡ Some v → with_replica c g v ≡ Some one
     → bring_up_to_date c g name i ≡ Some (write_replica one name i (moved one v))
 brought g c one name i v field target = ap (bring_value c g name i) field ∙ ap (λ o. copy_value o name i v) target
@@ -414,7 +414,7 @@ brought g c one name i v field target = ap (bring_value c g name i) field ∙ ap
 pub not_brought : (g : Graph) (c : Collection) (name i : ℕ) (v : Value) → field_of (lookup g.objects name) i ≡ Some v → with_replica c g v ≡ None → bring_up_to_date c g name i ≡ None
 not_brought g c name i v field target = ap (bring_value c g name i) field ∙ ap (λ o. copy_value o name i v) target
 
--- a replica that is placed for one object leaves that of another
+-- placing one object's replica leaves the others
 pub kept_replica : (c next : Collection) (g : Graph) (v : Value) (a place : ℕ) → with_replica c g v ≡ Some next → option_map (λ r. r.place) (replica_of c a) ≡ Some place → option_map (λ r. r.place) (replica_of next a) ≡ Some place
 kept_replica c next g v a place e found = by v e
   where
@@ -449,7 +449,7 @@ kept_replica c next g v a place e found = by v e
         at true t e = same (let f : Some c ≡ Some next = e in cc)
         at false t e = grown name (lookup g.objects name) (none_of (replica_of c name) t) e
 
--- what the link of an object tells
+-- an object's link is its replica's address, or 0
 pub record Tells (c : CollectionWords) (a link : ℕ) : Type 0 where
   pub small : link < 2 ^ 32
   pub none : link ≡ 0 → option_map (λ r. r.place) (replica_of (collection_in c) a) ≡ None
@@ -471,7 +471,7 @@ link_tells heap c a link is k start e = from (replica_of (collection_in c) a) re
           address = λ n. ((omega (arith, at)), (omega (arith, at)));
         }
 
--- the placing as the code does it: with what each call said of its part
+-- the code that places a replica, from the clauses of its calls
 pub placing_done : (heap new : HeapWords) (c next : CollectionWords) (name end link place : ℕ) (h : Header) (one : SpaceWords) → IsHeap heap → IsCollection c → BelongsTo heap c → is_start heap.space.words name ≡ true → replica_of (collection_in c) name ≡ None
     → header_at heap.space.words name ≡ Some h → HasRoomFor c.space h.len
     → end ≡ end_of c.space → ((b : Block) → block_at heap.space.words name ≡ Some b → one ≡ with_block c.space (replica_block b)) → link ≡ name → next ≡ record c { space = with_word one (link_place end) link } → place ≡ end → new ≡ record heap { space = with_word heap.space (link_place name) place }
@@ -494,7 +494,7 @@ pub if_err : {X Y : Type 0} (P : Type 0) (r : Result X Y) → P → OnErr r P
 if_err P (Ok x) h = tt
 if_err P (Err e) h = h
 
--- ---- what the heap's words say
+-- ---- what is known of the heap's words
 
 pub has_placed : (c next : Collection) (w a : ℕ) (o : Option Object) → Some a ≡ name_of (value_of w) → place_replica c a o ≡ Some next → HasReplicaOf next (value_of w)
 has_placed c next w a o e p = subst (HasReplicaOf next) (sym (named (value_of w) a e)) (placed_has c next a o p)
@@ -509,7 +509,7 @@ field_word_is heap name i w is plain e = from (block_at heap.space.words name) r
 pub field_kept : (old new : HeapWords) (a i : ℕ) → KeepsGraph old new → field_at new.space.words a i ≡ field_at old.space.words a i
 field_kept old new a i k = ap (λ bs. field_in (block_in bs a) i) k.blocks
 
--- ---- bringing a field up to date, as the code does it
+-- ---- the code that brings a field up to date
 
 pub record Brought (heap new : HeapWords) (c next : CollectionWords) (name i : ℕ) : Type 0 where
   pub sound : IsCollection next
@@ -565,7 +565,7 @@ module _ (heap new : HeapWords) (c one x : CollectionWords) (name i w place : �
       copied : collection_in after_words ≡ write_replica (collection_in x) name i (moved (collection_in x) (value_of w))
       copied = made.copied ∙ ap (write_replica (collection_in x) name i) value_is
 
--- the same of a raw field, whose word is copied
+-- the same for a raw field, whose word is copied
 module _ (heap : HeapWords) (c x : CollectionWords) (name i w place : ℕ) (heap_is : IsHeap heap) (raw : (h : Header) → header_at heap.space.words name ≡ Some h → h.raw ≡ true) (is : IsCollection x) (seen : x ≡ c) (k : BelongsTo heap c)
     (field : field_at heap.space.words name i ≡ Some w) (replica : option_map (λ r. r.place) (replica_of (collection_in c) name) ≡ Some place) where
   belongs_raw : BelongsTo heap x
@@ -602,7 +602,7 @@ module _ (heap : HeapWords) (c x : CollectionWords) (name i w place : ℕ) (heap
       step : bring_up_to_date (collection_in x) (graph_in heap) name i ≡ Some (collection_in after_words)
       step = ap (bring_value (collection_in x) (graph_in heap) name i) number ∙ ap Some (sym made.copied)
 
--- a word that refers to nothing is its own
+-- a word without a target is copied as it is
 pub unmoved : (c : Collection) (w : ℕ) → None ≡ name_of (value_of w) → w ≡ word_of (moved c (value_of w))
 unmoved c w e = sym (word_back w) ∙ ap word_of (by (value_of w) e)
   where

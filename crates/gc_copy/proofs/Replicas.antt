@@ -41,7 +41,7 @@ corresponds_more pairs more f (Ref a) Nil h = h
 corresponds_more pairs more f (Ref a) (Num b) h = h
 corresponds_more pairs more f (Ref a) (Ref b) h = in_paired more a b (f (a, b) (paired_in pairs a b h))
 
--- what corresponds to a reference is one to a place
+-- a value that corresponds to a reference is a reference to a replica's place
 pub refers_corresponding : (P : ℕ → Type 0) (pairs : List (ℕ × ℕ)) (v w : Value) → RefersTo P v → correspond pairs v w ≡ true → RefersTo (IsPlace pairs) w
 refers_corresponding P pairs Nil Nil f h = tt
 refers_corresponding P pairs Nil (Num b) f h = absurd cc
@@ -64,7 +64,7 @@ placed r = (r.place, r.object)
 abbrev pub replicas_end : List Replica → ℕ
 replicas_end replicas = objects_end 1 (map placed replicas)
 
--- what a collection that belongs to a heap says of its replicas
+-- what is known of the replicas of a collection that belongs to a heap
 pub record AreReplicas (objects : List (ℕ × Object)) (size : ℕ) (Due : Bool → ℕ → ℕ → ℕ → Type 0) (replicas : List Replica) : Type 0 where
   pub laid : Laid 1 (map placed replicas) (replicas_end replicas)
   pub room : replicas_end replicas ≤ size
@@ -93,7 +93,7 @@ replicas_evolve before later size Due Due' Touched replicas h evolves weaker tou
               (still.fields i v x);
         }
 
--- ---- when fewer fields are due, by what is known of the replicas
+-- ---- when fewer fields are due
 
 pub replicas_due : (objects : List (ℕ × Object)) (size : ℕ) (Due Due' : Bool → ℕ → ℕ → ℕ → Type 0) (replicas : List Replica)
     → AreReplicas objects size Due replicas
@@ -119,7 +119,7 @@ number_corresponds pairs Nil h = absurd cc
 number_corresponds pairs (Num n) h = eq-eqb n n refl
 number_corresponds pairs (Ref a) h = absurd cc
 
--- a fresh replica is as large as its original, of its kind, and raw or not as it is
+-- a fresh replica has the size, the kind and the rawness of its original
 pub fresh_length : (o : Object) → length (fresh_object o).fields ≡ length o.fields
 fresh_length o = cond_both o.raw o (new_object false o.kind (length o.fields)) (λ (q : Object). length q.fields ≡ length o.fields) (λ t. refl) (λ t. length-replicate (length o.fields) Nil)
 
@@ -192,7 +192,7 @@ with_written_length name i w r = ⊎_elim
     (λ f. ap (λ (q : Replica). length q.object.fields) (cond-false (r.original == name) (record r { object = with_field r.object i w }) r f))
     (cases_Bool (r.original == name))
 
--- laid out as the replicas of the same places and sizes
+-- replicas of the same places and sizes are laid out alike
 laid_written : (name i : ℕ) (w : Value) (at : ℕ) (replicas : List Replica) (end : ℕ) → Laid at (map placed replicas) end → Laid at (map placed (map (with_written name i w) replicas)) end
 laid_written name i w at [] end h = h
 laid_written name i w at (r ∷ rest) end h =
@@ -271,7 +271,7 @@ replica_in c a r h = let f = find_some (λ (s : Replica). s.original == a) c.rep
 pub replica_exists : (c : Collection) (r : Replica) → In r c.replicas → (s : Replica) × (replica_of c r.original ≡ Some s)
 replica_exists c r k = find_exists (λ (s : Replica). s.original == r.original) c.replicas r k (eq-eqb r.original r.original refl)
 
--- the pair of a name with its replica
+-- a name and its replica are a pair
 pub replica_pair : (c : Collection) (a : ℕ) (r : Replica) → replica_of c a ≡ Some r → In {X = ℕ × ℕ} (a, r.place) (pairs_of c)
 replica_pair c a r h = let f = replica_in c a r h in subst (λ n. In {X = ℕ × ℕ} (n, r.place) (pairs_of c)) f.1 (in_map pair r c.replicas f.0)
 

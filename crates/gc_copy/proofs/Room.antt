@@ -26,7 +26,7 @@ abbrev weight_of : Option Object → ℕ
 weight_of None = 0
 weight_of (Some o) = length o.fields + 2
 
--- the words of the named object
+-- the number of words of the named object
 abbrev weight : List (ℕ × Object) → ℕ → ℕ
 weight objects a = weight_of (lookup objects a)
 
@@ -56,7 +56,7 @@ nothing_weighs : (names : List ℕ) → sum_by (weight []) names ≡ 0
 nothing_weighs [] = refl
 nothing_weighs (n ∷ names) = let r = nothing_weighs names in omega (arith, r, sum_by-cons (weight []) n names)
 
--- distinct objects of a space take no more than the space
+-- distinct objects of a space have no more words than the space
 weights_fit : (at : ℕ) (objects : List (ℕ × Object)) (end : ℕ) (names : List ℕ) → Laid at objects end → Distinct names → at + sum_by (weight objects) names ≤ end
 weights_fit at [] end names h d = let z = nothing_weighs names in let e : at ≡ end = h in omega arith
 weights_fit at (e ∷ rest) end names h d =
@@ -167,7 +167,7 @@ module _ (s : State) (h : IsSpaceGraph s.size s.heap.free s.heap.graph) where
 pub has_room : (s : State) → IsState s → AlwaysHasRoom s
 has_room s h c is = opened_has_room s h.heap c (subst (IsOpen s) is h.collection) is
 
--- of a heap of words and the collection that belongs to it
+-- the same for a heap of words and its collection
 pub words_have_room : (heap : HeapWords) (c : CollectionWords) (step : Step) → IsHeap heap → IsCollection c → BelongsTo heap c → heap.space.size ≤ c.space.size → (collect (open_state heap c) step).0 ≢ NoRoom
 words_have_room heap c step h k b same =
     opened_has_room (open_state heap c) (heap_graph heap h) (collection_in c)

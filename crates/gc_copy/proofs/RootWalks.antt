@@ -1,4 +1,4 @@
--- The roots, one word after the other.
+-- Walks over the root words.
 use Rattle.std.proofs.Common.{◌≡◌, ℕ, suc, zero, ◌<◌, ◌≤◌, true, List, [], ◌∷◌, ◌++◌, map, drop, flat_map, length, get_or, Option, is_some, refl, ap, sym, ◌∙◌, subst, arith, append-nil, inl, inr}
 use Rattle.std.proofs.lemmas.List.{drop_all}
 use Rattle.gc_graph.specs.Graph.{Value, Nil, Num, Ref, names_of}
@@ -13,7 +13,7 @@ use Rattle.gc_copy.specs.Internal.Words.{HasReplicaOf}
 use Rattle.gc_copy.proofs.Lists.{in_map}
 use Rattle.gc_copy.proofs.Steps.{roots_replicated}
 
--- what is found among the words from place i on
+-- the first target without a replica, from root i on
 abbrev pub found_from : Collection → List ℕ → ℕ → Option ℕ
 found_from c words i = first_unreplicated c (flat_map names_of (map value_of (drop i words)))
 
@@ -39,7 +39,7 @@ has_one c Nil h = tt
 has_one c (Num n) h = tt
 has_one c (Ref a) h = ap is_some h.1
 
--- where the roots are done, what each root word refers to has a replica
+-- once the roots are done, every target of a root has a replica
 pub root_has_replica : (heap : HeapWords) (c : Collection) (words : List ℕ) (i : ℕ) → words ≡ heap.roots → i < length words → roots_done c (graph_in heap) ≡ true → HasReplicaOf c (value_of (get_or words i 0))
 root_has_replica heap c words i same h done =
     has_one c (value_of (get_or words i 0))

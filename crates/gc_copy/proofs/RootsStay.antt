@@ -14,11 +14,11 @@ use Rattle.gc_copy.proofs.OpenCollection.{place_written}
 
 -- ---- replicas
 
--- what has a replica in the first has one in the second
+-- every object with a replica in the first has one in the second
 abbrev Keeps : Collection → Collection → Type 0
 Keeps c next = (a : ℕ) → is_some (replica_of c a) ≡ true → is_some (replica_of next a) ≡ true
 
--- or there was no room for a second
+-- the same of a step for which there may be no room
 abbrev KeepsIfRoom : Collection → Option Collection → Type 0
 KeepsIfRoom c None = ⊤
 KeepsIfRoom c (Some next) = Keeps c next

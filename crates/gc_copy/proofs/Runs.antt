@@ -1,4 +1,4 @@
--- Every state that a run reaches is as it has to be.
+-- Every state that a run reaches is well formed.
 use Rattle.std.proofs.Common.{◌||◌, ◌≡◌, ℕ, ◌≤◌, ◌==◌, List, [], ◌∷◌, Option, Some, None, refl, sym, ◌∙◌, subst, arith}
 use Rattle.std.proofs.lemmas.Bool.{cond_both}
 use Rattle.std.proofs.lemmas.List.{length-replicate}
@@ -17,7 +17,7 @@ use Rattle.gc_copy.specs.declared.step.StepReply.TheVariants.{Copied, Scanned, A
 use Rattle.gc_copy.proofs.Lists.{in_replicate}
 use Rattle.gc_copy.proofs.Steps.{collect_keeps, mutate_keeps}
 
--- a state of a run with so many mutators
+-- a state that a run with this many mutators reaches
 pub record Reached (mutators : ℕ) (s : State) : Type 0 where
   pub ok : IsState s
   pub count : s.mutators ≡ mutators

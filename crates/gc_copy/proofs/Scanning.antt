@@ -1,4 +1,4 @@
--- The scan, as the code makes it.
+-- The code of the scan.
 use Rattle.gc_words.proofs.Starts.{stands_in}
 use Rattle.std.proofs.Common.{◌≡◌, ⊎_elim, ℕ, suc, ◌+◌, ◌<◌, ◌≤◌, ◌==◌, ◌||◌, ◌⊎◌, Bool, true, false, length, Some, None, refl, ap, sym, ◌∙◌, subst, arith}
 use Rattle.std.specs.Prelude.{◌^◌, IsSome}
@@ -57,7 +57,7 @@ module _ (heap : HeapWords) (x : CollectionWords) (is : IsCollection x) (k : Bel
       let b = stands_there h e in
       sym (ap (λ (o : Object). length o.fields) b.3) ∙ fields_counted x.space.words x.scan_place b.0 (is.space).walked b.1 ∙ ap (λ (h : Header). h.len) b.2
 
-  -- as each header that a word is
+  -- an object's length fits 16 bits, like that of every header
   pub len_small : (h : Header) → header_at x.space.words x.scan_place ≡ Some h → h.len < 65536
   len_small h e =
       let b = stands_there h e in
@@ -86,7 +86,7 @@ module _ (heap : HeapWords) (x : CollectionWords) (is : IsCollection x) (k : Bel
       subst (λ a. IsSome (field_at heap.space.words a x.scan_field)) (sym original)
       (field_present heap.space.words at.0.original x.scan_field ok.original ok.found (omega (arith, n, other)))
 
-  -- a field that is less than all of them is numbered by sixteen bits
+  -- the number of the next field fits 16 bits
   pub next_small : (h : Header) → header_at x.space.words x.scan_place ≡ Some h → (x.scan_field ≡ h.len → ⊥) → x.scan_field + 1 ≤ h.len
   next_small h e other = let n = count h e in let most = at.3 in omega (arith, n, other)
 

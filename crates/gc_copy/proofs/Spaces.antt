@@ -1,4 +1,4 @@
--- The replicas that the words of a space are, and what writes do to them.
+-- The replicas in the words of a space, and what writes do to them.
 use Rattle.std.proofs.Common.{◌≡◌, ⊎_elim, inl, inr, ℕ, ◌-◌, ◌==◌, Bool, true, false, cond, length, List, [], ◌∷◌, ◌++◌, map, Option, Some, None, is_some, refl, ap, sym, ◌∙◌, subst, arith}
 use Rattle.std.specs.Prelude.{IsSome}
 use Rattle.std.proofs.lemmas.Bool.{cases_Bool, cond-true, cond-false, eq-eqb}
@@ -40,7 +40,7 @@ map_agree f g (x ∷ xs) h =
 abbrev placed_of : Replica → ℕ × Object
 placed_of r = (r.place, r.object)
 
--- replicas are told by their originals and their objects
+-- equal originals and objects make equal replicas
 pub replicas_same : (rs ss : List Replica) → map (λ r. r.original) rs ≡ map (λ r. r.original) ss → map placed_of rs ≡ map placed_of ss → rs ≡ ss
 replicas_same [] [] e f = refl
 replicas_same [] (s ∷ ss) e f = absurd cc
@@ -53,7 +53,7 @@ replicas_same (r ∷ rs) (s ∷ ss) e f =
     let rest = replicas_same rs ss t u in
     λ i. record { original = o i; place = (q i).0; object = (q i).1 } ∷ rest i
 
--- ---- replicas of words
+-- ---- replicas in words
 
 pub originals_at : (words : List ℕ) (bs : List (ℕ × Block)) → map (λ r. r.original) (map (replica_entry words) bs) ≡ map (link_at words) (map (λ e. e.0) bs)
 originals_at words [] = refl
@@ -83,7 +83,7 @@ in_block (d ∷ bs) e (inr k) = ⊎_elim
 pub in_start : (words : List ℕ) (e : ℕ × Block) → In e (blocks words) → is_start words e.0 ≡ true
 in_start words e k = in_block (blocks words) e k
 
--- a replica stands at a start of the space
+-- each replica is at a start of the space
 pub replica_start : (words : List ℕ) (r : Replica) → In r (replicas_in words) → (e : ℕ × Block) × In e (blocks words) × (replica_entry words e ≡ r)
 replica_start words r k = in_map_from (replica_entry words) r (blocks words) k
 
@@ -132,7 +132,7 @@ space_placed s b name can = (linked.0, each)
         ∙ ap (λ rs. rs ++ replica_entry words (end_of s, b) ∷ []) (map_agree (replica_entry words) (replica_entry s.words) (blocks s.words) (λ e k. entry_agrees words s.words e (link_kept e k)))
         ∙ ap (λ r. replicas_in s.words ++ r ∷ []) last
 
--- what a replica is placed as
+-- the object as which a replica is placed
 pub replica_block_object : (b : Block) → IsBlock b → object_of_block (replica_block b) ≡ fresh_object (object_of_block b)
 replica_block_object b whole = go b.header.raw refl
   where

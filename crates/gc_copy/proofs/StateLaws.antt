@@ -1,4 +1,4 @@
--- The laws, of states and of every run.
+-- The public laws, for one state and for every run.
 use Rattle.std.proofs.Common.{◌||◌, ◌≡◌, ◌≢◌, ◌⊎◌, inl, inr, ⊎_elim, ℕ, ◌+◌, ◌-◌, ◌*◌, ◌<◌, ◌≤◌, ◌==◌, true, false, nat_lt, List, [], ◌∷◌, ◌++◌, map, length, Option, Some, None, ◌↔◌, refl, ap, sym, ◌∙◌, subst, arith}
 use Rattle.std.proofs.lemmas.Bool.{cases_Bool, cond-true, cond-false, cond_both, eqb-false, ltb-false}
 use Rattle.std.proofs.lemmas.List.{length-map}
@@ -108,7 +108,7 @@ command_kept h c m op name belongs =
     (λ full. belongs_but h.graph.objects h.graph.objects c (λ a i. In (a, i) (written h.graph m op Full)) belongs (unchanged h.graph.objects _) belongs.numbers)
     (λ fits. belongs_but h.graph.objects (step h.graph m op name).1.objects c (λ a i. In (a, i) (written h.graph m op (step h.graph m op name).0)) belongs (step_evolves h.graph m op name) (step_numbers h.graph m op name belongs.numbers))
 
--- the field that a command writes is one of the heap
+-- a command writes only fields that the heap has
 pub field_there : (h : Roomy) (m : ℕ) (op : Op) (name a i : ℕ)
     → (let next = roomy_step h m op name in In (a, i) (written h.graph m op next.0) → HasField next.1.graph.objects a i)
 field_there h m op name a i =

@@ -1,4 +1,4 @@
--- Each event keeps a heap and the collection that belongs to it.
+-- Each event keeps the heap well formed and the collection belonging to it.
 use Rattle.std.proofs.Common.{◌≡◌, ◌≢◌, ◌⊎◌, inl, inr, ⊎_elim, ℕ, zero, suc, ◌+◌, ◌-◌, ◌<◌, ◌≤◌, ◌==◌, nat_lt, Bool, true, false, cond, ◌&&◌, ◌||◌, List, [], ◌∷◌, ◌++◌, map, length, set, replicate, Option, Some, None, is_some, slice_get, flat_map, refl, ap, sym, ◌∙◌, subst, arith, length-set}
 use Rattle.std.specs.List.{list_all}
 use Rattle.std.proofs.lemmas.Bool.{cases_Bool, cases_eq, cases_lt, cond-true, cond-false, cond_both, eqb-true, eqb-false, ltb-false, and_parts, or_cases, or_parts, not-true}
@@ -28,8 +28,8 @@ use Rattle.gc_graph.proofs.Stepping.{step_roots}
 use Rattle.gc_words.proofs.Writes.{some_of}
 use Rattle.gc_heap.proofs.Commands.{none_of}
 
--- neither of two
--- ---- what belonging says of replicas
+-- if `or` is false, both are
+-- ---- what belonging means for replicas
 
 pub its_replicas : (Due : Bool → ℕ → ℕ → ℕ → Type 0) (objects : List (ℕ × Object)) (c : Collection) → BelongsBy Due objects c → AreReplicas objects c.size Due c.replicas
 its_replicas Due objects c h = record { laid = h.laid; room = h.room; once = h.once; each = h.replicas }
@@ -37,7 +37,7 @@ its_replicas Due objects c h = record { laid = h.laid; room = h.room; once = h.o
 pub belongs_from : (Due : Bool → ℕ → ℕ → ℕ → Type 0) (objects : List (ℕ × Object)) (c : Collection) → AreReplicas objects c.size Due c.replicas → IsScanPlace c.scan_place c.scan_field c → ((a i : ℕ) → IsLogged c a i → HasField objects a i) → HasRawNumbers objects → BelongsBy Due objects c
 belongs_from Due objects c h scan entries numbers = record { laid = h.laid; room = h.room; once = h.once; replicas = h.each; scan = scan; entries = entries; numbers = numbers }
 
--- a replica that is placed at the end is not yet scanned
+-- a replica placed at the end is not scanned yet
 pub due_at_end : (objects : List (ℕ × Object)) (c : Collection) → Belongs objects c → (a i : ℕ) → IsDue c false (replicas_end c.replicas) a i
 due_at_end objects c h a i = inl (
   refl,
@@ -58,7 +58,7 @@ due_same c next raw p a i e f g (inr d) = inr (logged_same c next a i e d)
 
 -- ---- more replicas
 
--- a collection that goes on from another, with these fields due
+-- a later collection with more replicas, where these fields are due
 pub record Grown (objects : List (ℕ × Object)) (c : Collection) (Due : Bool → ℕ → ℕ → ℕ → Type 0) (next : Collection) : Type 0 where
   pub size : next.size ≡ c.size
   pub logs : next.logs ≡ c.logs
@@ -74,7 +74,7 @@ same_grown objects c Due h = record { size = refl; logs = refl; scan_place = ref
 pub no_replica : (c : Collection) (name : ℕ) (r : Replica) → replica_of c name ≡ None → In r c.replicas → r.original ≡ name → ⊥
 no_replica c name r none k e = let f = find_none (λ (s : Replica). s.original == name) c.replicas r none k in eqb-false r.original name f e
 
--- no replica has the name
+-- without a replica, the name is no replica's original
 pub unnamed : (c : Collection) (name : ℕ) → replica_of c name ≡ None → In name (map (λ r. r.original) c.replicas) → ⊥
 unnamed c name none k = let r = in_map_from (λ (r : Replica). r.original) name c.replicas k in no_replica c name r.0 none r.1 r.2
 
@@ -130,13 +130,13 @@ field_there : (o : Option Object) (i : ℕ) (v : Value) → field_of o i ≡ Som
 field_there None i v h = absurd cc
 field_there (Some o) i v h = (o, refl, h)
 
--- a scan place is one in the written replicas too
+-- writing a replica keeps the scan pointer at a replica
 scan_written : (name i : ℕ) (w : Value) (c : Collection) (place field : ℕ) → replicas_end (map (with_written name i w) c.replicas) ≡ replicas_end c.replicas → IsScanPlace place field c → IsScanPlace place field (write_replica c name i w)
 scan_written name i w c place field ends (inl s) =
     inl (with_written name i w s.0, in_map (with_written name i w) s.0 c.replicas s.1, ap (λ (p : ℕ × ℕ). p.1) (with_written_pair name i w s.0) ∙ s.2, (let l = with_written_length name i w s.0 in let k = s.3 in omega arith))
 scan_written name i w c place field ends (inr s) = inr (s.0 ∙ sym ends, s.1)
 
--- a field brought up to date is due no more
+-- a field that is up to date is no longer due
 bringing : (g : Graph) (c : Collection) (Due Due' : Bool → ℕ → ℕ → ℕ → Type 0) (name i : ℕ) (next : Collection)
     → HasRawNumbers g.objects → AreReplicas g.objects c.size Due c.replicas → ((a j : ℕ) → Due false (replicas_end c.replicas) a j)
     → ((raw : Bool) (p a j : ℕ) → Due raw p a j → ((a ≡ name) × (j ≡ i)) ⊎ Due' raw p a j)
@@ -190,7 +190,7 @@ grown_open s c next same count scan entries numbers h = record {
   logs = ap length h.logs ∙ count;
 }
 
--- a state with another collection
+-- the state stays well formed with another collection that belongs to it
 still_state : (s : State) (o : Option Collection) → IsState s → IsOpen s o → IsState (with_collection s o)
 still_state s None h k = record { heap = h.heap; numbers = h.numbers; roots = h.roots; collection = tt }
 still_state s (Some c) h k = record { heap = h.heap; numbers = h.numbers; roots = h.roots; collection = record { belongs = k.belongs; size = k.size; logs = k.logs } }
@@ -225,7 +225,7 @@ roots_keep s c h k = go (root_target c s.heap.graph) refl
         grown_open s c d k.size k.logs (k.belongs).scan (k.belongs).entries (k.belongs).numbers
         (placing s.heap.graph.objects c (IsDue c) name d (k.belongs).numbers (its_replicas (IsDue c) s.heap.graph.objects c k.belongs) (unreplicated_some c (flat_map names_of s.heap.graph.roots) name e).0 (due_at_end s.heap.graph.objects c k.belongs) is).0)
 
--- a replica that is placed, and a field that is brought up to date, leave a collection that belongs to the heap
+-- placing a replica and bringing a field up to date keep the collection belonging to the heap
 pub placing_keeps : (s : State) (c next : Collection) (name : ℕ) → IsOpened s c → replica_of c name ≡ None → place_replica c name (lookup s.heap.graph.objects name) ≡ Some next → IsOpened s next
 placing_keeps s c next name k none is = grown_open s c next k.size k.logs (k.belongs).scan (k.belongs).entries (k.belongs).numbers
     (placing s.heap.graph.objects c (IsDue c) name next (k.belongs).numbers (its_replicas (IsDue c) s.heap.graph.objects c k.belongs) none (due_at_end s.heap.graph.objects c k.belongs) is).0
@@ -234,7 +234,7 @@ pub bringing_keeps : (s : State) (c next : Collection) (name i : ℕ) → IsOpen
 bringing_keeps s c next name i k is = grown_open s c next k.size k.logs (k.belongs).scan (k.belongs).entries (k.belongs).numbers
     (bringing s.heap.graph c (IsDue c) (IsDue c) name i next (k.belongs).numbers (its_replicas (IsDue c) s.heap.graph.objects c k.belongs) (due_at_end s.heap.graph.objects c k.belongs) (λ raw p a j d. inr d) is)
 
--- of two replicas at one place
+-- two replicas at one place are one
 pub same_place : (at : ℕ) (replicas : List Replica) (end : ℕ) (r s : Replica) → Laid at (map placed replicas) end → In r replicas → In s replicas → r.place ≡ s.place → r ≡ s
 same_place at [] end r s h k l e = absurd k
 same_place at (q ∷ rest) end r s h (inl k) (inl l) e = sym k ∙ l
@@ -246,7 +246,7 @@ same_place at (q ∷ rest) end r s h (inr k) (inl l) e =
     let here = h.0 in let p : q.place ≡ s.place = ap (λ (x : Replica). x.place) l in absurd (omega arith)
 same_place at (q ∷ rest) end r s h (inr k) (inr l) e = same_place (at + (length q.object.fields + 2)) rest end r s h.1 k l e
 
--- behind a replica stands the next one, or it is the last
+-- each replica is followed by the next one, or is the last
 next_replica : (at : ℕ) (replicas : List Replica) (end : ℕ) (r : Replica) → Laid at (map placed replicas) end → In r replicas → ((q : Replica) × In q replicas × (q.place ≡ r.place + (length r.object.fields + 2))) ⊎ (r.place + (length r.object.fields + 2) ≡ end)
 next_replica at [] end r h k = absurd k
 next_replica at (q ∷ []) end r h (inl k) = inr (subst (λ (x : Replica). x.place + (length x.object.fields + 2) ≡ end) k (let a = h.0 in let b : at + (length q.object.fields + 2) ≡ end = h.1 in omega arith))
@@ -275,7 +275,7 @@ passed_open s c r k here place done = record {
     less q l i within (inl (n, u)) = inl (n, unscanned q i (laid_apart 1 (map placed c.replicas) (replicas_end c.replicas) (placed r) (placed q) (k.belongs).laid (in_map placed r c.replicas here) (in_map placed q c.replicas l)) n within u)
     less q l i within (inr d) = inr d
 
--- due, and not this field
+-- the due fields other than this one
 abbrev But : (Bool → ℕ → ℕ → ℕ → Type 0) → ℕ → ℕ → Bool → ℕ → ℕ → ℕ → Type 0
 But Due name i raw p a j = Due raw p a j × ((a ≡ name) × (j ≡ i) → ⊥)
 
@@ -309,7 +309,7 @@ scanned_open s c r (Some n) d k here place more is e = subst (IsOpened s) same (
     grown : Grown objects c (But (IsDue c) r.original c.scan_field) n
     grown = bringing s.heap.graph c (IsDue c) (But (IsDue c) r.original c.scan_field) r.original c.scan_field n (k.belongs).numbers (its_replicas (IsDue c) objects c k.belongs) (due_at_end objects c k.belongs) (but_less (IsDue c) r.original c.scan_field) is
 
-    -- the field after this one is at its end at most
+    -- the next field's number is at most the length
     within_here : c.scan_field ≤ length r.object.fields
     within_here = ⊎_elim
         (λ x. let same_one = same_place 1 c.replicas (replicas_end c.replicas) x.0 r (k.belongs).laid x.1 here (x.2 ∙ sym place) in
@@ -320,7 +320,7 @@ scanned_open s c r (Some n) d k here place more is e = subst (IsOpened s) same (
     here_next : IsScanPlace c.scan_place (suc c.scan_field) c
     here_next = inl (r, here, place, omega (arith, within_here, more))
 
-    -- the replica at the scan place is this one's
+    -- the replica at the scan pointer is this one
     original_at : (q : Replica) → In q n.replicas → q.place ≡ r.place → q.original ≡ r.original
     original_at q l e =
         let m = in_map_from pair (pair r) n.replicas (grown.pairs (pair r) (in_map pair r c.replicas here)) in
@@ -350,7 +350,7 @@ scan_keeps s c h k = cond_both (scan_done c) _ _ (λ (next : StepReply × State)
         (λ t. passed_open s c r k f.0 place (⊎_elim (λ x. inl x) (λ x. inr (eqb-true c.scan_field (length r.object.fields) x)) (or_cases r.object.raw (c.scan_field == length r.object.fields) t)))
         (λ t. room_keeps s Scanned (next_field (bring_up_to_date c s.heap.graph r.original c.scan_field)) h (λ d is. scanned_open s c r (bring_up_to_date c s.heap.graph r.original c.scan_field) d k f.0 place (eqb-false c.scan_field (length r.object.fields) (or_parts r.object.raw (c.scan_field == length r.object.fields) t).1) refl is))
 
--- what is due while an entry is out of its log
+-- an entry of the logs is the one taken out, or still in a log
 entry_out : (logs : List (List (ℕ × ℕ))) (m : ℕ) (entry : ℕ × ℕ) (rest : List (ℕ × ℕ)) (a j k : ℕ) → log_or_nil (slice_get logs m) ≡ entry ∷ rest → In {X = ℕ × ℕ} (a, j) (log_or_nil (slice_get logs k))
     → ((a ≡ entry.0) × (j ≡ entry.1)) ⊎ In {X = ℕ × ℕ} (a, j) (log_or_nil (slice_get (set logs m rest) k))
 entry_out logs m entry rest a j k is d = ⊎_elim
@@ -365,7 +365,7 @@ entry_out logs m entry rest a j k is d = ⊎_elim
     there None e f = absurd cc
     there (Some l) e f = get_past logs m l e
 
--- what stands in the logs then stood there before
+-- every entry that is left was there before
 entry_was : (logs : List (List (ℕ × ℕ))) (m : ℕ) (entry : ℕ × ℕ) (rest : List (ℕ × ℕ)) (p : ℕ × ℕ) (k : ℕ) → log_or_nil (slice_get logs m) ≡ entry ∷ rest → In p (log_or_nil (slice_get (set logs m rest) k)) → In p (log_or_nil (slice_get logs k))
 entry_was logs m entry rest p k is d = ⊎_elim
     (λ e. subst (λ n. In p (log_or_nil (slice_get logs n))) (sym e) (subst (In p) (sym is) (inr (subst (λ o. In p (log_or_nil o)) (get_set_same logs m rest (there (slice_get logs m) refl is)) (subst (λ n. In p (log_or_nil (slice_get (set logs m rest) n))) e d)))))
@@ -412,7 +412,7 @@ apply_keeps s c m h k = go (log_at c m) refl
 
 -- ---- the flip
 
--- each value in the roots has a replica
+-- the target of each root has a replica
 pub roots_replicated : (c : Collection) (g : Graph) → roots_done c g ≡ true → (v : Value) → In v g.roots → HasReplica c v
 roots_replicated c g done Nil k = tt
 roots_replicated c g done (Num n) k = tt
@@ -430,7 +430,7 @@ empty_log ([] ∷ logs) h zero = refl
 empty_log ([] ∷ logs) h (suc k) = empty_log logs h k
 empty_log ((e ∷ log) ∷ logs) h k = absurd cc
 
--- what a collection is that is ready
+-- a collection that is ready
 pub record IsReady (g : Graph) (c : Collection) : Type 0 where
   pub logs : list_all is_empty c.logs ≡ true
   pub scan : c.scan_place ≡ new_end c
@@ -442,7 +442,7 @@ ready_parts c g h =
     let q = and_parts (list_all is_empty c.logs) (scan_done c) p.0 in
     record { logs = q.0; scan = eqb-true c.scan_place (new_end c) q.1; roots = p.1 }
 
--- nothing is due then
+-- nothing is due in a ready collection
 pub none_due : (objects : List (ℕ × Object)) (g : Graph) (c : Collection) (r : Replica) (i : ℕ) → Belongs objects c → IsReady g c → In r c.replicas → IsDue c r.object.raw r.place r.original i → ⊥
 none_due objects g c r i h ready l (inl (n, u)) =
     let range = laid_range 1 (map placed c.replicas) (replicas_end c.replicas) (placed r) h.laid (in_map placed r c.replicas l) in
@@ -450,7 +450,7 @@ none_due objects g c r i h ready l (inl (n, u)) =
     ⊎_elim (λ a. omega arith) (λ b. let e = b.0 in omega arith) u
 none_due objects g c r i h ready l (inr d) = subst (In {X = ℕ × ℕ} (r.original, i)) (empty_log c.logs ready.logs d.0) d.1
 
--- so each field of a replica corresponds to one of its original
+-- so each field of a replica corresponds to its original's
 pub replica_field : (g : Graph) (c : Collection) → (k : Belongs g.objects c) → IsReady g c → (r : Replica) → (l : In r c.replicas) → (w : Value) → In w r.object.fields
     → (v : Value) × In v (k.replicas r l).original.fields × (correspond (pairs_of c) v w ≡ true)
 replica_field g c k ready r l w x =
@@ -467,14 +467,14 @@ replica_field g c k ready r l w x =
           (ok.current i.0 v.0 w v.1 i.1),
     )
 
--- and is a value of the new space
+-- each field of a replica refers to a place in the new space
 pub replica_refers : (size free : ℕ) (g : Graph) (c : Collection) → IsSpaceGraph size free g → Belongs g.objects c → IsReady g c → (r : Replica) → In r c.replicas → (w : Value) → In w r.object.fields → RefersTo (IsPlace (pairs_of c)) w
 replica_refers size free g c h k ready r l w x =
     let ok = k.replicas r l in
     let f = replica_field g c k ready r l w x in
     refers_corresponding (IsNamed g.objects) (pairs_of c) f.0 w ((h.objects r.original ok.original (lookup_in g.objects r.original ok.original ok.found)).fields f.0 f.1) f.2
 
--- what corresponds to a number is one
+-- a value that corresponds to a number is a number
 number_corresponding : (pairs : List (ℕ × ℕ)) (v w : Value) → is_number v ≡ true → correspond pairs v w ≡ true → is_number w ≡ true
 number_corresponding pairs Nil w n h = absurd cc
 number_corresponding pairs (Num a) Nil n h = absurd cc
@@ -548,7 +548,7 @@ begun_belongs objects mutators size numbers low = record {
 fresh_open : (s : State) (size : ℕ) → HasRawNumbers s.heap.graph.objects → 1 ≤ size → size ≤ 1048576 → IsOpened s (fresh_collection s.mutators size)
 fresh_open s size numbers low high = record { belongs = begun_belongs s.heap.graph.objects s.mutators size numbers low; size = high; logs = length-replicate s.mutators [] }
 
--- a step in an open collection keeps belonging, whatever the heap is
+-- a step of an open collection keeps it belonging to the heap
 pub open_keeps : (s : State) (c : Collection) (step : Step) → s.collection ≡ Some c → IsOpened s c → step ≢ steps.Flip → IsOpen s (step_in s c step).1.collection
 open_keeps s c step is k other = go step other
   where
@@ -564,7 +564,7 @@ open_keeps s c step is k other = go step other
     go steps.Flip n = absurd (n refl)
     go steps.Drop n = tt
 
--- a step but a flip leaves all but the collection
+-- a step other than a flip changes only the collection
 abbrev Stays : State → StepReply × State → Type 0
 Stays s next = next.1 ≡ with_collection s next.1.collection
 
@@ -627,7 +627,7 @@ collect_keeps s step h range = go s.collection refl step range h.collection
     go (Some c) is steps.Flip range k = flip_keeps s c h k
     go (Some c) is steps.Drop range k = quiet c steps.Drop is k (λ e. cc e)
 
--- a command leaves a collection that belongs but for the field that it wrote
+-- after a command the collection belongs to the heap except for the field written
 pub belongs_but : (before later : List (ℕ × Object)) (c : Collection) (E : ℕ → ℕ → Type 0) → Belongs before c → Evolves before later E → HasRawNumbers later → BelongsBut E later c
 belongs_but before later c E h evolves numbers = belongs_from (λ raw p a i. IsDue c raw p a i ⊎ E a i) later c
     (replicas_evolve before later c.size (IsDue c) (λ raw p a i. IsDue c raw p a i ⊎ E a i) E c.replicas (its_replicas (IsDue c) before c h) evolves (λ raw p a i d. inl d) (λ raw p a i x. inr x))
@@ -635,7 +635,7 @@ belongs_but before later c E h evolves numbers = belongs_from (λ raw p a i. IsD
     (λ a i x. field_stays before later E a i evolves (h.entries a i x))
     numbers
 
--- entries that name those fields make it belong
+-- logging those fields makes the collection belong to the heap again
 pub belongs_noted : (objects : List (ℕ × Object)) (c : Collection) (m : ℕ) (entries : List (ℕ × ℕ)) → m < length c.logs → BelongsBut (λ a i. In {X = ℕ × ℕ} (a, i) entries) objects c
     → ((a i : ℕ) → In {X = ℕ × ℕ} (a, i) entries → HasField objects a i) → Belongs objects (with_log c m (log_at c m ++ entries))
 belongs_noted objects c m entries within h there = belongs_from (IsDue c') objects c'
@@ -667,7 +667,7 @@ belongs_noted objects c m entries within h there = belongs_from (IsDue c') objec
         (λ n. inl (subst (λ o. In {X = ℕ × ℕ} (a, i) (log_or_nil o)) (get_set_other c.logs m k (log_at c m ++ entries) n) x))
         (cases_eq k m)
 
--- a command's written fields are logged
+-- the fields that a command wrote are logged
 logged_open : (s t : State) (o : Option Collection) (m : ℕ) (entries : List (ℕ × ℕ)) → t.size ≡ s.size → t.mutators ≡ s.mutators → m < s.mutators → IsOpen s o → HasRawNumbers t.heap.graph.objects → Evolves s.heap.graph.objects t.heap.graph.objects (λ a j. In {X = ℕ × ℕ} (a, j) entries)
     → ((a j : ℕ) → In {X = ℕ × ℕ} (a, j) entries → HasField s.heap.graph.objects a j) → IsOpen t (logged o m entries)
 logged_open s t None m entries size count l k numbers evolves there = tt

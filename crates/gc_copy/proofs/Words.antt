@@ -20,7 +20,7 @@ use Rattle.gc_copy.specs.Members.{In}
 use Rattle.gc_copy.specs.Belonging.{Laid, IsNamed, RefersTo, IsObject, HasRawNumbers, IsSpaceGraph}
 use Rattle.gc_copy.proofs.Lists.{in_map, in_map_from, in_get, get_past}
 
--- an element of a list of which all is true
+-- what holds of all elements holds of each
 pub in_all : {X : Type 0} (P : X → Type 0) (xs : List X) (x : X) → All P xs → In x xs → P x
 in_all P xs x all k =
     let i = in_get x xs k in
@@ -35,7 +35,7 @@ block_found_in (e ∷ rest) a h = ⊎_elim
     (λ f. let r = block_found_in rest a (ap is_some (sym (cond-false (e.0 == a) (Some e.1) (block_in rest a) f)) ∙ h) in (r.0, inr r.1))
     (cases_Bool (e.0 == a))
 
--- each block of a laid out list is whole
+-- each block of a list that is laid out is well formed
 laid_whole : (at : ℕ) (bs : List (ℕ × Block)) (e : ℕ × Block) → LaidOut at bs → In e bs → IsBlock e.1
 laid_whole at [] e h k = absurd k
 laid_whole at (d ∷ rest) e h (inl k) = subst (λ (x : ℕ × Block). IsBlock x.1) k h.1
@@ -143,7 +143,7 @@ space_spelled space is =
 
 -- ---- a heap of such words
 
--- whatever the words are, those of raw objects are numbers
+-- the words of raw objects are numbers
 pub words_numbers : (words : List ℕ) → HasRawNumbers (objects_of words)
 words_numbers words a o found raw v k = from (block_at words a) (sym (object_found words a) ∙ found)
   where

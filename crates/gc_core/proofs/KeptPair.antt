@@ -1,4 +1,4 @@
--- The pair that a flip returns, put together from what its parts are.
+-- The pair that a flip returns, put together from its parts.
 use Rattle.std.proofs.Common.{◌≡◌, ℕ, Bool, true, List, Option, Some, refl, sym, subst}
 use Rattle.std.specs.Option.{option_map}
 use Rattle.gc_words.specs.Image.{Image}

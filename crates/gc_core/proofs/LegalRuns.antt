@@ -1,4 +1,4 @@
--- The replies of a run, event by event, beside a graph that has no collector.
+-- The replies of a run, event by event, compared with a graph that has no collector.
 use Rattle.std.proofs.Common.{◌≡◌, ◌≢◌, ◌⊎◌, inl, inr, ℕ, ◌<◌, ◌≤◌, nat_lt, List, [], ◌∷◌, Option, Some, None, refl, sym, subst, arith}
 use Rattle.std.proofs.lemmas.Bool.{cond_both, ltb-true}
 use Rattle.gc_graph.specs.Limits.{most_words}
@@ -93,7 +93,7 @@ one_command g s m op pairs matched ok =
     = step_alike pairs g s.heap.graph matched m op (fresh_name g) (heap_end s) (fresh_unused g) (end_unused s.size s.heap.free s.heap.graph ok.heap) in
     inr (sym a.0, (a.1, a.2))))
 
--- ---- one event after the other
+-- ---- runs
 
 legal_event : (mutators : ℕ) (events : List Event) (event : Event) (s : State) (g : Graph) (pairs : List (ℕ × ℕ)) → IsState s → Matched pairs g s.heap.graph
     → ((next : Graph) (others : List (ℕ × ℕ)) → Matched others next (after s event).heap.graph → IsLegalFrom next (told_in (after s event) events))

@@ -1,4 +1,4 @@
--- What stays below the next name, and short.
+-- Names stay below the next name, and objects stay short.
 use Rattle.std.proofs.Common.{◌≡◌, ℕ, suc, zero, ◌+◌, ◌<◌, Bool, true, false, cond, ◌&&◌, ◌||◌, ◌==◌, List, [], ◌∷◌, ◌++◌, map, length, Option, Some, None, refl, ◌∙◌, ap, subst, arith}
 use Rattle.std.specs.Prelude.{slice_get, slice_set, replicate, not, ⊤}
 use Rattle.std.specs.List.{AllByRecursion, flat_map, list_any}
@@ -44,7 +44,7 @@ pub next_unused : (n : ℕ) (g : Graph) → AreBelow n g → IsUnused g n
 next_unused n g below = differ n _ (all_append _ (map (λ entry. entry.0) g.objects ++ flat_map (λ entry. flat_map names_of entry.1.fields) g.objects) (flat_map names_of g.roots)
     (all_append _ (map (λ entry. entry.0) g.objects) (flat_map (λ entry. flat_map names_of entry.1.fields) g.objects) (keys_below n g.objects below.keys) (fields_below n g.objects below.fields)) (values_below n g.roots below.roots))
 
--- ---- what stays below the next name but one
+-- ---- names below the name after the next
 
 pub later : (n : ℕ) (v : Value) → ValueBelow n v → ValueBelow (n + 1) v
 later n Nil k = tt
@@ -199,7 +199,7 @@ make_below n g raw p kind len below = record {
 pub make_short : (n : ℕ) (g : Graph) (raw : Bool) (p kind len : ℕ) → len < 65536 → AreShort g → AreShort (set_root (add_object g n (new_object raw kind len)) p (Ref n))
 make_short n g raw p kind len small short = all_push (λ (e : ℕ × Object). length e.1.fields < 65536) g.objects (n, new_object raw kind len) short (let same : length (replicate len (first_value raw)) ≡ len = length-replicate len (first_value raw) in omega arith)
 
--- ---- nothing yet
+-- ---- the empty graph
 
 pub opening_below : (mutators : ℕ) → AreBelow 0 (opening mutators)
 opening_below mutators = record { keys = tt; fields = tt; roots = all_below 0 (roots_of mutators) Nil tt }

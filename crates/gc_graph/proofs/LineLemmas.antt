@@ -78,7 +78,7 @@ one_cut c (d ∷ a) x (g ∷ b) y p q e =
     let r = one_cut c a x b y p.1 q.1 tails in
     (let head : d ≡ g = cc in rw (head, r.0) refl, r.1)
 
--- a line, and what stands behind it
+-- a line and what follows it
 pub record Cut (text : List ℕ) : Type 0 where
   pub line : List ℕ
   pub rest : List ℕ

@@ -83,7 +83,7 @@ module _ (pairs : List (ℕ × ℕ)) (g h : Graph) (matched : Matched pairs g h)
   absent None e = refl
   absent (Some o) e = cc
 
-  -- one name on the left exactly where there is one on the right
+  -- there is a name on the left exactly if there is one on the right
   same_partners : (a b x y : ℕ) → paired pairs a b ≡ true → paired pairs x y ≡ true
       → ((a == x) && is_some (lookup g.objects a)) ≡ ((b == y) && is_some (lookup h.objects b))
   same_partners a b x y p q =
@@ -319,7 +319,7 @@ module _ (pairs : List (ℕ × ℕ)) (g h : Graph) (matched : Matched pairs g h)
   number_alike (partners a b p) = refl
   number_alike (without_objects a b e f) = refl
 
-  -- what a write leaves that may be refused
+  -- a write that may be refused
   abbrev pub written : Graph → Bool → ℕ → ℕ → Value → Reply × Graph
   written g refused n i x = cond refused (NoNumber, g) (Done, record g { objects = set_field g.objects n i x })
 

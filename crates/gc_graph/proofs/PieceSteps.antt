@@ -1,24 +1,24 @@
--- A text that is read in pieces: its start, one piece further, its end.
+-- A text that is read in pieces: its start, the next piece, its end.
 use Rattle.std.proofs.Common.{◌≡◌, ℕ, ◌+◌, ◌≤◌, List, [], ◌∷◌, ◌++◌, length, drop, refl, sym, ap, ◌∙◌, arith, subst, Option, Some, None, IfSome, true}
 use Rattle.std.specs.Io.KnownBytes.{Consumes, IsAtEnd}
 use Rattle.std.proofs.lemmas.List.{append-nil, drop_all, drop-drop, length-drop, length-append}
 use Rattle.std.proofs.Math.Seq.{drop-append_seam}
 use Rattle.gc_graph.specs.Pieces.{Progress, IsWithin, nothing_read}
 
--- what holds of the text if it is known
+-- a fact of the text, if it is known
 pub if_known : {P : List ℕ → Type 0} (known : Option (List ℕ)) → ((text : List ℕ) → known ≡ Some text → P text) → IfSome known P
 if_known None all = tt
 if_known (Some text) all = all text refl
 
 -- ---- the start
 
--- a reader that has all of the text left is within it
+-- a reader at the start of a text is within it
 pub within_all : (text : List ℕ) (most : ℕ) (left : Option (List ℕ)) → left ≡ Some text → IsWithin text text (nothing_read most) left
 within_all text most left is = record { left_is = is; read_is = omega arith; rest_is = refl; end_is = λ e. cc }
 
--- ---- one piece further
+-- ---- the next piece
 
--- where the reader is behind a piece
+-- the reader's place after a piece
 pub record HasMoved (text : List ℕ) (p : Progress) (new : Option (List ℕ)) (piece : List ℕ) : Type 0 where
   pub left : new ≡ Some (drop (p.read + length piece) text)
   pub bound : p.read + length piece ≤ length text
@@ -39,25 +39,25 @@ moved text rest p left (Some ys) piece h c = moved_to text p piece ys h.read_is 
 
 -- ---- the end
 
--- nothing more comes
+-- the input ends
 pub at_end : (text : List ℕ) (n : ℕ) (left : Option (List ℕ)) → left ≡ Some (drop n text) → IsAtEnd left → length text ≤ n
 at_end text n left is ends =
     let empty : drop n text ≡ [] = subst IsAtEnd is ends in
     omega (arith, ap length empty, length-drop n text)
 
--- behind all of the text, what is left of it waits
+-- at the end of input, the rest of the text is in the buffer
 left_waits : (text rest : List ℕ) (p : Progress) (left : Option (List ℕ)) → IsWithin text rest p left → length text ≤ p.read → rest ≡ p.waiting
 left_waits text rest p left h short = h.rest_is ∙ ap (λ (l : List ℕ). p.waiting ++ l) (drop_all p.read text short) ∙ append-nil p.waiting
 
 pub all_waits : (text rest : List ℕ) (p : Progress) (left : Option (List ℕ)) → IsWithin text rest p left → p.ended ≡ true → (rest ≡ p.waiting) × (length text ≤ p.read)
 all_waits text rest p left h ended = (left_waits text rest p left h (h.end_is ended), h.end_is ended)
 
--- if a reader meets the end without another byte, what waited before is all that is left
+-- if the input ends without another byte, the buffer has the rest of the text
 pub ends_there : (text rest : List ℕ) (before after : Progress) (left new : Option (List ℕ)) → IsWithin text rest before left → IsWithin text rest after new → after.ended ≡ true → after.read ≡ before.read → (rest ≡ before.waiting) × (length text ≤ after.read)
 ends_there text rest before after left new h next ended same =
     (left_waits text rest before left h (omega (arith, next.end_is ended, same)), next.end_is ended)
 
--- no byte waits
+-- the buffer is empty
 pub no_byte : (bytes : List ℕ) → length bytes ≡ 0 → bytes ≡ []
 no_byte [] none = refl
 no_byte (b ∷ bytes) none = absurd (omega (arith, none))

@@ -108,7 +108,7 @@ field_past es q i n r e l h =
 pub record_gone : (es : List (ℕ × Record)) (q i : ℕ) → None ≡ entries.lookup (tree.is_at (nat_cmp q)) es → false ≡ is_some (field_of (lookup (objects_of es) q) i)
 record_gone es q i e = sym (ap (λ o. is_some (field_of o i)) (sym (found_record es q) ∙ ap record_option (sym e)))
 
--- what is written back as it was
+-- writing back what was read changes nothing
 pub same_entries : (es : List (ℕ × Record)) (q : ℕ) (r : Record) → entries.lookup (tree.is_at (nat_cmp q)) es ≡ Some r → entries.set_value (tree.is_at (nat_cmp q)) es r ≡ es
 same_entries es q r e = set_value_same (tree.is_at (nat_cmp q)) es r e
 

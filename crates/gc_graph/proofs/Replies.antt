@@ -140,7 +140,7 @@ same_replies (command ∷ rest) (name ∷ names) (other ∷ others) s t pairs ma
     = same_replies rest names others (roomy_step s command.0 command.1 name).1 (roomy_step t command.0 command.1 other).1 a.2 a.3 a.1 u.1 u'.1 in
     λ i. a.0 i ∷ same_rest i
 
--- the fresh names are one choice
+-- the fresh names are one choice of names
 pub same_as_fresh : (commands : List (ℕ × Op)) (names : List ℕ) (s t : Roomy) (pairs : List (ℕ × ℕ)) → Matched pairs s.graph t.graph → s.free ≡ t.free
     → AreUnused s names commands → replies_by s names commands ≡ replies t commands
 same_as_fresh [] names s t pairs matched same u = refl

@@ -1,11 +1,11 @@
--- A text that goes out piece by piece.
+-- A text that is written piece by piece.
 use Rattle.std.proofs.Common.{◌≡◌, ℕ, List, [], ◌++◌, take, drop, refl, sym, ap, ◌∙◌, append_assoc, Option, subst, length, ◌-◌, arith}
 use Rattle.std.proofs.lemmas.List.{take-append-drop, take_all, length-drop}
 use Rattle.std.specs.Io.KnownBytes.{Appends}
 use Rattle.gc_graph.specs.Streams.{SendsFront, HasSent}
 use Rattle.std.proofs.KnownBytes.{Appends-nil, Appends-trans}
 
--- nothing went out
+-- nothing was written
 pub nothing_sent : (old : Option (List ℕ)) (text : List ℕ) → HasSent old old text text
 nothing_sent old text = record { front = []; parts = refl; out = Appends-nil old }
 
@@ -22,7 +22,7 @@ more_sent_slice old mid new text rest count so_far more =
     let all : take (length rest - count) (drop count rest) ≡ drop count rest = take_all (length rest - count) (drop count rest) (omega (arith, length-drop count rest)) in
     subst (HasSent old new text) (sym all) (more_sent old mid new text rest count so_far more)
 
--- more text waits behind what waits already
+-- more text waits behind the buffer
 pub sent_then : (a b c : Option (List ℕ)) (text waiting mid more rest : List ℕ) → HasSent a b text waiting → HasSent b c waiting mid → rest ≡ mid ++ more → HasSent a c (text ++ more) rest
 sent_then a b c text waiting mid more rest first second is = record {
   front = first.front ++ second.front;
@@ -30,11 +30,11 @@ sent_then a b c text waiting mid more rest first second is = record {
   out = Appends-trans a b c first.front second.front first.out second.out;
 }
 
--- what waited goes out, or a front of it
+-- the buffer is written, or a prefix of it
 pub sent_at_last : (a b c : Option (List ℕ)) (text waiting : List ℕ) → HasSent a b text waiting → Appends b c waiting → Appends a c text
 sent_at_last a b c text waiting first out = subst (Appends a c) (sym first.parts) (Appends-trans a b c first.front waiting first.out out)
 
--- a front of what waits, and so of a text that goes on
+-- a prefix of the buffer is one of the whole text
 pub front_sent : (a b c : Option (List ℕ)) (text waiting more : List ℕ) → HasSent a b text waiting → SendsFront b c waiting → SendsFront a c (text ++ more)
 front_sent a b c text waiting more first (front, rest, parts, out) = (
   first.front ++ front,

@@ -1,4 +1,4 @@
--- How the plain machine's commands answer as the roomy machine does.
+-- The plain machine's commands get the roomy machine's replies.
 use Rattle.std.proofs.Common.{◌≡◌, ℕ, ◌+◌, ◌-◌, ◌<◌, ◌≤◌, cond, refl, sym, ◌∙◌, ap, subst, arith}
 use Rattle.std.specs.Prelude.{true, false, nat_lt, Result, Ok, Err, IfOk, OnErr, Option, None, Some, length, Bool, ◌&&◌, not}
 use Rattle.gc_graph.specs.declared.no_memory.NoMemory.{NoMemory}
@@ -52,7 +52,7 @@ answered s t u m op op' reply view is makes_none free done =
       step = in_place s m op (fresh_name s.graph) makes_none ∙ sym (λ i. ((done i).0, record { graph = (done i).1; free = free i }));
     }))
 
--- where nothing changes
+-- commands that change nothing
 pub seen : (s u : Roomy) (m : ℕ) (op op' : Op) (reply : Reply) → s ≡ u → op' ≡ op → (MakesObject op → ⊥) → StepLeadsTo s.graph m op reply s.graph → Answers u m op' reply u
 seen s u m op op' reply view is makes_none done = subst (λ s. Answers s m op' reply s) view (answered s s s m op op' reply refl is makes_none refl done)
 
@@ -122,7 +122,7 @@ pub new_answered_if_ok : (r : Result Reply NoMemory) (s t : Roomy) (m : ℕ) (d 
 new_answered_if_ok (Ok reply) s t m d p raw kind len op is at makes = new_answered s t m d p raw kind len reply op is at makes
 new_answered_if_ok (Err e) s t m d p raw kind len op is at makes = makes
 
--- ---- the roots stay as many
+-- ---- the number of roots stays
 
 got_roots : (g : Graph) (d : ℕ) (o : Option Object) (v : Option Value) → length (get_field g d o v).1.roots ≡ length g.roots
 got_roots g d None v = refl

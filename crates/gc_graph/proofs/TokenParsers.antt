@@ -8,7 +8,7 @@ use Rattle.std.proofs.lemmas.Slice.Eq.{bytes_eq-Decides}
 use Rattle.gc_graph.specs.Tokens.{◌>>=◌, Tokens, number_of, number_at, token_at, if_all_taken}
 use Rattle.gc_graph.proofs.Decimals.{number_found, number_again}
 
--- ---- what was written is read
+-- ---- written tokens are read back
 
 bytes_same : (xs : List ℕ) → bytes_eq xs xs ≡ true
 bytes_same xs = (bytes_eq-Decides xs xs).1 refl
@@ -25,7 +25,7 @@ pub end_again : {A : Type 0} (x : A) → if_all_taken x [] ≡ Some x
 unfolding if_all_taken
 end_again x = refl
 
--- ---- what is read was written
+-- ---- every token that is read was written
 
 -- the value of a step that did not fail
 pub bind_some : {A B : Type 0} (o : Option A) (f : A → Option B) (y : B) → (o >>= f) ≡ Some y → (x : A) × (o ≡ Some x) × (f x ≡ Some y)
@@ -38,7 +38,7 @@ some x = Some x
 pub some_is : {A : Type 0} (x y : A) → some x ≡ some y → x ≡ y
 some_is x y e = cc
 
--- one token before equal tokens
+-- equal tokens stay equal behind one more token
 pub onto : (token : List ℕ) {tokens more : Tokens} → tokens ≡ more → token ∷ tokens ≡ token ∷ more
 onto token e = ap (λ (ws : Tokens). token ∷ ws) e
 

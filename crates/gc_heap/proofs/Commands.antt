@@ -28,7 +28,7 @@ get_index [] i h = absurd (omega arith)
 get_index (x ∷ xs) zero h = refl
 get_index (x ∷ xs) (suc i) h = get_index xs i (omega arith)
 
--- what an index reads, whatever stands for a missing word
+-- an index within bounds reads the same for every default
 pub read_root : (h : HeapWords) (items : List ℕ) (p w : ℕ) → items ≡ h.roots → p < length h.roots → w ≡ get_or items p w → w ≡ slice_index h.roots p
 read_root h items p w same less read = subst (λ xs. w ≡ get_or xs p w → w ≡ slice_index h.roots p) (sym same) (λ e. e ∙ known h.roots p w less) read
   where
@@ -67,7 +67,7 @@ points h s a w heap less read name =
       object = ap (object_of (graph_in h).objects) at ∙ object_found h.space.words a ∙ ap (option_map object_of_block) b.1;
     }
 
--- a field, as the graph has it
+-- a field of the graph's object
 field_value_at : (h : HeapWords) (s a i : ℕ) (p : Points h s a) → field_of (object_of (graph_in h).objects (root (graph_in h) s)) i ≡ option_map (field_value p.block.header) (field_at h.space.words a i)
 field_value_at h s a i p = ap (λ v. field_of (object_of (graph_in h).objects v) i) p.target ∙ field_found h.space.words a i p.block p.found
 
@@ -93,7 +93,7 @@ got h d s a i f w view p read means seen =
     ∙ ap (λ o. get_field (graph_in h) d o (Some (value_of w))) p.object in
     (λ k. (Saw (seen k), taken k)) ∙ sym there
 
--- ---- the header that is read there
+-- ---- the header of that object
 
 pub header_is : (h : HeapWords) (s a : ℕ) (g : Header) (p : Points h s a) → header_at h.space.words a ≡ Some g → p.block.header ≡ g
 header_is h s a g p read = (let both : Some p.block.header ≡ Some g = sym (ap header_of p.found) ∙ read in cc)
@@ -107,7 +107,7 @@ put_no_field h s a i v p none =
     ∙ ap (λ o. put_field (graph_in h) (root (graph_in h) s) o None i v) p.object
     ∙ ap (λ r. put_field (graph_in h) r (Some (object_of_block p.block)) None i v) p.target)
 
--- where the field is there, the object takes the value unless it is raw and the value is no number
+-- an object takes the value into a field that it has, unless it is raw and the value is no number
 abbrev pub written : HeapWords → ℕ → ℕ → Bool → Value → Reply × Graph
 written h a i refused v = cond refused (NoNumber, graph_in h) (Done, record (graph_in h) { objects = set_field (objects_of h.space.words) a i v })
 
@@ -133,7 +133,7 @@ put_done h s a i w v p heap some taken value =
     (λ k. (Done, (written_field ∙ ap (λ x. record (graph_in h) { objects = set_field (objects_of h.space.words) a i x }) (sym value)) k))
     ∙ sym (put_there h s a i v p some ∙ ap (λ b. written h a i b v) taken)
 
--- ---- what stays a heap
+-- ---- the heap stays well formed
 
 pub taken_heap : (h : HeapWords) (p w : ℕ) → IsHeap h → IsRootWord h.space.words w → IsHeap (record h { roots = slice_set h.roots p w })
 taken_heap h p w heap is = record { space = heap.space; closed = closed_root h.space.words h.roots p w is heap.closed; roots = length-set h.roots p w ∙ heap.roots }

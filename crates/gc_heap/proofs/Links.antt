@@ -1,4 +1,4 @@
--- What commands leave of links.
+-- Links after a command.
 use Rattle.std.proofs.Common.{◌≡◌, ℕ, List, Option, Some, None, true, false, ◌==◌, is_some, refl, sym, ◌∙◌, ap, subst, inl, inr}
 use Rattle.std.specs.Prelude.{IsSome}
 use Rattle.std.proofs.lemmas.Bool.{eqb-true, eqb-false, cases_Bool}
@@ -11,7 +11,7 @@ use Rattle.gc_words.proofs.Blocks.{placed_beside, field_beside}
 use Rattle.gc_words.proofs.Links.{link_placed, link_placed_beside, link_beside_field}
 use Rattle.gc_heap.specs.Heap.{KeepsLinks}
 
--- a start of the one is a start of the other, where the objects there are the same
+-- if the objects are the same, so are the starts
 differs : (words others : List ℕ) (x : ℕ) → block_at others x ≡ block_at words x → is_start words x ≡ false → is_start others x ≡ true → ⊥
 differs words others x same old new = (let no : true ≡ false = sym new ∙ ap is_some same ∙ old in cc)
 

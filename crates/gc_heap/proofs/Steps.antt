@@ -38,7 +38,7 @@ took_root h new m op p w v reply makes_none steps value done after =
       mutators = refl;
     })
 
--- a root is looked at
+-- the value of a root is read
 pub looked : (h : HeapWords) (m : ℕ) (op : Op) (s : SlotName) (p w : ℕ) (view : View) → op ≡ ops.Look s → p ≡ place s m → w ≡ slice_index h.roots p → view ≡ view_of (graph_in h).objects (value_of w)
     → roomy_step (roomy_in h) m op (end_of h.space) ≡ (Saw view, roomy_in h)
 looked h m op s p w view is at read seen =
@@ -60,7 +60,7 @@ new_graph h p header heap can =
     ∙ ap (λ g. set_root g p (value_of (word_of (Ref (end_of h.space))))) (graph_placed h.space header h.roots can)
     ∙ ap (set_root (add_object (graph_in h) (end_of h.space) (new_object header.raw header.kind header.len)) p) value
 
--- the heap with it is what the roomy machine leaves
+-- the heap with the object is what the roomy machine leaves
 abbrev pub MakesAtEnd : HeapWords → ℕ → Bool → ℕ → ℕ → Reply → HeapWords → Type 0
 MakesAtEnd h p raw kind len reply new = (reply, roomy_in new) ≡ make_object (roomy_in h) p raw kind len (end_of h.space)
 

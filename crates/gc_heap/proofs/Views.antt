@@ -1,4 +1,4 @@
--- What is seen of words.
+-- Words as mutators see them.
 use Rattle.std.proofs.Common.{◌≡◌, ℕ, Bool, true, false, cond, length, Some, None, refl, ◌∙◌, ap}
 use Rattle.std.specs.Option.{option_map}
 use Rattle.gc_graph.specs.Graph.{Value, Ref}

@@ -1,4 +1,4 @@
--- The least of the numbers that the pairs give is that of the first pair with a fault, and its fault is the first of all.
+-- The least number that the pairs give is that of the first pair with a fault, whose fault is the first of all.
 use Rattle.std.proofs.Common.{◌≡◌, ℕ, zero, suc, ◌+◌, ◌<◌, ◌≤◌, true, cond, List, [], ◌∷◌, length, map, get_or, refl, sym, ap, ◌∙◌, subst, arith, Option, Some, None, is_some, unwrap_or}
 use Rattle.std.specs.Ordering.{nat_cmp}
 use Rattle.std.specs.List.{range_with_len}

@@ -20,7 +20,7 @@ use Rattle.gc_shared.specs.Internal.Players.{Player, AreToPlay, AreNext, IsToPla
 pub next_seat : (f : ℕ → SeatValue) (a k : ℕ) (x : SeatValue) (xs : List SeatValue) → map f (range_with_len a (k + 1)) ≡ x ∷ xs → (x ≡ f a) × (xs ≡ map f (range_with_len (a + 1) k))
 next_seat f a k x xs e = let e' = rw add-one at e in (cc, cc)
 
--- a fact of each element by its place, of one element more
+-- a fact of each element by its place, for one more element
 at_more : {X : Type 0} (P : ℕ → X → Type 0) (xs : List X) (y : X) → ((m : ℕ) (d : X) → m < length xs → P m (get_or xs m d)) → P (length xs) y → (m : ℕ) (d : X) → m < length (xs ++ y ∷ []) → P m (get_or (xs ++ y ∷ []) m d)
 at_more {X} P xs y all here m d lt =
     ⊎_elim
@@ -43,7 +43,7 @@ next_player scripts a h hs all = (
 pub script_here : (scripts : List (Vec Op Global)) (m : ℕ) (v : Vec Op Global) → m < length scripts → v ≡ get_or scripts m v → v.items ≡ script_at scripts m
 script_here scripts m v lt is = ap (λ (v : Vec Op Global). v.items) is ∙ sym (get_or-map (λ (v : Vec Op Global). v.items) scripts m v [] lt)
 
--- one seat more has played
+-- one more seat has played
 pub HavePlayed-more : (scripts : List (Vec Op Global)) (n : ℕ) (seats : List SeatValue) (s : SeatValue) → HavePlayed scripts n seats → HasPlayed n (script_at scripts n) s → HavePlayed scripts (n + 1) (seats ++ s ∷ [])
 HavePlayed-more scripts n seats s all here = record {
   count = omega (arith, all.count, length-append seats (s ∷ []));

@@ -18,7 +18,7 @@ pub floor_of-snoc : (low : ℕ) (rs : List Receipt) (r : Receipt) → floor_of l
 floor_of-snoc low [] r = refl
 floor_of-snoc low (q ∷ rs) r = floor_of-snoc (q.place + 1) rs r
 
--- one receipt more stands
+-- one more receipt stands
 pub AllStand-snoc : (history : List Entry) (earlier : List Receipt) (low : ℕ) (rs : List Receipt) (r : Receipt) → AllStand history earlier low rs → Stands history earlier (floor_of low rs) r → AllStand history earlier low (rs ++ r ∷ [])
 AllStand-snoc history earlier low [] r all one = (one, tt)
 AllStand-snoc history earlier low (q ∷ rs) r all one = (all.0, AllStand-snoc history earlier (q.place + 1) rs r all.1 one)
@@ -56,7 +56,7 @@ all_recorded history earlier low [] all k d lt = absurd (omega arith)
 all_recorded history earlier low (q ∷ rs) all zero d lt = all.0.recorded
 all_recorded history earlier low (q ∷ rs) all (suc k) d lt = all_recorded history earlier (q.place + 1) rs all.1 k d (omega arith)
 
--- a mark more
+-- one more mark
 pub marked_more : (marks : List Bool) (rs : List Receipt) (r : Receipt) → r.place < length marks → get_or marks r.place false ≡ false → IsMarked marks rs → IsMarked (set marks r.place true) (rs ++ r ∷ [])
 marked_more marks rs r lt free is = record {
   once = λ p below.
@@ -78,7 +78,7 @@ here_or_behind : {X : Type 0} (p : X → Bool) (x : X) (xs : List X) (k : ℕ) (
 here_or_behind p x xs zero d first others lt = first
 here_or_behind p x xs (suc k) d first others lt = others k d (omega arith)
 
--- where as many elements pass a test as there are, each does
+-- if as many elements pass a test as there are, each does
 pub every_counted : {X : Type 0} (p : X → Bool) (xs : List X) → count_by p xs ≡ length xs → (k : ℕ) (d : X) → k < length xs → p (get_or xs k d) ≡ true
 every_counted p [] all k d lt = absurd (omega arith)
 every_counted p (x ∷ xs) all k d lt =
@@ -140,7 +140,7 @@ torn_here history earlier rs marks low n r lt at len is all marked taken = recor
   torn = λ stands. taken (rw is (free_if_stands history earlier (take n rs) marks r all marked len stands));
 }
 
--- one seat more stands
+-- one more seat stands
 -- where all stand and each place is marked, the receipts agree
 pub agrees : (history : List Entry) (seats : List SeatValue) (count : ℕ) (marks : List Bool) → SeatsStand history seats count → IsMarked marks (receipts_below seats count) → length marks ≡ length history → length history ≤ count_by (λ b. b) marks → AgreeByNumber history seats count
 agrees history seats count marks stand marked len full = record {

@@ -1,4 +1,4 @@
--- What the history of a run is, from what its seats have and from what closing them says.
+-- The history of a run, from its seats' receipts and the clause of closing them.
 use Rattle.std.proofs.Common.{◌≡◌, ◌≢◌, ℕ, zero, suc, ◌+◌, ◌<◌, ◌≤◌, ◌==◌, Bool, true, false, cond, List, [], ◌∷◌, ◌++◌, length, map, filter, get_or, refl, sym, ap, ◌∙◌, arith, All, subst, ⊎_elim, eqb}
 use Rattle.std.proofs.lemmas.Bool.{cases_lt, eq-eqb}
 use Rattle.std.proofs.lemmas.Bool.Decides.{eqb_tells}
@@ -33,7 +33,7 @@ not_eq a b ne =
     (λ (other : (eqb a b ≡ false) × (a ≢ b)). other.0)
     (eqb_tells a b)
 
--- one entry more
+-- one more entry
 command_more : (m : ℕ) (e : Event) (ops : List Op) (rest : List Event) → map (Mutate m) ops ≡ rest → map (Mutate m) (command_by m e ++ ops) ≡ cond (is_by m e) (e ∷ rest) rest
 command_more m (Mutate k op) ops rest is =
     ⊎_elim

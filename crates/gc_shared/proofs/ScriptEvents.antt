@@ -8,7 +8,7 @@ use Rattle.gc_shared.specs.declared.seat.Receipt.{Receipt}
 use Rattle.gc_shared.specs.Seats.{SeatValue, AddsReceipt, receipt}
 use Rattle.gc_shared.specs.Internal.Scripts.{events_of}
 
--- one command more of the script was made
+-- one more command of the script was performed
 pub played_more : (m : ℕ) (script : List Op) (n : ℕ) (op : Op) (s t : SeatValue) (a : Answer) → n < length script → op ≡ get_or script n op → AddsReceipt s t (Mutate s.number op) a → s.number ≡ m → events_of s ≡ map (Mutate m) (take n script) → (t.number ≡ m) × (events_of t ≡ map (Mutate m) (take (n + 1) script))
 played_more m script n op s t a lt at adds same events =
     let more : take (n + 1) script ≡ take n script ++ op ∷ [] = take_more script n op lt ∙ ap (λ (x : Op). take n script ++ x ∷ []) (sym at) in

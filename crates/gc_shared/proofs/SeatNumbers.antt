@@ -102,13 +102,13 @@ as_handed_in : (p : ℕ) (ts : List SeatValue) → times_at p (flat_map (λ t. t
 as_handed_in p [] = refl
 as_handed_in p (t ∷ ts) = omega (arith, times_at-append p t.receipts (flat_map (λ t. t.receipts) ts), as_handed_in p ts, sum_by-cons (λ t. times_at p t.receipts) t ts)
 
--- by number or as handed in, each place stands on as many receipts
+-- each place is on as many receipts, whether seats are taken by number or as handed in
 together : (count p : ℕ) (seats : List SeatValue) → length seats ≡ count → HasEachOnce seats count → times_at p (receipts_below seats count) ≡ times_at p (flat_map (λ t. t.receipts) seats)
 together count p seats len once =
     let all = all_below (λ t. times_at p t.receipts) count seats (counted count seats once ∙ sym len) in
     by_number p count seats once ∙ all ∙ sym (as_handed_in p seats)
 
--- where one element alone passes a test, it is the first that does
+-- an element that alone passes a test is the first that does
 find_only : (p : SeatValue → Bool) (ts : List SeatValue) (k : ℕ) (d : SeatValue) → count_by p ts ≡ 1 → p (get_or ts k d) ≡ true → k < length ts → find p ts ≡ Some (get_or ts k d)
 find_only p [] k d one here lt = absurd (omega arith)
 find_only p (t ∷ ts) zero d one here lt = ap (λ (b : Bool). cond b (Some t) (find p ts)) here

@@ -62,7 +62,7 @@ AllHaveNo-size : (c version size mutators : ℕ) → c < 48 → IsHeading versio
 unfolding size_tokens
 AllHaveNo-size c version size mutators low fits = (HasNo-name c (codes "space") low refl, (HasNo-decimal c size low (omega (arith, fits.3)), (HasNo-name c (codes "mutators") low refl, (HasNo-decimal c mutators low (omega (arith, fits.5)), tt))))
 
--- what the lines of a heading are made of
+-- the tokens of a heading's lines
 pub record HeadingLines (version size mutators : ℕ) : Type 0 where
   pub first_tokens : tokens_of (joined (version_tokens version)) ≡ version_tokens version
   pub second_tokens : tokens_of (joined (size_tokens size mutators)) ≡ size_tokens size mutators

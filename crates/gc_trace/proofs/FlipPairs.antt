@@ -23,7 +23,7 @@ use Rattle.gc_trace.specs.Flips.{flip_at, with_flip, flips}
 
 -- ---- what is kept
 
--- what was kept before makes no difference where a pair is kept now
+-- a pair that is kept replaces the one before
 kept_by_reply : (s : State) (reply : StepReply) (pair : CertifiedPair) → kept_after None s reply ≡ Some pair → open_pair s s.collection ≡ Some pair
 kept_by_reply s Busy pair is = absurd cc
 kept_by_reply s Begun pair is = absurd cc
@@ -55,12 +55,12 @@ kept_counts s (Some c) pair ok small few is certified found =
     let same : flip_pair s c ≡ pair = cc in
     subst HasCounts same (counts_of s c ok small few is (subst IsCertified (sym same) certified))
 
--- a pair that is kept has few enough roots and pairs
+-- a kept pair is within the limits on roots and pairs
 pub flip_counts : (s : State) (event : Event) (pair : CertifiedPair) → IsState s → HasFewPairs s → s.mutators ≤ 16 → IsCertified pair → flip_at s event ≡ Some pair → HasCounts pair
 flip_counts s (Mutate m op) pair ok small few certified is = absurd cc
 flip_counts s (Collect step) pair ok small few certified is = kept_counts s s.collection pair ok small few refl certified (kept_by_reply s (collect s step).0 pair is)
 
--- so has the pair of an event's flip, if it is one
+-- so is the pair of a flip
 pub counts_of_result : (s : State) (event : Event) (result : Result (Option PairFile) NoMemory) → IsState s → HasFewPairs s → s.mutators ≤ 16 → IfOk result (λ kept. option_map pair_in kept ≡ flip_at s event)
     → IfOk result (λ kept. IfSome kept (λ file. IsCertified (pair_in file))) → IfOk result (λ kept. IfSome kept (λ file. HasCounts (pair_in file)))
 counts_of_result s event (Ok None) ok small few is certified = tt
@@ -69,7 +69,7 @@ counts_of_result s event (Err fault) ok small few is certified = tt
 
 -- ---- the n-th flip
 
--- the flips from the i-th event on, where so many before the wanted one are still to come
+-- the flips from event i on, with this many before the wanted one
 abbrev pub flips_from : State → List Event → ℕ → ℕ → Option CertifiedPair
 flips_from s events i before = slice_get (flips s (drop i events)) before
 
@@ -81,12 +81,12 @@ pub no_flip : (s : State) (events : List Event) (i before : ℕ) (event : Event)
 no_flip s events i before event lt is none =
     sym (ap (λ (ps : List CertifiedPair). slice_get ps before) (flips_more s events i event lt is ∙ ap (λ (o : Option CertifiedPair). with_flip o (flips (after s event) (drop (i + 1) events))) none))
 
--- it is one before that
+-- the event is an earlier flip
 pub other_flip : (s : State) (events : List Event) (i before : ℕ) (event : Event) (pair : CertifiedPair) → i < length events → event ≡ get_or events i event → flip_at s event ≡ Some pair → flips_from (after s event) events (i + 1) before ≡ flips_from s events i (suc before)
 other_flip s events i before event pair lt is some =
     sym (ap (λ (ps : List CertifiedPair). slice_get ps (suc before)) (flips_more s events i event lt is ∙ ap (λ (o : Option CertifiedPair). with_flip o (flips (after s event) (drop (i + 1) events))) some))
 
--- no flip, with as many still to come, or a flip before the wanted one, with one fewer
+-- not a flip, and as many are to come; or an earlier flip, and one fewer is to come
 abbrev pub Counted : Option CertifiedPair → ℕ → ℕ → Type 0
 Counted kept before left = ((kept ≡ None) × (left ≡ before)) ⊎ ((pair : CertifiedPair) × (kept ≡ Some pair) × (before ≡ suc left))
 

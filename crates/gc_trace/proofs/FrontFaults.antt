@@ -1,4 +1,4 @@
--- What a front of a text shows of its faults.
+-- Faults that a prefix of a text already shows.
 use Rattle.std.proofs.Common.{◌≡◌, ℕ, List, ◌∷◌, ◌++◌, sym, ap, ◌∙◌, Some, None}
 use Rattle.gc_graph.specs.Lines.{newline, joined, tokens_of, HasNo}
 use Rattle.gc_trace.specs.Internal.Parsers.{event_of, version_at, sizes_of}

@@ -1,4 +1,4 @@
--- What is written of a world's history is read as its events, which get the same answers.
+-- The text of a world's history is read as its events, which get the same answers.
 use Rattle.std.proofs.Common.{◌≡◌, ℕ, ◌≤◌, List, [], ◌∷◌, refl, sym, ap, ◌∙◌, arith}
 use Rattle.std.specs.List.{AllByRecursion}
 use Rattle.gc_copy.specs.State.{State, opening_state}
@@ -24,7 +24,7 @@ wider_step mutators (steps.Apply k) le fits = omega (arith, le, fits)
 wider_step mutators steps.Flip le fits = tt
 wider_step mutators steps.Drop le fits = tt
 
--- what can happen with fewer mutators can happen with the most
+-- an event that can happen with fewer mutators can happen with the most
 wider : (mutators : ℕ) (event : Event) → mutators ≤ 16 → IsOf mutators event → IsOf 16 event
 wider mutators (Mutate m op) le of = (omega (arith, le, of.0), of.1)
 wider mutators (Collect step) le of = wider_step mutators step le of
@@ -48,7 +48,7 @@ history_has_text size mutators entries history =
 pub same_answers : (size mutators : ℕ) (entries : List Entry) → IsHistory size mutators entries → answers (written size mutators (events_of entries)) ≡ answers_of entries
 same_answers size mutators entries history = sym history.run
 
--- ---- what a world has that has run a trace
+-- ---- a world that has run a trace
 
 ran_opening : (t : Recording) (past : Past) → HasRun t past → opening_state past.size past.mutators ≡ opening t
 ran_opening t past ran = ap (λ (size : ℕ). opening_state size past.mutators) ran.size ∙ ap (opening_state t.size) ran.mutators

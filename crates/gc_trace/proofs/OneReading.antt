@@ -58,7 +58,7 @@ heading_injective v s m w t n x y p q same =
 
 -- ---- where the good lines stop
 
--- no event of such a trace stands at the front
+-- the text begins with no event of such a trace
 abbrev pub Stops : ℕ → ℕ → List ℕ → Type 0
 Stops version mutators rest = (event : Event) (more : List ℕ) → IsEvent version event → IsOf mutators event → rest ≢ event_line event ++ more
 
@@ -80,7 +80,7 @@ same_stop v m (e ∷ es) (d ∷ ds) x y p q stop stop' same =
     let rest = same_stop v m es ds x y p.1 q.1 stop stop' one.1 in
     (rw (one.0, rest.0) refl, rest.1)
 
--- good lines, and what stands behind them
+-- good lines and what follows them
 abbrev pub StopsAt : Recording → List ℕ → List ℕ → Type 0
 StopsAt t rest text = IsRecording t × (text ≡ spelling t ++ rest) × Stops t.version t.mutators rest
 

@@ -25,11 +25,11 @@ abbrev replicas_in : Option Collection → ℕ
 replicas_in None = 0
 replicas_in (Some c) = length c.replicas
 
--- an answer has no more pairs, and leaves no more replicas, than one more than there were
+-- an answer adds at most one to the number of replicas, and has no more pairs than that
 abbrev PlacesOne : ℕ → StepReply × State → Type 0
 PlacesOne n next = pairs_in (Collector next.0) + replicas_in next.1.collection ≤ n + 1
 
--- ---- what places a replica
+-- ---- steps that place a replica
 
 placed : (c : Collection) (name : ℕ) (o : Option Object) → replicas_in (place_replica c name o) ≤ length c.replicas + 1
 placed c name None = omega arith
@@ -57,7 +57,7 @@ brought_up c g name i = brought c g name i (field_of (lookup g.objects name) i)
 unchanged : (s : State) (o : Option Collection) (reply : StepReply) → s.collection ≡ o → pairs_in (Collector reply) ≡ 0 → PlacesOne (replicas_in o) (reply, s)
 unchanged s o reply e none = let same : replicas_in s.collection ≡ replicas_in o = ap replicas_in e in omega arith
 
--- where there is room, and where there is not
+-- with room, and without
 room_places : (n : ℕ) (s : State) (reply : StepReply) (o : Option Collection) → pairs_in (Collector reply) ≡ 0 → replicas_in s.collection ≡ n → replicas_in o ≤ n + 1 → PlacesOne n (if_room s reply o)
 room_places n s reply None none same few = omega arith
 room_places n s reply (Some c) none same few = omega arith

@@ -1,4 +1,4 @@
--- What is read of tokens is what the grammar says.
+-- Tokens are read as the grammar says.
 use Rattle.std.proofs.Common.{◌≡◌, ℕ, ◌<◌, ◌≤◌, Bool, true, false, cond, eqb, ltb, sym, List, [], ◌∷◌, refl, ap, ◌∙◌, arith, Option, Some, None, subst, inl, inr, ◌⊎◌}
 use Rattle.std.specs.Prelude.{codes}
 use Rattle.std.specs.Fmt.{decimal}

@@ -1,4 +1,4 @@
--- What a player holds after one event more.
+-- The state of a player after one more event.
 use Rattle.std.proofs.Common.{◌≡◌, ℕ, ◌<◌, ◌^◌, List, [], ◌∷◌, ◌++◌, length, refl, sym, ap, ◌∙◌, subst, append_assoc}
 use Rattle.std.proofs.lemmas.List.{append-nil}
 use Rattle.std.proofs.lemmas.List.Concat.{flat_map-append, flat_map-cons}
@@ -14,7 +14,7 @@ use Rattle.gc_trace.specs.declared.report.Report.{Report}
 use Rattle.gc_trace.specs.Internal.Report.{with_answer, FitsU64}
 use Rattle.gc_trace.proofs.ReportCounts.{report_push, run_fits}
 
--- ---- runs of one event more
+-- ---- runs with one more event
 
 state_pushed : (s : State) (events : List Event) (event : Event) → state_after s (events ++ event ∷ []) ≡ after (state_after s events) event
 state_pushed s [] event = refl
@@ -50,14 +50,14 @@ pub counts_are : (s : State) (events : List Event) (event : Event) (heap : State
 counts_are s events event heap told report next same is so_far made =
     made ∙ ap (with_answer report) (ap unmarked is ∙ plain heap event) ∙ counted s events event heap report same so_far
 
--- and the next counts fit
+-- the next counts fit their type
 pub next_fits : (size mutators : ℕ) (events : List Event) (event : Event) (heap : State) (report : Report) → heap ≡ state_after (opening_state size mutators) events → report ≡ report_of (answers (opening_state size mutators) events) (opening_state size mutators) → length (events ++ event ∷ []) < 2 ^ 64
     → FitsU64 (with_answer report (answer heap event))
 next_fits size mutators events event heap report same so_far few =
     let opening = opening_state size mutators in
     subst FitsU64 (sym (counted opening events event heap report same so_far)) (run_fits size mutators (events ++ event ∷ []) opening few)
 
--- the lines: a text, and behind it what waits
+-- the lines: a text and then the buffer
 pub lines_are : (s : State) (events : List Event) (event : Event) (heap : State) (told : Answer) (before text waiting next : List ℕ) → heap ≡ state_after s events → told ≡ answer heap event → before ≡ reply_text (answers s events) → text ++ waiting ≡ before → next ≡ waiting ++ reply_line told → text ++ next ≡ reply_text (answers s (events ++ event ∷ []))
 lines_are s events event heap told before text waiting next same is so_far moved printed =
     let last : told ≡ answer (state_after s events) event = is ∙ ap (λ (h : State). answer h event) same in
@@ -67,7 +67,7 @@ lines_are s events event heap told before text waiting next same is so_far moved
     ∙ ap (λ (a : Answer). reply_text (answers s events) ++ reply_line a) last
     ∙ sym (ap reply_text (answers_pushed s events event) ∙ text_pushed (answers s events) (answer (state_after s events) event))
 
--- the report at last, with the numbers of the space
+-- the final report, with the numbers of the space
 pub report_is : (s : State) (events : List Event) (heap : State) (report next : Report) (end free : ℕ) → heap ≡ state_after s events → report ≡ report_of (answers s events) s → next ≡ record report { end = end; free = free } → end ≡ heap_end heap → free ≡ heap.heap.free
     → next ≡ report_of (answers s events) (state_after s events)
 report_is s events heap report next end free same so_far is same_end same_free =

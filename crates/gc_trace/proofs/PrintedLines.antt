@@ -1,4 +1,4 @@
--- Lines that go out one after the other, behind a front.
+-- Lines that are written one after the other.
 use Rattle.std.proofs.Common.{◌≡◌, ℕ, List, [], ◌∷◌, ◌++◌, take, drop, sym, ap, ◌∙◌, Option, subst, length, ◌+◌, ◌<◌, ◌≤◌, get_or, append_assoc}
 use Rattle.std.proofs.lemmas.List.{append-nil, take-append-drop, take_all, take_more}
 use Rattle.std.specs.Io.KnownBytes.{Appends}
@@ -11,7 +11,7 @@ use Rattle.gc_world.specs.History.{events_of}
 use Rattle.gc_world.specs.declared.entry.Entry.{Entry}
 use Rattle.gc_trace.specs.Grammar.{event_line, heading, spelling, least_version, written}
 
--- the front, and the lines of the first i
+-- the text before, and the lines of the first i
 abbrev pub lines_to : {X : Type 0} → List ℕ → (X → List ℕ) → List X → ℕ → List ℕ
 lines_to front line xs i = front ++ flat_map line (take i xs)
 
@@ -25,17 +25,17 @@ lines_whole : {X : Type 0} (front : List ℕ) (line : X → List ℕ) (xs : List
 lines_whole {X} front line xs i =
     append_assoc front (flat_map line (take i xs)) (flat_map line (drop i xs)) ∙ ap (λ (t : List ℕ). front ++ t) (sym (flat_map-append line (take i xs) (drop i xs)) ∙ ap (flat_map line) (take-append-drop i xs))
 
--- one more line waits
+-- one more line waits in the buffer
 pub line_sent : {X : Type 0} (front : List ℕ) (line : X → List ℕ) (a b c : Option (List ℕ)) (xs : List X) (i : ℕ) (x : X) (waiting mid rest : List ℕ) → i < length xs → x ≡ get_or xs i x
     → HasSent a b (lines_to front line xs i) waiting → HasSent b c waiting mid → rest ≡ mid ++ line x → HasSent a c (lines_to front line xs (i + 1)) rest
 line_sent front line a b c xs i x waiting mid rest lt is so_far more e =
     subst (λ (t : List ℕ). HasSent a c t rest) (sym (lines_more front line xs i x lt is)) (sent_then a b c (lines_to front line xs i) waiting mid (line x) rest so_far more e)
 
--- what waited went out in part
+-- part of the buffer was written
 pub line_failed : {X : Type 0} (front : List ℕ) (line : X → List ℕ) (a b c : Option (List ℕ)) (xs : List X) (i : ℕ) (waiting whole : List ℕ) → front ++ flat_map line xs ≡ whole → HasSent a b (lines_to front line xs i) waiting → SendsFront b c waiting → SendsFront a c whole
 line_failed front line a b c xs i waiting whole is so_far failed = subst (SendsFront a c) (lines_whole front line xs i ∙ is) (front_sent a b c (lines_to front line xs i) waiting (flat_map line (drop i xs)) so_far failed)
 
--- all that waited went out
+-- the whole buffer was written
 pub lines_sent : {X : Type 0} (front : List ℕ) (line : X → List ℕ) (a b c : Option (List ℕ)) (xs : List X) (i : ℕ) (waiting whole : List ℕ) → front ++ flat_map line xs ≡ whole → length xs ≤ i → HasSent a b (lines_to front line xs i) waiting → Appends b c waiting → Appends a c whole
 lines_sent {X} front line a b c xs i waiting whole is le so_far out =
     subst (Appends a c) (ap (λ (ys : List X). front ++ flat_map line ys) (take_all i xs le) ∙ is) (sent_at_last a b c (lines_to front line xs i) waiting so_far out)

@@ -1,4 +1,4 @@
--- What has a text can happen.
+-- Every event that has a text can happen.
 use Rattle.std.proofs.Common.{List, [], ◌∷◌}
 use Rattle.std.specs.List.{AllByRecursion}
 use Rattle.gc_trace.specs.Grammar.{Recording, IsEvent, IsOf, IsInRange, IsRecording}

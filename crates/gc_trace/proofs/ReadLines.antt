@@ -1,4 +1,4 @@
--- What an event reader has read of a text.
+-- How much of a text an event reader has read.
 use Rattle.std.proofs.Common.{◌≡◌, ◌≢◌, ℕ, ◌+◌, ◌≤◌, List, [], ◌∷◌, ◌++◌, length, drop, refl, sym, ap, ◌∙◌, arith, subst, append_assoc, Option}
 use Rattle.std.specs.List.{AllByRecursion}
 use Rattle.gc_graph.specs.ReadFaults.{MayFailReading}
@@ -42,7 +42,7 @@ heading_read text r p left h fits line same number =
       good = subst (λ (n : ℕ). GoodBefore text n (read_so_far r []) (r.pieces.waiting ++ more)) (sym number) (good_start text (r.pieces.waiting ++ more) r.version r.size r.mutators fits parts);
     }
 
--- what is left of a text behind the line of an event
+-- the text behind the line of an event
 behind : (text rest : List ℕ) (p : Progress) (waiting : List ℕ) (left : Option (List ℕ)) (event : Event) → IsWithin text rest p left → p.waiting ≡ event_line event ++ waiting → rest ≡ event_line event ++ (waiting ++ drop p.read text)
 behind text rest p waiting left event h line = h.rest_is ∙ ap (λ (l : List ℕ). l ++ drop p.read text) line ∙ append_assoc (event_line event) waiting (drop p.read text)
 
@@ -61,7 +61,7 @@ pub stranger_read : (text : List ℕ) (events : List Event) (r : EventReader) (w
 stranger_read text events r waiting left event h fits strange line =
     (read_so_far r events, event, waiting ++ drop r.pieces.read text, subst (GoodBefore text r.number (read_so_far r events)) (behind text h.rest r.pieces waiting left event h.within line) h.good, fits, strange)
 
--- ---- a reader that took a line off the bytes that wait
+-- ---- a reader that took a line from its buffer
 
 abbrev pub HasTakenLine : EventReader → EventReader → Event → Type 0
 HasTakenLine r next event = (r.pieces.waiting ≡ event_line event ++ next.pieces.waiting) × (next ≡ record r { pieces = record r.pieces { waiting = next.pieces.waiting } })
@@ -90,7 +90,7 @@ still_counted r next event reading taken after = record {
   limit_is = after.limit_is;
 }
 
--- ---- a reader with no line of an event among the bytes that wait, whose text ends there
+-- ---- a reader whose text ends with its buffer, which begins with no event's line
 
 pub bad_line : (text : List ℕ) (events : List Event) (r : EventReader) (left : Option (List ℕ)) → (h : HasRead text events r left) → h.rest ≡ r.pieces.waiting → r.pieces.waiting ≢ [] → BeginsWithNoEvent r.version r.pieces.waiting → HasBadLine text r.number
 bad_line text events r left h same some none = (read_so_far r events, h.rest, h.good, (λ empty. some (sym same ∙ empty)), subst (BeginsWithNoEvent r.version) (sym same) none)
@@ -101,7 +101,7 @@ bad_line text events r left h same some none = (read_so_far r events, h.rest, h.
 abbrev pub AllCan : EventReader → List Event → Type 0
 AllCan r events = AllByRecursion (λ event. IsEvent r.version event × IsOf r.mutators event) events
 
--- a reader that has read on has the same heading
+-- reading on leaves the heading as it is
 pub same_heading : (r next : EventReader) (events : List Event) → read_so_far next [] ≡ read_so_far r [] → read_so_far next events ≡ read_so_far r events
 same_heading r next events same = ap (λ (t : Recording). made_of t.version t.size t.mutators events) same
 

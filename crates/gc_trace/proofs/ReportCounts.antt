@@ -1,4 +1,4 @@
--- Reports of one answer more, and how large their numbers are.
+-- Reports after one more answer, and bounds on their numbers.
 use Rattle.std.proofs.Common.{◌≡◌, ℕ, suc, ◌+◌, ◌<◌, ◌^◌, Bool, true, false, cond, List, [], ◌∷◌, ◌++◌, length, take, get_or, refl, sym, ◌∙◌, ap, subst, arith, length-append}
 use Rattle.std.specs.List.{count_by, sum_by}
 use Rattle.std.proofs.lemmas.List.{length-map, map_more, take-map, length-take}
@@ -44,7 +44,7 @@ pub none_counted : (r : Report) (end free : ℕ) (s : State) → r ≡ record { 
     → end ≡ heap_end s → free ≡ s.heap.free → r ≡ report_of [] s
 none_counted r end free s is same_end same_free = is ∙ cc
 
--- the entry behind those that are counted
+-- the first entry that is not counted
 pub next_counted : (items : List Entry) (i : ℕ) (entry : Entry) (r : Report) (s : State) → i < length items → entry ≡ get_or items i entry → r ≡ report_of (answers_of (take i items)) s → with_answer r (answer_of entry) ≡ report_of (answers_of (take (i + 1) items)) s
 next_counted items i entry r s lt is so_far =
     ap (λ (r : Report). with_answer r (answer_of entry)) so_far
@@ -67,7 +67,7 @@ report_fits answers s few few_pairs = record {
   refused = omega (arith, few, count_by-le-length is_refused answers);
 }
 
--- a front of a history has no more answers and pairs
+-- a prefix of a history has no more answers or pairs
 pub front_fits : (size mutators : ℕ) (items : List Entry) (i : ℕ) (s : State) → IsHistory size mutators items → length items < 2 ^ 64 → FitsU64 (report_of (answers_of (take i items)) s)
 front_fits size mutators items i s h few =
     let answers = answers_of items in

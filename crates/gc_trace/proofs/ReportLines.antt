@@ -4,7 +4,7 @@ use Rattle.std.specs.List.{flat_map}
 use Rattle.std.proofs.lemmas.List.{append-nil}
 use Rattle.gc_graph.specs.Lines.{line}
 
--- a line of these tokens comes behind a text, and the rest behind that line
+-- a line of these tokens follows a text, and then the rest
 pub record Then (before : List ℕ) (tokens : List (List ℕ)) (Rest : List ℕ → Type 0) : Type 0 where
   pub next : List ℕ
   pub first : next ≡ before ++ line tokens
@@ -14,7 +14,7 @@ infixr 5 ◌⨾◌
 pub ◌⨾◌ : {before next : List ℕ} {tokens : List (List ℕ)} {Rest : List ℕ → Type 0} → next ≡ before ++ line tokens → Rest next → Then before tokens Rest
 ◌⨾◌ {next = next} first rest = record { next = next; first = first; rest = rest }
 
--- these lines come behind a text, one by one
+-- these lines follow a text, one by one
 abbrev pub Grows : List ℕ → List (List (List ℕ)) → List ℕ → Type 0
 Grows before [] after = after ≡ before
 Grows before (tokens ∷ lines) after = Then before tokens (λ next. Grows next lines after)

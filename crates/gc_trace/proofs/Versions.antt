@@ -38,7 +38,7 @@ pub least_range : (events : List Event) → (1 ≤ least_version events) × (lea
 least_range [] = (omega arith, omega arith)
 least_range (e ∷ es) = let a = version_range e in let b = least_range es in (omega (arith, a, b), omega (arith, a, b))
 
--- what the entries from i on ask for
+-- the version that the entries from i on need
 abbrev pub least_from : List Entry → ℕ → ℕ
 least_from entries i = least_version (events_of (drop i entries))
 

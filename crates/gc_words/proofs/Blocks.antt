@@ -1,4 +1,4 @@
--- What is found at a place after a write.
+-- The object at a place after a write.
 use Rattle.std.proofs.Common.{◌≡◌, ℕ, suc, zero, ◌+◌, ◌<◌, ◌≤◌, true, false, cond, ◌==◌, List, [], ◌∷◌, ◌++◌, length, Option, Some, None, refl, sym, ◌∙◌, ap, arith}
 use Rattle.std.specs.Prelude.{slice_get, slice_set, IsSome}
 use Rattle.std.proofs.lemmas.Bool.{eqb-true, eq-eqb, ne_eqb}
@@ -72,7 +72,7 @@ field_block s a i w b space some found = ap (λ bs. block_in bs a) (field_writte
 pub field_beside : (s : SpaceWords) (a i w x : ℕ) → IsSpace s → IsSome (field_at s.words a i) → (a ≡ x → ⊥) → block_at (with_word s (field_place a i) w).words x ≡ block_at s.words x
 field_beside s a i w x space some other = ap (λ bs. block_in bs x) (field_written s a i w space some).1 ∙ beside_set (blocks s.words) a i w x other
 
--- the field then holds the word
+-- the field holds the word
 pub written_word : (s : SpaceWords) (a i w : ℕ) → IsSpace s → IsSome (field_at s.words a i) → field_at (with_word s (field_place a i) w).words a i ≡ Some w
 written_word s a i w space some =
     let f : FieldRead s.words a i = field_read s.words a i space.walked some in

@@ -1,4 +1,4 @@
--- What a space's calls read and leave, as their code does it.
+-- What the code of a space's calls reads and writes.
 use Rattle.std.proofs.Common.{◌≡◌, ℕ, suc, ◌+◌, ◌-◌, ◌<◌, ◌≤◌, true, cond, List, [], ◌∷◌, ◌++◌, length, get_or, take, drop, replicate, Some, None, Result, Ok, is_ok, sym, ◌∙◌, ap, subst, arith, length-append, append_assoc}
 use Rattle.std.specs.Prelude.{slice_index, IsSome, IsOk, nat_le}
 use Rattle.std.proofs.lemmas.Bool.{cond-true, le-leb}
@@ -106,7 +106,7 @@ object_placed r u s t pushed new h n l same space is room ok push total one made
       words = ap (λ (s : SpaceWords). with_object s h) same;
     })
 
--- ---- links cleared, in the words as they lie in their row
+-- ---- links cleared, in the row of words
 
 pub record Clears (s t : SpaceWords) : Type 0 where
   pub space : IsSpace s

@@ -1,4 +1,4 @@
--- There is no first fault exactly where the certificate holds.
+-- There is no first fault exactly if the certificate holds.
 use Rattle.std.proofs.Common.{◌≡◌, ℕ, suc, ◌<◌, Bool, true, false, cond, not, ◌&&◌, ◌==◌, List, [], ◌∷◌, ◌++◌, length, get_or, take, Option, Some, None, Result, Ok, Err, is_some, refl, sym, ◌∙◌, ap, subst, arith, append_assoc, append-nil}
 use Rattle.std.specs.Prelude.{◌≢◌, slice_index, nat_le, IsOk}
 use Rattle.std.specs.List.{All, AllPairs, AllZip, AllByRecursion, list_any}
@@ -94,7 +94,7 @@ not_above_push [] p n = refl
 not_above_push (x ∷ []) p n = refl
 not_above_push (x ∷ y ∷ rest) p n = not_above_push (y ∷ rest) p n
 
--- what is above the last is above all
+-- a number above the last is above all
 abbrev pub LastIsHighest : List (ℕ × ℕ) → Type 0
 LastIsHighest before = (n : ℕ) → not_above_last before n ≡ false → All (λ q. q.1 < n) before
 
@@ -121,7 +121,7 @@ first_taken all before rest k whole count = (λ i. take (sym count i) (sym whole
 pub one_longer : (before : List (ℕ × ℕ)) (p : ℕ × ℕ) (k : ℕ) → length before ≡ k → length (before ++ p ∷ []) ≡ suc k
 one_longer before p k count = omega (arith, length-append before (p ∷ []), count)
 
--- of the places from pair k on
+-- the places from pair k on
 abbrev pub place_faults_from : Image → Image → List (ℕ × ℕ) → ℕ → List (ℕ × ℕ) → Option Refusal
 place_faults_from old new all k rest = first_over_pairs (λ k. place_fault old new (take k all) k) k rest
 
@@ -139,7 +139,7 @@ no_place_faults old new all (p ∷ rest) before k whole count pairs highest e =
     = no_place_faults old new all rest (before ++ p ∷ []) (suc k) (append_assoc before (p ∷ []) rest ∙ whole) (one_longer before p k count) pushed (pushed_highest before p below) both.1 in
     (ih.0, All-cons (λ p. (is_start old.words p.0 ≡ true) × (is_start new.words p.1 ≡ true)) p rest (at.0, at.1) ih.1)
 
--- each before p is related to it
+-- each pair before p is related to it
 before_each : (before rest : List (ℕ × ℕ)) (p : ℕ × ℕ) → AllPairs Later (before ++ p ∷ rest) → All (λ q. Later q p) before
 before_each before rest p pairs k d h =
     subst (λ (q : ℕ × ℕ). Later q p) (get_or_append_left before (p ∷ rest) d k h)

@@ -1,4 +1,4 @@
--- Which conditions hold before the first fault.
+-- The conditions that hold before the first fault.
 use Rattle.std.proofs.Common.{◌≡◌, ℕ, suc, ◌<◌, Bool, true, false, cond, not, ◌==◌, List, [], ◌∷◌, ◌++◌, length, Option, Some, None, refl, sym, ◌∙◌, ap, subst, arith, append_assoc}
 use Rattle.std.specs.Prelude.{◌≢◌}
 use Rattle.std.specs.List.{All, list_any}
@@ -60,7 +60,7 @@ module _ (old new : Image) (pairs : List (ℕ × ℕ)) where
   abbrev Object : ℕ × ℕ → Type 0
   Object p = BlocksCorrespond pairs (block_at old.words p.0) (block_at new.words p.1)
 
-  -- what is wrong with the two objects of pair k
+  -- the fault of the two objects of pair k
   abbrev PairFails : ℕ → Option Block → Option Block → Refusal → Type 0
   PairFails k a b (HeaderDiffers j) = (j ≡ k) × HeadersDiffer a b
   PairFails k a b (FieldDiffers j i) = (j ≡ k) × FieldsDifferAt pairs i a b

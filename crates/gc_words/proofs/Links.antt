@@ -1,4 +1,4 @@
--- Links after a write: each write leaves the others alone.
+-- Links after a write, which leaves all other words alone.
 use Rattle.std.proofs.Common.{◌≡◌, ℕ, ◌+◌, ◌<◌, ◌≤◌, true, false, cond, ◌==◌, List, [], ◌∷◌, length, replicate, Some, None, is_some, sym, ◌∙◌, ap, inl, inr, arith}
 use Rattle.std.specs.Prelude.{IsSome}
 use Rattle.std.proofs.lemmas.Bool.{eqb-true, cases_Bool, cases_lt}
@@ -15,7 +15,7 @@ use Rattle.gc_words.proofs.Spelled.{laid_out_words, link_spelled}
 
 -- ---- objects do not overlap
 
--- a start is not before the place from which on objects are laid out
+-- no start lies before the first object
 not_before : (entries : List (ℕ × Block)) (at x : ℕ) → LaidOut at entries → is_some (block_in entries x) ≡ true → at ≤ x
 not_before [] at x laid e = absurd (let no : false ≡ true = e in cc)
 not_before (entry ∷ rest) at x laid e =
@@ -25,7 +25,7 @@ not_before (entry ∷ rest) at x laid e =
       | inr other ↦ (let more : at + (entry.1.header.len + 2) ≤ x = not_before rest (at + (entry.1.header.len + 2)) x laid.2 (sym (ap (λ t. is_some (cond t (Some entry.1) (block_in rest x))) other) ∙ e) in omega arith)
     ]
 
--- of two starts the greater is behind the other's object
+-- the greater of two starts lies behind the other's object
 apart : (entries : List (ℕ × Block)) (at a x : ℕ) (b : Block) → LaidOut at entries → block_in entries a ≡ Some b → is_some (block_in entries x) ≡ true → a < x → a + (b.header.len + 2) ≤ x
 apart [] at a x b laid found start less = absurd (let no : None ≡ Some b = found in cc)
 apart (entry ∷ rest) at a x b laid found start less =

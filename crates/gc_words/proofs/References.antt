@@ -41,7 +41,7 @@ starts_in_space s space = in_words s.words space.walked space.end_low
         let same : 1 + length ws ≡ suc (length ws) = omega arith in
         All-from_recursion (λ entry. entry.0 < suc (length ws)) (blocks (w ∷ ws)) (subst (λ n. AllByRecursion (λ entry. entry.0 < n) (blocks (w ∷ ws))) same (starts_below ws 0 1 (blocks (w ∷ ws)) (walked_blocks (w ∷ ws) ok)))
 
--- ---- the end is no name that occurs
+-- ---- the end occurs as no name
 
 All-flat_map : {X Y : Type 0} (P : Y → Type 0) (f : X → List Y) (xs : List X) → All (λ x. All P (f x)) xs → All P (flat_map f xs)
 All-flat_map P f [] all = All-nil P
@@ -102,7 +102,7 @@ value_refers words v has refers =
     let back : (is_value (word_of v) ≡ true) × (value_of (word_of v) ≡ v) = meaning_back v has in
     record { value = back.0; start = subst (RefersToStart words) (sym back.1) refers }
 
--- ---- words that stay what they are while starts stay
+-- ---- words keep their meaning while starts stay
 
 abbrev pub KeepsStarts : List ℕ → List ℕ → Type 0
 KeepsStarts words others = (a : ℕ) → is_start words a ≡ true → is_start others a ≡ true
@@ -152,7 +152,7 @@ start_last (entry ∷ bs) a b =
       | false ↦ start_last bs a b
     ]
 
--- an object all of whose field words are 0
+-- an object whose field words are all 0
 fresh_has : (words : List ℕ) (h : Header) → HasFieldWords words (fresh_block h)
 fresh_has words h = All-replicate (IsFieldWord words h) h.len 0 (zero_word h.raw)
   where
@@ -233,7 +233,7 @@ closed_root words roots place w is closed = record { fields = closed.fields; roo
 pub closed_empty : (size count : ℕ) → IsClosed (empty_space size).words (replicate count 0)
 closed_empty size count = record { fields = All-nil (Has (0 ∷ [])); roots = All-replicate (IsRootWord (0 ∷ [])) count 0 (record { value = refl; start = tt }) }
 
--- ---- what is read is such a word
+-- ---- every word that is read refers to a start or to nothing
 
 found_has : (words : List ℕ) (bs : List (ℕ × Block)) (a : ℕ) (b : Block) → block_in bs a ≡ Some b → All (Has words) bs → HasFieldWords words b
 found_has words [] a b e all = absurd (let no : None ≡ Some b = e in cc)

@@ -13,7 +13,7 @@ use Rattle.gc_words.proofs.Starts.{whole_first, walked_blocks}
 use Rattle.gc_words.proofs.Steps.{passed}
 use Rattle.gc_words.proofs.Writes.{space_of}
 
--- ---- what is walked is laid out
+-- ---- walked objects are laid out
 
 pub laid_out : (ws : List ℕ) (inside at : ℕ) (bs : List (ℕ × Block)) → inside ≤ length ws → Walked inside at ws bs → LaidOut (at + inside) bs
 laid_out [] zero at [] room w = tt
@@ -29,7 +29,7 @@ laid_out (v ∷ ws) zero at bs room w =
     subst (LaidOut (at + 0)) (sym f.5)
     (here, whole_first f.0 v ws f.1 f.2, subst (λ n. LaidOut n f.3) behind (laid_out ws (f.0.len + 1) (suc at) f.3 f.2 f.4))
 
--- ---- what is laid out is walked
+-- ---- objects that are laid out are walked
 
 walk_block : (at link : ℕ) (b : Block) (rest : List ℕ) → IsBlock b → walk true 0 at (block_words link b ++ rest) ≡ with_front (at, b) (walk true 0 (at + (b.header.len + 2)) rest)
 walk_block at link b rest is =
@@ -52,9 +52,9 @@ walk_spelled (entry ∷ rest) links at laid =
     ∙ ap (with_front (at, entry.1)) (walk_spelled rest links (at + (entry.1.header.len + 2)) laid.2)
     ∙ ap (λ n. Ok ((n, entry.1) ∷ rest)) (sym laid.0)
 
--- ---- what is walked is spelled
+-- ---- walked words are spelled by their objects
 
--- the links are those that stand behind the starts
+-- the links are the words behind the starts
 abbrev pub AreLinks : (ℕ → ℕ) → ℕ → List ℕ → Type 0
 AreLinks links at ws = (p : ℕ) → links (at + p) ≡ get_or ws (p + 1) 0
 

@@ -14,7 +14,7 @@ use Rattle.gc_words.proofs.Writes.{some_of}
 use Rattle.gc_words.proofs.Walks.{fields_in, starts_above, object_result, no_object, no_room, written_back}
 use Rattle.gc_words.proofs.Starts.{ok_is}
 
--- ---- words of an object are passed over
+-- ---- the walk passes over an object's words
 
 pub passed : (raws : Bool) (k at : ℕ) (ws : List ℕ) → k ≤ length ws → walk raws k at ws ≡ walk raws 0 (at + k) (drop k ws)
 passed raws zero at ws h = ap (λ n. walk raws 0 n ws) (omega arith)
@@ -23,7 +23,7 @@ passed raws (suc k) at (w ∷ ws) h = passed raws k (suc at) ws (omega arith) �
 
 -- ---- one object
 
--- the words from a place on, the first of them apart
+-- the words from a place on: the first, and the rest
 opened : (words : List ℕ) (at : ℕ) → at < length words → drop at words ≡ slice_index words at ∷ drop (at + 1) words
 opened words at h = drop_more words at 0 h
 
@@ -76,7 +76,7 @@ no_step raws words at inside e = from (header_in raws (slice_index words at)) re
         let count : length (drop (at + 1) words) ≡ length words - (at + 1) = rest_length words at inside in
         ap (walk raws 0 at) (opened words at inside) ∙ no_room raws at (slice_index words at) (drop (at + 1) words) h is (omega arith)
 
--- a walk that comes to its end goes on from each object
+-- a walk that reaches the end goes on from each object
 pub has_next : (words : List ℕ) (at : ℕ) → at < length words → IsOk (walk_from words at) → IsSome (next_of words at)
 has_next words at inside ok = from (next_of words at) refl
   where
@@ -84,7 +84,7 @@ has_next words at inside ok = from (next_of words at) refl
     from None e = absurd (let no : false ≡ true = sym (ap is_ok (no_step true words at inside e)) ∙ ok in cc)
     from (Some next) e = refl
 
--- ---- what is behind the last object
+-- ---- behind the last object
 
 pub at_end : (words : List ℕ) (at : ℕ) → length words ≤ at → walk_from words at ≡ Ok []
 at_end words at h = ap (walk true 0 at) (drop_all at words h)
@@ -100,7 +100,7 @@ same_fault raws words at next inside e =
     let s : StepsIn raws words at next = step raws words at next inside e in
     ap fault_of_walk s.walk_is ∙ fault_behind _ (walk_on raws words next)
 
--- words as many as they should be, the first of them 0
+-- the right number of words, the first of which is 0
 pub framed : (raws : Bool) (end : ℕ) (words : List ℕ) → length words ≡ end → slice_index words 0 ≡ 0 → words_fault raws end words ≡ fault_of_walk (walk_on raws words 1)
 framed raws end words count reserved = ap (λ b. cond b (fault_of_walk (walk_all raws words)) (Some 0)) (and_from _ _ (eq-eqb _ _ count) (eq-eqb _ _ reserved))
 
@@ -151,7 +151,7 @@ pub no_start_below : (words : List ℕ) (at place : ℕ) → place < at → IsOk
 no_start_below words at place below ok =
     ap is_some (none_above (ok_or_nil (walk_from words at)) (at + 0) place (omega arith) (starts_above (drop at words) 0 at _ (ok_is (walk_from words at) ok)))
 
--- what the last test of a search says, where the search has come so far
+-- what the last test of a search decides
 pub found_start : (words : List ℕ) (at place : ℕ) → at < length words → place ≤ at → IsOk (walk_from words at) → (at == place) ≡ has_start_from words at place
 found_start words at place inside reached ok =
     elim (cases_eq at place) [

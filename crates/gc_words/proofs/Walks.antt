@@ -87,7 +87,7 @@ guard_ok : (b : Bool) (x : Result (List (ℕ × Block)) ℕ) (at : ℕ) (bs : Li
 guard_ok true x at bs e = (refl, e)
 guard_ok false x at bs e = cc
 
--- where the walk meets a header it is one, there is room, and the rest is walked
+-- if the walk passes an object, its header is valid, it fits, and the rest is walked
 abbrev pub First : ℕ → List ℕ → List (ℕ × Block) → Option Header → Type 0
 First at words bs h? = (h : Header) × (h? ≡ Some h) × (h.len + 1 ≤ length words) × (rest : List (ℕ × Block)) × (walk true (h.len + 1) (suc at) words ≡ Ok rest) × (bs ≡ (at, record { header = h; fields = fields_in h words }) ∷ rest)
 
@@ -101,7 +101,7 @@ first_of_object at words bs (Some h) e =
 pub first : (at w : ℕ) (words : List ℕ) (bs : List (ℕ × Block)) → Walked 0 at (w ∷ words) bs → First at words bs (read_header w)
 first at w words bs e = first_of_object at words bs (read_header w) e
 
--- the walk of one object and of what is behind it
+-- the walk of one object and of the rest
 pub object_result : (raws : Bool) (at w : ℕ) (words : List ℕ) (h : Header) → header_in raws w ≡ Some h → h.len + 1 ≤ length words
     → walk raws 0 at (w ∷ words) ≡ with_front (at, record { header = h; fields = fields_in h words }) (walk raws (h.len + 1) (suc at) words)
 object_result raws at w words h is room =
@@ -112,7 +112,7 @@ pub object_walked : (at w : ℕ) (words : List ℕ) (h : Header) (rest : List (�
     → Walked 0 at (w ∷ words) ((at, record { header = h; fields = fields_in h words }) ∷ rest)
 object_walked at w words h rest is room e = object_result true at w words h is room ∙ ap (with_front (at, record { header = h; fields = fields_in h words })) e
 
--- where no object is, or it does not fit
+-- there is no object, or it does not fit
 pub no_object : (raws : Bool) (at w : ℕ) (words : List ℕ) → header_in raws w ≡ None → walk raws 0 at (w ∷ words) ≡ Err at
 no_object raws at w words is = ap (λ h. object_at at h words (λ inside. walk raws inside (suc at) words)) is
 
@@ -121,7 +121,7 @@ no_room raws at w words h is less =
     ap (λ h. object_at at h words (λ inside. walk raws inside (suc at) words)) is
     ∙ ap (λ b. cond b (with_front (at, record { header = h; fields = fields_in h words }) (walk raws (h.len + 1) (suc at) words)) (Err at)) (lt-leb _ _ less)
 
--- ---- where headers of raw objects do not count
+-- ---- walks in which headers of raw objects do not count
 
 not_raw : (o : Option Header) (h : Header) → unless_raw o ≡ Some h → o ≡ Some h
 not_raw None h e = absurd (let no : None ≡ Some h = e in cc)
@@ -135,7 +135,7 @@ pub header_counted : (raws : Bool) (w : ℕ) (h : Header) → header_in raws w �
 header_counted true w h e = e
 header_counted false w h e = not_raw (read_header w) h e
 
--- a walk that comes to its end without them is the walk with them
+-- a walk that reaches the end without them is also the walk with them
 pub walk_counted : (raws : Bool) (ws : List ℕ) (inside at : ℕ) (bs : List (ℕ × Block)) → walk raws inside at ws ≡ Ok bs → Walked inside at ws bs
 walk_counted raws [] inside at bs e = e
 walk_counted raws (w ∷ ws) (suc inside) at bs e = walk_counted raws ws inside (suc at) bs e
@@ -157,7 +157,7 @@ same_walk raws words ok = go (walk_all raws words) refl ok
     go (Ok bs) is e = is ∙ sym (walk_counted raws (drop 1 words) 0 1 bs is)
     go (Err at) is e = absurd (let no : false ≡ true = e in cc)
 
--- ---- starts are where they can be
+-- ---- the range of starts
 
 pub starts_above : (ws : List ℕ) (inside at : ℕ) (bs : List (ℕ × Block)) → Walked inside at ws bs → AllByRecursion (λ b. at + inside ≤ b.0) bs
 starts_above [] inside at [] e = tt
@@ -218,7 +218,7 @@ walk_placed (w ∷ ws) zero at bs h link fields is n room e =
 
 -- ---- words inside an object
 
--- a word that belongs to an earlier object is passed over
+-- the walk passes over a word of an earlier object
 inside_set : (ws : List ℕ) (inside at p v : ℕ) → p < inside → walk true inside at (slice_set ws p v) ≡ walk true inside at ws
 inside_set [] inside at p v h = refl
 inside_set (w ∷ ws) zero at p v h = absurd (omega arith)

@@ -1,4 +1,4 @@
--- What holds of the state that a history leads to, and of its answers.
+-- Facts of the state that a history leads to, and of its answers.
 use Rattle.std.proofs.Common.{◌≡◌, ◌≢◌, ℕ, List, [], ◌∷◌, refl, sym, ◌∙◌}
 use Rattle.std.specs.List.{All}
 use Rattle.std.proofs.lemmas.List.Elements.{All-nil, All-cons}
@@ -42,7 +42,7 @@ none_from mutators (entry ∷ entries) s h r e =
 pub none_refused : (size mutators : ℕ) (entries : List Entry) → IsHistory size mutators entries → All (λ (entry : Entry). unmarked entry.answer ≢ Collector Refused) entries
 none_refused size mutators entries h = none_from mutators entries (opening_state size mutators) (opens size mutators entries h) h.events h.run
 
--- ---- only what is kept is carried over
+-- ---- only what was reachable or made later is copied
 
 pub only_kept : (size mutators : ℕ) (entries : List Entry) → IsHistory size mutators entries
     → (let opening = opening_state size mutators in OnlyKeptIsPaired (base_of_run opening opening (events_of entries)) (state_after size mutators entries).collection)

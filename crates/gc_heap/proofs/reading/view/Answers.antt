@@ -10,7 +10,7 @@ use Rattle.gc_words.specs.Views.{graph_value}
 use Rattle.gc_heap.proofs.Views.{shown, meaning}
 use Rattle.gc_heap.proofs.reading.view.Goals as goal
 
--- an object is shown as its header tells
+-- an object is seen by its header
 seen : (s : SpaceWords) (w a : ℕ) (v : Value) (h : Header) → IsSpace s → Some v ≡ read_value w → v ≡ Ref a → header_at s.words a ≡ Some h → cond h.raw (RawObj h.kind h.len) (Obj h.kind h.len) ≡ view_of (objects_of s.words) (value_of w)
 seen s w a v h space read is header = sym (ap (view_of (objects_of s.words)) (meaning w v (sym read) ∙ is) ∙ shown s a h space header)
 

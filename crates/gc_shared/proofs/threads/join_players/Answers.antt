@@ -17,7 +17,7 @@ turn g c =
     let all : List Player → Type 0 = λ hs. AreNext c.args.scripts.now (vec_len c.args.players - into_iter_len c.loop-player.player-iterator) hs in
     next_player c.args.scripts.now (vec_len c.args.players - into_iter_len c.loop-player.player-iterator) c.in-Some.player (into_iter_items c.next.new.self) (subst all c.in-Some.ensures.steps.0 c.loop-player.invariant.rest)
 
--- what a turn leaves, whatever the thread gave
+-- the state after a turn, whatever the thread returned
 record Turned (g : _) (c : After-join g) : Type 0 where
   next : vec_len c.args.players - into_iter_len c.next.new.self ≡ done g c + 1
   left : into_iter_len c.next.new.self ≤ vec_len c.args.players

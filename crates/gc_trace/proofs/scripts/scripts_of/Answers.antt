@@ -7,7 +7,7 @@ use Rattle.gc_copy.specs.Runs.{commands_of}
 use Rattle.gc_trace.specs.Scripts.{scripts}
 use Rattle.gc_trace.proofs.scripts.scripts_of.Goals as goal
 
--- one script more
+-- one more script
 script_more : {V : Type 0} (commands : V → List Op) (events : List Event) (m : ℕ) (old new : List V) (v : V) → new ≡ old ++ v ∷ [] → map commands old ≡ scripts m events → commands v ≡ commands_of m events → map commands new ≡ scripts (m + 1) events
 script_more commands events m old new v pushed before last =
     ap (map commands) pushed ∙ map-append commands old (v ∷ []) ∙ ap (λ scripts. scripts ++ commands v ∷ []) before

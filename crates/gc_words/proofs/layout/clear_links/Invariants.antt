@@ -6,7 +6,7 @@ use Rattle.gc_words.specs.Walking.{walk_from}
 use Rattle.gc_words.proofs.Steps.{cleared_from}
 use Rattle.gc_words.proofs.layout.clear_links.Given as goal
 
--- the links before the place are 0, and all else is as it was
+-- the links before this place are 0, and nothing else has changed
 abbrev pub invariant-loop-at : goal.invariant-loop-at
 invariant-loop-at l = record {
   walked : IsOk (walk_from l.words l.at);

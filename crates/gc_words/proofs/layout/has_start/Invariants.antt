@@ -4,7 +4,7 @@ use Rattle.gc_words.specs.Walking.{walk_from}
 use Rattle.gc_words.proofs.Steps.{has_start_from}
 use Rattle.gc_words.proofs.layout.has_start.Given as goal
 
--- the place is a start exactly where it is one of the rest of the walk
+-- the place is a start exactly if the rest of the walk meets it
 abbrev pub invariant-loop-at : goal.invariant-loop-at
 invariant-loop-at l = record {
   walked : IsOk (walk_from l.words l.at);

@@ -3,7 +3,7 @@ use Rattle.gc_words.specs.Fault.{fault_of_walk}
 use Rattle.gc_words.specs.Walking.{walk_on}
 use Rattle.gc_words.proofs.shape.walk.Given as goal
 
--- what the rest of the walk finds is what the whole walk finds
+-- the rest of the walk finds what the whole walk finds
 abbrev pub invariant-loop-at : goal.invariant-loop-at
 invariant-loop-at l = fault_of_walk (walk_on l.raws l.words 1) ≡ fault_of_walk (walk_on l.raws l.words l.at)
 

@@ -2,7 +2,7 @@ use Rattle.std.proofs.Common.{◌-◌, length}
 use Rattle.gc_copy.proofs.Dropping.{Clears}
 use Rattle.gc_copy.proofs.collection.Collection.drop_into.Given as goal
 
--- the originals of the replicas before the place have no link
+-- the originals of the replicas before this place have no link
 abbrev pub invariant-loop-at : goal.invariant-loop-at
 invariant-loop-at l = Clears l.self-inside.space.words l.fn.heap l.heap l.at.0
 

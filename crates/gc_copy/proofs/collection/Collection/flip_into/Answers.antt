@@ -7,7 +7,7 @@ use Rattle.gc_copy.specs.declared.step.StepReply.TheVariants.{Flipped}
 use Rattle.gc_copy.proofs.Flipping.{flipped_sound, flip_is, cleared_links}
 use Rattle.gc_copy.proofs.collection.Collection.flip_into.Goals as goal
 
--- the space that is put in place
+-- the space that replaces the heap's
 space_is : (s : SpaceWords) (x c : CollectionWords) → x ≡ c → s ≡ without_links x.space → s ≡ without_links c.space
 space_is s x c e f = f ∙ ap (λ (y : CollectionWords). without_links y.space) e
 

@@ -3,6 +3,6 @@ use Rattle.gc_copy.specs.Words.{collection_in}
 use Rattle.gc_copy.proofs.RootWalks.{moved_to}
 use Rattle.gc_copy.proofs.collection.Collection.new_roots.Given as goal
 
--- what is there, and the words that are left moved, are all words moved
+-- the roots so far, and then the moved rest, are all roots moved
 abbrev pub invariant-loop-word : goal.invariant-loop-word
 invariant-loop-word l = l.roots.items ++ map (moved_to (collection_in l.self)) (drop l.word-index l.word-items) ≡ map (moved_to (collection_in l.self)) l.word-items

@@ -10,7 +10,7 @@ use Rattle.gc_copy.proofs.OpenCollection.{Tells, link_tells}
 use Rattle.gc_copy.proofs.collection.Collection.replica_of.Goals as goal
 use Rattle.gc_copy.proofs.collection.Collection.replica_of.Goals.{Then-link-eq0, Else-link-eq0}
 
--- what the link tells
+-- an original's link is its replica's address, or 0
 told : (heap : HeapWords) (inner outer : CollectionWords) (a link : ℕ) (s : SpaceWords) → inner ≡ outer → IsCollection inner → BelongsTo heap outer → is_start heap.space.words a ≡ true → s ≡ heap.space → link ≡ link_at s.words a → Tells outer a link
 told heap inner outer a link s seen is k start same read = link_tells heap outer a link (subst IsCollection seen is) k start (read ∙ ap (λ (s : SpaceWords). link_at s.words a) same)
 

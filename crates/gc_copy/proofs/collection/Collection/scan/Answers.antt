@@ -15,7 +15,7 @@ use Rattle.gc_copy.specs.declared.step.StepReply.TheVariants.{Passed, Scanned, N
 use Rattle.gc_copy.proofs.Scanning.{start, small, len_small, replica, field_there, next_small, passed, passed_belongs, no_room, scanned, scanned_belongs}
 use Rattle.gc_copy.proofs.collection.Collection.scan.Goals as goal
 
--- what is asked before a field is scanned
+-- the test that comes before a field is scanned
 scanned_by : (raw : Bool) (field len : ℕ) → (raw || (field == len)) ≡ true → (raw ≡ true) ⊎ (field ≡ len)
 scanned_by true field len e = inl refl
 scanned_by false field len e = inr (eqb-true field len e)
@@ -86,7 +86,7 @@ overflow_add-self c =
     let fits : c.self.inside.scan_field + 1 < 2 ^ 16 = (let t = len_small c.args.heap.now x c.self.invariant k more c.header-header.result c.header-header.ensures in omega (arith, most, t)) in
     search rules
 
--- what a call said of whole collections, of their parts
+-- a call's clause on whole collections, restated for their parts
 kept : (x c after one : CollectionWords) → x ≡ c → after ≡ one → KeepsRest c one → KeepsRest x after
 kept x c after one e f k = subst (λ y. KeepsRest y after) (sym e) (subst (KeepsRest c) (sym f) k)
 

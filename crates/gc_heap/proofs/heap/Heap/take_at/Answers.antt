@@ -21,7 +21,7 @@ returns-then-not-has_field-clause-graph c =
     let G : HeapWords → Type 0 = λ h. (let object = object_of (graph_in h).objects (root (graph_in h) c.args.s) in ◌≡◌ {A = Reply × Graph} (NoField, graph_in h) (get_field (graph_in h) c.args.d object (field_of object c.args.i))) in
     subst G c.self.view_is (got_no_field h c.args.d c.args.s c.in-Some.at.0 c.args.i p (not_there c.has_field.result _ c.has_field.ensures c.if-not-has_field.true))
 
--- what a root takes of the field that is read
+-- the value that a root takes from the field
 taken : (h : HeapWords) (s a i f : ℕ) (g : Header) (p : Points h s a) → IsHeap h → header_at h.space.words a ≡ Some g → field_at h.space.words a i ≡ Some f → IsFieldWord h.space.words g f
 taken h s a i f g p heap header read = subst (λ g. IsFieldWord h.space.words g f) (header_is h s a g p header) (closed_field_read h.space.words h.roots a i f p.block heap.closed p.found read)
 

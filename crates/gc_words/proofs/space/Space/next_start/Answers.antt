@@ -5,7 +5,7 @@ use Rattle.gc_words.specs.Walking.{next_of}
 use Rattle.gc_words.proofs.Bodies.{NextRead, next_seen}
 use Rattle.gc_words.proofs.space.Space.next_start.Goals as goal
 
--- what the code finds, of the words as contracts see them
+-- the code's result, in terms of the words that contracts see
 found : (s t : SpaceWords) (words : List ℕ) (a : ℕ) (o : Option ℕ) → words ≡ s.words → s ≡ t → o ≡ next_of words a → next_of t.words a ≡ o
 found s t words a o lent same is = sym (is ∙ ap (λ ws. next_of ws a) (lent ∙ ap (λ (s : SpaceWords). s.words) same))
 

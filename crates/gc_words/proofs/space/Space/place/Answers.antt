@@ -3,7 +3,7 @@ use Rattle.gc_words.proofs.Walks.{written_back}
 use Rattle.gc_words.proofs.Bodies.{Places, object_placed}
 use Rattle.gc_words.proofs.space.Space.place.Goals as goal
 
--- the space that is left holds one object more
+-- the space then has one more object
 made : (c : goal.After-unwrap) → Places (record { size = c.self.inside.size; words = c.resize.new.self.items }) c.args.self.now c.args.header
 made c =
     let ranges = written_back c.word.result c.args.header c.word.ensures.read_back in

@@ -8,7 +8,7 @@ use Rattle.gc_words.proofs.Starts.{stands_in}
 use Rattle.gc_words.proofs.Writes.{CanPlaceBlock, some_of, block_placed}
 use Rattle.gc_words.proofs.space.Space.place_copy.Goals as goal
 
--- the space that is left holds the copy
+-- the space then has the copy
 pub record Copies (s t : SpaceWords) (b : Block) : Type 0 where
   pub space : IsSpace s
   pub words : s ≡ with_block t b
@@ -20,7 +20,7 @@ copied s t b new same space whole room made =
     subst (λ words. Copies (record { size = s.size; words = words }) t b) (sym flat)
     (record { space = (block_placed s b can).0; words = ap (λ (s : SpaceWords). with_block s b) same })
 
--- the object that is copied, and what of it is known
+-- the object that is copied, and what is known of it
 pub record Copied (s : SpaceWords) (a : ℕ) : Type 0 where
   pub block : Block
   pub found : block_at s.words a ≡ Some block
