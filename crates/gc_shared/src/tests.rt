@@ -2,7 +2,7 @@ mod closing;
 mod gates;
 mod growths;
 
-use crate::{CallFault, CloseKind, Seat, Shared, ThreadsFault};
+use crate::{CallFault, CloseKind, Receipt, Seat, Shared, ThreadsFault};
 use gc_copy::{Step, StepReply};
 use gc_graph::{Number, Op, Reply, Slot, View};
 use gc_world::{Answer, Entry, Event};
@@ -41,39 +41,66 @@ fn one_seat_of_each_kind(rt: HostRuntime) -> Result<(), Fail> {
     assert!(rt; shared.call(&rt, &mut mutator, &new) == Ok(Reply::Made));
     assert!(rt; shared.step(&rt, &mut collector, Step::Scan) == Ok(StepReply::Idle));
     assert!(rt; shared.step(&rt, &mut collector, Step::Apply(0)) == Ok(StepReply::Idle));
-    assert!(rt; shared.useful(&rt, &mut collector) == Ok((Step::Begin, StepReply::Begun)));
-    assert!(rt; shared.useful(&rt, &mut collector) == Ok((Step::Roots, StepReply::Copied)));
-    assert!(rt; shared.useful(&rt, &mut collector) == Ok((Step::Scan, StepReply::Scanned)));
-    assert!(rt; shared.useful(&rt, &mut collector) == Ok((Step::Scan, StepReply::Passed)));
+    let until_the_write = [
+        (Step::Begin, StepReply::Begun),
+        (Step::Roots, StepReply::Copied),
+        (Step::Scan, StepReply::Scanned),
+        (Step::Scan, StepReply::Passed),
+    ];
+    assert!(rt; makes_useful(&rt, &shared, &mut collector, &until_the_write));
     assert!(rt; shared.call(&rt, &mut mutator, &put) == Ok(Reply::Done));
-    assert!(rt; shared.useful(&rt, &mut collector) == Ok((Step::Apply(0), StepReply::Applied)));
     let flipped = StepReply::Flipped { pairs: 1 };
-    assert!(rt; shared.useful(&rt, &mut collector) == Ok((Step::Flip, flipped)));
+    let until_the_flip = [(Step::Apply(0), StepReply::Applied), (Step::Flip, flipped)];
+    assert!(rt; makes_useful(&rt, &shared, &mut collector, &until_the_flip));
     assert_eq!(rt; mutator.receipts().len(), 2);
     assert_eq!(rt; collector.receipts().len(), 8);
     let written = mutator.receipts().last().ok_or("two receipts")?;
-    assert_eq!(rt; written.place(), 7);
-    assert!(rt; written.event() == Event::Mutate { m: 0, op: put });
-    assert!(rt; written.answer() == Answer::Mutator(Reply::Done));
-    assert!(rt; written.entry() == Entry::command(0, &put, &Reply::Done));
+    assert!(rt; is_of_the_write(written, put));
 
     seats.push(collector)?;
     seats.push(mutator)?;
     let world = shared.close(seats).map_err(|fault| fault.kind)?;
-    let expected = [
-        Entry::command(0, &new, &Reply::Made),
+    assert!(rt; world.history() == history_of(&new, &put).as_slice());
+    Ok(())
+}
+
+/// Returns whether the seat's useful steps are these, with these replies.
+fn makes_useful<R: Threads + Wait + Sync>(
+    rt: &R,
+    shared: &Shared,
+    seat: &mut Seat,
+    wanted: &[(Step, StepReply)],
+) -> bool {
+    for made in wanted {
+        if shared.useful(rt, seat) != Ok(*made) {
+            return false;
+        }
+    }
+    true
+}
+
+/// Returns whether the receipt is that of the write, which is the eighth event.
+fn is_of_the_write(receipt: &Receipt, put: Op) -> bool {
+    receipt.place() == 7
+        && receipt.event() == Event::Mutate { m: 0, op: put }
+        && receipt.answer() == Answer::Mutator(Reply::Done)
+        && receipt.entry() == Entry::command(0, &put, &Reply::Done)
+}
+
+/// Returns the history of one mutator and one collector, whose steps but two were found as the useful ones.
+fn history_of(new: &Op, put: &Op) -> [Entry; 10] {
+    [
+        Entry::command(0, new, &Reply::Made),
         Entry::step(Step::Scan, StepReply::Idle),
         Entry::step(Step::Apply(0), StepReply::Idle),
         Entry::useful(Step::Begin, StepReply::Begun),
         Entry::useful(Step::Roots, StepReply::Copied),
         Entry::useful(Step::Scan, StepReply::Scanned),
         Entry::useful(Step::Scan, StepReply::Passed),
-        Entry::command(0, &put, &Reply::Done),
+        Entry::command(0, put, &Reply::Done),
         Entry::useful(Step::Apply(0), StepReply::Applied),
-        Entry::useful(Step::Flip, flipped),
-    ];
-    assert!(rt; world.history() == expected.as_slice());
-    Ok(())
+        Entry::useful(Step::Flip, StepReply::Flipped { pairs: 1 }),
+    ]
 }
 
 #[test]
