@@ -15,7 +15,6 @@ from .traces import PLAYED, trace_and_replies
 TOP = os.path.join(os.path.dirname(os.path.abspath(__file__)), "..", "..")
 SOURCES = os.path.join(TOP, "tests", "c")
 EXAMPLE_PROGRAMS = os.path.join(TOP, "bindings", "c", "examples")
-DOCUMENT = os.path.join(TOP, "docs", "EMBEDDING.md")
 SECONDS = 120
 # The libraries are proved first, where they have changed.
 PROVING_SECONDS = 3600
@@ -249,22 +248,13 @@ EXAMPLE_OUTPUT = {"first_check.c": b"yes 1\n", "first_heap.c": b"mutators go on\
 
 
 def example_programs(_program, folder):
-    """The programs of bindings/c/examples, and the pieces of them that the document shows."""
+    """The programs of bindings/c/examples print what they should."""
     built = library(folder)
     if built is None:
         return
-    texts = []
     for name in sorted(os.listdir(EXAMPLE_PROGRAMS)):
         path, why = built.build_example(name)
         yield name, why or difference(done([path]), Outcome(EXAMPLE_OUTPUT[name]))
-        with open(os.path.join(EXAMPLE_PROGRAMS, name), encoding="utf-8") as file:
-            texts.append(file.read())
-    with open(DOCUMENT, encoding="utf-8") as file:
-        shown = file.read().split("```c\n")[1:]
-    for number, block in enumerate(shown, 1):
-        pieces = block.split("```")[0].split("// ...\n")
-        missing = [piece for piece in pieces if not any(piece in text for text in texts)]
-        yield "code %d of EMBEDDING" % number, "in no example: %s" % missing if missing else None
 
 
 GROUPS = [example_programs, programs, pkg_config, texts, plays, recorded_work, long_run]

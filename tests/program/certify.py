@@ -4,13 +4,11 @@ import os
 import re
 
 from .c_library import SANITIZERS, TOP, WARNINGS, done, library, usable
-from .documents import blocks, pieces
 from .harness import Outcome, difference, run
 from .pairs import status_of
 
 FOLDER = os.path.join(TOP, "examples", "certify")
 SOURCES = sorted(glob.glob(os.path.join(FOLDER, "*.c")))
-DOCUMENT = os.path.join("examples", "certify", "README.md")
 
 # Numbers of entries. 100000 is the most, and then the spaces are nearly as large as the checker allows.
 SIZES = [1, 2, 3, 4, 5, 9, 100, 100000]
@@ -104,16 +102,6 @@ def cases(program, folder, name, path):
         yield "status of %s, %s" % (words, name), None if status == 2 else "status %d, wanted 2" % status
 
 
-def code_of_readme(_program, _folder):
-    texts = []
-    for path in SOURCES:
-        with open(path, encoding="utf-8") as file:
-            texts.append(" ".join(file.read().split()))
-    for number, block in enumerate(blocks(DOCUMENT, "c"), 1):
-        missing = [piece for piece in pieces(block) if not any(piece in text for text in texts)]
-        yield "code %d of %s" % (number, DOCUMENT), "in no source: %s" % missing if missing else None
-
-
 def table_of_readme(_program, _folder):
     """The table of bugs shows what a run with five entries prints."""
     with open(os.path.join(FOLDER, "README.md"), encoding="utf-8") as file:
@@ -124,4 +112,4 @@ def table_of_readme(_program, _folder):
             yield "bug %s in the table" % bug, "not there: %s" % missing if missing else None
 
 
-GROUPS = [runs, code_of_readme, table_of_readme]
+GROUPS = [runs, table_of_readme]

@@ -12,6 +12,8 @@ from .harness import Skipped, file_of
 TOP = os.path.normpath(os.path.join(os.path.dirname(os.path.abspath(__file__)), "..", ".."))
 SOURCES = (".rt", ".antt", ".edit", ".py", ".c", ".txt")
 WORD = re.compile(r"[A-Za-z_]\w{3,}")
+# The languages of code that documents quote, and the endings of the files that it may come from.
+QUOTED = {"rust": (".rt", ".rs"), "antt": (".rt", ".antt"), "c": (".c", ".h")}
 # Arguments in usage lines, and names of things outside the repository.
 FOREIGN = {"CRATE", "DESTDIR", "EDIT", "FUNCTION", "GROUP", "KIND", "MODULE", "PATH", "PROGRAM", "SLOT", "TURNS", "WHAT_IS_WRONG",
            "dac8208d650f15bf", "rattle", "try_lock"}
@@ -242,12 +244,14 @@ def pieces(block):
 
 
 def quotes(_program, _folder):
-    texts = [" ".join(text.split()) for path, text in sources() if path.endswith((".rt", ".antt", ".rs"))]
-    for document in documents():
-        found = blocks(document, "rust") + blocks(document, "antt")
-        missing = [piece[:60] for block in found for piece in pieces(block) if not any(piece in text for text in texts)]
-        if found:
-            yield "code of %s" % document, "in no source: %s" % ", ".join(missing) if missing else None
+    """The code that the documents show is in the sources. README's C is in none: it is compiled."""
+    for language, endings in QUOTED.items():
+        texts = [" ".join(text.split()) for path, text in sources() if path.endswith(endings)]
+        for document in documents():
+            found = blocks(document, language) if (language, document) != ("c", "README.md") else []
+            missing = [piece[:60] for block in found for piece in pieces(block) if not any(piece in text for text in texts)]
+            if found:
+                yield "%s of %s" % (language, document), "in no source: %s" % ", ".join(missing) if missing else None
 
 
 def names_in_c(_program, _folder):

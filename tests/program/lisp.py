@@ -12,7 +12,7 @@ import tempfile
 import time
 
 from .c_library import SANITIZERS, SOURCES as C_SOURCES, TOP, WARNINGS, done, library, usable
-from .documents import blocks, pieces
+from .documents import blocks
 from .harness import Outcome, difference, file_of, run
 
 FOLDER = os.path.join(TOP, "examples", "lisp")
@@ -415,15 +415,8 @@ def without_counts(line):
     return re.sub(r"\d+", "N", line) if "the heap is full" in line else line
 
 
-def readme(_program, _folder):
-    """The code of the README is in the sources, and its sessions print what they show, but for the numbers of a full heap."""
-    texts = []
-    for path in SOURCES:
-        with open(path, encoding="utf-8") as file:
-            texts.append(" ".join(file.read().split()))
-    for number, block in enumerate(blocks(DOCUMENT, "c"), 1):
-        missing = [piece for piece in pieces(block) if not any(piece in text for text in texts)]
-        yield "code %d of %s" % (number, DOCUMENT), "in no source: %s" % missing if missing else None
+def sessions(_program, _folder):
+    """The sessions of the README print what they show, but for the numbers of a full heap."""
     for way, lisp in built_lisps()[:1]:
         for number, block in enumerate(blocks(DOCUMENT, "lisp"), 1):
             typed = [line[2:] for line in block if line.startswith("> ")]
@@ -434,4 +427,4 @@ def readme(_program, _folder):
             yield "session %d of %s" % (number, DOCUMENT), None if is_shown else "printed %s" % printed
 
 
-GROUPS = [programs, evaluating, command_line, interrupting, pace, limits, refused_allocations, no_collector, traces, histogram, readme]
+GROUPS = [programs, evaluating, command_line, interrupting, pace, limits, refused_allocations, no_collector, traces, histogram, sessions]
