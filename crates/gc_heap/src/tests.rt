@@ -6,6 +6,7 @@ use crate::Heap;
 use gc_graph::{NoMemory, Number, Op, Plain, Reply, Slot, View};
 use gc_words::{NewAddr, OldAddr, Space};
 use std::alloc::Global;
+use std::process::Abort;
 use std::test::Fail;
 
 /// Performs a command of the first mutator and keeps its reply.
@@ -59,6 +60,24 @@ fn keep_plain_reply(plain: &mut Plain, op: &Op, replies: &mut Vec<Reply>) -> Res
     }
 }
 
+/// Asserts that a heap and the plain machine give these replies to one mutator's commands.
+fn expect_replies(
+    rt: &impl Abort,
+    alloc: Global,
+    size: u32,
+    commands: &[Op],
+    expected: &[Reply],
+) -> Result<(), Fail>
+    requires low { 1 ≤ size }
+    requires high { size ≤ most_words }
+{
+    let replies = replies(alloc, size, commands)?;
+    assert_eq!(rt; replies.as_slice(), expected);
+    let plain = plain_replies(alloc, size, commands)?;
+    assert_eq!(rt; plain.as_slice(), expected);
+    Ok(())
+}
+
 fn new(d: Slot, kind: u8, len: u16) -> Op {
     Op::New { d, kind, len }
 }
@@ -70,9 +89,7 @@ fn object(kind: u8, len: u16) -> Reply {
 #[test]
 fn no_room_at_all(rt: HostRuntime) -> Result<(), Fail> {
     let r0 = Slot::own(0).ok_or("slot")?;
-    let replies = replies(rt.alloc(), 1, &[new(r0, 0, 0)])?;
-    assert_eq!(rt; replies.as_slice(), [Reply::Full].as_slice());
-    Ok(())
+    expect_replies(&rt, rt.alloc(), 1, &[new(r0, 0, 0)], &[Reply::Full])
 }
 
 #[test]
@@ -80,12 +97,8 @@ fn full_after_one_object(rt: HostRuntime) -> Result<(), Fail> {
     let r0 = Slot::own(0).ok_or("slot")?;
     let r1 = Slot::own(1).ok_or("slot")?;
     let commands = [new(r0, 3, 4), new(r1, 0, 0), Op::Look { s: r1 }];
-    let replies = replies(rt.alloc(), 7, &commands)?;
     let expected = [Reply::Made, Reply::Full, Reply::Saw(View::Nil)];
-    assert_eq!(rt; replies.as_slice(), expected.as_slice());
-    let plain = plain_replies(rt.alloc(), 7, &commands)?;
-    assert_eq!(rt; plain.as_slice(), expected.as_slice());
-    Ok(())
+    expect_replies(&rt, rt.alloc(), 7, &commands, &expected)
 }
 
 #[test]
@@ -93,10 +106,46 @@ fn greatest_number(rt: HostRuntime) -> Result<(), Fail> {
     let r0 = Slot::own(0).ok_or("slot")?;
     let n = Number::new(9223372036854775807).ok_or("number")?;
     let commands = [Op::Num { d: r0, n }, Op::Look { s: r0 }];
-    let replies = replies(rt.alloc(), 7, &commands)?;
     let expected = [Reply::Done, Reply::Saw(View::Num(n))];
-    assert_eq!(rt; replies.as_slice(), expected.as_slice());
-    Ok(())
+    expect_replies(&rt, rt.alloc(), 7, &commands, &expected)
+}
+
+#[test]
+fn no_commands_no_replies(rt: HostRuntime) -> Result<(), Fail> {
+    expect_replies(&rt, rt.alloc(), 8, &[], &[])
+}
+
+#[test]
+fn cycle_of_two(rt: HostRuntime) -> Result<(), Fail> {
+    let r0 = Slot::own(0).ok_or("slot")?;
+    let r1 = Slot::own(1).ok_or("slot")?;
+    let r2 = Slot::own(2).ok_or("slot")?;
+    let r3 = Slot::own(3).ok_or("slot")?;
+    let commands = [
+        new(r0, 1, 2),
+        new(r1, 2, 1),
+        Op::Put { s: r0, i: 0, t: r1 },
+        Op::Put { s: r1, i: 0, t: r0 },
+        Op::Put { s: r0, i: 1, t: r0 },
+        Op::Get { d: r2, s: r0, i: 0 },
+        Op::Get { d: r2, s: r2, i: 0 },
+        Op::Same { s: r2, t: r0 },
+        Op::Get { d: r3, s: r0, i: 1 },
+        Op::Same { s: r3, t: r2 },
+    ];
+    let expected = [
+        Reply::Made,
+        Reply::Made,
+        Reply::Done,
+        Reply::Done,
+        Reply::Done,
+        object(2, 1),
+        object(1, 2),
+        Reply::Yes,
+        object(1, 2),
+        Reply::Yes,
+    ];
+    expect_replies(&rt, rt.alloc(), 32, &commands, &expected)
 }
 
 #[test]
@@ -132,11 +181,7 @@ fn raw_object_holds_numbers(rt: HostRuntime) -> Result<(), Fail> {
         Reply::Done,
         Reply::Saw(View::Num(most)),
     ];
-    let replies = replies(rt.alloc(), 16, &commands)?;
-    assert_eq!(rt; replies.as_slice(), expected.as_slice());
-    let plain = plain_replies(rt.alloc(), 16, &commands)?;
-    assert_eq!(rt; plain.as_slice(), expected.as_slice());
-    Ok(())
+    expect_replies(&rt, rt.alloc(), 16, &commands, &expected)
 }
 
 #[test]
@@ -176,11 +221,7 @@ fn refusals_change_nothing(rt: HostRuntime) -> Result<(), Fail> {
         Reply::Done,
         object(9, 1),
     ];
-    let replies = replies(rt.alloc(), 8, &commands)?;
-    assert_eq!(rt; replies.as_slice(), expected.as_slice());
-    let plain = plain_replies(rt.alloc(), 8, &commands)?;
-    assert_eq!(rt; plain.as_slice(), expected.as_slice());
-    Ok(())
+    expect_replies(&rt, rt.alloc(), 8, &commands, &expected)
 }
 
 #[test]
@@ -193,9 +234,7 @@ fn exactly_full(rt: HostRuntime) -> Result<(), Fail> {
     expected.push(Reply::Full)?;
     expected.push(Reply::Made)?;
     expected.push(Reply::Full)?;
-    let replies = replies(rt.alloc(), 1048576, &commands)?;
-    assert_eq!(rt; replies.as_slice(), expected.as_slice());
-    Ok(())
+    expect_replies(&rt, rt.alloc(), 1048576, &commands, &expected)
 }
 
 #[test]
