@@ -1,7 +1,7 @@
 -- Sections of one line, and of several lines of one form.
 use Rattle.std.proofs.Common.{◌≡◌, ◌≢◌, ℕ, suc, zero, ◌-◌, ◌<◌, List, [], ◌∷◌, ◌++◌, length, map, replicate, refl, sym, ap, ◌∙◌, arith, append_assoc, subst, length-append, Option, Some, None}
 use Rattle.std.specs.List.{AllByRecursion}
-use Rattle.std.proofs.lemmas.List.{append-nil, map-append}
+use Rattle.std.proofs.lemmas.List.{append-nil, map-append, length-map}
 use Rattle.gc_graph.specs.Lines.{newline, HasNo, ended}
 use Rattle.gc_cert.specs.Sections.{Place, IsNext, HasTaken}
 use Rattle.gc_cert.specs.Internal.Sections.{alone, AreAll, Spelled, Begins, IsWrongAt, IsCutIn}
@@ -112,16 +112,12 @@ one_more InRange line_of done lines [] lt p e = absurd (omega (arith, lt))
 one_more InRange line_of [] lines (v ∷ vs) lt p e = (v, map line_of vs, p.0, e)
 one_more InRange line_of (l ∷ done) lines (v ∷ vs) lt p e = one_more InRange line_of done lines vs (omega (arith, lt)) p.1 (heads l (line_of v) (done ++ lines) (map line_of vs) e).1
 
-length-map : {V : Type 0} (f : V → List ℕ) (xs : List V) → length (map f xs) ≡ length xs
-length-map f [] = refl
-length-map f (x ∷ xs) = ap suc (length-map f xs)
-
 pub begins_with_one : {V : Type 0} (InRange : V → Type 0) (line_of : V → List ℕ) (n : ℕ) (vs : List V) → length vs < n → AllByRecursion InRange vs → BeginsWith InRange (alone line_of) (λ lines. Spelled (AreAll InRange n) (map line_of) (map line_of vs ++ lines))
 begins_with_one InRange line_of n vs lt p = record {
   some = λ v q.
       let more = replicate (n - length vs - 1) v in
       (map line_of more, (vs ++ v ∷ more, (omega (arith, length-append vs (v ∷ more), length-replicated (n - length vs - 1) v), All-append InRange vs (v ∷ more) p (q, All-replicate InRange (n - length vs - 1) v q)), sym (map-append line_of vs (v ∷ more))));
-  only = λ lines (ws, q, e). one_more InRange line_of (map line_of vs) lines ws (omega (arith, lt, q.0, length-map line_of vs)) q.1 e;
+  only = λ lines (ws, q, e). one_more InRange line_of (map line_of vs) lines ws (omega (arith, lt, q.0, length-map vs line_of)) q.1 e;
 }
 
 -- one more line of the form was taken

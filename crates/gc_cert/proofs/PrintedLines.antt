@@ -1,5 +1,5 @@
 -- Lines that are printed one after the other.
-use Rattle.std.proofs.Common.{◌≡◌, ℕ, suc, List, [], ◌∷◌, ◌++◌, map, take, drop, refl, sym, ap, ◌∙◌, append_assoc, Option, subst, length, ◌+◌, ◌<◌, ◌≤◌, get_or}
+use Rattle.std.proofs.Common.{◌≡◌, ℕ, List, [], ◌∷◌, ◌++◌, map, take, drop, refl, sym, ap, ◌∙◌, append_assoc, Option, subst, length, ◌+◌, ◌<◌, ◌≤◌, get_or}
 use Rattle.std.proofs.lemmas.List.{append-nil, take-append-drop, take_all, take_more, map-append}
 use Rattle.std.proofs.lemmas.List.Concat.{flat_map-append}
 use Rattle.std.specs.Io.KnownBytes.{Appends}
@@ -73,7 +73,3 @@ printed_out_front a b c lines before after none printed failed =
 
 pub front_out : (a b : Bytes) (lines : Lines) (before : List ℕ) → before ≡ [] → PrintsFront lines a b before → SendsFront a b (text_of lines)
 front_out a b lines before none failed = subst (λ (t : List ℕ). SendsFront a b (t ++ text_of lines)) none failed
-
-pub length_mapped : {X Y : Type 0} (g : X → Y) (xs : List X) → length (map g xs) ≡ length xs
-length_mapped g [] = refl
-length_mapped g (x ∷ xs) = ap suc (length_mapped g xs)
