@@ -1,4 +1,4 @@
-//! Laws: what follows from the definitions. The calls that check use them.
+//! Laws: consequences of the definitions alone. `check` calls the first one for its proof.
 
 ghost use Rattle.std.specs.Prelude.{ℕ, List};
 ghost use Rattle.gc_words.specs.Image.{Image};
