@@ -186,7 +186,7 @@ pub token_some : (most : ℕ) (token rest : List ℕ) (n : ℕ) → BeginsWithNu
 token_some most token [] n begins empty le = rw (begins.parts ∙ append-nil (decimal n)) (sym (number_again most n le begins.small))
 token_some most token (b ∷ rest) n begins empty le = absurd (omega (arith, empty))
 
--- a token that begins with no number up to `most`, or not as a whole, has no number
+-- a token that is not, as a whole, the decimal of a number up to `most` has no number
 pub token_none : (most : ℕ) (token : List ℕ) → most < 2 ^ 64 → ((n : ℕ) → n ≤ most → ¬ BeginsWithNumber token n []) → number_of most token ≡ None
 token_none most token small never = number_none most token (λ n le is. never n le (record { small = omega (arith, le, small); parts = is ∙ sym (append-nil (decimal n)); whole = refl }))
 
