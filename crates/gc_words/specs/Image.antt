@@ -29,8 +29,8 @@ object_at at (Some h) words others =
     if nat_le (h.len + 1) (length words) then with_front (at, record { header = h; fields = take h.len (drop 1 words) }) (others (h.len + 1)) else Err at
 
 -- The objects in the words from address `at` on, each with its address. The first `inside` words still belong to an earlier
--- object. If an object should start at a word that is no header, or if an object runs past the end, the result is the first
--- such address. `raws` says whether headers of raw objects are accepted.
+-- object. If an object should start at a word that is not a header, or if an object runs past the end, the result is the
+-- first such address. `raws` says whether headers of raw objects are accepted.
 abbrev pub walk : Bool → ℕ → ℕ → List ℕ → Result (List (ℕ × Block)) ℕ
 walk raws inside at [] = Ok []
 walk raws zero at (w ∷ words) = object_at at (header_in raws w) words (λ inside. walk raws inside (suc at) words)

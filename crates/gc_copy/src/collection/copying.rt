@@ -104,8 +104,8 @@ impl Collection {
         self.place_replica(heap, original)
     }
 
-    /// Reads the original's field as it is now, and writes the same nil, number or raw word to the replica. Instead of a
-    /// reference it writes one to the target's replica, which it places if there is none.
+    /// Reads the original's field as it is now, and writes the same nil, number or raw word to the replica. For a reference
+    /// it writes one to the target's replica, which it places first if there is none.
     pub(super) fn bring_up_to_date(
         &mut self,
         heap: &mut Heap,
