@@ -25,7 +25,7 @@ impl PairReader {
     ghost use Rattle.gc_cert.specs.Sections.{Place, start};
     ghost use Rattle.gc_cert.specs.Internal.Reading.{IsReading, IsAt, CannotRead, GoesOn, Takes, unread};
 
-    /// Returns a pair text before its first read.
+    /// Returns a pair text of which nothing is read yet.
     pub fn new(alloc: Global) -> Self
         ensures { result ≡ unread }
     {

@@ -64,7 +64,7 @@ place_replica c name (Some object) =
     if nat_lt (new_free c) (object_words (length object.fields)) then None
     else Some (record c { replicas = c.replicas ++ fresh_replica name (new_end c) object ∷ [] })
 
--- The collection after the value's target, if any, was given a replica unless it has one; `None` if there is no room for it.
+-- Gives the value's target, if any, a replica unless it has one; the result is `None` if there is no room.
 abbrev pub with_replica : Collection → Graph → Value → Option Collection
 with_replica c g Nil = Some c
 with_replica c g (Num n) = Some c

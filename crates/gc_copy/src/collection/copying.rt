@@ -25,7 +25,7 @@ use gc_words::{Addr, NewAddr, OldAddr, Space, Value, encode, target_of};
 pub(super) struct NoRoom;
 
 impl Collection {
-    /// Returns the replica of an object, which is the object's link, or `None` if the link is 0.
+    /// Returns the address of an object's replica, which is the object's link, or `None` if the link is 0.
     pub(super) fn replica_of(&self, heap: &Heap, original: OldAddr) -> Option<NewAddr>
         requires belongs { BelongsTo heap.now self.now }
         requires start { IsTrue (is_start heap.now.space.words original.0) }

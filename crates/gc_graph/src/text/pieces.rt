@@ -133,7 +133,7 @@ impl Pieces {
         Ok(count)
     }
 
-    /// Drops the bytes that were taken, and reads until at least twice as many bytes wait as before or the text ends.
+    /// Drops the bytes that were taken, and reads until at least twice as many bytes wait as before, or the text ends.
     /// Returns whether any bytes came.
     pub fn more<R: Read>(&mut self, reader: &mut Source<R>) -> Result<bool, ReadFault>
         // It is still the same text. If no bytes came, all that is left of it waits.

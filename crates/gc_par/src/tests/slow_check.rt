@@ -62,7 +62,7 @@ fn shape(image: ImageRef) -> Option<u64> {
     None
 }
 
-// Returns the header that a word is. Headers of raw objects count in some images only.
+// Returns the header that a word encodes, if any. In some images headers of raw objects do not count.
 fn header_in(image: ImageRef, word: u64) -> Option<Header> {
     let header = Header::read(word)?;
     if header.is_raw() && !image.raws {

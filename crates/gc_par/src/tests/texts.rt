@@ -10,7 +10,7 @@ use std::io::{Read, Write};
 use std::test::Fail;
 use std::thread::Threads;
 
-/// The checkers of texts.
+/// A checker of texts.
 #[derive(Clone, Copy, Debug)]
 pub(super) enum TextCheck {
     Sequential,
