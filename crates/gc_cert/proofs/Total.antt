@@ -21,7 +21,7 @@ use Rattle.gc_cert.proofs.LineForms.{fixed_form, heading_form, word_form, count_
 use Rattle.gc_cert.proofs.Parts.{none_taken, ImageSection, made_image, image_sizes, image_words, image_count, up_to_count, image_roots, image_taken, image_delimits, CertificateSection, pairs_line, certificate_count, certificate_pairs, up_to_end, certificate_end, certificate_taken, certificate_delimits, TextSection, made_pair, text_heading, text_old, text_new, both_images, text_certificate, text_taken}
 use Rattle.gc_graph.proofs.Bounds.{all_push}
 
--- after some lines of the section, the text does not continue it
+-- the section has a wrong line, or the text is cut off in it
 Stops : Section → Place → Type 0
 Stops S p = ((n : ℕ) × IsWrongAt S p n) ⊎ IsCutIn S p
 

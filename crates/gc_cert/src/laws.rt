@@ -17,7 +17,7 @@ pub fn written_is_read()
     ensures { (f : CertifiedPair) → HasText f → IsReadAsPair f (spelling f) }
 {}
 
-/// The worked rows hold of the definitions, by computation.
+/// The worked examples hold of the definitions, by computation.
 pub fn worked_rows()
     ensures { Rows }
 {}

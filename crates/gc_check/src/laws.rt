@@ -16,7 +16,7 @@ pub fn certified_is_replicated()
     gc_words::certified_graphs_correspond();
 }
 
-/// The worked rows hold of the definitions, by computation.
+/// The worked examples hold of the definitions, by computation.
 pub fn worked_rows()
     ensures { Rows }
 {}

@@ -16,7 +16,7 @@ ghost use Rattle.gc_words.specs.Rows.{WordRows, PairRows};
 ghost use Rattle.gc_words.specs.declared.header.Header.{Header};
 ghost use Rattle.gc_words.specs.declared.refusal.Refusal.{Refusal};
 
-/// The definitions give the worked examples.
+/// The worked examples hold of the definitions, by computation.
 pub fn worked_rows()
     ensures words { WordRows }
     ensures pairs { PairRows }

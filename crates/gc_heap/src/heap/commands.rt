@@ -24,7 +24,7 @@ impl Heap {
         self.make_at(d.place(m), false, kind, len)
     }
 
-    /// Like `new_object`, but makes a raw object, whose fields are plain numbers, all 0.
+    /// Makes a raw object, as `new_object` makes others: its fields are plain numbers, all 0.
     pub fn new_raw(&mut self, m: u8, d: Slot, kind: u8, len: u16) -> Reply
         requires { m < self.old.mutators }
         ensures performs { Performs self.old m (Op.NewRaw d kind len) result self.new }
