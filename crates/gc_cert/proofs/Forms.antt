@@ -41,7 +41,7 @@ no_line l ls e = cc
 not_all_alone : {V : Type 0} (InRange : V → Type 0) (line_of : V → List ℕ) → ¬ Spelled InRange (alone line_of) []
 not_all_alone InRange line_of (v, p, e) = no_line (line_of v) [] e
 
--- the line is of no value
+-- the line is not the line of any value
 pub line_wrong : {V : Type 0} (InRange : V → Type 0) (line_of : V → List ℕ) (read : List ℕ → Option V) (p q : Place) (line : List ℕ) (n : ℕ) → IsForm InRange line_of read → IsNext line p q → read line ≡ None → n ≡ q.taken → IsWrongAt (Spelled InRange (alone line_of)) p n
 line_wrong InRange line_of read p q line n form next none numbered = record {
   before = [];

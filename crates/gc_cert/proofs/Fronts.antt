@@ -62,7 +62,7 @@ pair_is_first text more rest n m begins then = begins.parts ∙ ap (λ (t : List
 
 -- ---- faults of a line
 
--- a line of no value is not read
+-- a line that is not the line of any value is not read
 unread : {V : Type 0} (InRange : V → Type 0) (line_of : V → List ℕ) (read : List ℕ → Option V) (line rest : List ℕ) → IsForm InRange line_of read → NoneIsFirst InRange line_of (line ++ newline ∷ rest) → (found : Option V) → read line ≡ found → found ≡ None
 unread InRange line_of read line rest form none None e = refl
 unread InRange line_of read line rest form none (Some v) e =

@@ -27,7 +27,7 @@ first_lines before (f, rest, fits, is) = All-front before rest (subst AreLines i
 fewer : (before more : List (List ℕ)) (l : List ℕ) → AreFirst (before ++ l ∷ more) → AreFirst (before ++ l ∷ [])
 fewer before more l (f, rest, fits, is) = (f, more ++ rest, fits, is ∙ ap (λ (ls : List (List ℕ)). ls ++ rest) (sym (append_assoc before (l ∷ []) more)) ∙ append_assoc (before ++ l ∷ []) more rest)
 
--- after equal lines, one goes on where the other stops
+-- after equal lines, one continues and the other stops
 same_stop : (done xs ys : List (List ℕ)) (a b : List ℕ) → AreLines xs → AreLines ys → AreFirst (done ++ xs) → AreFirst (done ++ ys) → Stops (done ++ xs) a → Stops (done ++ ys) b → text_of xs ++ a ≡ text_of ys ++ b → (xs ≡ ys) × (a ≡ b)
 same_stop done [] [] a b p q first first' stop stop' e = (refl, e)
 same_stop done [] (y ∷ ys) a b p q first first' stop stop' e =
@@ -106,7 +106,7 @@ no_fault f (BadLine n) text p q = good_bad f text n p.0 q.1
 no_fault f EndsEarly text p q = good_cut f text p.0 q.1
 no_fault f NoMemory text p q = q
 
--- a bad line is where the good lines stop
+-- a bad line follows the last good line
 record BadStop (text : List ℕ) (n : ℕ) : Type 0 where
   before : List (List ℕ)
   rest : List ℕ

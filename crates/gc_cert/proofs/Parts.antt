@@ -112,7 +112,7 @@ image_taken raws name s words roots n a b fits ws le rs taken = (
 pub image_delimits : (raws : Bool) (name : List ℕ) → Delimits (IsImageBy raws) (image_alone name)
 image_delimits raws name v w x y p q e = image_same name v w x y p.fits q.fits (p.raws_are ∙ sym q.raws_are) (sym (image_more name v [] x) ∙ e ∙ image_more name w [] y)
 
--- ---- the pairs, and the line behind them
+-- ---- the pairs and the line `end`
 
 abbrev pub CertificateSection : Section
 CertificateSection = Spelled IsCertificate certificate_lines

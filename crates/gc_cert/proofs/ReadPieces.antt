@@ -128,7 +128,7 @@ unread_text text (BadLine n) left w = absurd w
 unread_text text EndsEarly left w = absurd w
 unread_text text NoMemory left w = (tt, λ e. cc)
 
--- a text that goes on behind the last line
+-- a text that continues after the last line
 pub text_goes_on : (f : CertifiedPair) (text : List ℕ) (after : Place) (fault : PairFault) (left : Option (List ℕ)) → HasText f × HasTaken (lines_of f) (start text) after → GoesOn fault text after left → MayFailHaving fault text left
 text_goes_on f text after Read left taken w = (tt, λ e. cc)
 text_goes_on f text after TooLarge left taken w = (w.0, λ e. w.1)

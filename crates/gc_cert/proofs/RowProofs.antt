@@ -26,7 +26,7 @@ with_raws_fits = record { old = one; new = one; raws = refl; pairs = (omega arit
     one : HasImageText least_with_raws.old
     one = record { sizes = (omega arith, omega arith, omega arith, omega arith); count = refl; words = (omega arith, tt); roots = omega arith; root_words = (omega arith, tt) }
 
--- the lines of the least text but its last
+-- all lines of the least text except the last
 abbrev but_end : List (List ℕ)
 but_end = codes "heappair 1" ∷ codes "old 1 1" ∷ codes "0" ∷ codes "roots 1" ∷ codes "0" ∷ codes "new 1 1" ∷ codes "0" ∷ codes "roots 1" ∷ codes "0" ∷ codes "pairs 0" ∷ []
 

@@ -1,4 +1,4 @@
--- Lines of pair texts: none has a line feed inside, and none of two texts begins the other.
+-- Lines of pair texts: none contains a line feed, and of two texts neither is a prefix of the other.
 use Rattle.std.proofs.Common.{◌≡◌, ℕ, ◌≤◌, Bool, true, false, List, [], ◌∷◌, ◌++◌, length, map, refl, sym, ap, ◌∙◌, arith, append_assoc, get_or, eqb}
 use Rattle.std.specs.Prelude.{codes}
 use Rattle.std.specs.Fmt.{decimal}

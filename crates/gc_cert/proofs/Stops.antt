@@ -22,7 +22,7 @@ pub record BeginsWith {V : Type 0} (InRange : V → Type 0) (lines_of : V → Li
 abbrev Lines : Type 0
 Lines = List (List ℕ)
 
--- of two prefixes of a list, one is a prefix of the other
+-- if two lists are prefixes of a list, one is a prefix of the other
 fronts : (xs ys a b : Lines) → xs ++ a ≡ ys ++ b → ((k : Lines) × (ys ≡ xs ++ k) × (a ≡ k ++ b)) ⊎ ((k : Lines) × (xs ≡ ys ++ k) × (b ≡ k ++ a))
 fronts [] ys a b e = inl (ys, refl, e)
 fronts (x ∷ xs) [] a b e = inr (x ∷ xs, refl, sym e)

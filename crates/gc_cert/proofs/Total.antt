@@ -21,7 +21,7 @@ use Rattle.gc_cert.proofs.LineForms.{fixed_form, heading_form, word_form, count_
 use Rattle.gc_cert.proofs.Parts.{none_taken, ImageSection, made_image, image_sizes, image_words, image_count, up_to_count, image_roots, image_taken, image_delimits, CertificateSection, pairs_line, certificate_count, certificate_pairs, up_to_end, certificate_end, certificate_taken, certificate_delimits, TextSection, made_pair, text_heading, text_old, text_new, both_images, text_certificate, text_taken}
 use Rattle.gc_graph.proofs.Bounds.{all_push}
 
--- the text goes no further than some line of the section
+-- the section has a wrong line, or the text is cut off in it
 Stops : Section → Place → Type 0
 Stops S p = ((n : ℕ) × IsWrongAt S p n) ⊎ IsCutIn S p
 
@@ -148,7 +148,7 @@ pub whole_text : (f : CertifiedPair) (text : List ℕ) (after : Place) → HasTe
 unfolding spelling
 whole_text f text after fits taken none = record { fits = fits; spelled = taken.parts ∙ ap (λ (t : List ℕ). text_of (lines_of f) ++ t) none ∙ append-nil (text_of (lines_of f)) }
 
--- a byte stands behind a text
+-- a byte follows a text
 pub byte_behind : (f : CertifiedPair) (text : List ℕ) (after : Place) (byte : ℕ) (bytes : List ℕ) → HasText f → HasTaken (lines_of f) (start text) after → after.rest ≡ byte ∷ bytes → HasByteBehind text (after.taken + 1)
 byte_behind f text after byte bytes fits taken some = record {
   before = lines_of f;

@@ -1,4 +1,4 @@
--- Every list of 64-bit words is one of a text.
+-- Every list of 64-bit words has a text.
 use Rattle.std.proofs.Common.{ℕ, suc, zero, ◌<◌, ◌^◌, List, [], ◌∷◌, get_or}
 use Rattle.std.specs.List.{AllByRecursion}
 use Rattle.gc_cert.specs.Grammar.{IsWord}

@@ -1,10 +1,10 @@
--- Pairs of images that have a text whatever their numbers are.
+-- Pairs of images that have a text, whatever numbers are in them.
 use Rattle.std.specs.Prelude.{◌≡◌, ◌≤◌, length}
 use Rattle.gc_graph.specs.Limits.{most_roots, most_pairs}
 use Rattle.gc_words.specs.Image.{IsShaped}
 use Rattle.gc_cert.specs.Grammar.{CertifiedPair}
 
--- both images are those of spaces, raw headers count in both or in neither, and there are few enough roots and pairs
+-- both images are shaped, raw headers count in both or in neither, and there are few enough roots and pairs
 pub record HasCounts (f : CertifiedPair) : Type 0 where
   pub old : IsShaped f.old
   pub new : IsShaped f.new

@@ -36,7 +36,7 @@ pub record HasByteBehind (text : List ℕ) (n : ℕ) : Type 0 where
   pub number : n ≡ 1 + length before
   pub whole : AreWhole before
 
--- the lines that have their line feed are the first of some text and not all of one
+-- the lines that have their line feed are the first lines of some text, but not all lines of one
 pub record IsCutOff (text : List ℕ) : Type 0 where
   pub before : List (List ℕ)
   pub unfinished : List ℕ

@@ -50,7 +50,7 @@ IsWord w = w < 2 ^ 64
 abbrev pub AreAddresses : ℕ × ℕ → Type 0
 AreAddresses p = (p.0 < 2 ^ 32) × (p.1 < 2 ^ 32)
 
--- Size and end are each in their range; an end above the size is for the checker to refuse.
+-- Size and end are each in range. An image whose end is above its size has a text; the checker refuses it.
 abbrev pub AreSizes : ℕ × ℕ → Type 0
 AreSizes s = (1 ≤ s.0) × (s.0 ≤ most_words) × (1 ≤ s.1) × (s.1 ≤ most_words)
 

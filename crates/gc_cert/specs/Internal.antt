@@ -1,4 +1,4 @@
--- Definitions that only private contracts and proofs need. They are no part of a promise.
+-- Definitions that only private contracts and proofs need. They promise nothing to callers.
 pub mod Faults
 pub mod Grammar
 pub mod Parsers

@@ -21,6 +21,6 @@ pub record HasTaken (lines : List (List ℕ)) (old new : Place) : Type 0 where
   pub parts : old.rest ≡ text_of lines ++ new.rest
   pub number : new.taken ≡ old.taken + length lines
 
--- the first line of the text is that of none of these values
+-- the first line of the text is not the line of any of these values
 abbrev pub NoneIsFirst : {V : Type 0} → (V → Type 0) → (V → List ℕ) → List ℕ → Type 0
 NoneIsFirst {V = V} InRange line_of text = (v : V) (rest : List ℕ) → InRange v → text ≢ line_of v ++ newline ∷ rest

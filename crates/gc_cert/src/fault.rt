@@ -1,7 +1,8 @@
 use gc_graph::text::{Message, ReadFault};
 use thiserror::Error;
 
-/// Why a pair text is not read. A fault of the text is the first from the top. Lines are counted from 1.
+/// The reason why a pair text could not be read. If the text is not too large, its fault is the first from the top. Lines are
+/// counted from 1.
 #[derive(Clone, Copy, Debug, PartialEq, Eq, Error)]
 #[error("{}", self.message())]
 pub enum PairFault {
@@ -9,7 +10,7 @@ pub enum PairFault {
     Read,
     /// The text has more than 67108864 bytes.
     TooLarge,
-    /// This line, which has its line feed, is not what its place asks for, or is behind the line `end`.
+    /// This line has a line feed and cannot follow the lines before it, or bytes follow the line `end`.
     BadLine(u64),
     /// All lines so far are right, and the text ends before the line feed of the line `end`.
     EndsEarly,
@@ -49,7 +50,7 @@ impl From<ReadFault> for PairFault {
     }
 }
 
-/// Why a pair text is not written.
+/// The reason why a pair text could not be written.
 #[derive(Clone, Copy, Debug, PartialEq, Eq, Error)]
 pub enum WriteFault {
     /// The writer failed.

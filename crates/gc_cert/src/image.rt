@@ -3,11 +3,11 @@ use gc_words::{ImageRef, Pair};
 /// An image that owns its words and roots. Its numbers may be anything.
 #[derive(Debug, Drop)]
 pub struct Image {
-    /// The number of words of the space.
+    /// The size of the space in words.
     pub size: u32,
-    /// The first place that no object takes.
+    /// The address of the first free word.
     pub end: u32,
-    /// The words 0 to `end - 1`, links among them.
+    /// The words 0 to `end - 1`, including links.
     pub words: Vec<u64>,
     pub roots: Vec<u64>,
     /// Whether headers of raw objects count. They do in a text of version 2.
@@ -33,7 +33,7 @@ impl Image {
     }
 }
 
-/// Two images, and the pairs of objects of the old one and their replicas in the new one.
+/// Two images, and the pairs of objects in the old one and replicas in the new one.
 #[derive(Debug, Drop)]
 pub struct PairFile {
     pub old: Image,

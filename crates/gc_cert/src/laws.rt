@@ -12,12 +12,12 @@ pub fn texts_have_one_reading()
     ensures fault { (p q : PairFault) (text : List ℕ) → IsPairFaultOf p text → IsPairFaultOf q text → p ≡ q }
 {}
 
-/// What is written of a pair is within the limit, and is read back as that pair.
+/// The text of a pair is within the limit and is read back as that pair.
 pub fn written_is_read()
     ensures { (f : CertifiedPair) → HasText f → IsReadAsPair f (spelling f) }
 {}
 
-/// The worked rows hold of the definitions, by computation.
+/// The worked examples hold of the definitions, by computation.
 pub fn worked_rows()
     ensures { Rows }
 {}

@@ -98,7 +98,7 @@ fn take_pair(lines: &mut Lines<'_>) -> Result<Pair, PairFault>
 pub trait LineKind {
     type Value;
 
-    // What a caller must know of the kind.
+    // What a caller must establish about the kind.
     ghost is_sound: { Self → Type 0 } = { λ _. ⊤ };
 
     // The values that have a line.
@@ -118,7 +118,7 @@ pub trait LineKind {
             (λ fault. MayStop (section self.now) fault lines.old) };
 }
 
-/// Exactly this line.
+/// The kind of exactly this line.
 #[derive(Drop)]
 pub struct Exactly<'a> {
     pub wanted: &'a [u8],

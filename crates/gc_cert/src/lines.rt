@@ -30,7 +30,7 @@ impl<'a> Lines<'a> {
     ghost use Rattle.gc_cert.specs.Sections.{IsNext, HasTaken, NoneIsFirst};
     ghost use Rattle.gc_cert.specs.Internal.Sections.{IsLineFault};
 
-    /// Returns the lines of the rest of a text, of which `taken` lines were taken before.
+    /// Returns the lines of the rest of a text, after `taken` lines were taken.
     #[inline(always)]
     pub fn behind(text: &'a [u8], taken: u64) -> Self
         requires { taken + length text.now < 2 ^ 64 }
@@ -82,7 +82,7 @@ impl<'a> Lines<'a> {
         Some(pair)
     }
 
-    /// Takes the next line, which may not stand there, and returns what is wrong with it.
+    /// Takes the next line, which is not allowed there, and returns its fault.
     pub fn fault(&mut self) -> PairFault
         ensures { IsLineFault result self.old }
     {

@@ -6,7 +6,7 @@ use gc_graph::text::Pieces;
 use std::alloc::Global;
 use std::io::Read;
 
-/// The most bytes of a pair text.
+/// The maximum number of bytes of a pair text.
 const LIMIT: usize = 67108864;
 
 /// A pair text that is read piece by piece. It holds the bytes of a few lines, or the rest of the text once a line is bad.
@@ -25,7 +25,7 @@ impl PairReader {
     ghost use Rattle.gc_cert.specs.Sections.{Place, start};
     ghost use Rattle.gc_cert.specs.Internal.Reading.{IsReading, IsAt, CannotRead, GoesOn, Takes, unread};
 
-    /// Returns a text of which nothing was read.
+    /// Returns a pair text of which nothing is read yet.
     pub fn new(alloc: Global) -> Self
         ensures { result ≡ unread }
     {
@@ -35,7 +35,7 @@ impl PairReader {
         }
     }
 
-    /// Reads more of the text. Returns false once its end was met.
+    /// Reads more of the text. Returns false once its end is reached.
     fn more<R: Read>(&mut self, reader: &mut Source<R>) -> Result<bool, PairFault>
         requires { IsReading self.old }
         ensures place { (text : List ℕ) (p : Place) → IsAt text p self.old (bytes_left R.remaining reader.old) → MatchResult result
@@ -54,7 +54,7 @@ impl PairReader {
         }
     }
 
-    /// Takes the next line, which has to be of this kind. Returns its value.
+    /// Takes the next line, which must be of this kind, and returns its value.
     #[inline(always)]
     pub fn take<K: LineKind, R: Read>(
         &mut self,

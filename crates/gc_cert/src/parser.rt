@@ -8,7 +8,7 @@ ghost use Rattle.gc_cert.specs.Internal.Parsers.{count_of, raws_in, sizes_of};
 use gc_graph::text::{Front, Tokens};
 use gc_words::{MOST_WORDS, NewAddr, OldAddr, Pair};
 
-/// Returns the first line of a text, by whether raw headers count in its images.
+/// Returns the first line of a text. `raws` says whether raw headers count in its images.
 pub fn heading(raws: bool) -> &'static [u8]
     ensures line { result.now ≡ heading raws }
     ensures short { length result.now ≤ 16 }
@@ -16,7 +16,7 @@ pub fn heading(raws: bool) -> &'static [u8]
     if raws { b"heappair 2" } else { b"heappair 1" }
 }
 
-/// Returns whether raw headers count, by the first line of a text.
+/// Returns whether raw headers count, as the first line of a text says, or `None` for any other line.
 #[tactic(auto, unfolding(crate::specs::Internal::Parsers::raws_in))]
 pub fn raws(line: &[u8]) -> Option<bool>
     ensures { result ≡ raws_in line.now }
@@ -30,7 +30,7 @@ pub fn raws(line: &[u8]) -> Option<bool>
     }
 }
 
-/// Reads the number behind this name.
+/// Reads the number after this name.
 #[tactic(auto, unfolding(crate::specs::Internal::Parsers::count_of, gc_graph::specs::Tokens::if_all_taken))]
 pub fn count(line: &[u8], name: &[u8], most: u64) -> Option<u64>
     ensures { result ≡ count_of name.now most (tokens_of line.now) }
@@ -41,7 +41,7 @@ pub fn count(line: &[u8], name: &[u8], most: u64) -> Option<u64>
     if tokens.is_empty() { Some(count) } else { None }
 }
 
-/// Reads the size and the end behind this name.
+/// Reads the size and the end after this name.
 #[tactic(auto, unfolding(crate::specs::Internal::Parsers::sizes_of, gc_graph::specs::Tokens::if_all_taken))]
 pub fn sizes(line: &[u8], name: &[u8]) -> Option<(u32, u32)>
     ensures { result ≡ sizes_of name.now (tokens_of line.now) }
@@ -56,7 +56,7 @@ pub fn sizes(line: &[u8], name: &[u8]) -> Option<(u32, u32)>
     Some((size, end))
 }
 
-/// Returns the word that the first line is, and what follows the line. None if the first line is no word.
+/// Reads the word in the first line. Returns it and the text after that line, or `None` if the line is not a word.
 #[inline(always)]
 pub fn front_word(text: &[u8]) -> Option<(u64, &[u8])>
     ensures { MatchOption result (NoneIsFirst IsWord decimal text.now)
@@ -68,7 +68,7 @@ pub fn front_word(text: &[u8]) -> Option<(u64, &[u8])>
     Some((word, front.rest()))
 }
 
-/// Returns the pair that the first line is, and what follows the line. None if the first line is no pair of addresses.
+/// Reads the pair of addresses in the first line. Returns it and the text after that line, or `None` if the line is not a pair.
 #[inline(always)]
 pub fn front_pair(text: &[u8]) -> Option<(Pair, &[u8])>
     ensures { MatchOption result (NoneIsFirst AreAddresses pair_line text.now)

@@ -69,7 +69,7 @@ fn take_pairs<R: Read>(
     Ok(pairs)
 }
 
-/// Takes an image of this name. `raws` says whether raw headers count, by the first line.
+/// Takes the image with this name. `raws` says whether raw headers count.
 fn take_image<R: Read>(
     alloc: Global,
     lines: &mut PairReader,
@@ -103,7 +103,7 @@ fn take_image<R: Read>(
     })
 }
 
-/// Takes the pairs, and the line behind them.
+/// Takes the pairs and the line `end`.
 fn take_certificate<R: Read>(
     alloc: Global,
     lines: &mut PairReader,
@@ -127,7 +127,7 @@ fn take_certificate<R: Read>(
     Ok(pairs)
 }
 
-/// Takes all of a text, of which no line was taken yet.
+/// Takes a whole text, from its first line.
 fn take_pair_file<R: Read>(
     alloc: Global,
     lines: &mut PairReader,
@@ -149,8 +149,8 @@ fn take_pair_file<R: Read>(
     Ok(PairFile { old, new, pairs })
 }
 
-/// Reads a pair text to its end. Returns the two images and the pairs, or the first fault. Of a text of more than
-/// 67108864 bytes, one byte more than these is read.
+/// Reads a pair text to its end. Returns the two images and the pairs, or the first fault. If the text has more than
+/// 67108864 bytes, reads one byte more than these and returns `TooLarge`.
 pub fn read_pair<R: Read>(alloc: Global, reader: &mut Source<R>) -> Result<PairFile, PairFault>
     ensures exact { IfSome (bytes_left R.remaining reader.old) (λ text.
         MatchResult result (λ file. IsReadAsPair (pair_in file) text) (λ fault. MayFail fault text)) }

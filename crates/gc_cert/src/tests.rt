@@ -6,10 +6,10 @@ use std::io;
 use std::io::{Read, Write};
 use std::test::Fail;
 
-/// Two images of no objects.
+/// Two images without objects.
 const LEAST: &[u8] = b"heappair 1\nold 1 1\n0\nroots 1\n0\nnew 1 1\n0\nroots 1\n0\npairs 0\nend\n";
 
-/// A raw object whose field word is no value.
+/// A raw object whose field word is not a value.
 const RAW: &[u8] =
     b"heappair 2\nold 9 4\n0\n50331649\n0\n18446744073709551614\nroots 1\n2\nnew 9 4\n0\n50331649\n0\n18446744073709551614\nroots 1\n2\npairs 1\n1 1\nend\n";
 
@@ -17,7 +17,7 @@ const RAW: &[u8] =
 const ONE_KEPT: &[u8] =
     b"heappair 1\nold 9 9\n0\n16842754\n0\n0\n0\n16842754\n1\n0\n0\nroots 32\n0\n0\n0\n0\n0\n0\n0\n0\n0\n0\n0\n0\n0\n0\n0\n0\n10\n0\n0\n0\n0\n0\n0\n0\n0\n0\n0\n0\n0\n0\n0\n0\nnew 9 5\n0\n16842754\n5\n0\n0\nroots 32\n0\n0\n0\n0\n0\n0\n0\n0\n0\n0\n0\n0\n0\n0\n0\n0\n2\n0\n0\n0\n0\n0\n0\n0\n0\n0\n0\n0\n0\n0\n0\n0\npairs 1\n5 1\nend\n";
 
-/// Gives its bytes a few at a time, and then ends or fails.
+/// A reader that gives its bytes a few at a time, and then ends or fails.
 #[derive(Drop)]
 struct Slow<'a> {
     bytes: &'a [u8],
@@ -38,7 +38,7 @@ impl Read for Slow<'_> {
     }
 }
 
-/// Gives this many bytes `x`, and then ends.
+/// A reader that gives this many bytes `x`, and then ends.
 #[derive(Drop)]
 struct Same {
     left: usize,
@@ -53,7 +53,7 @@ impl Read for Same {
     }
 }
 
-/// Takes as many bytes as it has room for, and then fails.
+/// A writer that takes as many bytes as it has room for, and then fails.
 #[derive(Drop)]
 struct Narrow {
     taken: Vec<u8>,

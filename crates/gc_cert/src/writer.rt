@@ -36,7 +36,7 @@ fn print_line<W: Write>(
     Ok(())
 }
 
-/// Prints the first line, by whether raw headers count.
+/// Prints the first line, which says whether raw headers count.
 fn print_heading<W: Write>(
     printer: &mut Printer,
     writer: &mut Sink<W>,
@@ -189,7 +189,7 @@ fn print_image<W: Write>(
     Ok(())
 }
 
-/// Prints the lines of the pairs, and the line behind them.
+/// Prints the lines of the pairs and the line `end`.
 fn print_certificate<W: Write>(
     printer: &mut Printer,
     writer: &mut Sink<W>,
@@ -228,7 +228,7 @@ fn print_text<W: Write>(
     Ok(())
 }
 
-/// Writes the text of two images and pairs. If the writer fails, a prefix of it went out. Does not allocate.
+/// Writes the text of two images and pairs. If the writer fails, a prefix of the text went out. Does not allocate.
 pub fn write_pair<W: Write>(
     writer: &mut Sink<W>,
     old: ImageRef<'_>,

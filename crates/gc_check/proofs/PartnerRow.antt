@@ -1,4 +1,4 @@
--- Pairs entered into the row of partners, one after the other.
+-- Pairs are entered into the table of partners, one after the other.
 use Rattle.std.proofs.Common.{◌≡◌, ℕ, suc, ◌+◌, ◌<◌, ◌≤◌, Bool, true, false, not, ◌&&◌, ◌||◌, ◌==◌, List, [], ◌∷◌, ◌++◌, length, take, drop, get_or, set, Option, Some, None, refl, sym, ◌∙◌, ap, subst, inl, inr, arith, length-set, get_or-set_same, get_or-set_other}
 use Rattle.std.specs.Prelude.{slice_index, nat_le, IsOk}
 use Rattle.std.specs.List.{list_any}
@@ -17,7 +17,7 @@ use Rattle.gc_check.specs.Verdict.{pairs_of}
 use Rattle.gc_check.proofs.StartMarks.{start_within}
 use Rattle.gc_words.proofs.Faults.{or_none, when_none}
 
--- ---- the row of partners
+-- ---- the table of partners
 
 or_false : (b : Bool) → (b || false) ≡ b
 or_false true = refl
@@ -77,7 +77,7 @@ ends_one before p n low = push before
     push (x ∷ []) = refl
     push (x ∷ y ∷ rest) = push (y ∷ rest)
 
--- ---- the fault that the tables find in a pair's place is the right one
+-- ---- the fault that the tables find in a pair's addresses is the right one
 
 settled : (o : Option Refusal) (r s : Refusal) (b c : Bool) (w : Option Refusal) → (o or_else Some r or_else when b s or_else w) ≡ (o or_else Some r or_else when c s or_else w)
 settled None r s b c w = refl
@@ -101,7 +101,7 @@ entry_is old new row before last k p held ends low =
     twice : Option Refusal
     twice = when (list_any (λ q. q.0 == p.0) before) (Twice k)
 
--- a pair that is in its place
+-- a pair whose addresses have no fault
 pub record Placed (old new : Image) (row : List ℕ) (p : ℕ × ℕ) : Type 0 where
   pub old_start : is_start old.words p.0 ≡ true
   pub new_start : is_start new.words p.1 ≡ true
@@ -120,11 +120,11 @@ no_entry_fault old new row last k p e =
 
 -- ---- all pairs
 
--- the first fault of the places from pair k on
+-- the first fault of addresses from pair k on
 abbrev places_from : Image → Image → List Pair → ℕ → Option Refusal
 places_from old new cert k = first_over_pairs (λ k. place_fault old new (take k (pairs_of cert)) k) k (pairs_of (drop k cert))
 
--- where the first k pairs of a certificate have been entered
+-- the first k pairs of a certificate have been entered
 pub record Entered (old new : Image) (cert : List Pair) (row : List ℕ) (last k : ℕ) : Type 0 where
   pub len : length row ≡ length old.words
   pub held : HoldsPartners row (pairs_of (take k cert))
@@ -164,7 +164,7 @@ entered_one old new cert row last k d inside low within s e =
           ∙ ap (λ o. o or_else places_from old new cert (k + 1)) (sym (entry_is old new row before last k p s.held s.ends low) ∙ e);
     }
 
--- the pair's old address is a place of the row
+-- the pair's old address is a place in the table
 pub entered_within : (old new : Image) (cert : List Pair) (row : List ℕ) (last k : ℕ) (p : ℕ × ℕ) → IsOk (walk_words old.words) → Entered old new cert row last k → entry_fault old new row last k p ≡ None → p.0 < length row
 entered_within old new cert row last k p ok s e =
     let placed : Placed old new row p = no_entry_fault old new row last k p e in

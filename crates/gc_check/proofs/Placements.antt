@@ -1,4 +1,4 @@
--- What follows if the images and the places of the pairs have no fault.
+-- What follows if the images and the addresses of the pairs have no fault.
 use Rattle.std.proofs.Common.{◌≡◌, ℕ, zero, suc, ◌<◌, true, false, cond, ap, not, ◌==◌, List, [], ◌∷◌, length, get_or, take, Option, Some, None, refl, subst, arith, sym, ◌∙◌}
 use Rattle.std.specs.Prelude.{IsOk}
 use Rattle.std.specs.List.{list_any}
@@ -27,7 +27,7 @@ pub record Fits (old new : Image) : Type 0 where
 pub walks : (image : Image) → IsShaped image → IsOk (walk_words image.words)
 walks image shape = subst IsOk (same_walk image.raws image.words shape.walked) shape.walked
 
--- the faults of the images alone: their shapes, and the number of their roots
+-- the faults of only the images: their shapes and the number of their roots
 abbrev image_fault : Image → Image → Option Refusal
 image_fault old new =
     at_place (shape_fault old) (λ at. OldShape at)

@@ -1,4 +1,4 @@
--- The marks of a space's starts, set one after the other as a walk meets them.
+-- A walk marks the starts of a space one after the other.
 use Rattle.std.proofs.Common.{◌≡◌, ℕ, zero, suc, ◌-◌, ◌+◌, ◌<◌, ◌≤◌, Bool, true, false, cond, ◌==◌, List, [], length, take, drop, get_or, set, replicate, Option, Some, None, Result, Ok, Err, is_some, is_ok, refl, sym, ◌∙◌, ap, subst, inl, inr, arith, length-set, get_or-set_same, get_or-set_other}
 use Rattle.std.specs.Prelude.{slice_index, IsOk}
 use Rattle.std.proofs.lemmas.Bool.{eq-eqb, ne_eqb, cases_eq}
@@ -13,7 +13,7 @@ use Rattle.gc_words.proofs.Starts.{stands_in}
 use Rattle.gc_words.proofs.Walks.{header_counted, same_walk}
 use Rattle.gc_check.specs.Internal.Tables.{MarksStarts}
 
--- if the walk comes to its end, what is marked, or still to be met from a place on, are the starts
+-- if the walk reaches the end, the starts are the marked places and those still to come from `at` on
 pub record MarksTo (words : List ℕ) (marks : List Bool) (at : ℕ) : Type 0 where
   pub len : length marks ≡ length words
   pub starts : IsOk (walk_from words at) → (place : ℕ) → cond (get_or marks place false) true (has_start_from words at place) ≡ is_start words place
@@ -30,7 +30,7 @@ none_marked words marks e = record {
     unmarked (suc n) zero = refl
     unmarked (suc n) (suc place) = unmarked n place
 
--- an object is marked, and the walk goes on behind it
+-- an object is marked, and the walk continues after it
 pub marks_next : (raws : Bool) (words : List ℕ) (marks : List Bool) (at next : ℕ) → at < length words → next_in raws words at ≡ Some next → MarksTo words marks at → MarksTo words (set marks at true) next
 marks_next raws words marks at next inside e before = record { len = length-set marks at true ∙ before.len; starts = starts }
   where
@@ -75,7 +75,7 @@ marks_next raws words marks at next inside e before = record { len = length-set 
         either_way true = refl
         either_way false = refl
 
--- the walk has come to its end
+-- the walk has reached the end
 pub all_marked : (raws : Bool) (words : List ℕ) (marks : List Bool) (at : ℕ) → length words ≤ at → fault_of_walk (walk_all raws words) ≡ fault_of_walk (walk_on raws words at) → MarksTo words marks at
     → (fault_of_walk (walk_all raws words) ≡ None) × MarksStarts words marks
 all_marked raws words marks at past same m = (
@@ -104,7 +104,7 @@ all_marked raws words marks at past same m = (
     none_left place true = refl
     none_left place false = ap (λ r. is_some (block_in (ok_or_nil r) place)) done
 
--- ---- what a mark says
+-- ---- an object starts at each mark
 
 pub start_stands : (words : List ℕ) (place : ℕ) → IsOk (walk_words words) → is_start words place ≡ true → (b : Block) × (block_at words place ≡ Some b) × StandsIn words place b
 start_stands words place ok start = from (block_at words place) refl start

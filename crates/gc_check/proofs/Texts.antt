@@ -1,4 +1,4 @@
--- A fact of the pair that was read holds of each pair that the text spells.
+-- What is true of the pair that was read is true of every pair that the text spells.
 use Rattle.std.proofs.Common.{◌≡◌, ℕ, List, Option, Some, None, IfSome, subst}
 use Rattle.gc_graph.specs.Streams.{SendsFront}
 use Rattle.gc_cert.specs.Grammar.{CertifiedPair, IsTextOf}
@@ -7,7 +7,7 @@ use Rattle.gc_check.specs.Verdict.{verdict_line}
 use Rattle.gc_check.specs.Texts.{verdict_on, TellsFront}
 use Rattle.gc_check.specs.declared.verdict.Verdict.{Verdict}
 
--- a text spells one pair at most
+-- a text spells at most one pair
 abbrev pub HasOneReading : Type 0
 HasOneReading = (f g : CertifiedPair) (text : List ℕ) → IsTextOf f text → IsTextOf g text → f ≡ g
 

@@ -1,4 +1,4 @@
--- The texts of faults for which a pair text gets no verdict.
+-- The texts of the faults of `check_text`.
 use Rattle.std.specs.Prelude.{ℕ, List, codes}
 use Rattle.gc_cert.specs.FaultTexts.{pair_fault_text}
 use Rattle.gc_check.specs.declared.verdict.RunFault.{RunFault}

@@ -1,5 +1,5 @@
--- The soundness theorem, which we call the headline: what a certificate that holds promises to those who go on with the
--- new heap.
+-- The soundness theorem, which we call the headline: if a certificate holds, this is what mutators can rely on when they
+-- continue on the new heap.
 use Rattle.std.specs.Prelude.{◌≡◌, ℕ, List, length, take, IsTrue}
 use Rattle.gc_graph.specs.Graph.{at_path, Reachable, lookup}
 use Rattle.gc_graph.specs.Correspond.{paired, Agree, EqualFieldByField}
@@ -8,9 +8,9 @@ use Rattle.gc_graph.specs.declared.command.Op.{Op}
 use Rattle.gc_words.specs.Image.{Image, graph_of, roomy_of}
 
 pub record Replicated (old new : Image) (pairs : List (ℕ × ℕ)) : Type 0 where
-  -- each path finds nothing in both heaps, or finds values that correspond
+  -- every path finds nothing in both heaps, or finds values that correspond
   pub paths : (place : ℕ) (fields : List ℕ) → Agree pairs (at_path (graph_of old) place fields) (at_path (graph_of new) place fields)
-  -- each reachable object has exactly one replica
+  -- every reachable object has exactly one replica
   pub one_replica : (a : ℕ) → Reachable (graph_of old) a → (b : ℕ) × IsTrue (paired pairs a b) × ((c : ℕ) → IsTrue (paired pairs a c) → c ≡ b)
   -- no two reachable objects share a replica
   pub its_own : (a b c : ℕ) → Reachable (graph_of old) a → Reachable (graph_of old) b → IsTrue (paired pairs a c) → IsTrue (paired pairs b c) → a ≡ b

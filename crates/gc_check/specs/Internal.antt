@@ -1,3 +1,3 @@
--- Definitions that only private contracts and proofs need. They are no part of a promise.
+-- Definitions that only private contracts and proofs need. They promise nothing to callers.
 pub mod Starts
 pub mod Tables

@@ -7,7 +7,7 @@ use Rattle.gc_check.specs.Verdict.{verdict_of, verdict_line}
 abbrev image : ℕ → ℕ → List ℕ → List ℕ → Image
 image size end words roots = record { size = size; end = end; words = words; roots = roots; raws = false }
 
--- where headers of raw objects count
+-- an image in which headers of raw objects count
 abbrev with_raws : ℕ → ℕ → List ℕ → List ℕ → Image
 with_raws size end words roots = record { size = size; end = end; words = words; roots = roots; raws = true }
 
@@ -39,6 +39,6 @@ pub record Rows : Type 0 where
   pub raw_words_differ : answer (with_raws 9 4 (0 ∷ 50331649 ∷ 0 ∷ 18 ∷ []) (2 ∷ [])) (with_raws 9 4 (0 ∷ 50331649 ∷ 0 ∷ 8 ∷ []) (2 ∷ [])) ((1, 1) ∷ []) ≡ codes "refused 9 FieldDiffers 0 0\n"
   pub raw_word_no_value : answer (with_raws 9 4 (0 ∷ 50331649 ∷ 0 ∷ 18446744073709551614 ∷ []) (2 ∷ [])) (with_raws 9 4 (0 ∷ 50331649 ∷ 0 ∷ 18446744073709551614 ∷ []) (2 ∷ [])) ((1, 1) ∷ []) ≡ codes "yes 1\n"
   pub raw_and_not : answer (with_raws 8 3 (0 ∷ 16777216 ∷ 0 ∷ []) (2 ∷ [])) (with_raws 8 3 (0 ∷ 50331648 ∷ 0 ∷ []) (2 ∷ [])) ((1, 1) ∷ []) ≡ codes "refused 8 HeaderDiffers 0\n"
-  -- The headline fails of these, whoever checks them: two objects share a replica; equal objects lead to unequal ones.
+  -- The headline is false here, whatever a checker says: two objects share a replica; equal objects lead to unequal ones.
   pub shared_replica : ¬ Replicated (image 8 5 (0 ∷ 16777216 ∷ 0 ∷ 16777216 ∷ 0 ∷ []) (2 ∷ 6 ∷ [])) (image 8 3 (0 ∷ 16777216 ∷ 0 ∷ []) (2 ∷ 2 ∷ [])) ((1, 1) ∷ (3, 1) ∷ [])
   pub later_field : ¬ Replicated (image 8 7 (0 ∷ 16777217 ∷ 0 ∷ 8 ∷ 16777217 ∷ 0 ∷ 1 ∷ []) (2 ∷ [])) (image 8 7 (0 ∷ 16777217 ∷ 0 ∷ 8 ∷ 16777217 ∷ 0 ∷ 3 ∷ []) (2 ∷ [])) ((1, 1) ∷ (4, 4) ∷ [])

@@ -1,8 +1,8 @@
--- What the checker's tables say of two images and a certificate.
+-- The images and the certificate that the checker's tables belong to.
 use Rattle.std.specs.Prelude.{ℕ, List, slice_index_or}
 use Rattle.gc_words.specs.Image.{Image}
 
--- what is checked
+-- two images and a certificate, to be checked
 pub record Checked : Type 0 where
   pub old : Image
   pub new : Image

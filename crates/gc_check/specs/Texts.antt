@@ -12,12 +12,12 @@ use Rattle.gc_check.specs.declared.verdict.Verdict.TheVariants as verdict
 abbrev pub verdict_on : CertifiedPair → Verdict
 verdict_on pair = verdict_of pair.old pair.new pair.pairs
 
--- if the verdict is yes, this holds of the pair
+-- if the verdict is yes, `holds` is true of the pair
 abbrev pub OnYes : (CertifiedPair → Type 0) → Verdict → CertifiedPair → Type 0
 OnYes holds (verdict.Yes pairs) pair = holds pair
 OnYes holds (verdict.Refused refusal) pair = ⊤
 
--- what a verdict promises
+-- what a verdict promises: after a yes, the soundness theorem
 abbrev pub Promises : Verdict → CertifiedPair → Type 0
 Promises = OnYes (λ pair. Replicated pair.old pair.new pair.pairs)
 
@@ -27,7 +27,7 @@ pub record IsVerdictOn (text : List ℕ) (verdict : Verdict) : Type 0 where
   pub read : IsReadAsPair pair text
   pub verdict_is : verdict ≡ verdict_on pair
 
--- a prefix of this verdict's line went out; if the reader tells its text, the verdict is that on the text
+-- a prefix of this verdict's line went out; if the reader's text is known, it is the verdict on that text
 pub record TellsFront (text : Option (List ℕ)) (old new : Option (List ℕ)) : Type 0 where
   pub verdict : Verdict
   pub about : IfSome text (λ text. IsVerdictOn text verdict)

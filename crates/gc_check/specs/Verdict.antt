@@ -17,7 +17,7 @@ use Rattle.gc_check.specs.declared.verdict.Verdict.TheVariants as verdict
 abbrev pub pairs_of : List Pair → List (ℕ × ℕ)
 pairs_of cert = map addresses cert
 
--- a refusal is this one; `NoMemory` may replace it, or a yes
+-- the fault is this refusal, or `NoMemory`, which may replace any answer
 abbrev pub IsRefusalOf : Option Refusal → CheckFault → Type 0
 IsRefusalOf first (fault.Refused refusal) = first ≡ Some refusal
 IsRefusalOf first fault.NoMemory = ⊤
@@ -30,7 +30,7 @@ verdict_by pairs (Some refusal) = verdict.Refused refusal
 abbrev pub verdict_of : Image → Image → List (ℕ × ℕ) → Verdict
 verdict_of old new pairs = verdict_by (length pairs) (first_fault old new pairs)
 
--- its number, its name and its places
+-- a refusal's number, name and places
 unfoldable pub refusal_words : Refusal → List (List ℕ)
 refusal_words (OldShape at) = codes "1" ∷ codes "OldShape" ∷ decimal at ∷ []
 refusal_words (NewShape at) = codes "2" ∷ codes "NewShape" ∷ decimal at ∷ []
@@ -47,6 +47,6 @@ unfoldable pub verdict_words : Verdict → List (List ℕ)
 verdict_words (verdict.Yes pairs) = codes "yes" ∷ decimal pairs ∷ []
 verdict_words (verdict.Refused refusal) = codes "refused" ∷ refusal_words refusal
 
--- with its line feed
+-- the line of a verdict, with its line feed
 abbrev pub verdict_line : Verdict → List ℕ
 verdict_line verdict = line (verdict_words verdict)

@@ -22,7 +22,7 @@ pub fn check(alloc: Global, old: ImageRef, new: ImageRef, cert: &[Pair]) -> Resu
     ensures refused { IfErr result
         (IsRefusalOf (first_fault (image_of old.entry) (image_of new.entry) (pairs_of cert.now))) }
 
-    // The soundness theorem: what a yes promises of all that mutators do from here on.
+    // The soundness theorem: what a yes promises for everything that mutators do afterwards.
     ensures replicated { OnOk result
         (Replicated (image_of old.entry) (image_of new.entry) (pairs_of cert.now)) }
 {

@@ -15,11 +15,11 @@ use std::alloc::Global;
 /// A checker: decides whether a certificate holds of two heap images.
 ///
 /// Code that flips is generic over its checker, so that one body serves `check` and `check_par`. Its contract
-/// then shows that the checker was really asked: `says_yes` is unknown to generic code, and only a yes of
-/// `check` gives it.
+/// then shows that the checker was really asked: generic code knows nothing of `says_yes`, and only a yes of
+/// the method `check` establishes it.
 pub trait Checks {
-    // What a caller must know of a checker before asking it. An impl of a trait loses the `Sync` of its own
-    // parameters; this member carries it.
+    // What a caller must establish before it asks a checker. In an impl, the prover does not know that a parameter
+    // is `Sync`, even with that bound; this member carries it.
     ghost can_check: { Self → Type 0 } = { λ _. ⊤ };
 
     // Holds of a checker and a pair of images with a certificate to which it says yes.

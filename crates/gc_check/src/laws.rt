@@ -1,4 +1,4 @@
-//! Laws: what follows from the definitions. The calls that check use them.
+//! Laws: consequences of the definitions alone. `check` calls the first one for its proof.
 
 ghost use Rattle.std.specs.Prelude.{ℕ, List};
 ghost use Rattle.gc_words.specs.Image.{Image};
@@ -16,7 +16,7 @@ pub fn certified_is_replicated()
     gc_words::certified_graphs_correspond();
 }
 
-/// The worked rows hold of the definitions, by computation.
+/// The worked examples hold of the definitions, by computation.
 pub fn worked_rows()
     ensures { Rows }
 {}

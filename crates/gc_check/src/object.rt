@@ -1,4 +1,4 @@
-//! Objects as they stand among words, without their links.
+//! Reads headers and fields of objects from the words of a space. Links are ignored.
 
 ghost use Rattle.std.specs.Prelude.{◌≡◌, Some, IsOk, IsSome, IsTrue, length};
 ghost use Rattle.gc_words.specs.Word.{read_header};

@@ -12,8 +12,7 @@ use crate::verdict::CheckFault;
 use gc_words::{NewAddr, Pair, Refusal};
 use std::alloc::Global;
 
-/// Returns the partners by old address if all pairs are in their places, otherwise the first fault of a place.
-/// Allocates once.
+/// Returns the table of partners, by old address, or the first fault of a pair's addresses. Allocates once.
 pub(crate) fn partners_of(
     alloc: Global,
     old: &Starts,
@@ -36,7 +35,7 @@ pub(crate) fn partners_of(
     }
 }
 
-// Enters all pairs, or those before the first fault of a place.
+// Enters the pairs up to the first fault of a pair's addresses.
 fn enter_pairs(
     old: &Starts,
     new: &Starts,
@@ -51,7 +50,7 @@ fn enter_pairs(
         × HoldsPartners partners.new (pairs_of cert.now))
         (λ refusal. place_faults old.now new.now (pairs_of cert.now) ≡ Some refusal) }
 {
-    // No object starts at 0, so the first new address is above this one.
+    // No object starts at 0, so every new address is above it.
     let mut last = NewAddr(0);
     for (k, pair) in cert.iter().enumerate() {
         if let Some(refusal) = place_fault(old, new, partners, last, k as u64, *pair) {
@@ -63,7 +62,7 @@ fn enter_pairs(
     Ok(())
 }
 
-// Returns what is wrong with the place of pair `k`, after one whose new address is `last`.
+// Returns the fault of pair `k`'s addresses. `last` is the new address of the pair before, or 0.
 fn place_fault(
     old: &Starts,
     new: &Starts,

@@ -29,8 +29,8 @@ impl<'a> Starts<'a> {
     ghost use Rattle.gc_words.specs.Views.{image_of};
     ghost use Rattle.gc_check.specs.Internal.Starts.{IsStartsFault};
 
-    /// Returns the table of an image, from one walk over its words. Returns `NotShaped` with the first place at which the
-    /// image is not shaped. Allocates once, and not at all if its size, its end, the number of its words or word 0 is wrong.
+    /// Builds the table by one walk over the image's words. Returns `NotShaped` with the first place at which the image
+    /// is not shaped. Allocates once, or not at all if the size, the end, the number of words or word 0 is wrong.
     pub(crate) fn new(alloc: Global, image: ImageRef<'a>) -> Result<Starts<'a>, StartsFault>
         ensures { MatchResult result
             (λ starts. (shape_fault (image_of image.entry) ≡ None) × (starts ≡ image_of image.entry))
@@ -48,7 +48,7 @@ impl<'a> Starts<'a> {
         }
     }
 
-    /// Returns the number of places, which is that of the image's words.
+    /// Returns the number of places: one for each word of the image.
     pub(crate) fn places(&self) -> usize
         ensures { result ≡ length self.now.words }
     {
@@ -65,7 +65,7 @@ impl<'a> Starts<'a> {
     }
 }
 
-/// Why an image has no table of starts.
+/// The reason why an image has no table of starts.
 #[derive(Clone, Copy, Debug)]
 pub(crate) enum StartsFault {
     NotShaped(ShapeFault),
@@ -80,7 +80,7 @@ impl StartsFault {
     ghost use Rattle.gc_check.specs.Internal.Starts.{IsStartsFault};
     ghost use Rattle.gc_check.specs.Verdict.{IsRefusalOf};
 
-    /// Returns what a check says of it in the old image.
+    /// Returns this fault as one of a check, for the old image.
     pub(crate) fn of_old(self) -> CheckFault
         ensures { (fault : Option ℕ) → IsStartsFault fault self
             → IsRefusalOf (at_place fault (λ at. OldShape at)) result }
@@ -93,7 +93,7 @@ impl StartsFault {
         }
     }
 
-    /// Returns what a check says of it in the new image.
+    /// Returns this fault as one of a check, for the new image.
     pub(crate) fn of_new(self) -> CheckFault
         ensures { (fault : Option ℕ) → IsStartsFault fault self
             → IsRefusalOf (at_place fault (λ at. NewShape at)) result }
@@ -113,7 +113,7 @@ ghost use Rattle.gc_words.specs.Fault.{fault_of_walk, shape_fault};
 ghost use Rattle.gc_words.specs.Views.{image_of};
 ghost use Rattle.gc_check.specs.Internal.Tables.{MarksStarts};
 
-// Returns whether size, end, the number of words and word 0 are those of a shaped image.
+// Returns whether size, end, number of words and word 0 are right for a shaped image.
 fn is_framed(image: ImageRef) -> bool
     ensures { shape_fault (image_of image.entry)
         ≡ (if result then fault_of_walk (walk_all image.entry.raws image.entry.words.now) else Some 0) }
@@ -124,7 +124,7 @@ fn is_framed(image: ImageRef) -> bool
         && image.words[0] == 0
 }
 
-// Marks the places at which objects start, up to the first place where an object has to start and none does.
+// Marks the places at which objects start, up to the first place where an object should start and none does.
 fn mark_starts(words: &[u64], raws: bool, marks: &mut [bool]) -> Result<(), ShapeFault>
     requires unmarked { marks.old ≡ replicate (length words.now) false }
     ensures { MatchResult result

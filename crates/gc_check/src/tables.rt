@@ -6,7 +6,7 @@ use gc_words::{Addr, Header, ImageRef, Pair, Refusal, Value, decode};
 use std::alloc::Global;
 use std::marker::Model;
 
-/// Two images and a certificate whose places are right: each pair joins two starts, new addresses rise, and no old
+/// Two images and a certificate whose addresses are right: each pair joins two starts, new addresses rise, and no old
 /// address occurs twice. A lookup finds the partner of an old address in constant time. Contracts see the images and
 /// the pairs.
 #[derive(Drop)]
@@ -14,7 +14,7 @@ pub struct Tables<'a> {
     old: ImageRef<'a>,
     new: ImageRef<'a>,
     cert: &'a [Pair],
-    /// The new address that is paired with each old one, or 0.
+    /// At each old address: the new address that is paired with it, or 0.
     partners: Vec<u32>,
 }
 
@@ -48,8 +48,8 @@ impl<'a> Tables<'a> {
     ghost use Rattle.gc_check.specs.Tables.{pair_at};
     ghost use Rattle.gc_check.specs.Verdict.{pairs_of, IsRefusalOf};
 
-    /// Returns the tables of two images and a certificate, which they borrow. Allocates three times. Returns `Refused`
-    /// with the first fault of shapes, root counts and places, or `NoMemory`.
+    /// Builds the tables of two images and a certificate, which they borrow. Allocates three times. Returns `Refused`
+    /// with the first fault of shapes, root counts or addresses of pairs, or `NoMemory`.
     pub fn new(
         alloc: Global,
         old: ImageRef<'a>,
@@ -173,7 +173,7 @@ impl<'a> Tables<'a> {
 ghost use Rattle.std.specs.Prelude.{◌≡◌, ◌==◌, length};
 ghost use Rattle.gc_words.specs.Fault.{first_difference};
 
-// Returns the first place at which two words differ. A raw object may have any word.
+// Returns the first place at which two words differ. The words of a raw object can be any numbers.
 fn first_unequal(old: &[u64], new: &[u64]) -> Option<u64>
     requires { length old.now ≡ length new.now }
     ensures { result ≡ first_difference (λ v w. v == w) 0 old.now new.now }

@@ -1,5 +1,5 @@
-//! Tests of `check` on small pairs, and of `Tables`. gc_par, which sees all checks, has the tests that compare them
-//! with a slow one, and those of pair texts.
+//! Tests of `check` on small pairs, and of `Tables`. gc_par, which knows every checker, compares them with a slow one
+//! and tests pair texts.
 
 mod rows;
 
@@ -127,7 +127,7 @@ fn tables_of_what_passes_name_no_fault(rt: HostRuntime) -> Result<(), Fail> {
     let tables = Tables::new(alloc, least, least, &[])?;
     assert_eq!(rt; tables.root_fault(), None);
 
-    // The second object is garbage, and has no replica.
+    // The second object is garbage and has no replica.
     let words = [0, 16777216, 0, 16777216, 0];
     let old = image(8, 5, &words, &[2]);
     let new = image(8, 3, &words[..3], &[2]);

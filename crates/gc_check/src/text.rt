@@ -17,8 +17,8 @@ use gc_words::no_fault_where_certified;
 use std::alloc::Global;
 use std::io::{Read, Write};
 
-/// Reads a pair text, checks the pair, and writes the line of the verdict. Returns `Pair` with the first fault of a
-/// text that is no pair, `NoMemory` if an allocation fails, and `Write` if the writer does.
+/// Reads a pair text, checks the pair, and writes the line of the verdict. Returns `Pair` with the first fault if the
+/// text is not a pair text, `NoMemory` if an allocation fails, and `Write` if the writer fails.
 pub fn check_text<R: Read, W: Write>(
     alloc: Global,
     reader: &mut Source<R>,
@@ -49,8 +49,8 @@ pub fn check_text<R: Read, W: Write>(
 }
 
 /// Reads a pair text, checks the pair with the given checker, and writes the line of the verdict. The calling thread
-/// reads and writes. Returns `Pair` with the first fault of a text that is no pair, `NoMemory` if an allocation fails,
-/// and `Write` if the writer does.
+/// reads and writes. Returns `Pair` with the first fault if the text is not a pair text, `NoMemory` if an allocation
+/// fails, and `Write` if the writer fails.
 pub fn check_text_by<C: Checks, R: Read, W: Write>(
     checker: &C,
     alloc: Global,

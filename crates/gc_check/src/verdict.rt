@@ -10,7 +10,7 @@ pub struct Yes {
     pub pairs: u32,
 }
 
-/// Why there is no yes.
+/// The reason why a check does not say yes.
 #[derive(Clone, Copy, Debug, PartialEq, Eq, Error)]
 pub enum CheckFault {
     /// The first condition of a certificate that fails.
@@ -21,14 +21,14 @@ pub enum CheckFault {
     NoMemory,
 }
 
-/// What the checker answers if it has enough memory.
+/// The answer of a checker that has enough memory.
 #[derive(Clone, Copy, Debug, PartialEq, Eq)]
 pub enum Verdict {
     Yes { pairs: u32 },
     Refused(Refusal),
 }
 
-/// Why a text gets no verdict, or one that could not be written.
+/// The reason why `check_text` returns no verdict.
 #[derive(Clone, Copy, Debug, PartialEq, Eq, Error)]
 #[error("{}", self.message())]
 pub enum RunFault {

@@ -12,7 +12,7 @@ use Rattle.gc_copy.specs.declared.step.StepReply.TheVariants.{Clean, NoRoom, Cop
 use Rattle.gc_copy.proofs.Links.{found_by_place}
 use Rattle.gc_copy.proofs.Flips.{flips}
 
--- ---- a reply that means no change leaves the state as it is
+-- ---- after a reply that means no change, the state is the same
 
 abbrev Quiet : State → StepReply × State → Type 0
 Quiet s next = is_change next.0 ≡ false → next.1 ≡ s

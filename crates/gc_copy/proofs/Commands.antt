@@ -18,7 +18,7 @@ use Rattle.gc_graph.proofs.Lookups.{lookup_set_none}
 use Rattle.gc_copy.proofs.Lists.{in_left, in_right, in_push, in_set, in_replicate, get_in, get_past}
 use Rattle.gc_copy.proofs.Heap.{refers_map, laid_push, laid_set, lookup_in, lookup_left, lookup_written, pushed_last, set_from, named_set, written_entry, written_length, written_kind, written_raw, written_in, written_here, written_get}
 
--- an object before and after, where only these fields may differ
+-- an object before and after; only these fields may differ
 pub record Still (objects : List (ℕ × Object)) (Touched : ℕ → Type 0) (a : ℕ) (o : Object) : Type 0 where
   pub now : Object
   pub found : lookup objects a ≡ Some now
@@ -218,7 +218,7 @@ step_keeps size free g m (ops.Put s i t) name h r fits is =
 step_keeps size free g m (ops.Same s t) name h r fits is = at_free size free _ h
 step_keeps size free g m (ops.Look s) name h r fits is = at_free size free _ h
 
--- ---- objects stay but for the field that a command writes
+-- ---- objects stay the same except for the field that a command writes
 
 abbrev pub WrittenBy : Graph → ℕ → Op → Reply → ℕ → ℕ → Type 0
 WrittenBy g m op reply a j = In (a, j) (written g m op reply)

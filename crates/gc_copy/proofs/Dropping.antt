@@ -1,4 +1,4 @@
--- The loop that drops a collection: it clears the link of each original, which the replica's link names.
+-- The loop that drops a collection: it clears the link of each original, to which the replica's link leads.
 use Rattle.std.proofs.Common.{◌≡◌, ◌⊎◌, ⊎_elim, inl, inr, ℕ, ◌<◌, ◌≤◌, ◌==◌, true, List, [], ◌∷◌, length, Option, Some, None, is_some, refl, ap, sym, ◌∙◌, subst}
 use Rattle.std.specs.Prelude.{◌^◌}
 use Rattle.std.specs.Option.{option_map}
@@ -29,7 +29,7 @@ use Rattle.gc_copy.proofs.LinkedImages.{spelled_agree}
 
 -- ---- the loop's invariant
 
--- the object's replica is at this place of the new space or behind it
+-- the object's replica is at this place of the new space or after it
 abbrev pub IsAhead : List ℕ → ℕ → ℕ → Type 0
 IsAhead words at a = (e : ℕ × Block) × In e (ok_or_nil (walk_from words at)) × (link_at words e.0 ≡ a)
 
@@ -37,7 +37,7 @@ IsAhead words at a = (e : ℕ × Block) × In e (ok_or_nil (walk_from words at))
 abbrev pub HasOriginals : List ℕ → HeapWords → Type 0
 HasOriginals words heap = (r : Replica) → In r (replicas_in words) → (is_start heap.space.words r.original ≡ true) × (r.original < 2 ^ 32)
 
--- The heap differs from the old one in links alone. An object's link is 0, or its replica is still ahead.
+-- The heap differs from the old one only in links. An object's link is 0, or its replica is still ahead.
 pub record Clears (words : List ℕ) (old now : HeapWords) (at : ℕ) : Type 0 where
   pub done : List (ℕ × Block)
   pub met : Met words at done
@@ -85,7 +85,7 @@ clears_none heap x c seen sound is belongs = record {
         let entry = in_map_from (replica_entry x.space.words) r (blocks x.space.words) found.0 in
         inr (entry.0, subst (In entry.0) met.split entry.1, ap (λ (q : Replica). q.original) entry.2 ∙ found.1)
 
--- the original that the replica here names
+-- the original that the link of the replica here leads to
 pub original_here : (words : List ℕ) (old now : HeapWords) (at : ℕ) → Clears words old now at → at < length words → (is_start now.space.words (link_at words at) ≡ true) × (link_at words at < 2 ^ 32)
 original_here words old now at k less =
     let n = some_of (next_of words at) (has_next words at less (k.met).walked) in
@@ -132,7 +132,7 @@ clears_more words old now new at next k less e is sound =
     beside a other (inl zero) = inl (link_written_beside now.space (link_at words at) 0 a other ∙ zero)
     beside a other (inr ahead) = inr (behind_it a other ahead)
 
--- ---- behind the last replica
+-- ---- after the last replica
 
 all_zero : (words : List ℕ) (old now : HeapWords) (at : ℕ) → Clears words old now at → length words ≤ at → (a : ℕ) → is_start old.space.words a ≡ true → link_at now.space.words a ≡ 0
 all_zero words old now at k past a start = ⊎_elim (λ zero. zero) (λ ahead. absurd (subst (In ahead.0) (ap ok_or_nil (at_end words at past)) ahead.1)) (k.links a start)

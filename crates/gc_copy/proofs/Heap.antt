@@ -1,4 +1,4 @@
--- A heap whose objects stand back to back and whose references are their addresses.
+-- A heap whose objects lie back to back and whose references are their addresses.
 use Rattle.std.proofs.Common.{◌≡◌, ◌≢◌, ◌⊎◌, inl, inr, ⊎_elim, ℕ, ◌+◌, ◌≤◌, ◌==◌, true, false, cond, List, [], ◌∷◌, ◌++◌, length, Some, None, slice_get, refl, ap, sym, ◌∙◌, subst, arith, length-set}
 use Rattle.std.proofs.lemmas.Bool.{cases_Bool, cond-true, cond-false, eqb-true, eqb-false, eq-eqb, ne_eqb}
 use Rattle.gc_graph.specs.Graph.{Value, Nil, Num, Ref, Object, lookup, with_field, set_field}
@@ -169,7 +169,7 @@ lookup_written name i v (e ∷ rest) a o h = ⊎_elim there (beside (λ k. looku
         lookup_there e (set_field rest name i v) a n ∙ more (sym (lookup_there e rest a n) ∙ h))
         (cases_Bool (e.0 == a))
 
--- an object placed behind all others
+-- an object placed after all others
 pub pushed_last : (objects : List (ℕ × Object)) (a name : ℕ) (o q : Object) → lookup objects a ≡ None → lookup (objects ++ (name, o) ∷ []) a ≡ Some q → o ≡ q
 pushed_last [] a name o q none h = ⊎_elim
     (λ t. cc (sym (cond-true (name == a) (Some o) None t) ∙ h))

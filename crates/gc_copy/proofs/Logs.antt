@@ -61,7 +61,7 @@ entry_dropped c m log later there less =
     let logs = entries_set c.logs m later ∙ ap (slice_set (map entries_of c.logs) m) (less ∙ ap (λ (es : List (ℕ × ℕ)). drop 1 es) (sym was)) in
     λ i. record (collection_in c) { logs = logs i }
 
--- a collection goes on belonging to the heap when a log gains room
+-- a collection still belongs to the heap when a log gains room
 pub same_belongs : (heap : HeapWords) (c next : CollectionWords) → collection_in next ≡ collection_in c → length next.logs ≡ length c.logs → BelongsTo heap c → BelongsTo heap next
 same_belongs heap c next same count k = record {
   belongs = subst (Belongs (graph_in heap).objects) (sym same) k.belongs;

@@ -21,7 +21,7 @@ use Rattle.gc_copy.specs.Words.{CollectionWords, collection_in, idle_state, open
 use Rattle.gc_copy.proofs.StateLaws.{field_there}
 use Rattle.gc_copy.proofs.LinkedImages.{command_leaves, nothing_left, no_links_kept}
 
--- appending nothing leaves a log as it is
+-- appending nothing does not change a log
 set_kept : (logs : List (List (ℕ × ℕ))) (m : ℕ) → slice_set logs m (log_or_nil (slice_get logs m) ++ []) ≡ logs
 set_kept [] m = refl
 set_kept (l ∷ logs) zero = let same = append-nil l in λ i. same i ∷ logs

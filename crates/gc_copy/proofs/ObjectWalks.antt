@@ -18,7 +18,7 @@ use Rattle.gc_copy.proofs.Spaces.{in_start}
 
 -- ---- the walk so far
 
--- the objects passed so far; the walk goes on from here
+-- the objects passed so far; the walk continues from here
 pub record Met (words : List ℕ) (at : ℕ) (done : List (ℕ × Block)) : Type 0 where
   pub split : blocks words ≡ done ++ ok_or_nil (walk_from words at)
   pub walked : IsOk (walk_from words at)
@@ -32,7 +32,7 @@ met_none space is = from space.words is.walked is.end_low is.count
     from [] walked low same = absurd (omega arith)
     from (w ∷ ws) walked low same = record { split = refl; walked = walked; few = omega arith; within = omega arith }
 
--- the object here, and the walk behind it
+-- the object here, and the walk after it
 pub record Passing (words : List ℕ) (at next : ℕ) (done : List (ℕ × Block)) : Type 0 where
   pub block : Block
   pub found : In {X = ℕ × Block} (at, block) (blocks words)
@@ -93,7 +93,7 @@ lists_more words at next pairs more pair k less e is after =
           ∙ sym (ap (map pair_of) (map-append (replica_entry words) k.0 ((at, p.block) ∷ [])) ∙ map-append pair_of (map (replica_entry words) k.0) (replica_entry words (at, p.block) ∷ [])),
     )
 
--- the original that the object here names
+-- the original that the link of the object here leads to
 pub link_small : (words : List ℕ) (at : ℕ) (done : List (ℕ × Block)) → ((r : Replica) → In r (replicas_in words) → r.original < 2 ^ 32) → Met words at done → at < length words → link_at words at < 2 ^ 32
 link_small words at done small m less =
     let n = some_of (next_of words at) (has_next words at less m.walked) in

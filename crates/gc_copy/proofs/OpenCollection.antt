@@ -83,7 +83,7 @@ linked_heap heap name place is start =
 pub opened : (heap : HeapWords) (c : CollectionWords) → IsCollection c → BelongsTo heap c → IsOpened (open_state heap c) (collection_in c)
 opened heap c is k = record { belongs = k.belongs; size = (is.space).size_high; logs = length-map c.logs entries_of ∙ k.logs }
 
--- a collection belongs to the heap of words if it belongs to the state and the links name its replicas
+-- a collection belongs to the heap of words if it belongs to the state and the links lead to its replicas
 pub closed : (heap new : HeapWords) (before after : CollectionWords) → KeepsGraph heap new → BelongsTo heap before → length after.logs ≡ length before.logs → IsOpened (open_state heap before) (collection_in after) → LinksReplicas new (collection_in after) → BelongsTo new after
 closed heap new before after same k count is links = record {
   belongs = subst (λ (g : Graph). Belongs g.objects (collection_in after)) (sym (graph_kept heap new same)) is.belongs;
@@ -91,7 +91,7 @@ closed heap new before after same k count is links = record {
   logs = count ∙ k.logs ∙ sym same.mutators;
 }
 
--- after a step that is no flip
+-- after a step other than a flip
 pub after_step : (heap new : HeapWords) (c next : CollectionWords) (step : Step) (reply : StepReply) → step ≢ steps.Flip → IsCollection c → BelongsTo heap c → KeepsGraph heap new → length next.logs ≡ length c.logs
     → collect (open_state heap c) step ≡ (reply, open_state new next) → LinksReplicas new (collection_in next) → BelongsTo new next
 after_step heap new c next step reply other is k same count e links =
@@ -139,7 +139,7 @@ zero_of_none None (Some q) e = absurd (let no : None ≡ Some q.place = e in cc)
 zero_of_none (Some r) None e = absurd (let no : Some r.place ≡ None = e in cc)
 zero_of_none (Some r) (Some q) e = let s : Some r.place ≡ Some q.place = e in cc
 
--- writing a field leaves the old links as they are
+-- writing a field does not change the old links
 pub links_written : (c : Collection) (name i a : ℕ) (v : Value) → old_links (write_replica c name i v) a ≡ old_links c a
 links_written c name i a v = zero_of_none (replica_of (write_replica c name i v) a) (replica_of c a) (place_written c.replicas name i a v)
 
@@ -256,7 +256,7 @@ module _ (heap : HeapWords) (c : CollectionWords) (name : ℕ) (h : Header) (hea
 
 -- ---- the target of a word gets its replica
 
--- the target has a replica already, or there is no target
+-- the target already has a replica, or there is no target
 pub replicated_already : (c : Collection) (g : Graph) (w : ℕ) → HasReplicaOf c (value_of w) → with_replica c g (value_of w) ≡ Some c
 replicated_already c g w h = by (value_of w) h
   where
@@ -494,7 +494,7 @@ pub if_err : {X Y : Type 0} (P : Type 0) (r : Result X Y) → P → OnErr r P
 if_err P (Ok x) h = tt
 if_err P (Err e) h = h
 
--- ---- what is known of the heap's words
+-- ---- facts about the heap's words
 
 pub has_placed : (c next : Collection) (w a : ℕ) (o : Option Object) → Some a ≡ name_of (value_of w) → place_replica c a o ≡ Some next → HasReplicaOf next (value_of w)
 has_placed c next w a o e p = subst (HasReplicaOf next) (sym (named (value_of w) a e)) (placed_has c next a o p)

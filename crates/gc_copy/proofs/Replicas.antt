@@ -64,7 +64,7 @@ placed r = (r.place, r.object)
 abbrev pub replicas_end : List Replica → ℕ
 replicas_end replicas = objects_end 1 (map placed replicas)
 
--- what is known of the replicas of a collection that belongs to a heap
+-- facts about the replicas of a collection that belongs to a heap
 pub record AreReplicas (objects : List (ℕ × Object)) (size : ℕ) (Due : Bool → ℕ → ℕ → ℕ → Type 0) (replicas : List Replica) : Type 0 where
   pub laid : Laid 1 (map placed replicas) (replicas_end replicas)
   pub room : replicas_end replicas ≤ size
@@ -119,7 +119,7 @@ number_corresponds pairs Nil h = absurd cc
 number_corresponds pairs (Num n) h = eq-eqb n n refl
 number_corresponds pairs (Ref a) h = absurd cc
 
--- a fresh replica has the size, the kind and the rawness of its original
+-- a fresh replica has its original's size and kind, and is raw exactly if the original is
 pub fresh_length : (o : Object) → length (fresh_object o).fields ≡ length o.fields
 fresh_length o = cond_both o.raw o (new_object false o.kind (length o.fields)) (λ (q : Object). length q.fields ≡ length o.fields) (λ t. refl) (λ t. length-replicate (length o.fields) Nil)
 

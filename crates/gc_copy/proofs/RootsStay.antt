@@ -1,4 +1,4 @@
--- Scanning and applying place replicas and take none away: once each root's target has one, it goes on to have one.
+-- Scanning and applying place replicas and remove none: once each root's target has one, it keeps it.
 use Rattle.std.proofs.Common.{◌≡◌, ⊎_elim, ℕ, ◌==◌, ◌+◌, ◌||◌, Bool, true, false, List, [], ◌∷◌, ◌++◌, length, Option, Some, None, is_some, is_none, nat_lt, refl, sym, ap, ◌∙◌, subst}
 use Rattle.std.specs.Prelude.{IfSome, ⊤}
 use Rattle.std.specs.Option.{option_map}

@@ -28,7 +28,6 @@ use Rattle.gc_graph.proofs.Stepping.{step_roots}
 use Rattle.gc_words.proofs.Writes.{some_of}
 use Rattle.gc_heap.proofs.Commands.{none_of}
 
--- if `or` is false, both are
 -- ---- what belonging means for replicas
 
 pub its_replicas : (Due : Bool → ℕ → ℕ → ℕ → Type 0) (objects : List (ℕ × Object)) (c : Collection) → BelongsBy Due objects c → AreReplicas objects c.size Due c.replicas
@@ -58,7 +57,7 @@ due_same c next raw p a i e f g (inr d) = inr (logged_same c next a i e d)
 
 -- ---- more replicas
 
--- a later collection with more replicas, where these fields are due
+-- a later collection with more replicas, in which these fields are due
 pub record Grown (objects : List (ℕ × Object)) (c : Collection) (Due : Bool → ℕ → ℕ → ℕ → Type 0) (next : Collection) : Type 0 where
   pub size : next.size ≡ c.size
   pub logs : next.logs ≡ c.logs
@@ -74,7 +73,7 @@ same_grown objects c Due h = record { size = refl; logs = refl; scan_place = ref
 pub no_replica : (c : Collection) (name : ℕ) (r : Replica) → replica_of c name ≡ None → In r c.replicas → r.original ≡ name → ⊥
 no_replica c name r none k e = let f = find_none (λ (s : Replica). s.original == name) c.replicas r none k in eqb-false r.original name f e
 
--- without a replica, the name is no replica's original
+-- a name without a replica is not the original of any replica
 pub unnamed : (c : Collection) (name : ℕ) → replica_of c name ≡ None → In name (map (λ r. r.original) c.replicas) → ⊥
 unnamed c name none k = let r = in_map_from (λ (r : Replica). r.original) name c.replicas k in no_replica c name r.0 none r.1 r.2
 
@@ -234,7 +233,7 @@ pub bringing_keeps : (s : State) (c next : Collection) (name i : ℕ) → IsOpen
 bringing_keeps s c next name i k is = grown_open s c next k.size k.logs (k.belongs).scan (k.belongs).entries (k.belongs).numbers
     (bringing s.heap.graph c (IsDue c) (IsDue c) name i next (k.belongs).numbers (its_replicas (IsDue c) s.heap.graph.objects c k.belongs) (due_at_end s.heap.graph.objects c k.belongs) (λ raw p a j d. inr d) is)
 
--- two replicas at one place are one
+-- two replicas at one place are the same
 pub same_place : (at : ℕ) (replicas : List Replica) (end : ℕ) (r s : Replica) → Laid at (map placed replicas) end → In r replicas → In s replicas → r.place ≡ s.place → r ≡ s
 same_place at [] end r s h k l e = absurd k
 same_place at (q ∷ rest) end r s h (inl k) (inl l) e = sym k ∙ l

@@ -17,7 +17,7 @@ abbrev pub is_begun : StepReply → Bool
 is_begun Begun = true
 is_begun reply = false
 
--- the state in which the last collection began; before this event it is `base`
+-- the state in which the last collection began; `base` is this state before the event
 abbrev pub base_after : State → State → Event → State
 base_after base s (Mutate m op) = base
 base_after base s (Collect step) = if is_begun (collect s step).0 then s else base

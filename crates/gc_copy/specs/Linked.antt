@@ -1,4 +1,4 @@
--- The image of a graph whose names are addresses, with the links of a space. No definition reads a link.
+-- The image of a graph whose names are addresses, with links. What the collector and the mutators do is defined without links.
 use Rattle.std.specs.Prelude.{ℕ, if◌then◌else◌, List, length, map, Option, Some, None}
 use Rattle.gc_graph.specs.Graph.{Value, Num, Object, Graph}
 use Rattle.gc_words.specs.Word.{word_of}
@@ -11,7 +11,7 @@ use Rattle.gc_copy.specs.State.{Replica, Collection, State, replica_of, replica_
 abbrev pub object_header : Object → Header
 object_header object = record { raw = object.raw; kind = object.kind; len = length object.fields }
 
--- the number that a value holds, or 0 if it holds none
+-- the number that a value is, or 0 if it is not a number
 abbrev pub number_of : Value → ℕ
 number_of (Num n) = n
 number_of v = 0

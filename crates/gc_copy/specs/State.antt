@@ -74,7 +74,7 @@ moved c Nil = Nil
 moved c (Num n) = Num n
 moved c (Ref name) = moved_name (replica_of c name) name
 
--- an object's replica when it is placed: a raw object is copied whole; in any other, all fields are nil
+-- an object's replica when it is placed: a raw object is copied whole; all fields of any other are nil
 abbrev pub fresh_object : Object → Object
 fresh_object object = if object.raw then object else new_object false object.kind (length object.fields)
 

@@ -1,4 +1,4 @@
--- What stays true of a collection while no mutator acts.
+-- What collector steps keep true of a collection.
 use Rattle.std.specs.Prelude.{◌≡◌, true, IfSome}
 use Rattle.gc_copy.specs.State.{State}
 use Rattle.gc_copy.specs.Steps.{roots_done}

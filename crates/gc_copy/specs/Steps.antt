@@ -64,7 +64,7 @@ place_replica c name (Some object) =
     if nat_lt (new_free c) (object_words (length object.fields)) then None
     else Some (record c { replicas = c.replicas ++ fresh_replica name (new_end c) object ∷ [] })
 
--- The collection, in which the value's target, if any, has a replica; or `None` if there is no room for a new one.
+-- Gives the value's target, if any, a replica unless it has one; the result is `None` if there is no room.
 abbrev pub with_replica : Collection → Graph → Value → Option Collection
 with_replica c g Nil = Some c
 with_replica c g (Num n) = Some c
@@ -139,8 +139,8 @@ abbrev pub next_field : Option Collection → Option Collection
 next_field None = None
 next_field (Some c) = Some (record c { scan_field = suc c.scan_field })
 
--- Scans the replica at the scan pointer. If a collection belongs to its heap, there always is a replica before the new end.
--- A raw replica is passed at once: it was copied whole when it was placed.
+-- Scans the replica at the scan pointer. If a collection belongs to its heap, there is always a replica before the new end.
+-- A raw replica is passed immediately: it was copied whole when it was placed.
 abbrev pub scan_replica : State → Collection → Option Replica → StepReply × State
 scan_replica s c None = (Clean, s)
 scan_replica s c (Some r) =

@@ -1,4 +1,5 @@
--- A collection as contracts see it: a new space whose links are originals, logs with spare capacity, and the scan pointer.
+-- A collection as contracts see it: a new space whose links are the originals' addresses, logs with spare capacity, and the scan
+-- pointer.
 use Rattle.std.specs.Prelude.{◌≡◌, ℕ, ◌<◌, ◌^◌, List, length, map, slice_get, IsTrue, Option, Some, None}
 use Rattle.gc_words.specs.Word.{word_of}
 use Rattle.gc_words.specs.Image.{Block, blocks, is_start, object_of_block}

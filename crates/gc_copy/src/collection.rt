@@ -12,16 +12,16 @@ use gc_words::{Addr, Space};
 use std::marker::Model;
 
 /// An open collection: the new space (to-space) with its replicas, a mutation log for each mutator, and the scan pointer.
-/// Replicas stand in the new space in the order in which they were placed.
+/// Replicas lie in the new space in the order in which they were placed.
 ///
 /// While it is open, an original's link is its replica's address, and a replica's link is its original's. So the collector finds
-/// replicas without a table, and the certificate can be read off the links. Links are set here and nowhere else. Each call
-/// takes the heap that the collection belongs to.
+/// replicas without a table, and the certificate can be read off the links. Only this type sets links. Its calls take the heap
+/// that the collection belongs to.
 #[derive(Debug, Drop)]
 pub struct Collection {
     space: Space,
     logs: Vec<MutationLog>,
-    // The replica at the scan pointer, or the end, and the number of its fields that were scanned.
+    // The scan pointer: a replica or the new end, and the number of the replica's fields that are scanned.
     scan_place: Addr,
     scan_field: u16,
 }

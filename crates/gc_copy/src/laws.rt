@@ -1,4 +1,4 @@
-//! Laws that follow from the definitions. The crates above cite them by these calls.
+//! Laws that follow from the definitions. Crates that depend on this one use them in proofs by calling these functions.
 
 ghost use Rattle.std.specs.Prelude.{◌≡◌, ◌≢◌, ◌++◌, ◌∷◌, [], ℕ, List, ◌-◌, ◌<◌, ◌≤◌, ◌==◌, length, Some, is_none, ◌⊎◌, IsTrue, IsFalse};
 ghost use Rattle.gc_graph.specs.Limits.{most_words};
@@ -28,15 +28,15 @@ ghost use Rattle.gc_copy.specs.Rows.{Rows, SizedRows, FlipPairRows};
 ghost use Rattle.gc_copy.specs.declared.step.Step.{Step};
 ghost use Rattle.gc_copy.specs.declared.step.StepReply.TheVariants.{NoRoom};
 
-/// The definitions give the worked examples.
+/// The worked examples hold of the definitions, by computation.
 pub fn worked_rows()
     ensures answers { Rows }
     ensures sized { SizedRows }
     ensures kept { FlipPairRows }
 {}
 
-/// A collection that has just begun belongs to any heap. A command keeps the heap sound, and keeps belonging except for the field
-/// that it writes. A log entry for this field restores it.
+/// A collection that has just begun belongs to its heap. A command keeps the heap sound, and the collection belongs to it except
+/// for the field that the command wrote. A log entry for this field restores that.
 pub fn belonging_is_kept()
     ensures begins { (objects : List (ℕ × Object)) (mutators size : ℕ) → HasRawNumbers objects
         → 1 ≤ size → Belongs objects (fresh_collection mutators size) }
@@ -57,7 +57,7 @@ pub fn belonging_is_kept()
         → Belongs objects (with_log c m (log_at c m ++ (a, i) ∷ [])) }
 {}
 
-/// Every step except a flip changes only the collection, and keeps belonging.
+/// Every step except a flip changes only the collection, which still belongs to the heap.
 pub fn steps_keep_belonging()
     ensures heap { (s : State) (step : Step) → step ≢ Step.Flip
         → (collect s step).1 ≡ with_collection s (collect s step).1.collection }
@@ -65,7 +65,7 @@ pub fn steps_keep_belonging()
         → s.collection ≡ Some c → IsOpened s c → IsOpen s (collect s step).1.collection }
 {}
 
-/// Commands and steps keep the heap sound, and an open collection stays one that belongs to it.
+/// Commands and steps keep the heap sound, and an open collection still belongs to it.
 pub fn states_are_kept()
     ensures opening { (size mutators : ℕ)
         → 1 ≤ size → size ≤ most_words → IsState (opening_state size mutators) }
@@ -88,8 +88,8 @@ pub fn images_have_their_graphs()
     ensures runs { InEveryRun HasImage }
 {}
 
-/// The names in the graph of a heap of words are addresses, and its image is that of this graph with the heap's links. No object
-/// has the end as its name.
+/// The names in the graph of a heap of words are addresses, and the heap's image is the image of this graph with the heap's
+/// links. No object has the heap's end as its name.
 pub fn heaps_have_addresses_as_names()
     ensures graph { (heap : HeapWords) → IsHeap heap
         → IsSpaceGraph heap.space.size (free_in heap.space) (graph_in heap) }
@@ -100,8 +100,8 @@ pub fn heaps_have_addresses_as_names()
         → IsSpaceGraph size free g → IsUnused g (size - free) }
 {}
 
-/// The link of an original is its replica's address, or 0 if it has none. The link of a replica is its original's address. Writing
-/// a field at a replica's address changes that replica.
+/// The link of an object in the old space is its replica's address, or 0 if it has none. The link of a replica is its original's
+/// address. Writing a field at a replica's address changes that replica.
 pub fn links_tell_replicas()
     ensures by_name { (objects : List (ℕ × Object)) (c : Collection) (r : Replica)
         → Belongs objects c → In r c.replicas → replica_of c r.original ≡ Some r }
@@ -136,7 +136,7 @@ pub fn ready_flips_pass()
     ensures runs_never_refused { InEveryRun NeverRefused }
 {}
 
-/// A step whose reply is no change leaves the state as it is. The useful step changes something if the new space has room.
+/// A step whose reply means no change leaves the state unchanged. The useful step changes something unless it replies `NoRoom`.
 pub fn answers_tell_changes()
     ensures quiet { (s : State) (step : Step)
         → IsFalse (is_change (collect s step).0) → (collect s step).1 ≡ s }
@@ -146,7 +146,7 @@ pub fn answers_tell_changes()
 {}
 
 /// In every run, each original of an open collection was reachable when the collection began, or was made
-/// later. So was each object that a root refers to, and each that a field of such an object refers to.
+/// later. The same is true of each object that a root, or a field of such an object, refers to.
 pub fn only_kept_is_carried()
     ensures pairs { CarriesOnlyKept }
     ensures names { NamesOnlyKept }
@@ -161,7 +161,7 @@ pub fn room_suffices()
         → (collect (open_state heap c) step).0 ≢ NoRoom }
 {}
 
-/// Scanning replies `Clean` only at the new end, and a collection has at most `MOST_PAIRS` pairs.
+/// `Scan` replies `Clean` exactly if the scan pointer is at the new end, and a collection has at most `MOST_PAIRS` pairs.
 pub fn scans_and_pairs_are_bounded()
     ensures scans { (s : State) → IsState s → ScansToTheEnd s }
     ensures pairs { (s : State) → IsState s → HasFewPairs s }
@@ -169,7 +169,7 @@ pub fn scans_and_pairs_are_bounded()
     ensures run_pairs { InEveryRun HasFewPairs }
 {}
 
-/// Gives both images, with their links, of a heap and the collection that belongs to it. If the collection is ready, its
+/// Says what the images of a heap and of the collection that belongs to it are, with their links. If the collection is ready, its
 /// certificate holds of these images. If no collection is open, all links are 0.
 pub fn images_show_links()
     ensures idle { (heap : HeapWords) → IsHeap heap → HasNoLinks heap
@@ -186,8 +186,8 @@ pub fn images_show_links()
         (pairs_of (collection_in c)) }
 {}
 
-/// After a mutator's command, a collection belongs to the heap except for the field that the command wrote, if any. `note`
-/// restores that.
+/// After a mutator's command, a collection belongs to the heap except for the field that the command wrote, if any. `note` then
+/// logs that field, and the collection belongs to the heap again.
 pub fn commands_keep_collections()
     ensures but { (heap new : HeapWords) (c : CollectionWords) (m : ℕ) (op : Op) (reply : Reply)
         → BelongsTo heap c → KeepsLinks heap.space.words new.space.words
@@ -196,13 +196,13 @@ pub fn commands_keep_collections()
         → BelongsToBut (written (graph_in heap) m op reply) new c }
     ensures none { (heap : HeapWords) (c : CollectionWords)
         → BelongsToBut [] heap c → BelongsTo heap c }
-    // While no collection is open no object has a link.
+    // While no collection is open, no object has a link.
     ensures idle { (heap new : HeapWords)
         → HasNoLinks heap → KeepsLinks heap.space.words new.space.words → HasNoLinks new }
 {}
 
-/// A command that is no `Put` leaves an open collection as it is, and the collection still belongs to the heap. So does the reply
-/// and the next state of a heap without a collection follow from what the command does to the heap.
+/// A command other than `Put` leaves an open collection unchanged, and the collection still belongs to the heap. If no collection
+/// is open, no command opens one or gives an object a link.
 pub fn commands_leave_collections()
     ensures collecting { (heap new : HeapWords) (c : CollectionWords) (m : ℕ) (op : Op) (reply : Reply)
         → IsHeap heap → BelongsTo heap c → ¬ WritesField op → Performs heap m op reply new
@@ -212,7 +212,7 @@ pub fn commands_leave_collections()
         → (mutate (idle_state heap) m op ≡ (reply, idle_state new)) × HasNoLinks new }
 {}
 
-/// Once the target of each root has a replica, scanning and applying logs leave it so: they take no replica away.
+/// Once the target of each root has a replica, scanning and applying logs keep it so: they remove no replica.
 pub fn roots_stay_done()
     ensures scan { (s : State) (c : Collection) → s.collection ≡ Some c → IsTrue (roots_done c s.heap.graph)
         → StaysDone (collect s Step.Scan) }

@@ -1,4 +1,4 @@
-//! The collector: an open collection beside the mutators, its steps on words, its mutation logs, and why a ready flip passes the
+//! The collector: an open collection of a heap, its steps on words, its mutation logs, and the proof that a ready flip passes the
 //! check.
 #![tactic(auto)]
 

@@ -13,7 +13,7 @@ pub struct LogEntry {
     pub field: u16,
 }
 
-/// The fields that one mutator wrote while a collection is open, the oldest first. Taking the oldest entry moves no other.
+/// The fields that one mutator wrote while a collection is open, oldest first. Removing the oldest entry moves no other.
 #[derive(Debug, Drop)]
 pub(crate) struct MutationLog {
     entries: VecDeque<LogEntry>,
@@ -68,7 +68,7 @@ impl MutationLog {
         self.entries.get(k).copied()
     }
 
-    /// Makes room for this many more entries. On `NoMemory` the log is unchanged.
+    /// Makes room for `more` further entries. On `NoMemory` the log is unchanged.
     pub(crate) fn reserve(&mut self, more: usize) -> Result<(), NoMemory>
         ensures entries { self.new.entries ≡ self.old.entries }
         ensures room { OnOk result (more ≤ self.new.spare) }

@@ -12,7 +12,7 @@ use gc_graph::NoMemory;
 use gc_words::{Addr, NewAddr, OldAddr, Pair, Space};
 use std::alloc::Global;
 
-/// Returns the number of objects.
+/// Returns the number of objects in the space.
 fn count_objects(space: &Space) -> usize
     requires { IsSpace space.now }
     ensures { result ≡ length (blocks space.now.words) }
@@ -26,7 +26,7 @@ fn count_objects(space: &Space) -> usize
     count
 }
 
-/// Returns each object with what its link names, in the order of their places. Allocates once.
+/// Returns a pair for each object, its link and its own address, in the order of addresses. Allocates once.
 pub(crate) fn linked_pairs(alloc: Global, space: &Space) -> Result<Vec<Pair>, NoMemory>
     requires shaped { IsSpace space.now }
     requires links { (r : Replica) → In r (replicas_in space.now.words) → r.original < 2 ^ 32 }

@@ -9,7 +9,7 @@ pub enum Step {
     Roots,
     /// Brings the field at the scan pointer up to date, or moves on to the next replica.
     Scan,
-    /// Removes the oldest entry of this mutator's log and brings its field up to date.
+    /// Removes the oldest entry of this mutator's log, and brings its field up to date if its object has a replica.
     Apply(u8),
     /// Switches the mutators to the new space, if the collection is ready and the checker accepts its certificate.
     Flip,
@@ -21,7 +21,7 @@ pub enum Step {
 /// change anything.
 #[derive(Clone, Copy, Debug, PartialEq, Eq)]
 pub enum StepReply {
-    /// A collection is open already.
+    /// A collection is already open.
     Busy,
     /// A collection is open now.
     Begun,
@@ -29,11 +29,11 @@ pub enum StepReply {
     Idle,
     /// Nothing is left to do for this step.
     Clean,
-    /// The new space has no room for a replica that has to be placed.
+    /// The new space has no room for a replica that the step needs.
     NoRoom,
     /// A root's target has a replica now.
     Copied,
-    /// A replica is scanned, and the scan pointer has moved behind it.
+    /// A replica is scanned, and the scan pointer has moved past it.
     Passed,
     /// One field was scanned.
     Scanned,

@@ -76,7 +76,7 @@ fn write_while_scanning(rt: HostRuntime) -> Result<(), Fail> {
     Ok(())
 }
 
-/// Makes a raw object of two fields in r0, and writes 8 to its first one by way of r1.
+/// Makes a raw object with two fields in r0, and writes 8 to its first field through r1.
 fn raw_eight(rt: &impl Abort, alloc: Global, r0: Slot, r1: Slot) -> Result<Heap, NoMemory>
     ensures idle { IfOk result HasNoLinks }
     ensures mutators { IfOk result (λ heap. heap.mutators ≡ 1) }
@@ -155,7 +155,7 @@ fn log_across_two_mutators(rt: HostRuntime) -> Result<(), Fail> {
         Row::Command(1, num(&rt, r0, 8), Reply::Done),
         Row::Command(1, put(g0, 0, r0), Reply::Done),
         Row::NextLog(Some(0)),
-        // The later write is applied first, and the earlier one does not undo it.
+        // The later write is applied first, and applying the earlier one does not undo it.
         Row::Apply(1, StepReply::Applied),
         Row::Apply(0, StepReply::Applied),
         Row::Apply(0, StepReply::Clean),

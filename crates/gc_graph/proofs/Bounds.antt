@@ -72,7 +72,7 @@ pub all_below : (n k : ℕ) (v : Value) → ValueBelow n v → AllByRecursion (V
 all_below n zero v below = tt
 all_below n (suc k) v below = (below, all_below n k v below)
 
--- ---- values that are there
+-- ---- values that are found
 
 value_at : (n : ℕ) (vs : List Value) (p : ℕ) → AllByRecursion (ValueBelow n) vs → ValueBelow n (value_or_nil (slice_get vs p))
 value_at n [] p a = tt

@@ -1,4 +1,4 @@
--- The number that a token writes, and the one that a text begins with.
+-- The number that a token spells, and the one that a text begins with.
 use Rattle.std.proofs.Common.{◌≡◌, ℕ, zero, suc, ◌^◌, ◌<◌, ◌≤◌, ◌+◌, ◌-◌, ◌*◌, ◌%◌, Bool, true, false, cond, eqb, ltb, leb, ◌&&◌, List, [], ◌∷◌, ◌++◌, length, get_or, take, drop, refl, sym, ap, ◌∙◌, arith, subst, inl, inr, Option, Some, None, IsTrue, ◌↔◌}
 use Rattle.std.specs.Prelude.{decimal}
 use Rattle.std.proofs.lemmas.Fmt.{decimal_is_IsNumeral, decimal-digits_value, length-decimal-le, first_decimal, decimal_nonempty, decimal_digit}
@@ -45,7 +45,7 @@ none_or : (b : Bool) (n : ℕ) → (b ≡ true → ⊥) → ◌≡◌ {A = Optio
 none_or true n never = absurd (never refl)
 none_or false n _ = refl
 
--- a token that is no decimal up to this has no number
+-- a token that is not the decimal of a number up to `most` has no number
 pub number_none : (most : ℕ) (token : List ℕ) → ((n : ℕ) → n ≤ most → token ≡ decimal n → ⊥) → number_of most token ≡ None
 unfolding number_of
 number_none most token never =
@@ -114,7 +114,7 @@ after_zero text count some leads are = (
   λ is. eq-eqb count 1 (omega (arith, some, are.long, no_zero_leads (take count text) is (are.first ∙ leads))),
 )
 
--- twenty digits of which the first is two or more write too great a number
+-- twenty digits whose first is two or more spell too large a number
 pub after_others : (text : List ℕ) (count : ℕ) → 0 < count → 50 ≤ get_or text 0 0 → AreFirst text count → IsTrue (ltb count 20) ↔ IsDecimal (take count text)
 after_others text count some great are = (
   λ yes. short_is text count some (ltb-true count 20 yes) (λ leads. absurd (omega (arith, leads, great))) are,
@@ -130,7 +130,7 @@ after_others text count some great are = (
 pub short_after_one : (text : List ℕ) (count : ℕ) → 0 < count → get_or text 0 0 ≡ 49 → count < 20 → AreFirst text count → IsTrue (ltb count 20) ↔ IsDecimal (take count text)
 short_after_one text count some one lt are = (λ _. short_is text count some lt (λ leads. absurd (omega (arith, leads, one))) are, λ _. lt-ltb count 20 lt)
 
--- of twenty digits that begin with one, those of too great a number wrap round to a small one
+-- if twenty digits that begin with one spell too large a number, it wraps round to a small one
 pub twenty_after_one : (text : List ℕ) (count wrapped : ℕ) → get_or text 0 0 ≡ 49 → count ≡ 20 → wrapped ≡ digits_value 10 (take count text) % 2 ^ 64 → AreFirst text count
     → IsTrue (leb 10000000000000000000 wrapped) ↔ IsDecimal (take count text)
 twenty_after_one text count wrapped one twenty is are =
@@ -186,7 +186,7 @@ pub token_some : (most : ℕ) (token rest : List ℕ) (n : ℕ) → BeginsWithNu
 token_some most token [] n begins empty le = rw (begins.parts ∙ append-nil (decimal n)) (sym (number_again most n le begins.small))
 token_some most token (b ∷ rest) n begins empty le = absurd (omega (arith, empty))
 
--- a token is one decimal at most
+-- a token that is not, as a whole, the decimal of a number up to `most` has no number
 pub token_none : (most : ℕ) (token : List ℕ) → most < 2 ^ 64 → ((n : ℕ) → n ≤ most → ¬ BeginsWithNumber token n []) → number_of most token ≡ None
 token_none most token small never = number_none most token (λ n le is. never n le (record { small = omega (arith, le, small); parts = is ∙ sym (append-nil (decimal n)); whole = refl }))
 
@@ -200,6 +200,6 @@ one_front text m n rest more p q =
     let drop-n : drop (digits_len text) text ≡ more = rw len-n (ap (λ (t : List ℕ). drop (length (decimal n)) t) q.parts ∙ drop-append_seam (decimal n) more) in
     (sym (value-decimal m p.small) ∙ ap (digits_value 10) (sym take-m ∙ take-n) ∙ value-decimal n q.small, sym drop-m ∙ drop-n)
 
--- a token that begins with a number has no other
+-- a token has no number if more follows the number that it begins with, or if that is above `most`
 pub token_other : (most : ℕ) (token rest : List ℕ) (m : ℕ) → most < 2 ^ 64 → BeginsWithNumber token m rest → (rest ≡ [] → most < m) → number_of most token ≡ None
 token_other most token rest m small begins other = token_none most token small (λ n le same. (let one = one_front token m n rest [] begins same in omega (arith, other one.1, one.0, le)))

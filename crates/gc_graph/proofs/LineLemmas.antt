@@ -10,7 +10,7 @@ use Rattle.gc_graph.specs.Lines.{HasNo, space, newline, joined, tokens_of}
 use Rattle.gc_graph.proofs.Decimals.{decimal_are_digits}
 use Rattle.gc_graph.proofs.TokenLemmas.{tokens_of-cut, tokens_of-whole}
 
--- a test for tokens that are written out: no byte is below the digits
+-- a test for literal tokens: no byte is below the digits
 abbrev pub all_high : List ℕ → Bool
 all_high [] = true
 all_high (b ∷ bs) = leb 48 b && all_high bs
@@ -40,7 +40,7 @@ HasNo-joined [] h = tt
 HasNo-joined (w ∷ []) h = h.0
 HasNo-joined (w ∷ v ∷ tokens) h = HasNo-append newline w (space ∷ joined (v ∷ tokens)) h.0 (omega arith, HasNo-joined (v ∷ tokens) h.1)
 
--- tokens that were joined are found again
+-- joined tokens are found again
 pub tokens_of-joined : (w : List ℕ) (tokens : List (List ℕ)) → AllHaveNo space (w ∷ tokens) → tokens_of (joined (w ∷ tokens)) ≡ w ∷ tokens
 tokens_of-joined w [] h = tokens_of-whole w h.0
 tokens_of-joined w (v ∷ tokens) h = tokens_of-cut w (joined (v ∷ tokens)) h.0 ∙ ap (λ (ws : List (List ℕ)). w ∷ ws) (tokens_of-joined v tokens h.1)
@@ -49,7 +49,7 @@ tokens_of-joined w (v ∷ tokens) h = tokens_of-cut w (joined (v ∷ tokens)) h.
 pub joined-tokens_of : (line : List ℕ) → joined (tokens_of line) ≡ line
 joined-tokens_of line = join_with_byte-slice_split space line
 
--- ---- a test for texts that are written out
+-- ---- a test for literal texts
 
 abbrev pub lacks : ℕ → List ℕ → Bool
 lacks c [] = true
@@ -85,7 +85,7 @@ pub record Cut (text : List ℕ) : Type 0 where
   pub parts : text ≡ line ++ newline ∷ rest
   pub whole : HasNo newline line
 
--- each text has a line feed, or none
+-- a text has no line feed, or it can be cut at the first one
 pub cut : (text : List ℕ) → HasNo newline text ⊎ Cut text
 cut [] = inl tt
 cut (b ∷ text) = at (eqb b newline) refl (cut text)

@@ -60,7 +60,7 @@ module _ (pairs : List (ℕ × ℕ)) (g h : Graph) (matched : Matched pairs g h)
   field_alike (Some o) None i t = absurd t
   field_alike (Some o) (Some q) i t = zip_get _ o.fields q.fields i t.2
 
-  -- ---- what is seen
+  -- ---- views
 
   object_view : (o q : Option Object) → BothOrNone o q → view_of_object o ≡ view_of_object q
   object_view None None t = refl
@@ -99,7 +99,7 @@ module _ (pairs : List (ℕ × ℕ)) (g h : Graph) (matched : Matched pairs g h)
             ap (λ t. t && is_some (lookup g.objects a)) e ∙ sym (ap (λ t. t && is_some (lookup h.objects b)) f))
       ]
 
-  -- a name with an object is not one without
+  -- a name with an object is not a name without one
   not_gone : (a b x y : ℕ) → paired pairs a b ≡ true → lookup g.objects x ≡ None → lookup h.objects y ≡ None
       → ((a == x) && is_some (lookup g.objects a)) ≡ ((b == y) && is_some (lookup h.objects b))
   not_gone a b x y p e f =
@@ -134,7 +134,7 @@ module _ (pairs : List (ℕ × ℕ)) (g h : Graph) (matched : Matched pairs g h)
 
   -- ---- changes
 
-  -- a value at one place of the roots
+  -- writing corresponding values to one root
   pub matched_root : (p : ℕ) {v w : Value} → Alike pairs g.objects h.objects v w → Matched pairs (set_root g p v) (set_root h p w)
   matched_root p {v} {w} a = record {
     roots = zip_set _ g.roots h.roots p v w a matched.roots;
@@ -143,7 +143,7 @@ module _ (pairs : List (ℕ × ℕ)) (g h : Graph) (matched : Matched pairs g h)
     one_left = matched.one_left;
   }
 
-  -- a value in a field of two partners
+  -- writing corresponding values to a field of two partners
   module _ (n n' i : ℕ) (v w : Value) (p : paired pairs n n' ≡ true) (a : Alike pairs g.objects h.objects v w) where
     abbrev left : List (ℕ × Object)
     left = set_field g.objects n i v

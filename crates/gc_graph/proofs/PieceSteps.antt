@@ -5,7 +5,7 @@ use Rattle.std.proofs.lemmas.List.{append-nil, drop_all, drop-drop, length-drop,
 use Rattle.std.proofs.Math.Seq.{drop-append_seam}
 use Rattle.gc_graph.specs.Pieces.{Progress, IsWithin, nothing_read}
 
--- a fact of the text, if it is known
+-- what is true of every known text, if a text is known
 pub if_known : {P : List ℕ → Type 0} (known : Option (List ℕ)) → ((text : List ℕ) → known ≡ Some text → P text) → IfSome known P
 if_known None all = tt
 if_known (Some text) all = all text refl

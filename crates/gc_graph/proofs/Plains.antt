@@ -66,7 +66,7 @@ object_short (x ∷ os) q o all e =
       | false ↦ λ e. object_short os q o all.1 e
     ] e
 
--- ---- a field written
+-- ---- a written field
 
 written_object : (r : Record) (i : ℕ) (v : PlainValue) → object_of_record (record { raw = r.raw; kind = r.kind; fields = with_item r.fields i v }) ≡ with_field (object_of_record r) i (plain_value v)
 written_object r i v = (let fields : map plain_value (slice_set r.fields.items i v) ≡ slice_set (map plain_value r.fields.items) i (plain_value v) = map-set plain_value r.fields.items i v in λ j. record { raw = r.raw; kind = r.kind; fields = fields j })
@@ -112,7 +112,7 @@ record_gone es q i e = sym (ap (λ o. is_some (field_of o i)) (sym (found_record
 pub same_entries : (es : List (ℕ × Record)) (q : ℕ) (r : Record) → entries.lookup (tree.is_at (nat_cmp q)) es ≡ Some r → entries.set_value (tree.is_at (nat_cmp q)) es r ≡ es
 same_entries es q r e = set_value_same (tree.is_at (nat_cmp q)) es r e
 
--- ---- a field that is there
+-- ---- a field that exists
 
 pub got : (g h : Graph) (d i : ℕ) (target : Value) (o : Object) (v : Value) (view : View) → object_of g.objects target ≡ Some o → field_of (Some o) i ≡ Some v
     → view ≡ view_of g.objects v → h ≡ set_root g d v → ◌≡◌ {A = Reply × Graph} (Saw view, h) (get_field g d (object_of g.objects target) (field_of (object_of g.objects target) i))

@@ -81,7 +81,7 @@ fresh_unused g = none_at (names_in g) 0 (fresh_name g) (omega arith)
 
 -- ---- with a bound on the words in use
 
--- the step where there is room
+-- the step if there is room
 abbrev pub plain_step : Roomy → ℕ → Op → ℕ → Reply × Roomy
 plain_step s m op name = let next = step s.graph m op name in (next.0, record { graph = next.1; free = s.free - words_taken op })
 
@@ -92,7 +92,7 @@ with_room false s x e = refl
 roomy_is_plain : (s : Roomy) (m : ℕ) (op : Op) (name : ℕ) → not (is_full (roomy_step s m op name).0) ≡ true → roomy_step s m op name ≡ plain_step s m op name
 roomy_is_plain s m op name e = with_room (nat_lt s.free (words_taken op)) s (plain_step s m op name) e
 
--- Up to the first command for which one side has no room the replies are the same.
+-- The replies are the same up to the first command for which one side has no room.
 pub replies_alike : (commands : List (ℕ × Op)) (n : ℕ) (s t : Roomy) (pairs : List (ℕ × ℕ)) → Matched pairs s.graph t.graph
     → HasRoom s commands n → HasRoom t commands n → take n (replies s commands) ≡ take n (replies t commands)
 replies_alike commands zero s t pairs matched r r' = refl

@@ -22,7 +22,7 @@ more_sent_slice old mid new text rest count so_far more =
     let all : take (length rest - count) (drop count rest) ≡ drop count rest = take_all (length rest - count) (drop count rest) (omega (arith, length-drop count rest)) in
     subst (HasSent old new text) (sym all) (more_sent old mid new text rest count so_far more)
 
--- more text waits behind the buffer
+-- more text waits after the buffer
 pub sent_then : (a b c : Option (List ℕ)) (text waiting mid more rest : List ℕ) → HasSent a b text waiting → HasSent b c waiting mid → rest ≡ mid ++ more → HasSent a c (text ++ more) rest
 sent_then a b c text waiting mid more rest first second is = record {
   front = first.front ++ second.front;
@@ -34,7 +34,7 @@ sent_then a b c text waiting mid more rest first second is = record {
 pub sent_at_last : (a b c : Option (List ℕ)) (text waiting : List ℕ) → HasSent a b text waiting → Appends b c waiting → Appends a c text
 sent_at_last a b c text waiting first out = subst (Appends a c) (sym first.parts) (Appends-trans a b c first.front waiting first.out out)
 
--- a prefix of the buffer is one of the whole text
+-- a prefix of the buffer is a prefix of the whole text
 pub front_sent : (a b c : Option (List ℕ)) (text waiting more : List ℕ) → HasSent a b text waiting → SendsFront b c waiting → SendsFront a c (text ++ more)
 front_sent a b c text waiting more first (front, rest, parts, out) = (
   first.front ++ front,

@@ -67,7 +67,7 @@ kept a b m op reply makes_none free next done plain =
       bound = omega arith;
     }
 
--- ---- with places in place of slots
+-- ---- with places instead of slots
 
 pub got_step : (g : Graph) (m : ℕ) (d s : SlotName) (i p q : ℕ) (target : Value) (reply : Reply) (h : Graph) → p ≡ place d m → q ≡ place s m → target ≡ root g q
     → ◌≡◌ {A = Reply × Graph} (reply, h) (get_field g p (object_of g.objects target) (field_of (object_of g.objects target) i)) → StepLeadsTo g m (ops.Get d s i) reply h
@@ -101,7 +101,7 @@ made a s t p raw kind len view plain room done = subst (λ s. Makes s p raw kind
   made = done ∙ sym (ap (λ b. cond b (Full, roomy_of a) (with_object (roomy_of a) a.next_name p raw kind len)) (le-ltb a.free (len + 2) room));
 })
 
--- the commands that ask for it
+-- the commands that make one
 abbrev pub new_command : Bool → SlotName → ℕ → ℕ → Op
 new_command true d kind len = ops.NewRaw d kind len
 new_command false d kind len = ops.New d kind len
@@ -122,7 +122,7 @@ pub new_answered_if_ok : (r : Result Reply NoMemory) (s t : Roomy) (m : ℕ) (d 
 new_answered_if_ok (Ok reply) s t m d p raw kind len op is at makes = new_answered s t m d p raw kind len reply op is at makes
 new_answered_if_ok (Err e) s t m d p raw kind len op is at makes = makes
 
--- ---- the number of roots stays
+-- ---- the number of roots stays the same
 
 got_roots : (g : Graph) (d : ℕ) (o : Option Object) (v : Option Value) → length (get_field g d o v).1.roots ≡ length g.roots
 got_roots g d None v = refl

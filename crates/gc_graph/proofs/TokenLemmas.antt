@@ -15,7 +15,7 @@ tokens_of-cut (x ∷ front) rest none =
     let other : eqb x 32 ≡ false = ne_eqb x 32 none.0 in
     rw (other, tokens_of-cut front rest none.1) refl
 
--- with no space there is one token
+-- a line without a space is one token
 pub tokens_of-whole : (text : List ℕ) → HasNo space text → tokens_of text ≡ text ∷ []
 tokens_of-whole [] none = refl
 tokens_of-whole (x ∷ text) none =
@@ -32,7 +32,7 @@ tokens_of-some : (text : List ℕ) → tokens_of text ≢ []
 tokens_of-some [] e = cc
 tokens_of-some (x ∷ text) e = tokens_of-some text (onto_first-some (eqb x 32) x (tokens_of text) e)
 
--- no token is left exactly where nothing of the line is
+-- no token is left exactly if nothing of the line is left
 pub tokens_left-none : (rest : Option (Bor (List ℕ))) (b : Bool) (tokens : List (List ℕ)) → tokens_left rest ≡ tokens → is_some rest ≡ not b → IsTrue b ↔ (tokens ≡ [])
 tokens_left-none None true tokens e t = (λ _. sym e, λ _. refl)
 tokens_left-none None false tokens e t = absurd cc

@@ -38,7 +38,7 @@ some x = Some x
 pub some_is : {A : Type 0} (x y : A) → some x ≡ some y → x ≡ y
 some_is x y e = cc
 
--- equal tokens stay equal behind one more token
+-- equal tokens stay equal after one more token
 pub onto : (token : List ℕ) {tokens more : Tokens} → tokens ≡ more → token ∷ tokens ≡ token ∷ more
 onto token e = ap (λ (ws : Tokens). token ∷ ws) e
 
@@ -62,7 +62,7 @@ unfolding if_all_taken
 end_found x [] y e = (refl, some_is x y e)
 end_found x (token ∷ tokens) y e = absurd cc
 
--- the token is this one, or another
+-- the token is the wanted one or another
 pub name_case : {A : Type 0} (P : List ℕ → Type 0) (name wanted : List ℕ) (x y : Option A) (r : A) → cond (bytes_eq name wanted) x y ≡ Some r → (x ≡ Some r → P wanted) → (y ≡ Some r → P name) → P name
 name_case P name wanted x y r e f g = parts (bytes_eq name wanted) refl e
   where

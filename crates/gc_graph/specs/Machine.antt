@@ -51,7 +51,7 @@ put_field g (Ref name) (Some object) None i v = (NoField, g)
 put_field g target target_object found i v = (NoObject, g)
 
 -- The reply to mutator m's command, and the graph after it. `New` and `NewRaw` give the new object the name `name`, which
--- has to be unused.
+-- must be unused.
 abbrev pub step : Graph → ℕ → Op → ℕ → Reply × Graph
 step g m (ops.New d kind len) name = (Made, set_root (add_object g name (new_object false kind len)) (place d m) (Ref name))
 step g m (ops.NewRaw d kind len) name = (Made, set_root (add_object g name (new_object true kind len)) (place d m) (Ref name))
@@ -91,7 +91,7 @@ roomy_step s m op name =
     if nat_lt s.free (words_taken op) then (Full, s)
     else (let next = step s.graph m op name in (next.0, record { graph = next.1; free = s.free - words_taken op }))
 
--- the initial state in a space of this many words, of which the first is reserved
+-- the initial state in a space of this many words, the first of which is reserved
 abbrev pub opening_roomy : ℕ → ℕ → Roomy
 opening_roomy size mutators = record { graph = opening mutators; free = size - 1 }
 

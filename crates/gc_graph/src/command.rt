@@ -12,14 +12,14 @@ pub enum Op {
     Num { d: Slot, n: Number },
     /// Sets `d` to nil.
     Nil { d: Slot },
-    /// Sets `d` to what `s` holds.
+    /// Sets `d` to the value of `s`.
     Move { d: Slot, s: Slot },
     /// Sets `d` to field `i` of the object that `s` refers to.
     Get { d: Slot, s: Slot, i: u16 },
-    /// Sets field `i` of the object that `s` refers to to what `t` holds.
+    /// Writes the value of `t` to field `i` of the object that `s` refers to.
     Put { s: Slot, i: u16, t: Slot },
     /// Asks whether `s` and `t` hold the same value: nil and nil, equal numbers, or one object.
     Same { s: Slot, t: Slot },
-    /// Asks what `s` holds.
+    /// Asks what mutators see of the value of `s`.
     Look { s: Slot },
 }

@@ -19,7 +19,7 @@ pub fn corresponding_graphs_reply_alike()
         → HasRoom s commands n → HasRoom t commands n → take n (replies s commands) ≡ take n (replies t commands) }
 {}
 
-/// The definitions give the worked examples.
+/// The worked examples hold of the definitions, by computation.
 pub fn worked_rows()
     ensures { Rows }
 {}

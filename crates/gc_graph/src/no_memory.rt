@@ -1,6 +1,6 @@
 use thiserror::Error;
 
-/// An allocation failed. The object that was called is unchanged.
+/// An allocation failed. The receiver of the call is unchanged.
 #[derive(Clone, Copy, Debug, PartialEq, Eq, Error)]
 #[error("no memory")]
 pub struct NoMemory;

@@ -1,6 +1,6 @@
 use std::marker::Model;
 
-/// A number that a value can be: 0 to 2^63 - 1.
+/// A number that a slot or a field can hold: 0 to 2^63 - 1.
 #[derive(Clone, Copy, Debug, PartialEq, Eq)]
 pub struct Number {
     value: u64,

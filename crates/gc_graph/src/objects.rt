@@ -49,7 +49,7 @@ impl Record {
     }
 }
 
-/// Returns what the fields of a new object hold.
+/// Returns the initial value of a new object's fields.
 fn first_value(raw: bool) -> PlainValue
     ensures { plain_value result ≡ first_value raw }
 {
@@ -97,7 +97,7 @@ pub struct Objects {
 }
 
 impl Objects {
-    /// Returns what a root holds.
+    /// Returns the value of a root.
     pub fn root(&self, place: usize) -> PlainValue
         requires { place < length self.now.roots.items }
         ensures { plain_value result ≡ root_in (graph_of self.now) place }
@@ -115,7 +115,7 @@ impl Objects {
         Reply::Done
     }
 
-    /// Makes an object, with a name above all names of objects.
+    /// Adds an object. Its name must be above all names in the graph.
     pub fn add(
         &mut self,
         alloc: Global,
@@ -163,7 +163,7 @@ impl Objects {
         }
     }
 
-    /// Returns the reply to whether two roots hold the same value.
+    /// Returns the reply to `Same` for these two values.
     pub fn compare(&self, one: PlainValue, other: PlainValue) -> Reply
         ensures { result ≡ (if same_in (graph_of self.now).objects (plain_value one) (plain_value other) then Reply.Yes else Reply.No) }
     {
@@ -195,7 +195,7 @@ impl Objects {
         Reply::Saw(view)
     }
 
-    /// Sets field `i` of the object that `target` refers to to the value.
+    /// Writes the value to field `i` of the object that `target` refers to.
     pub fn put(&mut self, target: PlainValue, i: u16, value: PlainValue) -> Reply
         ensures { let object = object_of (graph_of self.old).objects (plain_value target) in
             (result, graph_of self.new) ≡ put_field (graph_of self.old) (plain_value target) object (field_of object i) i (plain_value value) }

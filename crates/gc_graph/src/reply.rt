@@ -1,6 +1,6 @@
 use crate::number::Number;
 
-/// What a mutator sees of a value. Of an object it sees the kind and the number of fields, but no address.
+/// What a mutator sees of a value. An object shows its kind and its number of fields, but no address.
 #[derive(Clone, Copy, Debug, PartialEq, Eq)]
 pub enum View {
     Nil,
@@ -13,7 +13,7 @@ pub enum View {
 /// The reply to a mutator's command.
 #[derive(Clone, Copy, Debug, PartialEq, Eq)]
 pub enum Reply {
-    /// The new object has no room. Nothing changed.
+    /// There is no room for the new object. Nothing changed.
     Full,
     /// The object was made.
     Made,
@@ -23,7 +23,7 @@ pub enum Reply {
     NoObject,
     /// The object has no such field. Nothing changed.
     NoField,
-    /// The object is raw and the value is no number. Nothing changed.
+    /// The object is raw and the value is not a number. Nothing changed.
     NoNumber,
     /// The value that was seen.
     Saw(View),

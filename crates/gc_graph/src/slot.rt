@@ -33,7 +33,7 @@ impl Slot {
     ghost use Rattle.gc_graph.specs.Limits.{slots_each};
     ghost use Rattle.gc_graph.specs.Slots.{own_slot, shared_slot, place as place_of, roots_of};
 
-    /// Returns a mutator's own slot; None from `SLOTS_EACH` on.
+    /// Returns a mutator's own slot, or `None` if `index` is not below `SLOTS_EACH`.
     pub fn own(index: u8) -> Option<Slot>
         ensures { SomeIff result (index < slots_each) (own_slot index) }
     {
@@ -47,7 +47,7 @@ impl Slot {
         }
     }
 
-    /// Returns a slot that all mutators share; None from `SLOTS_EACH` on.
+    /// Returns a slot that all mutators share, or `None` if `index` is not below `SLOTS_EACH`.
     pub fn shared(index: u8) -> Option<Slot>
         ensures { SomeIff result (index < slots_each) (shared_slot index) }
     {
@@ -90,7 +90,7 @@ impl Slot {
     }
 }
 
-/// Returns the number of roots of `mutators` mutators: the shared slots, and then those of each mutator.
+/// Returns the number of roots of `mutators` mutators: the shared slots, and each mutator's own.
 pub fn root_count(mutators: u8) -> usize
     ensures { result ≡ roots_of mutators }
 {

@@ -45,7 +45,7 @@ fn slots_have_places(rt: HostRuntime) -> Result<(), Fail> {
     Ok(())
 }
 
-/// A stream that fails at once, as an interrupted call does.
+/// A reader whose every call is interrupted.
 #[derive(Drop)]
 struct Interrupted;
 
@@ -88,16 +88,16 @@ fn a_write_of_no_byte_is_a_failure_for_good(rt: HostRuntime) {
     assert_eq!(rt; sink.write(b"text"), Err(Failed));
 }
 
-/// How a stream that fails once does so.
+/// How the first call of a `Hesitant` fails.
 #[derive(Clone, Copy)]
 enum Hitch {
-    /// By this error.
+    /// It returns this error.
     Error(ErrorKind),
     /// It takes no byte.
     NoByte,
 }
 
-/// Fails at its first call. The next call would succeed.
+/// A stream whose first call fails. Later calls would succeed.
 #[derive(Drop)]
 struct Hesitant {
     hitch: Option<Hitch>,

@@ -107,7 +107,7 @@ put_no_field h s a i v p none =
     ∙ ap (λ o. put_field (graph_in h) (root (graph_in h) s) o None i v) p.object
     ∙ ap (λ r. put_field (graph_in h) r (Some (object_of_block p.block)) None i v) p.target)
 
--- an object takes the value into a field that it has, unless it is raw and the value is no number
+-- an object takes the value into one of its fields, unless it is raw and the value is not a number
 abbrev pub written : HeapWords → ℕ → ℕ → Bool → Value → Reply × Graph
 written h a i refused v = cond refused (NoNumber, graph_in h) (Done, record (graph_in h) { objects = set_field (objects_of h.space.words) a i v })
 
@@ -173,7 +173,7 @@ same_true os (Ref a) (Ref b) e = ap Ref (eqb-true a b (and_parts (a == b) (is_so
 spelled_back : (words : List ℕ) (w : ℕ) → IsRootWord words w → word_of (value_of w) ≡ w
 spelled_back words w is = (word_read_back w (value_of w) (ap (λ b. cond b (Some (value_of w)) None) is.value)).0
 
--- two values are the same where their words are
+-- two values are the same if their words are
 pub same_words : (h : HeapWords) (v w : ℕ) → IsRootWord h.space.words v → IsRootWord h.space.words w → v ≡ w → same (graph_in h).objects (value_of v) (value_of w) ≡ true
 same_words h v w one other e = ap (λ x. same (graph_in h).objects (value_of v) (value_of x)) (sym e) ∙ there_is h (value_of v) one.start
 

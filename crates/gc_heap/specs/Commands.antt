@@ -29,6 +29,6 @@ fetched_of (replies.Saw (views.Obj kind len)) = Object
 fetched_of (replies.Saw (views.RawObj kind len)) = Object
 fetched_of reply = NoObject
 
--- mutator m's `Get` leads from the old heap to the new one, and its reply is shown as this
+-- mutator m's `Get` leads from the old heap to the new one, and `fetched` is what `fetch` shows of its reply
 abbrev pub Fetches : HeapWords → ℕ → SlotName → SlotName → ℕ → Fetched → HeapWords → Type 0
 Fetches old m d s i fetched new = (reply : Reply) × Performs old m (ops.Get d s i) reply new × (fetched ≡ fetched_of reply)

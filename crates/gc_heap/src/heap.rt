@@ -24,8 +24,8 @@ fn header_of(raw: bool, kind: u8, len: u16) -> Header
 /// The mutators' heap: objects in a space, and the roots of 1 to 16 mutators. `new` allocates the space and the roots; no
 /// command allocates.
 ///
-/// Each object has a link word beside its fields. A collector keeps the object's replica in it, so it needs no table. No command
-/// reads or writes a link.
+/// Each object has a link word in addition to its fields. A collector stores the replica's address there, so it needs no table. No
+/// command reads a link, and none writes one except that a new object's link is 0.
 #[derive(Debug, Drop)]
 pub struct Heap {
     space: Space,
@@ -59,7 +59,7 @@ impl Heap {
     ghost use Rattle.gc_heap.specs.Internal.Taken.{taken_reply, IsTakenWord};
     ghost use Rattle.gc_heap.specs.Heap.{IsHeap, KeepsLinks, empty_heap, image_of, graph_in, roomy_in};
 
-    /// Returns a heap without objects whose roots are all nil, of `size` words, 1 to `MOST_WORDS`, and for 1 to
+    /// Returns a heap without objects whose roots are all nil. It has `size` words, 1 to `MOST_WORDS`, and 1 to
     /// `MOST_MUTATORS` mutators.
     pub fn new(alloc: Global, size: u32, mutators: u8) -> Result<Heap, NoMemory>
         requires low { 1 ≤ size }
@@ -178,7 +178,7 @@ impl Heap {
         (former_space, former_roots)
     }
 
-    /// Makes a new object in root `d`, if it has room.
+    /// Makes a new object and sets the root at `place` to a reference to it, if there is room.
     fn make_at(&mut self, place: usize, raw: bool, kind: u8, len: u16) -> Reply
         requires { place < length self.old.roots }
         ensures step { (result, roomy_in self.new) ≡ make_object (roomy_in self.old) place raw kind len (end_of self.old.space) }
@@ -232,7 +232,7 @@ impl Heap {
         Taken::Word(word)
     }
 
-    /// Sets field `i` of the object that root `s` refers to to what root `t` holds.
+    /// Writes the value of root `t` to field `i` of the object that root `s` refers to.
     fn put_at(&mut self, s: usize, i: u16, t: usize) -> Reply
         requires target { s < length self.old.roots }
         requires giver { t < length self.old.roots }

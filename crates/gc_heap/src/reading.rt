@@ -1,4 +1,4 @@
-//! Reads words of a space in which all references are to starts.
+//! Reads words of a space in which every reference refers to a start.
 
 ghost use Rattle.std.specs.Prelude.{◌≡◌, ◌↔◌, Some, IsTrue, IsSome, IfSome, is_none, not, ◌&&◌, ◌<◌, ◌^◌};
 ghost use Rattle.std.specs.Option.{option_map};
@@ -65,7 +65,7 @@ pub fn fetched(space: &Space, word: u64) -> Fetched
     }
 }
 
-/// Returns the root word with the value of a field word of an object with this header.
+/// Converts a field word of an object with this header to the root word of the same value.
 pub fn root_word(space: &Space, header: Header, field: u64) -> u64
     requires { IsFieldWord space.now.words header field }
     ensures value { value_of result ≡ field_value header field }
@@ -78,8 +78,8 @@ pub fn root_word(space: &Space, header: Header, field: u64) -> u64
     }
 }
 
-/// Returns the field word, in an object with this header, for the value of a root word. None if the object is raw and the
-/// value is no number.
+/// Converts a root word to the field word of the same value in an object with this header. Returns `None` if the object
+/// is raw and the value is not a number.
 pub fn field_word(space: &Space, header: Header, word: u64) -> Option<u64>
     requires { IsRootWord space.now.words word }
     ensures refused { is_none result ≡ (header.raw && not (is_number (value_of word))) }

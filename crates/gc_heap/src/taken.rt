@@ -1,22 +1,22 @@
 use gc_graph::Number;
 
-/// What `Heap::fetch` saw: the value that the slot took, or why it took none. It does not read the object that a reference
-/// refers to, so it tells no kind and no length.
+/// The result of `Heap::fetch`: the value that the slot took, or the reason why it took none. `fetch` does not read the object
+/// that a reference refers to, so the result has no kind and no length.
 #[derive(Clone, Copy, Debug, PartialEq, Eq)]
 pub enum Fetched {
-    /// The slot that gives refers to no object.
+    /// The source slot refers to no object.
     NoObject,
     /// The object has no such field.
     NoField,
-    /// It took nil.
+    /// The slot took nil.
     Nil,
-    /// It took this number.
+    /// The slot took this number.
     Num(Number),
-    /// It took a reference.
+    /// The slot took a reference.
     Object,
 }
 
-/// The root word that a slot took from a field, or why it took none.
+/// The root word that a slot took from a field, or the reason why it took none.
 #[derive(Clone, Copy, Debug, PartialEq, Eq)]
 pub(crate) enum Taken {
     NoObject,

@@ -14,7 +14,7 @@ fn keep_reply(heap: &mut Heap, op: &Op, replies: &mut Vec<Reply>) -> Result<(), 
     requires { 0 < heap.old.mutators }
     ensures { heap.new.mutators ≡ heap.old.mutators }
 {
-    // The prover knows what a list of replies holds only where a view is named.
+    // The prover knows the elements of a list of replies only if the function names a view.
     let _named = View::Nil;
     match replies.push(heap.apply(0, op)) {
         Ok(()) => Ok(()),

@@ -13,7 +13,7 @@ use std::alloc::Global;
 use std::thread::Threads;
 
 /// Checks a certificate against two heap images, as `gc_check::check` does. If there are many pairs, several threads
-/// compare their objects. The answer does not depend on them.
+/// compare their objects. The verdict does not depend on the threads.
 pub fn check_par(
     rt: &(impl Threads + Sync),
     alloc: Global,
@@ -27,7 +27,7 @@ pub fn check_par(
     ensures refused { IfErr result
         (IsRefusalOf (first_fault (image_of old.entry) (image_of new.entry) (pairs_of cert.now))) }
 
-    // The soundness theorem: what a yes promises of all that mutators do from here on.
+    // The soundness theorem: what a yes promises for everything that mutators do afterwards.
     ensures replicated { OnOk result
         (Replicated (image_of old.entry) (image_of new.entry) (pairs_of cert.now)) }
 {

@@ -7,14 +7,14 @@ use gc_words::{ImageRef, Pair};
 use std::alloc::Global;
 use std::thread::Threads;
 
-/// A checker that uses the threads of a runtime, by `check_par`.
+/// A checker that calls `check_par` with the threads of a runtime.
 #[derive(Debug, Drop)]
 pub struct Parallel<'a, R> {
     rt: &'a R,
 }
 
 impl<'a, R> Parallel<'a, R> {
-    /// Returns a checker that starts its threads by `rt`.
+    /// Returns a checker that starts its threads through `rt`.
     pub fn new(rt: &'a R) -> Parallel<'a, R> {
         Parallel { rt }
     }

@@ -32,7 +32,7 @@ fn refused(refusal: Refusal) -> Result<Yes, CheckFault> {
     Err(CheckFault::Refused(refusal))
 }
 
-/// Returns the words with another one at each of these places.
+/// Returns the words with each of these changes: another word at a place.
 fn changed(alloc: Global, words: &[u64], changes: &[(usize, u64)]) -> Result<Vec<u64>, AllocError> {
     let mut words = Vec::from_slice(alloc, words)?;
     for (place, word) in changes {
@@ -43,7 +43,7 @@ fn changed(alloc: Global, words: &[u64], changes: &[(usize, u64)]) -> Result<Vec
     Ok(words)
 }
 
-/// 4,096 objects of one field, the number 0.
+/// Returns the words of 4,096 objects with one field each, the number 0.
 fn long_words(alloc: Global) -> Result<Vec<u64>, AllocError> {
     let mut words = Vec::new(alloc);
     words.push(0)?;
@@ -55,7 +55,7 @@ fn long_words(alloc: Global) -> Result<Vec<u64>, AllocError> {
     Ok(words)
 }
 
-/// New words of the long row that differ, and the answer.
+/// Changes to the new image's words of `long_words`, with the answer to each.
 const DIFFERENCES: [(&[(usize, u64)], Result<Yes, CheckFault>); 4] = [
     (&[], Ok(Yes { pairs: 4096 })),
     (
@@ -72,7 +72,7 @@ const DIFFERENCES: [(&[(usize, u64)], Result<Yes, CheckFault>); 4] = [
     ),
 ];
 
-/// Enough pairs for more than one thread.
+/// Compares enough pairs for more than one thread.
 #[test]
 fn first_of_many_differences(rt: HostRuntime) -> Result<(), Fail> {
     let alloc = rt.alloc();

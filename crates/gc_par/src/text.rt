@@ -16,8 +16,8 @@ use std::io::{Read, Write};
 use std::thread::Threads;
 
 /// Reads a pair text, checks the pair in several threads, and writes the line of the verdict. The calling thread reads
-/// and writes. Returns `Pair` with the first fault of a text that is no pair, `NoMemory` if an allocation fails, and
-/// `Write` if the writer does.
+/// and writes. Returns `Pair` with the first fault if the text is not a pair text, `NoMemory` if an allocation fails, and
+/// `Write` if the writer fails.
 pub fn check_text_par<R: Read, W: Write>(
     rt: &(impl Threads + Sync),
     alloc: Global,

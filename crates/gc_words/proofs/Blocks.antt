@@ -10,7 +10,7 @@ use Rattle.gc_words.specs.declared.header.Header.{Header}
 use Rattle.gc_words.proofs.Starts.{stands_in}
 use Rattle.gc_words.proofs.Writes.{CanPlaceBlock, FieldRead, field_read, block_placed, can_place_fresh, field_written}
 
--- ---- no object stands at the end
+-- ---- no object starts at the end
 
 pub none_at_end : (s : SpaceWords) → IsSpace s → block_at s.words (end_of s) ≡ None
 none_at_end s space = from (block_at s.words (end_of s)) refl
@@ -21,7 +21,7 @@ none_at_end s space = from (block_at s.words (end_of s)) refl
         absurd (let stands : StandsIn s.words (end_of s) b = stands_in s.words (end_of s) b space.walked e in
         let fits : length s.words + (b.header.len + 2) ≤ length s.words = stands.fits in omega arith)
 
--- ---- an object placed
+-- ---- a placed object
 
 at_push : (bs : List (ℕ × Block)) (a : ℕ) (b : Block) → block_in bs a ≡ None → block_in (bs ++ (a, b) ∷ []) a ≡ Some b
 at_push [] a b none = ap (λ t. cond t (Some b) None) (eq-eqb a a refl)
@@ -47,7 +47,7 @@ placed_block s h can = block_there s (fresh_block h) (can_place_fresh s h can)
 pub placed_beside : (s : SpaceWords) (h : Header) (x : ℕ) → CanPlace s h → (end_of s ≡ x → ⊥) → block_at (with_object s h).words x ≡ block_at s.words x
 placed_beside s h x can other = block_beside s (fresh_block h) x (can_place_fresh s h can) other
 
--- ---- a field written
+-- ---- a written field
 
 at_set : (bs : List (ℕ × Block)) (a i w : ℕ) (b : Block) → block_in bs a ≡ Some b → block_in (set_block bs a i w) a ≡ Some (with_field_word b i w)
 at_set [] a i w b found = absurd (let no : None ≡ Some b = found in cc)

@@ -16,7 +16,7 @@ use Rattle.gc_words.proofs.Writes.{some_of, HeaderRead, header_read, FieldRead, 
 use Rattle.gc_words.proofs.Blocks.{placed_block, written_word}
 use Rattle.gc_words.proofs.Spelled.{cleared, length_cleared}
 
--- ---- a word read: t is what a caller sees of the fields s
+-- ---- reading a word: t is what a caller sees of the fields s
 
 pub header_seen : (s t : SpaceWords) (a : ℕ) → s ≡ t → IsSpace s → is_start t.words a ≡ true → HeaderRead t.words a
 header_seen s t a same space start = header_read t.words a (subst IsSpace same space).walked start
@@ -28,7 +28,7 @@ pub word_seen : (s t : SpaceWords) (p x : ℕ) → s ≡ t → p < length t.word
 word_seen s t p x same inside read =
     get_or_read s.words p x (subst (λ (s : SpaceWords). p < length s.words) (sym same) inside) read 0 ∙ ap (λ (s : SpaceWords). slice_index s.words p) same
 
--- ---- the place behind an object
+-- ---- the place after an object
 
 pub record NextRead (words : List ℕ) (a : ℕ) : Type 0 where
   pub next : ℕ
@@ -54,7 +54,7 @@ next_read words a ok start =
 pub next_seen : (s t : SpaceWords) (a : ℕ) → s ≡ t → IsSpace s → is_start t.words a ≡ true → NextRead t.words a
 next_seen s t a same space start = next_read t.words a (subst IsSpace same space).walked start
 
--- ---- a word written, at a place that the code has computed
+-- ---- writing a word at a place that the code has computed
 
 pub field_at_place : (s t : SpaceWords) (a i w p : ℕ) → s ≡ t → p ≡ field_place a i → IsSpace s → IsSome (field_at t.words a i)
     → IsSpace (with_word s p w) × (blocks (with_word s p w).words ≡ set_block (blocks t.words) a i w) × (field_at (with_word s p w).words a i ≡ Some w)
@@ -72,7 +72,7 @@ link_at_place s t a w p same place space start =
     subst (λ p. IsSpace (with_word s p w) × (blocks (with_word s p w).words ≡ blocks t.words)) (sym place)
     (written.0, written.1 ∙ ap (λ (s : SpaceWords). blocks s.words) same)
 
--- ---- an object placed: its header word pushed, and then room made for as many words as it has besides
+-- ---- placing an object: push its header word, then make room for its other words
 
 pub record Places (s t : SpaceWords) (h : Header) : Type 0 where
   pub space : IsSpace s
@@ -106,7 +106,7 @@ object_placed r u s t pushed new h n l same space is room ok push total one made
       words = ap (λ (s : SpaceWords). with_object s h) same;
     })
 
--- ---- links cleared, in the row of words
+-- ---- clearing links in the vector of words
 
 pub record Clears (s t : SpaceWords) : Type 0 where
   pub space : IsSpace s

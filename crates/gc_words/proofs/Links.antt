@@ -1,4 +1,4 @@
--- Links after a write, which leaves all other words alone.
+-- Links after a write, which changes no other word.
 use Rattle.std.proofs.Common.{◌≡◌, ℕ, ◌+◌, ◌<◌, ◌≤◌, true, false, cond, ◌==◌, List, [], ◌∷◌, length, replicate, Some, None, is_some, sym, ◌∙◌, ap, inl, inr, arith}
 use Rattle.std.specs.Prelude.{IsSome}
 use Rattle.std.proofs.lemmas.Bool.{eqb-true, cases_Bool, cases_lt}
@@ -15,7 +15,7 @@ use Rattle.gc_words.proofs.Spelled.{laid_out_words, link_spelled}
 
 -- ---- objects do not overlap
 
--- no start lies before the first object
+-- no object starts before the first one
 not_before : (entries : List (ℕ × Block)) (at x : ℕ) → LaidOut at entries → is_some (block_in entries x) ≡ true → at ≤ x
 not_before [] at x laid e = absurd (let no : false ≡ true = e in cc)
 not_before (entry ∷ rest) at x laid e =
@@ -25,7 +25,7 @@ not_before (entry ∷ rest) at x laid e =
       | inr other ↦ (let more : at + (entry.1.header.len + 2) ≤ x = not_before rest (at + (entry.1.header.len + 2)) x laid.2 (sym (ap (λ t. is_some (cond t (Some entry.1) (block_in rest x))) other) ∙ e) in omega arith)
     ]
 
--- the greater of two starts lies behind the other's object
+-- the greater of two starts lies after the other's object
 apart : (entries : List (ℕ × Block)) (at a x : ℕ) (b : Block) → LaidOut at entries → block_in entries a ≡ Some b → is_some (block_in entries x) ≡ true → a < x → a + (b.header.len + 2) ≤ x
 apart [] at a x b laid found start less = absurd (let no : None ≡ Some b = found in cc)
 apart (entry ∷ rest) at a x b laid found start less =
@@ -52,7 +52,7 @@ link_within s x space start =
     let b : (b : Block) × (block_at s.words x ≡ Some b) = some_of (block_at s.words x) start in
     let fits : x + (b.0.header.len + 2) ≤ length s.words = (stands_in s.words x b.0 space.walked b.1).fits in omega arith
 
--- ---- an object placed
+-- ---- a placed object
 
 pub link_placed : (s : SpaceWords) (b : Block) → link_at (with_block s b).words (end_of s) ≡ 0
 link_placed s b = get_or-append-add s.words (block_words 0 b) 1 0
@@ -60,7 +60,7 @@ link_placed s b = get_or-append-add s.words (block_words 0 b) 1 0
 pub link_placed_beside : (s : SpaceWords) (b : Block) (x : ℕ) → IsSpace s → is_start s.words x ≡ true → link_at (with_block s b).words x ≡ link_at s.words x
 link_placed_beside s b x space start = get_or_append_left s.words (block_words 0 b) 0 (x + 1) (link_within s x space start)
 
--- ---- a field written
+-- ---- a written field
 
 pub link_beside_field : (s : SpaceWords) (a i w x : ℕ) → IsSpace s → IsSome (field_at s.words a i) → is_start s.words x ≡ true → link_at (with_word s (field_place a i) w).words x ≡ link_at s.words x
 link_beside_field s a i w x space some start =
@@ -72,7 +72,7 @@ link_beside_field s a i w x space some start =
     ] in
     get_or-set_other s.words (field_place a i) (x + 1) w 0 differs
 
--- ---- a link written
+-- ---- a written link
 
 pub link_written_there : (s : SpaceWords) (a w : ℕ) → IsSpace s → is_start s.words a ≡ true → link_at (with_word s (link_place a) w).words a ≡ w
 link_written_there s a w space start = get_or-set_same s.words (a + 1) w 0 (link_within s a space start)
@@ -80,7 +80,7 @@ link_written_there s a w space start = get_or-set_same s.words (a + 1) w 0 (link
 pub link_written_beside : (s : SpaceWords) (a w x : ℕ) → (a ≡ x → ⊥) → link_at (with_word s (link_place a) w).words x ≡ link_at s.words x
 link_written_beside s a w x other = get_or-set_other s.words (a + 1) (x + 1) w 0 (λ same. other (omega arith))
 
--- ---- links cleared
+-- ---- cleared links
 
 pub link_cleared : (s : SpaceWords) (x : ℕ) → IsSpace s → is_start s.words x ≡ true → link_at (without_links s).words x ≡ 0
 link_cleared s x space start =

@@ -1,4 +1,4 @@
--- Images in which every reference is to a start.
+-- Images in which every reference refers to a start.
 use Rattle.std.proofs.Common.{◌≡◌, ℕ, suc, zero, ◌+◌, ◌<◌, ◌≤◌, Bool, true, false, cond, ◌==◌, List, [], ◌∷◌, ◌++◌, map, length, replicate, Some, None, is_some, refl, sym, ◌∙◌, ap, subst, arith}
 use Rattle.std.specs.Prelude.{slice_get, slice_set, IsOk, IsSome}
 use Rattle.std.specs.List.{All, AllByRecursion, flat_map}
@@ -41,7 +41,7 @@ starts_in_space s space = in_words s.words space.walked space.end_low
         let same : 1 + length ws ≡ suc (length ws) = omega arith in
         All-from_recursion (λ entry. entry.0 < suc (length ws)) (blocks (w ∷ ws)) (subst (λ n. AllByRecursion (λ entry. entry.0 < n) (blocks (w ∷ ws))) same (starts_below ws 0 1 (blocks (w ∷ ws)) (walked_blocks (w ∷ ws) ok)))
 
--- ---- the end occurs as no name
+-- ---- the end is not a name
 
 All-flat_map : {X Y : Type 0} (P : Y → Type 0) (f : X → List Y) (xs : List X) → All (λ x. All P (f x)) xs → All P (flat_map f xs)
 All-flat_map P f [] all = All-nil P
@@ -134,7 +134,7 @@ kept_blocks words others keeps bs all = All-weaker (Has words) (Has others) (λ 
 kept_roots : (words others roots : List ℕ) → KeepsStarts words others → All (IsRootWord words) roots → All (IsRootWord others) roots
 kept_roots words others roots keeps all = All-weaker (IsRootWord words) (IsRootWord others) (kept_root words others keeps) roots all
 
--- ---- an object placed
+-- ---- a placed object
 
 start_push : (bs : List (ℕ × Block)) (x : ℕ × Block) (a : ℕ) → is_some (block_in bs a) ≡ true → is_some (block_in (bs ++ x ∷ []) a) ≡ true
 start_push [] x a e = absurd (let no : false ≡ true = e in cc)
@@ -183,7 +183,7 @@ module _ (s : SpaceWords) (h : Header) (can : CanPlace s h) where
       let room : h.len + 2 ≤ free_in s = can.room in
       value_refers after (Ref (end_of s)) (low, omega arith) (ap (λ bs. is_some (block_in bs (end_of s))) objects_after ∙ start_last (blocks s.words) (end_of s) (fresh_block h))
 
--- ---- a field written
+-- ---- a written field
 
 pub start_set : (bs : List (ℕ × Block)) (a i w x : ℕ) → is_some (block_in (set_block bs a i w) x) ≡ is_some (block_in bs x)
 start_set [] a i w x = refl

@@ -54,7 +54,7 @@ walk_spelled (entry ∷ rest) links at laid =
 
 -- ---- walked words are spelled by their objects
 
--- the links are the words behind the starts
+-- the links are the words after the starts
 abbrev pub AreLinks : (ℕ → ℕ) → ℕ → List ℕ → Type 0
 AreLinks links at ws = (p : ℕ) → links (at + p) ≡ get_or ws (p + 1) 0
 

@@ -1,4 +1,4 @@
--- Where the objects of a walk stand among the words.
+-- Where the objects of a walk are among the words.
 use Rattle.std.proofs.Common.{◌≡◌, ℕ, suc, zero, ◌+◌, ◌≤◌, true, false, cond, ◌==◌, List, [], ◌∷◌, length, get_or, take, drop, Some, None, Result, Ok, Err, refl, sym, ◌∙◌, ap, subst, inl, inr, arith, length-take, length-drop}
 use Rattle.std.specs.Prelude.{slice_index, IsOk}
 use Rattle.std.proofs.lemmas.Bool.{eqb-true, cases_Bool}
@@ -9,7 +9,7 @@ use Rattle.gc_words.specs.Walking.{StandsIn}
 use Rattle.gc_words.specs.declared.header.Header.{Header}
 use Rattle.gc_words.proofs.Walks.{Walked, First, first, fields_in, written_back}
 
--- the block stands at place a, where the words begin at place `at`
+-- the block is at place a, if the words begin at place `at`
 pub record StandsAt (ws : List ℕ) (at a : ℕ) (b : Block) : Type 0 where
   pub offset : ℕ
   pub place : a ≡ at + offset

@@ -76,7 +76,7 @@ no_step raws words at inside e = from (header_in raws (slice_index words at)) re
         let count : length (drop (at + 1) words) ≡ length words - (at + 1) = rest_length words at inside in
         ap (walk raws 0 at) (opened words at inside) ∙ no_room raws at (slice_index words at) (drop (at + 1) words) h is (omega arith)
 
--- a walk that reaches the end goes on from each object
+-- a walk that reaches the end continues from each object
 pub has_next : (words : List ℕ) (at : ℕ) → at < length words → IsOk (walk_from words at) → IsSome (next_of words at)
 has_next words at inside ok = from (next_of words at) refl
   where
@@ -84,7 +84,7 @@ has_next words at inside ok = from (next_of words at) refl
     from None e = absurd (let no : false ≡ true = sym (ap is_ok (no_step true words at inside e)) ∙ ok in cc)
     from (Some next) e = refl
 
--- ---- behind the last object
+-- ---- after the last object
 
 pub at_end : (words : List ℕ) (at : ℕ) → length words ≤ at → walk_from words at ≡ Ok []
 at_end words at h = ap (walk true 0 at) (drop_all at words h)
@@ -100,11 +100,11 @@ same_fault raws words at next inside e =
     let s : StepsIn raws words at next = step raws words at next inside e in
     ap fault_of_walk s.walk_is ∙ fault_behind _ (walk_on raws words next)
 
--- the right number of words, the first of which is 0
+-- there are as many words as the end says, and the first is 0
 pub framed : (raws : Bool) (end : ℕ) (words : List ℕ) → length words ≡ end → slice_index words 0 ≡ 0 → words_fault raws end words ≡ fault_of_walk (walk_on raws words 1)
 framed raws end words count reserved = ap (λ b. cond b (fault_of_walk (walk_all raws words)) (Some 0)) (and_from _ _ (eq-eqb _ _ count) (eq-eqb _ _ reserved))
 
--- ---- the objects behind one
+-- ---- the objects after one
 
 pub ok_behind : (x : ℕ × Block) (r : Result (List (ℕ × Block)) ℕ) → IsOk (with_front x r) → IsOk r × (ok_or_nil (with_front x r) ≡ x ∷ ok_or_nil r)
 ok_behind x (Ok xs) e = (refl, refl)
@@ -159,7 +159,7 @@ found_start words at place inside reached ok =
       | inr other ↦ ne_eqb at place other ∙ sym (no_start_below words at place (omega arith) ok)
     ]
 
--- ---- links cleared, one object at a time
+-- ---- clearing links, one object at a time
 
 -- the words up to a place, and the objects from there on without links
 abbrev pub cleared_from : List ℕ → ℕ → List ℕ

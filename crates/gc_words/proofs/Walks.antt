@@ -175,7 +175,7 @@ starts_above (w ∷ ws) zero at bs e =
     weaker k [] a = tt
     weaker k (b ∷ bs) a = (let h : suc at + k ≤ b.0 = a.0 in omega arith, weaker k bs a.1)
 
--- ---- an object placed at the end
+-- ---- placing an object at the end
 
 alone : (at : ℕ) (h : Header) (link : ℕ) (fields : List ℕ) → IsHeader h → length fields ≡ h.len → Walked 0 at (header_word h ∷ link ∷ fields) ((at, record { header = h; fields = fields }) ∷ [])
 alone at h link fields is n =
@@ -269,7 +269,7 @@ fields_past : (h : Header) (ws : List ℕ) (p v : ℕ) → h.len < p → fields_
 fields_past h ws zero v l = absurd (omega arith)
 fields_past h ws (suc p) v l = ap (take h.len) (drop_one_set ws p v) ∙ set_past_take h.len (drop 1 ws) p v (omega arith)
 
--- a field word: p counts from the first word here, and field i of the object at a stands two words behind a
+-- a field word: p counts from the first word here, and field i of the object at a is at a + 2 + i
 pub walk_field : (ws : List ℕ) (inside at : ℕ) (bs : List (ℕ × Block)) (a i p v : ℕ) → at + p ≡ a + 2 + i → BlockHasField (block_in bs a) i → Walked inside at ws bs → Walked inside at (slice_set ws p v) (set_block bs a i v)
 walk_field [] inside at [] a i p v e h w = absurd h
 walk_field [] inside at (b ∷ bs) a i p v e h w = cc

@@ -17,7 +17,7 @@ pub record IsRootWord (words : List ℕ) (w : ℕ) : Type 0 where
   pub value : IsTrue (is_value w)
   pub start : RefersToStart words (value_of w)
 
--- a field word of a raw object is a number below 2 ^ 63; any other field word has to be a valid root word
+-- a field word of a raw object is a number below 2 ^ 63; any other field word must be a valid root word
 abbrev pub IsWordOfField : Bool → List ℕ → ℕ → Type 0
 IsWordOfField true words w = w < 2 ^ 63
 IsWordOfField false words w = IsRootWord words w

@@ -29,8 +29,8 @@ object_at at (Some h) words others =
     if nat_le (h.len + 1) (length words) then with_front (at, record { header = h; fields = take h.len (drop 1 words) }) (others (h.len + 1)) else Err at
 
 -- The objects in the words from address `at` on, each with its address. The first `inside` words still belong to an earlier
--- object. If an object should start at a word that is no header, or if an object runs past the end, the result is the first
--- such address. `raws` says whether headers of raw objects are accepted.
+-- object. If an object should start at a word that is not a header, or if an object runs past the end, the result is the
+-- first such address. `raws` says whether headers of raw objects are accepted.
 abbrev pub walk : Bool → ℕ → ℕ → List ℕ → Result (List (ℕ × Block)) ℕ
 walk raws inside at [] = Ok []
 walk raws zero at (w ∷ words) = object_at at (header_in raws w) words (λ inside. walk raws inside (suc at) words)
@@ -44,8 +44,8 @@ walk_all raws words = walk raws 0 1 (drop 1 words)
 abbrev pub walk_words : List ℕ → Result (List (ℕ × Block)) ℕ
 walk_words words = walk_all true words
 
--- A space of this many words is shaped: `end` is the first address that no object takes, and the number of words. Word 0
--- is reserved and holds 0, and the walk over the other words reaches the end.
+-- A space of `size` words is shaped. `end` is the first address that no object takes, and so the number of words in the list.
+-- Word 0 is reserved and is 0, and the walk over the other words reaches the end.
 pub record HasShape (raws : Bool) (size end : ℕ) (words : List ℕ) : Type 0 where
   pub size_low : 1 ≤ size
   pub size_high : size ≤ most_words
@@ -61,8 +61,8 @@ abbrev pub ok_or_nil : {X : Type 0} → Result (List X) ℕ → List X
 ok_or_nil (Ok xs) = xs
 ok_or_nil (Err at) = []
 
--- The objects in the words of a space, each with its address. An image that does not accept headers of raw objects contains
--- none if it is shaped, so it has the same objects.
+-- The objects in the words of a space, each with its address. A shaped image that does not accept headers of raw objects has
+-- none of them, so its objects are the same.
 abbrev pub blocks : List ℕ → List (ℕ × Block)
 blocks words = ok_or_nil (walk_words words)
 

@@ -19,7 +19,7 @@ next_in raws words at = next_after at (header_in raws (slice_index words at)) (l
 abbrev pub next_of : List ℕ → ℕ → Option ℕ
 next_of words at = next_in true words at
 
--- the walk from an address on, at which an object starts
+-- the walk from this address on
 abbrev pub walk_on : Bool → List ℕ → ℕ → Result (List (ℕ × Block)) ℕ
 walk_on raws words at = walk raws 0 at (drop at words)
 

@@ -76,11 +76,11 @@ read_correspond pairs None w = false
 read_correspond pairs (Some v) None = false
 read_correspond pairs (Some v) (Some w) = correspond pairs v w
 
--- both are nil, both are the same number, or both are references whose addresses are a pair; a word that is no value
--- corresponds to no word
+-- both are nil, both are the same number, or both are references whose addresses are a pair; a word that is not a
+-- value corresponds to no word
 abbrev pub words_correspond : List (ℕ × ℕ) → ℕ → ℕ → Bool
 words_correspond pairs v w = read_correspond pairs (read_value v) (read_value w)
 
--- the same for field words of objects with this header; the words of raw objects have to be equal
+-- the same for field words of objects with this header; the words of raw objects must be equal
 abbrev pub field_words_correspond : Header → List (ℕ × ℕ) → ℕ → ℕ → Bool
 field_words_correspond h pairs v w = if h.raw then v == w else words_correspond pairs v w

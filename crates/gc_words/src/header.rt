@@ -16,7 +16,7 @@ const FIRST: u64 = 16_777_216;
 /// The smallest header word of a raw object.
 const FIRST_RAW: u64 = 50_331_648;
 
-/// The number of header words of raw objects, and also of the others.
+/// The number of header words of raw objects, and also of other objects.
 const HEADERS: u64 = 16_777_216;
 
 /// The distance between the header words of two kinds: the number of lengths.
@@ -44,7 +44,7 @@ impl Header {
         }
     }
 
-    /// Decodes a header word; None for any other word.
+    /// Decodes a header word. Returns `None` for any other word.
     pub fn read(word: u64) -> Option<Header>
         ensures { result ≡ read_header word }
     {
@@ -76,7 +76,7 @@ impl Header {
         Some(header)
     }
 
-    /// Encodes the header: `read` decodes the word to it.
+    /// Encodes the header as a word, which `read` decodes again.
     pub fn word(self) -> u64
         ensures word { result ≡ header_word self }
         ensures read_back { read_header result ≡ Some self }

@@ -1,10 +1,10 @@
 use crate::value::{NewAddr, OldAddr};
 
-/// The maximum number of roots of an image: 16 shared slots, and 16 of each of 16 mutators.
+/// The maximum number of roots of an image: 16 shared slots, and 16 for each of 16 mutators.
 pub const MOST_ROOTS: usize = 272;
 
 /// The maximum number of pairs of a certificate. No space has more objects: each takes at least two words, and word 0 belongs
-/// to none.
+/// to no object.
 pub const MOST_PAIRS: usize = 524287;
 
 /// A heap image: the words of a space, and roots. A checker takes any image; nothing is assumed about its numbers.
@@ -12,16 +12,16 @@ pub const MOST_PAIRS: usize = 524287;
 pub struct ImageRef<'a> {
     /// The size of the space in words.
     pub size: u32,
-    /// The end of the last object, which is the first free word.
+    /// The address of the first free word, which is the end of the last object.
     pub end: u32,
     /// Words 0 to `end - 1`, including links.
     pub words: &'a [u64],
     pub roots: &'a [u64],
-    /// Whether headers of raw objects count. They do in every heap of this crate.
+    /// Whether headers of raw objects count. They do in every image of a `Space`.
     pub raws: bool,
 }
 
-/// An object of an old space and its replica in a new one. C has the same struct, so that it passes pairs uncopied.
+/// An object of an old space and its replica in a new one. The layout is C's, so that C programs can pass pairs without a copy.
 #[repr(C)]
 #[derive(Clone, Copy, Debug, PartialEq, Eq)]
 pub struct Pair {

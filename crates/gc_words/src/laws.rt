@@ -1,4 +1,4 @@
-//! Laws that follow from the definitions. The crates above cite them by these calls.
+//! Laws that follow from the definitions. Crates that depend on this one use them in proofs by calling these functions.
 
 ghost use Rattle.std.specs.Prelude.{◌≡◌, ◌≢◌, ◌<◌, ◌≤◌, ◌↔◌, ◌+◌, ◌-◌, ◌++◌, ◌∷◌, [], ℕ, Bool, List, length, Some, None, Ok, Err, IsOk, IsSome, IsTrue, replicate, slice_get, slice_index, slice_set};
 ghost use Rattle.std.specs.Option.{option_map};
@@ -16,7 +16,7 @@ ghost use Rattle.gc_words.specs.Rows.{WordRows, PairRows};
 ghost use Rattle.gc_words.specs.declared.header.Header.{Header};
 ghost use Rattle.gc_words.specs.declared.refusal.Refusal.{Refusal};
 
-/// The definitions give the worked examples.
+/// The worked examples hold of the definitions, by computation.
 pub fn worked_rows()
     ensures words { WordRows }
     ensures pairs { PairRows }
@@ -65,7 +65,7 @@ pub fn words_are_read_back()
         → read_header word ≡ Some h → IsHeader h × (header_word h ≡ word) }
 {}
 
-/// A walk continues behind each object that it meets, and stops at the end or where no object starts.
+/// A walk continues after each object that it meets. It stops at the end, or at a word where no object starts.
 pub fn walks_go_by_steps()
     ensures step { (words : List ℕ) (at next : ℕ)
         → at < length words → next_of words at ≡ Some next → StepsTo words at next }
@@ -139,7 +139,7 @@ pub fn ends_after_writes()
         → IsSpace space → end_of (without_links space) ≡ end_of space }
 {}
 
-/// Gives what stands at a start after a write, and at every other place.
+/// Gives the object at each address after an object is placed or a field is written. No object starts at the end.
 pub fn objects_after_writes()
     ensures end { (space : SpaceWords)
         → IsSpace space → block_at space.words (end_of space) ≡ None }
@@ -156,7 +156,7 @@ pub fn objects_after_writes()
         → block_at (with_field_at space start i word).words other ≡ block_at space.words other }
 {}
 
-/// Gives the links after a write: that of a new object is 0; writing a field changes none; writing a link changes no other.
+/// Gives the links after a write. A new object's link is 0. Writing a field changes no link, and writing a link changes no other.
 pub fn links_after_writes()
     ensures placed { (space : SpaceWords) (h : Header)
         → link_at (with_object space h).words (end_of space) ≡ 0 }
@@ -195,7 +195,7 @@ pub fn graphs_of_spaces()
         → root (graph_of (image_with space roots)) place ≡ value_of (slice_index roots place) }
 {}
 
-/// Gives the graph of a space with roots after a write. Links are no part of it.
+/// Gives the graph of a space with roots after a write. Links are not part of it.
 pub fn graphs_after_writes()
     ensures placed { (space : SpaceWords) (h : Header) (roots : List ℕ) → CanPlace space h
         → graph_of (image_with (with_object space h) roots)
@@ -217,15 +217,15 @@ pub fn graphs_after_writes()
         ≡ set_root (graph_of (image_with space roots)) place (value_of word) }
 {}
 
-/// If all references are to starts, no name that occurs is the address of the next object.
+/// If every reference refers to a start, the end, at which the next object will start, is not a name in the graph.
 pub fn end_is_unused()
     ensures { (space : SpaceWords) (roots : List ℕ)
         → IsSpace space → IsClosed space.words roots
         → IsUnused (graph_of (image_with space roots)) (end_of space) }
 {}
 
-/// References stay references to starts when the written word is a value that refers only to a start. Each word that is read is
-/// such a word.
+/// After a write of a valid word, every reference still refers to a start. A word is valid if it is a value and, if a reference,
+/// refers to a start. In a raw object it is a number below 2^63. Every word that is read is valid.
 pub fn references_stay_to_starts()
     ensures empty { (size count : ℕ) → IsClosed (empty_space size).words (replicate count 0) }
     ensures value { (words : List ℕ) (v : Value)

@@ -1,9 +1,9 @@
-/// Why a certificate is refused. Pairs, fields and roots are counted from 0.
+/// The first condition of a certificate that fails. Pairs, fields and roots are counted from 0.
 #[derive(Clone, Copy, Debug, PartialEq, Eq)]
 pub enum Refusal {
-    /// The old image is not shaped. The place is 0, or the first address where an object has to start and none does.
+    /// The old image is not shaped. `at` is 0, or the first address at which an object should start and none does.
     OldShape { at: u64 },
-    /// The new image is not shaped, in the same way.
+    /// The new image is not shaped. `at` is as for the old image.
     NewShape { at: u64 },
     /// The images have different numbers of roots.
     RootCount,

@@ -10,8 +10,8 @@ use thiserror::Error;
 #[derive(Clone, Copy, Debug, PartialEq, Eq, Error)]
 #[error("not shaped")]
 pub struct ShapeFault {
-    /// The first address whose word is no header or whose object runs past the end; 0 if the number of words is not the end, or
-    /// if word 0 is not 0.
+    /// The first address at which an object should start and none does, or from which an object runs past the end. It is 0 if
+    /// the number of words is not the end, or if word 0 is not 0.
     pub at: u64,
 }
 
@@ -37,8 +37,8 @@ pub fn walk(words: &[u64], end: u32, raws: bool) -> Result<(), ShapeFault>
     Ok(())
 }
 
-/// Returns the place behind the object that starts here; None if no header stands here, or if the object runs past
-/// the words. `raws` says whether headers of raw objects count.
+/// Returns the place after the object that starts here, or `None` if this word is not a header or the object runs past
+/// the last word. `raws` says whether headers of raw objects count.
 pub fn next_in(words: &[u64], at: usize, raws: bool) -> Option<usize>
     requires { at < length words.now }
     ensures { result ≡ next_in raws words.now at }
@@ -52,7 +52,7 @@ pub fn next_in(words: &[u64], at: usize, raws: bool) -> Option<usize>
     }
 }
 
-/// Returns the same where headers of raw objects count.
+/// Returns the same if headers of raw objects count.
 pub(crate) fn next_start(words: &[u64], at: usize) -> Option<usize>
     requires { at < length words.now }
     ensures { result ≡ next_of words.now at }

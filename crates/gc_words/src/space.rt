@@ -61,7 +61,7 @@ impl Space {
         self.size
     }
 
-    /// Returns the end of the last object, which is the first free word.
+    /// Returns the address of the first free word, which is the end of the last object.
     pub fn end(&self) -> u32
         ensures value { result ≡ end_of self.now }
         ensures shaped { IsSpace self.now }
@@ -85,15 +85,15 @@ impl Space {
         self.words.as_slice()
     }
 
-    /// Returns whether an object starts here. Walks over the objects before it; no other call does. No event needs it: it is
-    /// for clients that hold an address of unknown origin, and for tests.
+    /// Returns whether an object starts here. Walks over all objects before it, so no event uses it: it is for clients that
+    /// hold an address of unknown origin, and for tests.
     pub fn is_start(&self, at: Addr) -> bool
         ensures { result ≡ is_start self.now.words at.0 }
     {
         has_start(&self.words, at.0 as usize)
     }
 
-    /// Returns whether an object with `len` fields has room.
+    /// Returns whether there is room for an object with `len` fields.
     pub fn has_room(&self, len: u16) -> bool
         ensures { IsTrue result ↔ HasRoomFor self.now len }
     {
@@ -142,7 +142,7 @@ impl Space {
         Header::read(self.words[at.0 as usize]).unwrap()
     }
 
-    /// Returns the address behind the object that starts here: the next object's, or the end.
+    /// Returns the address after the object that starts here: the next object's, or the end.
     pub fn next_start(&self, at: Addr) -> Addr
         requires { IsTrue (is_start self.now.words at.0) }
         ensures next { next_of self.now.words at.0 ≡ Some result.0 }
@@ -224,7 +224,7 @@ impl Space {
         }
     }
 
-    /// Returns the words up to the end, and drops the free ones.
+    /// Returns the words up to the end, including links, without a copy.
     pub fn into_words(self) -> Vec<u64>
         ensures value { result.items ≡ self.words }
         ensures shaped { IsSpace self }

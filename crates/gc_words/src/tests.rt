@@ -75,7 +75,7 @@ fn raw_headers_count_where_they_should(rt: HostRuntime) {
     assert_eq!(rt; walk(&words, 4, false), Err(ShapeFault { at: 1 }));
 }
 
-/// A copy has the field words, whatever they look like, and link 0.
+/// A copy has the same field words, whatever they look like, and link 0.
 #[test]
 fn raw_object_is_copied(rt: HostRuntime) -> Result<(), Fail> {
     let mut from = Space::new(rt.alloc(), 9)?;
@@ -91,7 +91,7 @@ fn raw_object_is_copied(rt: HostRuntime) -> Result<(), Fail> {
     Ok(())
 }
 
-/// An exactly full space: an object of two fields, and one that refers to it by a field and a link.
+/// Fills a space exactly: an object with two fields, and one that refers to it in a field and in its link.
 #[test]
 fn space_is_filled(rt: HostRuntime) -> Result<(), Fail> {
     let mut space = Space::new(rt.alloc(), 9)?;

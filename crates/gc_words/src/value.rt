@@ -29,11 +29,11 @@ pub enum Value {
     Ref(Addr),
 }
 
-/// The smallest even word that is no value: its address would have more than 20 bits.
+/// The smallest even word that is not a value: its address would have more than 20 bits.
 const NO_REFERENCE: u64 = 2_097_152;
 
-/// Decodes a word: 0 is nil, `2n + 1` the number n, `2a` a reference to the address a, which is below 2^20. None for any
-/// other word.
+/// Decodes a word: 0 is nil, `2n + 1` the number n, `2a` a reference to the address a, which is below 2^20. Returns
+/// `None` for any other word.
 pub fn decode(word: u64) -> Option<Value>
     ensures value { option_map graph_value result ≡ read_value word }
     ensures address { IfSome result (λ value. HasAddress (graph_value value)) }
@@ -49,7 +49,7 @@ pub fn decode(word: u64) -> Option<Value>
     }
 }
 
-/// Returns the address that a word refers to; None for nil and for numbers.
+/// Returns the address that a word refers to, or `None` for nil and numbers.
 pub fn target_of(word: u64) -> Option<Addr>
     requires { IsTrue (is_value word) }
     ensures { option_map (λ a. a.0) result ≡ name_of (value_of word) }
@@ -60,7 +60,7 @@ pub fn target_of(word: u64) -> Option<Addr>
     }
 }
 
-/// Encodes the value: `decode` reads the word as it.
+/// Encodes the value as a word, which `decode` decodes again.
 pub fn encode(value: Value) -> u64
     requires { HasAddress (graph_value value) }
     ensures word { result ≡ word_of (graph_value value) }

@@ -10,11 +10,11 @@ abbrev pub is_name : List ℕ → Bool
 is_name [] = true
 is_name (b ∷ bs) = nat_le 58 b && is_name bs
 
--- exactly this line
+-- accepts exactly this line
 unfoldable pub is_line : List ℕ → List ℕ → Option (Unit {0})
 is_line wanted line = if bytes_eq line wanted then Some tt else None
 
--- whether raw headers count, by a first line
+-- whether raw headers count, as the first line says
 unfoldable pub raws_in : List ℕ → Option Bool
 raws_in line = if bytes_eq line (heading false) then Some false else if bytes_eq line (heading true) then Some true else None
 
@@ -29,7 +29,7 @@ pair_of tokens = do
   new ← number_at 4294967295 old.1
   if_all_taken (old.0, new.0) new.1
 
--- a name and a number up to this
+-- a name and a number of at most `most`
 unfoldable pub count_of : List ℕ → ℕ → Tokens → Option ℕ
 count_of name most tokens = do
   rest ← token_at name tokens

@@ -1,4 +1,4 @@
--- Printed lines: they are buffered behind what is buffered already, or go out with it.
+-- Printed lines are buffered after what is already buffered, or go out with it.
 use Rattle.std.specs.Prelude.{ℕ, List, ◌++◌, Option}
 use Rattle.gc_graph.specs.Lines.{text_of}
 use Rattle.gc_graph.specs.Streams.{SendsFront, HasSent}

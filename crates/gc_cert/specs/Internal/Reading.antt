@@ -18,7 +18,7 @@ pub record IsReading (r : PairReader) : Type 0 where
   pub bounded : r.pieces.read ≤ limit
   pub limit_is : r.pieces.limit ≡ limit
 
--- A reader that has these bytes left reads this text, and has come to this place in it.
+-- The reader, which has these bytes left, is reading this text and has reached this place in it.
 pub record IsAt (text : List ℕ) (p : Place) (r : PairReader) (left : Option (List ℕ)) : Type 0 where
   pub within : IsWithin text p.rest r.pieces left
   pub taken_is : p.taken ≡ r.taken
@@ -30,12 +30,12 @@ CannotRead TooLarge text left = (limit < length text) × (left ≡ Some (drop (l
 CannotRead NoMemory text left = ⊤
 CannotRead fault text left = ⊥
 
--- the reader cannot read on, or the text goes on behind this place
+-- the reader cannot continue, or the text continues after this place
 abbrev pub GoesOn : PairFault → List ℕ → Place → Option (List ℕ) → Type 0
 GoesOn (BadLine n) text p left = (p.rest ≢ []) × (n ≡ p.taken + 1) × (length text ≤ limit)
 GoesOn fault text p left = CannotRead fault text left
 
--- the faults that may replace a section at this place; a fault of the text is known once the whole text was read
+-- the faults that may replace a section at this place; a fault of the text is known only once the whole text was read
 abbrev pub MayEnd : Section → PairFault → List ℕ → Place → Option (List ℕ) → Type 0
 MayEnd S Read text p left = ⊤
 MayEnd S TooLarge text p left = (limit < length text) × (left ≡ Some (drop (limit + 1) text))
@@ -48,6 +48,6 @@ Takes lines_of S result old old_left new new_left = (text : List ℕ) (p : Place
     (λ value. (q : Place) × IsAt text q new new_left × HasTaken (lines_of value) p q)
     (λ fault. MayEnd S fault text p new_left)
 
--- the faults that may replace a pair of a text; of a text that is too large, one byte more than the limit was read
+-- the faults that may replace a pair of a text; if the text is too large, one byte more than the limit was read
 abbrev pub MayFailHaving : PairFault → List ℕ → Option (List ℕ) → Type 0
 MayFailHaving fault text left = MayFail fault text × (fault ≡ TooLarge → left ≡ Some (drop (limit + 1) text))

@@ -55,7 +55,7 @@ pub record IsCutIn (S : Section) (p : Place) : Type 0 where
   pub good : Begins S before
   pub not_all : ¬ S before
 
--- what is wrong with a next line that may not stand there
+-- the fault of a next line that is not allowed there
 abbrev pub IsLineFault : PairFault → Place → Type 0
 IsLineFault Read p = ⊥
 IsLineFault TooLarge p = ⊥

@@ -14,12 +14,12 @@ pub record MarksStarts (words : List ℕ) (marks : List Bool) : Type 0 where
   pub walked : IsOk (walk_words words)
   pub starts : (place : ℕ) → slice_index_or marks place false ≡ is_start words place
 
--- By old address: the new address that is paired with it, or 0.
+-- The entry at an old address is the new address that is paired with it, or 0.
 pub record HoldsPartners (partners : List ℕ) (pairs : List (ℕ × ℕ)) : Type 0 where
   pub pair : (a b : ℕ) → 1 ≤ b → (slice_index partners a == b) ≡ paired pairs a b
   pub taken : (a : ℕ) → not (slice_index partners a == 0) ≡ list_any (λ q. q.0 == a) pairs
 
--- what is wrong with the place of pair k, by the partners of those before it and the last new address among them
+-- the fault of pair k's addresses, given the partners of the pairs before it and the last new address among them
 abbrev pub entry_fault : Image → Image → List ℕ → ℕ → ℕ → ℕ × ℕ → Option Refusal
 entry_fault old new partners last k p =
     when (not (is_start old.words p.0)) (OldNotStart k)
@@ -27,7 +27,7 @@ entry_fault old new partners last k p =
     or_else when (nat_le p.1 last) (NotRising k)
     or_else when (not (slice_index partners p.0 == 0)) (Twice k)
 
--- fewer pairs than a `u32` can count, all in their places, and the table of partners made from them
+-- a `u32` can count the pairs, their addresses have no fault, and the table holds the partners of these pairs
 pub record HasTables (checked : Checked) (row : List ℕ) : Type 0 where
   pub few : length checked.pairs < 2 ^ 32
   pub placed : table_fault checked.old checked.new checked.pairs ≡ None

@@ -1,4 +1,4 @@
-//! Small pairs of images, with what the rules say of them.
+//! Small pairs of images, with the answers that the checker must give.
 
 use super::{Row, image, refused, with_raws, yes};
 use crate::Refusal;
@@ -30,14 +30,14 @@ pub(super) fn few_pairs() -> [Row; 13] {
             pairs: &[],
             answer: refused(Refusal::OldShape { at: 0 }),
         },
-        // A field refers to no start.
+        // The root refers to an address at which no object starts.
         Row {
             old: image(8, 4, &[0, 16777217, 0, 1], &[6]),
             new: image(8, 4, &[0, 16777217, 0, 1], &[6]),
             pairs: &[(1, 1)],
             answer: refused(Refusal::RootDiffers { slot: 0 }),
         },
-        // What the second field refers to has no replica.
+        // The target of the second field has no replica.
         Row {
             old: image(8, 7, &[0, 16777218, 0, 1, 10, 16777216, 0], &[2]),
             new: image(8, 5, &[0, 16777218, 0, 1, 2], &[2]),
@@ -51,7 +51,7 @@ pub(super) fn few_pairs() -> [Row; 13] {
             pairs: &[(1, 1)],
             answer: yes(1),
         },
-        // The number 4, and a reference to 4.
+        // The number 4 and a reference to 4 do not correspond.
         Row {
             old: image(9, 4, &[0, 16777217, 0, 9], &[2]),
             new: image(9, 4, &[0, 16777217, 0, 8], &[2]),
@@ -84,7 +84,7 @@ pub(super) fn few_pairs() -> [Row; 13] {
             pairs: &[(1, 1)],
             answer: yes(1),
         },
-        // A word that is no value corresponds to none, not even to itself.
+        // A word that is not a value corresponds to no word, not even to itself.
         Row {
             old: image(8, 4, &[0, 16777217, 0, 2097152], &[2]),
             new: image(8, 4, &[0, 16777217, 0, 2097152], &[2]),
@@ -94,7 +94,7 @@ pub(super) fn few_pairs() -> [Row; 13] {
     ]
 }
 
-/// Returns the rows of two pairs, and one whose old image ends within an object.
+/// Returns the rows with two pairs, and one whose old image ends within an object.
 pub(super) fn many_pairs() -> [Row; 5] {
     [
         // Two objects have one replica.
@@ -111,7 +111,7 @@ pub(super) fn many_pairs() -> [Row; 5] {
             pairs: &[(1, 1), (1, 3)],
             answer: refused(Refusal::Twice { k: 1 }),
         },
-        // The second pair is of a field.
+        // The second pair has the addresses of a field.
         Row {
             old: image(8, 4, &[0, 16777217, 0, 1], &[6]),
             new: image(8, 4, &[0, 16777217, 0, 1], &[6]),
@@ -150,7 +150,7 @@ pub(super) fn raw_objects() -> [Row; 6] {
             pairs: &[(1, 1)],
             answer: yes(1),
         },
-        // A raw word is the number 18 and no reference to 9.
+        // The raw word 18 is a number, not a reference to 9.
         Row {
             old: with_raws(9, 4, &[0, 50331649, 0, 18], &[2]),
             new: with_raws(9, 4, &[0, 50331649, 0, 18], &[2]),

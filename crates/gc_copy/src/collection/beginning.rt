@@ -41,7 +41,7 @@ impl Collection {
     }
 }
 
-// A log for each mutator.
+// Returns an empty log for each mutator.
 fn empty_logs(alloc: Global, mutators: u8) -> Result<Vec<MutationLog>, NoMemory>
     ensures { IfOk result (λ logs. map entries_of logs.items ≡ replicate mutators []) }
 {

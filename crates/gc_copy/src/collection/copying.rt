@@ -20,12 +20,12 @@ use crate::log::LogEntry;
 use gc_heap::Heap;
 use gc_words::{Addr, NewAddr, OldAddr, Space, Value, encode, target_of};
 
-/// The new space has no room for a replica that has to be placed.
+/// The new space has no room for a replica that is needed.
 #[derive(Debug, Drop)]
 pub(super) struct NoRoom;
 
 impl Collection {
-    /// Returns the replica of an original, which the original's link names.
+    /// Returns the address of an object's replica, which is the object's link, or `None` if the link is 0.
     pub(super) fn replica_of(&self, heap: &Heap, original: OldAddr) -> Option<NewAddr>
         requires belongs { BelongsTo heap.now self.now }
         requires start { IsTrue (is_start heap.now.space.words original.0) }
@@ -81,7 +81,7 @@ impl Collection {
         Ok(())
     }
 
-    /// Places a replica of what the word refers to, unless it has one.
+    /// Places a replica of the object that the word refers to, if any, unless it has one.
     pub(super) fn replicate_target(&mut self, heap: &mut Heap, word: u64) -> Result<(), NoRoom>
         requires belongs { BelongsTo heap.old self.old }
         requires word { IsRootWord heap.old.space.words word }
@@ -104,8 +104,8 @@ impl Collection {
         self.place_replica(heap, original)
     }
 
-    /// Reads the original's present field and writes the same nil or number, or the reference to the target's
-    /// replica, into the replica. The word of a raw field is copied.
+    /// Reads the original's field as it is now, and writes the same nil, number or raw word to the replica. For a reference
+    /// it writes one to the target's replica, which it places first if there is none.
     pub(super) fn bring_up_to_date(
         &mut self,
         heap: &mut Heap,
@@ -132,7 +132,7 @@ impl Collection {
         }
     }
 
-    /// The same for a raw object.
+    /// Brings a field of a raw object's replica up to date.
     fn copy_field(&mut self, heap: &Heap, original: OldAddr, replica: NewAddr, field: u16)
         requires belongs { BelongsTo heap.now self.old }
         requires field { IsSome (field_at heap.now.space.words original.0 field) }
@@ -147,7 +147,7 @@ impl Collection {
         self.space.set_field(Addr(replica.0), field, word);
     }
 
-    /// The same for any other object.
+    /// Brings a field of any other object's replica up to date.
     fn move_field(
         &mut self,
         heap: &mut Heap,
@@ -174,7 +174,7 @@ impl Collection {
         Ok(())
     }
 
-    /// Brings the entry's field up to date, or skips it if its object has no replica.
+    /// Brings the entry's field up to date, or does nothing if its object has no replica.
     pub(super) fn apply_entry(&mut self, heap: &mut Heap, entry: LogEntry) -> Result<(), NoRoom>
         requires belongs { BelongsTo heap.old self.old }
         requires field { IsSome (field_at heap.old.space.words entry.object.0 entry.field) }
@@ -193,7 +193,7 @@ impl Collection {
     }
 }
 
-/// Places the words of a fresh replica, and returns its address.
+/// Places a fresh replica in the new space, and returns its address.
 fn place_fresh(space: &mut Space, heap: &Heap, original: OldAddr) -> Addr
     requires start { IsTrue (is_start heap.now.space.words original.0) }
     requires room { (h : Header) → header_at heap.now.space.words original.0 ≡ Some h → HasRoomFor space.old h.len }

@@ -32,7 +32,7 @@ impl Collection {
         self.space.image(roots)
     }
 
-    /// Switches the mutators to the new space, with its links cleared and with these roots, which `new_roots` returned. Returns
+    /// Switches the mutators to the new space and to these roots, which `new_roots` returned. Clears the new space's links. Returns
     /// the old space, including links, and the old roots.
     pub fn flip_into(self, heap: &mut Heap, roots: Vec<u64>) -> (Space, Vec<u64>)
         requires belongs { BelongsTo heap.old self }
@@ -54,8 +54,8 @@ impl Collection {
     }
 
     /// Ends the collection without a flip: frees the new space (to-space) and the logs, and clears the old space's
-    /// links. Only originals have a link, and each replica's link names its original. So the work is in the
-    /// replicas that were placed, and not in the objects of the heap.
+    /// links. Only originals have links, and each replica's link leads to its original. So the work grows with
+    /// the number of replicas, not with the number of objects in the heap.
     pub fn drop_into(self, heap: &mut Heap)
         requires { BelongsTo heap.old self }
         ensures step { collect (open_state heap.old self) Step.Drop ≡ (StepReply.Dropped, idle_state heap.new) }

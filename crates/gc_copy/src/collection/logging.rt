@@ -22,7 +22,7 @@ impl Collection {
         self.reserve_more(m, 1)
     }
 
-    /// Makes room for this many more entries in mutator `m`'s log. No entry changes, and no log loses room.
+    /// Makes room for `more` further entries in mutator `m`'s log. No entry changes, and no log loses room.
     #[inline(always)]
     pub fn reserve_more(&mut self, m: u8, more: usize) -> Result<(), NoMemory>
         requires { m < length self.old.logs }
@@ -35,7 +35,7 @@ impl Collection {
         self.logs[m as usize].reserve(more)
     }
 
-    /// Logs a field that mutator `m` wrote. `reserve` has made the room.
+    /// Logs a field that mutator `m` wrote. Needs room in the log, which `reserve` makes.
     pub fn note(&mut self, m: u8, object: OldAddr, field: u16)
         requires log { m < length self.old.logs }
         requires room { 1 ≤ spare_of self.old m }
@@ -43,14 +43,14 @@ impl Collection {
             ≡ with_log (collection_in self.old) m (log_at (collection_in self.old) m ++ (object.0, field) ∷ []) }
         ensures space { self.new.space ≡ self.old.space }
         ensures spare { spare_of self.old m ≤ spare_of self.new m + 1 }
-        // What is noted may differ from then on.
+        // If only this field was out of date, the collection belongs to the heap again.
         ensures belongs { (heap : HeapWords) → HasField (graph_in heap).objects object.0 field
             → BelongsToBut ((object.0, field) ∷ []) heap self.old → BelongsTo heap self.new }
     {
         self.logs[m as usize].note(LogEntry { object, field });
     }
 
-    /// Returns the first mutator whose log has an entry.
+    /// Returns the first mutator whose log has an entry, or `None`.
     pub fn next_log(&self) -> Option<u8>
         ensures { result ≡ first_log 0 (collection_in self.now).logs }
     {

@@ -35,7 +35,7 @@ impl Collection {
         }
     }
 
-    /// Performs mutator `m`'s `Put`, and logs the field if it wrote it (the write barrier). `reserve` has made room in the log.
+    /// Performs mutator `m`'s `Put`, and logs the field if it was written (the write barrier). Needs room in the log (`reserve`).
     #[inline(always)]
     pub fn put(&mut self, heap: &mut Heap, m: u8, s: Slot, i: u16, t: Slot) -> Reply
         requires belongs { BelongsTo heap.old self.old }

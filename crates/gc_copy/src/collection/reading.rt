@@ -1,4 +1,4 @@
-//! What a debugger or a runtime's own decisions read of an open collection.
+//! Reads the state of an open collection, for a debugger or for a runtime that decides which step comes next.
 
 ghost use Rattle.std.specs.Prelude.{◌≡◌, ◌<◌, length, slice_get};
 ghost use Rattle.std.specs.Option.{option_map};
@@ -18,28 +18,28 @@ impl Collection {
         self.space.size()
     }
 
-    /// Returns the first word of the new space (to-space) that no replica takes.
+    /// Returns the address of the first free word in the new space (to-space).
     pub fn end(&self) -> u32
         ensures { result ≡ new_end (collection_in self.now) }
     {
         self.space.end()
     }
 
-    /// Returns the place in the new space that the scan pointer has come to.
+    /// Returns the scan pointer's place in the new space.
     pub fn scan_place(&self) -> u32
         ensures { result ≡ self.now.scan_place }
     {
         self.scan_place.0
     }
 
-    /// Returns how many fields of the replica at the scan pointer are scanned.
+    /// Returns the number of scanned fields of the replica at the scan pointer.
     pub fn scan_field(&self) -> u16
         ensures { result ≡ self.now.scan_field }
     {
         self.scan_field
     }
 
-    /// Returns how many entries mutator `m`'s log has.
+    /// Returns the number of entries in mutator `m`'s log.
     pub fn log_len(&self, m: u8) -> usize
         requires { m < length self.now.logs }
         ensures { result ≡ length (log_at (collection_in self.now) m) }
@@ -47,7 +47,7 @@ impl Collection {
         self.logs[m as usize].len()
     }
 
-    /// Returns entry `k` of mutator `m`'s log, counted from the oldest; None if it has no such entry.
+    /// Returns entry `k` of mutator `m`'s log, counted from the oldest, or `None` if there is no such entry.
     pub fn log_entry(&self, m: u8, k: usize) -> Option<LogEntry>
         requires { m < length self.now.logs }
         ensures { option_map entry_in result ≡ slice_get (log_at (collection_in self.now) m) k }

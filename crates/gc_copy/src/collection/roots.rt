@@ -37,7 +37,7 @@ impl Collection {
         None
     }
 
-    /// Returns what a word refers to, if that has no replica.
+    /// Returns the object that a word refers to, if it has no replica.
     fn target_without_replica(&self, heap: &Heap, word: u64) -> Option<OldAddr>
         requires belongs { BelongsTo heap.now self.now }
         requires word { IsRootWord heap.now.space.words word }
@@ -52,7 +52,7 @@ impl Collection {
         Some(target)
     }
 
-    /// Returns the root words after a flip: each reference is to the replica. Allocates once.
+    /// Returns the root words for after a flip: each reference leads to the replica instead of the original. Allocates once.
     pub fn new_roots(&self, alloc: Global, heap: &Heap) -> Result<Vec<u64>, NoMemory>
         requires belongs { BelongsTo heap.now self.now }
         requires done { IsTrue (roots_done_in (collection_in self.now) (graph_in heap.now)) }

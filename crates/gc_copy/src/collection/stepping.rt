@@ -38,8 +38,8 @@ impl Collection {
         }
     }
 
-    /// Brings the field at the scan pointer up to date (`Scanned` or `NoRoom`), or moves on to the next replica (`Passed`; at once
-    /// from a raw one). Returns `Clean` if all is scanned. Does not allocate.
+    /// Brings the field at the scan pointer up to date (`Scanned` or `NoRoom`), or moves on to the next replica (`Passed`; a raw
+    /// one is passed immediately). Returns `Clean` if everything is scanned. Does not allocate.
     #[inline(always)]
     pub fn scan(&mut self, heap: &mut Heap) -> StepReply
         requires { BelongsTo heap.old self.old }
@@ -104,11 +104,11 @@ impl Collection {
         self.scan_place.0 == self.space.end()
     }
 
-    /// Returns whether nothing is left to do: all logs are empty, all is scanned, and the target of each root has a replica.
+    /// Returns whether nothing is left to do: all logs are empty, everything is scanned, and the target of each root has a replica.
     pub fn ready(&self, heap: &Heap) -> bool
         requires { BelongsTo heap.now self.now }
         ensures ready { result ≡ is_ready (collection_in self.now) (graph_in heap.now) }
-        // So its flip will pass the checker.
+        // So a checker will accept its flip.
         ensures certified { IsTrue result → Certified (image_of heap.now)
             (image_with self.now.space (new_root_words heap.now (collection_in self.now)))
             (pairs_of (collection_in self.now)) }
@@ -121,7 +121,7 @@ impl Collection {
     }
 }
 
-/// Returns whether nothing is left to scan from this field on. A raw object has nothing to scan.
+/// Returns whether nothing is left to scan from this field on. A raw object is never scanned.
 fn is_scanned(header: Header, field: u16) -> bool
     ensures { result ≡ (header.raw || (field == header.len)) }
 {

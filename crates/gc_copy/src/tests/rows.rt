@@ -1,4 +1,4 @@
-//! Rows: a test states what happens to an open collection, and each answer, as one table. `play` performs the rows in
+//! Rows: a test lists what happens to an open collection, with the answers, as a table. `play` performs the rows in
 //! order.
 
 ghost use Rattle.std.specs.Prelude.{◌≡◌, ◌<◌};
@@ -52,7 +52,7 @@ pub fn put(s: Slot, i: u16, t: Slot) -> Op {
     Op::Put { s, i, t }
 }
 
-/// Returns the command that reads field `i` of the object in slot `s` to slot `d`.
+/// Returns the command that reads field `i` of the object in slot `s` into slot `d`.
 pub fn get(d: Slot, s: Slot, i: u16) -> Op {
     Op::Get { d, s, i }
 }
@@ -133,7 +133,7 @@ fn perform(
     Ok(())
 }
 
-/// Tests that the answer at this place of a table is the one that the row has.
+/// Tests that the answer at this place of a table is the one in the row.
 fn expect<T: Copy + PartialEq + Debug>(rt: &impl Abort, place: usize, got: T, want: T) {
     assert_eq!(rt; got, want, "row {place}");
 }

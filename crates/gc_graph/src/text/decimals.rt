@@ -10,8 +10,9 @@ use core::dec2flt::read_digits;
 /// The smallest number of twenty digits.
 const LEAST_OF_TWENTY: u64 = 10000000000000000000;
 
-/// Returns whether the digits at the front of the text are the decimal of a number below 2^64. `count` is how many there are,
-/// and `wrapped` their value modulo 2^64. Twenty digits that begin with 1 write too great a number where `wrapped` has fewer.
+/// Returns whether the digits at the front of the text are the decimal of a number below 2^64. `count` is the number of digits,
+/// and `wrapped` is their value modulo 2^64. Twenty digits that begin with 1 spell too large a number exactly if `wrapped` has
+/// fewer than twenty digits.
 #[inline(always)]
 fn is_decimal(text: &[u8], count: usize, wrapped: u64) -> bool
     requires some { 0 < count }
@@ -26,7 +27,8 @@ fn is_decimal(text: &[u8], count: usize, wrapped: u64) -> bool
     }
 }
 
-/// Returns the number below 2^64 whose decimal the text begins with, and what follows its digits. None if there is none.
+/// Returns the number whose decimal is at the front of the text, and the rest of the text. Returns `None` if the text does not
+/// begin with the decimal of a number below 2^64.
 #[inline(always)]
 pub fn front_number(text: &[u8]) -> Option<(u64, &[u8])>
     ensures { MatchOption result ((n : ℕ) (rest : List ℕ) → ¬ BeginsWithNumber text.now n rest)
@@ -40,7 +42,7 @@ pub fn front_number(text: &[u8]) -> Option<(u64, &[u8])>
     }
 }
 
-/// Returns the number whose decimal the token is, if it is at most `most`.
+/// Returns the number that the token spells in decimal, if it is at most `most`.
 pub fn number(token: &[u8], most: u64) -> Option<u64>
     ensures value { result ≡ number_of most token.now }
     ensures small { IfSome result (λ n. n ≤ most) }

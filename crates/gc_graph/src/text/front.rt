@@ -1,7 +1,7 @@
 use crate::text::decimals::front_number;
 use std::marker::Model;
 
-/// The rest of a text. Calls take parts from its front; a call whose part does not stand there takes nothing.
+/// The rest of a text. A call takes something from its front, or returns `None` and takes nothing.
 #[derive(Drop)]
 pub struct Front<'a> {
     rest: &'a [u8],
@@ -35,7 +35,7 @@ impl<'a> Front<'a> {
         self.rest
     }
 
-    /// Takes this byte.
+    /// Takes the first byte if it is `byte`.
     #[inline(always)]
     pub fn byte(&mut self, byte: u8) -> Option<()>
         ensures { MatchOption result ((self.new ≡ self.old) × ((rest : List ℕ) → self.old ≢ byte ∷ rest))
@@ -50,7 +50,7 @@ impl<'a> Front<'a> {
         }
     }
 
-    /// Takes the decimal of a number that is at most `most`, with all digits that stand there.
+    /// Takes a decimal number that is at most `most`. It ends at the first byte that is not a digit.
     #[inline(always)]
     pub fn number(&mut self, most: u64) -> Option<u64>
         ensures { MatchOption result

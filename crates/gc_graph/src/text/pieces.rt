@@ -5,10 +5,10 @@ use std::marker::Model;
 use std::mem::swap;
 use thiserror::Error;
 
-/// The maximum number of bytes of one read. They lie on the stack, which may be small.
+/// The maximum number of bytes of one read. The buffer is on the stack, which may be small.
 const PIECE: usize = 8192;
 
-/// Why a reader's bytes could not be read.
+/// The reason why a text could not be read.
 #[derive(Clone, Copy, Debug, PartialEq, Eq, Error)]
 pub enum ReadFault {
     #[error("cannot read")]
@@ -23,10 +23,10 @@ pub enum ReadFault {
 /// A text that is read piece by piece. It keeps the bytes that were read and not yet taken.
 #[derive(Drop)]
 pub struct Pieces {
-    // The bytes from `at` on wait.
+    // The bytes before `at` were taken; the others wait.
     bytes: Vec<u8>,
     at: usize,
-    // Takes the waiting bytes when those in front of them are dropped.
+    // The waiting bytes move here when the taken ones are dropped.
     spare: Vec<u8>,
     read: usize,
     limit: usize,
@@ -51,7 +51,7 @@ impl Pieces {
     ghost use Rattle.gc_graph.specs.Pieces.{nothing_read, IsWithin};
     ghost use Rattle.gc_graph.specs.declared.text.pieces.ReadFault.{ReadFault};
 
-    /// Returns a text of at most `limit` bytes, of which nothing was read.
+    /// Returns a text with a limit of `limit` bytes, before the first read.
     pub fn new(alloc: Global, limit: usize) -> Self
         ensures { result ≡ nothing_read limit }
     {
@@ -101,7 +101,7 @@ impl Pieces {
         Ok(())
     }
 
-    /// Reads one piece, and returns how many bytes it has. 0 is the end.
+    /// Reads one piece and returns its number of bytes; 0 means the end of the text.
     fn read_piece<R: Read>(&mut self, reader: &mut Source<R>) -> Result<usize, ReadFault>
         ensures within { (text rest : List ℕ) → IsWithin text rest self.old (bytes_left R.remaining reader.old) → MatchResult result
             (λ _. IsWithin text rest self.new (bytes_left R.remaining reader.new))
@@ -133,10 +133,10 @@ impl Pieces {
         Ok(count)
     }
 
-    /// Reads on until at least twice as many bytes wait, or the end is met. Returns whether any bytes came. All that
-    /// was taken is dropped.
+    /// Drops the bytes that were taken, and reads until at least twice as many bytes wait as before, or the text ends.
+    /// Returns whether any bytes came.
     pub fn more<R: Read>(&mut self, reader: &mut Source<R>) -> Result<bool, ReadFault>
-        // The text stays the same. Without more bytes, all that is left of it waits.
+        // It is still the same text. If no bytes came, all that is left of it waits.
         ensures within { (text rest : List ℕ) → IsWithin text rest self.old (bytes_left R.remaining reader.old) → MatchResult result
             (λ _. IsWithin text rest self.new (bytes_left R.remaining reader.new))
             (λ fault. MayFailReading fault self.old.limit text) }
@@ -147,7 +147,7 @@ impl Pieces {
             × (self.new.read + length self.old.waiting ≡ self.old.read + length self.new.waiting)
             × (self.new.read ≤ self.new.limit)) }
         ensures limit { self.new.limit ≡ self.old.limit }
-        // Of a text above the limit, one byte more than the limit is read.
+        // If the text is longer than the limit, exactly one byte more than the limit was read.
         ensures stops { (text rest : List ℕ) → IsWithin text rest self.old (bytes_left R.remaining reader.old)
             → result ≡ Err ReadFault.TooLarge
             → bytes_left R.remaining reader.new ≡ Some (drop (self.old.limit + 1) text) }

@@ -6,7 +6,7 @@ use itoa::Buffer;
 use std::io::Write;
 use std::marker::Model;
 
-/// A buffer of up to 16 KiB for text on its way out. Does not allocate.
+/// A buffer for up to 16 KiB of output. Only `gather` and `gather_all` allocate.
 #[derive(Drop)]
 pub struct Printer {
     waiting: ArrayVec<u8, 16384>,
@@ -34,7 +34,7 @@ impl Printer {
         }
     }
 
-    /// Makes room for `count` bytes: writes the buffer if it has too little.
+    /// Makes room for `count` bytes: writes the buffer out if it has too little.
     pub fn make_room<W: Write>(&mut self, writer: &mut Sink<W>, count: usize) -> Result<(), Failed>
         requires { count ≤ 16384 }
         ensures room { OnOk result (length self.new + count ≤ 16384) }
@@ -50,8 +50,8 @@ impl Printer {
         self.flush(writer)
     }
 
-    /// Makes room for `count` bytes: moves the buffer to the end of the text if it has too little. On `NoMemory` nothing has
-    /// moved.
+    /// Makes room for `count` bytes: moves the buffered bytes to the end of the text if the buffer has too little. On
+    /// `NoMemory` nothing has moved.
     pub fn gather(&mut self, text: &mut Vec<u8>, count: usize) -> Result<(), NoMemory>
         requires { count ≤ 16384 }
         ensures room { OnOk result (length self.new + count ≤ 16384) }
@@ -64,7 +64,7 @@ impl Printer {
         Ok(())
     }
 
-    /// Moves the buffer to the end of the text. On `NoMemory` nothing has moved.
+    /// Moves the buffered bytes to the end of the text. On `NoMemory` nothing has moved.
     pub fn gather_all(&mut self, text: &mut Vec<u8>) -> Result<(), NoMemory>
         ensures empty { OnOk result (self.new ≡ []) }
         ensures moved { text.new.items ++ self.new ≡ text.old.items ++ self.old }
@@ -105,7 +105,7 @@ impl Printer {
         self.number(n);
     }
 
-    /// Writes the buffer, and empties it.
+    /// Writes the buffer out and empties it.
     pub fn flush<W: Write>(&mut self, writer: &mut Sink<W>) -> Result<(), Failed>
         ensures empty { OnOk result (self.new ≡ []) }
         ensures ok { OnOk result (Appends

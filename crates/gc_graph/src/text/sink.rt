@@ -61,7 +61,7 @@ impl<W: Write> Sink<W> {
         }
     }
 
-    /// Writes all of the text, or a prefix of it before the writer fails.
+    /// Writes all of the text. If the writer fails, a prefix of the text was written.
     pub fn write_all(&mut self, text: &[u8]) -> Result<(), Failed>
         ensures ok { OnOk result (Appends
             (bytes_written W.contents self.old) (bytes_written W.contents self.new) text.now) }

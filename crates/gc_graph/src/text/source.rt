@@ -5,7 +5,7 @@ ghost use Rattle.std.specs.Io.KnownBytes.{ReadConsumes};
 use std::io::Read;
 use thiserror::Error;
 
-/// A reader or a writer failed, with any error.
+/// A read or a write failed. The kind of error is not kept.
 #[derive(Clone, Copy, Debug, PartialEq, Eq, Error)]
 #[error("failed")]
 pub struct Failed;

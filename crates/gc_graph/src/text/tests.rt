@@ -21,7 +21,7 @@ impl Read for Zeroes {
     }
 }
 
-/// Reads on until the end was met, 64 times at most. Returns how many bytes wait then.
+/// Calls `more` until the text ends, at most 64 times. Returns the number of bytes that then wait.
 fn waiting_at_end(pieces: &mut Pieces, source: &mut Source<Zeroes>) -> Result<usize, ReadFault> {
     for _ in 0..64 {
         if !pieces.more(source)? {
@@ -31,7 +31,7 @@ fn waiting_at_end(pieces: &mut Pieces, source: &mut Source<Zeroes>) -> Result<us
     Ok(pieces.waiting().len())
 }
 
-/// Reads all of `left` bytes. Returns how many there were, and how many of them one more read takes.
+/// Reads `left` zeroes under a limit. Returns the number of bytes that came, or the fault, and how many bytes one more read gets.
 fn had(alloc: Global, left: usize, limit: usize) -> (Result<usize, ReadFault>, usize) {
     let mut source = Source::new(Zeroes { left, piece: 1 });
     let had = waiting_at_end(&mut Pieces::new(alloc, limit), &mut source);
@@ -50,7 +50,7 @@ fn all_bytes_up_to_the_limit(rt: HostRuntime) {
     assert_eq!(rt; had(rt.alloc(), 1, 0), (Err(ReadFault::TooLarge), 0));
 }
 
-/// The bytes that were taken go, and the others stay in their order.
+/// Taken bytes are dropped, and the others stay in order.
 #[test]
 fn bytes_wait_until_they_are_taken(rt: HostRuntime) -> Result<(), ReadFault> {
     let mut source = Source::new(b"one two".as_slice());

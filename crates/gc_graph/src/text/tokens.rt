@@ -55,7 +55,7 @@ impl<'a> Tokens<'a> {
         self.rest.is_none()
     }
 
-    /// Takes the decimal of a number that is at most `most`.
+    /// Takes the next token. Returns the number that it spells in decimal, if that is at most `most`.
     #[tactic(auto, unfolding(crate::specs::Tokens::number_at))]
     pub fn number(&mut self, most: u64) -> Option<u64>
         ensures value { MatchOption result (number_at most self.old ≡ None) (λ n. number_at most self.old ≡ Some (n, self.new)) }
@@ -64,7 +64,7 @@ impl<'a> Tokens<'a> {
         decimals::number(self.next_token()?, most)
     }
 
-    /// Takes the next token if it is this one.
+    /// Takes the next token. Returns `Some` if it is `wanted`.
     #[tactic(auto, unfolding(crate::specs::Tokens::token_at))]
     pub fn token(&mut self, wanted: &[u8]) -> Option<()>
         ensures { MatchOption result (token_at wanted.now self.old ≡ None) (λ _. token_at wanted.now self.old ≡ Some self.new) }
@@ -77,7 +77,7 @@ impl<'a> Tokens<'a> {
     }
 }
 
-/// Splits like `cut`, byte by byte. Tokens are short, so this is faster than a search that has to start for each.
+/// Splits like `cut`, but byte by byte: tokens are short, so setting up a search for each one would take longer.
 fn cut_near(byte: u8, text: &[u8]) -> Option<(&[u8], &[u8])>
     ensures { MatchOption result (HasNo byte text.now)
         (λ parts. (text.now ≡ parts.0.now ++ byte ∷ parts.1.now) × HasNo byte parts.0.now) }

@@ -1,4 +1,4 @@
-//! A call for each command of a mutator. Each has the command's own clause, and `Heap::apply` is a match over them. None allocates.
+//! One call for each mutator command, with that command's contract. `Heap::apply` calls them. None allocates.
 
 ghost use Rattle.std.specs.Prelude.{◌≡◌, ◌<◌};
 ghost use Rattle.gc_graph.specs.declared.command.Op.{Op};
@@ -24,7 +24,7 @@ impl Heap {
         self.make_at(d.place(m), false, kind, len)
     }
 
-    /// Makes a raw object, whose fields are plain numbers, all 0, like `new_object`.
+    /// Makes a raw object, as `new_object` makes others: its fields are plain numbers, all 0.
     pub fn new_raw(&mut self, m: u8, d: Slot, kind: u8, len: u16) -> Reply
         requires { m < self.old.mutators }
         ensures performs { Performs self.old m (Op.NewRaw d kind len) result self.new }
@@ -57,7 +57,7 @@ impl Heap {
         self.set_at(d.place(m), encode(Value::Nil))
     }
 
-    /// Sets `d` to what `s` holds: `Done`.
+    /// Sets `d` to the value of `s`: `Done`.
     pub fn move_slot(&mut self, m: u8, d: Slot, s: Slot) -> Reply
         requires { m < self.old.mutators }
         ensures performs { Performs self.old m (Op.Move d s) result self.new }
@@ -82,7 +82,7 @@ impl Heap {
         }
     }
 
-    /// Does the same as `get`, but does not read the object that it found: it tells no kind and no length.
+    /// Does the same as `get`, but does not read an object that it finds, so the result has no kind and no length.
     pub fn fetch(&mut self, m: u8, d: Slot, s: Slot, i: u16) -> Fetched
         requires { m < self.old.mutators }
         ensures fetches { Fetches self.old m d s i result self.new }
@@ -108,7 +108,7 @@ impl Heap {
         self.take_at(d.place(m), s.place(m), i)
     }
 
-    /// Sets field `i` of the object that `s` refers to to what `t` holds: `Done`, `NoObject`, `NoField` or `NoNumber`.
+    /// Writes the value of `t` to field `i` of the object that `s` refers to: `Done`, `NoObject`, `NoField` or `NoNumber`.
     pub fn put(&mut self, m: u8, s: Slot, i: u16, t: Slot) -> Reply
         requires { m < self.old.mutators }
         ensures performs { Performs self.old m (Op.Put s i t) result self.new }
@@ -119,7 +119,7 @@ impl Heap {
         self.put_at(s.place(m), i, t.place(m))
     }
 
-    /// Compares what `s` and `t` hold: `Yes` or `No`.
+    /// Compares the values of `s` and `t`: `Yes` or `No`.
     pub fn same(&self, m: u8, s: Slot, t: Slot) -> Reply
         requires { m < self.now.mutators }
         ensures performs { Performs self.now m (Op.Same s t) result self.now }
@@ -130,7 +130,7 @@ impl Heap {
         self.same_at(s.place(m), t.place(m))
     }
 
-    /// Looks at what `s` holds: `Saw`.
+    /// Returns what mutators see of the value of `s`: `Saw`.
     pub fn look(&self, m: u8, s: Slot) -> Reply
         requires { m < self.now.mutators }
         ensures performs { Performs self.now m (Op.Look s) result self.now }

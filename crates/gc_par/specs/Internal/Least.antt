@@ -1,10 +1,10 @@
--- The first faulty pair, as the least of the numbers that the pairs give.
+-- The first faulty pair is the least of the numbers that the pairs give.
 use Rattle.std.specs.Prelude.{◌≡◌, ℕ, ◌<◌, ◌≤◌, true, if◌then◌else◌, Option, None, is_some}
 use Rattle.gc_words.specs.Fault.{pair_fault}
 use Rattle.gc_words.specs.declared.refusal.Refusal.{Refusal}
 use Rattle.gc_check.specs.Tables.{Checked, pair_at}
 
--- of the objects that pair k joins
+-- the fault of the objects of pair k
 abbrev pub fault_at : Checked → ℕ → Option Refusal
 fault_at checked k = pair_fault checked.old checked.new checked.pairs k (pair_at checked.pairs k)
 

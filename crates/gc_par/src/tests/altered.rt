@@ -1,4 +1,4 @@
-//! The pairs of two flips, with each number changed in turn: all checks give the slow one's answer.
+//! The image pairs of two flips, with each number changed in turn: every checker gives the slow one's answer.
 
 use super::slow_check::slow_check;
 use super::texts::TEXT_CHECKS;
@@ -13,7 +13,7 @@ use std::process::Abort;
 use std::test::Fail;
 use std::thread::Threads;
 
-/// The images and the pairs that a flip compared.
+/// Two images and the pairs of a certificate, as a flip checks them.
 #[derive(Clone, Copy)]
 struct Flip<'a> {
     old: ImageRef<'a>,
@@ -21,7 +21,7 @@ struct Flip<'a> {
     pairs: &'a [Pair],
 }
 
-/// Sixteen slots that mutators share, and sixteen of one mutator, which begin with these.
+/// Returns the roots of one mutator: sixteen shared slots, then its own sixteen, which begin with these words.
 const fn roots(first: u64, second: u64, third: u64, fourth: u64) -> [u64; 32] {
     [
         0, 0, 0, 0, 0, 0, 0, 0, 0, 0, 0, 0, 0, 0, 0, 0, first, second, third, fourth, 0, 0, 0, 0,
@@ -29,7 +29,7 @@ const fn roots(first: u64, second: u64, third: u64, fourth: u64) -> [u64; 32] {
     ]
 }
 
-/// Returns the lists that differ from this one in one number, which is 0, one more, or the greatest.
+/// Returns the lists that differ from this one in one number: there it is 0, one more, or the greatest.
 fn alterations(alloc: Global, numbers: &[u64], greatest: u64) -> Result<Vec<Vec<u64>>, AllocError> {
     let mut lists = Vec::new(alloc);
     for (place, number) in numbers.iter().enumerate() {
@@ -72,7 +72,7 @@ fn as_verdict(answer: Result<Yes, CheckFault>) -> Result<Verdict, RunFault> {
     }
 }
 
-/// Asserts that all checks give this answer, those of texts as a verdict.
+/// Asserts that every checker gives this answer, the checkers of texts as a verdict.
 fn expect_answer(
     rt: &(impl Threads + Sync + Abort),
     alloc: Global,
@@ -97,7 +97,7 @@ fn expect_answer(
     Ok(())
 }
 
-/// Asserts that all checks give the slow one's answer.
+/// Asserts that every checker gives the slow one's answer.
 fn expect_agreement(
     rt: &(impl Threads + Sync + Abort),
     alloc: Global,
@@ -106,7 +106,7 @@ fn expect_agreement(
     expect_answer(rt, alloc, flip, slow_check(flip.old, flip.new, flip.pairs))
 }
 
-/// The images with each word of either in turn changed.
+/// Changes each word of either image in turn.
 fn expect_agreement_on_words(
     rt: &(impl Threads + Sync + Abort),
     alloc: Global,
@@ -125,7 +125,7 @@ fn expect_agreement_on_words(
     Ok(())
 }
 
-/// The images with each root of either in turn changed.
+/// Changes each root of either image in turn.
 fn expect_agreement_on_roots(
     rt: &(impl Threads + Sync + Abort),
     alloc: Global,
@@ -144,7 +144,7 @@ fn expect_agreement_on_roots(
     Ok(())
 }
 
-/// The pairs with each address in turn changed.
+/// Changes each address of the pairs in turn.
 fn expect_agreement_on_pairs(
     rt: &(impl Threads + Sync + Abort),
     alloc: Global,
@@ -159,7 +159,7 @@ fn expect_agreement_on_pairs(
     Ok(())
 }
 
-/// Two objects that refer to each other, and one of them to itself.
+/// Two objects refer to each other, and one of them to itself.
 #[test]
 fn cycle_of_two(rt: HostRuntime) -> Result<(), Fail> {
     let words = [0, 16842754, 1, 10, 2, 16908289, 5, 2];
@@ -176,7 +176,7 @@ fn cycle_of_two(rt: HostRuntime) -> Result<(), Fail> {
     expect_agreement_on_pairs(&rt, rt.alloc(), flip)
 }
 
-/// A raw object whose words look like references, or like no value, and one that refers to it.
+/// A raw object has a word that looks like a reference and one that is not a value; another object refers to it.
 #[test]
 fn raw_words_are_no_references(rt: HostRuntime) -> Result<(), Fail> {
     let words = [0, 50397186, 1, 18, 18446744073709551614, 16777217, 5, 2];
@@ -196,7 +196,7 @@ fn raw_words_are_no_references(rt: HostRuntime) -> Result<(), Fail> {
     expect_agreement_on_pairs(&rt, rt.alloc(), flip)
 }
 
-/// One object is kept, at another address, and one is left behind. Only the first own slot is not nil.
+/// Returns a flip that keeps one object, at another address, and leaves one behind.
 fn one_kept<'a>(old_roots: &'a [u64; 32], new_roots: &'a [u64; 32]) -> Flip<'a> {
     Flip {
         old: image(9, &[0, 16842754, 0, 0, 0, 16842754, 1, 0, 0], old_roots),
@@ -218,7 +218,7 @@ fn one_of_two_is_kept(rt: HostRuntime) -> Result<(), Fail> {
     expect_agreement_on_pairs(&rt, rt.alloc(), flip)
 }
 
-/// Six forgeries of that pair.
+/// Forged variants of `one_kept` get the right answers.
 #[test]
 fn forgeries_get_their_answers(rt: HostRuntime) -> Result<(), Fail> {
     let alloc = rt.alloc();

@@ -1,5 +1,5 @@
-//! Tests for failed allocations, as `rt try --test --fail-alloc N` makes the N-th fail. The answer is the usual one, or
-//! `NoMemory`. The other tests have enough memory, and want the usual answers.
+//! Tests for failed allocations, such as the N-th under `rt try --test --fail-alloc N`. The answer is the usual one or
+//! `NoMemory`. The other tests need enough memory, and expect the usual answers.
 
 use super::{changed, image, long_words, pair};
 use crate::{check_par, check_text_par};

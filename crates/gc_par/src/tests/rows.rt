@@ -12,7 +12,7 @@ use std::process::Abort;
 use std::test::Fail;
 use std::thread::Threads;
 
-/// The lines between the first and the last, with slashes in place of line feeds, and the line of the verdict.
+/// The lines between the first and the last, with slashes instead of line feeds, and the line of the verdict.
 pub(super) const ROWS: [(&str, &str); 18] = [
     ("old 1 1/0/roots 1/0/new 1 1/0/roots 1/0/pairs 0", "yes 0\n"),
     (
@@ -131,7 +131,7 @@ fn read_row(alloc: Global, version: u32, lines: &str) -> Result<PairFile, Fail> 
     Ok(read_pair(alloc, &mut Source::new(text.as_bytes()))?)
 }
 
-/// Nothing, one object kept with garbage left behind, and old addresses that fall.
+/// The rows without objects, with one object kept and garbage left behind, and with falling old addresses get a yes.
 #[test]
 fn pairs_that_are_read_get_yes(rt: HostRuntime) -> Result<(), Fail> {
     let alloc = rt.alloc();
@@ -148,12 +148,12 @@ fn pairs_that_are_read_get_yes(rt: HostRuntime) -> Result<(), Fail> {
     Ok(())
 }
 
-/// Words that may stand anywhere in the rows.
+/// Words to put at any place of the rows.
 const WORDS: [u64; 11] = [
     0, 1, 2, 3, 6, 16777216, 16777217, 16842752, 2097152, 50331648, 50331649,
 ];
 
-/// Asserts that both checkers give the slow one's answer.
+/// Asserts that `check` and `check_par` give the slow checker's answer.
 fn expect_slow_answer(
     rt: &(impl Threads + Sync + Abort),
     alloc: Global,
@@ -175,7 +175,7 @@ fn with_roots<'a>(image: ImageRef<'a>, roots: &'a [u64]) -> ImageRef<'a> {
     ImageRef { roots, ..image }
 }
 
-/// Checks the pair with another word at one place of the old words and roots, and then of the new ones.
+/// Checks the pair with one word changed, first in the old words and roots, then in the new ones.
 fn expect_neighbours(
     rt: &(impl Threads + Sync + Abort),
     alloc: Global,

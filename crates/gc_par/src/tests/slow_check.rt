@@ -1,4 +1,4 @@
-//! A slow checker, which follows the rules one after the other with nested loops and no tables.
+//! A slow checker, which follows the rules one after the other, with nested loops and without tables.
 
 use gc_check::{CheckFault, Refusal, Yes};
 use gc_words::{Header, ImageRef, Pair};
@@ -62,7 +62,7 @@ fn shape(image: ImageRef) -> Option<u64> {
     None
 }
 
-// Headers of raw objects count in some images.
+// Returns the header that a word encodes, if any. In some images headers of raw objects do not count.
 fn header_in(image: ImageRef, word: u64) -> Option<Header> {
     let header = Header::read(word)?;
     if header.is_raw() && !image.raws {
@@ -125,7 +125,8 @@ fn objects(old: ImageRef, new: ImageRef, cert: &[Pair], k: u64, pair: Pair) -> O
     None
 }
 
-// Nil and nil, a number and the same, or references to a pair: words below 2^21 that are even and not 0.
+// Returns whether both are nil, both are the same number, or both are references to the objects of a pair. A reference is an
+// even word below 2^21, but not 0.
 fn correspond(cert: &[Pair], v: u64, w: u64) -> bool {
     if v == 0 || v % 2 == 1 {
         return v == w;

@@ -1,4 +1,4 @@
-//! Tests with readers and writers that give and take few bytes, and then fail.
+//! Tests with readers and writers that give or take few bytes, and then fail.
 
 use super::texts::{LEAST, TEXT_CHECKS, line};
 use gc_cert::PairFault;
@@ -8,7 +8,7 @@ use std::io;
 use std::io::{ErrorKind, Read, Write};
 use std::test::Fail;
 
-/// Gives one byte at a time, and then ends or fails.
+/// A reader that gives one byte at a time, and then ends or fails.
 #[derive(Drop)]
 struct Slow<'a> {
     bytes: &'a [u8],
@@ -30,7 +30,7 @@ impl Read for Slow<'_> {
     }
 }
 
-/// Takes three bytes, and then none or fails.
+/// A writer that takes three bytes, and then takes none or fails.
 #[derive(Drop)]
 struct Narrow {
     taken: Vec<u8>,

@@ -10,7 +10,7 @@ use std::io::{Read, Write};
 use std::test::Fail;
 use std::thread::Threads;
 
-/// A check of a text.
+/// A checker of texts.
 #[derive(Clone, Copy, Debug)]
 pub(super) enum TextCheck {
     Sequential,

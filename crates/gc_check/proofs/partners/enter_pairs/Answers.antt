@@ -4,7 +4,7 @@ use Rattle.gc_check.proofs.StartMarks.{low_start}
 use Rattle.gc_check.proofs.PartnerRow.{entered_fault, entered_one, entered_within}
 use Rattle.gc_check.proofs.partners.enter_pairs.Goals as goal
 
--- any pair: a read within the certificate does not ask
+-- any pair will do: a read within the certificate does not use it
 abbrev none : Pair
 none = record { old = record { 0 = 0 }; new = record { 0 = 0 } }
 

@@ -4,7 +4,7 @@ use Rattle.gc_words.specs.Walking.{walk_on}
 use Rattle.gc_check.proofs.StartMarks.{MarksTo}
 use Rattle.gc_check.proofs.starts.mark_starts.Given as goal
 
--- what the rest of the walk finds is what the whole walk finds, and the objects so far are marked
+-- the rest of the walk finds what the whole walk finds, and the objects so far are marked
 abbrev pub invariant-loop-at : goal.invariant-loop-at
 invariant-loop-at l = record {
   same : fault_of_walk (walk_on l.raws l.words 1) ≡ fault_of_walk (walk_on l.raws l.words l.at);

@@ -5,7 +5,7 @@ use Rattle.gc_check.specs.Verdict.{pairs_of}
 use Rattle.gc_check.proofs.Placements.{table_parts, pair_joins, walks}
 use Rattle.gc_check.proofs.tables.Tables.pair_fault.Goals as goal
 
--- any pair: a read within the certificate does not ask
+-- any pair will do: a read within the certificate does not use it
 abbrev none : Pair
 none = record { old = record { 0 = 0 }; new = record { 0 = 0 } }
 

@@ -20,7 +20,7 @@ copied s t b new same space whole room made =
     subst (λ words. Copies (record { size = s.size; words = words }) t b) (sym flat)
     (record { space = (block_placed s b can).0; words = ap (λ (s : SpaceWords). with_block s b) same })
 
--- the object that is copied, and what is known of it
+-- the object that is copied, with facts about it
 pub record Copied (s : SpaceWords) (a : ℕ) : Type 0 where
   pub block : Block
   pub found : block_at s.words a ≡ Some block
