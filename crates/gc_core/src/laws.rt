@@ -1,4 +1,4 @@
-//! Laws: what follows from the definitions, without a history.
+//! A law: a consequence of the definitions. It speaks of runs, and needs no history.
 
 ghost use Rattle.std.specs.Prelude.{ℕ, List, ◌≤◌};
 ghost use Rattle.gc_graph.specs.Legal.{IsLegal};
