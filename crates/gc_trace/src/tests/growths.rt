@@ -48,14 +48,14 @@ fn wide() -> Narrow {
     Narrow::new(512, End::Broken)
 }
 
-/// Asks for the text's report. Returns the result, and the writer afterwards.
+/// Plays the text and writes its report. Returns the result, and the writer with what it took.
 fn reported(alloc: Global, text: &[u8]) -> (Result<Report, PlayFault>, Narrow) {
     let mut sink = Sink::new(wide());
     let answer = play_report(alloc, &mut Source::new(text), &mut sink);
     (answer, sink.into_inner())
 }
 
-/// Asks for the pair of the text's first flip. Returns the result, and the writer afterwards.
+/// Plays the text and writes the pair of its first flip. Returns the result, and the writer with what it took.
 fn paired(alloc: Global, text: &[u8]) -> (Result<(), PlayFault>, Narrow) {
     let mut sink = Sink::new(wide());
     let answer = play_pair(alloc, 1, &mut Source::new(text), &mut sink);
