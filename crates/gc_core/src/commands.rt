@@ -144,8 +144,8 @@ impl CollectedHeap {
         Ok(collection.put(&mut self.heap, m, s, i, t))
     }
 
-    /// Sets `t` to the number, and then writes it to field `i` of the object that `s` refers to: a `num` followed by a
-    /// `put`, in one call. Returns the reply to the `put`. Returns `NoMemory` only while a collection is open; the heap
+    /// Performs a `num` and a `put` in one call: sets `t` to the number, and then writes it to field `i` of the object
+    /// that `s` refers to. Returns the reply to the `put`. Returns `NoMemory` only while a collection is open; the heap
     /// is then unchanged.
     pub fn put_number(
         &mut self,
@@ -175,8 +175,8 @@ impl CollectedHeap {
     }
 
     /// Makes an object of this kind with two fields, which take what `s` and `t` hold, and sets `d` to a reference to
-    /// it: a `new_object` followed by two `put`s, in one call. Returns `Made`, or `Full` if there is no room; then
-    /// nothing has changed. `d` is set first, so a field filled from slot `d` refers to the object itself. Returns
+    /// it. This is a `new_object` followed by two `put`s, in one call. Returns `Made`, or `Full` if there is no room;
+    /// then nothing has changed. `d` is set first, so a field filled from slot `d` refers to the object itself. Returns
     /// `NoMemory` only while a collection is open; the heap is then unchanged.
     pub fn cons(&mut self, m: u8, d: Slot, kind: u8, s: Slot, t: Slot) -> Result<Reply, NoMemory>
         requires { m < self.old.mutators }
@@ -209,9 +209,9 @@ impl CollectedHeap {
     }
 
     /// Makes an object of this kind and sets `d` to a reference to it. `fields` has a slot number for each field, which
-    /// takes what that slot holds: a `new_object` followed by a `put` for each field, in one call. Returns `Made`, or
-    /// `Full` if there is no room; then nothing has changed. `d` is set first, so a field filled from slot `d` refers
-    /// to the object itself. Returns `NoMemory` only while a collection is open; the heap is then unchanged.
+    /// takes what that slot holds. This is a `new_object` followed by a `put` for each field, in one call. Returns
+    /// `Made`, or `Full` if there is no room; then nothing has changed. `d` is set first, so a field filled from slot
+    /// `d` refers to the object itself. Returns `NoMemory` only while a collection is open; the heap is then unchanged.
     pub fn new_from(&mut self, m: u8, d: Slot, kind: u8, fields: &[u8]) -> Result<Reply, NoMemory>
         requires mutator { m < self.old.mutators }
         requires few { length fields.now < lengths }

@@ -6,8 +6,8 @@ use gc_graph::Slot;
 /// The number of slots that a mutator can name: sixteen of its own, and the sixteen that all mutators share.
 pub const SLOT_NUMBERS: u8 = 32;
 
-/// Returns the slot with this number, which is below `SLOT_NUMBERS`: a slot of the mutator's own if the number is below
-/// 16, otherwise a shared one.
+/// Returns the slot with this number, which must be below `SLOT_NUMBERS`. Numbers below 16 are the mutator's own slots,
+/// and the others are the shared ones.
 #[inline(always)]
 pub fn numbered_slot(number: u8) -> Slot
     requires { number < slot_numbers }

@@ -148,8 +148,8 @@ impl CollectedHeap {
         }
     }
 
-    /// Returns the useful step. If it finds that no root's target still needs a replica, it remembers that, so that the
-    /// next calls need not look at the roots until a command comes.
+    /// Returns the useful step. If it finds that every root's target has a replica, it remembers that. The next calls
+    /// then look at no root until a command comes.
     #[inline(always)]
     pub fn next_useful_step(&mut self) -> Step
         ensures useful { result ≡ useful_step self.old }

@@ -35,8 +35,8 @@ fresh mutators n = record { number = n; is_mutator = nat_lt n mutators; receipts
 abbrev pub receipt : ℕ → Event → Answer → Receipt
 receipt place event answer = record { place = place; event = event; answer = answer }
 
--- Some world can give this receipt: it has a history whose length is the receipt's place, and in the state of that
--- history the event gets this answer. So the history with both appended is a history too.
+-- Some world can give this receipt. The world has a history whose length is the receipt's place, and in its state the
+-- event gets this answer. So the history with both appended is a history too.
 pub record IsPossible (r : Receipt) : Type 0 where
   pub size : ℕ
   pub mutators : ℕ

@@ -1,4 +1,4 @@
--- After a good heading every text has a reading: it is a whole trace, or it has a bad line or an event of a mutator that does not exist.
+-- After a good heading every text is a whole trace, or it has a bad line or an event of a mutator that does not exist.
 use Rattle.std.proofs.Common.{◌≡◌, ℕ, suc, zero, ◌+◌, ◌<◌, ◌≤◌, Bool, true, false, leb, List, [], ◌∷◌, ◌++◌, length, refl, sym, ap, ◌∙◌, arith, append_assoc, subst, inl, inr, ◌⊎◌, Option, Some, None}
 use Rattle.std.specs.List.{flat_map}
 use Rattle.std.proofs.lemmas.Bool.{leb-true}

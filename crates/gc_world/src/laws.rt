@@ -32,7 +32,7 @@ pub fn histories_grow()
         ≡ after (state_after size mutators entries) entry.event }
 {}
 
-/// In every history, the replies that mutators got are possible without a collector: the same replies, except that an
+/// In every history, the replies that mutators got are possible without a collector. The one exception is that an
 /// allocation may find the heap full.
 pub fn runs_are_legal()
     ensures { (size mutators : ℕ) (entries : List Entry)

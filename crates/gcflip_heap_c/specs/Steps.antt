@@ -39,7 +39,7 @@ Flips (Some old) (Some new) answer = (reply : StepReply) × (collect old steps.F
     × FlipsOnly IsCertified old reply × (reply ≢ replies.Refused) × PassesIfReady old reply
 Flips old new answer = ⊥
 
--- a step in the state `old` got the reply with this number; it is not `NoRoom` if the new space is at least as large as the heap
+-- the reply with this number to a step in the state `old` is not `NoRoom`, if the new space is at least as large as the heap
 abbrev pub LacksNoRoom : Option State → ℕ → Type 0
 LacksNoRoom None answer = ⊥
 LacksNoRoom (Some old) answer = (reply : StepReply) × (answer ≡ step_reply_in_c reply) × HasRoomIfLarge old reply

@@ -150,7 +150,7 @@ pub extern "C" fn gcflip_heap_put(
     answer
 }
 
-/// Puts the number `n` into slot `t`, and then writes it to field `i` of the object that slot `s` refers to: a
+/// Puts the number `n` into slot `t`, and then writes it to field `i` of the object that slot `s` refers to. This is a
 /// `gcflip_heap_num` followed by a `gcflip_heap_put`, in one call. Allocates only while a collection is open.
 #[unsafe(no_mangle)]
 pub extern "C" fn gcflip_heap_put_number(
@@ -174,8 +174,8 @@ pub extern "C" fn gcflip_heap_put_number(
 }
 
 /// Makes an object of this kind with two fields, which take the values of slots `s` and `t`, and puts a reference to it
-/// into slot `d`: a `gcflip_heap_new` followed by two `gcflip_heap_put`, in one call. Slot `d` is set first, so a field
-/// filled from slot `d` refers to the object itself. Allocates only while a collection is open.
+/// into slot `d`. This is a `gcflip_heap_new` followed by two `gcflip_heap_put`, in one call. Slot `d` is set first, so a
+/// field filled from slot `d` refers to the object itself. Allocates only while a collection is open.
 #[unsafe(no_mangle)]
 pub extern "C" fn gcflip_heap_cons(
     alloc: Global,
@@ -198,8 +198,8 @@ pub extern "C" fn gcflip_heap_cons(
 }
 
 /// Makes an object of this kind, and puts a reference to it into slot `d`. `fields` has a slot number for each field, which takes
-/// the value of that slot: a `gcflip_heap_new` followed by a `gcflip_heap_put` for each field, in one call. Allocates only
-/// while a collection is open.
+/// the value of that slot. This is a `gcflip_heap_new` followed by a `gcflip_heap_put` for each field, in one call. Slot `d` is
+/// set first, so a field filled from slot `d` refers to the object itself. Allocates only while a collection is open.
 #[unsafe(no_mangle)]
 pub extern "C" fn gcflip_heap_new_from(
     alloc: Global,

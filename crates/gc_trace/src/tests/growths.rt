@@ -1,4 +1,4 @@
-//! A failed allocation, such as the N-th under `rt try --test --fail-alloc N`, is reported before anything is written, and the
+//! A failed allocation, such as the N-th under `rt try --test --fail-alloc N`, is reported before anything is written. The
 //! retried call gives the same result as if every allocation had succeeded. The texts and the writers do not allocate.
 
 ghost use Rattle.std.specs.Prelude.{IfOk};

@@ -44,7 +44,7 @@ form_of_command m op (replies.Saw (views.RawObj kind len)) = Command m (bare_rep
 form_of_command m op replies.Yes = Command m bare_replies.Yes op
 form_of_command m op replies.No = Command m bare_replies.No op
 
--- the form of an event and an answer; if the two do not fit together, no entry has them, and the form is an arbitrary one
+-- the form of an event and an answer; an arbitrary one if the two do not fit together, which no entry has
 abbrev pub form_of : Event → Answer → Form
 form_of (Mutate m op) (Mutator reply) = form_of_command m op reply
 form_of (Mutate m op) answer = Step false Begin Busy
