@@ -18,7 +18,8 @@ Allocates (BeginSized size) = ⊤
 Allocates Flip = ⊤
 Allocates step = ⊥
 
--- mutator m's `Get` leads from the old state to the new one, and `fetched` is what its reply shows without an object's kind and length
+-- mutator m's `Get` leads from the old state to the new one, and `fetched` is what its reply shows without an
+-- object's kind and length
 abbrev pub Fetches : State → ℕ → SlotName → SlotName → ℕ → Fetched → State → Type 0
 Fetches old m d s i fetched new = (reply : Reply) × (mutate old m (Get d s i) ≡ (reply, new)) × (fetched ≡ fetched_of reply)
 

@@ -31,7 +31,8 @@ entry_on r = entry_of r.event r.answer
 abbrev pub mark : Bool → ℕ
 mark b = cond b 1 0
 
--- the places of the receipts rise from `low`, and each receipt has the entry at its place in a history that starts at place o
+-- the places of the receipts rise from `low`, and each receipt has the entry at its place in a history that starts at
+-- place o
 abbrev pub Fits : ℕ → ℕ → List Entry → List Receipt → Type 0
 Fits low o h [] = Unit {0}
 Fits low o h (r ∷ rs) = (low ≤ r.place) × (slice_get h (r.place - o) ≡ Some (entry_on r)) × Fits (r.place + 1) o h rs
@@ -160,7 +161,8 @@ fits_from h (r ∷ rs) low rise same first =
 event_at : (history : List Entry) (i : ℕ) (d : Entry) (r : Receipt) → r.place ≡ i → slice_get history r.place ≡ Some (entry_of r.event r.answer) → get_or history i d ≡ entry_of r.event r.answer
 event_at history i d r here same = ap (λ (k : ℕ). get_or history k d) (sym here) ∙ get_or_from_slice_get history r.place (entry_of r.event r.answer) d same
 
--- if a test passes exactly the events of one seat, the entries of the history that pass it are those on the seat's receipts
+-- if a test passes exactly the events of one seat, the entries of the history that pass it are those on the seat's
+-- receipts
 pub selected : (history : List Entry) (seats : List SeatValue) (count s : ℕ) (T : Event → Bool) → AgreeByNumber history seats count → s < count → All (λ r. T r.event ≡ true) (receipts_of seats s) → ((t : ℕ) → t < count → t ≢ s → All (λ r. T r.event ≡ false) (receipts_of seats t)) → map entry_on (receipts_of seats s) ≡ filter (λ e. T e.event) history
 selected history seats count s T agree lt mine others =
     let rs = receipts_of seats s in

@@ -34,8 +34,8 @@ pub record IsSeated (o : Opening) (w : Past) (seats : List SeatValue) : Type 0 w
 
 -- ---- receipts in order
 
--- A receipt stands if the history has its event and answer at its place. The place must be at least `low`, and no receipt
--- of the earlier seats may have it.
+-- A receipt stands if the history has its event and answer at its place. The place must be at least `low`, and no
+-- receipt of the earlier seats may have it.
 pub record Stands (history : List Entry) (earlier : List Receipt) (low : ℕ) (r : Receipt) : Type 0 where
   pub recorded : IsRecorded history r
   pub above : low ≤ r.place

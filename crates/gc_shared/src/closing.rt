@@ -136,7 +136,7 @@ fn first_torn(history: &[Entry], seats: &[Seat], seat: u8, marks: &mut [bool]) -
     None
 }
 
-// Returns whether the history has the receipt's event and answer at its place, which is at or above `low` and not marked.
+// Returns whether the history has the receipt's event and answer at its place, at or above `low` and not marked.
 fn is_free(history: &[Entry], marks: &[bool], low: usize, receipt: &Receipt) -> bool
     requires { length marks.now ≡ length history.now }
     ensures free { IsTrue result ↔ IsFree history.now marks.now low receipt.now }

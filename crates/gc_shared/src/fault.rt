@@ -49,9 +49,9 @@ impl From<AllocError> for CallFault {
 pub enum CloseKind {
     /// The seats are not those of the opening, each once.
     Seats,
-    /// Receipt `n` of this seat is the first one that is wrong (both count from 0). Either it differs from the history
-    /// at its place, or the place is not above that of the receipt before it. Or a receipt of a seat with a lower
-    /// number has the same place.
+    /// Receipt `n` of this seat is the first one that is wrong (both count from 0). It differs from the history at its
+    /// place, its place is not above that of the receipt before it, or a receipt of a seat with a lower number has the
+    /// same place.
     Torn { seat: u8, n: usize },
     /// The history has more events than the seats have receipts.
     Extra,

@@ -159,7 +159,7 @@ fn read_to_end<R: Read>(pieces: &mut Pieces, reader: &mut Source<R>) -> Result<(
     Ok(())
 }
 
-/// A trace text that is read event by event. It holds the bytes of a few lines, or the rest of the text if a line is bad.
+/// A trace text that is read event by event. Holds the bytes of a few lines, or the rest of the text if a line is bad.
 #[derive(Drop)]
 pub struct EventReader {
     pub version: u8,

@@ -12,8 +12,8 @@ use gc_graph::{Number, Op, Slot};
 use gc_words::MOST_WORDS;
 use gc_world::Event;
 
-/// Returns the number below 16 that the first byte, or both bytes, spell in decimal, and the number of its digits. To be
-/// fast, no branch depends on the number of digits.
+/// Returns the number below 16 that the first byte, or both bytes, spell in decimal, and the number of its digits. To
+/// be fast, no branch depends on the number of digits.
 #[inline(always)]
 fn small_number(first: u8, second: u8) -> Option<(u8, usize)>
     ensures { IfSome result (λ found. (found.0 < 16) × (found.1 ≤ 2)

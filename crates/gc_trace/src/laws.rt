@@ -22,8 +22,8 @@ pub fn texts_have_one_reading()
     ensures fault { (f g : TraceFault) (text : List ℕ) → IsTraceFaultOf f text → IsTraceFaultOf g text → f ≡ g }
 {}
 
-/// The text of a world's history is read back as its events, if the text is within the limit. Playing these events gives the
-/// history's answers.
+/// The text of a world's history is read back as its events, if the text is within the limit. Playing these events
+/// gives the history's answers.
 pub fn written_is_read()
     ensures read { (size mutators : ℕ) (entries : List Entry)
         → IsHistory size mutators entries

@@ -73,8 +73,8 @@ pub fn play_report<R: Read, W: Write>(
     }
 }
 
-/// Reads a trace, plays it up to its n-th flip, counted from 1, and writes the text of that flip's pair. The text has both
-/// images as the checker saw them, and the certificate.
+/// Reads a trace, plays it up to its n-th flip, counted from 1, and writes the text of that flip's pair. The text has
+/// both images as the checker saw them, and the certificate.
 pub fn play_pair<R: Read, W: Write>(
     alloc: Global,
     n: u32,

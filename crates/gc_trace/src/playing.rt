@@ -61,7 +61,7 @@ pub struct Played {
     pub report: Report,
 }
 
-/// Plays events in order in its own heap. It keeps no history, only counts of the answers and, if asked to, the reply lines.
+/// Plays events in order in its own heap. Keeps no history, only counts of the answers and, if asked to, the reply lines.
 #[derive(Drop)]
 pub struct Player {
     heap: CollectedHeap,

@@ -184,8 +184,9 @@ fn least_version(history: &[Entry]) -> u8
     version
 }
 
-/// Writes the trace of a history's events, for a space of `size` words and `mutators` mutators. The text is in the first
-/// version that has all its lines. If the writer fails, a prefix of the text has been written. Does not allocate.
+/// Writes the trace of a history's events, for a space of `size` words and `mutators` mutators. The text is in the
+/// first version that has all its lines. If the writer fails, a prefix of the text has been written. Does not
+/// allocate.
 pub fn write_trace<W: Write>(
     writer: &mut Sink<W>,
     size: u32,

@@ -1,4 +1,4 @@
--- A world as contracts see it: its opening size and number of mutators, its history, and the pair kept by its last flip.
+-- A world as contracts see it: its opening size and number of mutators, its history, and the kept pair of a flip.
 use Rattle.std.specs.Prelude.{ℕ, List, [], ◌∷◌, ◌++◌, Option}
 use Rattle.gc_copy.specs.State.{State}
 use Rattle.gc_cert.specs.Grammar.{CertifiedPair}

@@ -15,8 +15,8 @@ ghost use Rattle.gc_world.specs.History.{unmarked, events_of, state_after, told_
 ghost use Rattle.gc_world.specs.History.{IsUseful, IsHistory};
 ghost use Rattle.gc_world.specs.declared.entry.Entry.{Entry};
 
-/// The empty list is a history. A history followed by an event with the core's answer is a history, if the mark `Useful`
-/// is only on the useful step. The state after it is the one that the event leaves.
+/// The empty list is a history. A history followed by an event with the core's answer is a history, if the mark
+/// `Useful` is only on the useful step. The state after it is the one that the event leaves.
 pub fn histories_grow()
     ensures opening { (size mutators : ℕ)
         → 1 ≤ size → size ≤ most_words → 1 ≤ mutators → mutators ≤ most_mutators → IsHistory size mutators [] }

@@ -9,8 +9,8 @@ use Rattle.gc_copy.specs.Runs.{commands_of}
 use Rattle.gc_world.specs.History.{events_of, IsHistory}
 use Rattle.gc_world.specs.declared.entry.Entry.{Entry}
 
--- A history of a world with the trace's size and number of mutators. Each mutator performed its commands of the trace, in
--- order. The collector performed this many steps, and the answer to each is marked `Useful`.
+-- A history of a world with the trace's size and number of mutators. Each mutator performed its commands of the
+-- trace, in order. The collector performed this many steps, and the answer to each is marked `Useful`.
 pub record IsThreadedRun (t : Recording) (turns : ℕ) (entries : List Entry) : Type 0 where
   pub history : IsHistory t.size t.mutators entries
   pub commands : (m : ℕ) → m < t.mutators → commands_of m (events_of entries) ≡ commands_of m t.events

@@ -8,7 +8,7 @@ use Rattle.gc_check.specs.Texts.{verdict_on}
 use Rattle.gc_check.specs.Verdict.{verdict_line}
 use Rattle.gcflip.specs.Statuses.{verdict_status}
 
--- the text spells a pair, the status is that of the verdict on the pair, and the verdict's line went out, and nothing else
+-- the text spells a pair, the status is that of the verdict on it, and only the verdict's line went out
 pub record TellsVerdict (text : List ℕ) (status : ℕ) (old new : Option (List ℕ)) : Type 0 where
   pub pair : CertifiedPair
   pub read : IsReadAsPair pair text

@@ -109,7 +109,7 @@ fn command<'a>(alloc: Global) -> Result<Command<'a>, Error>
     )
 }
 
-/// Returns the task of `pair FILE N`. Clap has checked the number's range. It is checked again, so that the prover knows it.
+/// Returns the task of `pair FILE N`. Clap has checked the number's range; the check here proves it.
 fn pair_task<'a>(matches: &ArgMatches<'_>, file: &'a str) -> Option<Task<'a>>
     ensures { IfSome result (λ task. IsFor (codes "pair") file.entry.now task × IsInRange task) }
 {

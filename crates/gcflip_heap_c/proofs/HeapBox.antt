@@ -1,4 +1,4 @@
--- A box of a collected heap over the C library's allocator. Its parts own what it owns, and so does the handle of a heap.
+-- A box of a collected heap over the C library's allocator. Its parts own what it owns, and so does a heap's handle.
 use mathlib.Core.List.{[]}
 use mir.Syntax.{impl, tnil, dnil}
 use denote.RattleType.{RattleType}

@@ -34,8 +34,8 @@ abbrev pub Replies : ℕ → Option Op → (Reply → Type 0) → Option State �
 Replies m (Some op) shown (Some old) (Some new) = (reply : Reply) × (mutate old m op ≡ (reply, new)) × shown reply
 Replies m op shown old new = ⊥
 
--- What a call returns, and the state after it. `did` is what a call does unless it is refused. `refuses` holds of the states
--- in which its arguments are out of range.
+-- What a call returns, and the state after it. `did` is what a call does unless it is refused. `refuses` holds of the
+-- states in which its arguments are out of range.
 pub record IsCall (refuses : State → Type 0) (did : Type 0) (old new : Option State) (answer : ℕ) : Type 0 where
   pub done : ¬ IsRefusal answer → did
   -- a refused call changes nothing

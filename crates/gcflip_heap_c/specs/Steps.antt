@@ -32,14 +32,15 @@ pub record IsStepCall (step : Step) (shown : StepReply → Type 0) (old new : Op
   pub outside : (answer ≡ 2) ↔ IsSomeAnd old (IsNoStep step)
   pub closed : (answer ≡ 3) ↔ (old ≡ None)
 
--- A flip in the state `old` gets the reply with this number. It flips only if the certificate holds, it is not refused, and a
--- ready collection flips.
+-- A flip in the state `old` gets the reply with this number. It flips only if the certificate holds, it is not
+-- refused, and a ready collection flips.
 abbrev pub Flips : Option State → Option State → ℕ → Type 0
 Flips (Some old) (Some new) answer = (reply : StepReply) × (collect old steps.Flip ≡ (reply, new)) × (answer ≡ step_reply_in_c reply)
     × FlipsOnly IsCertified old reply × (reply ≢ replies.Refused) × PassesIfReady old reply
 Flips old new answer = ⊥
 
--- the reply with this number to a step in the state `old` is not `NoRoom`, if the new space is at least as large as the heap
+-- the reply with this number to a step in the state `old` is not `NoRoom`, if the new space is at least as large as
+-- the heap
 abbrev pub LacksNoRoom : Option State → ℕ → Type 0
 LacksNoRoom None answer = ⊥
 LacksNoRoom (Some old) answer = (reply : StepReply) × (answer ≡ step_reply_in_c reply) × HasRoomIfLarge old reply

@@ -1,4 +1,5 @@
-//! The exports that perform mutators' commands. Each takes the heap out of the handle, performs its command, and puts the heap back.
+//! The exports that perform mutators' commands. Each takes the heap out of the handle, performs its command, and puts
+//! the heap back.
 
 ghost use Rattle.std.specs.Prelude.{◌≡◌, ◌≢◌, ◌∷◌, [], IsSomeAnd, IsSome};
 ghost use Rattle.std.specs.Option.{option_map};
@@ -35,7 +36,7 @@ pub extern "C" fn gcflip_heap_new(
     answer
 }
 
-/// Makes a raw object of this kind, and puts a reference to it into slot `d`. Its `count` fields are plain numbers, all 0.
+/// Makes a raw object of this kind, with `count` fields that are numbers, all 0. Puts a reference to it into slot `d`.
 #[unsafe(no_mangle)]
 pub extern "C" fn gcflip_heap_raw(
     alloc: Global,
@@ -102,8 +103,8 @@ pub extern "C" fn gcflip_heap_move(alloc: Global, heap: &mut GcflipHeap, m: u8, 
     answer
 }
 
-/// Reads field `i` of the object that slot `s` refers to into slot `d`. If the value is a number, also writes it to `number`. If it
-/// is a reference, the reply does not say whether the object is raw.
+/// Reads field `i` of the object that slot `s` refers to into slot `d`. If the value is a number, also writes it to
+/// `number`. If it is a reference, the reply does not say whether the object is raw.
 #[unsafe(no_mangle)]
 pub extern "C" fn gcflip_heap_get(
     alloc: Global,
@@ -173,9 +174,9 @@ pub extern "C" fn gcflip_heap_put_number(
     answer
 }
 
-/// Makes an object of this kind with two fields, which take the values of slots `s` and `t`, and puts a reference to it
-/// into slot `d`. This is a `gcflip_heap_new` followed by two `gcflip_heap_put`, in one call. Slot `d` is set first, so a
-/// field filled from slot `d` refers to the object itself. Allocates only while a collection is open.
+/// Makes an object of this kind with two fields, which take the values of slots `s` and `t`, and puts a reference to
+/// it into slot `d`. This is a `gcflip_heap_new` followed by two `gcflip_heap_put`, in one call. Slot `d` is set
+/// first, so a field filled from slot `d` refers to the object itself. Allocates only while a collection is open.
 #[unsafe(no_mangle)]
 pub extern "C" fn gcflip_heap_cons(
     alloc: Global,
@@ -197,9 +198,10 @@ pub extern "C" fn gcflip_heap_cons(
     answer
 }
 
-/// Makes an object of this kind, and puts a reference to it into slot `d`. `fields` has a slot number for each field, which takes
-/// the value of that slot. This is a `gcflip_heap_new` followed by a `gcflip_heap_put` for each field, in one call. Slot `d` is
-/// set first, so a field filled from slot `d` refers to the object itself. Allocates only while a collection is open.
+/// Makes an object of this kind, and puts a reference to it into slot `d`. `fields` has a slot number for each field,
+/// which takes the value of that slot. This is a `gcflip_heap_new` followed by a `gcflip_heap_put` for each field, in
+/// one call. Slot `d` is set first, so a field filled from slot `d` refers to the object itself. Allocates only while
+/// a collection is open.
 #[unsafe(no_mangle)]
 pub extern "C" fn gcflip_heap_new_from(
     alloc: Global,

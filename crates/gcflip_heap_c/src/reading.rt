@@ -171,8 +171,8 @@ fn copy_image(heap: &CollectedHeap, words: &mut [u64], roots: &mut [u64]) -> boo
     true
 }
 
-/// Copies the words of the mutators' space, links included, and the roots. Returns 2 if the arrays do not have exactly these
-/// lengths.
+/// Copies the words of the mutators' space, links included, and the roots. Returns 2 if the arrays do not have
+/// exactly these lengths.
 #[unsafe(no_mangle)]
 pub extern "C" fn gcflip_heap_image(
     alloc: Global,

@@ -95,8 +95,8 @@ pub extern "C" fn gcflip_heap_apply(alloc: Global, heap: &mut GcflipHeap, m: u8)
     of_step(reply)
 }
 
-/// Flips if the open collection is ready and the checker accepts its certificate. Then writes the number of pairs to `pairs`.
-/// Allocates the certificate, the moved roots and the checker's tables, and frees them before it returns.
+/// Flips if the open collection is ready and the checker accepts its certificate. Then writes the number of pairs to
+/// `pairs`. Allocates the certificate, the moved roots and the checker's tables, and frees them before it returns.
 #[unsafe(no_mangle)]
 pub extern "C" fn gcflip_heap_flip(alloc: Global, heap: &mut GcflipHeap, pairs: &mut u32) -> u32
     ensures call { IsStepCall Step.Flip

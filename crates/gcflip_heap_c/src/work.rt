@@ -112,8 +112,8 @@ fn work_on(heap: &mut CollectedHeap, most: u32) -> Result<GcflipWork, NoMemory>
     })
 }
 
-/// Performs at most `most` useful steps, and writes a report of them to `work`. Stops after a flip, and after a step that
-/// finds no room. If an allocation fails, stops before that step, and returns 1 only if that was the first step.
+/// Performs at most `most` useful steps, and writes a report of them to `work`. Stops after a flip, and after a step
+/// that finds no room. If an allocation fails, stops before that step, and returns 1 only if that was the first step.
 #[unsafe(no_mangle)]
 pub extern "C" fn gcflip_heap_work(
     alloc: Global,

@@ -322,9 +322,9 @@ fn a_command_between_two_turns(rt: HostRuntime) -> Result<(), Fail> {
     Ok(())
 }
 
-/// Shows that `after` runs only after the call. The teller stays in `after` until the listener asks for its second call,
-/// so the listener has then made its first. The listener makes its first call only when the teller is in `after`. If
-/// `after` ran before the teller's call, the listener's first call would come before it in the history.
+/// Shows that `after` runs only after the call. The teller stays in `after` until the listener asks for its second
+/// call, so the listener has then made its first. The listener makes its first call only when the teller is in
+/// `after`. If `after` ran before the teller's call, the listener's first call would come before it in the history.
 #[derive(Drop)]
 struct Told<'a, R> {
     rt: &'a R,

@@ -1,5 +1,6 @@
-//! A failed allocation, such as the N-th under `rt try --test --fail-alloc N`, is reported before anything is written. The
-//! retried call gives the same result as if every allocation had succeeded. The texts and the writers do not allocate.
+//! A failed allocation, such as the N-th under `rt try --test --fail-alloc N`, is reported before anything is
+//! written. The retried call gives the same result as if every allocation had succeeded. The texts and the writers do
+//! not allocate.
 
 ghost use Rattle.std.specs.Prelude.{IfOk};
 ghost use Rattle.gc_trace.specs.Grammar.{IsInRange};

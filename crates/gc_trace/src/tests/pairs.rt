@@ -22,7 +22,7 @@ pub const ONE_KEPT: &[u8] = b"\
     roots 32\n0\n0\n0\n0\n0\n0\n0\n0\n0\n0\n0\n0\n0\n0\n0\n0\n2\n0\n0\n0\n0\n0\n0\n0\n0\n0\n0\n0\n0\n0\n0\n0\n\
     pairs 1\n5 1\nend\n";
 
-/// Two objects that are both copied. Each replica has the address of its original, so every link is the object's own address.
+/// Two objects, both copied. Each replica has the address of its original, so every link is the object's own address.
 const BOTH_KEPT: &[u8] = b"\
     heappair 2\n\
     old 9 7\n0\n16842754\n1\n0\n0\n16777216\n5\n\

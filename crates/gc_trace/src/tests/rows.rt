@@ -45,8 +45,8 @@ pub const WRITE_WHILE_SCANNING: Row = Row {
     replies: b"made\ndone\nbegun\ncopied\nscanned\ndone\npassed\nnot ready\napplied\nflipped 1\nsaw num 9\n",
 };
 
-/// Two mutators write to the same field, and the log entries are applied in the opposite order. If an entry kept the value
-/// of its own write, the field would end up as 7.
+/// Two mutators write to the same field, and the log entries are applied in the opposite order. If an entry kept the
+/// value of its own write, the field would end up as 7.
 pub const LOG_ACROSS_TWO_MUTATORS: Row = Row {
     name: "log_across_two_mutators",
     trace: b"heaptrace 1\nspace 32 mutators 2\nm 0 new g0 1 1\nc begin\nc roots\nc scan\nc scan\n\

@@ -1,5 +1,5 @@
-//! Collected heaps without a world around them. A flip allocates what its check needs, and copies a pair only if it is to
-//! be kept.
+//! Collected heaps without a world around them. A flip allocates what its check needs, and copies a pair only if it
+//! is to be kept.
 
 use super::marks::{fence, retried};
 use gc_check::Sequential;

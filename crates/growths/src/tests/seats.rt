@@ -1,5 +1,5 @@
-//! The shared world: its calls, its closing, and scripts in threads. A failed call leaves the seat's receipts unchanged,
-//! and the world can be closed later.
+//! The shared world: its calls, its closing, and scripts in threads. A failed call leaves the seat's receipts
+//! unchanged, and the world can be closed later.
 
 ghost use Rattle.std.specs.Prelude.{◌≡◌, IfOk, vec_len};
 ghost use Rattle.gc_shared.specs.Seats.{HasSize};

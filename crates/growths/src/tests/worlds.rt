@@ -1,5 +1,5 @@
-//! Worlds: opening, commands and collector steps. If an allocation fails, the history does not have the event; after the
-//! retry it has the event once.
+//! Worlds: opening, commands and collector steps. If an allocation fails, the history does not have the event; after
+//! the retry it has the event once.
 
 ghost use Rattle.std.specs.Prelude.{◌≡◌, ◌<◌, IsTrue};
 ghost use Rattle.gc_copy.specs.Runs.{IsStep};
