@@ -18,7 +18,7 @@ pub certified_along : (old new : Image) (pairs : List (ℕ × ℕ)) (o n : Image
 certified_along old new pairs o n ps a b e h =
     subst (λ x. Certified x new pairs) (sym a) (subst (λ x. Certified o x pairs) (sym b) (subst (λ x. Certified o n x) (sym e) h))
 
--- that of the collection that was open
+-- the pair of the collection that was open is the one that is kept
 pub kept_open : (heap : HeapWords) (was : Option CollectionWords) (c : CollectionWords) (reply : StepReply) (n : ℕ) (pair kept : Option CertifiedPair)
     → was ≡ Some c → reply ≡ Flipped n → pair ≡ Some (flip_pair (open_state heap c) (collection_in c))
     → kept_after kept (state_of heap (option_map collection_in was)) reply ≡ replaced kept pair

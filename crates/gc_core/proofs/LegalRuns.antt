@@ -28,7 +28,7 @@ use Rattle.gc_copy.proofs.Unused.{end_unused}
 use Rattle.gc_copy.proofs.Runs.{Reached, opening_ok, event_keeps}
 use Rattle.gc_core.specs.Replies.{told_in}
 
--- ---- a step leaves a graph that no command can tell from the one before
+-- ---- after a step, no command can tell the graph from the one before
 
 abbrev Follows : State → StepReply × State → Type 0
 Follows s next = (pairs : List (ℕ × ℕ)) × Matched pairs s.heap.graph next.1.heap.graph
@@ -79,7 +79,7 @@ full_makes (ops.Put s i t) free h = absurd (omega arith)
 full_makes (ops.Same s t) free h = absurd (omega arith)
 full_makes (ops.Look s) free h = absurd (omega arith)
 
--- the reply and what it leaves, beside the graph g: `Full` with nothing changed, or the same step
+-- the reply and the next state, compared with the graph g: `Full` with nothing changed, or the same step
 abbrev Beside : Graph → ℕ → Op → Reply × Roomy → Type 0
 Beside g m op next =
     (MakesObject op × (next.0 ≡ Full) × ((pairs : List (ℕ × ℕ)) × Matched pairs g next.1.graph))

@@ -1,4 +1,4 @@
--- The commands that make an object with its fields, one after the other.
+-- The commands that make an object and fill its fields, in order.
 use Rattle.std.proofs.Common.{◌≡◌, ℕ, suc, ◌+◌, List, [], ◌∷◌, length, map, Option, Some, refl, sym, ◌∙◌, ap}
 use Rattle.std.proofs.lemmas.List.{length-map}
 use Rattle.std.specs.Option.{option_map}
@@ -46,6 +46,6 @@ pub filled_two : (made one two : State) (m : ℕ) (d s t : SlotName) (first seco
     → fill_step made m d 0 (s ∷ t ∷ []) ≡ two
 filled_two made one two m d s t first second a b = ap (λ (x : Reply × State). (mutate x.1 m (Put d 1 t)).1) a ∙ ap (λ (x : Reply × State). x.1) b
 
--- the state of a heap with its open collection, whose logs may have got room
+-- more room in the logs does not change the state of a heap with its open collection
 pub opened_at : (heap : HeapWords) (o : Option CollectionWords) (c next : CollectionWords) (now : State) → o ≡ Some c → collection_in next ≡ collection_in c → state_of heap (option_map collection_in o) ≡ now → open_state heap next ≡ now
 opened_at heap o c next now is same view = ap (λ (d : Collection). state_of heap (Some d)) same ∙ ap (λ o. state_of heap (option_map collection_in o)) (sym is) ∙ view

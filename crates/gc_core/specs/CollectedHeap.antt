@@ -1,4 +1,4 @@
--- Which steps allocate, what a `Get` shows that does not read the object that it found, and the commands that make an object with its fields.
+-- The steps that allocate, the outcome of `fetch`, and commands that make an object and fill its fields.
 use Rattle.std.specs.Prelude.{◌≡◌, ℕ, suc, ⊤, List, [], ◌∷◌, length}
 use Rattle.gc_graph.specs.Slots.{SlotName}
 use Rattle.gc_graph.specs.declared.command.Op.TheVariants.{New, Get, Put}
@@ -18,21 +18,22 @@ Allocates (BeginSized size) = ⊤
 Allocates Flip = ⊤
 Allocates step = ⊥
 
--- mutator m's `Get` leads from the old state to the new one, and its reply is shown as this
+-- mutator m's `Get` leads from the old state to the new one, and `fetched` is what its reply shows without an
+-- object's kind and length
 abbrev pub Fetches : State → ℕ → SlotName → SlotName → ℕ → Fetched → State → Type 0
 Fetches old m d s i fetched new = (reply : Reply) × (mutate old m (Get d s i) ≡ (reply, new)) × (fetched ≡ fetched_of reply)
 
--- field i and those after it take what these slots hold: a `Put` for each, one after the other
+-- the fields from i on take the values of these slots: one `Put` for each slot, in order
 abbrev pub fill_step : State → ℕ → SlotName → ℕ → List SlotName → State
 fill_step s m d i [] = s
 fill_step s m d i (t ∷ rest) = fill_step (mutate s m (Put d i t)).1 m d (suc i) rest
 
--- the fields are filled if there was room for the object
+-- the fields are filled, unless there was no room for the object
 abbrev pub filled : Reply → State → ℕ → SlotName → List SlotName → State
 filled Full made m d fields = made
 filled reply made m d fields = fill_step made m d 0 fields
 
--- an object whose fields take what these slots hold: the reply to its `New`, and the state that all commands leave
+-- a new object whose fields take the values of these slots: the reply to its `New`, and the state after all commands
 abbrev pub new_from_step : State → ℕ → SlotName → ℕ → List SlotName → Reply × State
 new_from_step old m d kind fields =
     let made = mutate old m (New d kind (length fields)) in

@@ -22,24 +22,24 @@ abbrev pub open_pair : State → Option Collection → Option CertifiedPair
 open_pair s None = None
 open_pair s (Some c) = Some (flip_pair s c)
 
--- the pair that is kept after a reply in this state, if `kept` was kept before
+-- the pair kept after a step that gets this reply in this state; `kept` is the one kept before
 abbrev pub kept_after : Option CertifiedPair → State → StepReply → Option CertifiedPair
 kept_after kept s (Flipped pairs) = open_pair s s.collection
 kept_after kept s reply = kept
 
--- the pair that is kept from now on: the new one, if there is one
+-- the pair kept from now on: the new one if there is one, otherwise the old one
 abbrev pub replaced : Option CertifiedPair → Option CertifiedPair → Option CertifiedPair
 replaced kept None = kept
 replaced kept (Some pair) = Some pair
 
--- if the reply is `Flipped`, this holds of the flip's pair
+-- if the reply is `Flipped`, `says` holds of the flip's pair
 abbrev pub FlipsOnly : (CertifiedPair → Type 0) → State → StepReply → Type 0
 FlipsOnly says s reply = (pairs : ℕ) → reply ≡ Flipped pairs → IfSome s.collection (λ c. says (flip_pair s c))
 
--- the flip of a ready collection replies with the number of its pairs
+-- if the open collection is ready, the reply is `Flipped` with the number of its pairs
 abbrev pub PassesIfReady : State → StepReply → Type 0
 PassesIfReady s reply = IfSome s.collection (λ c. IsTrue (is_ready c s.heap.graph) → reply ≡ Flipped (length c.replicas))
 
--- if the new space is at least as large as the old one, no replica lacks room
+-- if the new space is at least as large as the old one, the reply is not `NoRoom`
 abbrev pub HasRoomIfLarge : State → StepReply → Type 0
 HasRoomIfLarge s reply = IfSome s.collection (λ c. s.size ≤ c.size → reply ≢ NoRoom)

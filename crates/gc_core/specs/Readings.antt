@@ -1,4 +1,4 @@
--- What is read of a state: both spaces with their links, how far a collection has come, and logs.
+-- What callers can read of a state: both spaces with their links, the progress of a collection, and the logs.
 use Rattle.std.specs.Prelude.{ℕ, List, [], Option, Some, None}
 use Rattle.std.specs.Option.{option_map}
 use Rattle.gc_words.specs.Image.{Image}
@@ -8,7 +8,7 @@ use Rattle.gc_copy.specs.Linked.{linked_image, old_links, new_image}
 use Rattle.gc_copy.specs.Steps.{log_at}
 use Rattle.gc_core.specs.declared.reading.NewSpace.{NewSpace}
 
--- the links of the mutators' space: originals have those of the open collection
+-- the links in the mutators' space: those of the open collection's originals, or none
 abbrev pub links_of : Option Collection → ℕ → ℕ
 links_of None = no_links
 links_of (Some c) = old_links c

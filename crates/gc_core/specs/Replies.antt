@@ -6,7 +6,7 @@ use Rattle.gc_copy.specs.Steps.{mutate, collect}
 use Rattle.gc_copy.specs.declared.event.Event.{Event}
 use Rattle.gc_copy.specs.declared.event.Event.TheVariants.{Mutate, Collect}
 
--- each command with its reply, one event after the other
+-- each command with its reply, in order; collector steps get no entry
 abbrev pub told_in : State → List Event → List Told
 told_in s [] = []
 told_in s (Mutate m op ∷ events) = record { m = m; op = op; reply = (mutate s m op).0 } ∷ told_in (mutate s m op).1 events

@@ -1,4 +1,4 @@
--- Slots by number: a mutator's own sixteen come first, and then the sixteen that all mutators share.
+-- Slots by number: 0 to 15 are the mutator's own, and 16 to 31 are the ones that all mutators share.
 use Rattle.std.specs.Prelude.{ℕ, ◌-◌, nat_lt, if◌then◌else◌}
 use Rattle.gc_graph.specs.Slots.{SlotName, own_slot, shared_slot}
 

@@ -4,7 +4,7 @@ use gc_heap::Heap;
 use std::alloc::Global;
 use std::marker::Model;
 
-/// A heap that mutators work on, with its open collection, if there is one.
+/// A heap that mutators work on, with its open collection if there is one.
 ///
 /// The collection needs the heap's link words: an original's link is its replica, so the collector finds replicas
 /// without a table. Heap and collection are therefore kept in one type, whose invariant ties them together. Contracts
@@ -15,7 +15,7 @@ pub struct CollectedHeap {
     pub(crate) alloc: Global,
     pub(crate) heap: Heap,
     pub(crate) collection: Option<Collection>,
-    // Whether the target of each root is known to have a replica: a test said so, and no command came since. It spares
+    // Whether the target of every root is known to have a replica: a test said so, and no command came since. It saves
     // the useful step a walk over all roots.
     pub(crate) roots_done: bool,
 }

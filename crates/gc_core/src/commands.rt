@@ -36,8 +36,8 @@ impl CollectedHeap {
         }
     }
 
-    /// Makes an object of this kind with `len` fields, all nil, and sets `d` to a reference to it: `Made`, or `Full`.
-    /// Does not allocate.
+    /// Makes an object of this kind with `len` fields, all nil, and sets `d` to a reference to it. Returns `Made`, or
+    /// `Full` if there is no room; then nothing has changed. Does not allocate.
     pub fn new_object(&mut self, m: u8, d: Slot, kind: u8, len: u16) -> Reply
         requires { m < self.old.mutators }
         ensures step { mutate self.old m (Op.New d kind len) ≡ (result, self.new) }
@@ -49,7 +49,7 @@ impl CollectedHeap {
         self.heap.new_object(m, d, kind, len)
     }
 
-    /// Makes a raw object, whose fields are plain numbers, all 0, like `new_object`. Does not allocate.
+    /// Makes a raw object, as `new_object` makes an object. Its fields are plain numbers, all 0. Does not allocate.
     pub fn new_raw(&mut self, m: u8, d: Slot, kind: u8, len: u16) -> Reply
         requires { m < self.old.mutators }
         ensures step { mutate self.old m (Op.NewRaw d kind len) ≡ (result, self.new) }
@@ -61,7 +61,7 @@ impl CollectedHeap {
         self.heap.new_raw(m, d, kind, len)
     }
 
-    /// Sets `d` to the number: `Done`. Does not allocate.
+    /// Sets `d` to the number. Returns `Done`. Does not allocate.
     pub fn num(&mut self, m: u8, d: Slot, n: Number) -> Reply
         requires { m < self.old.mutators }
         ensures step { mutate self.old m (Op.Num d n) ≡ (result, self.new) }
@@ -73,7 +73,7 @@ impl CollectedHeap {
         self.heap.num(m, d, n)
     }
 
-    /// Sets `d` to nil: `Done`. Does not allocate.
+    /// Sets `d` to nil. Returns `Done`. Does not allocate.
     pub fn nil(&mut self, m: u8, d: Slot) -> Reply
         requires { m < self.old.mutators }
         ensures step { mutate self.old m (Op.Nil d) ≡ (result, self.new) }
@@ -85,7 +85,7 @@ impl CollectedHeap {
         self.heap.nil(m, d)
     }
 
-    /// Sets `d` to what `s` holds: `Done`. Does not allocate.
+    /// Sets `d` to what `s` holds. Returns `Done`. Does not allocate.
     pub fn move_slot(&mut self, m: u8, d: Slot, s: Slot) -> Reply
         requires { m < self.old.mutators }
         ensures step { mutate self.old m (Op.Move d s) ≡ (result, self.new) }
@@ -97,7 +97,8 @@ impl CollectedHeap {
         self.heap.move_slot(m, d, s)
     }
 
-    /// Sets `d` to field `i` of the object that `s` refers to: `Saw`, `NoObject` or `NoField`. Does not allocate.
+    /// Sets `d` to field `i` of the object that `s` refers to. Returns `Saw`, or else `NoObject` or `NoField`. Does not
+    /// allocate.
     pub fn get(&mut self, m: u8, d: Slot, s: Slot, i: u16) -> Reply
         requires { m < self.old.mutators }
         ensures step { mutate self.old m (Op.Get d s i) ≡ (result, self.new) }
@@ -109,7 +110,7 @@ impl CollectedHeap {
         self.heap.get(m, d, s, i)
     }
 
-    /// Does the same as `get`, but does not read the object that it found: it tells no kind and no length. Does not
+    /// Does what `get` does, but does not read an object that it found, so it returns no kind and no length. Does not
     /// allocate.
     pub fn fetch(&mut self, m: u8, d: Slot, s: Slot, i: u16) -> Fetched
         requires { m < self.old.mutators }
@@ -122,9 +123,9 @@ impl CollectedHeap {
         self.heap.fetch(m, d, s, i)
     }
 
-    /// Sets field `i` of the object that `s` refers to to what `t` holds: `Done`, `NoObject`, `NoField` or
-    /// `NoNumber`. While a collection is open, the field is logged (the write barrier). Only then can it return
-    /// `NoMemory`; the heap is then unchanged.
+    /// Writes what `t` holds to field `i` of the object that `s` refers to. Returns `Done`, or else `NoObject`,
+    /// `NoField` or `NoNumber`. While a collection is open, the field is logged (the write barrier). Only then can the
+    /// call return `NoMemory`, and the heap is unchanged.
     pub fn put(&mut self, m: u8, s: Slot, i: u16, t: Slot) -> Result<Reply, NoMemory>
         requires { m < self.old.mutators }
         ensures step { IfOk result (λ reply. mutate self.old m (Op.Put s i t) ≡ (reply, self.new)) }
@@ -143,9 +144,9 @@ impl CollectedHeap {
         Ok(collection.put(&mut self.heap, m, s, i, t))
     }
 
-    /// Sets `t` to the number, and then field `i` of the object that `s` refers to: what `num` and `put` do one after
-    /// the other, with the reply to the `put`. Only while a collection is open can it return `NoMemory`; then it did
-    /// neither.
+    /// Performs a `num` and a `put` in one call: sets `t` to the number, and then writes it to field `i` of the object
+    /// that `s` refers to. Returns the reply to the `put`. Returns `NoMemory` only while a collection is open; the heap
+    /// is then unchanged.
     pub fn put_number(
         &mut self,
         m: u8,
@@ -174,9 +175,9 @@ impl CollectedHeap {
     }
 
     /// Makes an object of this kind with two fields, which take what `s` and `t` hold, and sets `d` to a reference to
-    /// it: what `new_object` and two `put`s do one after the other. The reply is `Made`, or `Full`, and then nothing
-    /// changed. `d` is set first, so a field that is given from slot `d` refers to the object itself. Only while a
-    /// collection is open can it return `NoMemory`; then it did nothing.
+    /// it. This is a `new_object` followed by two `put`s, in one call. Returns `Made`, or `Full` if there is no room;
+    /// then nothing has changed. `d` is set first, so a field filled from slot `d` refers to the object itself. Returns
+    /// `NoMemory` only while a collection is open; the heap is then unchanged.
     pub fn cons(&mut self, m: u8, d: Slot, kind: u8, s: Slot, t: Slot) -> Result<Reply, NoMemory>
         requires { m < self.old.mutators }
         ensures step { IfOk result (λ reply. new_from_step self.old m d kind (s ∷ t ∷ []) ≡ (reply, self.new)) }
@@ -207,10 +208,10 @@ impl CollectedHeap {
         Ok(made)
     }
 
-    /// Makes an object of this kind with a field for each of these slot numbers, which takes what the slot holds, and
-    /// sets `d` to a reference to it: what `new_object` and a `put` for each field do one after the other. The reply
-    /// is `Made`, or `Full`, and then nothing changed. `d` is set first, so a field that is given from slot `d` refers
-    /// to the object itself. Only while a collection is open can it return `NoMemory`; then it did nothing.
+    /// Makes an object of this kind and sets `d` to a reference to it. `fields` has a slot number for each field, which
+    /// takes what that slot holds. This is a `new_object` followed by a `put` for each field, in one call. Returns
+    /// `Made`, or `Full` if there is no room; then nothing has changed. `d` is set first, so a field filled from slot
+    /// `d` refers to the object itself. Returns `NoMemory` only while a collection is open; the heap is then unchanged.
     pub fn new_from(&mut self, m: u8, d: Slot, kind: u8, fields: &[u8]) -> Result<Reply, NoMemory>
         requires mutator { m < self.old.mutators }
         requires few { length fields.now < lengths }
@@ -243,7 +244,7 @@ impl CollectedHeap {
         Ok(made)
     }
 
-    /// Compares what `s` and `t` hold: `Yes` or `No`. Changes nothing.
+    /// Compares what `s` and `t` hold. Returns `Yes` or `No`. Changes nothing.
     pub fn same(&self, m: u8, s: Slot, t: Slot) -> Reply
         requires { m < self.now.mutators }
         ensures { mutate self.now m (Op.Same s t) ≡ (result, self.now) }
@@ -253,7 +254,7 @@ impl CollectedHeap {
         self.heap.same(m, s, t)
     }
 
-    /// Looks at what `s` holds: `Saw`. Changes nothing.
+    /// Returns `Saw` with what `s` holds. Changes nothing.
     pub fn look(&self, m: u8, s: Slot) -> Reply
         requires { m < self.now.mutators }
         ensures { mutate self.now m (Op.Look s) ≡ (result, self.now) }

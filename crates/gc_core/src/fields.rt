@@ -1,4 +1,4 @@
-//! The fields of a new object, which take what slots hold.
+//! Fills the fields of a new object from slots.
 
 ghost use Rattle.std.specs.Prelude.{◌≡◌, ◌<◌, ◌≤◌, length, map};
 ghost use Rattle.std.specs.List.{AllByRecursion};
@@ -12,7 +12,7 @@ use gc_copy::Collection;
 use gc_graph::Slot;
 use gc_heap::Heap;
 
-/// Fills the object in `d` from the slots of these numbers, while no collection is open.
+/// Fills the object in `d` from the slots with these numbers, while no collection is open.
 pub(crate) fn fill(heap: &mut Heap, m: u8, d: Slot, fields: &[u8])
     requires mutator { m < heap.old.mutators }
     requires few { length fields.now < lengths }
@@ -29,7 +29,8 @@ pub(crate) fn fill(heap: &mut Heap, m: u8, d: Slot, fields: &[u8])
     }
 }
 
-/// Fills the object in `d` from the slots of these numbers, and logs each field. `reserve_more` has made the room.
+/// Fills the object in `d` from the slots with these numbers, and logs each field. `reserve_more` makes room for the
+/// entries beforehand.
 pub(crate) fn fill_and_log(
     collection: &mut Collection,
     heap: &mut Heap,

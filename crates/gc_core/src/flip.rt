@@ -30,7 +30,7 @@ pub struct Flip {
     pub pair: Option<PairFile>,
 }
 
-/// What the checker sees beside the two spaces: the certificate and the moved roots.
+/// What the checker sees in addition to the two spaces and the old roots: the certificate and the moved roots.
 #[derive(Debug, Drop)]
 pub(crate) struct Draft {
     pub(crate) pairs: Vec<Pair>,

@@ -25,8 +25,8 @@ impl CollectedHeap {
     ghost use Rattle.std.specs.Prelude.{Option};
     ghost use Rattle.gc_core.specs.declared.flip.Keep.{Keep};
 
-    /// Flips if the open collection is ready and the checker accepts its certificate: `Flipped` with the number
-    /// of pairs. Otherwise `Idle`, `NotReady` or `Refused`, and nothing changes. On `NoMemory` nothing has
+    /// Flips if the open collection is ready and the checker accepts its certificate. Returns `Flipped` with the
+    /// number of pairs; otherwise `Idle`, `NotReady` or `Refused`, and nothing changes. On `NoMemory` nothing has
     /// changed either: all allocations come before the first change.
     ///
     /// A ready collection is proved to pass. It is checked all the same, so that a flip rests on the checker's
@@ -70,7 +70,7 @@ fn without_pair(reply: StepReply) -> Flip
     Flip { reply, pair: None }
 }
 
-// Asks the checker whether it accepts the certificate. It always accepts that of a ready collection.
+// Asks the checker whether it accepts the certificate. The certificate of a ready collection is always accepted.
 fn accepts<C: Checks>(
     checker: &C,
     alloc: Global,
@@ -98,7 +98,7 @@ fn accepts<C: Checks>(
     }
 }
 
-// Carries out an accepted flip. With copies it returns the pair that the checker saw.
+// Carries out an accepted flip. If there are copies, returns the pair that the checker saw.
 fn carry_out(heap: &mut Heap, collection: Collection, draft: Draft, copies: Option<Copies>) -> Flip
     requires belongs { BelongsTo heap.old collection }
     requires ready { IsTrue (is_ready (collection_in collection) (graph_in heap.old)) }

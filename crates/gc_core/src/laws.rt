@@ -1,4 +1,4 @@
-//! Laws: what follows from the definitions, without a history.
+//! A law: a consequence of the definitions. It speaks of runs, and needs no history.
 
 ghost use Rattle.std.specs.Prelude.{ℕ, List, ◌≤◌};
 ghost use Rattle.gc_graph.specs.Legal.{IsLegal};
@@ -9,7 +9,7 @@ ghost use Rattle.gc_copy.specs.declared.event.Event.{Event};
 ghost use Rattle.gc_core.specs.Replies.{told_in};
 
 /// In every run, with commands and steps in any interleaving, mutators get replies that are possible without a
-/// collector: the same replies, except that an allocation may find the heap full.
+/// collector. The one exception is that an allocation may find the heap full.
 pub fn runs_are_legal()
     ensures { (size mutators : ℕ) (events : List Event)
         → 1 ≤ size → size ≤ most_words → AreEvents mutators events

@@ -1,4 +1,4 @@
-//! A heap with its mutators and its collector. Every flip is checked, and no history is kept.
+//! The collected heap: mutator commands, collector steps and checked flips. It keeps no history.
 #![tactic(auto)]
 
 mod collected_heap;

@@ -1,4 +1,4 @@
-//! What a runtime decides by, and what a debugger shows: sizes, logs, and both spaces with their links.
+//! What a runtime needs for its decisions, and what a debugger shows: sizes, logs, and both spaces with their links.
 
 ghost use Rattle.std.specs.Prelude.{◌≡◌, ◌<◌, length, slice_get};
 ghost use Rattle.std.specs.Option.{option_map};
@@ -11,21 +11,21 @@ use crate::collected_heap::CollectedHeap;
 use gc_copy::{LogEntry, images_show_links};
 use gc_words::ImageRef;
 
-/// How far an open collection has come.
+/// The new space of an open collection, and how far the scan has come.
 #[derive(Clone, Copy, Debug, PartialEq, Eq)]
 pub struct NewSpace {
-    /// How many words the new space (to-space) has.
+    /// The number of words in the new space (to-space).
     pub size: u32,
     /// The first word that no replica takes.
     pub end: u32,
-    /// The replica that the scan has come to, or the end.
+    /// The address of the replica at the scan pointer, or `end` if all replicas are scanned.
     pub scan_place: u32,
-    /// How many fields of that replica are scanned.
+    /// The number of fields of that replica that are already scanned.
     pub scan_field: u16,
 }
 
 impl CollectedHeap {
-    /// Returns how many words the mutators' space has.
+    /// Returns the number of words in the mutators' space.
     pub fn size(&self) -> u32
         ensures { result ≡ self.now.size }
     {
@@ -39,14 +39,14 @@ impl CollectedHeap {
         self.heap.space().end()
     }
 
-    /// Returns how many words of the mutators' space no object takes.
+    /// Returns the number of words in the mutators' space that no object takes.
     pub fn free(&self) -> u32
         ensures { result ≡ self.now.heap.free }
     {
         self.heap.space().free()
     }
 
-    /// Returns how far the open collection has come; None if none is open.
+    /// Returns how far the open collection has come, or `None` if none is open.
     pub fn new_space(&self) -> Option<NewSpace>
         ensures { result ≡ new_space self.now }
     {
@@ -59,7 +59,7 @@ impl CollectedHeap {
         })
     }
 
-    /// Returns how many entries mutator `m`'s log has: none if no collection is open.
+    /// Returns the number of entries in mutator `m`'s log: 0 if no collection is open.
     pub fn log_len(&self, m: u8) -> usize
         requires { m < self.now.mutators }
         ensures { result ≡ length (log_of self.now m) }
@@ -70,7 +70,7 @@ impl CollectedHeap {
         }
     }
 
-    /// Returns entry `k` of mutator `m`'s log, counted from the oldest.
+    /// Returns entry `k` of mutator `m`'s log, counted from the oldest, or `None` if there is no such entry.
     pub fn log_entry(&self, m: u8, k: usize) -> Option<LogEntry>
         requires { m < self.now.mutators }
         ensures { option_map entry_in result ≡ slice_get (log_of self.now m) k }
@@ -91,7 +91,7 @@ impl CollectedHeap {
         self.heap.image()
     }
 
-    /// Returns the words of the open collection's new space (to-space) with its links; None if none is open.
+    /// Returns the words of the open collection's new space (to-space) with its links, or `None` if none is open.
     pub fn new_words(&self) -> Option<&[u64]>
         ensures { option_map (λ words. words.now) result ≡ new_words self.now }
     {

@@ -3,10 +3,11 @@ ghost use Rattle.gc_core.specs.Slots.{slot_numbers, numbered_slot};
 
 use gc_graph::Slot;
 
-/// The number of slots that a mutator can name: its own sixteen, and then the sixteen that all mutators share.
+/// The number of slots that a mutator can name: sixteen of its own, and the sixteen that all mutators share.
 pub const SLOT_NUMBERS: u8 = 32;
 
-/// Returns the slot of this number, below `SLOT_NUMBERS`: a mutator's own below 16, else a shared one.
+/// Returns the slot with this number, which must be below `SLOT_NUMBERS`. Numbers below 16 are the mutator's own slots,
+/// and the others are the shared ones.
 #[inline(always)]
 pub fn numbered_slot(number: u8) -> Slot
     requires { number < slot_numbers }

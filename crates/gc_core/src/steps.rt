@@ -42,8 +42,8 @@ impl CollectedHeap {
         }
     }
 
-    /// Opens a collection whose new space has `size` words, 1 to 1048576: `Begun`, or `Busy` while one is open.
-    /// On `NoMemory` nothing has changed.
+    /// Opens a collection whose new space has `size` words, 1 to 1048576. Returns `Begun`, or `Busy` if one is already
+    /// open. On `NoMemory` nothing has changed.
     pub fn begin_sized(&mut self, size: u32) -> Result<StepReply, NoMemory>
         requires low { 1 ≤ size }
         requires high { size ≤ most_words }
@@ -59,8 +59,8 @@ impl CollectedHeap {
         Ok(StepReply::Begun)
     }
 
-    /// Opens a collection whose new space is as large as the heap: `Begun`, or `Busy` while one is open. On
-    /// `NoMemory` nothing has changed.
+    /// Opens a collection whose new space is as large as the heap. Returns `Begun`, or `Busy` if one is already open.
+    /// On `NoMemory` nothing has changed.
     pub fn begin(&mut self) -> Result<StepReply, NoMemory>
         ensures step { IfOk result (λ reply. collect self.old Step.Begin ≡ (reply, self.new)) }
         ensures refused { OnErr result (self.new ≡ self.old) }
@@ -70,8 +70,8 @@ impl CollectedHeap {
         self.begin_sized(size)
     }
 
-    /// Replicates the target of the first root whose target has no replica: `Copied`, `NoRoom`, `Clean` if there
-    /// is none, or `Idle` if no collection is open. Does not allocate.
+    /// Replicates the target of the first root whose target has no replica. Returns `Copied` or `NoRoom`, `Clean` if
+    /// there is no such root, or `Idle` if no collection is open. Does not allocate.
     pub fn roots(&mut self) -> StepReply
         ensures step { collect self.old Step.Roots ≡ (result, self.new) }
         ensures room { HasRoomIfLarge self.old result }
@@ -85,8 +85,7 @@ impl CollectedHeap {
     }
 
     /// Brings the field at the scan pointer up to date (`Scanned` or `NoRoom`), or moves on to the next replica
-    /// (`Passed`). Returns `Clean` at the end of the new space, and `Idle` if no collection is open. Does not
-    /// allocate.
+    /// (`Passed`). Returns `Clean` if all replicas are scanned, or `Idle` if no collection is open. Does not allocate.
     #[inline(always)]
     pub fn scan(&mut self) -> StepReply
         ensures step { collect self.old Step.Scan ≡ (result, self.new) }
@@ -100,8 +99,8 @@ impl CollectedHeap {
         }
     }
 
-    /// Applies the oldest entry of mutator `m`'s log: `Applied`, `NoRoom`, `Clean` if the log is empty, or `Idle`
-    /// if no collection is open. Does not allocate.
+    /// Applies the oldest entry of mutator `m`'s log. Returns `Applied` or `NoRoom`, `Clean` if the log is empty, or
+    /// `Idle` if no collection is open. Does not allocate.
     pub fn apply_log(&mut self, m: u8) -> StepReply
         requires { m < self.old.mutators }
         ensures step { collect self.old (Step.Apply m) ≡ (result, self.new) }
@@ -115,7 +114,7 @@ impl CollectedHeap {
         }
     }
 
-    /// Frees the new space and the logs of the open collection: `Dropped`, or `Idle` if none is open. Does not
+    /// Frees the new space and the logs of the open collection. Returns `Dropped`, or `Idle` if none is open. Does not
     /// allocate.
     pub fn give_up(&mut self) -> StepReply
         ensures step { collect self.old Step.Drop ≡ (result, self.new) }
@@ -128,7 +127,7 @@ impl CollectedHeap {
         StepReply::Dropped
     }
 
-    /// Returns the useful step: the one that brings the collection on, or opens one.
+    /// Returns the useful step: the one that advances the collection, or opens one.
     #[inline(always)]
     pub fn useful_step(&self) -> Step
         ensures useful { result ≡ useful_step self.now }
@@ -149,8 +148,8 @@ impl CollectedHeap {
         }
     }
 
-    /// Returns the useful step, and remembers if it found that no root needs a replica: until the next command, the
-    /// useful step then looks at no root.
+    /// Returns the useful step. If it finds that every root's target has a replica, it remembers that. The next calls
+    /// then look at no root until a command comes.
     #[inline(always)]
     pub fn next_useful_step(&mut self) -> Step
         ensures useful { result ≡ useful_step self.old }

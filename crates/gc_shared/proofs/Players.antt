@@ -1,4 +1,4 @@
--- Lemmas on threads that are started and joined in order.
+-- Lemmas about threads that are started and joined in order.
 use Rattle.std.proofs.Common.{◌≡◌, ℕ, suc, ◌+◌, ◌-◌, ◌<◌, ◌≤◌, List, [], ◌∷◌, ◌++◌, length, map, get_or, sym, ap, ◌∙◌, arith, add-one, add-zero, length-append, ⊎_elim, take, Some, OnOk, is_ok, Ok, Err, false}
 use Rattle.std.proofs.lemmas.Bool.{cases_lt}
 use Rattle.std.proofs.lemmas.List.{get_or-map}
@@ -20,7 +20,7 @@ use Rattle.gc_shared.specs.Internal.Players.{Player, AreToPlay, AreNext, IsToPla
 pub next_seat : (f : ℕ → SeatValue) (a k : ℕ) (x : SeatValue) (xs : List SeatValue) → map f (range_with_len a (k + 1)) ≡ x ∷ xs → (x ≡ f a) × (xs ≡ map f (range_with_len (a + 1) k))
 next_seat f a k x xs e = let e' = rw add-one at e in (cc, cc)
 
--- a fact of each element by its place, for one more element
+-- a fact about each element and its place, for one more element
 at_more : {X : Type 0} (P : ℕ → X → Type 0) (xs : List X) (y : X) → ((m : ℕ) (d : X) → m < length xs → P m (get_or xs m d)) → P (length xs) y → (m : ℕ) (d : X) → m < length (xs ++ y ∷ []) → P m (get_or (xs ++ y ∷ []) m d)
 at_more {X} P xs y all here m d lt =
     ⊎_elim

@@ -1,4 +1,4 @@
--- Lemmas on receipts that stand, and on the marks of their places.
+-- Lemmas about receipts that stand, and about the marks of their places.
 use Rattle.std.proofs.Common.{◌≡◌, ◌≢◌, ℕ, zero, suc, ◌+◌, ◌<◌, ◌≤◌, ◌==◌, Bool, true, false, cond, List, [], ◌∷◌, ◌++◌, length, take, map, get_or, set, replicate, refl, sym, ap, ◌∙◌, arith, count_by, Some, All, length-append, length-set, get_or-set_same, get_or-set_other, add-one, append_assoc, below_more, ⊎_elim}
 use Rattle.std.proofs.lemmas.List.{get_or-replicate, length-replicate, take_more}
 use Rattle.std.proofs.lemmas.List.Folds.{sum_by-replicate}
@@ -36,7 +36,7 @@ times_at-one p r e = grind (arith, nat_tests)
 pub times_at-other : (p : ℕ) (r : Receipt) → r.place ≢ p → times_at p (r ∷ []) ≡ 0
 times_at-other p r e = grind (arith, nat_tests)
 
--- a place above all of a seat's is on none of its receipts
+-- no receipt of a seat has a place above that of the last receipt
 pub none_at : (history : List Entry) (earlier : List Receipt) (low : ℕ) (rs : List Receipt) (p : ℕ) → AllStand history earlier low rs → floor_of low rs ≤ p → times_at p rs ≡ 0
 none_at history earlier low [] p all above = refl
 none_at history earlier low (q ∷ rs) p all above =
@@ -44,7 +44,7 @@ none_at history earlier low (q ∷ rs) p all above =
     let ne : q.place ≢ p = omega (arith, up, above) in
     omega (arith, times_at-append p (q ∷ []) rs, times_at-other p q ne, none_at history earlier (q.place + 1) rs p all.1 above)
 
--- the first place of a seat is at or above `low`, and its places rise
+-- the places of receipts that stand rise, and the first is at or above `low`
 pub rising : (history : List Entry) (earlier : List Receipt) (low : ℕ) (rs : List Receipt) → AllStand history earlier low rs → IsStrictlyIncreasing (map (λ r. r.place) rs)
 rising history earlier low [] all k lt = absurd (omega arith)
 rising history earlier low (q ∷ []) all k lt = absurd (omega arith)
@@ -78,7 +78,7 @@ here_or_behind : {X : Type 0} (p : X → Bool) (x : X) (xs : List X) (k : ℕ) (
 here_or_behind p x xs zero d first others lt = first
 here_or_behind p x xs (suc k) d first others lt = others k d (omega arith)
 
--- if as many elements pass a test as there are, each does
+-- if the number of elements that pass a test is the number of all elements, every element passes
 pub every_counted : {X : Type 0} (p : X → Bool) (xs : List X) → count_by p xs ≡ length xs → (k : ℕ) (d : X) → k < length xs → p (get_or xs k d) ≡ true
 every_counted p [] all k d lt = absurd (omega arith)
 every_counted p (x ∷ xs) all k d lt =
@@ -93,7 +93,7 @@ every_counted p (x ∷ xs) all k d lt =
     absurd (omega (arith, all, none, sum, most)))
     (cases_Bool (p x))
 
--- a receipt at a free place stands, where the marks are those of the earlier seats and of the seat's receipts before it
+-- a receipt at a free place stands, if the marks are those of the earlier seats and of the seat's earlier receipts
 pub stands_if_free : (history : List Entry) (earlier before : List Receipt) (marks : List Bool) (r : Receipt) → IsMarked marks (earlier ++ before) → r.place < length marks → IsFree history marks (floor_of 0 before) r → Stands history earlier (floor_of 0 before) r
 stands_if_free history earlier before marks r is lt free = record {
   recorded = free.recorded;
@@ -114,7 +114,7 @@ free_if_stands history earlier before marks r all is len stands = record {
       zero_false _ (omega (arith, is.once r.place lt, times_at-append r.place earlier before, stands.apart, none_at history earlier 0 before r.place all stands.above));
 }
 
--- a loop's step: the receipt at n is free
+-- a step of the loop: the receipt at n is free
 pub record Step (history : List Entry) (earlier rs : List Receipt) (marks : List Bool) (n place : ℕ) : Type 0 where
   pub low : place + 1 ≡ floor_of 0 (take (n + 1) rs)
   pub stand : AllStand history earlier 0 (take (n + 1) rs)
@@ -140,8 +140,7 @@ torn_here history earlier rs marks low n r lt at len is all marked taken = recor
   torn = λ stands. taken (rw is (free_if_stands history earlier (take n rs) marks r all marked len stands));
 }
 
--- one more seat stands
--- where all stand and each place is marked, the receipts agree
+-- if all receipts stand and every place is marked, the receipts agree
 pub agrees : (history : List Entry) (seats : List SeatValue) (count : ℕ) (marks : List Bool) → SeatsStand history seats count → IsMarked marks (receipts_below seats count) → length marks ≡ length history → length history ≤ count_by (λ b. b) marks → AgreeByNumber history seats count
 agrees history seats count marks stand marked len full = record {
   recorded = λ s lt. all_recorded history (receipts_below seats s) 0 (receipts_of seats s) (stand s lt);

@@ -1,4 +1,4 @@
--- Lemmas on seats that play.
+-- Lemmas about seats that play scripts.
 use Rattle.std.proofs.Common.{◌≡◌, ℕ, ◌+◌, ◌<◌, List, [], ◌∷◌, ◌++◌, length, take, map, get_or, refl, sym, ap, ◌∙◌}
 use Rattle.std.proofs.lemmas.List.{take_more, map-append}
 use Rattle.gc_graph.specs.declared.command.Op.{Op}

@@ -1,4 +1,4 @@
--- The entries of a history that a seat made are those on its receipts.
+-- The entries of a history that come from a seat are those on its receipts.
 use Rattle.std.proofs.Common.{◌≡◌, ◌≢◌, ℕ, zero, suc, ◌+◌, ◌-◌, ◌<◌, ◌≤◌, ◌==◌, Bool, true, false, cond, List, [], ◌∷◌, length, map, filter, get_or, slice_get, Some, refl, sym, ap, ◌∙◌, arith, add-one, add-zero, zero-add, All, subst, ⊎_elim, eqb}
 use Rattle.std.specs.List.{find}
 use Rattle.std.specs.List.Sorted.{IsStrictlyIncreasing}
@@ -31,7 +31,8 @@ entry_on r = entry_of r.event r.answer
 abbrev pub mark : Bool → ℕ
 mark b = cond b 1 0
 
--- the receipts rise from `low`, and each has the entry of its place in a history that starts at place o
+-- the places of the receipts rise from `low`, and each receipt has the entry at its place in a history that starts at
+-- place o
 abbrev pub Fits : ℕ → ℕ → List Entry → List Receipt → Type 0
 Fits low o h [] = Unit {0}
 Fits low o h (r ∷ rs) = (low ≤ r.place) × (slice_get h (r.place - o) ≡ Some (entry_on r)) × Fits (r.place + 1) o h rs
@@ -62,11 +63,11 @@ shift low o e es (r ∷ rs) le fits =
     (fits.0, sym (slice_get-tail e es r.place o (omega (arith, le, fits.0))) ∙ fits.1, shift (r.place + 1) o e es rs (omega (arith, le, fits.0)) fits.2)
 
 module _ (T : Event → Bool) (d : Entry) where
-  -- how often each place of a history from place o on stands on the receipts
+  -- each place of a history that starts at place o is on one receipt if its event passes the test, otherwise on none
   abbrev pub Counts : ℕ → List Entry → List Receipt → Type 0
   Counts o h rs = (i : ℕ) → i < length h → times_at (o + i) rs ≡ mark (T (get_or h i d).event)
 
-  -- the counts of the rest, where the receipts have all of the rest's places
+  -- the counts for the rest of the history, if the other receipts have the same places there
   rest_counts : (o : ℕ) (e : Entry) (es : List Entry) (rs ss : List Receipt) → ((p : ℕ) → o + 1 ≤ p → times_at p ss ≡ times_at p rs) → Counts o (e ∷ es) rs → Counts (o + 1) es ss
   rest_counts o e es rs ss same counts i lt =
       let next : o + suc i ≡ o + 1 + i = omega arith in
@@ -116,7 +117,7 @@ module _ (T : Event → Bool) (d : Entry) where
       (λ (fails : T e.event ≡ false). rw fails (left o e es rs (λ ss f c. select (o + 1) es ss f c) fits counts fails))
       (cases_Bool (T e.event))
 
--- a receipt with this place, and a fact of all
+-- a receipt with this place, and a fact that holds of all receipts
 found : (P : Receipt → Type 0) (p : ℕ) (rs : List Receipt) → All P rs → 0 < times_at p rs → (r : Receipt) × P r × (r.place ≡ p)
 found P p [] all some = absurd (omega arith)
 found P p (q ∷ rs) all some =
@@ -144,7 +145,7 @@ part seats (suc n) p t lt =
     (λ (ne : t ≢ n). let below = part seats n p t (omega arith) in omega (arith, sum, below))
     (cases_eq t n)
 
--- a seat's receipts, as they stand in the history
+-- the receipts of a seat fit the history
 fits_from : (h : List Entry) (rs : List Receipt) (low : ℕ) → IsStrictlyIncreasing (map (λ r. r.place) rs) → All (λ r. slice_get h r.place ≡ Some (entry_of r.event r.answer)) rs → (0 < length rs → low ≤ get_or (map (λ r. r.place) rs) 0 0) → Fits low 0 h rs
 fits_from h [] low rise same first = tt
 fits_from h (r ∷ rs) low rise same first =
@@ -160,7 +161,8 @@ fits_from h (r ∷ rs) low rise same first =
 event_at : (history : List Entry) (i : ℕ) (d : Entry) (r : Receipt) → r.place ≡ i → slice_get history r.place ≡ Some (entry_of r.event r.answer) → get_or history i d ≡ entry_of r.event r.answer
 event_at history i d r here same = ap (λ (k : ℕ). get_or history k d) (sym here) ∙ get_or_from_slice_get history r.place (entry_of r.event r.answer) d same
 
--- the entries of a history that pass a test are those of one seat's receipts, where the test passes that seat's events alone
+-- if a test passes exactly the events of one seat, the entries of the history that pass it are those on the seat's
+-- receipts
 pub selected : (history : List Entry) (seats : List SeatValue) (count s : ℕ) (T : Event → Bool) → AgreeByNumber history seats count → s < count → All (λ r. T r.event ≡ true) (receipts_of seats s) → ((t : ℕ) → t < count → t ≢ s → All (λ r. T r.event ≡ false) (receipts_of seats t)) → map entry_on (receipts_of seats s) ≡ filter (λ e. T e.event) history
 selected history seats count s T agree lt mine others =
     let rs = receipts_of seats s in
@@ -194,7 +196,7 @@ selected history seats count s T agree lt mine others =
     none ∙ ap mark (sym fails))
     (cases_Bool (T (get_or history i d).event))))
 
--- the seat at a place, where each seat's number is its place
+-- the seat at a place, if each seat's number is its place
 find_place : (o : ℕ) (ts : List SeatValue) (k : ℕ) (d : SeatValue) → ((i : ℕ) (e : SeatValue) → i < length ts → (get_or ts i e).number ≡ o + i) → k < length ts → find (λ t. t.number == o + k) ts ≡ Some (get_or ts k d)
 find_place o [] k d numbers lt = absurd (omega arith)
 find_place o (t ∷ ts) zero d numbers lt = let is = eq-eqb t.number (o + 0) (numbers 0 t (omega arith)) in rw is refl
@@ -207,21 +209,21 @@ find_place o (t ∷ ts) (suc k) d numbers lt =
     (λ (other : (eqb t.number (o + suc k) ≡ false) × (t.number ≢ o + suc k)). rw other.0 (rw next at rest))
     (eqb_tells t.number (o + suc k))
 
--- the receipts of the seat at a place
+-- the receipts of the seat at a place, under the same condition
 pub receipts_at : (ts : List SeatValue) (k : ℕ) (d : SeatValue) → ((i : ℕ) (e : SeatValue) → i < length ts → (get_or ts i e).number ≡ i) → k < length ts → receipts_of ts k ≡ (get_or ts k d).receipts
 receipts_at ts k d numbers lt =
     let here = find_place 0 ts k d (λ i e inside. numbers i e inside ∙ sym (zero-add i)) lt in
     let here' = rw (zero-add k) at here in
     rw here' refl
 
--- what holds of each command's event holds of each event of a seat that has played
+-- a fact about every command holds of each event of a seat that has played
 pub played_all : (Q : Event → Type 0) (m : ℕ) (rs : List Receipt) (script : List Op) → ((op : Op) → Q (Mutate m op)) → map (λ r. r.event) rs ≡ map (Mutate m) script → All (λ r. Q r.event) rs
 played_all Q m [] script each is k d lt = absurd (omega arith)
 played_all Q m (r ∷ rs) [] each is k d lt = let z = is in cc
 played_all Q m (r ∷ rs) (op ∷ ops) each is zero d lt = let e : r.event ≡ Mutate m op = cc in subst Q (sym e) (each op)
 played_all Q m (r ∷ rs) (op ∷ ops) each is (suc k) d lt = let rest : map (λ r. r.event) rs ≡ map (Mutate m) ops = cc in played_all Q m rs ops each rest k d (omega arith)
 
--- what holds of each step's event holds of an event that was answered Useful
+-- a fact about every collector step holds of an event whose answer is marked `Useful`
 pub useful_all : (Q : Event → Type 0) (e : Event) (a : Answer) → ((step : Step) → Q (Collect step)) → IsUsefulStep e a → Q e
 useful_all Q (Mutate m op) a each is = absurd is
 useful_all Q (Collect step) a each is = each step

@@ -1,4 +1,4 @@
--- Seats by number, and as they were handed in.
+-- Seats by number, and in the order in which they were passed to `close`.
 use Rattle.std.proofs.Common.{◌≡◌, ◌≢◌, ℕ, zero, suc, ◌+◌, ◌<◌, ◌==◌, Bool, true, false, cond, List, [], ◌∷◌, length, refl, sym, ap, ◌∙◌, arith, count_by, sum_by, eqb, ltb, Option, Some, None, ⊎_elim, subst, All, get_or, MatchOption}
 use Rattle.std.specs.List.{find, flat_map}
 use Rattle.std.specs.Option.{option_map_or}
@@ -102,13 +102,13 @@ as_handed_in : (p : ℕ) (ts : List SeatValue) → times_at p (flat_map (λ t. t
 as_handed_in p [] = refl
 as_handed_in p (t ∷ ts) = omega (arith, times_at-append p t.receipts (flat_map (λ t. t.receipts) ts), as_handed_in p ts, sum_by-cons (λ t. times_at p t.receipts) t ts)
 
--- each place is on as many receipts, whether seats are taken by number or as handed in
+-- a place is on the same number of receipts, whether seats are taken by number or in the given order
 together : (count p : ℕ) (seats : List SeatValue) → length seats ≡ count → HasEachOnce seats count → times_at p (receipts_below seats count) ≡ times_at p (flat_map (λ t. t.receipts) seats)
 together count p seats len once =
     let all = all_below (λ t. times_at p t.receipts) count seats (counted count seats once ∙ sym len) in
     by_number p count seats once ∙ all ∙ sym (as_handed_in p seats)
 
--- an element that alone passes a test is the first that does
+-- if only one element passes a test, `find` finds it
 find_only : (p : SeatValue → Bool) (ts : List SeatValue) (k : ℕ) (d : SeatValue) → count_by p ts ≡ 1 → p (get_or ts k d) ≡ true → k < length ts → find p ts ≡ Some (get_or ts k d)
 find_only p [] k d one here lt = absurd (omega arith)
 find_only p (t ∷ ts) zero d one here lt = ap (λ (b : Bool). cond b (Some t) (find p ts)) here
@@ -137,7 +137,7 @@ receipts_here count seats k d len once lt =
     let one = once n (number_within count seats k d len once lt) in
     ap (λ (o : Option SeatValue). option_map_or (λ t. t.receipts) o []) (find_only (λ t. t.number == n) seats k d one (eq-eqb n n refl) lt)
 
--- what holds of each seat's receipts holds of those found by a number
+-- a fact about the receipts of every seat holds of the receipts found by a number
 of_number : (Q : List Receipt → Type 0) (n : ℕ) (ts : List SeatValue) → Q [] → All (λ t. Q t.receipts) ts → Q (receipts_of ts n)
 of_number Q n [] none all = none
 of_number Q n (t ∷ ts) none all =
@@ -147,7 +147,7 @@ of_number Q n (t ∷ ts) none all =
     (λ (no : eqb t.number n ≡ false). subst Q (sym (ap found no)) (of_number Q n ts none (λ k d lt. all (suc k) d (omega arith))))
     (cases_Bool (eqb t.number n))
 
--- receipts that agree by number agree
+-- receipts that agree with the seats taken by number also agree in the given order
 pub agree_as_handed_in : (history : List Entry) (seats : List SeatValue) (count : ℕ) → length seats ≡ count → HasEachOnce seats count → AgreeByNumber history seats count → ReceiptsAgree history seats
 agree_as_handed_in history seats count len once agree = record {
   recorded = λ k d lt. rw (← receipts_here count seats k d len once lt) (agree.recorded (get_or seats k d).number (number_within count seats k d len once lt));
@@ -155,7 +155,7 @@ agree_as_handed_in history seats count len once agree = record {
   once = λ p lt. sym (together count p seats len once) ∙ agree.once p lt;
 }
 
--- receipts that agree do so by number
+-- and the other way round
 pub agree_by_number : (history : List Entry) (seats : List SeatValue) (count : ℕ) → length seats ≡ count → HasEachOnce seats count → ReceiptsAgree history seats → AgreeByNumber history seats count
 agree_by_number history seats count len once agree = record {
   recorded = λ n lt. of_number (λ rs. All (IsRecorded history) rs) n seats (λ k d lt. absurd (omega arith)) agree.recorded;
@@ -163,7 +163,7 @@ agree_by_number history seats count len once agree = record {
   once = λ p lt. together count p seats len once ∙ agree.once p lt;
 }
 
--- the first fault of seats, from that of their receipts by number
+-- the first fault of the seats is the one found when they are taken by number
 pub first_fault_of : (r : Option CloseKind) (o : Opening) (w : Past) (seats : List SeatValue) → IsSeated o w seats → MatchOption r (AgreeByNumber w.entries seats (count_of_seats o)) (IsFault w.entries seats (count_of_seats o)) → MatchOption r (IsWhole o w seats) (IsFirstFault o w seats)
 first_fault_of None o w seats seated agree = record { seated = seated; agree = agree_as_handed_in w.entries seats (count_of_seats o) seated.count seated.once agree }
 first_fault_of (Some Seats) o w seats seated is = absurd is

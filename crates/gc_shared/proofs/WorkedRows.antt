@@ -17,7 +17,7 @@ second_stands = (record { recorded = refl; above = omega arith; apart = refl }, 
 collector_stands : AllStand history [] 0 collector.receipts
 collector_stands = (record { recorded = refl; above = omega arith; apart = refl }, tt)
 
--- what holds of the three seats
+-- a fact about each of the three seats holds of all
 of_three : (P : SeatValue → Type 0) → P collector → P first → P second → All P (collector ∷ first ∷ second ∷ [])
 of_three P c f s zero d lt = c
 of_three P c f s (suc zero) d lt = f

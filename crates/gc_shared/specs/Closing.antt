@@ -1,4 +1,4 @@
--- The result of closing a world: its seats are compared by number, and the receipts of each in order.
+-- The result of closing a world. Seats are compared by number, and the receipts of each seat in order.
 use Rattle.std.specs.Prelude.{◌≡◌, ℕ, zero, suc, ◌+◌, ◌<◌, ◌≤◌, ◌==◌, ⊤, List, [], ◌∷◌, ◌++◌, length, take, Some, slice_get, count_by}
 use Rattle.std.specs.List.{find}
 use Rattle.std.specs.Option.{option_map_or}
@@ -21,11 +21,11 @@ abbrev pub receipts_below : List SeatValue → ℕ → List Receipt
 receipts_below seats zero = []
 receipts_below seats (suc n) = receipts_below seats n ++ receipts_of seats n
 
--- each number below `count` is that of exactly one seat
+-- each number below `count` belongs to exactly one seat
 abbrev pub HasEachOnce : List SeatValue → ℕ → Type 0
 HasEachOnce seats count = (n : ℕ) → n < count → count_by (λ seat. seat.number == n) seats ≡ 1
 
--- the seats have each number of the opening once, and the world has its size and mutators
+-- each seat number of the opening occurs once, and the world has the opening's size and number of mutators
 pub record IsSeated (o : Opening) (w : Past) (seats : List SeatValue) : Type 0 where
   pub size : w.size ≡ o.size
   pub mutators : w.mutators ≡ o.mutators
@@ -34,13 +34,14 @@ pub record IsSeated (o : Opening) (w : Past) (seats : List SeatValue) : Type 0 w
 
 -- ---- receipts in order
 
--- the receipt's place has its event and answer, is at least `low`, and is not a place of the earlier seats
+-- A receipt stands if the history has its event and answer at its place. The place must be at least `low`, and no
+-- receipt of the earlier seats may have it.
 pub record Stands (history : List Entry) (earlier : List Receipt) (low : ℕ) (r : Receipt) : Type 0 where
   pub recorded : IsRecorded history r
   pub above : low ≤ r.place
   pub apart : times_at r.place earlier ≡ 0
 
--- each receipt of a seat stands, and has a place above that of the one before
+-- each receipt of a seat stands, and its place is above that of the receipt before it
 abbrev pub AllStand : List Entry → List Receipt → ℕ → List Receipt → Type 0
 AllStand history earlier low [] = ⊤
 AllStand history earlier low (r ∷ rs) = Stands history earlier low r × AllStand history earlier (r.place + 1) rs
@@ -54,7 +55,7 @@ abbrev pub floor_of : ℕ → List Receipt → ℕ
 floor_of low [] = low
 floor_of low (r ∷ rs) = floor_of (r.place + 1) rs
 
--- receipt n is the first of these that does not stand
+-- receipt n is the first one that does not stand
 pub record IsFirstTorn (history : List Entry) (earlier rs : List Receipt) (n : ℕ) : Type 0 where
   pub which : Receipt
   pub here : slice_get rs n ≡ Some which
@@ -63,23 +64,23 @@ pub record IsFirstTorn (history : List Entry) (earlier rs : List Receipt) (n : �
 
 -- ---- answers
 
--- what `Ok` promises
+-- what `close` ensures on `Ok`
 pub record IsWhole (o : Opening) (w : Past) (seats : List SeatValue) : Type 0 where
   pub seated : IsSeated o w seats
   pub agree : ReceiptsAgree w.entries seats
 
--- receipt n of this seat is the first that does not stand
+-- receipt n of this seat is the first one that does not stand, going through the seats by number
 pub record IsTorn (history : List Entry) (seats : List SeatValue) (count seat n : ℕ) : Type 0 where
   pub within : seat < count
   pub before : SeatsStand history seats seat
   pub first : IsFirstTorn history (receipts_below seats seat) (receipts_of seats seat) n
 
--- all receipts stand, and the history has more events
+-- all receipts stand, but the history has more events than there are receipts
 pub record IsExtra (history : List Entry) (seats : List SeatValue) (count : ℕ) : Type 0 where
   pub all : SeatsStand history seats count
   pub fewer : length (receipts_below seats count) < length history
 
--- the first fault of the given seats against the returned world
+-- the first fault that comparing the given seats with the returned world finds
 abbrev pub IsFirstFault : Opening → Past → List SeatValue → CloseKind → Type 0
 IsFirstFault o w seats Seats = IsSeated o w seats → ⊥
 IsFirstFault o w seats (Torn seat n) = IsSeated o w seats × IsTorn w.entries seats (count_of_seats o) seat n

@@ -1,4 +1,4 @@
--- The texts of faults for which scripts do not run to their end.
+-- The texts of the faults of closing and of running scripts.
 use Rattle.std.specs.Prelude.{ℕ, List, ◌++◌, codes, decimal}
 use Rattle.gc_shared.specs.declared.fault.CloseKind.{CloseKind}
 use Rattle.gc_shared.specs.declared.fault.CloseKind.TheVariants as close

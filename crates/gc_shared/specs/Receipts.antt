@@ -1,4 +1,4 @@
--- When the receipts of seats agree with a history.
+-- Agreement between the receipts of seats and a history.
 use Rattle.std.specs.Prelude.{◌≡◌, ℕ, ◌<◌, ◌==◌, List, length, map, All, Some, slice_get, count_by}
 use Rattle.std.specs.List.{flat_map}
 use Rattle.std.specs.List.Sorted.{IsStrictlyIncreasing}
@@ -7,7 +7,7 @@ use Rattle.gc_world.specs.World.{entry_of}
 use Rattle.gc_shared.specs.declared.seat.Receipt.{Receipt}
 use Rattle.gc_shared.specs.Seats.{SeatValue}
 
--- the receipt's place has its event and answer
+-- the history has the receipt's event and answer at the receipt's place
 abbrev pub IsRecorded : List Entry → Receipt → Type 0
 IsRecorded history r = slice_get history r.place ≡ Some (entry_of r.event r.answer)
 
@@ -18,8 +18,8 @@ times_at place rs = count_by (λ r. r.place == place) rs
 abbrev pub places_of : List Receipt → List ℕ
 places_of rs = map (λ r. r.place) rs
 
--- Each receipt has the event and answer of its place, the places of a seat rise, and each place of the history
--- stands on one receipt of all.
+-- Each receipt has the event and answer that the history has at its place. The places on a seat's receipts rise. Each
+-- place of the history is on exactly one receipt of all seats together.
 pub record ReceiptsAgree (history : List Entry) (seats : List SeatValue) : Type 0 where
   pub recorded : All (λ seat. All (IsRecorded history) seat.receipts) seats
   pub rising : All (λ seat. IsStrictlyIncreasing (places_of seat.receipts)) seats

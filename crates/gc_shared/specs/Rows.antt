@@ -1,4 +1,4 @@
--- Worked examples: what the definitions say of a history of four events.
+-- Worked examples: what the definitions say about a history of four events.
 use Rattle.std.specs.Prelude.{◌≡◌, ℕ, true, false, List, [], ◌∷◌}
 use Rattle.gc_graph.specs.Slots.{SlotName, own_slot}
 use Rattle.gc_graph.specs.declared.command.Op.TheVariants.{Nil, Look}
@@ -29,7 +29,7 @@ history =
     ∷ entry_of (Mutate 0 (Look r0)) (Mutator (Saw views.Nil))
     ∷ []
 
--- mutator 0's receipts, at some place
+-- mutator 0's two receipts, with a place to be given
 abbrev pub cleared : ℕ → Receipt
 cleared place = receipt place (Mutate 0 (Nil r0)) (Mutator Done)
 
@@ -39,7 +39,7 @@ looked place = receipt place (Mutate 0 (Look r0)) (Mutator (Saw views.Nil))
 abbrev pub first_with : List Receipt → SeatValue
 first_with receipts = record { number = 0; is_mutator = true; receipts = receipts }
 
--- the three seats of the history
+-- the three seats, with the receipts that fit the history
 abbrev pub first : SeatValue
 first = first_with (cleared 0 ∷ looked 3 ∷ [])
 
@@ -52,10 +52,10 @@ collector = record { number = 2; is_mutator = false; receipts = receipt 1 (Colle
 pub record Rows : Type 0 where
   -- the receipts of the three seats agree, in whichever order they are given
   pub agree : ReceiptsAgree history (collector ∷ first ∷ second ∷ [])
-  -- a place without a receipt, and one with two
+  -- they do not agree if a place has no receipt, or two
   pub left_out : ReceiptsAgree history (first ∷ second ∷ []) → ⊥
   pub twice : ReceiptsAgree history (first ∷ second ∷ collector ∷ collector ∷ []) → ⊥
-  -- a receipt of another opening, and one whose place is below that of the receipt before it
+  -- a receipt is torn if it comes from another opening, or if its place is below that of the receipt before it
   pub stranger : IsTorn [] (first_with (cleared 0 ∷ []) ∷ []) 1 0 0
   pub falling : IsTorn history (first_with (looked 3 ∷ cleared 0 ∷ []) ∷ []) 1 0 1
   -- events without receipts

@@ -1,4 +1,4 @@
--- Scripts that threads run: the receipts of their seats, and the world's history.
+-- What a run of scripts in threads leaves: receipts in the seats, and a history in the world.
 use Rattle.std.specs.Prelude.{◌≡◌, ℕ, ◌<◌, ⊤, Bool, true, false, List, [], ◌∷◌, length, map, filter, All, slice_index_or}
 use Rattle.std.specs.declared.vec.Vec.{Vec}
 use Rattle.std.specs.declared.alloc.Global.{Global}
@@ -18,7 +18,7 @@ script_at scripts m = slice_index_or (map (λ script. script.items) scripts) m [
 
 -- ---- on receipts
 
--- a step of the collector that was answered `Useful`
+-- a collector step whose answer is marked `Useful`
 abbrev pub IsUsefulStep : Event → Answer → Type 0
 IsUsefulStep (Mutate m op) answer = ⊥
 IsUsefulStep (Collect step) (Mutator reply) = ⊥
@@ -36,8 +36,8 @@ is_collect (Collect step) = true
 abbrev pub steps_of : List Entry → List Entry
 steps_of entries = filter (λ entry. is_collect entry.event) entries
 
--- The world has this size and a mutator for each script. The commands of mutator m are script m, in order, and the
--- collector performed this many steps, all as useful ones.
+-- The world was opened with this size and a mutator for each script. The commands of mutator m are those of script m,
+-- in order. The collector performed this many steps, and the answer to each is marked `Useful`.
 pub record HasRun (size : ℕ) (scripts : List (Vec Op Global)) (turns : ℕ) (w : Past) : Type 0 where
   pub opened : w.size ≡ size
   pub mutators : w.mutators ≡ length scripts

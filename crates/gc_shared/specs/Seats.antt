@@ -1,4 +1,4 @@
--- Openings, their seats, and what a call adds to a seat.
+-- Openings, their seats, and the receipt that a call adds to a seat.
 use Rattle.std.specs.Prelude.{◌≡◌, ℕ, ◌+◌, ◌≤◌, Bool, nat_lt, List, [], ◌∷◌, ◌++◌, length, ⊤}
 use Rattle.gc_graph.specs.Limits.{most_words}
 use Rattle.gc_copy.specs.declared.step.Step.{Step}
@@ -10,7 +10,7 @@ use Rattle.gc_world.specs.History.{IsHistory}
 use Rattle.gc_world.specs.World.{entry_of}
 use Rattle.gc_shared.specs.declared.seat.Receipt.{Receipt}
 
--- what a Shared was opened with
+-- the sizes that a `Shared` was opened with
 pub record Opening : Type 0 where
   pub size : ℕ
   pub mutators : ℕ
@@ -22,21 +22,21 @@ opening size mutators collectors = record { size = size; mutators = mutators; co
 abbrev pub count_of_seats : Opening → ℕ
 count_of_seats o = o.mutators + o.collectors
 
--- a Seat as contracts see it
+-- a `Seat` as contracts see it
 pub record SeatValue : Type 0 where
   pub number : ℕ
   pub is_mutator : Bool
   pub receipts : List Receipt
 
--- the seat with this number, as an opening with this many mutators gives it
+-- the seat with this number that an opening with this many mutators returns
 abbrev pub fresh : ℕ → ℕ → SeatValue
 fresh mutators n = record { number = n; is_mutator = nat_lt n mutators; receipts = [] }
 
 abbrev pub receipt : ℕ → Event → Answer → Receipt
 receipt place event answer = record { place = place; event = event; answer = answer }
 
--- Some world can give this receipt. It has a history of which the receipt's place is the length, and in whose state
--- the event gets this answer, so that the history goes on with both.
+-- Some world can give this receipt. The world has a history whose length is the receipt's place, and in its state the
+-- event gets this answer. So the history with both appended is a history too.
 pub record IsPossible (r : Receipt) : Type 0 where
   pub size : ℕ
   pub mutators : ℕ
@@ -44,7 +44,7 @@ pub record IsPossible (r : Receipt) : Type 0 where
   pub place : length earlier ≡ r.place
   pub goes_on : IsHistory size mutators (earlier ++ entry_of r.event r.answer ∷ [])
 
--- the seat has one more receipt, with this event and answer, and some world can give it
+-- the seat has one more receipt, with this event and answer, that some world can give
 pub record AddsReceipt (before after : SeatValue) (event : Event) (answer : Answer) : Type 0 where
   pub place : ℕ
   pub added : after ≡ record before { receipts = before.receipts ++ receipt place event answer ∷ [] }
@@ -52,7 +52,7 @@ pub record AddsReceipt (before after : SeatValue) (event : Event) (answer : Answ
 
 -- ---- steps
 
--- the size of a step, if it has one, is that of a space
+-- the size of a step, if it has one, is one that a space can have
 abbrev pub HasSize : Step → Type 0
 HasSize (BeginSized size) = (1 ≤ size) × (size ≤ most_words)
 HasSize step = ⊤

@@ -12,8 +12,8 @@ use crate::seat::{Receipt, Seat};
 use gc_world::{Entry, World};
 use std::alloc::Global;
 
-/// Returns the first fault of the seats against the world. Each place of the history gets a mark; the marks are
-/// allocated before any receipt is looked at.
+/// Returns the first fault that comparing the seats with the world finds. There is a mark for each place of the
+/// history; the marks are allocated before any receipt is read.
 pub(crate) fn fault(
     alloc: Global,
     size: u32,
@@ -37,7 +37,7 @@ pub(crate) fn fault(
     first_fault(history, seats, mutators + collectors, marks.as_mut_slice())
 }
 
-// Returns whether the seats have each number of the opening once, and the world its size and mutators.
+// Returns whether each seat number of the opening occurs once, and the world has the opening's size and mutators.
 fn is_seated(size: u32, mutators: u8, collectors: u8, world: &World, seats: &[Seat]) -> bool
     requires { mutators + collectors ≤ 32 }
     ensures { IsTrue result ↔ IsSeated (opening size mutators collectors) world.now seats.now }
@@ -51,7 +51,8 @@ fn is_seated(size: u32, mutators: u8, collectors: u8, world: &World, seats: &[Se
     has_each_once(seats, mutators + collectors)
 }
 
-// Returns the first receipt that does not stand, seats by number and receipts in order, or an event without one.
+// Returns `Torn` with the first receipt that does not stand, going through the seats by number and their receipts in
+// order. If all stand, returns `Extra` if an event has no receipt.
 fn first_fault(
     history: &[Entry],
     seats: &[Seat],
@@ -112,7 +113,7 @@ fn receipts_with(seats: &[Seat], number: u8) -> &[Receipt]
     }
 }
 
-// Marks the places of a seat's receipts, up to the first that does not stand.
+// Marks the places of a seat's receipts up to the first that does not stand, and returns that receipt's number.
 fn first_torn(history: &[Entry], seats: &[Seat], seat: u8, marks: &mut [bool]) -> Option<usize>
     requires len { length marks.old ≡ length history.now }
     requires marked { IsMarked marks.old (receipts_below seats.now seat) }
@@ -135,7 +136,7 @@ fn first_torn(history: &[Entry], seats: &[Seat], seat: u8, marks: &mut [bool]) -
     None
 }
 
-// Returns whether the receipt's place has its event and answer, is at or above `low`, and is not marked.
+// Returns whether the history has the receipt's event and answer at its place, at or above `low` and not marked.
 fn is_free(history: &[Entry], marks: &[bool], low: usize, receipt: &Receipt) -> bool
     requires { length marks.now ≡ length history.now }
     ensures free { IsTrue result ↔ IsFree history.now marks.now low receipt.now }
@@ -144,7 +145,7 @@ fn is_free(history: &[Entry], marks: &[bool], low: usize, receipt: &Receipt) -> 
     low <= receipt.place && is_recorded(history, receipt) && !marks[receipt.place]
 }
 
-// Returns whether the receipt's place has its event and answer.
+// Returns whether the history has the receipt's event and answer at its place.
 fn is_recorded(history: &[Entry], receipt: &Receipt) -> bool
     ensures recorded { IsTrue result ↔ IsRecorded history.now receipt.now }
     ensures within { IsTrue result → receipt.now.place < length history.now }

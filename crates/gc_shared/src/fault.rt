@@ -49,8 +49,9 @@ impl From<AllocError> for CallFault {
 pub enum CloseKind {
     /// The seats are not those of the opening, each once.
     Seats,
-    /// Receipt `n` of this seat does not stand (both count from 0). It differs from the history at its place, or its
-    /// place is not above that of the receipt before it, or a receipt of a seat with a lower number has that place.
+    /// Receipt `n` of this seat is the first one that is wrong (both count from 0). It differs from the history at its
+    /// place, its place is not above that of the receipt before it, or a receipt of a seat with a lower number has the
+    /// same place.
     Torn { seat: u8, n: usize },
     /// The history has more events than the seats have receipts.
     Extra,
@@ -82,14 +83,14 @@ impl CloseKind {
     }
 }
 
-/// A world that does not agree with its seats, and why. The seats are gone.
+/// A world that does not agree with its seats, and the reason. The seats have been dropped.
 #[derive(Debug, Drop)]
 pub struct CloseFault {
     pub world: World,
     pub kind: CloseKind,
 }
 
-/// Why scripts did not run to their end. The scripts and the world are dropped.
+/// Why scripts did not run to their end. The scripts and the world have been dropped.
 #[derive(Clone, Copy, Debug, PartialEq, Eq, Error)]
 #[error("{}", self.message())]
 pub enum ThreadsFault {
@@ -99,7 +100,7 @@ pub enum ThreadsFault {
     Gate { seat: u32, n: u64 },
     /// An allocation failed.
     NoMemory,
-    /// Closing failed. A thread whose seat was refused gives `Seats`.
+    /// Closing failed. If a call refuses a thread's seat, the fault is `Seats`.
     Close(CloseKind),
 }
 

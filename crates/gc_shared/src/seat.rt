@@ -88,7 +88,7 @@ impl Seat {
         self.number
     }
 
-    /// Returns whether it is a mutator's seat, which performs commands. A collector's seat performs steps.
+    /// Returns whether this is a mutator's seat, which performs commands. A collector's seat performs steps.
     pub fn is_mutator(&self) -> bool
         ensures { result ≡ self.now.is_mutator }
     {

@@ -9,7 +9,7 @@ use std::marker::Model;
 use std::sync::{Mutex, Wait};
 use std::thread::Threads;
 
-/// A world behind one lock, and what it was opened with. Nothing else is shared.
+/// A world behind one lock, with the size and the numbers of mutators and collectors that it was opened with.
 #[derive(Drop)]
 pub struct Shared {
     alloc: Global,
@@ -90,14 +90,14 @@ impl Shared {
     }
 
     /// Performs a command of the seat's mutator under the lock, and adds its receipt to the seat. May wait for the
-    /// lock. Returns `NotAMutator` for a collector's seat, and `NoMemory` if an allocation fails. The seat is then
-    /// unchanged.
+    /// lock. Returns `NotAMutator` for a collector's seat, or for a mutator that this world does not have, and
+    /// `NoMemory` if an allocation fails. The seat is then unchanged.
     pub fn call<R: Wait>(&self, rt: &R, seat: &mut Seat, op: &Op) -> Result<Reply, CallFault>
         ensures answered { IfOk result (λ reply.
             AddsReceipt seat.old seat.new (Event.Mutate seat.old.number op.now) (Answer.Mutator reply)) }
         ensures refused { OnErr result (seat.new ≡ seat.old) }
 
-        // A wrong kind of seat is found before anything is allocated.
+        // A wrong kind of seat is refused before anything is allocated.
         ensures collector { seat.old.is_mutator ≡ false → result ≡ Err CallFault.NotAMutator }
         ensures beyond { self.now.mutators ≤ seat.old.number → result ≡ Err CallFault.NotAMutator }
         ensures faults { IfErr result (λ fault.
@@ -134,7 +134,7 @@ impl Shared {
             AddsReceipt seat.old seat.new (Event.Collect step) (Answer.Collector reply)) }
         ensures refused { OnErr result (seat.new ≡ seat.old) }
 
-        // A wrong kind of seat is found first, then a log that does not exist, both before anything is allocated.
+        // A wrong kind of seat is refused first, then a log that does not exist, both before anything is allocated.
         ensures mutator { (result ≡ Err CallFault.NotACollector) ↔ (seat.old.is_mutator ≡ true) }
         ensures beyond { seat.old.is_mutator ≡ false → (IsStep self.now.mutators step → ⊥)
             → result ≡ Err CallFault.NoSuchMutator }
@@ -160,8 +160,9 @@ impl Shared {
         Ok(reply)
     }
 
-    /// Finds and performs the useful step, taking the lock once, and adds its receipt to the seat. Returns
-    /// `NotACollector` for a mutator's seat, and `NoMemory` if an allocation fails. The seat is then unchanged.
+    /// Finds and performs the useful step under one hold of the lock, and adds its receipt to the seat. May wait for
+    /// the lock. Returns `NotACollector` for a mutator's seat, and `NoMemory` if an allocation fails. The seat is then
+    /// unchanged.
     pub fn useful<R: Threads + Wait + Sync>(
         &self,
         rt: &R,
@@ -188,7 +189,7 @@ impl Shared {
     }
 
     /// Takes the world out of the lock, and compares its history with the seats' receipts. Returns the world if they
-    /// agree, otherwise the first fault with the world. Does not wait. The seats are gone in either case.
+    /// agree, otherwise the first fault together with the world. Does not wait. Drops the seats in either case.
     pub fn close(self, seats: Vec<Seat>) -> Result<World, CloseFault>
         ensures ok { IfOk result (λ world. IsWhole self world seats.items) }
         ensures err { IfErr result (λ fault. IsFirstFault self fault.world seats.items fault.kind) }

@@ -64,7 +64,7 @@ fn one_seat_of_each_kind(rt: HostRuntime) -> Result<(), Fail> {
     Ok(())
 }
 
-/// Returns whether the seat's useful steps are these, with these replies.
+/// Performs useful steps with the seat. Returns whether they are these, with these replies.
 fn makes_useful<R: Threads + Wait + Sync>(
     rt: &R,
     shared: &Shared,
@@ -79,7 +79,7 @@ fn makes_useful<R: Threads + Wait + Sync>(
     true
 }
 
-/// Returns whether the receipt is that of the write, which is the eighth event.
+/// Returns whether this is the receipt of the write, which is the eighth event.
 fn is_of_the_write(receipt: &Receipt, put: Op) -> bool {
     receipt.place() == 7
         && receipt.event() == Event::Mutate { m: 0, op: put }
@@ -87,7 +87,7 @@ fn is_of_the_write(receipt: &Receipt, put: Op) -> bool {
         && receipt.entry() == Entry::command(0, &put, &Reply::Done)
 }
 
-/// Returns the history of one mutator and one collector, whose steps but two were found as the useful ones.
+/// Returns the history of one mutator and one collector. All collector steps but two were performed as useful steps.
 fn history_of(new: &Op, put: &Op) -> [Entry; 10] {
     [
         Entry::command(0, new, &Reply::Made),

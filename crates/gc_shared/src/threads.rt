@@ -18,7 +18,7 @@ use std::sync::Wait;
 use std::thread;
 use std::thread::{Promise, PromisedHandle, Scope, Threads};
 
-/// What a mutator's thread promises: its seat comes back with the script's commands.
+/// What a mutator's thread promises: it returns its seat with the receipts of the script's commands.
 #[derive(Clone, Copy)]
 struct Plays<'a> {
     number: u8,
@@ -29,7 +29,7 @@ impl<'a> Promise<Result<Seat, ThreadsFault>> for Plays<'a> {
     ghost kept_by = { λ plays result. IfOk result (HasPlayed plays.number plays.script.now) };
 }
 
-/// What the collector's thread promises: its seat comes back with this many useful steps.
+/// What the collector's thread promises: it returns its seat with the receipts of this many useful steps.
 #[derive(Clone, Copy)]
 struct Turns {
     number: u8,
@@ -41,10 +41,10 @@ impl Promise<Result<Seat, ThreadsFault>> for Turns {
 }
 
 /// Runs 1 to 16 scripts, each in its own thread, in a world of `size` words, 1 to 1048576. Mutator m runs script m. One
-/// more thread, with the collector's seat, performs this many useful steps. All threads are started before any is joined,
+/// more thread, with the collector's seat, performs `turns` useful steps. All threads are started before any is joined,
 /// and every started thread is joined, whatever happens.
 ///
-/// If several threads fail, returns the fault of the lowest seat. A thread that ends leaves the others running.
+/// If several threads fail, returns the fault of the lowest seat. A thread that fails does not stop the others.
 pub fn run_threads<R: Threads + Wait + Sync, G: Gate + Sync>(
     rt: &R,
     alloc: Global,
@@ -70,7 +70,7 @@ pub fn run_threads<R: Threads + Wait + Sync, G: Gate + Sync>(
     }
 }
 
-// Runs the scripts and the collector in threads that end before it returns. Returns the seats.
+// Runs the scripts and the collector in threads, waits until all have ended, and returns the seats.
 fn in_threads<R: Threads + Wait + Sync, G: Gate + Sync>(
     rt: &R,
     shared: &Shared,
@@ -211,7 +211,7 @@ fn start_collector<'s, 'e, R: Threads + Wait + Sync, G: Gate + Sync>(
         .ok()
 }
 
-// Joins all threads and keeps their seats. Returns the fault of the lowest seat, if any.
+// Joins all threads and appends their seats to `back`. Returns the fault of the lowest seat, if any.
 fn join_players<'e, R: Threads>(
     rt: &R,
     players: Vec<Player<'e>>,

@@ -1,4 +1,4 @@
--- The tokens of an event at the front of a text.
+-- The tokens of an event at the start of a text.
 use Rattle.std.proofs.Common.{◌≡◌, ℕ, ◌+◌, ◌≤◌, List, [], ◌∷◌, ◌++◌, length, refl, sym, ap, ◌∙◌, arith, append_assoc, length-append}
 use Rattle.std.specs.Prelude.{codes}
 use Rattle.std.specs.Fmt.{decimal}
@@ -40,10 +40,10 @@ spelled-joined [] rest = refl
 spelled-joined (token ∷ []) rest = refl
 spelled-joined (token ∷ next ∷ tokens) rest = append_assoc token (space ∷ joined (next ∷ tokens)) rest ∙ ap (λ (t : List ℕ). token ++ space ∷ t) (spelled-joined (next ∷ tokens) rest)
 
--- an event and a line feed are the event's line
+-- an event's tokens with a line feed are the event's line
 pub line_spelled : (event : Event) (rest : List ℕ) → spelled (event_tokens event) (newline ∷ rest) ≡ event_line event ++ rest
 line_spelled event rest = sym (spelled-joined (event_tokens event) (newline ∷ rest)) ∙ sym (event_line-more event rest)
 
--- the line of an event takes a byte or more
+-- the line of an event has at least one byte
 pub line_takes : (event : Event) (text rest : List ℕ) → text ≡ event_line event ++ rest → length rest + 1 ≤ length text
 line_takes event text rest is = omega (arith, ap length (is ∙ event_line-more event rest), length-append (joined (event_tokens event)) (newline ∷ rest))

@@ -1,4 +1,4 @@
--- Lines of a trace have no line feed inside, and their tokens no space.
+-- The lines of a trace have no line feed inside, and their tokens have no space.
 use Rattle.std.proofs.Common.{◌≡◌, ◌≢◌, ℕ, ◌<◌, Bool, true, false, cond, [], ◌∷◌, refl, arith}
 use Rattle.std.specs.Prelude.{codes}
 use Rattle.std.specs.Fmt.{decimal}

@@ -23,7 +23,7 @@ use Rattle.gc_trace.specs.Flips.{flip_at, with_flip, flips}
 
 -- ---- what is kept
 
--- a pair that is kept replaces the one before
+-- a kept pair is that of the open collection
 kept_by_reply : (s : State) (reply : StepReply) (pair : CertifiedPair) → kept_after None s reply ≡ Some pair → open_pair s s.collection ≡ Some pair
 kept_by_reply s Busy pair is = absurd cc
 kept_by_reply s Begun pair is = absurd cc
@@ -69,14 +69,14 @@ counts_of_result s event (Err fault) ok small few is certified = tt
 
 -- ---- the n-th flip
 
--- the flips from event i on, with this many before the wanted one
+-- flip number `before`, counted from 0, among the flips from event i on
 abbrev pub flips_from : State → List Event → ℕ → ℕ → Option CertifiedPair
 flips_from s events i before = slice_get (flips s (drop i events)) before
 
 flips_more : (s : State) (events : List Event) (i : ℕ) (event : Event) → i < length events → event ≡ get_or events i event → flips s (drop i events) ≡ with_flip (flip_at s event) (flips (after s event) (drop (i + 1) events))
 flips_more s events i event lt is = ap (flips s) (drop_more events i event lt ∙ ap (λ (e : Event). e ∷ drop (i + 1) events) (sym is))
 
--- the event is no flip
+-- the event does not flip
 pub no_flip : (s : State) (events : List Event) (i before : ℕ) (event : Event) → i < length events → event ≡ get_or events i event → flip_at s event ≡ None → flips_from (after s event) events (i + 1) before ≡ flips_from s events i before
 no_flip s events i before event lt is none =
     sym (ap (λ (ps : List CertifiedPair). slice_get ps before) (flips_more s events i event lt is ∙ ap (λ (o : Option CertifiedPair). with_flip o (flips (after s event) (drop (i + 1) events))) none))
@@ -86,7 +86,7 @@ pub other_flip : (s : State) (events : List Event) (i before : ℕ) (event : Eve
 other_flip s events i before event pair lt is some =
     sym (ap (λ (ps : List CertifiedPair). slice_get ps (suc before)) (flips_more s events i event lt is ∙ ap (λ (o : Option CertifiedPair). with_flip o (flips (after s event) (drop (i + 1) events))) some))
 
--- not a flip, and as many are to come; or an earlier flip, and one fewer is to come
+-- the event does not flip, and the same number of flips is left to skip; or it flips, and one fewer is left
 abbrev pub Counted : Option CertifiedPair → ℕ → ℕ → Type 0
 Counted kept before left = ((kept ≡ None) × (left ≡ before)) ⊎ ((pair : CertifiedPair) × (kept ≡ Some pair) × (before ≡ suc left))
 

@@ -19,7 +19,7 @@ pub event_line-more : (event : Event) (more : List ℕ) → event_line event ++ 
 unfolding event_line
 event_line-more event more = append_assoc (joined (event_tokens event)) (newline ∷ []) more
 
--- no line of an event begins another
+-- two event lines at the start of the same text are the same
 pub event_line_injective : (version : ℕ) (e d : Event) (x y : List ℕ) → IsEvent version e → IsEvent version d → event_line e ++ x ≡ event_line d ++ y → (e ≡ d) × (x ≡ y)
 event_line_injective version e d x y p q same =
     let cut = one_cut newline (joined (event_tokens e)) x (joined (event_tokens d)) y (HasNo-event version e p) (HasNo-event version d q) (sym (event_line-more e x) ∙ same ∙ event_line-more d y) in
@@ -56,9 +56,9 @@ heading_injective v s m w t n x y p q same =
       second.1,
     )
 
--- ---- where the good lines stop
+-- ---- the end of the good lines
 
--- the text begins with no event of such a trace
+-- the text does not begin with an event line of a trace of this version and number of mutators
 abbrev pub Stops : ℕ → ℕ → List ℕ → Type 0
 Stops version mutators rest = (event : Event) (more : List ℕ) → IsEvent version event → IsOf mutators event → rest ≢ event_line event ++ more
 
@@ -80,7 +80,7 @@ same_stop v m (e ∷ es) (d ∷ ds) x y p q stop stop' same =
     let rest = same_stop v m es ds x y p.1 q.1 stop stop' one.1 in
     (rw (one.0, rest.0) refl, rest.1)
 
--- good lines and what follows them
+-- the lines of this trace, and a rest that does not begin with another event line
 abbrev pub StopsAt : Recording → List ℕ → List ℕ → Type 0
 StopsAt t rest text = IsRecording t × (text ≡ spelling t ++ rest) × Stops t.version t.mutators rest
 

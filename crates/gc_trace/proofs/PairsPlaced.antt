@@ -1,4 +1,4 @@
--- Each pair of a flip was placed by a step of its own, so that a history has no more pairs than events.
+-- Each replica is placed by a different step, so a history has no more pairs than events.
 use Rattle.std.proofs.Common.{◌≡◌, ℕ, ◌+◌, ◌≤◌, ◌==◌, ◌||◌, List, [], ◌∷◌, length, Option, Some, None, is_some, nat_lt, refl, ap, arith, length-append}
 use Rattle.std.specs.List.{sum_by}
 use Rattle.std.proofs.lemmas.Bool.{cond_both}
@@ -20,12 +20,12 @@ use Rattle.gc_world.specs.History.{IsHistory, events_of, answers_of, unmarked}
 use Rattle.gc_world.specs.declared.entry.Entry.{Entry}
 use Rattle.gc_trace.specs.Report.{pairs_in}
 
--- how many replicas an open collection has
+-- the number of replicas of the open collection, or 0 if none is open
 abbrev replicas_in : Option Collection → ℕ
 replicas_in None = 0
 replicas_in (Some c) = length c.replicas
 
--- an answer adds at most one to the number of replicas, and has no more pairs than that
+-- after a step that starts with n replicas, the pairs in the reply and the replicas together are at most n + 1
 abbrev PlacesOne : ℕ → StepReply × State → Type 0
 PlacesOne n next = pairs_in (Collector next.0) + replicas_in next.1.collection ≤ n + 1
 
@@ -53,7 +53,7 @@ brought_up c g name i = brought c g name i (field_of (lookup g.objects name) i)
 
 -- ---- steps
 
--- a step that leaves the state as it was
+-- a step that does not change the state
 unchanged : (s : State) (o : Option Collection) (reply : StepReply) → s.collection ≡ o → pairs_in (Collector reply) ≡ 0 → PlacesOne (replicas_in o) (reply, s)
 unchanged s o reply e none = let same : replicas_in s.collection ≡ replicas_in o = ap replicas_in e in omega arith
 
@@ -113,7 +113,7 @@ step_places s (Some c) steps.Drop e = omega arith
 
 -- ---- runs
 
--- a command leaves the replicas as they are
+-- a command does not change the replicas
 logged_same : (o : Option Collection) (m : ℕ) (entries : List (ℕ × ℕ)) → replicas_in (logged o m entries) ≡ replicas_in o
 logged_same None m entries = refl
 logged_same (Some c) m entries = refl

@@ -1,4 +1,4 @@
--- Tokens are read as the grammar says.
+-- The parsers read exactly the tokens of the grammar.
 use Rattle.std.proofs.Common.{◌≡◌, ℕ, ◌<◌, ◌≤◌, Bool, true, false, cond, eqb, ltb, sym, List, [], ◌∷◌, refl, ap, ◌∙◌, arith, Option, Some, None, subst, inl, inr, ◌⊎◌}
 use Rattle.std.specs.Prelude.{codes}
 use Rattle.std.specs.Fmt.{decimal}
@@ -48,7 +48,7 @@ slot_at_found (token ∷ tokens) x e =
 abbrev IsRead : ℕ → Op → Tokens → Type 0
 IsRead version op tokens = (tokens ≡ op_tokens op) × IsCommand op × (op_version op ≤ version)
 
--- what a new object's tokens are read as
+-- what parsing the tokens of a new object gives
 record IsNewObject (raw : Bool) (op : Op) (tokens : Tokens) : Type 0 where
   d : SlotName
   kind : ℕ

@@ -27,12 +27,12 @@ answers_pushed s (first ∷ events) event = ap (λ (told : List Answer). answer 
 text_pushed : (told : List Answer) (last : Answer) → reply_text (told ++ last ∷ []) ≡ reply_text told ++ reply_line last
 text_pushed told last = flat_map-append reply_line told (last ∷ []) ∙ ap (λ (t : List ℕ). reply_text told ++ t) (flat_map-cons reply_line last [] ∙ append-nil (reply_line last))
 
--- a run marks no answer as that of a useful step
+-- a run marks no answer as `Useful`
 plain : (s : State) (event : Event) → unmarked (answer s event) ≡ answer s event
 plain s (Mutate m op) = refl
 plain s (Collect step) = refl
 
--- ---- a player that has played some events from a state on
+-- ---- a player that has played some events, starting in some state
 
 -- the state
 pub state_is : (s : State) (events : List Event) (event : Event) (heap next : State) → heap ≡ state_after s events → next ≡ after heap event → next ≡ state_after s (events ++ event ∷ [])

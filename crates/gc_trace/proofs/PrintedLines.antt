@@ -1,4 +1,4 @@
--- Lines that are written one after the other.
+-- Lines that are written in order.
 use Rattle.std.proofs.Common.{◌≡◌, ℕ, List, [], ◌∷◌, ◌++◌, take, drop, sym, ap, ◌∙◌, Option, subst, length, ◌+◌, ◌<◌, ◌≤◌, get_or, append_assoc}
 use Rattle.std.proofs.lemmas.List.{append-nil, take-append-drop, take_all, take_more}
 use Rattle.std.specs.Io.KnownBytes.{Appends}
@@ -11,7 +11,7 @@ use Rattle.gc_world.specs.History.{events_of}
 use Rattle.gc_world.specs.declared.entry.Entry.{Entry}
 use Rattle.gc_trace.specs.Grammar.{event_line, heading, spelling, least_version, written}
 
--- the text before, and the lines of the first i
+-- a text, followed by the lines of the first i elements
 abbrev pub lines_to : {X : Type 0} → List ℕ → (X → List ℕ) → List X → ℕ → List ℕ
 lines_to front line xs i = front ++ flat_map line (take i xs)
 

@@ -42,7 +42,7 @@ heading_read text r p left h fits line same number =
       good = subst (λ (n : ℕ). GoodBefore text n (read_so_far r []) (r.pieces.waiting ++ more)) (sym number) (good_start text (r.pieces.waiting ++ more) r.version r.size r.mutators fits parts);
     }
 
--- the text behind the line of an event
+-- the text after the line of an event
 behind : (text rest : List ℕ) (p : Progress) (waiting : List ℕ) (left : Option (List ℕ)) (event : Event) → IsWithin text rest p left → p.waiting ≡ event_line event ++ waiting → rest ≡ event_line event ++ (waiting ++ drop p.read text)
 behind text rest p waiting left event h line = h.rest_is ∙ ap (λ (l : List ℕ). l ++ drop p.read text) line ∙ append_assoc (event_line event) waiting (drop p.read text)
 
@@ -81,7 +81,7 @@ stranger_taken text events r next left event h taken fits strange =
     subst (λ (n : EventReader). HasStranger text n.number) (sym taken.1)
     (stranger_read text events r next.pieces.waiting left event h fits (λ of. strange (subst (λ (m : ℕ). IsOf m event) (sym (ap (λ (n : EventReader). n.mutators) taken.1)) of)) taken.0)
 
--- the number of the next line stays below the number of bytes
+-- after one more line, the count of lines is still bounded by the count of bytes
 pub still_counted : (r next : EventReader) (event : Event) → IsReading r → HasTakenLine r next event → IsReading next → IsReading (record next { number = next.number + 1 })
 still_counted r next event reading taken after = record {
   heading = after.heading;
@@ -90,7 +90,7 @@ still_counted r next event reading taken after = record {
   limit_is = after.limit_is;
 }
 
--- ---- a reader whose text ends with its buffer, which begins with no event's line
+-- ---- a reader whose text ends with its buffer, when the buffer does not begin with an event line
 
 pub bad_line : (text : List ℕ) (events : List Event) (r : EventReader) (left : Option (List ℕ)) → (h : HasRead text events r left) → h.rest ≡ r.pieces.waiting → r.pieces.waiting ≢ [] → BeginsWithNoEvent r.version r.pieces.waiting → HasBadLine text r.number
 bad_line text events r left h same some none = (read_so_far r events, h.rest, h.good, (λ empty. some (sym same ∙ empty)), subst (BeginsWithNoEvent r.version) (sym same) none)
@@ -101,7 +101,7 @@ bad_line text events r left h same some none = (read_so_far r events, h.rest, h.
 abbrev pub AllCan : EventReader → List Event → Type 0
 AllCan r events = AllByRecursion (λ event. IsEvent r.version event × IsOf r.mutators event) events
 
--- reading on leaves the heading as it is
+-- reading more does not change the heading
 pub same_heading : (r next : EventReader) (events : List Event) → read_so_far next [] ≡ read_so_far r [] → read_so_far next events ≡ read_so_far r events
 same_heading r next events same = ap (λ (t : Recording). made_of t.version t.size t.mutators events) same
 

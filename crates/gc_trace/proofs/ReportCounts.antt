@@ -39,12 +39,12 @@ report_push answers answer s =
     let refused = count_push is_refused answers answer in
     cc
 
--- before the first
+-- before the first answer
 pub none_counted : (r : Report) (end free : ℕ) (s : State) → r ≡ record { events = 0; made = 0; full = 0; begun = 0; copied = 0; scanned = 0; applied = 0; flips = 0; pairs = 0; dropped = 0; refused = 0; end = end; free = free }
     → end ≡ heap_end s → free ≡ s.heap.free → r ≡ report_of [] s
 none_counted r end free s is same_end same_free = is ∙ cc
 
--- the first entry that is not counted
+-- the first entry that is not yet counted
 pub next_counted : (items : List Entry) (i : ℕ) (entry : Entry) (r : Report) (s : State) → i < length items → entry ≡ get_or items i entry → r ≡ report_of (answers_of (take i items)) s → with_answer r (answer_of entry) ≡ report_of (answers_of (take (i + 1) items)) s
 next_counted items i entry r s lt is so_far =
     ap (λ (r : Report). with_answer r (answer_of entry)) so_far

@@ -1,10 +1,10 @@
--- Lines that are printed one behind the other.
+-- Lines that are printed one after the other.
 use Rattle.std.proofs.Common.{◌≡◌, ℕ, List, [], ◌∷◌, ◌++◌, sym, ◌∙◌, ap, append_assoc}
 use Rattle.std.specs.List.{flat_map}
 use Rattle.std.proofs.lemmas.List.{append-nil}
 use Rattle.gc_graph.specs.Lines.{line}
 
--- a line of these tokens follows a text, and then the rest
+-- a text is followed by a line of these tokens, and `Rest` holds of the result
 pub record Then (before : List ℕ) (tokens : List (List ℕ)) (Rest : List ℕ → Type 0) : Type 0 where
   pub next : List ℕ
   pub first : next ≡ before ++ line tokens

@@ -18,7 +18,7 @@ two_digits a b n low high low-b high-b is =
     let value : digits_value 10 (a ∷ b ∷ []) ≡ n = omega (arith, u, v, is) in
     ap decimal (sym value) ∙ decimal-digits_value decimals (a ∷ b ∷ []) (omega (arith, u), (omega (arith, v), tt)) (omega arith) (λ e. absurd (omega (arith, low, e))) (omega (arith, value, is))
 
--- what one or two digits write
+-- the number that one or two digits spell
 pub record IsSmallNumber (a b two n : ℕ) : Type 0 where
   pub small : n < 16
   pub few : 1 + two ≤ 2

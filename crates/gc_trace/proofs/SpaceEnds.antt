@@ -1,4 +1,4 @@
--- The space of a heap has the end and the free words of the state that the heap is in.
+-- The space of a heap has the end and the free words of the heap's state.
 use Rattle.std.proofs.Common.{◌≡◌, ◌-◌, ap, arith}
 use Rattle.gc_graph.specs.Machine.{Roomy}
 use Rattle.gc_words.specs.Space.{free_in, end_of}

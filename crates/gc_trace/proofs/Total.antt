@@ -1,4 +1,4 @@
--- After a good heading each text has a reading: it is a whole trace, or has a bad line, or a line of a mutator that does not exist.
+-- After a good heading every text is a whole trace, or it has a bad line or an event of a mutator that does not exist.
 use Rattle.std.proofs.Common.{◌≡◌, ℕ, suc, zero, ◌+◌, ◌<◌, ◌≤◌, Bool, true, false, leb, List, [], ◌∷◌, ◌++◌, length, refl, sym, ap, ◌∙◌, arith, append_assoc, subst, inl, inr, ◌⊎◌, Option, Some, None}
 use Rattle.std.specs.List.{flat_map}
 use Rattle.std.proofs.lemmas.Bool.{leb-true}
@@ -45,7 +45,7 @@ dec_of version mutators (Mutate m op) fits =
     ]
 dec_of version mutators (Collect step) fits = dec_step mutators step fits.range
 
--- the event with which the text begins
+-- the event that the text begins with
 pub one_event : (version : ℕ) (rest line after : List ℕ) (e : Event) → 1 ≤ version → rest ≡ line ++ newline ∷ after → event_of version (tokens_of line) ≡ Some e → IsEvent version e × (rest ≡ event_line e ++ after)
 one_event version rest line after e known parts read =
     let found = event_found version (tokens_of line) e known read in

@@ -25,7 +25,7 @@ pub record Recording : Type 0 where
 unfoldable pub slot : SlotName → List ℕ
 slot s = (if s.shared then 103 else 114) ∷ decimal s.index
 
--- a new object, raw or not: the slot that it is for, its kind and its length
+-- the tokens of a new object, raw or not: its slot, its kind and its length
 abbrev pub object_tokens : SlotName → ℕ → ℕ → List (List ℕ)
 object_tokens d kind len = slot d ∷ decimal kind ∷ decimal len ∷ []
 

@@ -1,4 +1,4 @@
--- Definitions that only private contracts and proofs need. They are no part of a promise.
+-- Definitions that only private contracts and proofs use. They are not part of the public interface.
 pub mod Faults
 pub mod Fronts
 pub mod Parsers

@@ -1,4 +1,4 @@
--- The worked row of a report.
+-- A worked example of a report.
 use Rattle.std.specs.Prelude.{◌≡◌, List, [], ◌∷◌, codes}
 use Rattle.gc_graph.specs.Slots.{own_slot}
 use Rattle.gc_graph.specs.declared.command.Op.TheVariants as ops

@@ -45,7 +45,7 @@ pub record SizedRows : Type 0 where
   pub least : spelling (written 8 1 (Collect (steps.BeginSized 12) ∷ [])) ≡ codes "heaptrace 2\nspace 8 mutators 1\nc begin 12\n"
   pub lower : spelling (written 8 1 (Collect steps.Begin ∷ [])) ≡ codes "heaptrace 1\nspace 8 mutators 1\nc begin\n"
 
--- a raw object that is written while a collection is open
+-- events on a raw object; a `Put` writes to it while a collection is open
 abbrev pub raw_events : List Event
 raw_events =
     Mutate 0 (ops.NewRaw (own_slot 0) 7 2) ∷ Mutate 0 (ops.Look (own_slot 0)) ∷ Mutate 0 (ops.Get (own_slot 1) (own_slot 0) 1) ∷ Mutate 0 (ops.Put (own_slot 0) 0 (own_slot 2)) ∷ Mutate 0 (ops.Put (own_slot 0) 2 (own_slot 2))

@@ -11,7 +11,7 @@ use Rattle.gc_copy.specs.declared.event.Event.{Event}
 use Rattle.gc_copy.specs.declared.event.Event.TheVariants.{Mutate, Collect}
 use Rattle.gc_trace.specs.Grammar.{Recording}
 
--- the pair that is kept after this event in this state, if `kept` was kept before
+-- the pair kept after this event happens in this state; `kept` is the one kept before
 abbrev pub kept_with : Option CertifiedPair → State → Event → Option CertifiedPair
 kept_with kept s (Mutate m op) = kept
 kept_with kept s (Collect step) = kept_after kept s (collect s step).0

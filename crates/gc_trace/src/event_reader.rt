@@ -26,7 +26,7 @@ struct Heading {
     mutators: u8,
 }
 
-/// Returns the first line without its line feed, and what follows it. None if the text has no line feed.
+/// Returns the first line without its line feed, and the text after it, or `None` if the text has no line feed.
 fn split_line(text: &[u8]) -> Option<(&[u8], &[u8])>
     ensures { MatchOption result (HasNo newline text.now)
         (λ parts. (text.now ≡ parts.0.now ++ newline ∷ parts.1.now) × HasNo newline parts.0.now) }
@@ -34,7 +34,7 @@ fn split_line(text: &[u8]) -> Option<(&[u8], &[u8])>
     cut(b'\n', text)
 }
 
-/// Parses the first two lines, and returns what follows them as well.
+/// Parses the first two lines. Returns their contents and the text after them.
 fn split_heading(text: &[u8]) -> Option<(Heading, &[u8])>
     ensures { MatchOption result (HasNoHeading text.now)
         (λ found. IsHeading found.0.version found.0.size found.0.mutators
@@ -62,7 +62,7 @@ fn split_heading(text: &[u8]) -> Option<(Heading, &[u8])>
     ))
 }
 
-/// Returns whether the event's mutator, or that of its log, is below `mutators`.
+/// Returns whether the event's mutator, or the mutator of its log, is below `mutators`.
 #[inline(always)]
 fn is_of(mutators: u8, event: &Event) -> bool
     requires { IsEvent newest event.now }
@@ -76,7 +76,7 @@ fn is_of(mutators: u8, event: &Event) -> bool
     }
 }
 
-/// Takes the line of an event of this version. Returns None if no such line stands first.
+/// Takes an event line of this version. Returns `None` if the text does not begin with one.
 #[inline(always)]
 fn take_event(version: u8, front: &mut Front<'_>) -> Option<Event>
     requires { 1 ≤ version }
@@ -97,7 +97,7 @@ fn take_event(version: u8, front: &mut Front<'_>) -> Option<Event>
     Some(event)
 }
 
-/// Returns the heading at the front of the text, and how many bytes follow it.
+/// Returns the heading at the start of the text, and the number of bytes after it.
 fn heading_at(text: &[u8]) -> Option<(Heading, usize)>
     ensures { MatchOption result (HasNoHeading text.now)
         (λ found. IsHeading found.0.version found.0.size found.0.mutators × (found.1 ≤ length text.now)
@@ -107,7 +107,7 @@ fn heading_at(text: &[u8]) -> Option<(Heading, usize)>
     Some((heading, body.len()))
 }
 
-/// Returns the event whose line stands at the front of the text, and how many bytes follow it.
+/// Returns the event whose line is at the start of the text, and the number of bytes after it.
 #[inline(always)]
 fn event_at(version: u8, text: &[u8]) -> Option<(Event, usize)>
     requires { 1 ≤ version }
@@ -120,7 +120,7 @@ fn event_at(version: u8, text: &[u8]) -> Option<(Event, usize)>
     Some((event, front.rest().len()))
 }
 
-/// Reads more of the text. Returns false once its end was met.
+/// Reads more of the text. Returns false at its end.
 fn read_more<R: Read>(pieces: &mut Pieces, reader: &mut Source<R>) -> Result<bool, TraceFault>
     requires { pieces.old.limit ≡ limit }
     ensures within { (text rest : List ℕ) → IsWithin text rest pieces.old (bytes_left R.remaining reader.old) → MatchResult result
@@ -159,7 +159,7 @@ fn read_to_end<R: Read>(pieces: &mut Pieces, reader: &mut Source<R>) -> Result<(
     Ok(())
 }
 
-/// A trace text that is read event by event. It holds the bytes of a few lines, or the rest of the text once a line is bad.
+/// A trace text that is read event by event. Holds the bytes of a few lines, or the rest of the text if a line is bad.
 #[derive(Drop)]
 pub struct EventReader {
     pub version: u8,
@@ -178,7 +178,7 @@ impl EventReader {
     ghost use Rattle.gc_trace.specs.Faults.{limit, IsReadAsTrace, MayFail};
     ghost use Rattle.gc_trace.specs.Internal.Reading.{IsReading, HasRead, read_so_far};
 
-    /// Reads the heading of the text that the reader gives.
+    /// Reads the heading of a trace text.
     pub fn open<R: Read>(alloc: Global, reader: &mut Source<R>) -> Result<EventReader, TraceFault>
         ensures exact { (text : List ℕ) → bytes_left R.remaining reader.old ≡ Some text → MatchResult result
             (λ read. HasRead text [] read (bytes_left R.remaining reader.new))
@@ -209,7 +209,7 @@ impl EventReader {
         }
     }
 
-    /// Takes the event whose line stands at the front of the bytes that wait.
+    /// Takes the event whose line is at the start of the waiting bytes, if there is one.
     #[inline(always)]
     fn take_waiting(&mut self) -> Option<Event>
         requires reading { IsReading self.old }

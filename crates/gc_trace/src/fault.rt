@@ -10,12 +10,13 @@ pub enum TraceFault {
     Read,
     /// The text has more than 16777216 bytes.
     TooLarge,
-    /// Lines 1 and 2 are no heading of a trace.
+    /// Lines 1 and 2 are not a valid heading.
     BadHeader,
-    /// This line is no event's, or lacks its line feed.
+    /// This line is not an event line, or lacks its line feed.
     BadLine(u64),
-    /// This line is an event's, but its mutator does not exist.
+    /// This line is an event line, but its mutator, or the mutator of its log, does not exist.
     NoSuchMutator(u64),
+    /// An allocation failed.
     NoMemory,
 }
 
@@ -60,9 +61,9 @@ impl From<ReadFault> for TraceFault {
 #[derive(Clone, Copy, Debug, PartialEq, Eq, Error)]
 #[error("{}", self.message())]
 pub enum PlayFault {
-    /// It cannot be read. Never `NoMemory`, which is a fault of its own.
+    /// The trace cannot be read. Never holds `TraceFault::NoMemory`, which becomes `PlayFault::NoMemory`.
     Trace(TraceFault),
-    /// It has fewer flips.
+    /// The trace has fewer flips than the number asked for.
     NoSuchFlip,
     /// An allocation failed, while reading or while playing.
     NoMemory,

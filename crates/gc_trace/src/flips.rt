@@ -19,7 +19,7 @@ use gc_core::{CollectedHeap, Keep};
 use gc_graph::{NoMemory, View};
 use std::alloc::Global;
 
-/// Performs a collector step, and returns the pair of the flip that it is, if it is one.
+/// Performs a collector step. If it flips, returns the pair of the flip.
 fn flip_of_step(heap: &mut CollectedHeap, step: Step) -> Result<Option<PairFile>, NoMemory>
     requires { IsStep heap.old.mutators step }
     ensures flip { IfOk result (λ kept. option_map pair_in kept
@@ -35,7 +35,7 @@ fn flip_of_step(heap: &mut CollectedHeap, step: Step) -> Result<Option<PairFile>
     Ok(heap.flip(&Sequential, Keep::Pair)?.pair)
 }
 
-/// Performs the event, and returns the pair of the flip that it is, if it is one.
+/// Performs the event. If it flips, returns the pair of the flip.
 fn flip_in(heap: &mut CollectedHeap, event: &Event) -> Result<Option<PairFile>, NoMemory>
     requires event { IsEvent heap.old.mutators event.now }
     requires few { heap.old.mutators ≤ most_mutators }
@@ -48,7 +48,7 @@ fn flip_in(heap: &mut CollectedHeap, event: &Event) -> Result<Option<PairFile>, 
 {
     states_are_kept();
     scans_and_pairs_are_bounded();
-    // The type has to be named where a reply is dropped.
+    // A body that drops a reply must name this type.
     let _named: Option<View> = None;
     match event {
         Event::Mutate { m, op } => {
@@ -59,7 +59,7 @@ fn flip_in(heap: &mut CollectedHeap, event: &Event) -> Result<Option<PairFile>, 
     }
 }
 
-/// Returns the pair of the trace's n-th flip, counted from 1, if it has that many.
+/// Returns the pair of the trace's n-th flip, counted from 1, or `None` if the trace has fewer flips.
 pub fn nth_flip(alloc: Global, trace: &Trace, n: u32) -> Result<Option<PairFile>, NoMemory>
     requires trace { IsRecording (recording trace.now) }
     requires some { 1 ≤ n }

@@ -12,7 +12,8 @@ use gc_graph::{Number, Op, Slot};
 use gc_words::MOST_WORDS;
 use gc_world::Event;
 
-/// Returns the number below 16 that one or two digits write, and how many they are. No branch depends on how many.
+/// Returns the number below 16 that the first byte, or both bytes, spell in decimal, and the number of its digits. To
+/// be fast, no branch depends on the number of digits.
 #[inline(always)]
 fn small_number(first: u8, second: u8) -> Option<(u8, usize)>
     ensures { IfSome result (λ found. (found.0 < 16) × (found.1 ≤ 2)
@@ -226,7 +227,7 @@ fn op(version: u8, front: &mut Front<'_>) -> Option<Op>
     }
 }
 
-/// Takes the size of a collection, where it has one of its own.
+/// Takes what follows `begin`: nothing, or a size.
 #[inline(always)]
 #[tactic(auto, unfolding(crate::specs::Grammar::step_tokens))]
 fn begin(version: u8, front: &mut Front<'_>) -> Option<Step>
@@ -339,7 +340,7 @@ fn event(version: u8, front: &mut Front<'_>) -> Option<Event>
     }
 }
 
-/// Takes the line of an event of this version, in one pass. Where it returns None, `parser::event` decides.
+/// Takes an event line of this version, in one pass. If it returns `None`, the caller must ask `parser::event`.
 #[inline(always)]
 pub fn line(version: u8, front: &mut Front<'_>) -> Option<Event>
     requires { 1 ≤ version }

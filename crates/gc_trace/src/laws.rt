@@ -22,8 +22,8 @@ pub fn texts_have_one_reading()
     ensures fault { (f g : TraceFault) (text : List ℕ) → IsTraceFaultOf f text → IsTraceFaultOf g text → f ≡ g }
 {}
 
-/// The text of a world's history is read as its events, if the text is within the limit. Played, they get the answers that the
-/// history has.
+/// The text of a world's history is read back as its events, if the text is within the limit. Playing these events
+/// gives the history's answers.
 pub fn written_is_read()
     ensures read { (size mutators : ℕ) (entries : List Entry)
         → IsHistory size mutators entries
@@ -33,7 +33,7 @@ pub fn written_is_read()
         → answers (written size mutators (events_of entries)) ≡ answers_of entries }
 {}
 
-/// The definitions give the worked examples.
+/// The worked examples hold of the definitions, by computation.
 pub fn worked_rows()
     ensures texts { TextRows }
     ensures sized { SizedRows }
@@ -41,19 +41,19 @@ pub fn worked_rows()
     ensures lines { LineRows }
 {}
 
-/// The definitions give the worked example of a report.
+/// The worked example of a report holds of the definitions, by computation.
 pub fn worked_report()
     ensures { ReportRows }
 {}
 
-/// Each pair of a flip was placed by a step of its own. So a report has no more pairs than events.
+/// Each replica is placed by a different step, so a report has no more pairs than events.
 pub fn pairs_are_placed_by_steps()
     ensures { (size mutators : ℕ) (entries : List Entry) → IsHistory size mutators entries
         → (let report = report_of (answers_of entries) (state_after size mutators entries) in
         report.pairs ≤ report.events) }
 {}
 
-/// Each mutator has a script, and the numbers in its commands are in range if those of the events are.
+/// Each mutator has a script, and the numbers in its commands are in range if those in the events are.
 pub fn scripts_are_commands()
     ensures count { (mutators : ℕ) (events : List Event) → length (scripts mutators events) ≡ mutators }
     ensures commands { (m mutators : ℕ) (events : List Event)

@@ -1,5 +1,5 @@
-//! Traces: recorded events of mutators and the collector, as text. A trace is read, written and played, to its reply lines, to a
-//! report, or to the pair of one of its flips.
+//! Traces: recorded events of mutators and the collector, as text. A trace can be read, written and played. Playing
+//! gives the reply lines, a report, or the pair of one flip.
 #![tactic(auto)]
 
 mod event_reader;

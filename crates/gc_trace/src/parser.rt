@@ -12,7 +12,7 @@ use gc_world::Event;
 /// The newest version of the text.
 const NEWEST: u64 = 3;
 
-/// The first version in which a collection can have a size of its own.
+/// The first version in which `begin` can give the size of the new space.
 pub const SIZED: u8 = 2;
 
 /// The first version with raw objects.
@@ -181,7 +181,7 @@ fn command(version: u8, mut tokens: Tokens<'_>) -> Option<Event>
     Some(Event::Mutate { m, op })
 }
 
-/// Parses the beginning of a collection: without a size, or with one of its own.
+/// Parses what follows `begin`: nothing, or a size.
 #[tactic(auto, unfolding(crate::specs::Internal::Parsers::begin_of))]
 fn begin(version: u8, mut tokens: Tokens<'_>) -> Option<Step>
     ensures { result ≡ begin_of version tokens.entry }
@@ -239,7 +239,7 @@ fn collect(version: u8, tokens: Tokens<'_>) -> Option<Event>
     Some(Event::Collect(step))
 }
 
-/// Parses an event's line in this version. The line is given without its line feed.
+/// Parses an event line of this version. `line` has no line feed.
 #[tactic(auto, unfolding(crate::specs::Internal::Parsers::event_of))]
 pub fn event(version: u8, line: &[u8]) -> Option<Event>
     ensures { result ≡ event_of version (tokens_of line.now) }

@@ -15,16 +15,16 @@ use gc_graph::{Sink, Source};
 use std::alloc::Global;
 use std::io::{Read, Write};
 
-/// Plays the trace that the reader gives. Once the last event has run, writes the reply lines and returns the report of the run.
+/// Reads and plays a trace. After the last event, writes the reply lines and returns the report of the run.
 pub fn play<R: Read, W: Write>(
     alloc: Global,
     reader: &mut Source<R>,
     writer: &mut Sink<W>,
 ) -> Result<Report, PlayFault>
-    // All of the reply lines, and nothing else.
+    // All reply lines are written, and nothing else.
     ensures played { IfOk result (λ report. IfSome (bytes_left R.remaining reader.old) (λ text.
         Plays text report (bytes_written W.contents writer.old) (bytes_written W.contents writer.new))) }
-    // The first fault of a bad text.
+    // A bad text gives its first fault.
     ensures fault { (fault : TraceFault) → result ≡ Err (PlayFault.Trace fault) →
         IfSome (bytes_left R.remaining reader.old) (λ text. MayFail fault text) }
     ensures memory { result ≢ Err (PlayFault.Trace TraceFault.NoMemory) }
@@ -44,16 +44,16 @@ pub fn play<R: Read, W: Write>(
     }
 }
 
-/// Plays the trace that the reader gives, and writes the text of its report only.
+/// Reads and plays a trace, and writes only the text of its report.
 pub fn play_report<R: Read, W: Write>(
     alloc: Global,
     reader: &mut Source<R>,
     writer: &mut Sink<W>,
 ) -> Result<Report, PlayFault>
-    // All of the report's text, and nothing else.
+    // The whole text of the report is written, and nothing else.
     ensures played { IfOk result (λ report. IfSome (bytes_left R.remaining reader.old) (λ text.
         Reports text report (bytes_written W.contents writer.old) (bytes_written W.contents writer.new))) }
-    // The first fault of a bad text.
+    // A bad text gives its first fault.
     ensures fault { (fault : TraceFault) → result ≡ Err (PlayFault.Trace fault) →
         IfSome (bytes_left R.remaining reader.old) (λ text. MayFail fault text) }
     ensures memory { result ≢ Err (PlayFault.Trace TraceFault.NoMemory) }
@@ -73,8 +73,8 @@ pub fn play_report<R: Read, W: Write>(
     }
 }
 
-/// Plays the trace that the reader gives up to its n-th flip, counted from 1, and writes the text of that flip's pair: both
-/// images as the checker saw them, and the certificate.
+/// Reads a trace, plays it up to its n-th flip, counted from 1, and writes the text of that flip's pair. The text has
+/// both images as the checker saw them, and the certificate.
 pub fn play_pair<R: Read, W: Write>(
     alloc: Global,
     n: u32,
@@ -82,19 +82,19 @@ pub fn play_pair<R: Read, W: Write>(
     writer: &mut Sink<W>,
 ) -> Result<(), PlayFault>
     requires { 1 ≤ n }
-    // All of the pair's text, and nothing else.
+    // The whole text of the pair is written, and nothing else.
     ensures played { OnOk result (IfSome (bytes_left R.remaining reader.old) (λ text.
         PlaysPair n text (bytes_written W.contents writer.old) (bytes_written W.contents writer.new))) }
     // The trace has fewer flips.
     ensures none { result ≡ Err PlayFault.NoSuchFlip →
         IfSome (bytes_left R.remaining reader.old) (λ text. HasNoFlip n text) }
-    // The first fault of a bad text.
+    // A bad text gives its first fault.
     ensures fault { (fault : TraceFault) → result ≡ Err (PlayFault.Trace fault) →
         IfSome (bytes_left R.remaining reader.old) (λ text. MayFail fault text) }
     ensures memory { result ≢ Err (PlayFault.Trace TraceFault.NoMemory) }
     ensures unread { (result ≡ Err (PlayFault.Trace TraceFault.Read)) ↔ (source_failed reader.new ≡ true) }
     ensures unwritten { result ≡ Err PlayFault.Write → sink_failed writer.new ≡ true }
-    // Nothing goes out before the flip was found.
+    // Nothing goes out before the flip is found.
     ensures silent { OnErr result (result ≢ Err PlayFault.Write → writer.new ≡ writer.old) }
     // A prefix of the pair's text went out.
     ensures front { result ≡ Err PlayFault.Write → IfSome (bytes_left R.remaining reader.old) (λ text.

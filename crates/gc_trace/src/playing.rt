@@ -46,7 +46,7 @@ pub fn answer_in(heap: &mut CollectedHeap, event: &Event) -> Result<Answer, NoMe
     }
 }
 
-/// Whether a player gathers the lines of the replies.
+/// Whether a player gathers the reply lines.
 #[derive(Clone, Copy, Debug, PartialEq, Eq)]
 pub enum Gather {
     Nothing,
@@ -61,8 +61,7 @@ pub struct Played {
     pub report: Report,
 }
 
-/// Plays events one after the other in a heap of its own. It keeps no history: only counts of the answers and, if they are
-/// gathered, the reply lines.
+/// Plays events in order in its own heap. Keeps no history, only counts of the answers and, if asked to, the reply lines.
 #[derive(Drop)]
 pub struct Player {
     heap: CollectedHeap,
@@ -77,7 +76,7 @@ pub struct Player {
 impl Player {
     ghost use Rattle.gc_trace.specs.declared.playing.Gather.{Gather};
 
-    /// Returns a player of an empty heap of `size` words.
+    /// Returns a player with an empty heap of `size` words.
     fn open(alloc: Global, size: u32, mutators: u8, gather: Gather) -> Result<Player, NoMemory>
         requires low { 1 ≤ size }
         requires high { size ≤ most_words }
@@ -113,7 +112,7 @@ impl Player {
         ensures gather { self.new.gather ≡ self.old.gather }
     {
         states_are_kept();
-        // The types of an answer's parts have to be named where one is held.
+        // A body that holds an answer must name the types of its parts.
         let _named: (Option<Reply>, Option<StepReply>, Option<View>) = (None, None, None);
         let answer = answer_in(&mut self.heap, event)?;
         self.report.count(&answer);
@@ -125,7 +124,7 @@ impl Player {
         Ok(())
     }
 
-    /// Plays the events that the reader still gives, in order.
+    /// Plays the events that are left in the reader, in order.
     fn take_all<R: Read>(
         &mut self,
         lines: &mut EventReader,
@@ -144,7 +143,7 @@ impl Player {
         ensures gather { self.new.gather ≡ self.old.gather }
         ensures read { (result ≡ Err TraceFault.Read) ↔ (source_failed reader.new ≡ true) }
     {
-        // An event's parts have to be named where one is held.
+        // A body that holds an event must name the type of its command.
         let _named: Option<Op> = None;
         while let Some(event) = lines.next(reader)? {
             let Ok(()) = self.take(&event) else {
@@ -180,7 +179,7 @@ impl Player {
 
 ghost use Rattle.gc_trace.specs.declared.playing.Gather.{Gather};
 
-/// Plays the trace that the reader gives, in a heap of its own, event by event as its lines come.
+/// Reads a trace and plays it in a new heap, event by event as its lines arrive.
 pub fn play_all<R: Read>(
     alloc: Global,
     reader: &mut Source<R>,

@@ -12,8 +12,8 @@ use std::alloc::Global;
 use std::io::Read;
 
 #[tactic(auto, using(crate::proofs::Ranges::in_range))]
-/// Reads a trace text to its end. Returns the trace, or the first fault. Of a text of more than 16777216 bytes, one byte more
-/// than these is read.
+/// Reads a trace text to its end. Returns the trace, or the first fault. If the text has more than 16777216 bytes,
+/// reads 16777217 of them and returns `TooLarge`.
 pub fn read_trace<R: Read>(alloc: Global, reader: &mut Source<R>) -> Result<Trace, TraceFault>
     ensures exact { IfSome (bytes_left R.remaining reader.old) (λ text.
         MatchResult result (λ t. IsReadAsTrace (recording t) text) (λ fault. MayFail fault text)) }
@@ -25,7 +25,7 @@ pub fn read_trace<R: Read>(alloc: Global, reader: &mut Source<R>) -> Result<Trac
 {
     let mut lines = EventReader::open(alloc, reader)?;
     let mut events = Vec::new(alloc);
-    // An event's parts have to be named where one is pushed.
+    // A body that pushes an event must name the type of its command.
     let _named: Option<Op> = None;
     while let Some(event) = lines.next(reader)? {
         if events.push(event).is_err() {

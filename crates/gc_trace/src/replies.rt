@@ -11,10 +11,10 @@ use gc_graph::{Failed, Reply, Sink, View};
 use gc_world::{Answer, Entry};
 use std::io::Write;
 
-/// More bytes than any reply line has.
+/// An upper bound on the number of bytes in a reply line.
 pub const LINE: usize = 64;
 
-/// Prints the line of a `saw`.
+/// Prints the line of a `saw` reply.
 #[tactic(auto, unfolding(crate::specs::Replies::view_tokens))]
 fn print_view(printer: &mut Printer, view: &View)
     requires { length printer.old + 64 ≤ 16384 }

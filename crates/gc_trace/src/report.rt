@@ -6,14 +6,14 @@ use gc_words::Space;
 use gc_world::{Answer, World, runs_keep_states};
 use std::io::Write;
 
-/// What happened in a run, as numbers.
+/// The counts of a run, and the end and the free words of its space.
 #[derive(Clone, Copy, Debug, PartialEq, Eq)]
 pub struct Report {
     /// The number of events.
     pub events: u64,
     /// The number of objects that mutators made.
     pub made: u64,
-    /// The number of new objects that had no room.
+    /// The number of allocations that found the heap full.
     pub full: u64,
     /// The number of collections that began.
     pub begun: u64,
@@ -25,7 +25,7 @@ pub struct Report {
     pub applied: u64,
     /// The number of flips.
     pub flips: u64,
-    /// The number of pairs of all flips together.
+    /// The total number of pairs of all flips.
     pub pairs: u64,
     /// The number of collections that ended without a flip.
     pub dropped: u64,
@@ -37,7 +37,7 @@ pub struct Report {
     pub free: u64,
 }
 
-/// A report of no event.
+/// A report whose numbers are all 0.
 pub const NOTHING: Report = Report {
     events: 0,
     made: 0,
@@ -61,7 +61,7 @@ impl Report {
     ghost use Rattle.gc_world.specs.History.{unmarked};
     ghost use Rattle.gc_trace.specs.Internal.Report.{with_answer, FitsU64};
 
-    /// Returns a report of no event, in this space.
+    /// Returns the report of a run without events in this space.
     pub(crate) fn of_space(space: &Space) -> Report
         ensures { result ≡ record {
           events = 0;
@@ -82,7 +82,7 @@ impl Report {
         NOTHING.with_space(space)
     }
 
-    /// Returns the same counts with the numbers of this space.
+    /// Returns the same counts with the end and the free words of this space.
     pub(crate) fn with_space(self, space: &Space) -> Report
         ensures { result ≡ record self {
           end = end_of space.now;
@@ -150,7 +150,7 @@ ghost use Rattle.gc_world.specs.History.{answers_of};
 ghost use Rattle.gc_world.specs.World.{present};
 ghost use Rattle.gc_trace.specs.Report.{report_of, report_text};
 
-/// Returns the report of a world's history, and of the room that its mutators have.
+/// Returns the report of a world's history, with the end and the free words of its space.
 pub fn report_of(world: &World) -> Report
     ensures { result ≡ report_of (answers_of world.now.entries) (present world.now) }
 {
@@ -163,7 +163,7 @@ pub fn report_of(world: &World) -> Report
     report
 }
 
-/// Writes the report's lines, or a prefix of them before the writer fails. Does not allocate.
+/// Writes the report's lines. If the writer fails, a prefix of them has been written. Does not allocate.
 pub fn write_report<W: Write>(writer: &mut Sink<W>, report: &Report) -> Result<(), WriteFault>
     ensures ok { OnOk result (Appends
         (bytes_written W.contents writer.old) (bytes_written W.contents writer.new) (report_text report.now)) }

@@ -43,7 +43,7 @@ pub fn run_trace(alloc: Global, trace: &Trace) -> Result<World, NoMemory>
     for event in &trace.events {
         happen(&mut world, event)?;
     }
-    // What happened is a history.
+    // Here the prover learns that the world's entries are a history.
     let _ = world.history();
     Ok(world)
 }

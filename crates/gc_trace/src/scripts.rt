@@ -7,7 +7,7 @@ use gc_graph::{NoMemory, Op};
 use gc_world::Event;
 use std::alloc::Global;
 
-/// Returns a script for each mutator: its commands in the trace, in order, without the collector's events.
+/// Returns a script for each mutator: its commands in the trace, in order, without the collector's steps.
 pub fn scripts_of(alloc: Global, trace: &Trace) -> Result<Vec<Vec<Op>>, NoMemory>
     ensures { IfOk result (λ made.
         map (λ script. script.items) made.items ≡ scripts trace.now.mutators trace.now.events.items) }

@@ -3,12 +3,12 @@ use gc_world::Event;
 /// A trace: what mutators and the collector do in a space.
 #[derive(Debug, Drop)]
 pub struct Trace {
-    /// The version of its text, 1 to 3. Version 2 adds collections with a size of their own, version 3 raw objects.
+    /// The version of its text, 1 to 3. Version 2 adds `begin` with a size, and version 3 adds raw objects.
     pub version: u8,
     /// The size of the space in words, 1 to 1048576.
     pub size: u32,
     /// The number of mutators, 1 to 16.
     pub mutators: u8,
-    /// The events in order. Each is of one of these mutators, or of the collector.
+    /// The events in order. Each is a command of one of these mutators, or a collector step.
     pub events: Vec<Event>,
 }

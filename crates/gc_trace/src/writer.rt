@@ -13,7 +13,7 @@ use gc_graph::{Op, Sink, Slot};
 use gc_world::{Entry, Event};
 use std::io::Write;
 
-/// More bytes than any line of a trace has.
+/// An upper bound on the number of bytes in a line of a trace.
 const LINE: usize = 128;
 
 /// Prints a space and a number.
@@ -41,7 +41,7 @@ fn slot_token(printer: &mut Printer, token: Slot)
     printer.number(u64::from(token.index()));
 }
 
-/// Prints two slots, each behind a space.
+/// Prints two slots, each after a space.
 fn two_slot_tokens(printer: &mut Printer, first: Slot, second: Slot)
     requires { length printer.old + 44 ≤ 16384 }
     ensures text { printer.new ≡ (printer.old ++ space ∷ slot first) ++ space ∷ slot second }
@@ -184,8 +184,9 @@ fn least_version(history: &[Entry]) -> u8
     version
 }
 
-/// Writes the trace of a history's events, or a prefix of it before the writer fails. The text is in the first version that has
-/// all its lines, for a space of `size` words and `mutators` mutators. Does not allocate.
+/// Writes the trace of a history's events, for a space of `size` words and `mutators` mutators. The text is in the
+/// first version that has all its lines. If the writer fails, a prefix of the text has been written. Does not
+/// allocate.
 pub fn write_trace<W: Write>(
     writer: &mut Sink<W>,
     size: u32,

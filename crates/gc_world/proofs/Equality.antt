@@ -87,6 +87,6 @@ to_itself (StepForm useful step reply) = search (rules, same_step, same_step_rep
 pub same_form : (a b : Form) → (of_forms.ghosts.eq a b ≡ true) ↔ (a ≡ b)
 same_form a b = (from_form a b, λ e. subst (λ (x : Form). of_forms.ghosts.eq a x ≡ true) e (to_itself a))
 
--- forms with one meaning are the same
+-- forms with the same meaning are the same
 pub one_form : (a b : Form) → meaning a ≡ meaning b → a ≡ b
 one_form a b e = sym (forms_come_back a) ∙ ap (λ (v : EntryValue). form_of v.event v.answer) e ∙ forms_come_back b

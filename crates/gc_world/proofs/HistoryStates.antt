@@ -1,4 +1,4 @@
--- Facts of the state that a history leads to, and of its answers.
+-- Facts about the state that a history leads to, and about its answers.
 use Rattle.std.proofs.Common.{◌≡◌, ◌≢◌, ℕ, List, [], ◌∷◌, refl, sym, ◌∙◌}
 use Rattle.std.specs.List.{All}
 use Rattle.std.proofs.lemmas.List.Elements.{All-nil, All-cons}

@@ -14,7 +14,7 @@ use Rattle.gc_core.proofs.LegalRuns.{run_is_legal}
 use Rattle.gc_world.specs.History.{unmarked, events_of, answers_of, RunsFrom, told_by, told_of, IsHistory}
 use Rattle.gc_world.specs.declared.entry.Entry.{Entry}
 
--- every answer that counts as a mutator's is one
+-- if an answer without its mark is a mutator's, so is the answer itself
 told_reply : (m : ℕ) (op : Op) (told : answered.Answer) (reply : Reply) → unmarked told ≡ Mutator reply → told_by (Mutate m op) told ≡ record { m = m; op = op; reply = reply } ∷ []
 told_reply m op (Mutator r) reply e = (let same : r ≡ reply = cc in λ i. record { m = m; op = op; reply = same i } ∷ [])
 told_reply m op (Collector r) reply e = absurd (let no : Collector r ≡ Mutator reply = e in cc)

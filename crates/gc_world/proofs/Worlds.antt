@@ -40,7 +40,7 @@ commanded old new size before after_it m op reply entries items kept w less comm
     subst (λ n. IsWorld new (record { size = size; mutators = n; entries = items; kept = kept })) (sym same)
     (subst (λ es. IsWorld new (record { size = size; mutators = before; entries = es; kept = kept })) (sym more) done)
 
--- after a step, which was answered as such or as the useful one
+-- after a step, whether or not its answer is marked `Useful`
 pub stepped : (old new : State) (size before after_it : ℕ) (step : Step) (reply : StepReply) (answered : Answer) (entries items : List Entry) (kept later : Option CertifiedPair)
     → IsWorld old (record { size = size; mutators = before; entries = entries; kept = kept }) → IsStep before step → collect old step ≡ (reply, new)
     → unmarked answered ≡ Collector reply → IsUseful old (Collect step) answered → after_it ≡ before

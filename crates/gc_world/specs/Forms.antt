@@ -1,4 +1,4 @@
--- What the forms of an entry mean.
+-- The event and the answer that each form of an entry stands for.
 use Rattle.std.specs.Prelude.{ℕ, true, false}
 use Rattle.gc_graph.specs.declared.command.Op.{Op}
 use Rattle.gc_graph.specs.declared.command.Op.TheVariants as ops

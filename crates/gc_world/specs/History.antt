@@ -17,7 +17,7 @@ use Rattle.gc_world.specs.declared.entry.Entry.{Entry}
 abbrev pub events_of : List Entry → List Event
 events_of entries = map (λ entry. entry.event) entries
 
--- a run answers the useful step as it answers any other
+-- the same answer without the mark `Useful`, which a run does not set
 abbrev pub unmarked : Answer → Answer
 unmarked (Mutator reply) = Mutator reply
 unmarked (Collector reply) = Collector reply
@@ -28,20 +28,20 @@ answers_of entries = map (λ entry. unmarked entry.answer) entries
 
 -- ---- core runs
 
--- the answers are those that the events get from this state on
+-- the answers are those that the core gives to the events, starting in this state
 abbrev pub RunsFrom : State → List Entry → Type 0
 RunsFrom s entries = answers_of entries ≡ runs.answers s (events_of entries)
 
 abbrev pub IsCoreRun : ℕ → ℕ → List Entry → Type 0
 IsCoreRun size mutators entries = RunsFrom (opening_state size mutators) entries
 
--- the state that a history of this many words and mutators leads to
+-- the state that a history leads to from an empty heap of this many words and mutators
 abbrev pub state_after : ℕ → ℕ → List Entry → State
 state_after size mutators entries = runs.state_after (opening_state size mutators) (events_of entries)
 
 -- ---- the useful step
 
--- a step with the answer `Useful` is the useful step
+-- a step whose answer is marked `Useful` is the useful step
 abbrev pub IsUseful : State → Event → Answer → Type 0
 IsUseful s (Mutate m op) answer = ⊤
 IsUseful s (Collect step) (Mutator reply) = ⊤
@@ -64,7 +64,7 @@ pub record IsHistory (size mutators : ℕ) (entries : List Entry) : Type 0 where
   pub run : IsCoreRun size mutators entries
   pub useful : UsefulFrom (opening_state size mutators) entries
 
--- ---- what mutators were told
+-- ---- the replies that mutators got
 
 abbrev pub told_by : Event → Answer → List Told
 told_by (Mutate m op) (Mutator reply) = record { m = m; op = op; reply = reply } ∷ []

@@ -1,4 +1,4 @@
--- A world as contracts see it: what it was opened with, its history, and the pair that its last flip kept.
+-- A world as contracts see it: its opening size and number of mutators, its history, and the kept pair of a flip.
 use Rattle.std.specs.Prelude.{ℕ, List, [], ◌∷◌, ◌++◌, Option}
 use Rattle.gc_copy.specs.State.{State}
 use Rattle.gc_cert.specs.Grammar.{CertifiedPair}
@@ -7,7 +7,7 @@ use Rattle.gc_copy.specs.declared.event.Event.{Event}
 use Rattle.gc_copy.specs.declared.event.Answer.{Answer}
 use Rattle.gc_world.specs.declared.entry.Entry.{Entry}
 
--- `kept` is the pair of the last flip, until it is taken
+-- `kept` is the pair of the last flip, until `take_flip` takes it
 pub record Past : Type 0 where
   pub size : ℕ
   pub mutators : ℕ
@@ -18,9 +18,9 @@ pub record Past : Type 0 where
 abbrev pub present : Past → State
 present past = state_after past.size past.mutators past.entries
 
--- one more entry
 abbrev pub entry_of : Event → Answer → Entry
 entry_of event answer = record { event = event; answer = answer }
 
+-- the world after one more event, with this answer
 abbrev pub with_entry : Past → Event → Answer → Past
 with_entry past event answer = record past { entries = past.entries ++ entry_of event answer ∷ [] }

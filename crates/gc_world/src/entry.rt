@@ -3,13 +3,13 @@ use gc_copy::{Answer, Event, Step, StepReply};
 use gc_graph::{Number, Op, Reply, Slot, View};
 use std::marker::Model;
 
-/// An event of a history, with its answer. It takes 24 bytes, where the two take 56.
+/// An event of a history, with its answer. It takes 24 bytes; an `Event` and an `Answer` would take 56.
 #[derive(Clone, Copy, Debug, PartialEq, Eq)]
 pub struct Entry {
     form: Form,
 }
 
-// How an entry is kept: at most one number beside small fields, but for a pair that no world gives.
+// How an entry is stored: with at most one number of 8 bytes, except for a pair that no world makes.
 #[derive(Clone, Copy, Debug, PartialEq, Eq)]
 enum Form {
     // A command, and a reply that shows no number.
@@ -24,7 +24,7 @@ enum Form {
         op: BareOp,
         n: Number,
     },
-    // A `Num` whose reply shows a number. No world gives such a reply.
+    // A `Num` whose reply shows a number. No world gives that reply, but `Entry::command` can be called with it.
     GivenAndShown {
         m: u8,
         d: Slot,

@@ -1,4 +1,4 @@
-//! Laws: what follows from the definitions. The crates above use them.
+//! Laws: consequences of the definitions, for the crates that build on this one.
 
 ghost use Rattle.std.specs.Prelude.{◌≡◌, ◌≢◌, ◌++◌, ◌∷◌, [], ℕ, List, ◌≤◌};
 ghost use Rattle.std.specs.List.{All};
@@ -15,8 +15,8 @@ ghost use Rattle.gc_world.specs.History.{unmarked, events_of, state_after, told_
 ghost use Rattle.gc_world.specs.History.{IsUseful, IsHistory};
 ghost use Rattle.gc_world.specs.declared.entry.Entry.{Entry};
 
-/// A world that was just opened has an empty history. An event with its answer makes a history one entry longer, if
-/// `Useful` marks only the useful step. The new state is the one that the event leaves.
+/// The empty list is a history. A history followed by an event with the core's answer is a history, if the mark
+/// `Useful` is only on the useful step. The state after it is the one that the event leaves.
 pub fn histories_grow()
     ensures opening { (size mutators : ℕ)
         → 1 ≤ size → size ≤ most_words → 1 ≤ mutators → mutators ≤ most_mutators → IsHistory size mutators [] }
@@ -32,16 +32,17 @@ pub fn histories_grow()
         ≡ after (state_after size mutators entries) entry.event }
 {}
 
-/// What the mutators of a history were told is possible without a collector.
+/// In every history, the replies that mutators got are possible without a collector. The one exception is that an
+/// allocation may find the heap full.
 pub fn runs_are_legal()
     ensures { (size mutators : ℕ) (entries : List Entry)
         → IsHistory size mutators entries → IsLegal mutators (told_of entries) }
 {}
 
-/// The state that a history leads to is a state of the core, with as many mutators as the world was opened with. In it,
-/// the flip of a ready collection replies `Flipped` with the number of pairs. If the new space is at least as large as
-/// the old one, no step lacks room. Each original of an open collection was reachable when the collection began, or was
-/// made later. No answer of a history is `Refused`.
+/// The state that a history leads to is a state of the core, with as many mutators as the world was opened with. In
+/// that state, the flip of a ready collection replies `Flipped` with the number of pairs. If the new space is at least
+/// as large as the old one, no step replies `NoRoom`. Each original of an open collection was reachable when the
+/// collection began, or was made later. No answer of a history is `Refused`.
 pub fn runs_keep_states()
     ensures states { (size mutators : ℕ) (entries : List Entry)
         → IsHistory size mutators entries → IsState (state_after size mutators entries) }

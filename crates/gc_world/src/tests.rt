@@ -12,7 +12,7 @@ use std::process::Abort;
 use std::test::Fail;
 use std::thread::Threads;
 
-/// Runs a collection in a full heap, after which there is room.
+/// Collects a full heap, and then allocates again.
 fn collect_when_full(
     rt: &(impl Threads + Sync + Abort),
     alloc: Global,
@@ -101,7 +101,7 @@ fn a_flip_of_nothing_keeps_an_empty_certificate(rt: HostRuntime) -> Result<(), F
     Ok(())
 }
 
-/// Writes a field behind the scan pointer, which is brought up to date before the flip.
+/// Writes to a field that is already scanned, and applies the log entry before the flip.
 fn write_while_scanning(
     rt: &(impl Threads + Sync + Abort),
     alloc: Global,

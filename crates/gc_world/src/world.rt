@@ -59,7 +59,7 @@ impl World {
     ghost use Rattle.gc_copy.specs.declared.event.Event.{Event};
     ghost use Rattle.gc_copy.specs.declared.event.Answer.{Answer};
 
-    /// Returns an empty heap of `size` words, 1 to 1048576, for 1 to 16 mutators, to which nothing has happened.
+    /// Returns a world with an empty heap of `size` words, 1 to 1048576, for 1 to 16 mutators, and an empty history.
     pub fn open(alloc: Global, size: u32, mutators: u8) -> Result<World, NoMemory>
         requires low { 1 ≤ size }
         requires high { size ≤ most_words }
@@ -118,7 +118,7 @@ impl World {
         Ok(reply)
     }
 
-    /// Performs one collector step, as `collect` does. If a flip has many pairs, several threads check it. On
+    /// Performs one collector step, as `collect` does, but lets several threads check a flip with many pairs. On
     /// `NoMemory` the world is unchanged.
     pub fn collect_par(
         &mut self,
@@ -166,7 +166,7 @@ impl World {
         Ok((step, reply))
     }
 
-    /// Returns the useful step: the one that brings the collection on, or opens one.
+    /// Returns the useful step: the one that advances the collection, or opens one.
     pub fn useful_step(&self) -> Step
         ensures { result ≡ useful_step (present self.now) }
     {
@@ -201,7 +201,8 @@ impl World {
         self.heap.heap()
     }
 
-    /// Returns the pair of the last flip, and keeps none.
+    /// Takes the pair of the last flip out of the world. Returns `None` if there was no flip, or if the pair has
+    /// already been taken.
     pub fn take_flip(&mut self) -> Option<PairFile>
         ensures taken { option_map pair_in result ≡ self.old.kept }
         ensures certified { IfSome result (λ file. IsCertified (pair_in file)) }
@@ -244,7 +245,7 @@ fn make_room(history: &mut Vec<Entry>) -> Result<(), NoMemory>
     }
 }
 
-// Appends a command to the history, which has room for it. Its type keeps the command in range.
+// Appends a command to the history, which has room for it. The type `Op` ensures that the command is in range.
 fn record_command(history: &mut Vec<Entry>, m: u8, op: Op, reply: &Reply)
     requires { vec_len history.old < vec_capacity history.old }
     ensures entry { history.new.items
@@ -254,7 +255,7 @@ fn record_command(history: &mut Vec<Entry>, m: u8, op: Op, reply: &Reply)
     history.push_reserved(Entry::command(m, &op, reply));
 }
 
-// Performs a step, and keeps the pair if it flipped. Only a flip handles a pair.
+// Performs a step, and keeps the pair if it flipped. Every other step goes straight to the heap.
 fn perform<C: Checks>(
     heap: &mut CollectedHeap,
     kept: &mut Option<PairFile>,

@@ -1,4 +1,4 @@
--- What clap's definitions find in the arguments that the program takes.
+-- What clap's definitions find in the program's arguments.
 use Rattle.std.proofs.Common.{◌≡◌, ◌==◌, ◌∙◌, List, [], ◌∷◌, refl, sym, ap, codes, drop, Bool, true, false, Option, Some, None, option_map, subst, IfSome}
 use Rattle.std.specs.Borrow.{Bor}
 use Rattle.std.specs.Box.{box_value}
@@ -15,7 +15,7 @@ use Rattle.clap.specs.declared.builder.command.Command.TheViews.{out-Command}
 use Rattle.gcflip.specs.CommandLine.{command_line, Finds, FindsFile, IsAskedBy, IsFor, IsInRange, IsPlainArgument}
 use Rattle.gcflip.specs.declared.task.Task.{Task}
 
--- ---- no arguments behind the program's name
+-- ---- no arguments after the program's name
 
 none_taken : takes command_line ([] ∷ []) ≡ true
 unfolding clap_on_literals
@@ -26,7 +26,7 @@ no_arguments_taken arguments e = ap (λ (rest : List Text). takes command_line (
 
 -- ---- a subcommand and a path
 
--- the subcommand, and the FILE that was found for it
+-- the subcommand with the FILE that was found for it
 abbrev pub file_of : Option (Text × List Row) → Option (Text × Option Text)
 file_of = option_map (λ p. (p.0, first_of (codes "FILE") p.1))
 
@@ -82,7 +82,7 @@ file_arguments_taken arguments name path takes_file e = ap (λ (rest : List Text
 file_arguments_found : (arguments : List Text) (name path : Text) → TakesFile name path → drop 1 arguments ≡ name ∷ path ∷ [] → file_of (subcommand_of command_line arguments) ≡ Some (name, Some path)
 file_arguments_found arguments name path takes_file e = ap (λ (rest : List Text). file_of (subcommand_of command_line ([] ∷ rest))) e ∙ takes_file.found
 
--- ---- what the matches of the program's command have
+-- ---- what the matches of the program's command contain
 
 line_is_simple : is_simple command_line ≡ true
 unfolding clap_on_literals
@@ -99,7 +99,7 @@ pub no_fault : (a : App) (arguments : List Text) → a ≡ command_line → (is_
 no_fault a arguments is none =
     ap (λ (b : App). fault_of b arguments) (sym is) ∙ none (ap is_simple_and_free is ∙ line_is_simple_and_free)
 
--- rows of the subcommand in which the FILE stands
+-- the subcommand's rows, which contain the FILE
 pub record HasFile (m : ArgMatches) (name path : Text) : Type 0 where
   pub rows : List Row
   pub are : subcommand_rows_of m ≡ Some (name, rows)
@@ -127,7 +127,7 @@ found_file m o rows name path same is first =
     let rows_are : rows_of (found_of m) ≡ rows = cc in
     first_value-rows (found_of m) (codes "FILE") ∙ ap (first_of (codes "FILE")) rows_are ∙ first
 
--- ---- and back: a task is what the rows ask for
+-- ---- and back: a task is the one that the rows ask for
 
 names_of_rows : {Z : Type 0} (s : Option (Box SubCommand Z)) → option_map (λ b. (out-SubCommand (box_value b)).name.now) s ≡ option_map (λ p. p.0) (subcommand_rows s)
 names_of_rows None = refl
@@ -145,7 +145,7 @@ matches_find_file m found name file is_name is_rows first =
     finds_file (subcommand_rows_of m) name file (rows_of (found_of found)) (is_name ∙ names_of_rows (out-ArgMatches m).subcommand) is_rows
     (sym (first_value-rows (found_of found) (codes "FILE")) ∙ first)
 
--- ---- what a reference that may be there points to
+-- ---- the value behind an optional reference
 
 pub absent_has_no_text : (o : Option (Bor Text)) (v : Option Text) (text : Text) → o ≡ None → option_map (λ s. s.now) o ≡ v → v ≡ Some text → ⊥
 absent_has_no_text None v text is same found = cc
@@ -157,7 +157,7 @@ present_has_text (Some r) s v text is same found = let both : r ≡ s = cc in cc
 
 -- ---- a subcommand with a number
 
--- a task for this subcommand and file is what its rows ask for
+-- a task for this subcommand and file is the one that its rows ask for
 pub number_task_asked : (o : Option Task) (name file : Text) (found : Option (Text × List Row)) → IfSome o (λ task. IsFor name file task × IsInRange task) → FindsFile name file found → IfSome o (IsAskedBy found)
 number_task_asked None name file found is finds = tt
 number_task_asked (Some task) name file found is finds = let P = λ (wanted : Option (Text × Text)). Finds wanted found in subst P (sym is.0) finds

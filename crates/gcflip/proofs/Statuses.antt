@@ -1,4 +1,4 @@
--- Which statuses the program ends with.
+-- The statuses that the program can end with.
 use Rattle.std.proofs.Common.{ℕ, ◌≡◌, refl, sym, subst, lit<, inl, inr, Result, Ok, Err, IfOk, IfErr}
 use Rattle.std.specs.Prelude.{Contains}
 use Rattle.gc_cert.specs.declared.fault.PairFault.TheVariants as pair

@@ -1,4 +1,4 @@
--- A run of a trace's scripts in threads, put together from its parts.
+-- A run of a trace's scripts in threads, assembled from the contracts of its parts.
 use Rattle.std.proofs.Common.{◌≡◌, ℕ, List, [], length, map, ap, sym, ◌∙◌, subst, arith, Option, Some, None, IfSome}
 use Rattle.std.specs.declared.vec.Vec.{Vec}
 use Rattle.std.specs.declared.alloc.Global.{Global}
@@ -35,7 +35,7 @@ threaded t turns given past are ran history =
       useful = ran.useful;
     }
 
--- the text that the reader gave, where it tells it, is this trace's
+-- if the reader's text is known, it is the text of this trace
 abbrev Reads : Option (List ℕ) → Recording → Type 0
 Reads bytes t = IfSome bytes (λ text. IsReadAsTrace t text)
 

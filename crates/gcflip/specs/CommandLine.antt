@@ -1,4 +1,4 @@
--- The command line, as clap's definitions see it, and what arguments ask for.
+-- The command line in terms of clap's definitions, and the tasks that arguments ask for.
 use Rattle.std.specs.Prelude.{◌≡◌, ℕ, ◌≤◌, ⊤, pos, true, List, Option, Some, None, codes}
 use Rattle.clap.specs.Lexer.{strip_byte}
 use Rattle.clap.specs.Words.{App, Row, Rule, first_of, new_app, new_rule, with_rule, with_subcommand}
@@ -9,11 +9,11 @@ use Rattle.gcflip.specs.declared.task.Task.TheVariants.{PlayInput, Play, Check, 
 
 -- ---- the command line
 
--- a required FILE
+-- the required argument FILE
 abbrev pub file_rule : Rule
 file_rule = record (new_rule (codes "FILE")) { required = true }
 
--- a required number
+-- a required argument that is a number
 abbrev pub number_rule : List ℕ → ValueParser → Rule
 number_rule name parser = record (new_rule name) { required = true; parser = Some parser }
 
@@ -25,29 +25,29 @@ file_command name = with_rule (new_app name) file_rule
 abbrev pub number_command : List ℕ → Rule → App
 number_command name number = with_rule (file_command name) number
 
--- the number of a flip, and the number of the collector's steps
+-- N, the number of a flip, and TURNS, the number of collector steps
 abbrev pub flip_rule : Rule
 flip_rule = number_rule (codes "N") (Signed (pos 1) (pos 4294967295))
 
 abbrev pub turns_rule : Rule
 turns_rule = number_rule (codes "TURNS") (Unsigned 0 1000000)
 
--- `gcflip`, with `play FILE`, `check FILE` and `report FILE`
+-- `gcflip` with `play FILE`, `check FILE` and `report FILE`
 abbrev pub files_line : App
 files_line =
     with_subcommand (with_subcommand (with_subcommand (new_app (codes "gcflip")) (file_command (codes "play")).top) (file_command (codes "check")).top) (file_command (codes "report")).top
 
--- and with `pair FILE N` and `threads FILE TURNS`
+-- the whole: also with `pair FILE N` and `threads FILE TURNS`
 abbrev pub command_line : App
 command_line = with_subcommand (with_subcommand files_line (number_command (codes "pair") flip_rule).top) (number_command (codes "threads") turns_rule).top
 
--- it does not begin with a hyphen, so that clap takes it for a value and not for an option
+-- the argument does not begin with a hyphen, so clap takes it for a value and not for an option
 abbrev pub IsPlainArgument : List ℕ → Type 0
 IsPlainArgument argument = strip_byte 45 argument ≡ None
 
 -- ---- tasks
 
--- the subcommand of a task, and its FILE
+-- the subcommand and the FILE of a task
 abbrev pub asked : Task → Option (List ℕ × List ℕ)
 asked PlayInput = None
 asked (Play file) = Some (codes "play", file.now)
@@ -56,11 +56,11 @@ asked (Report file) = Some (codes "report", file.now)
 asked (Pair file n) = Some (codes "pair", file.now)
 asked (Threads file turns) = Some (codes "threads", file.now)
 
--- the task is this subcommand's, on this file
+-- the task is that of this subcommand with this file
 abbrev pub IsFor : List ℕ → List ℕ → Task → Type 0
 IsFor name path task = asked task ≡ Some (name, path)
 
--- its number is in range: flips are counted from 1
+-- the number of the task is in range; flips are counted from 1
 abbrev pub IsInRange : Task → Type 0
 IsInRange PlayInput = ⊤
 IsInRange (Play file) = ⊤
@@ -69,7 +69,7 @@ IsInRange (Report file) = ⊤
 IsInRange (Pair file n) = 1 ≤ n
 IsInRange (Threads file turns) = turns ≤ 1000000
 
--- the subcommand of this name was found, and the path as its FILE
+-- clap found the subcommand with this name, and this path as its FILE
 abbrev pub FindsFile : List ℕ → List ℕ → Option (List ℕ × List Row) → Type 0
 FindsFile name path None = ⊥
 FindsFile name path (Some found) = (found.0 ≡ name) × (first_of (codes "FILE") found.1 ≡ Some path)
@@ -78,6 +78,6 @@ abbrev pub Finds : Option (List ℕ × List ℕ) → Option (List ℕ × List Ro
 Finds None found = found ≡ None
 Finds (Some wanted) found = FindsFile wanted.0 wanted.1 found
 
--- if this was found for a subcommand, the task is what it asks for
+-- the task is the one that the subcommand found by clap asks for
 abbrev pub IsAskedBy : Option (List ℕ × List Row) → Task → Type 0
 IsAskedBy found task = Finds (asked task) found

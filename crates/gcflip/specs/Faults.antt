@@ -1,4 +1,4 @@
--- The program's line for a fault, on standard error.
+-- The line that the program writes to standard error for a fault.
 use Rattle.std.specs.Prelude.{ℕ, List, codes}
 use Rattle.gc_graph.specs.Lines.{ended}
 use Rattle.gc_check.specs.FaultTexts.{run_fault_text}

@@ -1,3 +1,3 @@
--- Definitions that only private contracts and proofs need. They are no part of a promise.
+-- Definitions that only private contracts and proofs use. They are not part of the public interface.
 pub mod Outcomes
 pub mod ThreadedRuns

@@ -1,4 +1,4 @@
--- The outcomes of a task: its status if it is done, otherwise its fault.
+-- The sources of a fault: the player, the checker, or a run in threads.
 use Rattle.std.specs.Prelude.{⊤}
 use Rattle.gcflip.specs.declared.faults.fault.Fault.{Fault}
 use Rattle.gcflip.specs.declared.faults.fault.Fault.TheVariants as fault

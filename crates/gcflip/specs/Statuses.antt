@@ -1,5 +1,6 @@
--- The exit statuses: 0 for a task that is done, 1 for a refusal, 2 for an invalid command line, 3 for a faulty text, 4 if
--- reading or writing failed, 5 if memory ran out, 6 for threads and their closing.
+-- The exit statuses: 0 for success, 1 for a refusal, 2 for an invalid command line, 3 for a bad text or a flip that
+-- does not exist, 4 if reading or writing failed, 5 if memory ran out, 6 if threads were not started or closing found
+-- a fault.
 use Rattle.std.specs.Prelude.{ℕ, List, [], ◌∷◌}
 use Rattle.gc_cert.specs.declared.fault.PairFault.{PairFault}
 use Rattle.gc_cert.specs.declared.fault.PairFault.TheVariants as pair

@@ -9,22 +9,22 @@ use Rattle.gc_copy.specs.Runs.{commands_of}
 use Rattle.gc_world.specs.History.{events_of, IsHistory}
 use Rattle.gc_world.specs.declared.entry.Entry.{Entry}
 
--- A history of a world of the trace's size and mutators: each mutator performed its commands of the trace, in order, and
--- the collector performed this many steps, all as useful ones.
+-- A history of a world with the trace's size and number of mutators. Each mutator performed its commands of the
+-- trace, in order. The collector performed this many steps, and the answer to each is marked `Useful`.
 pub record IsThreadedRun (t : Recording) (turns : ℕ) (entries : List Entry) : Type 0 where
   pub history : IsHistory t.size t.mutators entries
   pub commands : (m : ℕ) → m < t.mutators → commands_of m (events_of entries) ≡ commands_of m t.events
   pub steps : length (steps_of entries) ≡ turns
   pub useful : All (λ entry. IsUsefulStep entry.event entry.answer) (steps_of entries)
 
--- the trace of a history with the size and the mutators of t
+-- the trace text of a history, with the size and the number of mutators of t
 abbrev pub recorded : Recording → List Entry → List ℕ
 recorded t entries = spelling (written t.size t.mutators (events_of entries))
 
--- the text is of a trace, and the trace of a run of its scripts went out
+-- the text spells a trace, and the trace text of a run of its scripts went out
 abbrev pub WritesRun : List ℕ → ℕ → Option (List ℕ) → Option (List ℕ) → Type 0
 WritesRun text turns old new = (t : Recording) × (entries : List Entry) × IsReadAsTrace t text × IsThreadedRun t turns entries × Appends old new (recorded t entries)
 
--- the text is of a trace, and a prefix of the trace of such a run went out
+-- the text spells a trace, and a prefix of the trace text of such a run went out
 abbrev pub WritesRunFront : List ℕ → ℕ → Option (List ℕ) → Option (List ℕ) → Type 0
 WritesRunFront text turns old new = (t : Recording) × (entries : List Entry) × IsReadAsTrace t text × IsThreadedRun t turns entries × SendsFront old new (recorded t entries)

@@ -1,4 +1,4 @@
--- What the program does with a pair text.
+-- What the program writes and returns for a pair text.
 use Rattle.std.specs.Prelude.{◌≡◌, ℕ, List, Option}
 use Rattle.std.specs.Io.KnownBytes.{Appends}
 use Rattle.gc_cert.specs.Grammar.{CertifiedPair}
@@ -8,13 +8,13 @@ use Rattle.gc_check.specs.Texts.{verdict_on}
 use Rattle.gc_check.specs.Verdict.{verdict_line}
 use Rattle.gcflip.specs.Statuses.{verdict_status}
 
--- the text spells a pair, the status is that of the verdict on it, and the verdict's line went out and nothing else
+-- the text spells a pair, the status is that of the verdict on it, and only the verdict's line went out
 pub record TellsVerdict (text : List ℕ) (status : ℕ) (old new : Option (List ℕ)) : Type 0 where
   pub pair : CertifiedPair
   pub read : IsReadAsPair pair text
   pub status_is : status ≡ verdict_status (verdict_on pair)
   pub line : Appends old new (verdict_line (verdict_on pair))
 
--- what the text spells is replicated
+-- the soundness theorem holds of the pair that the text spells
 abbrev pub SpellsReplicated : List ℕ → Type 0
 SpellsReplicated text = (pair : CertifiedPair) → IsReadAsPair pair text → Replicated pair.old pair.new pair.pairs

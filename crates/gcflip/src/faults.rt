@@ -1,4 +1,4 @@
-//! The program's faults: their texts, and the exit status of each.
+//! The program's faults, with their texts and exit statuses.
 
 mod fault;
 mod statuses;

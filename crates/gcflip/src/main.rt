@@ -1,5 +1,5 @@
-//! The program: plays traces of a collector and its mutators, runs them in threads, reports them, writes the pairs of
-//! their flips, and checks pairs of heaps.
+//! The program. It plays traces of a collector and its mutators, reports them, and runs them in threads. It writes the
+//! pairs of their flips, and checks pairs of heaps.
 #![tactic(auto)]
 
 mod commands;

@@ -39,7 +39,7 @@ fn perform<R: Files + Input + Print + AllocGlobal + Threads + Wait + Sync>(
     ensures failed { IfErr result (IsTaskFault task.entry) }
 {
     let alloc = rt.alloc();
-    // The engines do their own buffering.
+    // Each command buffers its own output.
     let mut sink = Sink::new(io::writer(rt));
     match task {
         Task::PlayInput => play_from(alloc, &mut Source::new(rt.reader()), &mut sink),
@@ -79,7 +79,7 @@ fn tell<E: Print>(errors: &E, fault: &Fault) -> u8
     write_fault(&mut Sink::new(io::writer(errors)), fault)
 }
 
-/// Returns the exit status of a task's outcome. Writes the line of a fault.
+/// Returns the exit status of a task's outcome. If it is a fault, writes the fault's line.
 fn finish<E: Print>(errors: &E, outcome: Result<u8, Fault>) -> u8
     ensures done { IfOk outcome (λ status. result ≡ status) }
     ensures failed { IfErr outcome (λ fault. result ≡ status_of fault) }
@@ -90,7 +90,7 @@ fn finish<E: Print>(errors: &E, outcome: Result<u8, Fault>) -> u8
     }
 }
 
-/// Prints `clap`'s text for arguments that ask for no task: a mistake, or help.
+/// Prints `clap`'s text for arguments that ask for no task, which is an error message or help. Returns the exit status.
 #[tactic(auto, using(crate::proofs::Statuses::done_is_status, crate::proofs::Statuses::mistake_is_status))]
 fn refuse<R: Print + Eprint, E: Print>(rt: &R, errors: &E, error: &Error) -> u8
     ensures memory { kind_of error.now ≡ ErrorKind.OutOfMemory → result ≡ 5 }
@@ -107,15 +107,15 @@ fn refuse<R: Print + Eprint, E: Print>(rt: &R, errors: &E, error: &Error) -> u8
     if error.use_stderr() {
         2
     } else if printed.is_err() {
-        // Help that cannot be written is a failed write like any other.
+        // Help that cannot be written has the same status as any other failed write.
         tell(errors, &Fault::Play(PlayFault::Write))
     } else {
         0
     }
 }
 
-/// Does what the command line asks, and returns the exit status. `errors` prints to standard error, for which the
-/// runtime has no writer of its own.
+/// Does what the command line asks for, and returns the exit status. `errors` prints to standard error, because `R` has
+/// no writer for it.
 #[tactic(auto, using(crate::proofs::Statuses::outcome_has_status))]
 pub fn run<R: Files + Env + Input + Print + Eprint + AllocGlobal + Threads + Wait + Sync, E: Print>(
     rt: &R,

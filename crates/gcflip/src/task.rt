@@ -21,7 +21,7 @@ pub enum Task<'a> {
     Report(&'a str),
     /// Write the pair of the n-th flip of the trace in this file, counted from 1.
     Pair { file: &'a str, n: u32 },
-    /// Run the scripts of the trace in this file in threads, beside so many useful steps, at most 1000000.
+    /// Run the scripts of the trace in this file in threads, together with `turns` useful steps, at most 1000000.
     Threads { file: &'a str, turns: u64 },
 }
 
@@ -48,7 +48,7 @@ fn flip_number<'a>(alloc: Global) -> Arg<'a>
         .help("Which flip, counted from 1")
 }
 
-/// Returns the argument TURNS, the number of the collector's steps.
+/// Returns the argument TURNS, the number of collector steps.
 fn turns<'a>(alloc: Global) -> Arg<'a>
     ensures rule { rule_of result ≡ turns_rule }
     ensures local { result.global ≡ false }
@@ -109,7 +109,7 @@ fn command<'a>(alloc: Global) -> Result<Command<'a>, Error>
     )
 }
 
-/// Returns the task of `pair FILE N`. Clap checks the number's range; it is checked here again.
+/// Returns the task of `pair FILE N`. Clap has checked the number's range; the check here proves it.
 fn pair_task<'a>(matches: &ArgMatches<'_>, file: &'a str) -> Option<Task<'a>>
     ensures { IfSome result (λ task. IsFor (codes "pair") file.entry.now task × IsInRange task) }
 {
@@ -131,7 +131,7 @@ fn threads_task<'a>(matches: &ArgMatches<'_>, file: &'a str) -> Option<Task<'a>>
     Some(Task::Threads { file, turns })
 }
 
-/// Returns the task that the matches ask for, or `None` if it is no task of the program.
+/// Returns the task that the matches ask for, or `None` if the program has no such task.
 fn found_task<'a>(matches: &ArgMatches<'a>) -> Option<Task<'a>>
     ensures input { subcommand_rows_of matches.now ≡ None → result ≡ Some Task.PlayInput }
     ensures play { (rows : List Row) (path : List ℕ)
@@ -160,7 +160,7 @@ fn found_task<'a>(matches: &ArgMatches<'a>) -> Option<Task<'a>>
     }
 }
 
-/// Returns the task that the arguments ask for, or `clap`'s error, which may be a call for help.
+/// Returns the task that the arguments ask for, or `clap`'s error, which may be a request for help.
 pub fn task_of<'a>(alloc: Global, arguments: &'a [String]) -> Result<Task<'a>, Error>
     // The first argument is the program's own name.
     ensures input { drop 1 (map string_bytes arguments.now) ≡ [] →
@@ -174,10 +174,10 @@ pub fn task_of<'a>(alloc: Global, arguments: &'a [String]) -> Result<Task<'a>, E
     ensures report { (path : List ℕ) → IsPlainArgument path
         → drop 1 (map string_bytes arguments.now) ≡ codes "report" ∷ path ∷ [] →
         MatchResult result (IsFor (codes "report") path) (λ e. kind_of e ≡ ErrorKind.OutOfMemory) }
-    // A task is what clap's definitions find in the arguments.
+    // The task is the one that clap's definitions find in the arguments.
     ensures asked { IfOk result (IsAskedBy (subcommand_of command_line (map string_bytes arguments.now))) }
     ensures range { IfOk result IsInRange }
-    // Arguments in which clap finds a fault, or a call for help, ask for no task.
+    // Arguments in which clap finds an error, or a request for help, give no task.
     ensures faultless { IfOk result (λ _. fault_of command_line (map string_bytes arguments.now) ≡ []) }
 {
     let mut command = command(alloc)?;

@@ -1,4 +1,4 @@
--- An image whose parts C passes one by one.
+-- An image made of the parts that C passes one by one.
 use Rattle.std.specs.Prelude.{ℕ, Bool, List}
 use Rattle.gc_words.specs.Image.{Image}
 

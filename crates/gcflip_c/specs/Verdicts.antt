@@ -1,4 +1,4 @@
--- A verdict as C has it: the number of the refusal, and its places.
+-- A verdict as C sees it: the number of the refusal, and its places.
 use Rattle.std.specs.Prelude.{◌≡◌, ℕ, List}
 use Rattle.gc_words.specs.declared.refusal.Refusal.{Refusal}
 use Rattle.gc_words.specs.declared.refusal.Refusal.TheVariants.{OldShape, NewShape, RootCount, OldNotStart, NewNotStart, NotRising, Twice, HeaderDiffers, FieldDiffers, RootDiffers}
@@ -13,7 +13,7 @@ yes_in_c pairs = record { refusal = 0; pairs = pairs; place = 0; field = 0 }
 abbrev pub refused_in_c : ℕ → ℕ → ℕ → GcflipVerdict
 refused_in_c refusal place field = record { refusal = refusal; pairs = 0; place = place; field = field }
 
--- the number and the places that the line of the refusal has
+-- the number and the places that the program's line for the refusal shows
 abbrev pub refusal_in_c : Refusal → GcflipVerdict
 refusal_in_c (OldShape at) = refused_in_c 1 at 0
 refusal_in_c (NewShape at) = refused_in_c 2 at 0
@@ -40,12 +40,12 @@ pub record IsReported (verdict : Verdict) (answer : ℕ) (written : GcflipVerdic
   pub answer_is : answer ≡ answer_to verdict
   pub written_is : written ≡ verdict_in_c verdict
 
--- the same of the verdict on the pair that the text spells
+-- the same for the verdict on the pair that the text spells
 pub record IsReportedOf (text : List ℕ) (answer : ℕ) (written : GcflipVerdict) : Type 0 where
   pub verdict : Verdict
   pub about : IsVerdictOn text verdict
   pub reported : IsReported verdict answer written
 
--- a bad line of a text
+-- the report of a bad line: its number as the place
 abbrev pub line_in_c : ℕ → GcflipVerdict
 line_in_c line = refused_in_c 0 line 0

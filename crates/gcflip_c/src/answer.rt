@@ -28,10 +28,10 @@ pub(crate) const TOO_LARGE: u32 = 4;
 /// A line of the text is bad.
 pub(crate) const BAD_LINE: u32 = 5;
 
-/// The text ends before its last line does.
+/// The text ends before its last line is complete.
 pub(crate) const ENDS_EARLY: u32 = 6;
 
-/// Checks the certificate and reports the verdict. On `NO_MEMORY` the verdict is unchanged.
+/// Checks the certificate, writes the verdict, and returns `YES` or `REFUSED`. On `NO_MEMORY` the verdict is unchanged.
 pub(crate) fn answer(
     alloc: Global,
     old: ImageRef,

@@ -31,7 +31,7 @@ pub extern "C" fn gcflip_check(
     ensures answers { result ≤ 3 }
     ensures many { (result ≡ 3) ↔ (2 ^ 32 ≤ length pairs.now) }
     ensures silent { 2 ≤ result → verdict.new ≡ verdict.old }
-    // Yes with the number of pairs if nothing is wrong, else the first refusal.
+    // The verdict is yes with the number of pairs, or the first refusal.
     ensures verdict { result < 2 → IsReported (verdict_of
         (image old_size old_end old_raws old_words.now old_roots.now)
         (image new_size new_end new_raws new_words.now new_roots.now) (pairs_of pairs.now))
@@ -39,7 +39,7 @@ pub extern "C" fn gcflip_check(
     ensures yes { result ≡ 0 → Certified
         (image old_size old_end old_raws old_words.now old_roots.now)
         (image new_size new_end new_raws new_words.now new_roots.now) (pairs_of pairs.now) }
-    // What a yes promises to mutators that go on in the new heap.
+    // The soundness theorem, for mutators that continue in the new heap.
     ensures replicated { result ≡ 0 → Replicated
         (image old_size old_end old_raws old_words.now old_roots.now)
         (image new_size new_end new_raws new_words.now new_roots.now) (pairs_of pairs.now) }

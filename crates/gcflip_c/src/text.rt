@@ -18,12 +18,12 @@ use std::alloc::Global;
 pub extern "C" fn gcflip_check_text(alloc: Global, text: &[u8], verdict: &mut GcflipVerdict) -> u32
     ensures answers { (result ≤ 6) × (result ≢ 3) }
     ensures silent { 2 ≤ result → result ≢ 5 → verdict.new ≡ verdict.old }
-    // The verdict on the pair that the text spells.
+    // This is the verdict on the pair that the text spells.
     ensures verdict { result < 2 → IsReportedOf text.now result verdict.new }
-    // What a yes promises of the images that the text spells.
+    // The soundness theorem, for the images that the text spells.
     ensures replicated { result ≡ 0 → (pair : CertifiedPair) → IsReadAsPair pair text.now
         → Replicated pair.old pair.new pair.pairs }
-    // The first fault of a bad text.
+    // A bad text gives its first fault.
     ensures large { result ≡ 4 → IsPairFaultOf PairFault.TooLarge text.now }
     ensures line { result ≡ 5 → (verdict.new ≡ line_in_c verdict.new.place)
         × IsPairFaultOf (PairFault.BadLine verdict.new.place) text.now }

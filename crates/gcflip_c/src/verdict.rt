@@ -3,17 +3,17 @@ ghost use Rattle.gcflip_c.specs.Verdicts.{refused_in_c};
 
 use gc_words::Refusal;
 
-/// The checker's verdict as C has it.
+/// The checker's verdict as C sees it.
 #[repr(C)]
 #[derive(Clone, Copy, Debug, Drop, PartialEq, Eq)]
 pub struct GcflipVerdict {
-    /// The number of the refusal, 1 to 10. 0 if nothing is refused.
+    /// The number of the refusal, 1 to 10, or 0 if nothing is refused.
     pub refusal: u32,
-    /// The number of pairs that a yes is about, else 0.
+    /// The number of pairs, if the verdict is yes, otherwise 0.
     pub pairs: u32,
-    /// The address, the pair or the root of the refusal, else 0. Of a bad line of a text it is the line's number.
+    /// The address, the pair or the root that is refused, or the number of a bad line, otherwise 0.
     pub place: u64,
-    /// The field of a `FieldDiffers`, else 0.
+    /// The field, if the refusal is `FieldDiffers`, otherwise 0.
     pub field: u64,
 }
 
@@ -32,7 +32,7 @@ impl GcflipVerdict {
         }
     }
 
-    /// Returns what is reported of a text whose line of this number is bad.
+    /// Returns the report of a text in which the line with this number is bad.
     pub(crate) fn of_line(line: u64) -> GcflipVerdict
         ensures { result ≡ line_in_c line }
     {

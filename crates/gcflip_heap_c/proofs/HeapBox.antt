@@ -1,4 +1,4 @@
--- A box of a collected heap over the C library's allocator. Its parts and the handle of a heap own what it owns.
+-- A box of a collected heap over the C library's allocator. Its parts own what it owns, and so does a heap's handle.
 use mathlib.Core.List.{[]}
 use mir.Syntax.{impl, tnil, dnil}
 use denote.RattleType.{RattleType}
@@ -15,7 +15,7 @@ use Rattle.gcflip_heap_c.specs.contracts.handle.GcflipHeap as Handle
 abbrev pub heap_box : Bx
 heap_box = record { row = Heap.the_row; laws = heap.the_row_laws; al = record { row = Global.the_row; laws = global.the_row_laws; g = ghosts; d = dict; drops = impl [] tnil dnil } }
 
--- its parts as a type
+-- the type of its parts
 abbrev pub Held : RattleType
 Held = Parts.the_row Heap.the_row Global.the_row ghosts
 

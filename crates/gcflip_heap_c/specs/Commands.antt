@@ -1,4 +1,4 @@
--- The commands that C's numbers name, and what a call of one returns and leaves.
+-- The commands that C's numbers name, what a call of one returns, and the state after it.
 use Rattle.std.specs.Prelude.{◌≡◌, ℕ, ◌≤◌, ◌<◌, ◌↔◌, nat_lt, if◌then◌else◌, Option, Some, None, IsSomeAnd, ⊤, ◌^◌, List, length, map}
 use Rattle.std.specs.List.{AllByRecursion}
 use Rattle.gc_graph.specs.Limits.{lengths}
@@ -18,7 +18,7 @@ slot_at n = if nat_lt n slot_numbers then Some (numbered_slot n) else None
 abbrev pub number_in : ℕ → Option ℕ
 number_in n = if nat_lt n (2 ^ 63) then Some n else None
 
--- the command that two arguments give, where both are in their ranges
+-- the command made from two arguments, if both are in range
 abbrev pub with_both : {A B : Type 0} → Option A → Option B → (A → B → Op) → Option Op
 with_both (Some a) (Some b) make = Some (make a b)
 with_both (Some a) None make = None
@@ -29,12 +29,13 @@ abbrev pub IsOutside : ℕ → Option Op → State → Type 0
 IsOutside m None s = ⊤
 IsOutside m (Some op) s = s.mutators ≤ m
 
--- in the state `old`, mutator m's command got a reply of which C was shown this, and left the state `new`
+-- in the state `old`, mutator m's command gets a reply for which `shown` holds, and leads to the state `new`
 abbrev pub Replies : ℕ → Option Op → (Reply → Type 0) → Option State → Option State → Type 0
 Replies m (Some op) shown (Some old) (Some new) = (reply : Reply) × (mutate old m op ≡ (reply, new)) × shown reply
 Replies m op shown old new = ⊥
 
--- what a call returns, and what it leaves of the heap; `refuses` says when its arguments are out of range
+-- What a call returns, and the state after it. `did` is what a call does unless it is refused. `refuses` holds of the
+-- states in which its arguments are out of range.
 pub record IsCall (refuses : State → Type 0) (did : Type 0) (old new : Option State) (answer : ℕ) : Type 0 where
   pub done : ¬ IsRefusal answer → did
   -- a refused call changes nothing
@@ -47,9 +48,9 @@ pub record IsCall (refuses : State → Type 0) (did : Type 0) (old new : Option 
 abbrev pub IsCommandCall : ℕ → Option Op → (Reply → Type 0) → Option State → Option State → ℕ → Type 0
 IsCommandCall m op shown old new answer = IsCall (IsOutside m op) (Replies m op shown old new) old new answer
 
--- ---- putting a number: the commands `Num t n` and `Put s i t`, one after the other, with the reply to the second
+-- ---- putting a number: the command `Num t n` followed by `Put s i t`, with the reply to the second
 
--- the arguments are out of their ranges, or the state has no mutator m
+-- an argument is out of range, or the state has no mutator m
 abbrev pub IsNoPutNumber : ℕ → Option SlotName → Option SlotName → Option ℕ → State → Type 0
 IsNoPutNumber m (Some s) (Some t) (Some n) state = state.mutators ≤ m
 IsNoPutNumber m s t n state = ⊤
@@ -62,9 +63,9 @@ PutsNumber m s i t n old new answer = ⊥
 abbrev pub IsPutNumberCall : ℕ → Option SlotName → ℕ → Option SlotName → Option ℕ → Option State → Option State → ℕ → Type 0
 IsPutNumberCall m s i t n old new answer = IsCall (IsNoPutNumber m s t n) (PutsNumber m s i t n old new answer) old new answer
 
--- ---- an object with its fields from slots: the commands of `new_from_step`, with the reply to the first
+-- ---- an object whose fields are filled from slots: the commands of `new_from_step`, with the reply to the first
 
--- every argument is in its range
+-- every argument is in range
 pub record NameFields (m d : ℕ) (fields : List ℕ) (state : State) : Type 0 where
   pub mutator : m < state.mutators
   pub slot : d < slot_numbers

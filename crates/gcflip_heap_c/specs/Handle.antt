@@ -1,4 +1,4 @@
--- What a handle owns: nothing where it is null, else the box of a heap.
+-- What a handle owns: nothing if it is null, otherwise the box of a heap.
 use Rattle.std.specs.Prelude.{Option, Some, None}
 use base.Fml.{Fml, feq}
 use base.Stored.{Coded}

@@ -1,4 +1,4 @@
--- Which heaps can be opened.
+-- The sizes and numbers of mutators with which a heap can be opened.
 use Rattle.std.specs.Prelude.{ℕ, ◌≤◌}
 use Rattle.gc_graph.specs.Limits.{most_words, most_mutators}
 

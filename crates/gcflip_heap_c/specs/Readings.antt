@@ -1,4 +1,4 @@
--- What C reads of a heap.
+-- What C can read of a heap.
 use Rattle.std.specs.Prelude.{◌≡◌, ℕ, nat_lt, if◌then◌else◌, List, length, slice_get, Option, Some, None}
 use Rattle.std.specs.Option.{option_map}
 use Rattle.gc_copy.specs.State.{State, Collection, new_end, heap_end}
@@ -6,7 +6,7 @@ use Rattle.gc_core.specs.Readings.{heap_image, log_of}
 use Rattle.gcflip_heap_c.specs.declared.reading.GcflipCounts.{GcflipCounts}
 use Rattle.gcflip_heap_c.specs.declared.reading.GcflipLogEntry.{GcflipLogEntry}
 
--- those of the heap, with all else 0
+-- the counts of a heap without an open collection
 abbrev pub idle_counts : State → GcflipCounts
 idle_counts s = record { size = s.size; end = heap_end s; free = s.heap.free; mutators = s.mutators; is_open = 0; new_size = 0; new_end = 0; scan_place = 0; scan_field = 0 }
 
@@ -20,15 +20,15 @@ counts_of s = counts_with s s.collection
 abbrev pub entry_in_c : ℕ × ℕ → GcflipLogEntry
 entry_in_c entry = record { object = entry.0; field = entry.1 }
 
--- entry k of mutator m's log, if the state has that mutator and its log that entry
+-- entry k of mutator m's log, if the state has that mutator and the log has that entry
 abbrev pub entry_at : State → ℕ → ℕ → Option GcflipLogEntry
 entry_at s m k = if nat_lt m s.mutators then option_map entry_in_c (slice_get (log_of s m) k) else None
 
--- C's rows are as long as the image's words and roots
+-- C's arrays are as long as the image's words and roots
 abbrev pub FitsImage : List ℕ → List ℕ → State → Type 0
 FitsImage words roots s = (length words ≡ length (heap_image s).words) × (length roots ≡ length (heap_image s).roots)
 
--- a collection is open, and C's row is as long as the words of its new space
+-- a collection is open, and C's array is as long as the words of its new space
 abbrev pub FitsNew : List ℕ → Option (List ℕ) → Type 0
 FitsNew row None = ⊥
 FitsNew row (Some words) = length row ≡ length words

@@ -1,4 +1,4 @@
--- Replies as C has them: the number that a call returns, and what it writes of what was seen.
+-- Replies as C sees them: the number that a call returns, and what it writes about a value that it saw.
 use Rattle.std.specs.Prelude.{ℕ, ◌≤◌, ◌<◌}
 use Rattle.gc_graph.specs.declared.reply.Reply.{Reply}
 use Rattle.gc_graph.specs.declared.reply.Reply.TheVariants.{Full, Made, Done, NoObject, NoField, NoNumber, Saw, Yes, No}
@@ -10,7 +10,7 @@ use Rattle.gc_copy.specs.declared.step.StepReply.{StepReply}
 use Rattle.gc_copy.specs.declared.step.StepReply.TheVariants as steps
 use Rattle.gcflip_heap_c.specs.declared.reply.GcflipView.{GcflipView}
 
--- the call was refused: nothing was done
+-- the call was refused, and did nothing
 abbrev pub IsRefusal : ℕ → Type 0
 IsRefusal answer = (1 ≤ answer) × (answer < 16)
 
@@ -33,7 +33,7 @@ reply_in_c Yes = 21
 reply_in_c No = 22
 reply_in_c (Saw view) = seen_in_c view
 
--- the number that a `get` returns, which does not read the object that it found
+-- the number that a `get` returns; `get` does not read an object that it found
 abbrev pub fetched_in_c : Fetched → ℕ
 fetched_in_c fetches.NoObject = 18
 fetched_in_c fetches.NoField = 19
@@ -41,7 +41,7 @@ fetched_in_c fetches.Nil = 24
 fetched_in_c (fetches.Num n) = 25
 fetched_in_c fetches.Object = 26
 
--- the number that was seen, if one was seen
+-- C's variable after a `get`: the number that it saw, if it saw one
 abbrev pub number_after : ℕ → Fetched → ℕ
 number_after before (fetches.Num n) = n
 number_after before fetched = before
@@ -52,7 +52,7 @@ view_in_c (Num n) = record { kind = 0; count = 0; number = n }
 view_in_c (Obj kind len) = record { kind = kind; count = len; number = 0 }
 view_in_c (RawObj kind len) = record { kind = kind; count = len; number = 0 }
 
--- what was seen, if something was seen
+-- C's view after a `look`: what it saw, if it saw a value
 abbrev pub view_after : GcflipView → Reply → GcflipView
 view_after before (Saw view) = view_in_c view
 view_after before reply = before
@@ -74,7 +74,7 @@ step_reply_in_c steps.Refused = 42
 step_reply_in_c (steps.Flipped pairs) = 43
 step_reply_in_c steps.Dropped = 44
 
--- the number of pairs, if the step flipped
+-- C's variable after a step: the number of pairs, if the step flipped
 abbrev pub pairs_after : ℕ → StepReply → ℕ
 pairs_after before (steps.Flipped pairs) = pairs
 pairs_after before reply = before

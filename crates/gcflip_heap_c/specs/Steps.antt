@@ -1,4 +1,4 @@
--- What a call of a collector step returns and leaves.
+-- What a call of a collector step returns, and the state after it.
 use Rattle.std.specs.Prelude.{◌≡◌, ◌≢◌, ◌⊎◌, ℕ, ◌<◌, ◌≤◌, ◌↔◌, Option, Some, None, IsSomeAnd}
 use Rattle.gc_graph.specs.Limits.{most_words}
 use Rattle.gc_copy.specs.State.{State}
@@ -11,18 +11,18 @@ use Rattle.gc_core.specs.CollectedHeap.{Allocates}
 use Rattle.gc_core.specs.Flip.{FlipsOnly, IsCertified, PassesIfReady, HasRoomIfLarge}
 use Rattle.gcflip_heap_c.specs.Replies.{IsRefusal, step_reply_in_c}
 
--- no step of this state has this size, or this log
+-- the step's size is out of range, or its log does not exist in this state
 abbrev pub IsNoStep : Step → State → Type 0
 IsNoStep (steps.BeginSized size) s = (size < 1) ⊎ (most_words < size)
 IsNoStep (steps.Apply m) s = s.mutators ≤ m
 IsNoStep step s = ⊥
 
--- in the state `old` the step got a reply of which C was shown this, and left the state `new`
+-- in the state `old` the step gets a reply for which `shown` holds, and leads to the state `new`
 abbrev pub Answers : Step → (StepReply → Type 0) → Option State → Option State → Type 0
 Answers step shown (Some old) (Some new) = (reply : StepReply) × (collect old step ≡ (reply, new)) × shown reply
 Answers step shown old new = ⊥
 
--- what a call of a step returns, and what it leaves of the heap
+-- what a call of a step returns, and the state after it
 pub record IsStepCall (step : Step) (shown : StepReply → Type 0) (old new : Option State) (answer : ℕ) : Type 0 where
   pub done : ¬ IsRefusal answer → Answers step shown old new
   -- a refused call changes nothing
@@ -32,14 +32,15 @@ pub record IsStepCall (step : Step) (shown : StepReply → Type 0) (old new : Op
   pub outside : (answer ≡ 2) ↔ IsSomeAnd old (IsNoStep step)
   pub closed : (answer ≡ 3) ↔ (old ≡ None)
 
--- a flip in the state `old` got the reply with this number: the checker accepted the pair of a flip, no flip is refused, and that
--- of a ready collection passes
+-- A flip in the state `old` gets the reply with this number. It flips only if the certificate holds, it is not
+-- refused, and a ready collection flips.
 abbrev pub Flips : Option State → Option State → ℕ → Type 0
 Flips (Some old) (Some new) answer = (reply : StepReply) × (collect old steps.Flip ≡ (reply, new)) × (answer ≡ step_reply_in_c reply)
     × FlipsOnly IsCertified old reply × (reply ≢ replies.Refused) × PassesIfReady old reply
 Flips old new answer = ⊥
 
--- a step in the state `old` that got the reply with this number lacked no room, if the new space is at least as large as the heap
+-- the reply with this number to a step in the state `old` is not `NoRoom`, if the new space is at least as large as
+-- the heap
 abbrev pub LacksNoRoom : Option State → ℕ → Type 0
 LacksNoRoom None answer = ⊥
 LacksNoRoom (Some old) answer = (reply : StepReply) × (answer ≡ step_reply_in_c reply) × HasRoomIfLarge old reply

@@ -1,4 +1,4 @@
--- Useful steps, one after the other.
+-- Useful steps, performed in order by one call.
 use Rattle.std.specs.Prelude.{◌≡◌, ◌⊎◌, ℕ, zero, suc, ◌-◌, ◌<◌, ◌≤◌, ◌↔◌, Bool, true, false, Option, Some, None, IsSomeAnd}
 use Rattle.gc_copy.specs.State.{State, Collection, new_end, heap_end}
 use Rattle.gc_copy.specs.Steps.{collect, useful_step}
@@ -17,7 +17,7 @@ after_useful (suc n) s = (collect (after_useful n s) (useful_step (after_useful 
 abbrev pub useful_reply : ℕ → State → StepReply
 useful_reply n s = (collect (after_useful n s) (useful_step (after_useful n s))).0
 
--- Work ends with a flip, and where the new space has no room.
+-- work continues after this reply; it ends after a flip, and after a step that finds no room
 abbrev pub goes_on : StepReply → Bool
 goes_on (Flipped pairs) = false
 goes_on NoRoom = false
@@ -30,25 +30,25 @@ pub record IsRun (n : ℕ) (s t : State) (reply : StepReply) : Type 0 where
   pub reply_is : reply ≡ useful_reply (n - 1) s
   pub going : (k : ℕ) → suc k < n → goes_on (useful_reply k s) ≡ true
 
--- why there was no further step: this reply ended the work, or an allocation failed
+-- why there was no further step: this reply ended the work, or the next step allocates, which can fail
 abbrev pub IsEnd : State → StepReply → Type 0
 IsEnd t reply = (goes_on reply ≡ false) ⊎ Allocates (useful_step t)
 
--- the first word of the new space that no replica takes
+-- the first word of the new space that no replica takes, or 1 if no collection is open
 abbrev pub end_in : Option Collection → ℕ
 end_in None = 1
 end_in (Some c) = new_end c
 
--- the same after a step with this reply: a flip makes the new space the heap's
+-- the same after a step with this reply; after a flip the new space is the heap's
 abbrev pub end_after : State → StepReply → ℕ
 end_after t (Flipped pairs) = heap_end t
 end_after t reply = end_in t.collection
 
--- the words that replicas took meanwhile
+-- the number of words that replicas took between these two states
 abbrev pub words_copied : State → State → StepReply → ℕ
 words_copied s t reply = end_after t reply - end_in s.collection
 
--- what is reported of work that made at most this many steps
+-- what work of at most this many steps reports
 pub record IsWork (most : ℕ) (s t : State) (work : GcflipWork) : Type 0 where
   pub reply : StepReply
   pub run : IsRun work.steps s t reply
@@ -62,7 +62,7 @@ abbrev pub Works : ℕ → Option State → Option State → GcflipWork → Type
 Works most (Some old) (Some new) work = IsWork most old new work
 Works most old new work = ⊥
 
--- what a call of work returns, and what it leaves of the heap and of C's report
+-- what a call of work returns, and the heap and C's report after it
 pub record IsWorkCall (most : ℕ) (old new : Option State) (before after : GcflipWork) (answer : ℕ) : Type 0 where
   pub answers : answer ≤ 3
   pub done : answer ≡ 0 → Works most old new after

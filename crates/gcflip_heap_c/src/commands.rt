@@ -1,4 +1,4 @@
-//! Mutators' commands on a heap, with the numbers that C gives.
+//! Mutators' commands on a heap, with C's numbers as arguments.
 
 ghost use Rattle.std.specs.Prelude.{◌≡◌, ◌≢◌, ◌<◌, ◌↔◌, ◌∷◌, [], Some, IsSome, IsTrue};
 ghost use Rattle.std.specs.List.{AllByRecursion};
@@ -14,7 +14,7 @@ use crate::reply::{GcflipView, of_fetched, of_look, of_reply};
 use gc_core::{CollectedHeap, SLOT_NUMBERS, numbered_slot};
 use gc_graph::{Number, Slot};
 
-/// Returns the slot of this number, if it has one.
+/// Returns the slot with this number, or `None` if there is no such slot.
 fn slot(number: u8) -> Option<Slot>
     ensures { result ≡ slot_at number }
 {
@@ -25,7 +25,7 @@ fn slot(number: u8) -> Option<Slot>
     }
 }
 
-/// Returns whether each number is that of a slot.
+/// Returns whether every number is that of a slot.
 fn are_slots(numbers: &[u8]) -> bool
     ensures { IsTrue result ↔ AllByRecursion (λ n. n < slot_numbers) numbers.now }
 {

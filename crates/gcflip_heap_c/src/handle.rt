@@ -1,4 +1,4 @@
-//! What C keeps of a heap.
+//! The handle by which C holds a heap.
 
 ghost use Rattle.std.specs.Prelude.{◌≡◌, Option, Some, None, IsSome, MatchBool, MatchOption};
 ghost use Rattle.gc_copy.specs.State.{State};
@@ -11,7 +11,7 @@ use std::marker::Model;
 use std::mem::replace;
 use std::ptr::null_mut;
 
-/// A handle: where a heap lies, or null. Contracts see the state of the heap, if there is one.
+/// A handle: a pointer to a heap, or null. Contracts see the state of the heap, if there is one.
 #[repr(C)]
 #[derive(Drop)]
 pub struct GcflipHeap {
@@ -40,7 +40,7 @@ impl GcflipHeap {
         self.at.is_null()
     }
 
-    /// Returns the handle of this heap.
+    /// Returns a handle that has this heap.
     pub(crate) fn full(heap: Box<CollectedHeap>) -> GcflipHeap
         ensures { result.state ≡ Some heap.value }
     {

@@ -1,4 +1,5 @@
-//! The exports that make mutators' commands. Each takes the heap out of the handle, makes its own command, and puts the heap back.
+//! The exports that perform mutators' commands. Each takes the heap out of the handle, performs its command, and puts
+//! the heap back.
 
 ghost use Rattle.std.specs.Prelude.{◌≡◌, ◌≢◌, ◌∷◌, [], IsSomeAnd, IsSome};
 ghost use Rattle.std.specs.Option.{option_map};
@@ -35,8 +36,7 @@ pub extern "C" fn gcflip_heap_new(
     answer
 }
 
-/// Makes a raw object of this kind, whose `count` fields are plain numbers, all 0, and puts a reference to it into
-/// slot `d`.
+/// Makes a raw object of this kind, with `count` fields that are numbers, all 0. Puts a reference to it into slot `d`.
 #[unsafe(no_mangle)]
 pub extern "C" fn gcflip_heap_raw(
     alloc: Global,
@@ -58,7 +58,7 @@ pub extern "C" fn gcflip_heap_raw(
     answer
 }
 
-/// Puts the number `n`, which is below 2^63, into slot `d`.
+/// Puts the number `n`, which must be below 2^63, into slot `d`.
 #[unsafe(no_mangle)]
 pub extern "C" fn gcflip_heap_num(alloc: Global, heap: &mut GcflipHeap, m: u8, d: u8, n: u64) -> u32
     ensures call { IsCommandCall m (with_both (slot_at d) (number_in n) Op.Num)
@@ -103,8 +103,8 @@ pub extern "C" fn gcflip_heap_move(alloc: Global, heap: &mut GcflipHeap, m: u8, 
     answer
 }
 
-/// Reads field `i` of the object that slot `s` refers to into slot `d`, and writes the number that it saw, if any. It does not
-/// tell a raw object from another.
+/// Reads field `i` of the object that slot `s` refers to into slot `d`. If the value is a number, also writes it to
+/// `number`. If it is a reference, the reply does not say whether the object is raw.
 #[unsafe(no_mangle)]
 pub extern "C" fn gcflip_heap_get(
     alloc: Global,
@@ -128,7 +128,7 @@ pub extern "C" fn gcflip_heap_get(
     answer
 }
 
-/// Writes the value of slot `t` into field `i` of the object that slot `s` refers to. Allocates only while a collection
+/// Writes the value of slot `t` to field `i` of the object that slot `s` refers to. Allocates only while a collection
 /// is open.
 #[unsafe(no_mangle)]
 pub extern "C" fn gcflip_heap_put(
@@ -151,8 +151,8 @@ pub extern "C" fn gcflip_heap_put(
     answer
 }
 
-/// Puts the number `n` into slot `t`, and then writes it into field `i` of the object that slot `s` refers to: what
-/// `gcflip_heap_num` and `gcflip_heap_put` do one after the other. Allocates only while a collection is open.
+/// Puts the number `n` into slot `t`, and then writes it to field `i` of the object that slot `s` refers to. This is a
+/// `gcflip_heap_num` followed by a `gcflip_heap_put`, in one call. Allocates only while a collection is open.
 #[unsafe(no_mangle)]
 pub extern "C" fn gcflip_heap_put_number(
     alloc: Global,
@@ -174,9 +174,9 @@ pub extern "C" fn gcflip_heap_put_number(
     answer
 }
 
-/// Makes an object of this kind with two fields, which take the values of slots `s` and `t`, and puts a reference to it
-/// into slot `d`: what `gcflip_heap_new` and two `gcflip_heap_put` do one after the other. Allocates only while a
-/// collection is open.
+/// Makes an object of this kind with two fields, which take the values of slots `s` and `t`, and puts a reference to
+/// it into slot `d`. This is a `gcflip_heap_new` followed by two `gcflip_heap_put`, in one call. Slot `d` is set
+/// first, so a field filled from slot `d` refers to the object itself. Allocates only while a collection is open.
 #[unsafe(no_mangle)]
 pub extern "C" fn gcflip_heap_cons(
     alloc: Global,
@@ -198,9 +198,10 @@ pub extern "C" fn gcflip_heap_cons(
     answer
 }
 
-/// Makes an object of this kind with `count` fields, which take the values of the slots at `fields`, and puts a reference to it
-/// into slot `d`: what `gcflip_heap_new` and a `gcflip_heap_put` for each field do one after the other. Allocates only
-/// while a collection is open.
+/// Makes an object of this kind, and puts a reference to it into slot `d`. `fields` has a slot number for each field,
+/// which takes the value of that slot. This is a `gcflip_heap_new` followed by a `gcflip_heap_put` for each field, in
+/// one call. Slot `d` is set first, so a field filled from slot `d` refers to the object itself. Allocates only while
+/// a collection is open.
 #[unsafe(no_mangle)]
 pub extern "C" fn gcflip_heap_new_from(
     alloc: Global,
@@ -236,7 +237,7 @@ pub extern "C" fn gcflip_heap_same(alloc: Global, heap: &mut GcflipHeap, m: u8, 
     answer
 }
 
-/// Looks at the value of slot `s`, and writes what it saw.
+/// Looks at the value of slot `s`, and writes what it saw to `view`.
 #[unsafe(no_mangle)]
 pub extern "C" fn gcflip_heap_look(
     alloc: Global,

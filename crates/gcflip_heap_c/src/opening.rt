@@ -12,7 +12,8 @@ use gc_graph::MOST_MUTATORS;
 use gc_words::MOST_WORDS;
 use std::alloc::Global;
 
-/// Opens an empty heap of `size` words, 1 to 1048576, for 1 to 16 mutators. The handle must not have a heap.
+/// Opens an empty heap of `size` words, 1 to 1048576, for 1 to 16 mutators. Returns 0, or 4 if the handle already has a
+/// heap, 2 if an argument is out of range, and 1 if an allocation fails. Then nothing has changed.
 #[unsafe(no_mangle)]
 pub extern "C" fn gcflip_heap_open(
     alloc: Global,
@@ -42,7 +43,7 @@ pub extern "C" fn gcflip_heap_open(
     DONE
 }
 
-/// Frees the heap, and leaves the handle without one.
+/// Frees the heap, and leaves the handle without one. Returns 0, or 3 if the handle had no heap.
 #[unsafe(no_mangle)]
 pub extern "C" fn gcflip_heap_close(alloc: Global, heap: &mut GcflipHeap) -> u32
     ensures answers { (result ≡ 0) ⊎ (result ≡ 3) }

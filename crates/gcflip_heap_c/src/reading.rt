@@ -1,4 +1,4 @@
-//! The exports that read a heap: counts for a runtime's own decisions, and copies of all for debuggers.
+//! The exports that read a heap: counts for a runtime's decisions, and logs and copies of both spaces for debuggers.
 
 ghost use Rattle.std.specs.Prelude.{◌≡◌, ◌≤◌, ◌⊎◌, ◌↔◌, None, Some, IfSome, IsSomeAnd, IsTrue, IsFalse, length};
 ghost use Rattle.gc_core.specs.Readings.{heap_image, new_words, log_of};
@@ -9,7 +9,7 @@ use crate::handle::GcflipHeap;
 use gc_core::CollectedHeap;
 use std::alloc::Global;
 
-/// The sizes of a heap, and how far its open collection has come, as C has them. All are in words.
+/// The sizes of a heap, and how far its open collection has come, as C sees them. Sizes and addresses are in words.
 #[repr(C)]
 #[derive(Clone, Copy, Debug, Drop, PartialEq, Eq)]
 pub struct GcflipCounts {
@@ -17,23 +17,23 @@ pub struct GcflipCounts {
     pub size: u32,
     /// The first word that no object takes.
     pub end: u32,
-    /// The words that no object takes.
+    /// The number of words that no object takes.
     pub free: u32,
     /// The number of mutators.
     pub mutators: u32,
-    /// 1 if a collection is open, else 0. All that follows is 0 if none is open.
+    /// 1 if a collection is open, otherwise 0. If it is 0, so are all members after it.
     pub is_open: u32,
     /// The size of the new space (to-space).
     pub new_size: u32,
     /// The first word of the new space that no replica takes.
     pub new_end: u32,
-    /// The replica that the scan has come to, or the end.
+    /// The address of the replica at the scan pointer, or `new_end` if all replicas are scanned.
     pub scan_place: u32,
-    /// The number of that replica's fields that are scanned.
+    /// The number of fields of that replica that are already scanned.
     pub scan_field: u32,
 }
 
-/// A log entry as C has it: the field that a mutator wrote.
+/// A log entry as C sees it: the field that a mutator wrote.
 #[repr(C)]
 #[derive(Clone, Copy, Debug, Drop, PartialEq, Eq)]
 pub struct GcflipLogEntry {
@@ -88,7 +88,7 @@ pub extern "C" fn gcflip_heap_counts(
     DONE
 }
 
-/// Reads the number of entries of mutator `m`'s log, which is 0 if no collection is open.
+/// Reads the number of entries in mutator `m`'s log, which is 0 if no collection is open.
 #[unsafe(no_mangle)]
 pub extern "C" fn gcflip_heap_log_length(
     alloc: Global,
@@ -114,7 +114,7 @@ pub extern "C" fn gcflip_heap_log_length(
     if is_mutator { DONE } else { OUT_OF_RANGE }
 }
 
-/// Writes entry `k` of mutator `m`'s log. Returns whether there is one.
+/// Writes entry `k` of mutator `m`'s log to `entry` if it exists. Returns whether it exists.
 fn copy_entry(heap: &CollectedHeap, m: u8, k: usize, entry: &mut GcflipLogEntry) -> bool
     ensures found { IsTrue result → entry_at heap.now m k ≡ Some entry.new }
     ensures none { IsFalse result → (entry_at heap.now m k ≡ None) × (entry.new ≡ entry.old) }
@@ -132,7 +132,7 @@ fn copy_entry(heap: &CollectedHeap, m: u8, k: usize, entry: &mut GcflipLogEntry)
     true
 }
 
-/// Reads entry `k` of mutator `m`'s log, counted from the oldest.
+/// Reads entry `k` of mutator `m`'s log, counted from the oldest. Returns 2 if there is no such entry.
 #[unsafe(no_mangle)]
 pub extern "C" fn gcflip_heap_log_entry(
     alloc: Global,
@@ -156,7 +156,7 @@ pub extern "C" fn gcflip_heap_log_entry(
     if is_there { DONE } else { OUT_OF_RANGE }
 }
 
-/// Copies the image if the rows are as long as its words and roots. Returns whether they are.
+/// Copies the image if the arrays are as long as its words and roots. Returns whether they are.
 fn copy_image(heap: &CollectedHeap, words: &mut [u64], roots: &mut [u64]) -> bool
     ensures fits { IsTrue result ↔ FitsImage words.old roots.old heap.now }
     ensures copied { IsTrue result → (words.new ≡ (heap_image heap.now).words) × (roots.new ≡ (heap_image heap.now).roots) }
@@ -171,7 +171,8 @@ fn copy_image(heap: &CollectedHeap, words: &mut [u64], roots: &mut [u64]) -> boo
     true
 }
 
-/// Copies the words of the mutators' space, links included, and the roots. The rows must have exactly as many elements.
+/// Copies the words of the mutators' space, links included, and the roots. Returns 2 if the arrays do not have
+/// exactly these lengths.
 #[unsafe(no_mangle)]
 pub extern "C" fn gcflip_heap_image(
     alloc: Global,
@@ -195,7 +196,7 @@ pub extern "C" fn gcflip_heap_image(
     if fits { DONE } else { OUT_OF_RANGE }
 }
 
-/// Copies the words of the new space if the row is as long. Returns whether it is.
+/// Copies the words of the new space if the array has that length. Returns whether it has.
 fn copy_new_words(heap: &CollectedHeap, words: &mut [u64]) -> bool
     ensures fits { IsTrue result ↔ FitsNew words.old (new_words heap.now) }
     ensures copied { IsTrue result → new_words heap.now ≡ Some words.new }
@@ -211,8 +212,8 @@ fn copy_new_words(heap: &CollectedHeap, words: &mut [u64]) -> bool
     true
 }
 
-/// Copies the words of the open collection's new space (to-space), links included. The row must have exactly as many
-/// elements.
+/// Copies the words of the open collection's new space (to-space), links included. Returns 2 if the array does not have
+/// exactly that length, or if no collection is open.
 #[unsafe(no_mangle)]
 pub extern "C" fn gcflip_heap_new_words(
     alloc: Global,

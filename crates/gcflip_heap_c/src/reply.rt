@@ -1,4 +1,4 @@
-//! Replies as C has them.
+//! Replies as C sees them.
 
 ghost use Rattle.std.specs.Prelude.{◌≡◌};
 ghost use Rattle.gcflip_heap_c.specs.Replies.{IsRefusal, seen_in_c, reply_in_c, fetched_in_c, number_after, view_in_c, view_after, step_reply_in_c, pairs_after};
@@ -8,7 +8,7 @@ use gc_copy::StepReply;
 use gc_graph::{Reply, View};
 use gc_heap::Fetched;
 
-/// What was seen of a value, as C has it. What does not apply is 0.
+/// What a `look` saw, as C sees it. Members that do not apply are 0.
 #[repr(C)]
 #[derive(Clone, Copy, Debug, Drop, PartialEq, Eq)]
 pub struct GcflipView {
@@ -31,7 +31,7 @@ fn seen(view: &View) -> u32
     }
 }
 
-/// Returns the number of a mutator's reply.
+/// Returns C's number for a mutator's reply.
 pub(crate) fn of_reply(reply: &Reply) -> u32
     ensures value { result ≡ reply_in_c reply.now }
     ensures made { ¬ IsRefusal result }
@@ -49,7 +49,7 @@ pub(crate) fn of_reply(reply: &Reply) -> u32
     }
 }
 
-/// Returns the number of what a `get` saw, and writes the number that it saw, if any.
+/// Returns C's number for what a `get` saw. If it saw a number, writes that to `number`.
 pub(crate) fn of_fetched(fetched: Fetched, number: &mut u64) -> u32
     ensures value { result ≡ fetched_in_c fetched }
     ensures number { number.new ≡ number_after number.old fetched }
@@ -83,7 +83,7 @@ fn view_of(view: &View) -> GcflipView
     }
 }
 
-/// Returns the number of the reply to a `look`, and writes what it saw.
+/// Returns C's number for the reply to a `look`, and writes what it saw to `view`.
 pub(crate) fn of_look(reply: &Reply, view: &mut GcflipView) -> u32
     ensures value { result ≡ reply_in_c reply.now }
     ensures view { view.new ≡ view_after view.old reply.now }
@@ -95,7 +95,7 @@ pub(crate) fn of_look(reply: &Reply, view: &mut GcflipView) -> u32
     of_reply(reply)
 }
 
-/// Returns the number of the collector's reply.
+/// Returns C's number for the collector's reply.
 pub(crate) fn of_step(reply: StepReply) -> u32
     ensures value { result ≡ step_reply_in_c reply }
     ensures made { ¬ IsRefusal result }
@@ -117,7 +117,7 @@ pub(crate) fn of_step(reply: StepReply) -> u32
     }
 }
 
-/// Returns the number of pairs if the step flipped, else what was there before.
+/// Returns the number of pairs if the step flipped, otherwise `before`.
 pub(crate) fn pairs_of(reply: StepReply, before: u32) -> u32
     ensures { result ≡ pairs_after before reply }
 {

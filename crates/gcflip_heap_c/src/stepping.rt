@@ -1,4 +1,4 @@
-//! The exports that make collector steps.
+//! The exports that perform collector steps.
 
 ghost use Rattle.std.specs.Prelude.{◌≡◌};
 ghost use Rattle.gc_copy.specs.declared.step.Step.{Step};
@@ -95,13 +95,13 @@ pub extern "C" fn gcflip_heap_apply(alloc: Global, heap: &mut GcflipHeap, m: u8)
     of_step(reply)
 }
 
-/// Flips if the open collection is ready and the checker accepts its certificate. Allocates the certificate, the moved
-/// roots and the checker's tables, and frees them again.
+/// Flips if the open collection is ready and the checker accepts its certificate. Then writes the number of pairs to
+/// `pairs`. Allocates the certificate, the moved roots and the checker's tables, and frees them before it returns.
 #[unsafe(no_mangle)]
 pub extern "C" fn gcflip_heap_flip(alloc: Global, heap: &mut GcflipHeap, pairs: &mut u32) -> u32
     ensures call { IsStepCall Step.Flip
         (λ reply. (result ≡ step_reply_in_c reply) × (pairs.new ≡ pairs_after pairs.old reply)) heap.old.state heap.new.state result }
-    // It flips only what the checker accepts. A ready collection passes.
+    // It flips only if the certificate holds. It is not refused, and a ready collection flips.
     ensures flips { ¬ IsRefusal result → Flips heap.old.state heap.new.state result }
     ensures silent { IsRefusal result → pairs.new ≡ pairs.old }
 {

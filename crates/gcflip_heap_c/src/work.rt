@@ -14,27 +14,27 @@ use gc_core::CollectedHeap;
 use gc_graph::NoMemory;
 use std::alloc::Global;
 
-/// What a call of work did, as C has it.
+/// What a call of `gcflip_heap_work` did, as C sees it.
 #[repr(C)]
 #[derive(Clone, Copy, Debug, Drop, PartialEq, Eq)]
 pub struct GcflipWork {
-    /// The number of steps that were made.
+    /// The number of steps performed.
     pub steps: u32,
-    /// The number of words that replicas took in the new space (to-space).
+    /// The number of words that these steps' replicas took in the new space (to-space).
     pub copied: u32,
-    /// The number of the reply to the last step.
+    /// The number that stands for the reply to the last step.
     pub last: u32,
-    /// The number of pairs if the last step flipped, else 0.
+    /// The number of pairs if the last step flipped, otherwise 0.
     pub pairs: u32,
 }
 
-/// The number of useful steps that were made, and the reply to the last one.
+/// The number of useful steps performed, and the reply to the last one.
 struct Run {
     steps: u32,
     reply: StepReply,
 }
 
-/// Makes the useful step.
+/// Performs the useful step.
 #[inline(always)]
 fn one_step(heap: &mut CollectedHeap) -> Result<StepReply, NoMemory>
     ensures step { IfOk result (λ reply. collect heap.old (useful_step heap.old) ≡ (reply, heap.new)) }
@@ -45,15 +45,15 @@ fn one_step(heap: &mut CollectedHeap) -> Result<StepReply, NoMemory>
     heap.collect(&Sequential, step)
 }
 
-/// Returns whether work goes on after this reply.
+/// Returns whether work continues after this reply.
 fn can_go_on(reply: StepReply) -> bool
     ensures { result ≡ goes_on reply }
 {
     !matches!(reply, StepReply::Flipped { .. } | StepReply::NoRoom)
 }
 
-/// Makes useful steps, at most this many, until one flips or finds no room. If an allocation fails, it stops before that
-/// step; it returns `NoMemory` only if that was the first one.
+/// Performs at most `most` useful steps, and stops after one that flips or finds no room. If an allocation fails, it
+/// stops before that step, and returns `NoMemory` only if that was the first step.
 fn useful_steps(heap: &mut CollectedHeap, most: u32) -> Result<Run, NoMemory>
     requires { 1 ≤ most }
     ensures run { IfOk result (λ run. IsRun run.steps heap.old heap.new run.reply) }
@@ -75,7 +75,7 @@ fn useful_steps(heap: &mut CollectedHeap, most: u32) -> Result<Run, NoMemory>
     Ok(Run { steps: most, reply })
 }
 
-/// Returns the first word of the open collection's new space that no replica takes; 1 if none is open.
+/// Returns the first word of the open collection's new space that no replica takes, or 1 if none is open.
 fn end_of_new(heap: &CollectedHeap) -> u32
     ensures { result ≡ end_in heap.now.collection }
 {
@@ -85,7 +85,7 @@ fn end_of_new(heap: &CollectedHeap) -> u32
     }
 }
 
-/// Returns the same after a step with this reply.
+/// Returns the same after a step with this reply. After a flip, the new space is the heap's.
 fn end_behind(heap: &CollectedHeap, reply: StepReply) -> u32
     ensures { result ≡ end_after heap.now reply }
 {
@@ -95,7 +95,7 @@ fn end_behind(heap: &CollectedHeap, reply: StepReply) -> u32
     }
 }
 
-/// Makes useful steps and reports them.
+/// Performs useful steps and reports them.
 fn work_on(heap: &mut CollectedHeap, most: u32) -> Result<GcflipWork, NoMemory>
     requires { 1 ≤ most }
     ensures work { IfOk result (IsWork most heap.old heap.new) }
@@ -112,8 +112,8 @@ fn work_on(heap: &mut CollectedHeap, most: u32) -> Result<GcflipWork, NoMemory>
     })
 }
 
-/// Makes useful steps, at most `most`, and reports them. It ends after a flip, and after a step that finds no room. If
-/// an allocation fails, it ends before that step, and returns 1 only if that was the first step.
+/// Performs at most `most` useful steps, and writes a report of them to `work`. Stops after a flip, and after a step
+/// that finds no room. If an allocation fails, stops before that step, and returns 1 only if that was the first step.
 #[unsafe(no_mangle)]
 pub extern "C" fn gcflip_heap_work(
     alloc: Global,

@@ -1,5 +1,5 @@
-//! Tests that refuse each allocation of a call in turn. They need the refusing allocator of `tests/program`, which
-//! `tests/run` puts in front of them; without it each call is made once, with ample memory.
+//! Tests that make each allocation of a call fail in turn. They need the refusing allocator of `tests/program`, which
+//! `tests/run` loads before them; without it each call is made once, with enough memory.
 #![tactic(auto)]
 
 #[cfg(test)]

@@ -1,4 +1,4 @@
--- What ties the heap and the open collection of a collected heap together.
+-- How the heap and the open collection of a collected heap fit together.
 use Rattle.std.specs.Prelude.{◌≡◌, Bool, true, Option, Some, None, ⊤}
 use Rattle.gc_heap.specs.Heap.{HeapWords, graph_in}
 use Rattle.gc_copy.specs.Steps.{roots_done}
@@ -9,7 +9,7 @@ abbrev pub Fits : HeapWords → Option CollectionWords → Type 0
 Fits heap None = HasNoLinks heap
 Fits heap (Some c) = BelongsTo heap c
 
--- where that is known of the open collection, the target of each root has a replica
+-- if `known` is true, the target of every root has a replica in the open collection
 abbrev pub KnowsRoots : Bool → HeapWords → Option CollectionWords → Type 0
 KnowsRoots known heap None = ⊤
 KnowsRoots known heap (Some c) = known ≡ true → roots_done (collection_in c) (graph_in heap) ≡ true

@@ -59,7 +59,7 @@ fn flip_again(heap: &mut CollectedHeap, keep: Keep) -> Result<Flip, NoMemory>
     }
 }
 
-/// Writes into an object while it is collected, and flips.
+/// Writes to an object while a collection is open, and flips.
 fn collect_again(
     rt: &impl Abort,
     heap: &mut CollectedHeap,

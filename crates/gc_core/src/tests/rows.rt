@@ -1,4 +1,4 @@
-//! Rows: a test states what happens to a heap, and each answer, as one table. `play` performs the rows in order.
+//! Rows: a test states the events of a heap, and the answer to each, as one table. `play` performs the rows in order.
 
 ghost use Rattle.std.specs.Prelude.{◌≡◌, ◌<◌, ◌↔◌, IsTrue};
 ghost use Rattle.gc_copy.specs.Runs.{IsStep};
@@ -17,7 +17,7 @@ pub enum Row {
     Command(Op, Reply),
     /// `collect` performs this step.
     Step(Step, StepReply),
-    /// The call that is named for this step performs it.
+    /// The call named after this step performs it.
     Call(Step, StepReply),
     /// Asks `useful_step`, and performs nothing.
     Useful(Step),
@@ -30,7 +30,7 @@ pub fn own(rt: &impl Abort, index: u8) -> Slot {
     Slot::own(index).expect(rt, "a slot")
 }
 
-/// Returns the command that makes an object of `len` fields, and sets `d` to a reference to it.
+/// Returns the command that makes an object with `len` fields, and sets `d` to a reference to it.
 pub fn new(d: Slot, kind: u8, len: u16) -> Op {
     Op::New { d, kind, len }
 }
@@ -46,7 +46,7 @@ pub fn put(s: Slot, i: u16, t: Slot) -> Op {
     Op::Put { s, i, t }
 }
 
-/// Returns the command that reads field `i` of the object in slot `s` to slot `d`.
+/// Returns the command that reads field `i` of the object in slot `s` into slot `d`.
 pub fn get(d: Slot, s: Slot, i: u16) -> Op {
     Op::Get { d, s, i }
 }
@@ -93,12 +93,12 @@ pub fn perform(
     Ok(())
 }
 
-/// Tests that the answer at this place of a table is the one that the row has.
+/// Tests that the answer to the row at this place is the one that the row states.
 fn expect<T: Copy + PartialEq + Debug>(rt: &impl Abort, place: usize, got: T, want: T) {
     assert_eq!(rt; got, want, "row {place}");
 }
 
-/// Performs a step by the call that is named for it.
+/// Performs a step by the call named after it.
 fn call(heap: &mut CollectedHeap, step: Step) -> Result<StepReply, NoMemory>
     requires { IsStep heap.old.mutators step }
     ensures { heap.new.mutators ≡ heap.old.mutators }

@@ -1,4 +1,4 @@
--- The fault of a thread whose call was refused.
+-- The fault with which a thread ends if its call is refused.
 use Rattle.gc_shared.specs.declared.fault.CallFault.{CallFault}
 use Rattle.gc_shared.specs.declared.fault.CallFault.TheVariants as calls
 use Rattle.gc_shared.specs.declared.fault.CloseKind.TheVariants as kinds

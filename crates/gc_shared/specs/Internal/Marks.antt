@@ -1,4 +1,4 @@
--- How closing counts the places of receipts.
+-- The marks by which closing finds places with no receipt or with more than one.
 use Rattle.std.specs.Prelude.{◌≡◌, ℕ, ◌<◌, ◌≤◌, Bool, false, if◌then◌else◌, List, length, All, count_by, slice_index_or}
 use Rattle.std.specs.List.Sorted.{IsStrictlyIncreasing}
 use Rattle.gc_world.specs.declared.entry.Entry.{Entry}
@@ -9,12 +9,12 @@ use Rattle.gc_shared.specs.Closing.{receipts_of, receipts_below, IsTorn, IsExtra
 use Rattle.gc_shared.specs.declared.fault.CloseKind.{CloseKind}
 use Rattle.gc_shared.specs.declared.fault.CloseKind.TheVariants.{Seats, Torn, Extra, NoMemory}
 
--- exactly the places of receipts are marked, and no two receipts have the same place
+-- exactly the places of these receipts are marked, and no two of them have the same place
 pub record IsMarked (marks : List Bool) (rs : List Receipt) : Type 0 where
   pub once : (place : ℕ) → place < length marks → times_at place rs ≡ (if slice_index_or marks place false then 1 else 0)
   pub all : count_by (λ mark. mark) marks ≡ length rs
 
--- the receipt's place has its event and answer, is at least `low`, and is not marked
+-- the history has the receipt's event and answer at its place, and that place is at least `low` and not marked
 pub record IsFree (history : List Entry) (marks : List Bool) (low : ℕ) (r : Receipt) : Type 0 where
   pub recorded : IsRecorded history r
   pub above : low ≤ r.place
@@ -26,7 +26,7 @@ pub record AgreeByNumber (history : List Entry) (seats : List SeatValue) (count 
   pub rising : (n : ℕ) → n < count → IsStrictlyIncreasing (places_of (receipts_of seats n))
   pub once : (place : ℕ) → place < length history → times_at place (receipts_below seats count) ≡ 1
 
--- the fault of the receipts of seats that have each number once
+-- the first fault of the receipts, if each seat number occurs once
 abbrev pub IsFault : List Entry → List SeatValue → ℕ → CloseKind → Type 0
 IsFault history seats count Seats = ⊥
 IsFault history seats count (Torn seat n) = IsTorn history seats count seat n

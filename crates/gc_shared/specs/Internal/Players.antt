@@ -1,4 +1,4 @@
--- What the threads of a run have promised.
+-- What the threads of a run promise to return.
 use Rattle.std.specs.Prelude.{◌≡◌, ℕ, List, length, ◌<◌, ◌+◌, slice_index_or}
 use Rattle.std.specs.declared.vec.Vec.{Vec}
 use Rattle.std.specs.declared.alloc.Global.{Global}
@@ -17,7 +17,7 @@ Player = PromisedHandle (Result SeatValue ThreadsFault) Plays
 abbrev pub IsToPlay : List (Vec Op Global) → ℕ → Player → Type 0
 IsToPlay scripts m h = (h.promise.number ≡ m) × (h.promise.script.now ≡ script_at scripts m)
 
--- the threads promise to run the scripts from a on
+-- these threads promise to run scripts a, a + 1, .., in order
 abbrev pub AreNext : List (Vec Op Global) → ℕ → List Player → Type 0
 AreNext scripts a players = (k : ℕ) (d : Player) → k < length players → IsToPlay scripts (a + k) (slice_index_or players k d)
 

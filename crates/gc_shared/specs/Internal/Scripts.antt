@@ -1,4 +1,4 @@
--- The receipts of a run's seats when their threads end.
+-- The receipts that the seats of a run have when their threads end.
 use Rattle.std.specs.Prelude.{◌≡◌, ℕ, ◌+◌, ◌<◌, List, length, map, All, slice_index_or}
 use Rattle.std.specs.declared.vec.Vec.{Vec}
 use Rattle.std.specs.declared.alloc.Global.{Global}
@@ -28,7 +28,7 @@ pub record HavePlayed (scripts : List (Vec Op Global)) (n : ℕ) (seats : List S
   pub count : length seats ≡ n
   pub each : (m : ℕ) (d : SeatValue) → m < n → HasPlayed m (script_at scripts m) (slice_index_or seats m d)
 
--- each mutator's seat has run its script, and the last one has performed this many useful steps
+-- each mutator's seat has run its script, and the collector's seat, the last, has performed this many useful steps
 pub record HaveEnded (scripts : List (Vec Op Global)) (turns : ℕ) (seats : List SeatValue) : Type 0 where
   pub count : length seats ≡ length scripts + 1
   pub each : (m : ℕ) (d : SeatValue) → m < length scripts → HasPlayed m (script_at scripts m) (slice_index_or seats m d)

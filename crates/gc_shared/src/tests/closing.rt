@@ -1,5 +1,5 @@
-//! Tests of closing: the returned world is the one behind the lock, with its history and its kept pair, whatever the
-//! seats are.
+//! Tests of closing: whatever the seats are, the returned world is the one behind the lock, with its history and its
+//! kept pair.
 
 use crate::{CloseFault, CloseKind, Seat, Shared};
 use gc_copy::{Step, StepReply};

@@ -1,4 +1,5 @@
-//! Tests of scripts in threads: however they meet, the history has them in order. Gates decide how they meet.
+//! Tests of scripts in threads: however their calls interleave, the history has each script in order. Gates force the
+//! interleaving.
 
 ghost use Rattle.std.specs.Prelude.{◌≡◌, IfOk, vec_len};
 
@@ -43,7 +44,7 @@ pub(super) fn two(alloc: Global, first: &[Op], second: &[Op]) -> Result<Vec<Vec<
     Ok(scripts)
 }
 
-/// One command for each of two mutators: `g0` takes 1, and `g1` takes 2.
+/// Returns one command for each of two mutators: the first sets `g0` to 1, the second sets `g1` to 2.
 fn two_numbers(alloc: Global) -> Result<Vec<Vec<Op>>, Fail>
     ensures { IfOk result (λ scripts. vec_len scripts ≡ 2) }
 {
@@ -58,7 +59,7 @@ fn two_numbers(alloc: Global) -> Result<Vec<Vec<Op>>, Fail>
     Ok(two(alloc, &[first], &[second])?)
 }
 
-/// The first mutator writes 5 into the field of a new shared object, and the second one reads the field.
+/// Returns two scripts. The first writes 5 to the field of a new shared object, and the second reads the field.
 pub(super) fn write_and_read() -> Result<([Op; 3], [Op; 1]), Fail> {
     let g0 = Slot::shared(0).ok_or("slot")?;
     let r0 = Slot::own(0).ok_or("slot")?;
@@ -77,7 +78,7 @@ pub(super) fn write_and_read() -> Result<([Op; 3], [Op; 1]), Fail> {
     Ok((writes, reads))
 }
 
-/// The second mutator's first command waits for the first one's third.
+/// Makes the second mutator's first command wait for the first mutator's third.
 #[derive(Drop)]
 struct WaitsForWrite<'a, R> {
     rt: &'a R,
@@ -119,8 +120,8 @@ fn a_write_is_seen(rt: HostRuntime) -> Result<(), Fail> {
     Ok(())
 }
 
-/// The first mutator writes 5 into the second field of a new shared raw object. The second one reads that field, and
-/// tries to write a reference into the first.
+/// Returns two scripts. The first writes 5 to the second field of a new shared raw object. The second reads that field,
+/// and tries to write a reference to the first field.
 fn write_and_read_raw() -> Result<([Op; 3], [Op; 2]), Fail> {
     let g0 = Slot::shared(0).ok_or("slot")?;
     let r0 = Slot::own(0).ok_or("slot")?;
@@ -162,7 +163,7 @@ fn a_write_to_a_raw_object_is_seen(rt: HostRuntime) -> Result<(), Fail> {
     Ok(())
 }
 
-/// Counts how often a command of mutator m got this answer.
+/// Returns how many commands of mutator m got this answer.
 fn answers_of(world: &World, m: u8, answer: Answer) -> u32 {
     let mut count: u32 = 0;
     for entry in world.history() {
@@ -175,7 +176,7 @@ fn answers_of(world: &World, m: u8, answer: Answer) -> u32 {
     count
 }
 
-/// The first commands of both mutators wait for each other.
+/// Makes the first commands of both mutators wait for each other.
 #[derive(Drop)]
 struct Meet<'a, R> {
     rt: &'a R,
@@ -200,7 +201,7 @@ impl<'a, R: Clock> Gate for Meet<'a, R> {
     fn after(&self, seat: u32, n: u64) {}
 }
 
-/// One thread alone would wait here forever.
+/// If the scripts ran one after the other, the gate would time out.
 #[test]
 fn two_threads_meet(rt: HostRuntime) -> Result<(), Fail> {
     let _named = View::Nil;
@@ -217,7 +218,7 @@ fn two_threads_meet(rt: HostRuntime) -> Result<(), Fail> {
     Ok(())
 }
 
-/// Returns false at once for the first mutator.
+/// Ends the first mutator's thread before its first call.
 #[derive(Drop)]
 struct RefusesFirst {
     second_called: AtomicBool,
@@ -250,7 +251,7 @@ fn a_refused_thread_leaves_the_others(rt: HostRuntime) -> Result<(), Fail> {
     Ok(())
 }
 
-/// Returns false at once for everybody.
+/// Ends every thread before its first call.
 struct RefusesAll;
 
 impl Gate for RefusesAll {
@@ -272,7 +273,7 @@ fn the_least_seat_is_named(rt: HostRuntime) -> Result<(), Fail> {
     Ok(())
 }
 
-/// The command waits for the collector's first turn, and the collector's second turn for the command.
+/// Makes the command wait for the collector's first turn, and the collector's second turn for the command.
 #[derive(Drop)]
 struct Between<'a, R> {
     rt: &'a R,
@@ -321,9 +322,9 @@ fn a_command_between_two_turns(rt: HostRuntime) -> Result<(), Fail> {
     Ok(())
 }
 
-/// `after` is called only once a seat's call was performed. The teller stays in `after` until the listener, which waits
-/// for it, asks for its second call, and so has performed its first. If `after` came before the teller's own call, that
-/// call would come later than the listener's first.
+/// Shows that `after` runs only after the call. The teller stays in `after` until the listener asks for its second
+/// call, so the listener has then made its first. The listener makes its first call only when the teller is in
+/// `after`. If `after` ran before the teller's call, the listener's first call would come before it in the history.
 #[derive(Drop)]
 struct Told<'a, R> {
     rt: &'a R,

@@ -1,4 +1,4 @@
--- How a reader's fault becomes a trace fault, and a trace fault a player's.
+-- How a reader's fault becomes a trace fault, and a trace fault becomes a player's fault.
 use Rattle.gc_graph.specs.declared.text.pieces.ReadFault.{ReadFault}
 use Rattle.gc_graph.specs.declared.text.pieces.ReadFault.TheVariants as reading
 use Rattle.gc_trace.specs.declared.fault.TraceFault.{TraceFault}

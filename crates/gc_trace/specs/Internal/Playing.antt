@@ -8,7 +8,8 @@ use Rattle.gc_trace.specs.Report.{report_of}
 use Rattle.gc_trace.specs.declared.playing.Gather.TheVariants.{Replies}
 use Rattle.gc_trace.specs.declared.playing.Player.{Player}
 
--- the player has played these events from state s: it has the last state, the report, and, if it gathers them, the reply lines
+-- the player has played these events, starting in state s: it has the last state, the counts and, if it gathers them,
+-- the reply lines
 pub record HasPlayed (s : State) (events : List Event) (player : Player) : Type 0 where
   pub state : player.heap ≡ state_after s events
   pub counts : player.report ≡ report_of (answers s events) s

@@ -17,7 +17,7 @@ pub record IsReading (reader : EventReader) : Type 0 where
   pub bounded : reader.pieces.read ≤ limit
   pub limit_is : reader.pieces.limit ≡ limit
 
--- with these bytes left, the lines of these events were read of the text
+-- the lines of these events were read from the text, and these bytes are left in the source
 pub record HasRead (text : List ℕ) (events : List Event) (reader : EventReader) (left : Option (List ℕ)) : Type 0 where
   pub rest : List ℕ
   pub within : IsWithin text rest reader.pieces left

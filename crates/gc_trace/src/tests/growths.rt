@@ -1,5 +1,6 @@
-//! A failed allocation, such as the N-th under `rt try --test --fail-alloc N`, is reported before anything is written, and the
-//! retried call gives the same result as if every allocation had succeeded. The texts and the writers do not allocate.
+//! A failed allocation, such as the N-th under `rt try --test --fail-alloc N`, is reported before anything is
+//! written. The retried call gives the same result as if every allocation had succeeded. The texts and the writers do
+//! not allocate.
 
 ghost use Rattle.std.specs.Prelude.{IfOk};
 ghost use Rattle.gc_trace.specs.Grammar.{IsInRange};
@@ -48,14 +49,14 @@ fn wide() -> Narrow {
     Narrow::new(512, End::Broken)
 }
 
-/// Asks for the text's report. Returns the result, and the writer afterwards.
+/// Plays the text and writes its report. Returns the result, and the writer with what it took.
 fn reported(alloc: Global, text: &[u8]) -> (Result<Report, PlayFault>, Narrow) {
     let mut sink = Sink::new(wide());
     let answer = play_report(alloc, &mut Source::new(text), &mut sink);
     (answer, sink.into_inner())
 }
 
-/// Asks for the pair of the text's first flip. Returns the result, and the writer afterwards.
+/// Plays the text and writes the pair of its first flip. Returns the result, and the writer with what it took.
 fn paired(alloc: Global, text: &[u8]) -> (Result<(), PlayFault>, Narrow) {
     let mut sink = Sink::new(wide());
     let answer = play_pair(alloc, 1, &mut Source::new(text), &mut sink);

@@ -13,7 +13,7 @@ use gc_graph::{Sink, Source};
 use std::alloc::Global;
 use std::test::Fail;
 
-/// The pair of a collection when the space was full: one object of two was kept, and the other is left behind.
+/// The pair of a collection in a full space: one of two objects is copied, and the other is garbage.
 pub const ONE_KEPT: &[u8] = b"\
     heappair 2\n\
     old 9 9\n0\n16842754\n0\n0\n0\n16842754\n1\n0\n0\n\
@@ -22,7 +22,7 @@ pub const ONE_KEPT: &[u8] = b"\
     roots 32\n0\n0\n0\n0\n0\n0\n0\n0\n0\n0\n0\n0\n0\n0\n0\n0\n2\n0\n0\n0\n0\n0\n0\n0\n0\n0\n0\n0\n0\n0\n0\n0\n\
     pairs 1\n5 1\nend\n";
 
-/// Two objects, both of them kept. Each replica has the address of its original, and so the link of each is its own.
+/// Two objects, both copied. Each replica has the address of its original, so every link is the object's own address.
 const BOTH_KEPT: &[u8] = b"\
     heappair 2\n\
     old 9 7\n0\n16842754\n1\n0\n0\n16777216\n5\n\
@@ -31,7 +31,7 @@ const BOTH_KEPT: &[u8] = b"\
     roots 32\n0\n0\n0\n0\n0\n0\n0\n0\n0\n0\n0\n0\n0\n0\n0\n0\n2\n10\n0\n0\n0\n0\n0\n0\n0\n0\n0\n0\n0\n0\n0\n0\n\
     pairs 2\n1 1\n5 5\nend\n";
 
-/// A raw object. Its words are the numbers themselves, and its replica has them as they are.
+/// A raw object. Its words are the numbers themselves, and its replica has the same words.
 const RAW_KEPT: &[u8] = b"\
     heappair 2\n\
     old 16 5\n0\n50790402\n1\n8\n10\n\
@@ -49,7 +49,7 @@ const NONE_KEPT: &[u8] = b"\
     roots 32\n0\n0\n0\n0\n0\n0\n0\n0\n0\n0\n0\n0\n0\n0\n0\n0\n0\n0\n0\n0\n0\n0\n0\n0\n0\n0\n0\n0\n0\n0\n0\n0\n\
     pairs 0\nend\n";
 
-/// The rows with a flip, and the number of pairs of the first one.
+/// The rows that flip, and the number of pairs of the first flip.
 const FIRST_FLIPS: [(Row, u32); 15] = [
     (COLLECT_WHEN_FULL, 1),
     (WRITE_WHILE_SCANNING, 1),

@@ -6,7 +6,7 @@ use gc_graph::{Op, Sink, Slot, Source};
 use gc_world::Event;
 use std::test::Fail;
 
-/// Texts, with slashes for line feeds, and the first fault of each.
+/// Bad texts, with slashes for line feeds, and the first fault of each.
 const BAD_TEXTS: [(&str, TraceFault); 21] = [
     ("", TraceFault::BadHeader),
     ("heaptrace 1/space 0 mutators 1/", TraceFault::BadHeader),
@@ -141,7 +141,7 @@ fn raw_objects_are_read_in_the_third_version(rt: HostRuntime) -> Result<(), Fail
     Ok(())
 }
 
-/// Reads the first `end` bytes of the text, and plays them.
+/// Returns what the first `end` bytes of the text must give: the number of events or the fault, and the reply lines.
 fn front(end: usize) -> (Result<usize, TraceFault>, &'static [u8]) {
     match end {
         0..=30 => (Err(TraceFault::BadHeader), b""),

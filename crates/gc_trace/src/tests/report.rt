@@ -9,7 +9,7 @@ use gc_graph::{Sink, Source};
 use std::alloc::Global;
 use std::test::Fail;
 
-/// The report of a collection when the space was full.
+/// The report of a run that collects a full space.
 pub const COLLECTED: &[u8] = b"events 12\nmade 3\nfull 1\nbegun 1\ncopied 1\nscanned 2\napplied 0\n\
     flips 1\npairs 1\ndropped 0\nrefused 0\nend 7\nfree 2\n";
 
@@ -97,7 +97,7 @@ fn a_failed_writer_has_a_front(rt: HostRuntime) {
     }
 }
 
-/// Returns what is written if the text's report is asked for.
+/// Returns the text of the report.
 fn reported(alloc: Global, text: &[u8]) -> Result<Vec<u8>, PlayFault> {
     let mut sink = Sink::new(Vec::new(alloc));
     play_report(alloc, &mut Source::new(text), &mut sink)?;

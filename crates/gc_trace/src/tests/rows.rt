@@ -8,14 +8,14 @@ pub struct Row {
     pub replies: &'static [u8],
 }
 
-/// The empty space of one word has room for no object.
+/// A space of one word is empty and has no room for an object.
 pub const NO_ROOM_AT_ALL: Row = Row {
     name: "no_room_at_all",
     trace: b"heaptrace 1\nspace 1 mutators 1\nm 0 new r0 0 0\n",
     replies: b"full\n",
 };
 
-/// An object for which there is no room leaves its slot as it was.
+/// If there is no room for an object, its slot keeps its value.
 pub const ONE_OBJECT_FILLS_THE_SPACE: Row = Row {
     name: "one_object_fills_the_space",
     trace: b"heaptrace 1\nspace 7 mutators 1\nm 0 new r0 3 4\nm 0 new r1 0 0\nm 0 look r1\n",
@@ -29,7 +29,7 @@ pub const GREATEST_NUMBER: Row = Row {
     replies: b"done\nsaw num 9223372036854775807\n",
 };
 
-/// One object of two is kept, and then a third has room.
+/// One of two objects survives, and then there is room for a third.
 pub const COLLECT_WHEN_FULL: Row = Row {
     name: "collect_when_full",
     trace: b"heaptrace 1\nspace 9 mutators 1\nm 0 new r0 1 2\nm 0 new r0 1 2\nm 0 new r1 0 0\nc begin\n\
@@ -37,7 +37,7 @@ pub const COLLECT_WHEN_FULL: Row = Row {
     replies: b"made\nmade\nfull\nbegun\ncopied\nscanned\nscanned\npassed\nclean\nclean\nflipped 1\nmade\n",
 };
 
-/// A field that was scanned is written, and its entry in the log applied.
+/// A mutator writes to a field that is already scanned, and the log entry is applied.
 pub const WRITE_WHILE_SCANNING: Row = Row {
     name: "write_while_scanning",
     trace: b"heaptrace 1\nspace 32 mutators 1\nm 0 new r0 1 1\nm 0 num r1 9\nc begin\nc roots\nc scan\n\
@@ -45,8 +45,8 @@ pub const WRITE_WHILE_SCANNING: Row = Row {
     replies: b"made\ndone\nbegun\ncopied\nscanned\ndone\npassed\nnot ready\napplied\nflipped 1\nsaw num 9\n",
 };
 
-/// Two mutators write one field, and the entries are applied in the other order: an entry that kept the value of its
-/// own write would leave 7.
+/// Two mutators write to the same field, and the log entries are applied in the opposite order. If an entry kept the
+/// value of its own write, the field would end up as 7.
 pub const LOG_ACROSS_TWO_MUTATORS: Row = Row {
     name: "log_across_two_mutators",
     trace: b"heaptrace 1\nspace 32 mutators 2\nm 0 new g0 1 1\nc begin\nc roots\nc scan\nc scan\n\
@@ -56,7 +56,7 @@ pub const LOG_ACROSS_TWO_MUTATORS: Row = Row {
         clean\nflipped 1\nsaw num 8\n",
 };
 
-/// A root that is set after all were replicated keeps the flip waiting.
+/// A root that is set after all roots were done delays the flip.
 pub const ROOT_MADE_AFTER_THE_SCAN: Row = Row {
     name: "root_made_after_the_scan",
     trace: b"heaptrace 1\nspace 32 mutators 1\nm 0 new r0 1 1\nm 0 new r1 2 0\nm 0 put r0 0 r1\n\
@@ -66,7 +66,7 @@ pub const ROOT_MADE_AFTER_THE_SCAN: Row = Row {
         done\nmade\nnot ready\ncopied\npassed\nflipped 3\nsaw obj 2 0\nsaw obj 5 0\n",
 };
 
-/// Two objects refer to one another, and one to itself.
+/// Two objects refer to each other, and one also refers to itself.
 pub const CYCLE_OF_TWO: Row = Row {
     name: "cycle_of_two",
     trace: b"heaptrace 1\nspace 32 mutators 1\nm 0 new r0 1 2\nm 0 new r1 2 1\nm 0 put r0 0 r1\n\
@@ -90,7 +90,7 @@ pub const CYCLE_LEFT_ALONE: Row = Row {
         saw obj 1 2\nyes\nyes\nno\n",
 };
 
-/// Commands on a slot without an object, and on a field that the object has not.
+/// Commands on a slot without an object, and on a field that the object does not have.
 pub const NO_OBJECT_AND_NO_FIELD: Row = Row {
     name: "no_object_and_no_field",
     trace: b"heaptrace 1\nspace 8 mutators 1\nm 0 get r1 r0 0\nm 0 num r0 0\nm 0 put r0 0 r1\n\
@@ -100,7 +100,7 @@ pub const NO_OBJECT_AND_NO_FIELD: Row = Row {
         done\nsaw obj 9 1\n",
 };
 
-/// An entry of an object that has no replica yet is applied by doing nothing.
+/// Applying the log entry of an object that has no replica yet does nothing.
 pub const LOG_ENTRY_WITHOUT_A_REPLICA: Row = Row {
     name: "log_entry_without_a_replica",
     trace: b"heaptrace 1\nspace 32 mutators 1\nm 0 new r0 1 1\nc begin\nm 0 put r0 0 r0\nc apply 0\n\
@@ -120,8 +120,8 @@ pub const EXACTLY_FULL: Row = Row {
         full\nmade\nfull\n",
 };
 
-/// Steps with no collection, and a collection that is given up: a link that it left would keep the next one from
-/// replicating its object.
+/// Steps without a collection, and a collection that is dropped. If it left a link, the next collection would not
+/// replicate that object.
 pub const LINK_LEFT_OVER: Row = Row {
     name: "link_left_over",
     trace: b"heaptrace 1\nspace 16 mutators 1\nc scan\nc apply 0\nc roots\nc flip\nc drop\n\
@@ -138,14 +138,14 @@ pub const NOTHING_TO_COPY: Row = Row {
     replies: b"begun\nflipped 0\n",
 };
 
-/// No event.
+/// A trace without events.
 pub const NO_EVENTS: Row = Row {
     name: "no_events",
     trace: b"heaptrace 1\nspace 8 mutators 1\n",
     replies: b"",
 };
 
-/// All of the space is kept.
+/// Everything in the space survives.
 pub const NOTHING_IS_FREED: Row = Row {
     name: "nothing_is_freed",
     trace: b"heaptrace 1\nspace 7 mutators 1\nm 0 new r0 3 4\nc begin\nc roots\nc scan\nc scan\nc scan\n\
@@ -153,7 +153,7 @@ pub const NOTHING_IS_FREED: Row = Row {
     replies: b"made\nbegun\ncopied\nscanned\nscanned\nscanned\nscanned\npassed\nflipped 1\nfull\n",
 };
 
-/// After a collection when the space was full, both objects are kept by another.
+/// After a collection of a full space, both objects survive a second collection.
 pub const SECOND_COLLECTION: Row = Row {
     name: "second_collection",
     trace: b"heaptrace 1\nspace 9 mutators 1\nm 0 new r0 1 2\nm 0 new r0 1 2\nm 0 new r1 0 0\nc begin\n\
@@ -163,7 +163,7 @@ pub const SECOND_COLLECTION: Row = Row {
         begun\ncopied\ncopied\nscanned\nscanned\npassed\npassed\nflipped 2\n",
 };
 
-/// A target of a root has no room in a smaller space, and has in a larger one.
+/// The target of a root has no room in a smaller new space, but has room in a larger one.
 pub const ROOT_WITHOUT_ROOM: Row = Row {
     name: "root_without_room",
     trace: b"heaptrace 2\nspace 7 mutators 1\nm 0 new r0 3 4\nc begin 6\nc roots\nc roots\nc flip\n\
@@ -173,7 +173,7 @@ pub const ROOT_WITHOUT_ROOM: Row = Row {
         scanned\nscanned\npassed\nflipped 1\nmade\nfull\n",
 };
 
-/// The mutators' space has the size that the collection chose.
+/// After the flip, the mutators' space has the size given by `begin`.
 pub const SMALLER_SPACE: Row = Row {
     name: "smaller_space",
     trace: b"heaptrace 2\nspace 9 mutators 1\nm 0 new r0 1 2\nm 0 new r0 1 2\nc begin 5\nc roots\n\
@@ -181,7 +181,7 @@ pub const SMALLER_SPACE: Row = Row {
     replies: b"made\nmade\nbegun\ncopied\nscanned\nscanned\npassed\nflipped 1\nfull\nbegun\ncopied\n",
 };
 
-/// A field's target has no room, until the field holds a number.
+/// There is no room for a field's target, until the field holds a number.
 pub const SCAN_WITHOUT_ROOM: Row = Row {
     name: "scan_without_room",
     trace: b"heaptrace 2\nspace 16 mutators 1\nm 0 new r0 1 1\nm 0 new r1 2 0\nm 0 put r0 0 r1\n\
@@ -191,7 +191,7 @@ pub const SCAN_WITHOUT_ROOM: Row = Row {
         flipped 1\nsaw num 4\n",
 };
 
-/// The target that a logged field holds has no room: the entry is kept, until the field holds nothing.
+/// There is no room for the target of a logged field. The entry stays until the field holds nil.
 pub const ENTRY_WITHOUT_ROOM: Row = Row {
     name: "entry_without_room",
     trace: b"heaptrace 2\nspace 16 mutators 1\nm 0 new r0 1 1\nc begin 5\nc roots\nc scan\nc scan\n\
@@ -201,7 +201,7 @@ pub const ENTRY_WITHOUT_ROOM: Row = Row {
         applied\nclean\nflipped 1\n",
 };
 
-/// A raw object takes numbers alone, and is written before it is copied and after.
+/// A raw object takes only numbers. It is written to before and after it is copied.
 pub const RAW_WRITTEN_WHILE_COPIED: Row = Row {
     name: "raw_written_while_copied",
     trace: b"heaptrace 3\nspace 16 mutators 1\nm 0 raw r0 7 2\nm 0 look r0\nm 0 get r1 r0 1\n\
@@ -212,7 +212,7 @@ pub const RAW_WRITTEN_WHILE_COPIED: Row = Row {
         done\ndone\npassed\nclean\nnot ready\napplied\nflipped 1\nsaw num 8\nsaw num 10\n",
 };
 
-/// A raw field whose word would be a reference to an object keeps no object, and a collection may choose its size.
+/// A raw field whose word looks like a reference keeps no object alive. The collection's `begin` gives a size.
 pub const RAW_WORDS_KEEP_NOTHING: Row = Row {
     name: "raw_words_keep_nothing",
     trace: b"heaptrace 3\nspace 16 mutators 1\nm 0 new r0 1 0\nm 0 raw r1 0 1\nm 0 num r2 2\n\

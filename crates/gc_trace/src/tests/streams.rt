@@ -1,4 +1,4 @@
-//! Readers and writers that stop, fail or give little, and plays of a text.
+//! Readers and writers that stop, fail or transfer few bytes at a time, and helpers that play a text.
 
 use crate::{PlayFault, Report, TraceFault, play, read_trace};
 use gc_graph::{Sink, Source};
@@ -7,14 +7,14 @@ use std::io;
 use std::io::{Read, Write};
 use std::test::Fail;
 
-/// What a stream does once it has given all of its bytes, or taken as many as it has room for.
+/// What a stream does after it has given all its bytes, or taken as many as it has room for.
 #[derive(Clone, Copy)]
 pub enum End {
-    /// Gives or takes no byte more.
+    /// Gives or takes no more bytes.
     Silent,
     /// Fails.
     Broken,
-    /// Says that it was interrupted, each time.
+    /// Returns `Interrupted` each time.
     Interrupted,
 }
 
@@ -41,7 +41,7 @@ pub struct Slow<'a> {
 }
 
 impl<'a> Slow<'a> {
-    /// Twenty bytes a time.
+    /// Returns a reader that gives twenty bytes at a time.
     pub fn of(bytes: &'a [u8], end: End) -> Self {
         Slow {
             bytes,
@@ -86,7 +86,7 @@ impl Read for Same {
 /// The maximum number of bytes that a narrow writer takes.
 const MOST: usize = 512;
 
-/// A writer that takes the bytes it has room for. Does not allocate.
+/// A writer that takes the bytes that it has room for. Does not allocate.
 #[derive(Drop)]
 pub struct Narrow {
     bytes: [u8; 512],
@@ -105,7 +105,7 @@ impl Narrow {
         }
     }
 
-    /// The bytes that it took.
+    /// Returns the bytes that it took.
     pub fn taken(&self) -> &[u8] {
         &self.bytes[..self.taken.min(MOST)]
     }
@@ -129,7 +129,7 @@ impl Write for Narrow {
     }
 }
 
-/// A reader that gives its bytes as they are asked for, and counts the calls.
+/// A reader that gives as many bytes as each call asks for, and counts the calls.
 #[derive(Drop)]
 pub struct Giving<'a> {
     pub bytes: &'a [u8],
@@ -189,7 +189,7 @@ pub fn played(alloc: Global, text: &[u8]) -> Result<Vec<u8>, PlayFault> {
     Ok(sink.into_inner())
 }
 
-/// Plays the text to such a writer. Returns the result, and the writer afterwards.
+/// Plays the text to this writer. Returns the result, and the writer with what it took.
 pub fn played_to(
     alloc: Global,
     text: &[u8],

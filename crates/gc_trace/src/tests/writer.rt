@@ -11,7 +11,7 @@ use std::process::Abort;
 use std::test::Fail;
 use std::thread::Threads;
 
-/// Returns the text that is written of the history of the text's run.
+/// Plays the text and returns the trace text of the run's history.
 fn written_back(alloc: Global, text: &[u8]) -> Result<Vec<u8>, Fail> {
     let trace = read_trace(alloc, &mut Source::new(text))?;
     let world = run_trace(alloc, &trace)?;

@@ -44,7 +44,7 @@ form_of_command m op (replies.Saw (views.RawObj kind len)) = Command m (bare_rep
 form_of_command m op replies.Yes = Command m bare_replies.Yes op
 form_of_command m op replies.No = Command m bare_replies.No op
 
--- a form for each pair, also where an event has another event's answer and no entry has the pair
+-- the form of an event and an answer; an arbitrary one if the two do not fit together, which no entry has
 abbrev pub form_of : Event → Answer → Form
 form_of (Mutate m op) (Mutator reply) = form_of_command m op reply
 form_of (Mutate m op) answer = Step false Begin Busy
@@ -52,7 +52,7 @@ form_of (Collect step) (Mutator reply) = Step false Begin Busy
 form_of (Collect step) (Collector reply) = Step false step reply
 form_of (Collect step) (Useful reply) = Step true step reply
 
--- ---- a form is that of what it means
+-- ---- the form of a form's meaning is that form
 
 shown_comes_back : (m : ℕ) (op : BareOp) (n : ℕ) → form_of_shown m (op_of op) n ≡ Shown m op n
 shown_comes_back m (bare_ops.New d kind len) n = refl

@@ -1,4 +1,4 @@
--- What ties the fields of a world together.
+-- How the fields of a world fit together.
 use Rattle.std.specs.Prelude.{◌≡◌, Option, Some, None, ⊤}
 use Rattle.gc_core.specs.Flip.{IsCertified}
 use Rattle.gc_copy.specs.State.{State}

@@ -1,11 +1,11 @@
-//! Entries: what goes in comes out, and a difference in any part is seen.
+//! An entry returns the event and the answer that it was made from, and `is` sees a difference in any part.
 
 use crate::{Answer, Entry, Event};
 use gc_copy::{Step, StepReply};
 use gc_graph::{Number, Op, Reply, Slot, View};
 use std::test::Fail;
 
-/// Returns commands of each kind, with the greatest value of each field.
+/// Returns one command of each kind, with the greatest value in each field.
 fn commands() -> Result<[Op; 9], Fail> {
     let d = Slot::shared(15).ok_or("slot")?;
     let s = Slot::own(15).ok_or("slot")?;
@@ -32,7 +32,7 @@ fn commands() -> Result<[Op; 9], Fail> {
     ])
 }
 
-/// Returns replies of each kind, with the greatest value of each field.
+/// Returns one reply of each kind, with the greatest value in each field.
 fn replies() -> Result<[Reply; 12], Fail> {
     let n = Number::new(9223372036854775806).ok_or("number")?;
     let (kind, len) = (255, 65535);

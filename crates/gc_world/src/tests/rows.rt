@@ -1,4 +1,4 @@
-//! Rows: a test states what happens to a world, and each answer, as one table. `play` performs the rows in order.
+//! Rows: a test states the events of a world, and the answer to each, as one table. `play` performs the rows in order.
 
 ghost use Rattle.std.specs.Prelude.{◌≡◌, ◌<◌, ◌↔◌, IsTrue};
 ghost use Rattle.gc_copy.specs.Runs.{IsStep};
@@ -24,7 +24,7 @@ pub enum Row {
     IsOpen(bool),
 }
 
-/// Returns the command that makes an object of `len` fields, and sets `d` to a reference to it.
+/// Returns the command that makes an object with `len` fields, and sets `d` to a reference to it.
 pub fn new(d: Slot, kind: u8, len: u16) -> Op {
     Op::New { d, kind, len }
 }

@@ -1,4 +1,4 @@
--- The statuses and faults with which the parts of a task may end.
+-- The statuses and faults with which a task may end.
 use Rattle.std.specs.Prelude.{◌≡◌, ◌⊎◌, ℕ, ⊤}
 use Rattle.gcflip.specs.declared.faults.fault.Fault.{Fault}
 use Rattle.gcflip.specs.declared.faults.fault.Fault.TheVariants as fault
@@ -23,7 +23,7 @@ IsOfOpening (fault.Play play) = ⊥
 IsOfOpening (fault.Check check) = ⊥
 IsOfOpening (fault.Threads threads) = ⊥
 
--- standard input is open already
+-- the faults that a task may have; standard input needs no opening
 abbrev pub IsTaskFault : Task → Fault → Type 0
 IsTaskFault task.PlayInput f = IsOfPlay f
 IsTaskFault (task.Play file) f = IsOfOpening f ⊎ IsOfPlay f

@@ -1,4 +1,4 @@
--- The faults of reading and of threads, as faults of the threads command.
+-- The faults of reading and of threads, as faults of the `threads` command.
 use Rattle.gc_shared.specs.declared.fault.ThreadsFault.{ThreadsFault}
 use Rattle.gc_shared.specs.declared.fault.ThreadsFault.TheVariants as threads
 use Rattle.gc_trace.specs.declared.fault.TraceFault.{TraceFault}

@@ -33,14 +33,14 @@ pub fn check_from<R: Read, W: Write>(
     reader: &mut Source<R>,
     writer: &mut Sink<W>,
 ) -> Result<u8, Fault>
-    // 0 exactly for a yes, 1 exactly for a refusal. The verdict's line, and nothing else.
+    // The status is 0 exactly for a yes, and 1 exactly for a refusal. The verdict's line is written, and nothing else.
     ensures verdict { IfOk result (λ status. IfSome (bytes_left R.remaining reader.old) (λ text. TellsVerdict
         text status (bytes_written W.contents writer.old) (bytes_written W.contents writer.new))) }
     ensures statuses { IfOk result (λ status. (status ≡ 0) ⊎ (status ≡ 1)) }
     // The soundness theorem for the heaps that the text spells.
     ensures replicated { result ≡ Ok 0 → IfSome (bytes_left R.remaining reader.old) SpellsReplicated }
 
-    // The first fault of a bad text.
+    // A bad text gives its first fault.
     ensures fault { (fault : PairFault) → result ≡ Err (Fault.Check (RunFault.Pair fault)) →
         IfSome (bytes_left R.remaining reader.old) (λ text. MayFail fault text) }
     ensures checker { IfErr result IsOfCheck }

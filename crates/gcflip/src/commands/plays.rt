@@ -15,7 +15,7 @@ pub fn play_from<R: Read, W: Write>(
     reader: &mut Source<R>,
     writer: &mut Sink<W>,
 ) -> Result<u8, Fault>
-    // All of the reply lines, and nothing else.
+    // All reply lines are written, and nothing else.
     ensures played { OnOk result (IfSome (bytes_left R.remaining reader.old) (λ text.
         WritesReplies text (bytes_written W.contents writer.old) (bytes_written W.contents writer.new))) }
     ensures statuses { IfOk result (λ status. status ≡ 0) }
@@ -31,7 +31,7 @@ pub fn report_from<R: Read, W: Write>(
     reader: &mut Source<R>,
     writer: &mut Sink<W>,
 ) -> Result<u8, Fault>
-    // All of the report's text, and nothing else.
+    // The whole text of the report is written, and nothing else.
     ensures reported { OnOk result (IfSome (bytes_left R.remaining reader.old) (λ text.
         WritesReport text (bytes_written W.contents writer.old) (bytes_written W.contents writer.new))) }
     ensures statuses { IfOk result (λ status. status ≡ 0) }
@@ -41,7 +41,7 @@ pub fn report_from<R: Read, W: Write>(
     Ok(0)
 }
 
-/// Reads a trace, runs it up to its n-th flip, counted from 1, and writes the pair of that flip. Returns status 0.
+/// Reads a trace, plays it up to its n-th flip, counted from 1, and writes the pair of that flip. Returns status 0.
 pub fn pair_from<R: Read, W: Write>(
     alloc: Global,
     n: u32,
@@ -49,7 +49,7 @@ pub fn pair_from<R: Read, W: Write>(
     writer: &mut Sink<W>,
 ) -> Result<u8, Fault>
     requires { 1 ≤ n }
-    // All of the pair's text, and nothing else.
+    // The whole text of the pair is written, and nothing else.
     ensures written { OnOk result (IfSome (bytes_left R.remaining reader.old) (λ text.
         PlaysPair n text (bytes_written W.contents writer.old) (bytes_written W.contents writer.new))) }
     ensures statuses { IfOk result (λ status. status ≡ 0) }

@@ -21,11 +21,12 @@ use thiserror::Error;
 #[derive(Clone, Copy, Debug, PartialEq, Eq, Error)]
 #[error("{}", self.message())]
 pub enum ThreadsRunFault {
-    /// The trace was not read. Never `NoMemory`.
+    /// The trace cannot be read. Never holds `TraceFault::NoMemory`.
     Trace(TraceFault),
-    /// The threads did not run to their end. Never `NoMemory`, except that of closing.
+    /// The threads did not run to their end, or closing failed. Never holds `ThreadsFault::NoMemory`, but may hold
+    /// `CloseKind::NoMemory`.
     Threads(ThreadsFault),
-    /// An allocation failed, perhaps while reading.
+    /// An allocation failed, while reading or while running.
     NoMemory,
     /// The writer failed.
     Write,
@@ -87,7 +88,7 @@ impl From<NoMemory> for ThreadsRunFault {
     }
 }
 
-/// A gate that lets each call pass.
+/// A gate that lets every call pass.
 struct Passing;
 
 impl Gate for Passing {
@@ -102,8 +103,8 @@ impl Gate for Passing {
     fn after(&self, _seat: u32, _n: u64) {}
 }
 
-/// Reads a trace, runs each mutator's commands in its own thread beside a thread that performs this many useful steps,
-/// and writes the trace of what happened. Ignores the collector's lines of the text.
+/// Reads a trace, and runs each mutator's commands in its own thread. One more thread performs `turns` useful steps.
+/// Then writes the history as a trace. Ignores the collector steps of the text.
 pub fn threads_run<R: Read, W: Write>(
     rt: &(impl Threads + Wait + Sync),
     alloc: Global,
@@ -111,10 +112,10 @@ pub fn threads_run<R: Read, W: Write>(
     reader: &mut Source<R>,
     writer: &mut Sink<W>,
 ) -> Result<(), ThreadsRunFault>
-    // All of the recorded trace, and nothing else.
+    // The whole recorded trace is written, and nothing else.
     ensures ran { OnOk result (IfSome (bytes_left R.remaining reader.old) (λ text.
         WritesRun text turns (bytes_written W.contents writer.old) (bytes_written W.contents writer.new))) }
-    // The first fault of a bad text.
+    // A bad text gives its first fault.
     ensures fault { (fault : TraceFault) → result ≡ Err (ThreadsRunFault.Trace fault) →
         IfSome (bytes_left R.remaining reader.old) (λ text. MayFail fault text) }
     ensures memory { (result ≢ Err (ThreadsRunFault.Trace TraceFault.NoMemory))
@@ -145,12 +146,12 @@ pub fn threads_from<R: Read, W: Write>(
     reader: &mut Source<R>,
     writer: &mut Sink<W>,
 ) -> Result<u8, Fault>
-    // All of the recorded trace, and nothing else.
+    // The whole recorded trace is written, and nothing else.
     ensures ran { OnOk result (IfSome (bytes_left R.remaining reader.old) (λ text.
         WritesRun text turns (bytes_written W.contents writer.old) (bytes_written W.contents writer.new))) }
     ensures statuses { IfOk result (λ status. status ≡ 0) }
     ensures threads { IfErr result IsOfThreads }
-    // The first fault of a bad text.
+    // A bad text gives its first fault.
     ensures fault { (fault : TraceFault) → result ≡ Err (Fault.Threads (ThreadsRunFault.Trace fault)) →
         IfSome (bytes_left R.remaining reader.old) (λ text. MayFail fault text) }
     ensures memory { (result ≢ Err (Fault.Threads (ThreadsRunFault.Trace TraceFault.NoMemory)))

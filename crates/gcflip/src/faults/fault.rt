@@ -13,7 +13,7 @@ use thiserror::Error;
 pub enum Fault {
     /// The file cannot be opened.
     Open,
-    /// Memory ran out before an engine ran.
+    /// An allocation failed while the arguments were read or the file was opened.
     NoMemory,
     /// Playing a trace failed.
     Play(PlayFault),

@@ -5,19 +5,19 @@ use gc_check::RunFault;
 use gc_graph::{Sink, Source};
 use std::test::Fail;
 
-/// Garbage is left behind, and has no pair.
+/// A pair text with garbage in the old space, which has no pair in the certificate.
 const YES: &[u8] = b"heappair 1\nold 8 5\n0\n16777216\n0\n16777216\n0\nroots 1\n2\n\
     new 8 3\n0\n16777216\n0\nroots 1\n2\npairs 1\n1 1\nend\n";
 
-/// The replica has another kind.
+/// A pair text whose replica has another kind than its original.
 const REFUSED: &[u8] = b"heappair 1\nold 8 3\n0\n16777216\n0\nroots 1\n2\n\
     new 8 3\n0\n16842752\n0\nroots 1\n2\npairs 1\n1 1\nend\n";
 
-/// A raw object, whose header does not count in version 1. As a value, its word would refer to no object.
+/// A pair text of version 2 with a raw object. If its word were a value, it would refer to no object.
 const RAW: &[u8] = b"heappair 2\nold 9 4\n0\n50331649\n0\n18\nroots 1\n2\n\
     new 9 4\n0\n50331649\n0\n18\nroots 1\n2\npairs 1\n1 1\nend\n";
 
-/// The same as a text of version 1.
+/// The same as a text of version 1, which has no raw objects.
 const RAW_IN_THE_FIRST: &[u8] = b"heappair 1\nold 9 4\n0\n50331649\n0\n18\nroots 1\n2\n\
     new 9 4\n0\n50331649\n0\n18\nroots 1\n2\npairs 1\n1 1\nend\n";
 

@@ -19,7 +19,7 @@ fn of_the_program() -> [FaultRow; 2] {
     ]
 }
 
-/// A trace's faults are the same wherever one is read.
+/// Returns the faults of traces, which every command that reads a trace shares.
 fn of_traces() -> [(TraceFault, &'static str, u8); 6] {
     [
         (TraceFault::Read, "cannot read\n", 4),
@@ -116,7 +116,7 @@ fn has_its_line_and_status(rt: &impl Abort, alloc: Global, told: &FaultRow) -> R
     Ok(())
 }
 
-/// The status is returned even if the line cannot be written.
+/// Tests that the status is returned even if the line cannot be written.
 fn keeps_its_status_without_room(rt: &impl Abort, told: &FaultRow) {
     let (fault, line, status) = told;
     let mut room = [0u8; 5];

@@ -5,7 +5,7 @@ use gc_graph::{Sink, Source};
 use gc_trace::{PlayFault, TraceFault};
 use std::test::Fail;
 
-/// The unreachable object is not copied.
+/// The pair text of the first flip. The unreachable object is not copied.
 const FIRST_FLIP: &[u8] = b"heappair 2\n\
     old 9 9\n0\n16842754\n0\n0\n0\n16842754\n1\n0\n0\n\
     roots 32\n\
@@ -17,7 +17,7 @@ const FIRST_FLIP: &[u8] = b"heappair 2\n\
     2\n0\n0\n0\n0\n0\n0\n0\n0\n0\n0\n0\n0\n0\n0\n0\n\
     pairs 1\n5 1\nend\n";
 
-/// A raw object's words are its numbers.
+/// The pair text of a flip with a raw object, whose words are its numbers.
 const RAW_FLIP: &[u8] = b"heappair 2\n\
     old 8 5\n0\n50790402\n1\n8\n8\n\
     roots 32\n\
@@ -65,7 +65,7 @@ fn flips_that_are_not_there_have_no_pair(rt: HostRuntime) {
     }
 }
 
-/// A trace is read to its end before its flips are looked for.
+/// A trace is read to its end before it is played.
 #[test]
 fn bad_traces_have_no_pair(rt: HostRuntime) {
     let (whole, _) = COLLECT_WHEN_FULL.split_at(COLLECT_WHEN_FULL.len() - 1);

@@ -18,7 +18,7 @@ use std::thread;
 use std::thread::Threads;
 use std::time::{Clock, Duration};
 
-/// One mutator writes what the other may see.
+/// A trace in which one mutator writes a number that the other may see.
 const SHARED: &[u8] = b"heaptrace 1\nspace 64 mutators 2\n\
     m 0 new g0 1 1\nm 0 num r0 5\nm 0 put g0 0 r0\nm 1 get r1 g0 0\n";
 
@@ -31,7 +31,7 @@ fn one_script_and_no_turn_is_the_trace_itself(rt: HostRuntime) -> Result<(), Fai
     Ok(())
 }
 
-/// Only the mutator's commands run, in their order.
+/// Only the mutator's commands run, in order.
 #[test]
 fn raw_objects_are_recorded_in_the_third_version(rt: HostRuntime) -> Result<(), Fail> {
     let mut sink = Sink::new(Vec::new(rt.alloc()));
@@ -44,7 +44,7 @@ fn raw_objects_are_recorded_in_the_third_version(rt: HostRuntime) -> Result<(), 
     Ok(())
 }
 
-/// Records both scripts and forty steps of the collector as a trace.
+/// Runs both scripts with forty collector steps, and returns the recorded trace.
 fn recorded(rt: &(impl Threads + Wait + Abort + Sync), alloc: Global) -> Result<Vec<u8>, Fail> {
     let _named = View::Nil;
     let mut sink = Sink::new(Vec::new(alloc));
@@ -88,7 +88,7 @@ fn what_is_recorded_can_be_played(rt: HostRuntime) -> Result<(), Fail> {
     Ok(())
 }
 
-/// The second mutator's first command waits for the first one's third, for five seconds at most.
+/// Makes the second mutator's first command wait for the first mutator's third, for at most five seconds.
 #[derive(Drop)]
 struct WaitsForWrite<'a, R> {
     rt: &'a R,
@@ -116,7 +116,7 @@ impl<'a, R: Clock> Gate for WaitsForWrite<'a, R> {
     }
 }
 
-/// Runs both scripts and forty steps in a world where the reader sees what was written.
+/// Runs both scripts and forty steps so that the second mutator reads after the write, and returns the world.
 fn seen_in_threads(
     rt: &(impl Threads + Wait + Clock + Sync),
     alloc: Global,
@@ -140,7 +140,7 @@ fn played_again(alloc: Global, world: &World) -> Result<World, Fail> {
     Ok(run_trace(alloc, &trace)?)
 }
 
-/// Returns the answer as a play gives it, in which no step is marked as useful.
+/// Returns the answer as playing a trace gives it: without the mark `Useful`.
 fn as_played(answer: &Answer) -> Answer {
     match *answer {
         Answer::Useful(reply) => Answer::Collector(reply),
@@ -148,7 +148,7 @@ fn as_played(answer: &Answer) -> Answer {
     }
 }
 
-/// Counts the commands of the second mutator that saw the number 5 in the field.
+/// Returns how many commands of the second mutator saw the number 5.
 fn times_seen(world: &World) -> Result<u32, Fail> {
     let five = Number::new(5).ok_or("number")?;
     let seen = Answer::Mutator(Reply::Saw(View::Num(five)));

@@ -10,7 +10,7 @@ pub const COLLECT_WHEN_FULL: &[u8] = b"heaptrace 1\nspace 9 mutators 1\n\
     c begin\nc roots\nc scan\nc scan\nc scan\nc scan\nc roots\nc flip\n\
     m 0 new r1 0 0\n";
 
-/// A raw object takes numbers alone. It is written while it is copied.
+/// A raw object takes only numbers. It is written to while a collection is open.
 pub const RAW: &[u8] = b"heaptrace 3\nspace 8 mutators 1\n\
     m 0 raw r0 7 2\nm 0 put r0 0 r0\nm 0 num r1 8\nm 0 put r0 0 r1\n\
     c begin\nc roots\nm 0 put r0 1 r1\nc scan\nc apply 0\nc flip\n\

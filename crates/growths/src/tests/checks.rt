@@ -29,7 +29,7 @@ fn pair(old: u32, new: u32) -> Pair {
     }
 }
 
-/// Two objects of which a root refers to the first.
+/// Two objects; a root refers to the first.
 const OLD: [u64; 5] = [0, 16777216, 0, 16777216, 0];
 
 const NEW: [u64; 3] = [0, 16777216, 0];
@@ -89,7 +89,7 @@ fn check_of_a_refusal(rt: HostRuntime) -> Result<(), Fail> {
     Ok(())
 }
 
-/// Makes the checker's tables, and returns what they say of the roots.
+/// Makes the checker's tables, and returns the fault of the roots that they show.
 fn fault_by_tables(
     alloc: Global,
     old: ImageRef,
@@ -136,7 +136,7 @@ fn check_in_threads(rt: HostRuntime) -> Result<(), Fail> {
     Ok(())
 }
 
-/// 4,096 objects of one field, the number 0, but for one of them.
+/// Returns the words of 4,096 objects with one field each. The field is the number 0, except in object `changed`.
 fn long_words(alloc: Global, changed: u32) -> Result<Vec<u64>, AllocError> {
     let mut words = Vec::new(alloc);
     words.push(0)?;
@@ -184,7 +184,7 @@ fn check_of_a_text(rt: HostRuntime) -> Result<(), Fail> {
         answer = check_text(alloc, &mut Source::new(ONE_KEPT), &mut sink);
     }
     assert_eq!(rt; answer, Ok(Verdict::Yes { pairs: 1 }));
-    // The refused call wrote nothing.
+    // The failed call wrote nothing.
     assert_eq!(rt; sink.into_inner().taken(), b"yes 1\n".as_slice());
     Ok(())
 }
@@ -201,7 +201,7 @@ fn check_of_a_text_in_threads(rt: HostRuntime) -> Result<(), Fail> {
         answer = check_text_par(&rt, alloc, &mut Source::new(ONE_KEPT), &mut sink);
     }
     assert_eq!(rt; answer, Ok(Verdict::Yes { pairs: 1 }));
-    // The refused call wrote nothing.
+    // The failed call wrote nothing.
     assert_eq!(rt; sink.into_inner().taken(), b"yes 1\n".as_slice());
     Ok(())
 }

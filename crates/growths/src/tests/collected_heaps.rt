@@ -1,5 +1,5 @@
-//! Collected heaps without a world around them. A flip allocates what its check needs; it copies only a pair that is
-//! to be kept.
+//! Collected heaps without a world around them. A flip allocates what its check needs, and copies a pair only if it
+//! is to be kept.
 
 use super::marks::{fence, retried};
 use gc_check::Sequential;
@@ -10,7 +10,7 @@ use std::alloc::Global;
 use std::process::Abort;
 use std::test::Fail;
 
-/// Performs a command of the first mutator, with ample memory.
+/// Performs a command of the first mutator. No allocation fails.
 fn command(heap: &mut CollectedHeap, op: &Op) -> Result<Reply, Fail> {
     if heap.mutators() == 0 {
         return Err("mutator".into());
@@ -45,7 +45,7 @@ fn chain(alloc: Global) -> Result<CollectedHeap, Fail> {
     Ok(heap)
 }
 
-/// Flips. If an allocation fails, the collection is still open, and the flip is retried.
+/// Flips. If an allocation fails, tests that the collection is still open, and retries.
 fn flip(
     rt: &impl Abort,
     alloc: Global,

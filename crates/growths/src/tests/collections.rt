@@ -1,4 +1,4 @@
-//! Collections: one with a write while scanning.
+//! A collection during which a mutator writes to a field that is already scanned.
 
 ghost use Rattle.std.specs.Prelude.{◌≡◌, ◌≤◌, ◌<◌, IfOk, IsTrue};
 ghost use Rattle.gc_graph.specs.Limits.{most_words};
@@ -14,7 +14,7 @@ use gc_words::{NewAddr, OldAddr, Pair};
 use std::alloc::Global;
 use std::test::Fail;
 
-/// A heap of 32 words and one mutator, without objects.
+/// Returns a heap of 32 words for one mutator, without objects.
 fn empty(alloc: Global) -> Result<Heap, NoMemory>
     ensures idle { IfOk result HasNoLinks }
     ensures mutators { IfOk result (λ heap. heap.mutators ≡ 1) }
@@ -122,7 +122,7 @@ fn new_roots(alloc: Global, collection: &Collection, heap: &Heap) -> Result<Vec<
     }
 }
 
-/// A heap with one object of one field in `r0`, and 9 in `r1`.
+/// Returns a heap with an object of one field in `r0`, and the number 9 in `r1`.
 fn one_object(alloc: Global) -> Result<Heap, Fail>
     ensures idle { IfOk result HasNoLinks }
     ensures mutators { IfOk result (λ heap. heap.mutators ≡ 1) }

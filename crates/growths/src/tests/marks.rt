@@ -1,4 +1,4 @@
-//! Requests for memory that tell the refusing allocator where the test has come to.
+//! Requests for memory of special sizes, which tell the refusing allocator how far the test has come.
 
 use gc_graph::NoMemory;
 use std::alloc::Global;
@@ -6,10 +6,10 @@ use std::alloc::Global;
 /// A request of this size starts or ends the counting of requests. It is never refused.
 const FENCE: usize = 1_000_003;
 
-/// A request of this size says that the call returned `NoMemory`, and that it is now retried.
+/// A request of this size says that the call returned `NoMemory` and is about to be retried.
 const RETRY: usize = 1_000_033;
 
-/// Starts the counting before the tested call, and ends it behind it.
+/// Starts the counting before the tested call, and ends it after the call.
 pub fn fence(alloc: Global) -> Result<(), NoMemory> {
     request(alloc, FENCE)
 }

@@ -1,5 +1,5 @@
-//! The shared world: its calls, its closing, and scripts in threads. A refused call leaves the seat's receipts, and the
-//! world can be closed later.
+//! The shared world: its calls, its closing, and scripts in threads. A failed call leaves the seat's receipts
+//! unchanged, and the world can be closed later.
 
 ghost use Rattle.std.specs.Prelude.{◌≡◌, IfOk, vec_len};
 ghost use Rattle.gc_shared.specs.Seats.{HasSize};
@@ -78,13 +78,13 @@ fn useful(
     }
 }
 
-/// A new object of one field in `r0`.
+/// Returns the command that makes an object with one field in `r0`.
 fn new_object() -> Result<Op, Fail> {
     let d = Slot::own(0).ok_or("slot")?;
     Ok(Op::New { d, kind: 1, len: 1 })
 }
 
-/// Closes the world, which has this many events.
+/// Closes the world, and tests that it has this many events.
 fn expect_world(rt: &impl Abort, shared: Shared, seats: Vec<Seat>, events: usize) {
     match shared.close(seats) {
         Ok(world) => assert_eq!(rt; world.history().len(), events),
@@ -122,7 +122,7 @@ fn shared_call(rt: HostRuntime) -> Result<(), Fail> {
     assert!(rt; call(&rt, alloc, &shared, &mut mutator, &new) == Ok(Reply::Made));
     let begun = shared.step(&rt, &mut collector, Step::Begin);
     assert!(rt; begun == Ok(StepReply::Begun));
-    // With an open collection, this needs room in the log as well.
+    // While a collection is open, this also needs room in the log.
     assert!(rt; call(&rt, alloc, &shared, &mut mutator, &put) == Ok(Reply::Done));
     assert_eq!(rt; mutator.receipts().len(), 2);
     seats.push(mutator)?;
@@ -182,13 +182,13 @@ fn shared_close(rt: HostRuntime) -> Result<(), Fail> {
             fault.world
         }
     };
-    // The whole history and the kept pair are there, refused or not.
+    // Whether or not an allocation failed, the world has its whole history and its kept pair.
     assert_eq!(rt; world.history().len(), 2);
     assert!(rt; world.take_flip().is_some());
     Ok(())
 }
 
-/// The step that gets this reply.
+/// Returns the step that gets this reply.
 fn collector_step(reply: StepReply) -> Step {
     match reply {
         StepReply::Begun => Step::Begin,
@@ -196,7 +196,7 @@ fn collector_step(reply: StepReply) -> Step {
     }
 }
 
-/// Always true.
+/// A gate that lets every call pass.
 struct Open;
 
 impl Gate for Open {
@@ -207,7 +207,7 @@ impl Gate for Open {
     fn after(&self, seat: u32, n: u64) {}
 }
 
-/// The first mutator writes 5 into the field of a new shared object, and the second one reads the field.
+/// Returns two scripts. The first writes 5 to the field of a new shared object, and the second reads the field.
 fn scripts(alloc: Global) -> Result<Vec<Vec<Op>>, Fail>
     ensures { IfOk result (λ scripts. vec_len scripts ≡ 2) }
 {
@@ -237,7 +237,7 @@ fn two(alloc: Global, first: &[Op], second: &[Op]) -> Result<Vec<Vec<Op>>, Alloc
     Ok(scripts)
 }
 
-/// The only faults are those that a refused request may lead to. The scripts are spent then.
+/// The only faults are those that a failed allocation can cause. The run is not retried, since the scripts are gone.
 #[test]
 fn threads_run_scripts(rt: HostRuntime) -> Result<(), Fail> {
     let _named = View::Nil;

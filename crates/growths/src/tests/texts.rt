@@ -1,14 +1,14 @@
-//! Texts that the tests read, and a writer that needs no memory.
+//! Texts that the tests read, and a writer that does not allocate.
 
 use std::io;
 use std::io::Write;
 
-/// One object of two is copied when the space is full.
+/// A trace in which a full space is collected: one of two objects is copied.
 pub const COLLECT_WHEN_FULL: &[u8] = b"\
     heaptrace 1\nspace 9 mutators 1\nm 0 new r0 1 2\nm 0 new r0 1 2\nm 0 new r1 0 0\nc begin\n\
     c roots\nc scan\nc scan\nc scan\nc scan\nc roots\nc flip\nm 0 new r1 0 0\n";
 
-/// The pair text of its flip.
+/// The pair text of that trace's flip.
 pub const ONE_KEPT: &[u8] = b"\
     heappair 2\n\
     old 9 9\n0\n16842754\n0\n0\n0\n16842754\n1\n0\n0\n\
@@ -17,40 +17,40 @@ pub const ONE_KEPT: &[u8] = b"\
     roots 32\n0\n0\n0\n0\n0\n0\n0\n0\n0\n0\n0\n0\n0\n0\n0\n0\n2\n0\n0\n0\n0\n0\n0\n0\n0\n0\n0\n0\n0\n0\n0\n0\n\
     pairs 1\n5 1\nend\n";
 
-/// Its report.
+/// The report of that trace.
 pub const REPORT: &[u8] = b"\
     events 12\nmade 3\nfull 1\nbegun 1\ncopied 1\nscanned 2\napplied 0\nflips 1\npairs 1\ndropped 0\nrefused 0\n\
     end 7\nfree 2\n";
 
-/// A field that was scanned is written, and its entry in the log applied.
+/// A trace in which a mutator writes to a field that is already scanned, and the log entry is applied.
 pub const WRITE_WHILE_SCANNING: &[u8] = b"\
     heaptrace 1\nspace 32 mutators 1\nm 0 new r0 1 1\nm 0 num r1 9\nc begin\nc roots\nc scan\n\
     m 0 put r0 0 r1\nc scan\nc flip\nc apply 0\nc flip\nm 0 get r2 r0 0\n";
 
-/// The same up to the collection.
+/// The same trace up to the collection.
 pub const BEFORE_BEGIN: &[u8] = b"\
     heaptrace 1\nspace 32 mutators 1\nm 0 new r0 1 1\nm 0 num r1 9\n";
 
-/// The same up to the flip that is ready.
+/// The same trace up to the flip that succeeds.
 pub const BEFORE_FLIP: &[u8] = b"\
     heaptrace 1\nspace 32 mutators 1\nm 0 new r0 1 1\nm 0 num r1 9\nc begin\nc roots\nc scan\n\
     m 0 put r0 0 r1\nc scan\nc flip\nc apply 0\n";
 
-/// Two mutators write one field, and the entries are applied in the other order.
+/// A trace in which two mutators write to the same field, and the log entries are applied in the opposite order.
 pub const LOG_ACROSS_TWO_MUTATORS: &[u8] = b"\
     heaptrace 1\nspace 32 mutators 2\nm 0 new g0 1 1\nc begin\nc roots\nc scan\nc scan\n\
     m 0 num r0 7\nm 0 put g0 0 r0\nm 1 look r0\nm 1 num r0 8\nm 1 put g0 0 r0\nc apply 1\n\
     c apply 0\nc apply 0\nc flip\nm 0 get r1 g0 0\n";
 
-/// Its replies.
+/// The reply lines of that trace.
 pub const REPLIES_ACROSS_TWO_MUTATORS: &[u8] = b"\
     made\nbegun\ncopied\nscanned\npassed\ndone\ndone\nsaw nil\ndone\ndone\napplied\napplied\n\
     clean\nflipped 1\nsaw num 8\n";
 
-/// The most bytes that a writer takes.
+/// The maximum number of bytes that a writer takes.
 const MOST: usize = 512;
 
-/// Takes up to 512 bytes. It needs no memory.
+/// A writer that takes up to 512 bytes. Does not allocate.
 #[derive(Drop)]
 pub struct Fixed {
     bytes: [u8; 512],

@@ -1,4 +1,4 @@
-//! Traces: read, run, played, reported, and the pair of a flip.
+//! Traces: reading, running and playing them, their reports, and the pair of a flip.
 
 ghost use Rattle.std.specs.Prelude.{IfOk};
 ghost use Rattle.gc_trace.specs.Grammar.{IsRecording};
@@ -17,7 +17,7 @@ use gc_world::World;
 use std::alloc::Global;
 use std::test::Fail;
 
-/// Reads the trace of two mutators' logs.
+/// Reads the trace with the logs of two mutators.
 fn trace(alloc: Global) -> Result<Trace, TraceFault>
     ensures { IfOk result (λ trace. IsRecording (recording trace)) }
 {
@@ -97,7 +97,7 @@ fn trace_play(rt: HostRuntime) -> Result<(), Fail> {
         answer = play(alloc, &mut Source::new(LOG_ACROSS_TWO_MUTATORS), &mut sink);
     }
     assert!(rt; answer.is_ok());
-    // The refused call wrote nothing.
+    // The failed call wrote nothing.
     assert_eq!(rt; sink.into_inner().taken(), REPLIES_ACROSS_TWO_MUTATORS);
     Ok(())
 }
@@ -114,7 +114,7 @@ fn trace_report(rt: HostRuntime) -> Result<(), Fail> {
         answer = play_report(alloc, &mut Source::new(COLLECT_WHEN_FULL), &mut sink);
     }
     assert!(rt; answer.is_ok());
-    // The refused call wrote nothing.
+    // The failed call wrote nothing.
     assert_eq!(rt; sink.into_inner().taken(), REPORT);
     Ok(())
 }
@@ -131,7 +131,7 @@ fn trace_pair(rt: HostRuntime) -> Result<(), Fail> {
         answer = play_pair(alloc, 1, &mut Source::new(COLLECT_WHEN_FULL), &mut sink);
     }
     assert_eq!(rt; answer, Ok(()));
-    // The refused call wrote nothing.
+    // The failed call wrote nothing.
     assert_eq!(rt; sink.into_inner().taken(), ONE_KEPT);
     Ok(())
 }

@@ -1,4 +1,5 @@
-//! Worlds: opened, mutated and collected. A refused event is not in the history, and the retried one is there once.
+//! Worlds: opening, commands and collector steps. If an allocation fails, the history does not have the event; after
+//! the retry it has the event once.
 
 ghost use Rattle.std.specs.Prelude.{◌≡◌, ◌<◌, IsTrue};
 ghost use Rattle.gc_copy.specs.Runs.{IsStep};
@@ -14,7 +15,7 @@ use std::process::Abort;
 use std::test::Fail;
 use std::thread::Threads;
 
-/// Returns the world in which the events of the text happened.
+/// Returns a world after the events of the text.
 fn world_after(alloc: Global, text: &[u8]) -> Result<World, Fail> {
     let trace = read_trace(alloc, &mut Source::new(text))?;
     Ok(run_trace(alloc, &trace)?)
@@ -127,7 +128,7 @@ fn is_step(step: Step, mutators: u8) -> bool
     }
 }
 
-/// Performs one event of a trace, a command with its allocations refused.
+/// Performs one event of a trace. Only the allocations of commands are counted, so only they can fail.
 fn perform(rt: &impl Abort, alloc: Global, world: &mut World, event: &Event) -> Result<(), Fail> {
     match event {
         Event::Mutate { m, op } => {
@@ -220,7 +221,7 @@ fn world_collect_useful_begin(rt: HostRuntime) -> Result<(), Fail> {
     Ok(())
 }
 
-/// The world has flipped in its tenth event, and keeps the pair.
+/// Tests that the world flipped in its tenth event and keeps the pair.
 fn expect_flip(rt: &impl Abort, mut world: World) {
     assert!(rt; !world.is_open() && world.history().len() == 10);
     match world.take_flip() {
@@ -256,7 +257,7 @@ fn world_collect_useful_flip(rt: HostRuntime) -> Result<(), Fail> {
     Ok(())
 }
 
-/// Performs a command of the first mutator, with ample memory.
+/// Performs a command of the first mutator. No allocation fails.
 fn command(world: &mut World, op: &Op) -> Result<Reply, Fail> {
     if world.mutators() == 0 {
         return Err("mutator".into());
@@ -264,7 +265,7 @@ fn command(world: &mut World, op: &Op) -> Result<Reply, Fail> {
     Ok(world.mutate(0, op)?)
 }
 
-/// Returns a world with 1,000 chained objects that wants a flip, after this many events.
+/// Returns a world with 1,000 chained objects that is ready to flip, after this many events.
 fn chain(rt: &(impl Threads + Sync), alloc: Global, events: usize) -> Result<World, Fail> {
     let _named = View::Nil;
     let r0 = Slot::own(0).ok_or("slot")?;

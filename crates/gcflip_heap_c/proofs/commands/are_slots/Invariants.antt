@@ -3,6 +3,6 @@ use Rattle.std.specs.List.{AllByRecursion}
 use Rattle.gc_core.specs.Slots.{slot_numbers}
 use Rattle.gcflip_heap_c.proofs.commands.are_slots.Given as goal
 
--- all are slots if those that are left are
+-- all numbers are those of slots if the remaining ones are
 abbrev pub invariant-loop-number : goal.invariant-loop-number
 invariant-loop-number l = AllByRecursion (λ n. n < slot_numbers) l.numbers ↔ AllByRecursion (λ n. n < slot_numbers) (drop l.number-index l.numbers)

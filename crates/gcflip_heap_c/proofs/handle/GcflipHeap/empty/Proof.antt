@@ -29,7 +29,7 @@ use Rattle.gcflip_heap_c.proofs.handle.GcflipHeap.empty.Code as code
 abbrev stayed : Stays f.ended.signature.params f.ended.kept
 stayed = (stay_dropped (plain (λ _. heap_box.al.row)) yes, tt)
 
--- the handle as the machine has it
+-- the handle as a value of the machine
 abbrev word : Val → Val
 word bits = vstruct (vcons vnull (vcons bits vnil))
 

@@ -1,4 +1,4 @@
--- A handle is compared with null, and stays as it is.
+-- A handle is compared with null, and does not change.
 use Rattle.std.proofs.Common.{◌≡◌, Bool, true, false, List, [], ◌∷◌, refl, sym, subst, lit<, Option, Some, None, IsSome, MatchBool}
 use lib.Dec.{T}
 use seplogic.Ra.Ura.{Ura}
@@ -41,7 +41,7 @@ stayed = (stay_ref (0 ∷ []) tt (plain (λ _. R)), tt)
 abbrev X : Type 0
 X = Row.the_row.Denot
 
--- null where there is nothing, else the start of a block
+-- null if there is no value, otherwise the start of a block
 abbrev Placed : Ptr → Option X → Type 0
 Placed p None = p ≡ null_ptr
 Placed p (Some x) = InBlock p

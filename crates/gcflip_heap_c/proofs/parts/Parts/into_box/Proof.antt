@@ -63,7 +63,7 @@ into_box_spec 𝓤 𝓛 𝓜 𝓡 wired X Z LX LZ gs d dd allocates drops =
     let z : Builds.Ghost = ((κs, qs, tt, (self.alloc, (block_ptr b o, tt)), (bits ∷ [], (vptr b o ∷ [], tt))), self.value) in
     -- what the call requires: the bounds, with the value
     move ! (4 ∷ []) $ split3 ! $ move ! (2 ∷ []) $ drop ! $ move ! (1 ∷ 2 ∷ []) $ join ! $ move ! (1 ∷ 0 ∷ []) $ join ! $
-    -- its parameters, the allocator and the pointer, and before these the tokens
+    -- its parameters, the allocator and the pointer, preceded by the tokens
     move ! (2 ∷ []) $ feq_i ! (List Val) (vptr b o ∷ []) (vptr b o ∷ []) refl $ fjoin ! $ move ! (2 ∷ 0 ∷ []) $ fjoin ! $
     move ! (2 ∷ 0 ∷ []) $ join ! $ join ! $ use1 𝓛 (raw (Builds.pre z)) (id⊢ 𝓤 _) $
     calls_at_last ! (framed 𝓤 𝓛.H 𝓜 𝓣) Builds (met 𝓤 𝓛 𝓜 𝓡 (code.calls-std_alloc::boxed::Box::from_raw 𝓡.env wired) X Z LX LZ gs d dd allocates drops) z
