@@ -1,11 +1,15 @@
 mod closing;
 mod gates;
 mod growths;
+mod rows;
 
 use crate::{CallFault, CloseKind, Receipt, Seat, Shared, ThreadsFault};
 use gc_copy::{Step, StepReply};
 use gc_graph::{Number, Op, Reply, Slot, View};
 use gc_world::{Answer, Entry, Event};
+use rows::{Opened, Row, fresh, is_history_of, play, two_seats};
+use std::alloc::Global;
+use std::fmt::Display;
 use std::process::Abort;
 use std::sync::Wait;
 use std::test::Fail;
@@ -13,7 +17,6 @@ use std::thread::{Threads, join};
 
 #[test]
 fn one_seat_of_each_kind(rt: HostRuntime) -> Result<(), Fail> {
-    let _named = View::Nil;
     let r0 = Slot::own(0).ok_or("slot")?;
     let new = Op::New {
         d: r0,
@@ -21,86 +24,73 @@ fn one_seat_of_each_kind(rt: HostRuntime) -> Result<(), Fail> {
         len: 1,
     };
     let put = Op::Put { s: r0, i: 0, t: r0 };
-    let (shared, mut seats) = Shared::open(rt.alloc(), 8, 1, 1)?;
-    assert_eq!(rt; shared.mutators(), 1);
-    let mut collector = seats.pop().ok_or("two seats")?;
-    let mut mutator = seats.pop().ok_or("two seats")?;
-    assert!(rt; seats.is_empty());
-    assert!(rt; mutator.number() == 0 && mutator.is_mutator() && mutator.receipts().is_empty());
-    assert!(rt; collector.number() == 1 && !collector.is_mutator());
-
-    let not_a_mutator = shared.call(&rt, &mut collector, &new);
-    assert!(rt; not_a_mutator == Err(CallFault::NotAMutator));
-    let step_of_mutator = shared.step(&rt, &mut mutator, Step::Scan);
-    assert!(rt; step_of_mutator == Err(CallFault::NotACollector));
-    let useful_of_mutator = shared.useful(&rt, &mut mutator);
-    assert!(rt; useful_of_mutator == Err(CallFault::NotACollector));
-    let no_such_log = shared.step(&rt, &mut collector, Step::Apply(1));
-    assert!(rt; no_such_log == Err(CallFault::NoSuchMutator));
-
-    assert!(rt; shared.call(&rt, &mut mutator, &new) == Ok(Reply::Made));
-    assert!(rt; shared.step(&rt, &mut collector, Step::Scan) == Ok(StepReply::Idle));
-    assert!(rt; shared.step(&rt, &mut collector, Step::Apply(0)) == Ok(StepReply::Idle));
-    let until_the_write = [
-        (Step::Begin, StepReply::Begun),
-        (Step::Roots, StepReply::Copied),
-        (Step::Scan, StepReply::Scanned),
-        (Step::Scan, StepReply::Passed),
+    let rows = [
+        Row::Call(new, Reply::Made),
+        Row::Step(Step::Scan, StepReply::Idle),
+        Row::Step(Step::Apply(0), StepReply::Idle),
+        Row::Useful(Step::Begin, StepReply::Begun),
+        Row::Useful(Step::Roots, StepReply::Copied),
+        Row::Useful(Step::Scan, StepReply::Scanned),
+        Row::Useful(Step::Scan, StepReply::Passed),
+        Row::Call(put, Reply::Done),
+        Row::Useful(Step::Apply(0), StepReply::Applied),
+        Row::Useful(Step::Flip, StepReply::Flipped { pairs: 1 }),
     ];
-    assert!(rt; makes_useful(&rt, &shared, &mut collector, &until_the_write));
-    assert!(rt; shared.call(&rt, &mut mutator, &put) == Ok(Reply::Done));
-    let flipped = StepReply::Flipped { pairs: 1 };
-    let until_the_flip = [(Step::Apply(0), StepReply::Applied), (Step::Flip, flipped)];
-    assert!(rt; makes_useful(&rt, &shared, &mut collector, &until_the_flip));
-    assert_eq!(rt; mutator.receipts().len(), 2);
-    assert_eq!(rt; collector.receipts().len(), 8);
-    let written = mutator.receipts().last().ok_or("two receipts")?;
-    assert!(rt; is_of_the_write(written, put));
-
-    seats.push(collector)?;
-    seats.push(mutator)?;
-    let world = shared.close(seats).map_err(|fault| fault.kind)?;
-    assert!(rt; world.history() == history_of(&new, &put).as_slice());
+    let mut opened = fresh(rt.alloc())?;
+    assert!(rt; are_fresh(&opened));
+    assert!(rt; refuses_the_wrong_seats(&rt, &mut opened, &new));
+    play(&rt, &mut opened, &rows);
+    assert!(rt; has_receipts_of_the_write(&opened, put));
+    let seats = two_seats(rt.alloc(), opened.collector, opened.mutator)?;
+    let world = opened.shared.close(seats).map_err(|fault| fault.kind)?;
+    assert!(rt; is_history_of(world.history(), &rows));
     Ok(())
 }
 
-/// Performs useful steps with the seat. Returns whether they are these, with these replies.
-fn makes_useful<R: Threads + Wait + Sync>(
-    rt: &R,
-    shared: &Shared,
-    seat: &mut Seat,
-    wanted: &[(Step, StepReply)],
-) -> bool {
-    for made in wanted {
-        if shared.useful(rt, seat) != Ok(*made) {
-            return false;
-        }
-    }
-    true
+/// Returns whether the seats are the mutator's and the collector's, in this order, and the mutator's has no receipts.
+fn are_fresh(opened: &Opened) -> bool {
+    let mutator = &opened.mutator;
+    let collector = &opened.collector;
+    opened.shared.mutators() == 1
+        && (
+            mutator.number(),
+            mutator.is_mutator(),
+            mutator.receipts().len(),
+        ) == (0, true, 0)
+        && (collector.number(), collector.is_mutator()) == (1, false)
 }
 
-/// Returns whether this is the receipt of the write, which is the eighth event.
+/// Returns whether the collector's seat may make no command, the mutator's no step, and neither a step whose log does
+/// not exist.
+fn refuses_the_wrong_seats<R: Threads + Wait + Sync>(
+    rt: &R,
+    opened: &mut Opened,
+    new: &Op,
+) -> bool {
+    let shared = &opened.shared;
+    shared.call(rt, &mut opened.collector, new) == Err(CallFault::NotAMutator)
+        && shared.step(rt, &mut opened.mutator, Step::Scan) == Err(CallFault::NotACollector)
+        && shared.useful(rt, &mut opened.mutator) == Err(CallFault::NotACollector)
+        && shared.step(rt, &mut opened.collector, Step::Apply(1)) == Err(CallFault::NoSuchMutator)
+}
+
+/// Returns whether the mutator's seat has two receipts, the last of the write, which is the eighth event, and the
+/// collector's seat the eight others.
+fn has_receipts_of_the_write(opened: &Opened, put: Op) -> bool {
+    let receipts = opened.mutator.receipts();
+    receipts.len() == 2
+        && opened.collector.receipts().len() == 8
+        && receipts
+            .last()
+            .is_some_and(|written| is_of_the_write(written, put))
+}
+
+/// Returns whether the receipt is that of the write.
 fn is_of_the_write(receipt: &Receipt, put: Op) -> bool {
     receipt.place() == 7
         && receipt.event() == Event::Mutate { m: 0, op: put }
         && receipt.answer() == Answer::Mutator(Reply::Done)
         && receipt.entry() == Entry::command(0, &put, &Reply::Done)
-}
-
-/// Returns the history of one mutator and one collector. All collector steps but two were performed as useful steps.
-fn history_of(new: &Op, put: &Op) -> [Entry; 10] {
-    [
-        Entry::command(0, new, &Reply::Made),
-        Entry::step(Step::Scan, StepReply::Idle),
-        Entry::step(Step::Apply(0), StepReply::Idle),
-        Entry::useful(Step::Begin, StepReply::Begun),
-        Entry::useful(Step::Roots, StepReply::Copied),
-        Entry::useful(Step::Scan, StepReply::Scanned),
-        Entry::useful(Step::Scan, StepReply::Passed),
-        Entry::command(0, put, &Reply::Done),
-        Entry::useful(Step::Apply(0), StepReply::Applied),
-        Entry::useful(Step::Flip, StepReply::Flipped { pairs: 1 }),
-    ]
 }
 
 #[test]
@@ -141,32 +131,7 @@ fn three_seats_in_threads(rt: HostRuntime) -> Result<(), Fail> {
     let collector = seats.pop().ok_or("three seats")?;
     let second = seats.pop().ok_or("three seats")?;
     let first = seats.pop().ok_or("three seats")?;
-    let shared_slot = Slot::shared(0).ok_or("slot")?;
-    let own_slot = Slot::own(0).ok_or("slot")?;
-    let number = Number::new(7).ok_or("number")?;
-    let make = [
-        Op::New {
-            d: shared_slot,
-            kind: 3,
-            len: 1,
-        },
-        Op::Num {
-            d: own_slot,
-            n: number,
-        },
-    ];
-    let write = [
-        Op::Put {
-            s: shared_slot,
-            i: 0,
-            t: shared_slot,
-        },
-        Op::Get {
-            d: own_slot,
-            s: shared_slot,
-            i: 0,
-        },
-    ];
+    let (make, write) = make_and_write()?;
     let (first, (second, collector)) = join(
         &rt,
         || commands(&rt, &shared, first, &make),
@@ -186,6 +151,26 @@ fn three_seats_in_threads(rt: HostRuntime) -> Result<(), Fail> {
     Ok(())
 }
 
+/// Returns the commands of two mutators. The first makes a shared object, the second writes its field and reads it.
+fn make_and_write() -> Result<([Op; 2], [Op; 2]), Fail> {
+    let g0 = Slot::shared(0).ok_or("slot")?;
+    let r0 = Slot::own(0).ok_or("slot")?;
+    let seven = Number::new(7).ok_or("number")?;
+    let make = [
+        Op::New {
+            d: g0,
+            kind: 3,
+            len: 1,
+        },
+        Op::Num { d: r0, n: seven },
+    ];
+    let write = [
+        Op::Put { s: g0, i: 0, t: g0 },
+        Op::Get { d: r0, s: g0, i: 0 },
+    ];
+    Ok((make, write))
+}
+
 /// Performs the two commands fifty times.
 fn commands(rt: &(impl Wait + Abort), shared: &Shared, mut seat: Seat, ops: &[Op; 2]) -> Seat {
     for _ in 0..50 {
@@ -203,23 +188,32 @@ fn steps(rt: &(impl Threads + Wait + Abort + Sync), shared: &Shared, mut seat: S
     seat
 }
 
+/// Asserts that the fault is shown by this text.
+fn expect_text(
+    rt: &impl Abort,
+    alloc: Global,
+    fault: &impl Display,
+    text: &str,
+) -> Result<(), Fail> {
+    assert_eq!(rt; fault.to_string(alloc)?.as_str(), text);
+    Ok(())
+}
+
 #[test]
 fn faults_have_their_texts(rt: HostRuntime) -> Result<(), Fail> {
     let alloc = rt.alloc();
     let gate = ThreadsFault::Gate { seat: 2, n: 40 };
-    assert_eq!(rt;
-        gate.to_string(alloc)?.as_str(),
-        "threads: gate at seat 2 call 40"
-    );
-    let not_started = ThreadsFault::NotStarted.to_string(alloc)?;
-    assert_eq!(rt; not_started.as_str(), "threads: not started");
     let torn = ThreadsFault::Close(CloseKind::Torn { seat: 1, n: 17 });
-    assert_eq!(rt;
-        torn.to_string(alloc)?.as_str(),
-        "close: torn seat 1 receipt 17"
-    );
-    assert_eq!(rt; CloseKind::Seats.to_string(alloc)?.as_str(), "close: seats");
-    assert_eq!(rt; CloseKind::Extra.to_string(alloc)?.as_str(), "close: extra");
-    assert_eq!(rt; CallFault::NoMemory.to_string(alloc)?.as_str(), "no memory");
+    expect_text(&rt, alloc, &gate, "threads: gate at seat 2 call 40")?;
+    expect_text(
+        &rt,
+        alloc,
+        &ThreadsFault::NotStarted,
+        "threads: not started",
+    )?;
+    expect_text(&rt, alloc, &torn, "close: torn seat 1 receipt 17")?;
+    expect_text(&rt, alloc, &CloseKind::Seats, "close: seats")?;
+    expect_text(&rt, alloc, &CloseKind::Extra, "close: extra")?;
+    expect_text(&rt, alloc, &CallFault::NoMemory, "no memory")?;
     Ok(())
 }

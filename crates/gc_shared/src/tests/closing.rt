@@ -1,9 +1,10 @@
 //! Tests of closing: whatever the seats are, the returned world is the one behind the lock, with its history and its
 //! kept pair.
 
-use crate::{CloseFault, CloseKind, Seat, Shared};
+use super::rows::{Opened, Row, fresh, play, two_seats};
+use crate::{CloseFault, CloseKind};
 use gc_copy::{Step, StepReply};
-use gc_graph::{Op, Reply, Slot, View};
+use gc_graph::{Op, Reply, Slot};
 use gc_world::World;
 use std::alloc::Global;
 use std::process::Abort;
@@ -11,32 +12,14 @@ use std::sync::Wait;
 use std::test::Fail;
 use std::thread::Threads;
 
-/// Opens a shared world with one seat of each kind.
-#[derive(Drop)]
-struct Opened {
-    shared: Shared,
-    mutator: Seat,
-    collector: Seat,
-}
-
-fn fresh(alloc: Global) -> Result<Opened, Fail> {
-    let (shared, mut seats) = Shared::open(alloc, 32, 1, 1)?;
-    let collector = seats.pop().ok_or("two seats")?;
-    let mutator = seats.pop().ok_or("two seats")?;
-    Ok(Opened {
-        shared,
-        mutator,
-        collector,
-    })
-}
-
 /// Returns a world that has begun a collection and flipped, so it has two events and keeps a pair.
 fn flipped(rt: &(impl Threads + Wait + Abort + Sync), alloc: Global) -> Result<Opened, Fail> {
     let mut opened = fresh(alloc)?;
-    let begun = opened.shared.useful(rt, &mut opened.collector);
-    assert!(rt; begun == Ok((Step::Begin, StepReply::Begun)));
-    let flipped = opened.shared.useful(rt, &mut opened.collector);
-    assert!(rt; flipped == Ok((Step::Flip, StepReply::Flipped { pairs: 0 })));
+    let rows = [
+        Row::Useful(Step::Begin, StepReply::Begun),
+        Row::Useful(Step::Flip, StepReply::Flipped { pairs: 0 }),
+    ];
+    play(rt, &mut opened, &rows);
     Ok(opened)
 }
 
@@ -57,17 +40,10 @@ fn expect_fault(rt: &impl Abort, closed: Result<World, CloseFault>, kind: CloseK
     }
 }
 
-fn two(alloc: Global, first: Seat, second: Seat) -> Result<Vec<Seat>, Fail> {
-    let mut seats = Vec::new(alloc);
-    seats.push(first)?;
-    seats.push(second)?;
-    Ok(seats)
-}
-
 #[test]
 fn its_own_seats(rt: HostRuntime) -> Result<(), Fail> {
     let opened = flipped(&rt, rt.alloc())?;
-    let seats = two(rt.alloc(), opened.collector, opened.mutator)?;
+    let seats = two_seats(rt.alloc(), opened.collector, opened.mutator)?;
     let world = opened.shared.close(seats).map_err(|fault| fault.kind)?;
     expect_whole(&rt, world);
     Ok(())
@@ -84,15 +60,13 @@ fn no_seats(rt: HostRuntime) -> Result<(), Fail> {
 /// Takes the mutator's receipt from another world. Its place is that of a step in this one.
 #[test]
 fn a_receipt_that_does_not_stand(rt: HostRuntime) -> Result<(), Fail> {
-    let _named = View::Nil;
     let nil = Op::Nil {
         d: Slot::own(0).ok_or("slot")?,
     };
     let opened = flipped(&rt, rt.alloc())?;
     let mut other = fresh(rt.alloc())?;
-    let done = other.shared.call(&rt, &mut other.mutator, &nil);
-    assert!(rt; done == Ok(Reply::Done));
-    let seats = two(rt.alloc(), opened.collector, other.mutator)?;
+    play(&rt, &mut other, &[Row::Call(nil, Reply::Done)]);
+    let seats = two_seats(rt.alloc(), opened.collector, other.mutator)?;
     let closed = opened.shared.close(seats);
     expect_fault(&rt, closed, CloseKind::Torn { seat: 0, n: 0 });
     Ok(())
@@ -103,7 +77,7 @@ fn a_receipt_that_does_not_stand(rt: HostRuntime) -> Result<(), Fail> {
 fn events_without_receipts(rt: HostRuntime) -> Result<(), Fail> {
     let opened = flipped(&rt, rt.alloc())?;
     let other = fresh(rt.alloc())?;
-    let seats = two(rt.alloc(), opened.mutator, other.collector)?;
+    let seats = two_seats(rt.alloc(), opened.mutator, other.collector)?;
     let closed = opened.shared.close(seats);
     expect_fault(&rt, closed, CloseKind::Extra);
     Ok(())

@@ -8,9 +8,12 @@ use gc_copy::Step;
 use gc_graph::{Number, Op, Reply, Slot, View};
 use gc_world::{Answer, Event, World};
 use std::alloc::{AllocError, Global};
+use std::process::Abort;
+use std::sync::Wait;
 use std::sync::atomic::{AtomicBool, Ordering};
 use std::test::Fail;
 use std::thread;
+use std::thread::Threads;
 use std::time::{Clock, Duration};
 
 /// The most milliseconds that a gate waits.
@@ -101,23 +104,45 @@ impl<'a, R: Clock> Gate for WaitsForWrite<'a, R> {
     }
 }
 
-#[test]
-fn a_write_is_seen(rt: HostRuntime) -> Result<(), Fail> {
-    let _named = View::Nil;
-    let (writes, reads) = write_and_read()?;
-    let scripts = two(rt.alloc(), &writes, &reads)?;
+/// Runs the two scripts in threads with a collector of 40 turns, the second after the first's third command. Asserts how
+/// many events there are, and how often each mutator got an answer.
+fn expect_after_write<R: Threads + Wait + Clock + Abort + Sync>(
+    rt: &R,
+    alloc: Global,
+    scripts: Vec<Vec<Op>>,
+    events: usize,
+    answers: &[(u8, Answer, u32)],
+) -> Result<(), Fail>
+    requires { vec_len scripts ≡ 2 }
+{
     let gate = WaitsForWrite {
-        rt: &rt,
+        rt,
         written: AtomicBool::new(false),
     };
-    let world = run_threads(&rt, rt.alloc(), 64, scripts, 40, &gate)?;
-    assert_eq!(rt; world.history().len(), 44);
-    assert!(rt; answers_of(&world, 0, Answer::Mutator(Reply::Made)) == 1);
-    assert!(rt; answers_of(&world, 0, Answer::Mutator(Reply::Done)) == 2);
-    let five = Number::new(5).ok_or("number")?;
-    let saw_five = Answer::Mutator(Reply::Saw(View::Num(five)));
-    assert!(rt; answers_of(&world, 1, saw_five) == 1);
+    let world = run_threads(rt, alloc, 64, scripts, 40, &gate)?;
+    assert_eq!(rt; world.history().len(), events);
+    for (m, answer, count) in answers {
+        assert!(rt; answers_of(&world, *m, *answer) == *count);
+    }
     Ok(())
+}
+
+/// Returns the answer that shows the number 5.
+fn saw_five() -> Result<Answer, Fail> {
+    let five = Number::new(5).ok_or("number")?;
+    Ok(Answer::Mutator(Reply::Saw(View::Num(five))))
+}
+
+#[test]
+fn a_write_is_seen(rt: HostRuntime) -> Result<(), Fail> {
+    let (writes, reads) = write_and_read()?;
+    let scripts = two(rt.alloc(), &writes, &reads)?;
+    let answers = [
+        (0, Answer::Mutator(Reply::Made), 1),
+        (0, Answer::Mutator(Reply::Done), 2),
+        (1, saw_five()?, 1),
+    ];
+    expect_after_write(&rt, rt.alloc(), scripts, 44, &answers)
 }
 
 /// Returns two scripts. The first writes 5 to the second field of a new shared raw object. The second reads that field,
@@ -145,22 +170,15 @@ fn write_and_read_raw() -> Result<([Op; 3], [Op; 2]), Fail> {
 
 #[test]
 fn a_write_to_a_raw_object_is_seen(rt: HostRuntime) -> Result<(), Fail> {
-    let _named = View::Nil;
     let (writes, reads) = write_and_read_raw()?;
     let scripts = two(rt.alloc(), &writes, &reads)?;
-    let gate = WaitsForWrite {
-        rt: &rt,
-        written: AtomicBool::new(false),
-    };
-    let world = run_threads(&rt, rt.alloc(), 64, scripts, 40, &gate)?;
-    assert_eq!(rt; world.history().len(), 45);
-    assert!(rt; answers_of(&world, 0, Answer::Mutator(Reply::Made)) == 1);
-    assert!(rt; answers_of(&world, 0, Answer::Mutator(Reply::Done)) == 2);
-    let five = Number::new(5).ok_or("number")?;
-    let saw_five = Answer::Mutator(Reply::Saw(View::Num(five)));
-    assert!(rt; answers_of(&world, 1, saw_five) == 1);
-    assert!(rt; answers_of(&world, 1, Answer::Mutator(Reply::NoNumber)) == 1);
-    Ok(())
+    let answers = [
+        (0, Answer::Mutator(Reply::Made), 1),
+        (0, Answer::Mutator(Reply::Done), 2),
+        (1, saw_five()?, 1),
+        (1, Answer::Mutator(Reply::NoNumber), 1),
+    ];
+    expect_after_write(&rt, rt.alloc(), scripts, 45, &answers)
 }
 
 /// Returns how many commands of mutator m got this answer.
@@ -373,9 +391,7 @@ fn a_command_is_told_once_it_is_made(rt: HostRuntime) -> Result<(), Fail> {
     };
     let world = run_threads(&rt, rt.alloc(), 64, scripts, 0, &gate)?;
     assert_eq!(rt; world.history().len(), 5);
-    let five = Number::new(5).ok_or("number")?;
-    let saw_five = Answer::Mutator(Reply::Saw(View::Num(five)));
-    assert!(rt; answers_of(&world, 1, saw_five) == 2);
+    assert!(rt; answers_of(&world, 1, saw_five()?) == 2);
     Ok(())
 }
 
