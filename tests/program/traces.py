@@ -1,7 +1,6 @@
 """Traces with the reply to each line, and other texts with their faults.
 
-The replies and faults stand as the formats and the commands' rules give them (docs/FORMATS.md); none was taken from
-a run.
+The replies and faults follow from the formats and the commands' rules (docs/FORMATS.md); none was taken from a run.
 """
 import textwrap
 
