@@ -52,7 +52,7 @@ def compilers():
     if clang:
         yield "the toolchain's clang", clang, [*clang, "--driver-mode=g++"]
     else:
-        skip("the toolchain's clang", "it is not there")
+        skip("the toolchain's clang", "it is missing")
 
 
 class Library:

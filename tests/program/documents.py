@@ -208,7 +208,7 @@ def crates(_program, _folder):
     with open(os.path.join(TOP, "crates.txt"), encoding="utf-8") as file:
         for line in file:
             path = "crates/%s/README.md" % line.split(":")[0].split(" ")[0]
-            yield "%s is there" % path, None if os.path.exists(os.path.join(TOP, path)) else "there is no such file"
+            yield "%s exists" % path, None if os.path.exists(os.path.join(TOP, path)) else "there is no such file"
 
 
 # ---- edits
@@ -298,7 +298,7 @@ def wrong_output(command, output, program):
     found = subprocess.run(["bash", "-c", without_program(command, program)], cwd=TOP, stdout=subprocess.PIPE,
                            stderr=subprocess.PIPE, timeout=600)
     printed = found.stdout.decode("utf-8", "replace")
-    return None if printed == output else "printed %r, and %r is shown" % (printed, output)
+    return None if printed == output else "printed %r, but %r is shown" % (printed, output)
 
 
 def commands(program, _folder):
@@ -361,7 +361,7 @@ def why_not_applied(crate, edit):
                     with open(path, encoding="utf-8") as file:
                         texts[path] = file.read()
                 if texts[path].count(old) != 1:
-                    return "an old text stands %d times in the file" % texts[path].count(old)
+                    return "an old text occurs %d times in the file" % texts[path].count(old)
                 texts[path] = texts[path].replace(old, line[len("new: "):])
                 old, pairs = None, pairs + 1
             elif line and not line.startswith("#"):

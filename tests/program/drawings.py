@@ -149,7 +149,7 @@ def faults(_program, _folder):
     yield "a root is marked in both heaps", None if found == ["word 6", "word 6"] else "marked %s" % found
     text = read_pair(pairs.text_of(pairs.CHECKED["no_room_for_the_last_link"][0]).decode())
     found = marked(pair_picture.drawn(text, "shape", Verdict("refused 1 OldShape 3")))
-    yield "a word that is no header is marked", None if found == ["word 5"] else "marked %s" % found
+    yield "a word that is not a header is marked", None if found == ["word 5"] else "marked %s" % found
     yield "a yes has no mark", None if marked(drawn_example("garbage_left_behind")) == [] else "something is marked"
     refusals = {Verdict(verdict).refusal for _, _, verdict in pairs.texts_and_verdicts()} - {None}
     yield "each refusal is explained", None if refusals == set(MEANINGS) else "not tried: %s" % (set(MEANINGS) - refusals)
@@ -245,7 +245,7 @@ def crates(_program, _folder):
     uses = {"top": ["left", "right", "low"], "left": ["low"], "right": ["low"], "low": []}
     found = sorted(crates_picture.arrows_of(uses))
     wanted = [("left", "low"), ("right", "low"), ("top", "left"), ("top", "right")]
-    yield "what another crate covers has no arrow", None if found == wanted else "arrows %s" % found
+    yield "a crate that is used through another one has no arrow", None if found == wanted else "arrows %s" % found
     yield "drawing of four crates", wrong_drawing(crates_picture.drawn(uses, "four"))
 
 

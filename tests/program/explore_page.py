@@ -109,7 +109,7 @@ def buttons(program, folder):
         yield "the replies beside the lines", wrong(found, replies)
         yield "the version was raised", wrong(text.split("\n")[0], "heaptrace 3")
         shown.command("num", to="r0", number="x")
-        yield "a number that is none is not sent", wrong(shown.trace(), text)
+        yield "an invalid number is not sent", wrong(shown.trace(), text)
         yield "no complaint", complaints(shown)
 
 
@@ -128,7 +128,7 @@ def wrong_texts(program, folder):
             shown.wait_for("trace-fault", said)
             number = re.search(r"\d+$", said)
             line = int(number.group()) if number else 1
-            yield "the fault of %s stands at its line" % name, wrong(shown.replies().get(line), said)
+            yield "the fault of %s is at its line" % name, wrong(shown.replies().get(line), said)
             yield "%s cannot be played" % name, wrong(shown.run("return document.getElementById('play-step').getAttribute('aria-disabled');"), "true")
             shown.set("#trace-editor textarea", good)
             shown.wait("document.getElementById('trace-fault').hidden")
@@ -136,10 +136,10 @@ def wrong_texts(program, folder):
             shown.step(at, 11)
         shown.set("#trace-editor textarea", good.replace("c roots", "c roots\nc roots"))
         shown.wait_for("event", "of 12")
-        yield "an edit keeps what stands before it played", wrong("Event 4 of 12" in shown.text("event") or shown.text("event"), True)
+        yield "an edit keeps the events before it played", wrong("Event 4 of 12" in shown.text("event") or shown.text("event"), True)
         shown.drop("#picture", "returns.trace", good.replace("\n", "\r\n").encode())
         shown.wait_for("trace-fault", "trace: bad header")
-        yield "a dropped file with carriage returns is read as it stands", None
+        yield "a dropped file with carriage returns is read unchanged", None
         shown.drop("#trace", "good.trace", good.encode())
         shown.wait("document.getElementById('trace-fault').hidden")
         yield "a dropped trace is opened", wrong(shown.trace(), good)

@@ -80,7 +80,7 @@ def refusals(_program, folder):
         for length, wanted in {"16777217": 413, "99999999999999999999": 413, "-1": 411, "1x": 411, "": 411, "\u00b2": 411}.items():
             status = raw_request(server, path, "Content-Length: %s\r\n" % length)
             yield "a length of %r" % length, wrong(status, wanted)
-        yield "a body that is too long is read away", wrong(server.request("POST", path, b" " * 20000000, **json_type)[0], 413)
+        yield "a body that is too long is read and discarded", wrong(server.request("POST", path, b" " * 20000000, **json_type)[0], 413)
         idle = [socket.create_connection(("127.0.0.1", server.port), timeout=SECONDS) for _ in range(40)]
         yield "more than 32 connections are closed", wrong([is_closed(connection) for connection in idle[32:]], [True] * 8)
         for connection in idle:

@@ -40,7 +40,7 @@ def compiler():
     clang = os.path.join(toolchain, "bin", "clang")
     if os.path.exists(clang):
         return [clang, "--ld-path=" + os.path.join(toolchain, "bin", "ld.lld"), "-nostdlib"]
-    raise FileNotFoundError("neither cc nor the toolchain's clang is there")
+    raise FileNotFoundError("there is neither cc nor the toolchain's clang")
 
 
 def refusing_allocator(folder):

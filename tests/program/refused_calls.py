@@ -73,7 +73,7 @@ def wrong_count(name, refused):
     if name in EXACTLY and refused != EXACTLY[name]:
         return "%d requests were refused, wanted %d" % (refused, EXACTLY[name])
     if refused < AT_LEAST.get(name, 1):
-        return "%d requests were refused, wanted %d at least" % (refused, AT_LEAST[name])
+        return "%d requests were refused, wanted at least %d" % (refused, AT_LEAST[name])
     return None
 
 
@@ -98,7 +98,7 @@ def refused_calls(_program, folder):
     refusing_allocator(folder)
     found = names()
     for name in [*EXACTLY, *AT_LEAST, *SPARED]:
-        yield "refused_calls, %s is a test" % name, None if name in found else "it is not there"
+        yield "refused_calls, %s is a test" % name, None if name in found else "it is missing"
     for name in found:
         yield "refused_calls, %s" % name, wrong_refusals(folder, name)
 

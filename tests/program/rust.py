@@ -61,12 +61,12 @@ def suites(_program, folder):
     if done(["cargo", "clippy", "--version"]).status == 0:
         yield "cargo clippy", failed(cargo.run("clippy", "--all-targets", "--", "-D", "warnings"))
     else:
-        skip("cargo clippy", "it is not there")
+        skip("cargo clippy", "it is missing")
     yield "cargo doc", failed(cargo.run("doc"))
     if done(["cargo", "fmt", "--version"]).status == 0:
         yield "cargo fmt", failed(done(["cargo", "fmt", "--check"], cwd=CRATE))
     else:
-        skip("cargo fmt", "it is not there")
+        skip("cargo fmt", "it is missing")
 
 
 def examples(_program, folder):
