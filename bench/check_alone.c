@@ -1,6 +1,6 @@
-/* Times the check of the library for C on two heap images in memory: check_alone FILE RUNS
+/* Times the check by the library for C on two heap images in memory: check_alone FILE RUNS
  *
- * Reads the pair text FILE, which has to be a good one, checks it RUNS times, and prints the least time of a check in
+ * Reads the pair text FILE, whose verdict must be a yes, checks it RUNS times, and prints the least time of a check in
  * milliseconds. */
 #include "gcflip.h"
 

@@ -1,6 +1,6 @@
 /* The machine on the proved collector: registers are the mutator's own slots, and the stack is an object in slot 16. A
  * collection begins when three quarters of the heap are in use, or, without incremental steps, when the heap is full. The
- * steps for eight objects are made at once. */
+ * steps for eight objects are made together. */
 #include "gcflip_heap.h"
 #include <malloc.h>
 
@@ -32,7 +32,7 @@ static inline void work(uint32_t most)
     }
 }
 
-/* Makes the steps that are due for an object of so many fields. */
+/* Performs the steps that are due for an object with this many fields. */
 static inline void pay(int fields)
 {
     if (options.steps && (is_open || words_in_use > MOST_WORDS / 4 * 3) && ++owed == BATCH) {
@@ -42,7 +42,7 @@ static inline void pay(int fields)
     words_in_use += fields + 2;
 }
 
-/* Makes the object, and first a whole collection if the heap has no room for it. */
+/* Makes the object, after a whole collection if the heap has no room for it. */
 #define MADE(call)                            \
     do {                                      \
         uint32_t answer_ = call;              \
@@ -125,7 +125,7 @@ static inline void free_object(int s) { (void)s; }
 
 static void open_memory(void)
 {
-    /* glibc keeps what is freed, as the Boehm collector does: a new space then costs no page faults. */
+    /* Lets glibc keep freed blocks, as the Boehm collector does: a new space then costs no page faults. */
     mallopt(M_MMAP_THRESHOLD, 64 << 20);
     mallopt(M_TRIM_THRESHOLD, 128 << 20);
     if (gcflip_heap_open(&heap, MOST_WORDS, 1) != GCFLIP_DONE)

@@ -1,5 +1,5 @@
-/* How long the program and its single calls take, in processor time, so that other work on the machine does not count. Of
- * the calls nothing is compiled without PAUSES. */
+/* Measures the program and its single calls in processor time, so that other work on the machine does not count. Without
+ * PAUSES, single calls are not measured. */
 #ifndef PAUSES_H
 #define PAUSES_H
 
@@ -18,7 +18,7 @@ static inline double seconds(void)
 #ifdef PAUSES
 
 /* A call of more than a microsecond counts as a pause of the program. Its time is added to the slots of ten
- * microseconds in which it falls. */
+ * microseconds that it overlaps. */
 enum { SLOT = 10000, SLOTS = 6000000, LEAST_PAUSE = 1000, BUCKETS = 100000, BUCKET = 100 };
 
 static uint64_t first_moment, longest, calls, bucket[BUCKETS];
@@ -65,7 +65,7 @@ static inline void open_pauses(void)
     first_moment = nanoseconds();
 }
 
-/* Returns the time below which this part of the calls stays, in microseconds. */
+/* Returns the time in microseconds below which this share of the calls stays. */
 static inline double quantile(double part)
 {
     uint64_t seen = 0, wanted = (uint64_t)(part * (double)calls);
@@ -75,7 +75,7 @@ static inline double quantile(double part)
     return (double)(k + 1) * BUCKET / 1000;
 }
 
-/* Returns the least part of a window of so many slots that was left to the program. */
+/* Returns the least share of a window of this many slots that was left to the program. */
 static inline double utilisation(uint64_t window)
 {
     uint64_t slots = (nanoseconds() - first_moment) / SLOT, sum = 0, most = 0;

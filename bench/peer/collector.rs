@@ -1,4 +1,4 @@
-//! The collector: replicas beside the originals, mutation logs, and checked flips.
+//! The collector: replicas, mutation logs, and checked flips.
 
 use crate::machine::{Heap, Op, Reply, Space, target};
 use crate::pair::{self, Image};
@@ -42,7 +42,7 @@ struct Collection {
 struct NoRoom;
 
 impl Collection {
-    /// The replica of an original, which is placed where there is none.
+    /// Returns the replica of an original, and places it first if there is none.
     fn replica(&mut self, old: &mut Space, at: usize) -> Result<usize, NoRoom> {
         if old.words[at + 1] == 0 {
             let placed = if old.is_raw(at) { self.new.place_copy(old, at) } else { self.new.place(old.words[at], at as u64) };
@@ -52,12 +52,12 @@ impl Collection {
         Ok(old.words[at + 1] as usize)
     }
 
-    /// The word with a reference to a replica in the place of one to its original.
+    /// Returns the word, with a reference to an original replaced by one to its replica.
     fn moved(&mut self, old: &mut Space, word: u64) -> Result<u64, NoRoom> {
         target(word).map_or(Ok(word), |at| Ok(2 * self.replica(old, at)? as u64))
     }
 
-    /// Brings a field of a replica up to date with what its original has now.
+    /// Brings a field of a replica up to date with its original.
     fn bring(&mut self, old: &mut Space, original: usize, replica: usize, field: usize) -> Result<(), NoRoom> {
         let held = old.words[original + 2 + field];
         let word = if old.is_raw(original) { held } else { self.moved(old, held)? };
@@ -129,7 +129,7 @@ pub struct World {
     heap: Heap,
     mutators: u8,
     open: Option<Collection>,
-    /// Whether the pair of a flip is kept, and that of the last flip, as the checker saw it.
+    /// Whether the pair of a flip is kept, and the pair of the last flip, as the checker saw it.
     keeps: bool,
     kept: Option<(Image, Image, Vec<(u64, u64)>)>,
 }
@@ -139,7 +139,7 @@ impl World {
         World { heap: Heap::new(size, mutators), mutators, open: None, keeps, kept: None }
     }
 
-    /// Takes the pair of the last flip out.
+    /// Returns the pair of the last flip, and keeps it no longer.
     pub fn take_flip(&mut self) -> Option<(Image, Image, Vec<(u64, u64)>)> {
         self.kept.take()
     }

@@ -1,4 +1,4 @@
-//! Reads a text from its front in one pass, without cutting lines or words first. `None` is a line that is not in its
+//! Reads a text from its front in one pass, without cutting lines or words first. `None` means a line that is not in
 //! canonical form.
 
 use crate::collector::Step;
@@ -22,7 +22,7 @@ impl Cursor<'_> {
         found.then(|| self.at += N)
     }
 
-    /// Reads digits without a leading zero. What follows them is the caller's to test.
+    /// Reads digits without a leading zero. The caller tests what follows them.
     pub fn decimal(&mut self, most: u64) -> Option<u64> {
         let first = self.byte()?.wrapping_sub(b'0');
         if first > 9 {
@@ -45,7 +45,7 @@ impl Cursor<'_> {
         (value <= most).then_some(value)
     }
 
-    /// Reads 0 to 15, without a branch for the second digit. A line end always follows, so two bytes are there.
+    /// Reads 0 to 15, without a branch for the second digit. A line end always follows, so there are two bytes.
     fn nibble(&mut self) -> Option<u8> {
         let word = self.bytes[self.at..].first_chunk::<2>()?;
         let (tens, ones) = (word[0].wrapping_sub(b'0'), word[1].wrapping_sub(b'0'));

@@ -1,4 +1,4 @@
-//! Mutators on a heap of words: the commands, without a collector.
+//! The mutators' commands on a heap of words, without a collector.
 
 #[derive(Clone, Copy)]
 pub struct Slot {
@@ -51,12 +51,12 @@ impl Space {
         Space { size, words }
     }
 
-    /// How many fields the object at an address has.
+    /// Returns the number of fields of the object at an address.
     pub fn len(&self, at: usize) -> usize {
         (self.words[at] & 0xffff) as usize
     }
 
-    /// Whether the fields of an object are plain numbers.
+    /// Returns whether the fields of an object are plain numbers.
     pub fn is_raw(&self, at: usize) -> bool {
         self.words[at] >> 24 == 3
     }
@@ -73,7 +73,7 @@ impl Space {
         Some(at)
     }
 
-    /// Places an object with nil fields at the end, where it has room, and gives its address.
+    /// Places an object with nil fields at the end, if there is room, and returns its address.
     pub fn place(&mut self, header: u64, link: u64) -> Option<usize> {
         let (at, len) = (self.words.len(), (header & 0xffff) as usize);
         if len + 2 > self.size - at {
@@ -86,7 +86,7 @@ impl Space {
     }
 }
 
-/// The address that a word refers to.
+/// Returns the address that a word refers to.
 pub fn target(word: u64) -> Option<usize> {
     (word != 0 && word % 2 == 0).then_some((word / 2) as usize)
 }
@@ -134,7 +134,7 @@ impl Heap {
         Reply::Made
     }
 
-    /// The address of a field of what the slot refers to, and whether it is raw.
+    /// Returns the address of a field of the object that the slot refers to, and whether the object is raw.
     fn field(&self, m: u8, s: Slot, i: u16) -> Result<(bool, usize), Reply> {
         let at = target(self.root(m, s)).ok_or(Reply::NoObject)?;
         if (i as usize) < self.space.len(at) { Ok((self.space.is_raw(at), at + 2 + i as usize)) } else { Err(Reply::NoField) }
@@ -173,7 +173,7 @@ impl Heap {
         }
     }
 
-    /// The object and the field that a `put` of mutator m writes.
+    /// Returns the object and the field that a `put` of mutator m writes.
     pub fn written(&self, m: u8, s: Slot, i: u16) -> Option<(usize, usize)> {
         Some((target(self.root(m, s))?, i as usize))
     }

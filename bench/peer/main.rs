@@ -1,6 +1,6 @@
-//! The player of traces and the checker of pairs in plain Rust, for their speed alone: they read, play, check and write
-//! what gcflip does, with the panics, checks and unproved steps of ordinary Rust. Nothing else of the repository stands
-//! on them.
+//! The player of traces and the checker of pairs in plain Rust, for the benchmark only. They read, play, check and write
+//! what gcflip does, with the panics, checks and unproved steps of ordinary Rust. Nothing else in the repository uses
+//! them.
 
 mod collector;
 mod cursor;
@@ -38,7 +38,7 @@ fn checked(path: &str) -> io::Result<ExitCode> {
     })
 }
 
-/// The least time of a check of images in memory, in milliseconds.
+/// Returns the least time of a check of images in memory, in milliseconds.
 fn checked_alone(path: &str, runs: u32) -> io::Result<ExitCode> {
     let text = std::fs::read(path)?;
     let Ok((old, new, pairs)) = pair::read(&text) else {
@@ -63,8 +63,8 @@ fn played(path: &str, wanted: Wanted) -> io::Result<ExitCode> {
     })
 }
 
-/// `peer play FILE`, `peer report FILE`, `peer pair FILE N` and `peer check FILE`, as gcflip takes them, and `peer check-alone FILE
-/// RUNS`.
+/// Runs `peer play FILE`, `peer report FILE`, `peer pair FILE N` and `peer check FILE`, which are gcflip's commands, and `peer check-alone
+/// FILE RUNS`.
 fn main() -> ExitCode {
     let words: Vec<String> = std::env::args().skip(1).collect();
     let words: Vec<&str> = words.iter().map(String::as_str).collect();

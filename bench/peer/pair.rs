@@ -12,7 +12,7 @@ pub struct Image {
     words: Vec<u64>,
     end: u64,
     roots: Vec<u64>,
-    /// Whether headers of raw objects count.
+    /// Whether headers of raw objects are valid.
     raws: bool,
 }
 
@@ -34,7 +34,7 @@ struct Lines<'a> {
 }
 
 impl<'a> Lines<'a> {
-    /// What the next line is read as. Its line feed follows what `read` takes.
+    /// Reads the next line with `read`, and then its line feed.
     fn next<T>(&mut self, read: impl Fn(&mut Cursor<'a>) -> Option<T>) -> Result<T, String> {
         let start = self.cursor.at;
         let found = read(&mut self.cursor).filter(|_| self.cursor.skip(b"\n").is_some());
@@ -73,7 +73,7 @@ impl<'a> Lines<'a> {
     }
 }
 
-/// Whether a line feed is left.
+/// Returns whether a line feed is left.
 fn memchr(text: &[u8]) -> bool {
     text.contains(&b'\n')
 }
@@ -91,7 +91,7 @@ fn two(cursor: &mut Cursor<'_>) -> Option<(u64, u64)> {
     Some((first, cursor.decimal(u64::MAX)?))
 }
 
-/// Where objects start, or the first address that is wrong.
+/// Returns where objects start, or the first wrong address.
 fn starts(image: &Image) -> Result<Vec<bool>, usize> {
     if image.end > image.size || image.words[0] != 0 {
         return Err(0);
@@ -110,7 +110,7 @@ fn starts(image: &Image) -> Result<Vec<bool>, usize> {
     Ok(starts)
 }
 
-/// The partner of each old address, or 0; or the refusal.
+/// Returns the partner of each old address, or 0 if it has none; or the refusal.
 fn partners(old: &Image, new: &Image, pairs: &[(u64, u64)]) -> Result<Vec<u64>, String> {
     let old_starts = starts(old).map_err(|at| format!("1 OldShape {at}"))?;
     let new_starts = starts(new).map_err(|at| format!("2 NewShape {at}"))?;
@@ -136,7 +136,7 @@ fn partners(old: &Image, new: &Image, pairs: &[(u64, u64)]) -> Result<Vec<u64>, 
     Ok(partners)
 }
 
-/// Both nil, or the same number, or a pair.
+/// Returns whether both words are nil, or the same number, or references to a pair.
 fn correspond(partners: &[u64], old: u64, new: u64) -> bool {
     if old == 0 || old % 2 == 1 {
         return old == new;
@@ -145,7 +145,7 @@ fn correspond(partners: &[u64], old: u64, new: u64) -> bool {
     partner != 0 && new == 2 * partner
 }
 
-/// The first refusal, if there is one.
+/// Returns the first refusal, if there is one.
 pub fn check(old: &Image, new: &Image, pairs: &[(u64, u64)]) -> Result<(), String> {
     let partners = partners(old, new, pairs)?;
     for (k, (a, b)) in pairs.iter().enumerate() {
@@ -167,7 +167,7 @@ pub fn check(old: &Image, new: &Image, pairs: &[(u64, u64)]) -> Result<(), Strin
     (0..old.roots.len()).find(differs).map_or(Ok(()), |slot| Err(format!("10 RootDiffers {slot}")))
 }
 
-/// The images and the pairs of a text, or the line of its first fault.
+/// Returns the images and the pairs of a text, or the line of its first fault.
 pub fn read(text: &[u8]) -> Result<(Image, Image, Vec<(u64, u64)>), String> {
     if text.len() as u64 > LIMIT {
         return Err("pair: too large".to_string());
@@ -192,7 +192,7 @@ pub fn read(text: &[u8]) -> Result<(Image, Image, Vec<(u64, u64)>), String> {
     Ok((old, new, pairs))
 }
 
-/// The verdict on the pair that the text spells and its status, or the line of the text's first fault.
+/// Returns the verdict on the pair that the text spells, with its status, or the line of the text's first fault.
 pub fn verdict(text: &[u8]) -> Result<(String, u8), String> {
     let (old, new, pairs) = read(text)?;
     Ok(match check(&old, &new, &pairs) {
@@ -212,7 +212,7 @@ fn push_image(text: &mut String, name: &str, image: &Image) {
     }
 }
 
-/// The text of a flip's pair.
+/// Returns the text of a flip's pair.
 pub fn text(old: &Image, new: &Image, pairs: &[(u64, u64)]) -> Vec<u8> {
     let mut text = String::new();
     let _ = writeln!(text, "heappair {}", if old.raws { 2 } else { 1 });

@@ -1,5 +1,5 @@
-//! Plays a trace while it is read: 64 KiB of its text at a time, each event performed as soon as its line is there. It keeps
-//! neither the text nor the events nor a history: only the reply lines, or what is counted of them, or one flip's pair.
+//! Plays a trace while it is read: 64 KiB of its text at a time, each event as soon as its line is read. Keeps no text, no
+//! events and no history, but only the reply lines, or their counts, or one flip's pair.
 
 use crate::collector::{StepReply, World};
 use crate::cursor::Cursor;
@@ -11,7 +11,7 @@ use std::io::{self, Read};
 const LIMIT: usize = 16_777_216;
 const PIECE: usize = 65_536;
 
-/// What is wanted of a play.
+/// The requested result of a play.
 #[derive(Clone, Copy, PartialEq)]
 pub enum Wanted {
     Replies,
@@ -20,7 +20,7 @@ pub enum Wanted {
     Pair(u32),
 }
 
-/// Numbers of a report.
+/// The numbers of a report.
 #[derive(Default)]
 struct Counts {
     events: u64,
@@ -64,7 +64,7 @@ impl Counts {
     }
 }
 
-/// A play of the lines behind the heading.
+/// A play of the lines after the heading.
 struct Player {
     version: u8,
     mutators: u8,
@@ -101,7 +101,7 @@ impl Player {
         }
     }
 
-    /// Plays the whole lines of the text.
+    /// Plays the complete lines of the text.
     fn play(&mut self, lines: &[u8]) -> Result<(), String> {
         let mut cursor = Cursor { bytes: lines, at: 0 };
         while cursor.at < lines.len() {
@@ -132,7 +132,7 @@ fn fault(reader: &mut impl Read, total: usize, line: String) -> io::Result<Strin
     Ok(if total as u64 + rest > LIMIT as u64 { "trace: too large".to_string() } else { line })
 }
 
-/// Plays the trace that the reader gives. `Err` is the line of its first fault.
+/// Plays the reader's trace. `Err` is the line of its first fault.
 pub fn played(reader: &mut impl Read, wanted: Wanted) -> io::Result<Result<Vec<u8>, String>> {
     let mut buffer = vec![0; 2 * PIECE];
     let (mut held, mut total) = (0, 0);
@@ -171,7 +171,7 @@ pub fn played(reader: &mut impl Read, wanted: Wanted) -> io::Result<Result<Vec<u
     }
 }
 
-/// What is left after the last byte.
+/// Ends a play at the end of the text: returns its output, or the line of the fault.
 fn ended(player: Option<Player>, held: usize) -> Result<Vec<u8>, String> {
     match player {
         None => Err("trace: bad header".to_string()),

@@ -1,4 +1,4 @@
-//! The heading of a trace, and replies as text.
+//! The heading of a trace, and the text of replies.
 
 use crate::collector::{Step, StepReply};
 use crate::machine::{Op, Reply, View};
@@ -14,7 +14,7 @@ pub enum Answer {
     Collector(StepReply),
 }
 
-/// The words of a line, parted by one space.
+/// The words of a line, separated by one space.
 struct Words<'a>(std::slice::Split<'a, u8, fn(&u8) -> bool>);
 
 impl<'a> Words<'a> {
@@ -35,7 +35,7 @@ impl<'a> Words<'a> {
     }
 }
 
-/// Digits without a leading zero.
+/// Reads digits without a leading zero.
 pub fn decimal(digits: &[u8]) -> Option<u64> {
     if digits.is_empty() || (digits[0] == b'0' && digits.len() > 1) {
         return None;
@@ -46,7 +46,7 @@ pub fn decimal(digits: &[u8]) -> Option<u64> {
     })
 }
 
-/// The mutator, or that of the log.
+/// Returns the number of the event's mutator or log, or 0 if it has none.
 pub fn mutator_of(event: &Event) -> u8 {
     match event {
         Event::Mutate(m, _) | Event::Collect(Step::Apply(m)) => *m,
@@ -64,7 +64,7 @@ fn sizes(line: &[u8]) -> Option<(u32, u8)> {
     Some((size as u32, mutators as u8))
 }
 
-/// The line, without its end, and what follows it.
+/// Returns the line without its end, and the text after it.
 pub fn cut(text: &[u8]) -> Option<(&[u8], &[u8])> {
     let end = text.iter().position(|byte| *byte == b'\n')?;
     Some((&text[..end], &text[end + 1..]))
@@ -90,7 +90,7 @@ pub fn push_answer(lines: &mut Vec<u8>, answer: &Answer) {
     }
 }
 
-/// Appends the decimal of a number and a byte behind it.
+/// Appends a number in decimal and a byte after it.
 fn push_number(lines: &mut Vec<u8>, mut n: u64, behind: u8) {
     let mut digits = [0; 21];
     let mut at = digits.len() - 1;

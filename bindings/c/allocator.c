@@ -1,8 +1,8 @@
-/* The three calls for memory that the libraries make, over malloc, realloc and free.
+/* The three functions from which the libraries get memory, based on malloc, realloc and free.
  *
- * An embedder replaces them by linking its own definitions: those of the archive are then not linked. They have
- * to be from one allocator, and align a block to each power of two up to 16 that divides its size. The
- * alignment that a call asks for is 16 at most.
+ * An embedder replaces them by linking its own definitions; the archive's are then not linked. All three must use
+ * one allocator. A block's address must be a multiple of each power of two up to 16 that divides its size. The
+ * alignment that a call asks for is at most 16.
  */
 #include <stdbool.h>
 #include <stddef.h>
@@ -10,7 +10,7 @@
 
 struct gcflip_memory {
     bool ok;
-    void *at; /* the block if `ok`, else an address without memory that is not NULL */
+    void *at; /* the block if `ok`; else some address that is not NULL */
 };
 
 struct gcflip_memory rattle_alloc(size_t size, size_t alignment);
@@ -24,7 +24,7 @@ static struct gcflip_memory memory_at(void *at)
     return memory;
 }
 
-/* A block without bytes has an address of its own as well. */
+/* A block of 0 bytes needs an address of its own too. */
 static size_t at_least_one(size_t size, size_t alignment)
 {
     return size ? size : alignment;

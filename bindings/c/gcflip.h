@@ -1,25 +1,25 @@
 /* Herbpond's certificate checker.
  *
- * A copying collector that wants to flip has an old heap image, a new one, and pairs (original, replica). The
- * checker decides whether mutators can go on in the new image without noticing. It makes no assumption about
- * who produced the images and the pairs: wrong numbers are refused, not obeyed.
+ * Before a flip, a copying collector has an old heap image, a new one, and pairs (original, replica). The
+ * checker decides whether mutators can continue in the new image without noticing. It makes no assumption
+ * about who produced the images and the pairs: wrong numbers are refused, not obeyed.
  *
  * The promise, proved of the code behind these calls: if a call returns GCFLIP_YES, then
- * - every object that the old roots reach has exactly one replica, which is no other such object's replica and
- *   is equal to it field by field;
+ * - every object that the old roots reach has exactly one replica, equal to it field by field, and no two of
+ *   these objects share a replica;
  * - every path from a root finds the same in both heaps;
  * - every list of commands gets the same replies from both heaps, up to the first allocation for which one of
  *   them has no room.
  *
  * What the caller owes, since nothing checks C code:
- * - each pointer is not NULL, even if its count is 0, is aligned for its type, and its memory is initialized and
- *   has at least `count` elements. gcflip_check_images also takes NULL for an empty row;
+ * - no pointer is NULL, even if its count is 0. Each is aligned for its type, and its memory is initialized and
+ *   has at least `count` elements. gcflip_check_images also takes NULL for an empty array;
  * - no other thread writes this memory during the call, and the verdict overlaps nothing else;
  * - no call is made from a signal handler, or in the forked child of a process with threads.
  *
  * Several threads may call at the same time. A call keeps no pointer when it returns, and frees all that it
- * allocated. It writes to the verdict alone. A check allocates 4 bytes for each word of the old image and one
- * for each word of either image; that of a text also what the images and pairs take.
+ * allocated. It writes only the verdict. A check allocates 5 bytes for each word of the old image and 1 byte
+ * for each word of the new one; the check of a text also allocates the images and the pairs.
  */
 #ifndef GCFLIP_H
 #define GCFLIP_H
@@ -32,7 +32,7 @@
 extern "C" {
 #endif
 
-/* An object of the old image and its replica in the new one, by the places of their header words. */
+/* An object of the old image and its replica in the new one, by the addresses of their header words. */
 typedef struct gcflip_pair {
     uint32_t old_address;
     uint32_t new_address;
@@ -40,16 +40,16 @@ typedef struct gcflip_pair {
 
 typedef struct gcflip_verdict {
     uint32_t refusal; /* a number of gcflip_refusal; 0 if nothing is refused */
-    uint32_t pairs;   /* of a yes: the number of pairs; else 0 */
-    uint64_t place;   /* of a refusal: the address, pair or root, as gcflip_refusal says; of GCFLIP_BAD_LINE: the line */
-    uint64_t field;   /* of GCFLIP_FIELD_DIFFERS: the field; else 0 */
+    uint32_t pairs;   /* for a yes: the number of pairs; else 0 */
+    uint64_t place;   /* for a refusal: the address, pair or root, as gcflip_refusal says; for GCFLIP_BAD_LINE: the line */
+    uint64_t field;   /* for GCFLIP_FIELD_DIFFERS: the field; else 0 */
 } gcflip_verdict;
 
-/* The conditions of a certificate, in the order in which they are checked. A verdict has the first that fails.
+/* The conditions of a certificate, in the order in which they are checked. A verdict names the first that fails.
  * Pairs, fields and roots are counted from 0. */
 enum gcflip_refusal {
-    GCFLIP_OLD_SHAPE = 1,      /* place: the first address at which an object has to start and does not, or 0 */
-    GCFLIP_NEW_SHAPE = 2,      /* the same of the new image */
+    GCFLIP_OLD_SHAPE = 1,      /* place: the first address at which no valid object starts although one has to, or 0 */
+    GCFLIP_NEW_SHAPE = 2,      /* the same for the new image */
     GCFLIP_ROOT_COUNT = 3,     /* the images have different numbers of roots */
     GCFLIP_OLD_NOT_START = 4,  /* place: the pair; no object starts at its old address */
     GCFLIP_NEW_NOT_START = 5,  /* place: the pair; no object starts at its new address */
@@ -60,31 +60,31 @@ enum gcflip_refusal {
     GCFLIP_ROOT_DIFFERS = 10   /* place: the first root that does not correspond */
 };
 
-/* What a check returns. The verdict is written for the answers 0, 1 and 5 alone. */
+/* The answers of a check. It writes the verdict only with the answers 0, 1 and 5. */
 enum gcflip_answer {
     GCFLIP_YES = 0,        /* the certificate holds */
     GCFLIP_REFUSED = 1,    /* a condition fails; the verdict says which */
     GCFLIP_NO_MEMORY = 2,  /* an allocation failed */
-    GCFLIP_TOO_MANY = 3,   /* gcflip_check alone: 2^32 pairs or more */
-    GCFLIP_TOO_LARGE = 4,  /* gcflip_check_text alone: more than 67108864 bytes */
-    GCFLIP_BAD_LINE = 5,   /* gcflip_check_text alone: the first bad line is line `place`, counted from 1 */
-    GCFLIP_ENDS_EARLY = 6  /* gcflip_check_text alone: the text ends before its last line does */
+    GCFLIP_TOO_MANY = 3,   /* gcflip_check only: 2^32 pairs or more */
+    GCFLIP_TOO_LARGE = 4,  /* gcflip_check_text only: more than 67108864 bytes */
+    GCFLIP_BAD_LINE = 5,   /* gcflip_check_text only: the first bad line is line `place`, counted from 1 */
+    GCFLIP_ENDS_EARLY = 6  /* gcflip_check_text only: the text ends before its last line does */
 };
 
 /* Checks the certificate `pairs` against two images.
  *
- * A space of `size` words, 1 to 1048576, has its objects back to back from word 1 up to word `end`. `words` are
+ * In a space of `size` words, 1 to 1048576, objects lie back to back from word 1 up to word `end`. `words` are
  * its words 0 to end - 1. An object is a header word, a link word that the checker ignores, and its field words.
- * With `raws`, header words of raw objects count, whose fields are plain numbers. The words are described in
- * docs/FORMATS.md. */
+ * If `raws` is true, header words of raw objects are valid; the fields of these are plain numbers.
+ * docs/FORMATS.md describes the words. */
 uint32_t gcflip_check(uint32_t old_size, uint32_t old_end, bool old_raws, const uint64_t *old_words,
                       size_t old_word_count, const uint64_t *old_roots, size_t old_root_count, uint32_t new_size,
                       uint32_t new_end, bool new_raws, const uint64_t *new_words, size_t new_word_count,
                       const uint64_t *new_roots, size_t new_root_count, const gcflip_pair *pairs,
                       size_t pair_count, gcflip_verdict *verdict);
 
-/* Checks the pair of images that a text spells, in the format `heappair 1` or `heappair 2`. The text is read in
- * place and needs no zero byte at its end. */
+/* Checks the pair of images in a text of the format `heappair 1` or `heappair 2`. The call reads the text in
+ * place; it needs no zero byte at its end. */
 uint32_t gcflip_check_text(const uint8_t *text, size_t length, gcflip_verdict *verdict);
 
 /* ---- Conveniences over the calls above. Nothing is proved of them. */
@@ -98,7 +98,7 @@ typedef struct gcflip_image {
     size_t root_count;
 } gcflip_image;
 
-/* Checks like gcflip_check. A row without elements may be NULL. */
+/* Calls gcflip_check with the members of the images. An empty array may be NULL. */
 static inline uint32_t gcflip_check_images(const gcflip_image *old_image, const gcflip_image *new_image,
                                            const gcflip_pair *pairs, size_t pair_count, gcflip_verdict *verdict)
 {

@@ -1,14 +1,14 @@
-/* Records a run: include this in place of gcflip_heap.h, and each call on a heap also writes its line of a `heaptrace`, so
- * that `gcflip play` replays the run, `gcflip report` counts its replies, and `gcflip pair` writes the pair of a flip.
+/* Records a run as a trace. Include this instead of gcflip_heap.h: each call on a heap then also writes its line of a
+ * `heaptrace`. `gcflip play` replays the run, `gcflip report` counts its replies, and `gcflip pair` writes the pair of a flip.
  *
  * The program defines the stream, and may set it to NULL to record nothing:
  *
  *     FILE *gcflip_trace;
  *
- * One heap is recorded at a time: what is written from one gcflip_heap_open on is one trace. A call that
- * was refused did not happen and has no line. gcflip_heap_work makes the same useful steps one
- * by one, and each has its line. Calls that only read have none. The stream's own faults are for the program to find
- * (ferror). A trace of more than 16777216 bytes is not replayed.
+ * Record one heap at a time: each gcflip_heap_open starts a new trace. A refused call did not happen and has no line.
+ * gcflip_heap_work performs the same useful steps one by one, and each has its line. `look` and `same` have lines. Closing, and calls
+ * that read counts, logs or images, have none. The program has to check the stream for errors (ferror). `gcflip` refuses a
+ * trace of more than 16777216 bytes.
  */
 #ifndef GCFLIP_RECORD_H
 #define GCFLIP_RECORD_H
@@ -147,7 +147,7 @@ static inline uint32_t gcflip_record_put(gcflip_heap *heap, uint8_t m, uint8_t s
     return answer;
 }
 
-/* Its lines are those of a num and of a put. */
+/* Writes the lines of a num and a put. */
 static inline uint32_t gcflip_record_put_number(gcflip_heap *heap, uint8_t m, uint8_t s, uint16_t i, uint8_t t, uint64_t n)
 {
     uint32_t answer = gcflip_heap_put_number(heap, m, s, i, t, n);
@@ -161,7 +161,7 @@ static inline uint32_t gcflip_record_put_number(gcflip_heap *heap, uint8_t m, ui
     return answer;
 }
 
-/* The lines of an object that takes its fields from slots: a new and, if there was room, a put for each field. */
+/* Writes the lines of an object with fields from slots: a new and, if there was room, a put for each field. */
 static inline uint32_t gcflip_trace_new_from(uint32_t answer, uint8_t m, uint8_t d, uint8_t kind, const uint8_t *fields, size_t count)
 {
     size_t i;
@@ -267,7 +267,7 @@ static inline uint32_t gcflip_record_apply(gcflip_heap *heap, uint8_t m)
     return answer;
 }
 
-/* Makes the useful step and records it, but not the steps that were clean. */
+/* Performs the useful step and records it, but not the steps that were clean. */
 static inline uint32_t gcflip_record_useful(gcflip_heap *heap, const gcflip_counts *counts, uint32_t *pairs)
 {
     uint8_t m;

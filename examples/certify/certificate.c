@@ -3,7 +3,7 @@
 #include <stdlib.h>
 #include <string.h>
 
-/* An even word above all references. It is no value, so it corresponds to no word. */
+/* An even word above all references. It is not a value, so it corresponds to no word. */
 #define STRAY ((uint64_t)2 << 20)
 
 /* Returns the place of an object in the words of its space. It is the object's address in the image. */
@@ -29,7 +29,7 @@ static uint64_t word_of(const struct space *space, value value)
     return is_inside(space, value) ? 2 * (uint64_t)address_in(space, object_of(value)) : STRAY;
 }
 
-/* Returns the header of an object in an image, or 0, which is no header, if an image cannot have such an object. */
+/* Returns the header of an object in an image, or 0, which is not a header, if the object does not fit into an image. */
 static uint64_t header_of(const struct object *object)
 {
     uint64_t first = object->kind == TEXT ? 50331648 : 16777216; /* a text is a raw object */
@@ -38,7 +38,7 @@ static uint64_t header_of(const struct object *object)
     return first + 65536 * object->kind + object->length;
 }
 
-/* Writes the words of an object from its address on. The link is left out: no check reads it. */
+/* Writes the words of an object from its address on. Leaves out the link, since no check reads it. */
 static void write_object(uint64_t *words, const struct space *space, const struct object *object)
 {
     words[0] = header_of(object);

@@ -1,4 +1,4 @@
-/* What a runtime adds to have its collector checked: images of its two spaces, and the pairs. */
+/* What a runtime adds so that its collector can be checked: images of its two spaces, and the pairs. */
 #ifndef CERTIFICATE_H
 #define CERTIFICATE_H
 
@@ -21,7 +21,7 @@ void free_certificate(const struct certificate *certificate);
 /* Writes the certificate as a `heappair` text, which `gcflip check` reads. */
 void write_certificate(FILE *file, const struct certificate *certificate);
 
-/* Prints the verdict, as `gcflip check` does, and what it says of the program's own objects. */
+/* Prints the verdict, as `gcflip check` does, and its meaning for the program's own objects. */
 void print_verdict(const struct heap *old, const struct certificate *certificate, const gcflip_verdict *verdict);
 
 #endif

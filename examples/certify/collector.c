@@ -1,5 +1,5 @@
-/* Cheney's collector. It copies objects from the old space to a new one, breadth first. The scan pointer goes over the
- * new space. From it on, fields of replicas still refer to originals.
+/* Cheney's collector. It copies objects from the old space to a new one, breadth first. The scan pointer walks over the
+ * new space. After it, fields of replicas still refer to originals.
  *
  * The old space stays whole. An original's forwarding address is in its link, and overwrites neither its header nor its
  * fields. */
@@ -54,7 +54,7 @@ static struct object *copy(struct space *new, struct object *original, enum bug 
     return replica;
 }
 
-/* Returns the value, but for a reference to an original one to its replica. Copies an original that has none. */
+/* Returns the value, with a reference to an original replaced by one to its replica. Copies an original without a replica. */
 static value forwarded(struct space *new, value value, enum bug bug)
 {
     if (!is_reference(value))

@@ -1,4 +1,4 @@
-/* A heap of entries and texts, and a collector for it that nobody proved. */
+/* A heap of entries and texts, and an unproved collector for it. */
 #ifndef HEAP_H
 #define HEAP_H
 
@@ -12,14 +12,14 @@ enum { NIL = 1 };
 
 enum kind { ENTRY, TEXT };
 
-/* The fields of an entry. A text has bytes in place of fields: a string with its zero byte, padded to whole words. */
+/* The fields of an entry. A text has bytes instead of fields: a string with its zero byte, padded to whole words. */
 enum field { NAME, NUMBER, NEXT, PREVIOUS, FIELDS };
 
 enum root { COUNT, FIRST, LAST, ROOTS };
 
 struct object {
     uint32_t kind;
-    uint32_t length;     /* the words behind the link */
+    uint32_t length;     /* the words after the link */
     struct object *link; /* NULL; during a collection, an original's replica and a replica's original */
     value fields[];
 };
@@ -63,7 +63,7 @@ static inline uint32_t words_of(const struct object *object)
     return 2 + object->length;
 }
 
-/* Allocates memory of zeros. Ends the program if there is none. */
+/* Allocates zeroed memory. Ends the program if that fails. */
 void *memory(uint64_t count, uint64_t bytes);
 
 struct space new_space(uint32_t size);

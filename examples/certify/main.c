@@ -1,6 +1,6 @@
-/* Builds a list of entries, makes each second one garbage, and collects, twice: certify [-b BUG] [-p FILE] [-t] ENTRIES.
+/* Builds a list of entries. Then, twice, makes every second entry garbage and collects: certify [-b BUG] [-p FILE] [-t] ENTRIES.
  *
- * -b plants a bug into the collector: field, twice, root or length. -p writes the certificate of the last collection as a
+ * -b plants a bug in the collector: field, twice, root or length. -p writes the certificate of the last collection as a
  * text that `gcflip check` reads. -t prints the time that a collection takes for each object. */
 #define _POSIX_C_SOURCE 200809L
 #include "certificate.h"
@@ -46,7 +46,7 @@ static void write_pair(const struct certificate *certificate)
     }
 }
 
-/* Asks the checker whether the program can go on in the new heap. */
+/* Asks the checker whether the program can continue in the new heap. */
 static bool accepts(const struct heap *old, const struct heap *new)
 {
     gcflip_verdict verdict;
@@ -67,7 +67,7 @@ static bool accepts(const struct heap *old, const struct heap *new)
     return answer == GCFLIP_YES;
 }
 
-/* Collects, and goes on with the list in the space that is in use then. */
+/* Collects, and tests the list in the space that is then in use. */
 static bool collect_list(struct heap *heap, enum bug bug, uint32_t step)
 {
     times.started = now();
@@ -117,7 +117,7 @@ int main(int count, char **words)
 {
     enum bug bug = read_options(count, words);
     uint32_t entries = read_entries(words[optind]);
-    /* There is room for one entry more, since a collector with a bug may copy one twice. */
+    /* There is room for one more entry, since a collector with a bug may copy one twice. */
     struct heap heap = {new_space(1 + (entries + 1) * WORDS_OF_AN_ENTRY), {0, NIL, NIL}};
     for (uint32_t i = 0; i < entries; i++)
         append_entry(&heap, i);

@@ -1,6 +1,6 @@
 /* Errors of a Lisp program: a line that says where and what, and a jump back to the REPL.
  *
- * The jump leaves nothing behind: C variables hold no references, and the frames of the Lisp are objects, which are garbage as
+ * The jump leaves nothing to clean up: C variables hold no references, and the frames of the Lisp are objects, which are garbage as
  * soon as no slot refers to them. */
 #ifndef ERRORS_H
 #define ERRORS_H
@@ -26,10 +26,10 @@ uint64_t position_at(enum slot place);
 
 /* ---- Errors */
 
-/* Ends in an error at the expression that is evaluated, or at the call of the function that runs. */
+/* Ends in an error at the current expression, or at the call of the running function. */
 _Noreturn void fail(const char *format, ...);
 
-/* The same with the slot's value behind the message. */
+/* The same with the slot's value after the message. */
 _Noreturn void fail_about(enum slot slot, const char *format, ...);
 
 /* Ends in an error at this position. */

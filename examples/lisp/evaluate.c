@@ -1,8 +1,8 @@
 /* The evaluator: a machine whose registers are slots and whose stack is a chain of frames in the heap.
  *
  * It evaluates the first element of the pair in PLACE. If it has to evaluate something else first, it pushes a frame that says what to
- * do with the value. An expression in tail position pushes none. So a loop by tail calls takes constant room, and the depth of all
- * other calls is bounded by the heap alone: nothing here calls itself. */
+ * do with the value. An expression in tail position pushes no frame. So a loop by tail calls takes constant room, and only the heap
+ * bounds the depth of all other calls: nothing here calls itself. */
 #include "evaluate.h"
 #include "errors.h"
 #include "heap.h"
@@ -20,7 +20,7 @@ static enum next return_value(enum slot slot)
 
 /* ---- Frames */
 
-/* Pushes a frame that goes on in this environment with what is behind PLACE. */
+/* Pushes a frame that continues in this environment after PLACE. */
 static void push(enum type type, uint32_t fields)
 {
     make(FRAME, type, fields);
@@ -41,8 +41,8 @@ static void pop(void)
 
 /* ---- Variables */
 
-/* Finds the variable of the symbol in EXPRESSION. Returns its address, and puts its scope into SEARCHED. Returns 0 if no scope has it, since
- * it is global then. Uses slots C and D. */
+/* Finds the variable of the symbol in EXPRESSION. Returns its address, and puts its scope into SEARCHED. Returns 0 if no scope has it;
+ * it is then global. Uses slots C and D. */
 static uint32_t find_variable(void)
 {
     uint32_t address = FIRST_VALUE;
@@ -62,8 +62,8 @@ static uint32_t find_variable(void)
     return 0;
 }
 
-/* Rewrites the symbol in EXPRESSION, so that its variable is looked for once: the scopes around one place in a program have always the same
- * names. */
+/* Rewrites the symbol in EXPRESSION, so that its variable is looked up only once: the scopes around a place in a program always have the
+ * same names. */
 static enum type rewrite_variable(void)
 {
     if (keyword_of(EXPRESSION) != NO_KEYWORD)
@@ -106,7 +106,7 @@ static void name_function(enum slot name)
 
 /* ---- Forms that evaluate something first */
 
-/* Goes on with the elements of the list in PLACE, and leaves the value of the last. */
+/* Continues with the elements of the list in PLACE, and leaves the value of the last. */
 static enum next go_through(void)
 {
     if (get(A, PLACE, REST) == PAIR)
@@ -142,7 +142,7 @@ static enum next resume_if(void)
     return return_value(NO_VALUE);
 }
 
-/* Goes on with the clauses from PLACE on. */
+/* Continues with the clauses from PLACE on. */
 static enum next try_clauses(void)
 {
     if (type_of(PLACE) != PAIR)
@@ -178,7 +178,7 @@ static enum next start_cond(void)
     return try_clauses();
 }
 
-/* Goes on with the elements of the list in PLACE, until one decides. */
+/* Continues with the elements of the list in PLACE until one decides. */
 static enum next go_through_until(enum type frame)
 {
     if (get(A, PLACE, REST) == PAIR)
@@ -253,7 +253,7 @@ static enum next resume_set(void)
 
 /* ---- Functions */
 
-/* A function's arity as a number: twice its names, and 1 more if the last one takes a list of all other arguments. */
+/* A function's arity as a number: twice the number of its names, and 1 more if the last name takes a list of all other arguments. */
 static uint64_t arity_of_names(enum slot names)
 {
     uint64_t count = 0;
@@ -283,7 +283,7 @@ static enum next start_lambda(void)
     return RETURN;
 }
 
-/* Replaces the scope in ARGUMENTS by one with `names` values and a list of all others behind them. */
+/* Replaces the scope in ARGUMENTS by one with `names` values and then a list of all others. */
 static void collect_others(uint32_t given, uint32_t names)
 {
     clear(A);

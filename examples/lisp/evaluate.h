@@ -13,7 +13,7 @@ enum next {
     FINISHED
 };
 
-/* Evaluates the first element of PLACE outside of all functions. Leaves the value in VALUE. */
+/* Evaluates the first element of PLACE outside all functions. Leaves the value in VALUE. */
 void evaluate(void);
 
 /* Clears the evaluator's registers, which an error leaves as they are. */

@@ -1,4 +1,4 @@
-/* The layer over gcflip_heap: each function makes one call of it, and checks what it returns. The collector's pace is in
+/* The layer over gcflip_heap: each function makes one of its calls, and checks the answer. The collector's pace is in
  * `pay` and `wait_for_room`. */
 #include "heap.h"
 #include "errors.h"
@@ -6,7 +6,7 @@
 #include <gcflip_record.h>
 #include <stdlib.h>
 
-/* The recorder makes work by single steps. If nothing is recorded, one call makes it. */
+/* The recorder performs `work` by single steps. If nothing is recorded, one call does it. */
 #undef gcflip_heap_work
 
 enum { MUTATOR = 0, STEPS_PER_WORD = 5 };
@@ -20,10 +20,10 @@ static struct heap_totals totals;
 static uint32_t size;
 static uint32_t room;   /* words that stay free for the REPL */
 static uint32_t runway; /* a collection begins when fewer words are left */
-static uint32_t writes; /* since the last payment */
+static uint32_t writes; /* writes since the last payment */
 static bool was_full;   /* an allocation ended in an error */
 
-/* Ends the program, since the Lisp made a call that it must not make. */
+/* Ends the program after a call that the Lisp must not make. */
 static void stop(const char *call)
 {
     fprintf(stderr, "lisp: a bug of the Lisp itself: %s\n", call);
@@ -59,7 +59,7 @@ static void check_reply(bool is_right, const char *call)
         check_answer((reply), #name);                                           \
     } while (0)
 
-/* The same for a call that has to reply this. */
+/* The same for a call that must return this reply. */
 #define EXPECT_REPLY(wanted, name, ...)            \
     do {                                           \
         uint32_t told;                             \
@@ -69,7 +69,7 @@ static void check_reply(bool is_right, const char *call)
 
 /* ---- Opening and closing */
 
-/* README.md derives the runway: a quarter of the most live words, and those are two thirds of what programs may use. */
+/* README.md derives the runway: a quarter of the maximum of live words, which is two thirds of what programs may use. */
 static void set_room(uint32_t words)
 {
     room = words;
@@ -162,7 +162,7 @@ static uint32_t read_field(enum slot to, enum slot object, uint32_t field, uint6
     return reply;
 }
 
-/* `get` does not read the object that it finds, so its type takes a look. */
+/* `get` does not read the object that it finds, so its type needs a `look`. */
 enum type get(enum slot to, enum slot object, uint32_t field)
 {
     uint64_t number;
@@ -202,7 +202,7 @@ static gcflip_counts read_counts(void)
 
 enum progress { NO_MEMORY, GOES_ON, FLIPPED };
 
-/* Makes at most this many useful steps. */
+/* Performs at most this many useful steps. */
 static enum progress work(uint32_t most)
 {
     static struct call_times times = {"gcflip_heap_work", 0, 0, 0, NULL};
@@ -220,8 +220,8 @@ static enum progress work(uint32_t most)
     return flipped ? FLIPPED : GOES_ON;
 }
 
-/* Pays for an object of so many words, and for the writes since the last payment. If the system has no memory, the next payment tries again:
- * that is no error as long as the heap has room. */
+/* Pays for an object of this many words, and for the writes since the last payment. If the system has no memory, the next payment tries
+ * again: this is not an error as long as the heap has room. */
 static void pay(uint32_t words)
 {
     gcflip_counts counts = read_counts();
@@ -230,7 +230,7 @@ static void pay(uint32_t words)
     writes = 0;
 }
 
-/* Finishes the collection that is open, or makes a whole one. Returns whether there was memory for it. */
+/* Finishes the open collection, or performs a whole one. Returns whether there was memory for it. */
 static bool collect_whole(void)
 {
     enum progress progress = GOES_ON;
@@ -245,8 +245,8 @@ static bool has_room(uint32_t words)
     return read_counts().free >= room + words;
 }
 
-/* Collects until there is room for an object, or the heap is full. A collection that is open may copy garbage. One that begins now
- * copies live data alone. It has to free some more words as well, so that the next allocations do not wait. */
+/* Collects until there is room for an object, or the heap is full. An open collection may copy garbage; one that begins now copies only
+ * live data. It has to free some more words too, so that the next allocations do not wait. */
 static void wait_for_room(uint32_t words)
 {
     uint32_t wanted = words + size / 64;

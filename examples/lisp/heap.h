@@ -1,10 +1,10 @@
 /* The layer over gcflip_heap.
  *
- * The Lisp's values are in slots and in fields of objects, and nowhere else. A function is given slots, and no C variable ever
- * holds a reference. So the collector may move all objects at any time.
+ * The Lisp's values are in slots and in fields of objects, and nowhere else. Functions take slots, and no C variable ever holds
+ * a reference. So the collector may move all objects at any time.
  *
- * Each allocation first pays for itself by collector steps; README.md derives the pace. A call for which there is no memory
- * ends in an error of the Lisp (errors.h). */
+ * Each allocation first pays for itself with collector steps; README.md derives the pace. A call that runs out of memory ends
+ * in an error of the Lisp (errors.h). */
 #ifndef HEAP_H
 #define HEAP_H
 
@@ -60,11 +60,11 @@ void put_word(enum slot object, uint32_t field, uint64_t word);
 
 /* ---- Room */
 
-/* Sets aside room for the REPL: from here on, allocations leave it free. Returns whether there is as much. */
+/* Sets aside room for the REPL: from now on, allocations leave it free. Returns whether there is that much room. */
 bool reserve_room(void);
 
-/* After an allocation that found the heap full: lets the next expression use this room, unless a whole collection frees enough
- * of it again. To be called between expressions. */
+/* After an allocation that found the heap full, lets the next expression use this room, unless a whole collection frees enough of
+ * it again. Call it between expressions. */
 void restore_room(void);
 
 struct heap_totals {

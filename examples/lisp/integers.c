@@ -1,4 +1,4 @@
-/* Functions of integers. A result out of the range of 63 bits is an error. */
+/* Functions of integers. A result that does not fit in 63 bits is an error. */
 #include "errors.h"
 #include "heap.h"
 #include "primitives.h"
@@ -13,7 +13,7 @@ static _Noreturn void fail_out_of_range(void)
     fail("the result of %s is out of range: integers have 63 bits", running_name());
 }
 
-/* Sums and differences of integers of 63 bits have at most 64. */
+/* Sums and differences of integers of 63 bits have at most 64 bits. */
 static int64_t checked(int64_t integer)
 {
     if (!is_in_range(integer))
@@ -81,7 +81,7 @@ static enum next do_remainder(void)
 
 enum { LESS = 1, EQUAL = 2, GREATER = 4 };
 
-/* Returns whether each argument and the next are in one of these orders. */
+/* Returns whether each two neighbouring arguments are in one of these orders. */
 static enum next compare(int orders)
 {
     uint32_t given = argument_count();

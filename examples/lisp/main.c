@@ -1,7 +1,7 @@
 /* lisp [--heap WORDS] [--record FILE] [--pauses] [FILE ...]
  *
- * Runs the files one after the other, or reads expressions from standard input if there is none, and prints their values. The status is 0,
- * 1 after an error of a program, 2 if the options are wrong or the Lisp cannot start. */
+ * Runs the files one after the other. Without files, reads expressions from standard input and prints their values. The status is 0,
+ * 1 after an error of a program, and 2 if the options are wrong or the Lisp cannot start. */
 #define _POSIX_C_SOURCE 200809L
 #include "errors.h"
 #include "evaluate.h"
@@ -28,7 +28,7 @@ struct options {
     uint32_t words;
     const char *trace;
     bool measures;
-    char **files; /* up to a NULL */
+    char **files; /* ends with NULL */
 };
 
 static _Noreturn void end(const char *why, const char *about)
@@ -115,7 +115,7 @@ static void interrupt(int signal_number)
     is_interrupted = 1;
 }
 
-/* Reads expressions from standard input, and prints their values. Goes on after an error. */
+/* Reads expressions from standard input, and prints their values. Continues after an error. */
 static enum outcome run_repl(void)
 {
     struct source source = source_of_file(stdin, "input", isatty(0) && isatty(1));
@@ -140,7 +140,7 @@ static enum outcome run_all(char **files)
 
 /* ---- The Lisp itself */
 
-/* Makes all that is there before a program begins. Returns whether the heap has room for it. */
+/* Makes everything that a program needs before it begins. Returns whether the heap has room for it. */
 static bool make_lisp(void)
 {
     if (setjmp(error_target) != NO_ERROR)
@@ -161,7 +161,7 @@ static void print_totals(const struct options *options)
     fprintf(stderr, "%" PRIu64 " whole collections held up an allocation\n", totals.waits);
 }
 
-/* Returns whether all that was written to the stream got there. */
+/* Returns whether everything written to the stream was delivered. */
 static bool is_written(FILE *file, const char *name)
 {
     bool failed = fflush(file) != 0 || ferror(file);

@@ -118,7 +118,7 @@ static bool spells(enum slot string, const char *bytes, size_t length)
     return !differs;
 }
 
-/* Bytes beyond the length are 0, and the length is a field itself. */
+/* Bytes beyond the length are 0, and the length is itself a field, so equal words mean equal strings. */
 bool equal_strings(enum slot first, enum slot second)
 {
     uint32_t fields = field_count(first);

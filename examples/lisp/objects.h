@@ -21,10 +21,10 @@ bool is_true(enum slot slot);
 
 void make_pair(enum slot to, enum slot first, enum slot rest);
 
-/* Makes a pair whose first element stands at this position of a text, if that is not 0. */
+/* Makes a pair whose first element is at this position of a text, unless that is 0. */
 void make_pair_at(enum slot to, enum slot first, enum slot rest, uint64_t position);
 
-/* Makes a list longer by one element. `list` and `last` hold its first and its last pair, or nothing. */
+/* Appends an element to a list. `list` and `last` hold its first and its last pair, or nothing. */
 void append_at(enum slot list, enum slot last, enum slot element, uint64_t position);
 
 /* Returns the length of a list, or -1 if the value is not a list or contains itself. Uses slot D. */

@@ -13,7 +13,7 @@ static enum next do_is_eq(void)
     return return_boolean(same(A, B));
 }
 
-/* Compares the values in slots A and B, but of pairs only that both are some. */
+/* Compares the values in slots A and B. Of two pairs, compares only that both are pairs. */
 static bool look_equal(void)
 {
     enum type type = type_of(A);
@@ -24,7 +24,7 @@ static bool look_equal(void)
     return type == PAIR || same(A, B);
 }
 
-/* Puts the two values that are left to be compared first into slots A and B. */
+/* Puts the next two values to compare into slots A and B. */
 static void take_pending(void)
 {
     get(A, PENDING, FIRST);
@@ -33,7 +33,7 @@ static void take_pending(void)
     get(PENDING, PENDING, REST);
 }
 
-/* Puts a field of the pairs in slots A and B on the list of what is left to be compared. */
+/* Adds a field of the pairs in slots A and B to the list of values to compare. */
 static void add_pending(uint32_t field)
 {
     get(C, B, field);

@@ -1,4 +1,4 @@
-/* Measures each call on the heap by the system's clock, and counts it under the least power of two of nanoseconds above its time. */
+/* Measures each call on the heap with the system's clock, and counts it under the least power of two of nanoseconds above its time. */
 #define _POSIX_C_SOURCE 200809L
 #include "pauses.h"
 #include <inttypes.h>

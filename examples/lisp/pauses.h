@@ -1,4 +1,4 @@
-/* How long the calls on the heap take: a histogram of all calls, and the longest of each kind. */
+/* The times of calls on the heap: a histogram of all calls, and the longest call of each kind. */
 #ifndef PAUSES_H
 #define PAUSES_H
 
@@ -15,12 +15,12 @@ struct call_times {
     struct call_times *next;
 };
 
-/* From here on, calls are measured. */
+/* Starts the measurement of calls. */
 void measure_pauses(void);
 
 void begin_pause(void);
 
-/* Counts a call that made a flip of so many pairs, or none. */
+/* Counts a call, which made a flip of this many pairs, or none. */
 void end_pause(struct call_times *times, uint32_t flipped);
 
 void print_pauses(FILE *file);

@@ -1,4 +1,4 @@
-/* The functions that are written in Lisp. */
+/* The functions written in Lisp. */
 #include "prelude.h"
 
 const char prelude[] =

@@ -1,4 +1,4 @@
-/* The functions that are written in Lisp. */
+/* The functions written in Lisp. */
 #ifndef PRELUDE_H
 #define PRELUDE_H
 

@@ -1,4 +1,4 @@
-/* Makes, finds and calls the functions that are written in C. */
+/* Makes, finds and calls the functions written in C. */
 #include "primitives.h"
 #include "errors.h"
 #include "heap.h"

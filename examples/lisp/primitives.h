@@ -1,4 +1,4 @@
-/* The functions that are written in C. */
+/* The functions written in C. */
 #ifndef PRIMITIVES_H
 #define PRIMITIVES_H
 
@@ -25,14 +25,14 @@ extern const struct primitive list_primitives[], integer_primitives[], text_prim
 /* Makes the functions, and sets the variables of their names. */
 void make_primitives(void);
 
-/* Calls the function in FUNCTION with so many arguments. */
+/* Calls the function in FUNCTION with this many arguments. */
 enum next call_primitive(uint32_t given);
 
 const char *name_of_primitive(enum slot function);
 
 /* ---- For the functions themselves */
 
-/* Returns the name of the function that runs. */
+/* Returns the name of the running function. */
 const char *running_name(void);
 
 uint32_t argument_count(void);

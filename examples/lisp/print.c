@@ -1,4 +1,4 @@
-/* Writes values as text. The lists that are not finished yet are a list in PENDING, so that no nesting is too deep for C's stack. */
+/* Writes values as text. The unfinished lists are a list in PENDING, so that no nesting is too deep for C's stack. */
 #include "print.h"
 #include "heap.h"
 #include "objects.h"
@@ -80,8 +80,8 @@ static void print_atom(FILE *file, enum slot value, bool quoted, size_t most)
 
 /* ---- Lists */
 
-/* Goes on behind an element of the innermost list: writes what stands between it and the next one, or the list's end. Puts the next
- * element into ITEM, and returns whether there is one. */
+/* Continues after an element of the innermost list: writes the text before the next element, or the list's end. Puts the next element into
+ * ITEM, and returns whether there is one. */
 static bool go_on(FILE *file, bool quoted)
 {
     enum type type = get(ITEM, PENDING, FIRST);

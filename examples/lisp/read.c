@@ -1,4 +1,4 @@
-/* The reader. The lists that are open are a chain of pairs in PENDING, so that no nesting is too deep for C's stack. */
+/* The reader. The open lists are a chain of pairs in PENDING, so that no nesting is too deep for C's stack. */
 #include "read.h"
 #include "errors.h"
 #include "heap.h"
@@ -9,7 +9,7 @@
 
 enum { NOTHING_HELD = -2, MOST_NAME = 255 };
 
-/* What an OPEN object in PENDING has: the outer one, the elements so far, and where it began. */
+/* The fields of an OPEN object in PENDING: the outer one, the elements so far, and where it began. */
 enum { OUTER, LIST, LAST, STATE, BEGAN, OPEN_FIELDS };
 
 enum state { IN_LIST, AFTER_DOT, AFTER_TAIL, AFTER_QUOTE };
@@ -89,7 +89,7 @@ static bool is_delimiter(int character)
 
 /* ---- Atoms */
 
-/* Returns the byte that the escape behind a \ means. */
+/* Returns the byte for the escape after a \. */
 static int take_escape(struct source *source)
 {
     static const char escapes[] = "nt\"\\", meant[] = "\n\t\"\\";
@@ -122,7 +122,7 @@ static bool is_integer(const char *word)
     return *digits != 0 && strspn(digits, "0123456789") == strlen(digits);
 }
 
-/* Adds up the digits below zero, since negative integers reach further by one. */
+/* Adds up the digits as a negative number, since negative integers reach further by one. */
 static void set_spelled_integer(const char *word, uint64_t position)
 {
     bool is_negative = *word == '-', fits = true;
@@ -163,7 +163,7 @@ static void set_spelled(size_t length, uint64_t position)
         intern(VALUE, text, length);
 }
 
-/* ---- What is open */
+/* ---- Open lists and quotes */
 
 static void open_at(enum state state, uint64_t position)
 {
@@ -195,7 +195,7 @@ static void add_tail(void)
     put_word(PENDING, STATE, AFTER_TAIL);
 }
 
-/* Puts VALUE into a list behind the symbol quote. */
+/* Puts VALUE into a list after the symbol quote. */
 static void quote_value(uint64_t position)
 {
     clear(A);
@@ -204,8 +204,8 @@ static void quote_value(uint64_t position)
     make_pair_at(VALUE, A, VALUE, get_word(PENDING, BEGAN));
 }
 
-/* Adds VALUE, which began at this position, to what is open. Returns true if it is the whole expression. Sets the position to where
- * that began. */
+/* Adds VALUE, which began at this position, to the innermost open list or quote. Returns true if it is the whole expression. Sets the
+ * position to where that began. */
 static bool add_value(uint64_t *position)
 {
     while (type_of(PENDING) == OPEN && pending_state() == AFTER_QUOTE) {

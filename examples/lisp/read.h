@@ -14,8 +14,8 @@ struct source {
     unsigned text;      /* its number in positions */
     bool is_terminal;   /* prints prompts */
     bool is_inside;     /* the reader is inside an expression */
-    int held;           /* the character that was looked at and not taken, or NOTHING_HELD */
-    unsigned long line; /* where the next character stands, counted from 1 */
+    int held;           /* the character that was read ahead and not taken, or NOTHING_HELD */
+    unsigned long line; /* the line of the next character, counted from 1 */
     unsigned long column;
 };
 
@@ -24,10 +24,10 @@ struct source source_of_file(FILE *file, const char *name, bool is_terminal);
 struct source source_of_string(const char *string, const char *name);
 
 /* Reads the next expression into VALUE, and puts it into a new pair in PLACE. Returns false at the end of the text. Ends in an error
- * if there is something else than an expression. */
+ * if the text there is not an expression. */
 bool read_expression(struct source *source);
 
-/* Passes over the rest of the line. */
+/* Skips the rest of the line. */
 void skip_line(struct source *source);
 
 #endif

@@ -70,7 +70,7 @@ static void make_list_of(enum slot to, enum slot element)
     make_part(to, D, to);
 }
 
-/* Puts a keyword in front of a list. */
+/* Puts a keyword at the front of a list. */
 static void make_form(enum slot to, enum keyword keyword, enum slot rest)
 {
     move(A, rest);
@@ -154,7 +154,7 @@ void rewrite_let(void)
     replace_by_call();
 }
 
-/* (let* (FIRST . OTHERS) . BODY) becomes (let (FIRST) (let* OTHERS . BODY)), and with one binding or none a let. */
+/* (let* (FIRST . OTHERS) . BODY) becomes (let (FIRST) (let* OTHERS . BODY)), or a let if there is at most one binding. */
 void rewrite_let_star(void)
 {
     check_form(LET_STAR, 2, MOST_FIELDS);
@@ -195,7 +195,7 @@ static void append_assignments(void)
     }
 }
 
-/* Makes EXPRESSIONS a list of as many values that are none. */
+/* Makes EXPRESSIONS a list with one NOTHING value for each name. */
 static void forget_expressions(void)
 {
     clear(EXPRESSIONS);

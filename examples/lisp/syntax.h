@@ -11,13 +11,13 @@ enum keyword { NO_KEYWORD, QUOTE, IF, COND, AND, OR, BEGIN, LAMBDA, DEFINE, SET,
 /* Marks the symbols of all keywords. */
 void make_keywords(void);
 
-/* Returns the keyword that a value is. */
+/* Returns the keyword of a value. */
 enum keyword keyword_of(enum slot value);
 
-/* Ends in an error that says how the form is written. */
+/* Ends in an error that shows how to write the form. */
 _Noreturn void fail_in(enum keyword keyword);
 
-/* Ends in an error unless the form in EXPRESSION has from `least` to `most` elements behind its keyword. Uses slot D. */
+/* Ends in an error unless the form in EXPRESSION has from `least` to `most` elements after its keyword. Uses slot D. */
 void check_form(enum keyword keyword, int64_t least, int64_t most);
 
 /* These rewrite the form in EXPRESSION. The new form replaces it in PLACE, so that a form is rewritten once. They use slots A to D. */

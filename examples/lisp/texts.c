@@ -8,7 +8,7 @@
 
 static char text[MOST_BYTES];
 
-/* Copies a string argument to the text, behind what is there. Returns the length of both. */
+/* Appends a string argument to the text. Returns the length of both. */
 static size_t add_argument(uint32_t number, size_t length)
 {
     typed_argument(A, number, STRING, "a string");

@@ -1,4 +1,4 @@
-/* What a Lisp value is: the slots that hold values, the types of values, and the fields of each type. */
+/* Lisp values: the slots that hold them, their types, and the fields of each type. */
 #ifndef VALUES_H
 #define VALUES_H
 
@@ -10,11 +10,11 @@ enum slot {
     VALUE,       /* the value of the expression before it */
     ENVIRONMENT, /* the innermost scope, or nil */
     STACK,       /* the top frame, or nil */
-    FRAME,       /* the frame that was pushed or popped last */
+    FRAME,       /* the last frame that was pushed or popped */
     ARGUMENTS,   /* the scope that is filled for a call */
     CALL,        /* the place of that call */
-    FUNCTION,    /* the function that is called */
-    SEARCHED,    /* the scope in which a variable is looked for */
+    FUNCTION,    /* the called function */
+    SEARCHED,    /* the scope in which a variable is looked up */
 
     /* For one function's own use. A function that calls another one and goes on with these says which it may change. */
     A,
@@ -22,7 +22,7 @@ enum slot {
     C,
     D,
 
-    /* These may change in each function of objects.h, print.h and errors.h, and WORD with each word that is read or written. */
+    /* Any function of objects.h, print.h and errors.h may change these. Each read or written word changes WORD. */
     MADE,
     WORD,
 
@@ -32,7 +32,7 @@ enum slot {
     FALSE_VALUE,
     NO_VALUE,
 
-    /* Of the rewriting of let. */
+    /* For the rewriting of let. */
     BINDINGS,
     BODY,
     NAMES,
@@ -40,7 +40,7 @@ enum slot {
     EXPRESSIONS,
     LAST_EXPRESSION,
 
-    /* Of the reader, the printer and equal?: what is not finished yet. */
+    /* For the unfinished work of the reader, the printer and equal?. */
     PENDING,
     ITEM,
     OTHER,
@@ -57,14 +57,14 @@ enum type {
     PRIMITIVE,
     TRUE,
     FALSE,
-    NOTHING, /* the value of what has none, such as a variable that is not set yet */
+    NOTHING, /* stands for no value, for example of a variable that is not set yet */
     SCOPE,   /* the variables of a function that was called */
     TABLE,   /* of symbols */
     OPEN,    /* a list that is being read */
     LOCAL,   /* a variable in a program: the value of a scope */
     GLOBAL,  /* the same: the value of a symbol */
 
-    /* Frames: what is left to do with a value. */
+    /* Frames: what to do next with a value. */
     IF_FRAME,
     COND_FRAME,
     AND_FRAME,
@@ -78,7 +78,7 @@ enum type {
     INTEGER
 };
 
-/* A pair that the reader made says as well where its first element stands in the text. */
+/* A pair that the reader made also has the position of its first element in the text. */
 enum { FIRST, REST, PAIR_FIELDS, POSITION = PAIR_FIELDS, READ_PAIR_FIELDS };
 
 enum { SPELLING, SYMBOL_VALUE, KEYWORD, SYMBOL_FIELDS };
@@ -87,13 +87,13 @@ enum { PARAMETERS, CLOSURE_BODY, CLOSURE_SCOPE, ARITY, CLOSURE_NAME, CLOSURE_FIE
 
 enum { PRIMITIVE_NUMBER, PRIMITIVE_FIELDS };
 
-/* A variable's address is the number of its field, and 65536 times how many scopes lie between. A GLOBAL has the name alone. */
+/* A variable's address is the number of its field plus 65536 times the number of scopes between. A GLOBAL has only the name. */
 enum { VARIABLE_NAME, GLOBAL_FIELDS, ADDRESS = GLOBAL_FIELDS, LOCAL_FIELDS, ONE_SCOPE = 65536 };
 
-/* While a call's arguments are evaluated, the operator stands in the place of the names. */
+/* While a call's arguments are evaluated, the operator is in the place of the names. */
 enum { ENCLOSING, VARIABLES, OPERATOR = VARIABLES, FIRST_VALUE };
 
-/* All frames have the first three fields, and a CALL_FRAME has all. */
+/* All frames have the first three fields; a CALL_FRAME has all of them. */
 enum { BELOW, FRAME_ENVIRONMENT, FRAME_PLACE, FRAME_FIELDS, FRAME_ARGUMENTS = FRAME_FIELDS, FRAME_FIELD, FRAME_CALL, CALL_FRAME_FIELDS };
 
 #endif

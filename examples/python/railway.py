@@ -8,7 +8,7 @@ from gcflip import Heap, NotReady, Refused, Step, check, own, shared
 STATION = 1
 NAME, NEXT = 0, 1
 
-# A name is a raw object: its one field is a plain number, here up to seven bytes of text. Nobody takes it for a reference.
+# A name is a raw object: its one field is a plain number, here up to seven bytes of text. It is never treated as a reference.
 TEXT = 2
 
 # Python never holds a reference. Values are in slots, and an object that no slot reaches is garbage. All mutators share LINE.
@@ -45,7 +45,7 @@ def stations(mutator):
 
 
 def pairs_of(new_words):
-    """Reads the pairs of a collection from its new space: the word behind a header is the link, the original's address."""
+    """Reads the pairs of a collection from its new space. The word after a header is the link, which is the original's address."""
     pairs, at = [], 1
     while at < len(new_words):
         pairs.append((new_words[at + 1], at))
@@ -63,7 +63,7 @@ def build(mutator):
 
 
 def close_bonn(mutator):
-    """Lets the first station lead to the third. The second one becomes garbage, and so does its name."""
+    """Makes the third station follow the first. The second one becomes garbage, and so does its name."""
     mutator.get(STATION_SLOT, LINE, NEXT)
     mutator.get(REST, STATION_SLOT, NEXT)
     mutator.put(LINE, NEXT, REST)
@@ -71,7 +71,7 @@ def close_bonn(mutator):
 
 
 def open_hof(mutator):
-    """Puts a new station behind the first one."""
+    """Puts a new station after the first one."""
     make_station(mutator, "Hof")
     mutator.get(REST, LINE, NEXT)
     mutator.put(STATION_SLOT, NEXT, REST)

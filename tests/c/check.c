@@ -1,4 +1,4 @@
-/* Calls gcflip_check: each verdict, the answers but for a failed allocation, and empty rows. */
+/* Tests gcflip_check: each verdict, each answer except that of a failed allocation, and empty arrays. */
 #include "expect.h"
 #include "gcflip.h"
 #include <string.h>
@@ -51,7 +51,7 @@ static void expect_refusal(uint32_t refusal, uint64_t place, uint64_t field)
 static void refusals(void)
 {
     set_up();
-    old_words[4] = TWO_FIELDS; /* the walk goes on at word 8, which is no header */
+    old_words[4] = TWO_FIELDS; /* the walk continues at word 8, which is not a header */
     expect_refusal(GCFLIP_OLD_SHAPE, 8, 0);
     old_words[4] = HEADER;
     new_image.end = 6; /* the last field is cut off */
@@ -94,8 +94,8 @@ static void a_later_field_differs(void)
     EXPECT(is_verdict(GCFLIP_FIELD_DIFFERS, 0, 0, 1));
 }
 
-/* A raw object's word is a plain number, here one that would be a reference. Where raw headers do not count, the word
-   is no header. */
+/* A raw object's word is a plain number, here one that would be a reference. If raw headers are not valid, the word is
+   not a header. */
 static void raw_objects(void)
 {
     static const uint64_t words[] = {0, RAW_HEADER, 0, 18};
@@ -132,7 +132,7 @@ static void other_counts_of_words(void)
     }
 }
 
-/* 2^32 pairs, which take 32 GiB of addresses and no memory. One pair fewer is walked, and refused at the first. */
+/* 2^32 pairs, which take 32 GiB of addresses and no memory. With one pair fewer, the check runs and refuses the first pair. */
 static void too_many_pairs(void)
 {
     const size_t count = (size_t)UINT32_MAX + 1;

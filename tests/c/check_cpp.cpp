@@ -1,4 +1,4 @@
-// Calls the checker from C++: the headers are C++ too, and the calls have C linkage.
+// Calls the checker from C++: the headers are valid C++, and the calls have C linkage.
 #include "expect.h"
 #include "gcflip.h"
 #include <cstring>

@@ -1,5 +1,6 @@
-/* Pushes and pops a long list, with work of the collector in between: churn OPERATIONS. Two mutators share the list: one
-   pushes, and the other pops and sees the number that was pushed. The memory in use may not grow after a tenth. */
+/* Pushes to and pops from a long list, while the collector works: churn OPERATIONS. Two mutators share the list: one
+   pushes, and the other pops and sees the number that was pushed. After a tenth of the operations, the memory in use may
+   not grow. */
 #include "expect.h"
 #include "gcflip_heap.h"
 #include "own_allocator.h"
@@ -17,7 +18,7 @@ static void collect(uint32_t most)
     flips += work.last == GCFLIP_FLIPPED;
 }
 
-/* The list's first cell is a new one with the number n, in front of what was the list. */
+/* Pushes a new cell with the number n to the front of the list. */
 static void push(uint64_t n)
 {
     EXPECT(gcflip_heap_num(&heap, 0, 1, n) == GCFLIP_DONE);

@@ -1,4 +1,4 @@
-/* Ends the program with a line that says which condition does not hold. */
+/* Ends the program with a line that says which condition fails. */
 #ifndef EXPECT_H
 #define EXPECT_H
 

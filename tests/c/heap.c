@@ -1,4 +1,4 @@
-/* Calls everything of gcflip_heap.h: each number but those of a failed allocation and of a refused flip. */
+/* Tests all calls of gcflip_heap.h, with each answer but those of a failed allocation and of a refused flip. */
 #include "expect.h"
 #include "gcflip.h"
 #include "gcflip_heap.h"
@@ -19,7 +19,7 @@ static uint8_t slots[65536];
 
 #define REPLIES(call, wanted) EXPECT((call) == (wanted))
 
-/* A get that sees no number writes none. */
+/* Checks a get: if it sees no number, it writes none. */
 #define GETS(call, seen, wanted)                                  \
     do {                                                          \
         number = 77;                                              \
@@ -48,7 +48,7 @@ static void commands(void)
     LOOKS(gcflip_heap_look(&heap, 0, 31, &view), GCFLIP_NIL, 0, 0, 0);
     REPLIES(gcflip_heap_new(&heap, 0, G0, KIND, 2), GCFLIP_MADE);
     LOOKS(gcflip_heap_look(&heap, 1, G0, &view), GCFLIP_OBJECT, KIND, 2, 0);
-    LOOKS(gcflip_heap_look(&heap, 0, 0, &view), GCFLIP_NIL, 0, 0, 0); /* slot 16 is shared, and not the first own slot */
+    LOOKS(gcflip_heap_look(&heap, 0, 0, &view), GCFLIP_NIL, 0, 0, 0); /* slot 16 is shared; it is not the first own slot */
     REPLIES(gcflip_heap_num(&heap, 1, 15, 9223372036854775807u), GCFLIP_DONE);
     REPLIES(gcflip_heap_put(&heap, 1, G0, 1, 15), GCFLIP_DONE);
     GETS(gcflip_heap_get(&heap, 0, 3, G0, 1, &number), GCFLIP_NUMBER, 9223372036854775807u);
@@ -68,16 +68,16 @@ static void commands(void)
     GETS(gcflip_heap_get(&heap, 0, 2, G1, 2, &number), GCFLIP_NUMBER, 0);
     REPLIES(gcflip_heap_put(&heap, 0, G1, 0, G0), GCFLIP_NO_NUMBER);
     REPLIES(gcflip_heap_put(&heap, 0, G0, 0, G1), GCFLIP_DONE);
-    GETS(gcflip_heap_get(&heap, 0, 4, G0, 0, &number), GCFLIP_OBJECT, 77); /* raw, which get does not tell */
+    GETS(gcflip_heap_get(&heap, 0, 4, G0, 0, &number), GCFLIP_OBJECT, 77); /* raw, which get does not show */
     LOOKS(gcflip_heap_look(&heap, 0, 4, &view), GCFLIP_RAW_OBJECT, 255, 3, 0);
     REPLIES(gcflip_heap_put_number(&heap, 0, G1, 2, 5, 6), GCFLIP_DONE);
     GETS(gcflip_heap_get(&heap, 0, 6, G1, 2, &number), GCFLIP_NUMBER, 6);
     LOOKS(gcflip_heap_look(&heap, 0, 5, &view), GCFLIP_NUMBER, 0, 0, 6);
-    REPLIES(gcflip_heap_put_number(&heap, 0, G1, 3, 5, 7), GCFLIP_NO_FIELD); /* the slot has the number all the same */
+    REPLIES(gcflip_heap_put_number(&heap, 0, G1, 3, 5, 7), GCFLIP_NO_FIELD); /* the slot has the number anyway */
     LOOKS(gcflip_heap_look(&heap, 0, 5, &view), GCFLIP_NUMBER, 0, 0, 7);
     REPLIES(gcflip_heap_put_number(&heap, 0, 5, 0, 5, 8), GCFLIP_NO_OBJECT);
     REPLIES(gcflip_heap_put(&heap, 0, G1, 0, 3), GCFLIP_DONE);
-    REPLIES(gcflip_heap_new(&heap, 0, 0, KIND, 21), GCFLIP_FULL); /* 23 words, and 22 are free */
+    REPLIES(gcflip_heap_new(&heap, 0, 0, KIND, 21), GCFLIP_FULL); /* 23 words, but 22 are free */
     REPLIES(gcflip_heap_put_number(&heap, 0, G1, 0, 5, 11), GCFLIP_DONE);
     REPLIES(gcflip_heap_cons(&heap, 1, 7, 8, G1, 9), GCFLIP_MADE);
     LOOKS(gcflip_heap_look(&heap, 1, 7, &view), GCFLIP_OBJECT, 8, 2, 0);
@@ -104,7 +104,7 @@ static void commands(void)
     close_heap();
 }
 
-/* An object with a number and an object behind it; the number is written again after it was scanned. */
+/* Tests each step, with an object whose one field two mutators write after it was scanned. */
 static void steps(void)
 {
     open_heap(32, 2);
@@ -139,7 +139,7 @@ static void steps(void)
     close_heap();
 }
 
-/* The useful steps of a heap with one object: begin, one root, one field, the end of the object, the flip. */
+/* Tests the useful steps of a heap with one object: begin, one root, one field, the end of the object, the flip. */
 static void useful_steps(void)
 {
     open_heap(32, 1);
@@ -207,7 +207,7 @@ static void readings(void)
     close_heap();
 }
 
-/* The library's two halves meet: the checker accepts the copied images of a ready collection. */
+/* Uses both halves of the library: the checker accepts the copied images of a ready collection. */
 static void copied_images_are_certified(void)
 {
     static uint64_t new_words[64], new_roots[32];
@@ -282,7 +282,7 @@ static void out_of_range(void)
     close_heap();
 }
 
-/* Each call on a handle without a heap. */
+/* Makes each call on a handle without a heap. */
 static void closed(void)
 {
     const gcflip_view before = {77, 77, 77};
@@ -318,7 +318,7 @@ static void closed(void)
     EXPECT(memcmp(&view, &before, sizeof view) == 0 && number == 77 && pairs == 77);
 }
 
-/* Two heaps know nothing of each other, and a handle may be moved. */
+/* Checks that two heaps are independent, and that a handle may be moved. */
 static void two_heaps(void)
 {
     gcflip_heap other = GCFLIP_NO_HEAP, moved;

@@ -21,13 +21,13 @@ static long blocks;
 static size_t bytes;
 static bool failed;
 
-/* In front of each block stands its size. */
+/* A header with its size precedes each block. */
 union header {
     size_t size;
     max_align_t aligned;
 };
 
-/* Lets the n-th allocation from here on fail; none if n is 0. */
+/* Makes the n-th allocation from now on fail, or none if n is 0. */
 static inline void fail_allocation(long n)
 {
     requests = 0;
@@ -45,7 +45,7 @@ static inline long blocks_in_use(void)
     return blocks;
 }
 
-/* Returns the bytes that were asked for and not freed. */
+/* Returns the number of bytes that were allocated and not freed. */
 static inline size_t bytes_in_use(void)
 {
     return bytes;
@@ -59,7 +59,7 @@ static bool fails(void)
     return requests == failing;
 }
 
-/* Returns the block behind its header, or nothing. */
+/* Returns the block after its header, or a failure. */
 static struct gcflip_memory memory_behind(union header *header, size_t size)
 {
     static char nowhere;

@@ -1,9 +1,9 @@
-/* Plays a trace on the library's heap and prints the lines of its replies, as `gcflip play` does: play TRACE [RECORD]. What
-   is done is recorded into RECORD. */
+/* Plays a trace on the library's heap and prints the lines of its replies, as `gcflip play` does: play TRACE [RECORD].
+   Records the run into RECORD. */
 #include "expect.h"
 #include "gcflip_heap.h"
 
-/* Stands before the include that records. */
+/* Comes before the include that records. */
 static uint32_t look_unrecorded(gcflip_heap *heap, uint8_t m, uint8_t s, gcflip_view *view)
 {
     return gcflip_heap_look(heap, m, s, view);
@@ -19,7 +19,7 @@ static uint64_t seen;
 static gcflip_view view;
 static uint32_t pairs;
 
-/* The lines of the numbers that calls return. Of what was seen the value follows. */
+/* The lines for the numbers that calls return. After `saw`, the value follows. */
 static const char *const lines[] = {
     [GCFLIP_DONE] = "done", [GCFLIP_MADE] = "made", [GCFLIP_FULL] = "full",
     [GCFLIP_NO_OBJECT] = "no object", [GCFLIP_NO_FIELD] = "no field", [GCFLIP_NO_NUMBER] = "no number",
@@ -44,7 +44,7 @@ static void print_reply(uint32_t answer)
     printf("\n");
 }
 
-/* Gets a field, and looks at it for its kind and length. The number that was got is what is seen. */
+/* Gets a field, and looks at it for its kind and length. The number comes from the get. */
 static uint32_t get(uint8_t m, uint8_t d, uint8_t s, uint16_t i)
 {
     uint32_t answer = gcflip_heap_get(&heap, m, d, s, i, &seen), looked;

@@ -1,5 +1,5 @@
-/* Records work and prints the replies of all that is recorded: record_work RECORD. The library makes the same work at once,
-   on a second heap, and reports the same of it. */
+/* Records `work` and prints the replies to the recorded events: record_work RECORD. On a second heap, one call of the library
+   performs the same work, and reports the same. */
 #include "expect.h"
 #include "gcflip_heap.h"
 #include "own_allocator.h"
@@ -7,7 +7,7 @@
 
 static gcflip_heap at_once = GCFLIP_NO_HEAP;
 
-/* Makes the work at once. It stands before the include that records. */
+/* Performs the work in one call. Comes before the include that records. */
 static uint32_t work_at_once(uint32_t most, gcflip_work *work)
 {
     return gcflip_heap_work(&at_once, most, work);
@@ -37,7 +37,7 @@ FILE *gcflip_trace;
 
 static gcflip_heap heap = GCFLIP_NO_HEAP;
 
-/* Makes the same work on both heaps, where an allocation of this number fails. */
+/* Performs the same work on both heaps, with the allocation of this number failing. */
 static void work(uint32_t most, uint32_t last, long failing)
 {
     gcflip_work recorded, other;
@@ -73,7 +73,7 @@ int main(int count, char **names)
     gcflip_heap_begin_sized(&heap, 3);
     EXPECT(gcflip_heap_work(&heap, 100, &none) == GCFLIP_DONE && none.steps == 1 && none.last == GCFLIP_NO_ROOM);
     gcflip_heap_drop(&heap);
-    /* calls that are several commands; the last has no room, and then it is one */
+    /* calls that are several commands; the last finds no room, and is then one command */
     EXPECT(gcflip_heap_put_number(&heap, 1, 16, 0, 5, 9) == GCFLIP_DONE);
     EXPECT(gcflip_heap_cons(&heap, 1, 6, 3, 16, 5) == GCFLIP_MADE);
     EXPECT(gcflip_heap_new_from(&heap, 1, 7, 3, fields, 3) == GCFLIP_MADE);

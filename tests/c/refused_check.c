@@ -1,5 +1,5 @@
-/* Fails the n-th allocation of each check, for n from 1 on until a check needs no more. It links allocation functions
-   of its own in place of the library's. */
+/* Makes the n-th allocation of each check fail, for n = 1, 2 and so on until a check needs no more. Links its own
+   allocation functions instead of the library's. */
 #include "expect.h"
 #include "gcflip.h"
 #include "own_allocator.h"
@@ -21,7 +21,7 @@ static uint32_t check_text(gcflip_verdict *verdict)
     return gcflip_check_text((const uint8_t *)text, strlen(text), verdict);
 }
 
-/* Returns how many allocations can fail. */
+/* Returns the number of allocations that can fail. */
 static int failures(uint32_t (*check)(gcflip_verdict *verdict))
 {
     for (int n = 1;; n++) {
@@ -40,7 +40,7 @@ static int failures(uint32_t (*check)(gcflip_verdict *verdict))
 
 int main(void)
 {
-    /* The partners by old address, and the starts of both images. A text has the bytes that wait, two rows for each image, and the pairs. */
+    /* The partners by old address, and the starts of both images. A text also has the bytes that wait, two arrays for each image, and the pairs. */
     EXPECT(failures(check_images) == 3);
     EXPECT(failures(check_text) == 9);
     return 0;

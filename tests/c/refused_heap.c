@@ -1,5 +1,5 @@
-/* Fails the n-th allocation of each call on a heap that allocates, for n from 1 on until the call needs no more. It
-   links allocation functions of its own in place of the library's. */
+/* Makes the n-th allocation of each call on a heap fail, for n = 1, 2 and so on until the call needs no more. Links its
+   own allocation functions instead of the library's. */
 #include "expect.h"
 #include "gcflip_heap.h"
 #include "own_allocator.h"
@@ -73,7 +73,7 @@ static void free_all(void)
     EXPECT(gcflip_heap_close(&heap) == GCFLIP_DONE && blocks_in_use() == 0);
 }
 
-/* Returns how many allocations can fail. A failed one leaves all as it was, and the call can then be made again. */
+/* Returns the number of allocations that can fail. A failed one changes nothing, and the call can be retried. */
 static int failures(void (*prepare)(void), uint32_t (*call)(void))
 {
     static struct picture before, after;
@@ -100,7 +100,7 @@ static int failures(void (*prepare)(void), uint32_t (*call)(void))
     }
 }
 
-/* An open that fails leaves no heap, and no block. */
+/* Checks that an open that fails leaves no heap and no block. */
 static void opening(void)
 {
     int n = 1;
@@ -115,7 +115,7 @@ static void opening(void)
     free_all();
 }
 
-/* Work that has made a step says so, and the next call meets the failure. */
+/* Checks that `work` reports the steps before a failure, and that the next call meets the failure. */
 static void work_before_a_failure(void)
 {
     set_up();
@@ -130,7 +130,7 @@ static void work_before_a_failure(void)
     free_all();
 }
 
-/* What the others need is there: each is made while the next allocation would fail. */
+/* Checks that all other calls do not allocate: each runs while the next allocation would fail. */
 static void calls_that_do_not_allocate(void)
 {
     set_up();
@@ -169,7 +169,7 @@ int main(void)
     EXPECT(failures(set_up_open, cons) == 1);
     EXPECT(failures(set_up, new_from) == 0);
     EXPECT(failures(set_up_open, new_from) == 1);
-    EXPECT(failures(set_up_ready, flip) == 5); /* the certificate, the moved roots, the checker's three rows */
+    EXPECT(failures(set_up_ready, flip) == 5); /* the certificate, the moved roots, the checker's three tables */
     EXPECT(failures(set_up, work_1) == 2);
     EXPECT(failures(set_up_ready, work_1) == 5);
     work_before_a_failure();

@@ -1,5 +1,5 @@
-/* Linked with examples/lisp: the allocation of the library that the environment variable REFUSED_ALLOCATION numbers fails. At the end the program
-   says so. */
+/* Linked with examples/lisp: makes one allocation of the library fail, whose number is in the environment variable REFUSED_ALLOCATION. At its
+   end, the program says so. */
 #include "own_allocator.h"
 #include <stdio.h>
 

@@ -1,9 +1,9 @@
-/* Checks the pair text of each FILE and prints a line: of a verdict, or of what is wrong with the text. */
+/* Checks the pair text of each FILE and prints a line, with the verdict or the fault of the text. */
 #include "expect.h"
 #include "gcflip.h"
 #include <string.h>
 
-/* Returns the file's bytes, in a block that ends where they end. */
+/* Returns the file's bytes, in a block of exactly their length. */
 static uint8_t *content(const char *name, size_t *length)
 {
     FILE *file = fopen(name, "rb");

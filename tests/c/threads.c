@@ -1,5 +1,5 @@
-/* Four threads, each with a heap of its own, check the same images at the same time; and a heap that one thread filled is
-   used and closed by another. */
+/* Four threads, each with its own heap, check the same images at the same time. Also, one thread uses and closes a heap
+   that another one filled. */
 #include "expect.h"
 #include "gcflip.h"
 #include "gcflip_heap.h"
@@ -30,7 +30,7 @@ static void expect_number(gcflip_heap *heap, uint8_t slot, uint64_t n)
     EXPECT(gcflip_heap_get(heap, 0, 14, slot, 0, &number) == GCFLIP_NUMBER && number == n);
 }
 
-/* Fills the heap at which the argument points, and collects in between. */
+/* Fills the heap that the argument points to, and collects in between. */
 static void *fill(void *argument)
 {
     gcflip_heap *heap = argument;

@@ -1,4 +1,4 @@
-"""Drives a headless browser over the DevTools protocol, by the standard library alone."""
+"""Drives a headless browser over the DevTools protocol, with the standard library alone."""
 import base64
 import json
 import os
@@ -35,7 +35,7 @@ class WebSocket:
             pass
 
     def send(self, payload, opcode=TEXT):
-        """Sends a message in one frame. Frames of a client are masked."""
+        """Sends a message in one frame. A client has to mask its frames."""
         length, mask = len(payload), os.urandom(4)
         if length < 126:
             size = struct.pack("!B", 128 | length)
@@ -54,7 +54,7 @@ class WebSocket:
         return data
 
     def receive(self):
-        """Returns the next message, put together from its frames."""
+        """Returns the next message, assembled from its frames."""
         message = b""
         while True:
             first, second = self.exactly(2)
@@ -78,7 +78,7 @@ class WebSocket:
 
 
 class Browser:
-    """A headless browser with one page. `complaints` has what its console told of errors."""
+    """A headless browser with one page. `complaints` has the errors of its console."""
 
     def __init__(self, path, folder):
         profile = os.path.join(folder, "profile")
@@ -101,7 +101,7 @@ class Browser:
             self.call(domain + ".enable")
 
     def port(self, path):
-        """Waits until the browser tells its port."""
+        """Waits until the browser reports its port."""
         end = time.monotonic() + SECONDS
         while time.monotonic() < end and self.process.poll() is None:
             if os.path.exists(path):
@@ -125,7 +125,7 @@ class Browser:
             self.note(message)
 
     def note(self, event):
-        """Keeps what an event tells of an error."""
+        """Keeps the error that an event reports, if any."""
         method, details = event.get("method"), event.get("params", {})
         if method == "Runtime.exceptionThrown":
             self.complaints.append(json.dumps(details["exceptionDetails"]))
@@ -135,7 +135,7 @@ class Browser:
             self.complaints.append(json.dumps(details["args"]))
 
     def run(self, script):
-        """Runs the body of an asynchronous function in the page, and returns what it returns."""
+        """Runs the body of an asynchronous function in the page, and returns its result."""
         result = self.call("Runtime.evaluate", expression="(async () => { %s })()" % script, awaitPromise=True, returnByValue=True)
         if "exceptionDetails" in result:
             raise RuntimeError(json.dumps(result["exceptionDetails"]))
@@ -157,18 +157,18 @@ class Browser:
         self.call("Emulation.setDeviceMetricsOverride", width=width, height=height, deviceScaleFactor=1, mobile=mobile)
 
     def prefer(self, **features):
-        """Sets what the user prefers, as color_scheme="dark"."""
+        """Sets the user's preferences, such as color_scheme="dark"."""
         wanted = [{"name": "prefers-" + name.replace("_", "-"), "value": value} for name, value in features.items()]
         self.call("Emulation.setEmulatedMedia", features=wanted)
 
     def press(self, key):
-        """Presses a key, which goes to what has the focus."""
+        """Presses a key, which goes to the focused element."""
         text = key if len(key) == 1 else ""
         self.call("Input.dispatchKeyEvent", type="keyDown", key=key, text=text)
         self.call("Input.dispatchKeyEvent", type="keyUp", key=key)
 
     def screenshot(self, path):
-        """Writes a picture of what is in sight, as PNG or WebP by the file's ending."""
+        """Writes a picture of the visible part of the page, as PNG or WebP by the file's ending."""
         kind = os.path.splitext(path)[1][1:]
         quality = {"quality": 70} if kind == "webp" else {}
         taken = self.call("Page.captureScreenshot", format=kind, **quality)

@@ -1,7 +1,7 @@
-"""The libraries for C and C++: programs of tests/c that call them, built in each way that the machine has, and run.
+"""Tests of the libraries for C and C++: programs of tests/c that call them, built in every way that the machine allows.
 
-The library is built and installed by bindings/c. Where a compiler or a sanitizer is missing, that way of building is
-skipped, and a line says so.
+bindings/c builds and installs the library. If a compiler or a sanitizer is missing, that way of building is skipped, and a
+line says so.
 """
 import os
 import shutil
@@ -16,7 +16,7 @@ TOP = os.path.join(os.path.dirname(os.path.abspath(__file__)), "..", "..")
 SOURCES = os.path.join(TOP, "tests", "c")
 EXAMPLE_PROGRAMS = os.path.join(TOP, "bindings", "c", "examples")
 SECONDS = 120
-# The libraries are proved first, where they have changed.
+# Libraries that have changed are proved first.
 PROVING_SECONDS = 3600
 WARNINGS = ["-Wall", "-Wextra", "-Wpedantic", "-Werror"]
 SANITIZERS = ["-g", "-fsanitize=address,undefined", "-fno-sanitize-recover=all"]
@@ -27,13 +27,13 @@ def skip(what, why):
 
 
 def done(words, timeout=SECONDS, **more):
-    """What a run of these words gave."""
+    """Runs a command, and returns its outcome."""
     ran = subprocess.run(words, stdout=subprocess.PIPE, stderr=subprocess.PIPE, timeout=timeout, **more)
     return Outcome(ran.stdout, ran.stderr, ran.returncode)
 
 
 def toolchain_clang():
-    """The words that run the toolchain's clang, with the headers that gcc has and it lacks; None if either is missing."""
+    """Returns the command for the toolchain's clang, with gcc's headers, which it lacks. None if either is missing."""
     rt, gcc = shutil.which("rt"), shutil.which("gcc")
     if not rt or not gcc:
         return None
@@ -44,14 +44,14 @@ def toolchain_clang():
 
 
 def compilers():
-    """The ways to build a program: a name, the words for C, and the words for C++."""
+    """Yields the ways to build a program: a name, the command for C, and the command for C++."""
     clang = toolchain_clang()
     yield "gcc", ["gcc"], ["g++"]
     yield "gcc with sanitizers", ["gcc", *SANITIZERS], ["g++", *SANITIZERS]
     if clang:
         yield "the toolchain's clang", clang, [*clang, "--driver-mode=g++"]
     else:
-        skip("the toolchain's clang", "it is not there")
+        skip("the toolchain's clang", "it is missing")
 
 
 class Library:
@@ -69,12 +69,12 @@ class Library:
         return done([*words, "OUT=" + os.path.join(self.folder, "out")], timeout=PROVING_SECONDS)
 
     def flags(self, prefix=None):
-        """What pkg-config tells of it."""
+        """Returns what pkg-config says about it."""
         environment = dict(os.environ, PKG_CONFIG_PATH=os.path.join(prefix or self.prefix, "lib", "pkgconfig"))
         return done(["pkg-config", "--cflags", "--libs", "gcflip"], env=environment).stdout.decode().split()
 
     def build(self, compiler, source, linked):
-        """The path of the program, and why it was not built, or None."""
+        """Returns the path of the program, and why it was not built, or None."""
         program = os.path.join(self.folder, "program")
         standard = "-std=c++11" if source.endswith(".cpp") else "-std=gnu11"
         words = [*compiler, standard, "-O2", "-pthread", *WARNINGS, "-I" + os.path.join(self.prefix, "include")]
@@ -82,7 +82,7 @@ class Library:
         return program, None if built.status == 0 else "not built: %s" % built.stderr.decode()
 
     def build_example(self, name):
-        """The path of a program of bindings/c/examples, and why it was not built, or None."""
+        """Returns the path of a program of bindings/c/examples, and why it was not built, or None."""
         program = os.path.join(self.folder, "example")
         words = ["gcc", "-std=c99", *WARNINGS, *SANITIZERS, "-I" + os.path.join(self.prefix, "include"), "-o", program]
         built = done([*words, os.path.join(EXAMPLE_PROGRAMS, name), *self.archive()])
@@ -96,7 +96,7 @@ class Library:
 
 
 def library(folder):
-    """The installed library. None, and said aloud, where nothing can be built."""
+    """Returns the installed library, or None, with a line that says so, if nothing can be built."""
     missing = [tool for tool in ("make", "gcc", "g++", "ar") if not shutil.which(tool)]
     if missing:
         skip("c_library", "no %s" % ", ".join(missing))
@@ -105,7 +105,7 @@ def library(folder):
 
 
 def usable(folder, name, compiler):
-    """Whether this way of building gives programs that run; said aloud where it does not."""
+    """Returns whether programs built in this way run. If they do not, a line says so."""
     source = file_of(folder, "nothing.c", b"int main(void) { return 0; }\n")
     program = os.path.join(folder, "nothing")
     built = done([*compiler, "-o", program, source])
@@ -150,7 +150,7 @@ def pkg_config(_program, folder):
 
 
 def texts_and_lines():
-    """Each pair text with the line that tells its verdict, or what is wrong with it."""
+    """Checks that each pair text gets the line of its verdict, or of its fault."""
     yield from pairs.texts_and_verdicts()
     yield from pairs.refused_texts()
     lines, verdict = pairs.CHECKED["old_addresses_may_fall"]
@@ -183,7 +183,7 @@ def texts(_program, folder):
 
 
 def traces_and_replies():
-    """Each trace without faults: its name, its bytes, the bytes of its replies."""
+    """Yields each trace without faults: its name, its bytes, the bytes of its replies."""
     for name, conversation in PLAYED.items():
         yield (name, *trace_and_replies(conversation))
     for name in names_of(".trace"):
@@ -191,12 +191,12 @@ def traces_and_replies():
 
 
 def events(trace):
-    """The lines behind the first two."""
+    """Returns the lines after the first two."""
     return trace.split(b"\n")[2:]
 
 
 def plays(_program, folder):
-    """A trace gives the replies that the program gives, and what the library records is the trace."""
+    """Checks that a trace gives the program's replies, and that the library's recording is the trace."""
     built = library(folder)
     if built is None:
         return
@@ -215,7 +215,7 @@ def plays(_program, folder):
             yield "%s, recorded by %s" % (case, name), None if events(recorded) == events(trace) else "recorded %r" % recorded
 
 
-# The replies to what record_work.c records: the second field is written once more after its object was scanned.
+# The replies to the events that record_work.c records. The second field is written again after its object was scanned.
 REPLIES_OF_RECORDED_WORK = (
     b"made\nmade\ndone\nbegun\ncopied\ncopied\nscanned\ndone\nscanned\npassed\nscanned\npassed\napplied\nflipped 2\n"
     b"begun\ncopied\ncopied\nscanned\nscanned\npassed\nscanned\npassed\nflipped 2\nbegun\nno room\ndropped\n"
@@ -224,7 +224,7 @@ REPLIES_OF_RECORDED_WORK = (
 
 
 def recorded_work(program, folder):
-    """What the library records of its work plays to the same replies."""
+    """Checks that a recording of `work` plays to the same replies."""
     built = library(folder)
     if built is None:
         return
@@ -235,7 +235,7 @@ def recorded_work(program, folder):
 
 
 def long_run(_program, folder):
-    """Ten million operations at constant memory."""
+    """Runs ten million operations in constant memory."""
     built = library(folder)
     if built is None:
         return
@@ -243,7 +243,7 @@ def long_run(_program, folder):
     yield "churn of 10000000 operations", why or difference(done([path, "10000000"]), Outcome())
 
 
-# What each example prints.
+# The output of each example.
 EXAMPLE_OUTPUT = {"first_check.c": b"yes 1\n", "first_heap.c": b"mutators go on\nmutators go on\nflipped 1\nsaw 42\n"}
 
 

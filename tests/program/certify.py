@@ -1,4 +1,4 @@
-"""examples/certify: a collector in C that nobody proved. The checker accepts its flips, and refuses those of its planted bugs."""
+"""Tests of examples/certify, an unproved collector in C. The checker accepts its flips, and refuses those with planted bugs."""
 import glob
 import os
 import re
@@ -10,14 +10,14 @@ from .pairs import status_of
 FOLDER = os.path.join(TOP, "examples", "certify")
 SOURCES = sorted(glob.glob(os.path.join(FOLDER, "*.c")))
 
-# Numbers of entries. 100000 is the most, and then the spaces are nearly as large as the checker allows.
+# Numbers of entries. 100000 is the most; the spaces are then nearly as large as the checker allows.
 SIZES = [1, 2, 3, 4, 5, 9, 100, 100000]
 
 # A bug, the number of entries, the verdict, and the object that it is about.
 #
 # A list of n entries has the entries 0, 2, 4 and so on when it is collected. The roots are the count, the first entry and the
-# last one. So replica 0 is the first entry and replica 1 the last; if there is one entry alone, it is replica 0. Scanning an
-# entry adds its name, the next entry and the previous one, where they have no replica. So behind the roots of three
+# last one. So replica 0 is the first entry and replica 1 the last; if there is only one entry, it is replica 0. Scanning an
+# entry adds its name, the next entry and the previous one, if they have no replica. So after the root targets of three
 # entries come the first name (2), entry 2 (3), the last name (4), and the name of entry 2 (5).
 REFUSED = [
     # The last field of an entry is `previous`. It is nil in the first entry, so replica 1 has the first error.
@@ -26,15 +26,15 @@ REFUSED = [
     ("field", 99999, "refused 9 FieldDiffers 1 3", 'the entry of "entry 99998" has a replica with another previous'),
     # Both roots refer to the one entry, and each copies it.
     ("twice", 1, "refused 7 Twice 1", 'the entry of "entry 0" has a second replica'),
-    # `next` of the first of two entries copies the last once more, behind the first name.
+    # `next` of the first of two entries copies the last again, after the first name.
     ("twice", 3, "refused 7 Twice 3", 'the entry of "entry 2" has a second replica'),
-    # `next` of the second of three entries copies the last once more, behind that entry's name.
+    # `next` of the second of three entries copies the last again, after that entry's name.
     ("twice", 5, "refused 7 Twice 6", 'the entry of "entry 4" has a second replica'),
-    # Replica 5 is the last but one, 6 the name of entry 2 and 7 the entry behind it. `previous` of entry 2 copies the first.
+    # Replica 5 is the last but one, 6 the name of entry 2 and 7 the entry after it. `previous` of entry 2 copies the first.
     ("twice", 9, "refused 7 Twice 8", 'the entry of "entry 0" has a second replica'),
     ("root", 1, "refused 10 RootDiffers 2", "the root last differs"),
     ("root", 5, "refused 10 RootDiffers 2", "the root last differs"),
-    # The first text behind one entry, and behind two.
+    # The first text after one entry, and after two.
     ("length", 1, "refused 8 HeaderDiffers 1", 'the text "entry 0" has a replica of another kind or length'),
     ("length", 5, "refused 8 HeaderDiffers 2", 'the text "entry 0" has a replica of another kind or length'),
 ]
@@ -45,7 +45,7 @@ TIMES = rb"yes \d+\nfor each of (\d+) objects: copying \d+ ns, images and pairs 
 
 
 def accepted(entries):
-    """What a run without a refusal prints. Each entry that is left has a name, and so there are twice as many pairs."""
+    """Returns the output of a run without a refusal. Each remaining entry has a name, so there are twice as many pairs."""
     first = (entries + 1) // 2
     second = (first + 1) // 2
     whole = "the list in the new space is whole\n"
@@ -57,7 +57,7 @@ def refused(verdict, place):
 
 
 def build(built, compiler):
-    """The path of the program, and why it was not built, or None."""
+    """Returns the path of the program, and why it was not built, or None."""
     path = os.path.join(built.folder, "certify")
     words = [*compiler, "-std=c11", "-O2", *WARNINGS, "-I" + os.path.join(built.prefix, "include"), "-o", path]
     made = done([*words, *SOURCES, *built.archive()])
@@ -103,7 +103,7 @@ def cases(program, folder, name, path):
 
 
 def table_of_readme(_program, _folder):
-    """The table of bugs shows what a run with five entries prints."""
+    """Checks that the table of bugs shows the output of runs with five entries."""
     with open(os.path.join(FOLDER, "README.md"), encoding="utf-8") as file:
         text = file.read()
     for bug, entries, verdict, place in REFUSED:

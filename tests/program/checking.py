@@ -1,4 +1,4 @@
-"""Tests of checking: pair texts with their verdicts, texts that are no pair, every prefix of a pair text, and the limits."""
+"""Tests of checking: pair texts with their verdicts, texts that are not pairs, every prefix of a pair text, and the limits."""
 from . import pairs
 from .harness import Outcome, difference, file_of, refusal, run
 

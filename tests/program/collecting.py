@@ -53,7 +53,7 @@ SECOND_PAIR = (
 ).encode()
 
 
-# The words of a raw object are its numbers, even if they look like references.
+# The words of a raw object are its numbers, even those that look like references.
 RAW_PAIR = (
     "heappair 2\nold 16 5\n" + words(0, 50790402, 1, 8, 10)
     + "roots 32\n" + root_lines({16: 2, 17: 21})
@@ -173,14 +173,14 @@ def threads(program, folder):
 
 
 def three_scripts(count):
-    """Returns a trace of three mutators with so many commands."""
+    """Returns a trace of three mutators with this many commands."""
     commands = ["new r%d 7 3", "put r%d 2 r5", "get r%d r5 0", "move g3 r%d", "num r%d 9", "look r%d", "nil r%d"]
     lines = ["m %d %s\n" % (k % 3, commands[k // 3 % 7] % (k // 21 % 16)) for k in range(count)]
     return ("heaptrace 1\nspace 1048576 mutators 3\n" + "".join(lines)).encode()
 
 
 def many_threads(program, folder):
-    """Runs sixteen scripts of many commands beside a busy collector."""
+    """Runs sixteen scripts of many commands together with a busy collector."""
     scripts = ["m %d new r%d 1 2\nm %d put r%d 1 r%d\n" % (m, k % 16, m, k % 16, (k + 1) % 16) for k in range(200) for m in range(16)]
     text = ("heaptrace 1\nspace 1048576 mutators 16\n" + "".join(scripts)).encode()
     found = run(program, ["threads", file_of(folder, "sixteen scripts", text), "20000"])

@@ -1,4 +1,4 @@
-"""Tests of the command line: what its words ask for, and the order in which faults are found."""
+"""Tests of the command line: the task of its arguments, and the order in which faults are found."""
 import os
 
 from .harness import Outcome, difference, file_of, refusal, run
@@ -87,7 +87,7 @@ HELP_WORDS = {
     ("--help", "nothing"): HELP,
 }
 
-# The words, and the first line of clap's text.
+# The arguments, and the first line of clap's text.
 REFUSED_WORDS = {
     ("nothing",): "error: unrecognized subcommand 'nothing'",
     ("--nothing",): "error: unexpected argument '--nothing' found",
@@ -148,7 +148,7 @@ def order_of_faults(program, folder):
 
 
 def paths(program, folder):
-    """Takes FILE as it stands."""
+    """Takes FILE literally."""
     text, replies = trace_and_replies(PLAYED["cycle_of_two"])
     played = Outcome(stdout=replies)
     cannot_read = refusal("cannot read", 4)

@@ -1,5 +1,5 @@
-// The body of a function that the tests run in the page. It returns the texts whose contrast with what is behind them is below that of
-// WCAG AA (4.5 to 1, or 3 to 1 for large texts), the least contrast, and the number of texts.
+// The body of a function that the tests run in the page. It returns the texts with less contrast to their background than WCAG AA requires
+// (4.5 to 1, or 3 to 1 for large texts), the least contrast, and the number of texts.
 
 // Returns the numbers of a colour as the browser writes it: red, green, blue, and opacity if it is not 1.
 const parts = (colour) => (colour.match(/[\d.]+/g) ?? []).map(Number);
@@ -22,7 +22,7 @@ function contrast(colour, other) {
   return (more + 0.05) / (less + 0.05);
 }
 
-// Returns the fill of the last box of a picture that is drawn before a text and lies behind its middle, or null.
+// Returns the fill of the last box of a picture that is drawn before a text and contains the text's middle, or null.
 function fillBehind(text) {
   const { x, y, width, height } = text.getBBox();
   const [middle, centre] = [x + width / 2, y + height / 2];

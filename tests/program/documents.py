@@ -1,5 +1,5 @@
-"""Tests of the documents: what they cite exists, what they quote is in the code, and the commands that they show print what
-they say. Each must-fail edit can be applied."""
+"""Tests of the documents: what they cite exists, what they quote is in the code, and the commands that they show print what the
+documents say. Each must-fail edit can be applied."""
 import glob
 import os
 import re
@@ -88,7 +88,7 @@ def names(_program, _folder):
 
 # ---- words
 
-# Phrases that readers stumble over, and what to write.
+# Phrases that readers stumble over, and what to write instead.
 STUMBLED_OVER = {
     "want of memory": "out of memory",
     "memory is wanting": "an allocation fails",
@@ -118,7 +118,7 @@ def words(_program, _folder):
 # ---- files
 
 def cited_files(document):
-    """Yields the files that a document names: the name as it stands, and the path from the top. Anchors are cut off."""
+    """Yields the files that a document names: the name as written, and the path from the top. Anchors are cut off."""
     for target in re.findall(r"\]\(([^)#\s]+)[^)]*\)", text_of(document)):
         if "://" not in target:
             yield target, os.path.join(os.path.dirname(document), target)
@@ -129,7 +129,7 @@ def cited_files(document):
 
 def is_file(path):
     """Returns whether the path names a file from the top, below crates/ or in a crate. The ending of a file of definitions
-    may be left out. What a build leaves in out/ need not exist."""
+    may be left out. Files in out/ need not exist, since a build makes them."""
     if "out" in path.split("/"):
         return True
     folders = ["", "crates", "crates/*"]
@@ -146,7 +146,7 @@ def files(_program, _folder):
 # ---- clauses
 
 def contracts_of(crate):
-    """Returns the clauses of each function of a crate by the function's name. Functions of one name share an entry."""
+    """Returns the clauses of each function of a crate by the function's name. Functions with the same name share an entry."""
     found = {}
     for path, _, names_in in os.walk(os.path.join(TOP, "crates", crate, "src")):
         for name in sorted(names_in):
@@ -210,7 +210,7 @@ def crates(_program, _folder):
     with open(os.path.join(TOP, "crates.txt"), encoding="utf-8") as file:
         for line in file:
             path = "crates/%s/README.md" % line.split(":")[0].split(" ")[0]
-            yield "%s is there" % path, None if os.path.exists(os.path.join(TOP, path)) else "there is no such file"
+            yield "%s exists" % path, None if os.path.exists(os.path.join(TOP, path)) else "there is no such file"
 
 
 # ---- edits
@@ -255,7 +255,7 @@ def quotes(_program, _folder):
 
 
 def names_in_c(_program, _folder):
-    """The names of the libraries that a block of C uses are those of the headers."""
+    """Checks that the library's names in blocks of C are in the headers."""
     known = {name for path, text in sources() if path.endswith(".h") for name in WORD.findall(text)}
     for document in documents():
         used = {name for block in blocks(document, "c") for name in re.findall(r"\b(?:gcflip|GCFLIP)_\w+", "\n".join(block))}
@@ -291,7 +291,7 @@ def shown_commands(document):
 
 
 def without_program(command, program):
-    """Returns the command as it is run, with the program under test in the place of the built one."""
+    """Returns the command to run, with the program under test instead of the built one."""
     return command.replace("crates/gcflip/out/gcflip", program)
 
 
@@ -302,7 +302,7 @@ def wrong_output(command, output, program):
     found = subprocess.run(["bash", "-c", without_program(command, program)], cwd=TOP, stdout=subprocess.PIPE,
                            stderr=subprocess.PIPE, timeout=600)
     printed = found.stdout.decode("utf-8", "replace")
-    return None if printed == output else "printed %r, and %r is shown" % (printed, output)
+    return None if printed == output else "printed %r, but %r is shown" % (printed, output)
 
 
 def commands(program, _folder):
@@ -312,7 +312,7 @@ def commands(program, _folder):
 
 
 def commands_of_tables(_program, _folder):
-    """Skips the commands of README that take too long, if README still shows them."""
+    """Skips the commands of README that take too long, and checks that README still shows them."""
     shown = text_of("README.md")
     for command, why in TOO_LONG.items():
         yield "README.md: %s" % command, Skipped(why) if "`%s`" % command in shown else "README does not show it"
@@ -350,7 +350,7 @@ def counts(_program, _folder):
 
 
 def why_not_applied(crate, edit):
-    """Why a must-fail edit cannot be applied, as `rt ci` reads it, or None: each line has a kind, and each old text stands once."""
+    """Returns why a must-fail edit cannot be applied, or None. As for `rt ci`, each line has a kind, and each old text occurs once."""
     texts, path, old, pairs = {}, None, None, 0
     with open(edit, encoding="utf-8") as lines:
         for line in lines.read().split("\n"):
@@ -365,7 +365,7 @@ def why_not_applied(crate, edit):
                     with open(path, encoding="utf-8") as file:
                         texts[path] = file.read()
                 if texts[path].count(old) != 1:
-                    return "an old text stands %d times in the file" % texts[path].count(old)
+                    return "an old text occurs %d times in the file" % texts[path].count(old)
                 texts[path] = texts[path].replace(old, line[len("new: "):])
                 old, pairs = None, pairs + 1
             elif line and not line.startswith("#"):

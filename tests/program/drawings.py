@@ -1,4 +1,4 @@
-"""Tests of tools/draw: pictures are well-formed, keep inside their frame, and have the right number of objects and arrows. A
+"""Tests of tools/draw: pictures are well-formed, stay inside their frame, and have the right number of objects and arrows. A
 text that cannot be drawn gets a message."""
 import json
 import os
@@ -31,7 +31,7 @@ def draw(*words):
     return done.returncode, done.stdout.decode(), done.stderr.decode()
 
 
-# ---- what is looked at in a picture
+# ---- the parts of a picture
 
 def shapes_of(picture, role):
     return [shape for shape in picture.shapes if shape["role"] == role]
@@ -82,7 +82,7 @@ def example(name):
 
 # ---- pairs
 
-# Of each example: its objects in both spaces, references in fields, roots that are references, and pairs.
+# For each example: its objects in both spaces, references in fields, roots that are references, and pairs.
 COUNTS = {
     "garbage_left_behind": (3, 0, 2, 1),
     "number_moved_as_a_reference": (4, 0, 4, 2),
@@ -141,7 +141,7 @@ def marked(picture):
 
 
 def faults(_program, _folder):
-    """The place that the checker names is the one that is marked."""
+    """Checks that the place that the checker names is marked."""
     found = marked(drawn_example("replica_out_of_date"))
     yield "a field is marked in both heaps", None if found == ["field 1: word 19", "field 1: word 0"] else "marked %s" % found
     text = read_pair(pairs.text_of(pairs.CHECKED["a_root_refers_to_a_field"][0]).decode())
@@ -149,14 +149,14 @@ def faults(_program, _folder):
     yield "a root is marked in both heaps", None if found == ["word 6", "word 6"] else "marked %s" % found
     text = read_pair(pairs.text_of(pairs.CHECKED["no_room_for_the_last_link"][0]).decode())
     found = marked(pair_picture.drawn(text, "shape", Verdict("refused 1 OldShape 3")))
-    yield "a word that is no header is marked", None if found == ["word 5"] else "marked %s" % found
+    yield "a word that is not a header is marked", None if found == ["word 5"] else "marked %s" % found
     yield "a yes has no mark", None if marked(drawn_example("garbage_left_behind")) == [] else "something is marked"
     refusals = {Verdict(verdict).refusal for _, _, verdict in pairs.texts_and_verdicts()} - {None}
     yield "each refusal is explained", None if refusals == set(MEANINGS) else "not tried: %s" % (set(MEANINGS) - refusals)
 
 
 def large_pairs(_program, _folder):
-    """Thousands of objects become blocks."""
+    """Checks that thousands of objects become blocks."""
     refused, verdict = pairs.all_paired(5000, 1, altered=(4000,))
     for name, (text, verdict) in [("5000 objects", (refused, verdict)), ("all objects that have room", pairs.greatest_text())]:
         drawn = pair_picture.drawn(read_pair(text.decode()), name, Verdict(verdict))
@@ -170,7 +170,7 @@ def large_pairs(_program, _folder):
 
 
 def written_pairs(_program, _folder):
-    """A pair text that was read is written as it was."""
+    """Checks that a pair text is written as it was read."""
     for name, text, _ in pairs.texts_and_verdicts():
         yield "%s is written again" % name, None if written(read_pair(text.decode())) == text.decode() else "it differs"
 
@@ -189,7 +189,7 @@ def run_of(name):
 
 
 def faults_of_traces(program, folder):
-    """A text that is no trace gets the line that the program prints."""
+    """Checks that a text that is not a trace gets the line that the program prints."""
     for name, text, line in refused_texts():
         try:
             found = "read %s" % (read_trace(text),)
@@ -200,7 +200,7 @@ def faults_of_traces(program, folder):
 
 
 def replies(_program, _folder):
-    """Compares the replies of the machine behind a timeline with those that the rules give."""
+    """Compares the replies of the timeline's machine with those that the rules give."""
     for name, conversation in PLAYED.items():
         text, wanted = trace_and_replies(conversation)
         trace = read_trace(text)
@@ -245,13 +245,13 @@ def crates(_program, _folder):
     uses = {"top": ["left", "right", "low"], "left": ["low"], "right": ["low"], "low": []}
     found = sorted(crates_picture.arrows_of(uses))
     wanted = [("left", "low"), ("right", "low"), ("top", "left"), ("top", "right")]
-    yield "what another crate covers has no arrow", None if found == wanted else "arrows %s" % found
+    yield "a crate that is used through another one has no arrow", None if found == wanted else "arrows %s" % found
     yield "drawing of four crates", wrong_drawing(crates_picture.drawn(uses, "four"))
 
 
 # ---- the tool
 
-# Texts that cannot be drawn, and a part of what is said of each.
+# Texts that cannot be drawn, and a part of the message for each.
 UNREADABLE = {
     "nothing": (b"", "the first line is neither"),
     "another_text": (b"hello\n", "the first line is neither"),
@@ -293,7 +293,7 @@ def tool(program, folder):
 
 
 def kept_pictures():
-    """Yields the pictures that the repository keeps, each with the file that it is drawn from."""
+    """Yields the pictures in the repository, each with the file from which it is drawn."""
     folder = os.path.join(TOP, "examples", "pictures")
     for name in sorted(os.listdir(folder)):
         stem = os.path.join(TOP, "examples", os.path.splitext(name)[0])
@@ -302,7 +302,7 @@ def kept_pictures():
 
 
 def kept(program, _folder):
-    """Compares each kept picture with what the tool draws today."""
+    """Compares each picture in the repository with the tool's current output."""
     for picture, source in kept_pictures():
         _, written, _ = draw(source, "--program", program)
         name = os.path.relpath(picture, TOP)

@@ -1,4 +1,4 @@
-"""The page of gcflip.explore in a headless browser. Each reply and verdict is compared with the program's."""
+"""Tests of the page of gcflip.explore in a headless browser. Each reply and verdict is compared with the program's."""
 import json
 import os
 import re
@@ -11,7 +11,7 @@ from .examples import content, names_of
 from .harness import file_of, run
 from .web_page import complaints, page, wrong
 
-# drawings has put the package on the path.
+# The module drawings has put the package on the path.
 from gcflip_drawing.picture import Picture  # noqa: E402
 
 with open(os.path.join(os.path.dirname(os.path.abspath(__file__)), "contrast.js"), encoding="utf-8") as script:
@@ -19,13 +19,13 @@ with open(os.path.join(os.path.dirname(os.path.abspath(__file__)), "contrast.js"
 
 
 def verdict_of(program, folder, text, number):
-    """Returns the verdict on the pair of the n-th flip of a trace, by the program."""
+    """Returns the program's verdict on the pair of the n-th flip of a trace."""
     pair = run(program, ["pair", file_of(folder, "flips", text), str(number)]).stdout
     return run(program, ["check", file_of(folder, "pair", pair)]).stdout.decode().strip()
 
 
 def plays(program, folder):
-    """Each example is played step by step. The replies beside the lines are the program's, and so is the verdict before each flip."""
+    """Plays each example step by step. The replies next to the lines are the program's, and so is the verdict before each flip."""
     with page(folder) as shown:
         if shown is None:
             return
@@ -47,7 +47,7 @@ def plays(program, folder):
             yield "replies to %s" % name, wrong(found, replies)
             boxes = [shown.run("return document.querySelectorAll('#%s svg rect').length;" % place) for place in ("picture", "timeline")]
             yield "pictures of %s" % name, None if min(boxes) > 0 else "nothing is drawn"
-        # Back means to play again from the start.
+        # 'Back' plays again from the start.
         shown.set("#trace-examples", "write_while_scanning")
         shown.wait_for("event", "of 11 events")
         shown.click("play-run")
@@ -66,7 +66,7 @@ def plays(program, folder):
 
 
 def buttons(program, folder):
-    """A reader acts as the mutators, and drives two whole collections: one step by step, and one by 'Work'."""
+    """Acts as the mutators, and drives two whole collections: one step by step, and one with 'Work'."""
     with page(folder) as shown:
         if shown is None:
             return
@@ -96,7 +96,7 @@ def buttons(program, folder):
         yield "the trace of the buttons is a trace", wrong((played.status, played.stderr), (0, b""))
         replies = played.stdout.decode().split("\n")[:-1]
         yield "the replies to it", wrong(replies[:len(wanted)], wanted)
-        # Three objects are left: g0's, r3's, and that of mutator 1. Work begins, copies each root's target, scans 2 fields and
+        # Three objects are left: g0's, r3's, and that of mutator 1. 'Work' begins, copies each root's target, scans 2 fields,
         # passes 3 replicas, and flips.
         work = ["begun", "copied", "copied", "copied", "scanned", "scanned", "passed", "passed", "passed", "flipped 3"]
         yield "the replies to work", wrong(replies[len(wanted):], ["made"] + work)
@@ -109,12 +109,12 @@ def buttons(program, folder):
         yield "the replies beside the lines", wrong(found, replies)
         yield "the version was raised", wrong(text.split("\n")[0], "heaptrace 3")
         shown.command("num", to="r0", number="x")
-        yield "a number that is none is not sent", wrong(shown.trace(), text)
+        yield "an invalid number is not sent", wrong(shown.trace(), text)
         yield "no complaint", complaints(shown)
 
 
 def wrong_texts(program, folder):
-    """A fault of the trace stands at its line, as the program names it, and goes away once it is mended."""
+    """Checks that a fault of the trace appears at its line, with the program's message, and disappears once it is corrected."""
     with page(folder) as shown:
         if shown is None:
             return
@@ -128,7 +128,7 @@ def wrong_texts(program, folder):
             shown.wait_for("trace-fault", said)
             number = re.search(r"\d+$", said)
             line = int(number.group()) if number else 1
-            yield "the fault of %s stands at its line" % name, wrong(shown.replies().get(line), said)
+            yield "the fault of %s is at its line" % name, wrong(shown.replies().get(line), said)
             yield "%s cannot be played" % name, wrong(shown.run("return document.getElementById('play-step').getAttribute('aria-disabled');"), "true")
             shown.set("#trace-editor textarea", good)
             shown.wait("document.getElementById('trace-fault').hidden")
@@ -136,10 +136,10 @@ def wrong_texts(program, folder):
             shown.step(at, 11)
         shown.set("#trace-editor textarea", good.replace("c roots", "c roots\nc roots"))
         shown.wait_for("event", "of 12")
-        yield "an edit keeps what stands before it played", wrong("Event 4 of 12" in shown.text("event") or shown.text("event"), True)
+        yield "an edit keeps the events before it played", wrong("Event 4 of 12" in shown.text("event") or shown.text("event"), True)
         shown.drop("#picture", "returns.trace", good.replace("\n", "\r\n").encode())
         shown.wait_for("trace-fault", "trace: bad header")
-        yield "a dropped file with carriage returns is read as it stands", None
+        yield "a dropped file with carriage returns is read unchanged", None
         shown.drop("#trace", "good.trace", good.encode())
         shown.wait("document.getElementById('trace-fault').hidden")
         yield "a dropped trace is opened", wrong(shown.trace(), good)
@@ -166,7 +166,7 @@ LEGEND_MARKS = 1
 
 
 def checks(program, folder):
-    """The checker's tab: examples, dropped files and spoiled words get the verdicts that the program prints."""
+    """Checks in the checker's tab that examples, dropped files and spoiled words get the program's verdicts."""
     with page(folder) as shown:
         if shown is None:
             return
@@ -219,7 +219,7 @@ def checks(program, folder):
 
 
 def tour(program, folder):
-    """Each stop of the tour shows the event that it speaks of, with the reply that the program gives."""
+    """Checks that each stop of the tour shows the event that it is about, with the program's reply."""
     with page(folder) as shown:
         if shown is None:
             return
@@ -243,7 +243,7 @@ def tour(program, folder):
 
 
 def keyboard(_program, folder):
-    """Keys play the trace, but not while a text is edited. Tabs are reached by arrows."""
+    """Checks that keys play the trace, except while a text is edited, and that arrows reach the tabs."""
     with page(folder) as shown:
         if shown is None:
             return
@@ -277,7 +277,7 @@ def picture_of(described):
 
 
 def hurry(_program, folder):
-    """A reader who does not wait: each click counts, edits that were not told yet come first, and a new width changes no position."""
+    """Acts without waiting: each click counts, edits that were not reported yet come first, and a new width changes no position."""
     with page(folder) as shown:
         if shown is None:
             return
@@ -285,7 +285,7 @@ def hurry(_program, folder):
         shown.wait_for("event", "Event 5 of 11")
         yield "five clicks at once are five steps", None
         shown.run("for (let i = 0; i < 2; i += 1) { document.getElementById('play-work').click(); }")
-        # The one field is scanned and nothing was written, so work passes the replica, and flips.
+        # The one field is scanned and nothing was written, so 'Work' passes the replica, and flips.
         shown.wait_for("event", "flipped 1")
         yield "work twice at once", wrong([shown.replies().get(line) for line in (8, 9)], ["passed", "flipped 1"])
         shown.set("#trace-examples", "write_while_scanning")
@@ -309,7 +309,7 @@ def hurry(_program, folder):
 
 
 def shapes_in_page(shown, picture):
-    """Returns the shapes that the page draws of a description: names, roles and attributes."""
+    """Returns the shapes that the page draws for a description: names, roles and attributes."""
     return shown.run("""const { render } = await import("./picture.js");
         return [...render(%s).children].filter((it) => it.tagName !== "defs").map((it) => [it.tagName, it.getAttribute("class"),
             Object.fromEntries(["x", "y", "width", "height", "points", "d", "text-anchor", "transform"].filter((name) => it.hasAttribute(name))
@@ -321,7 +321,7 @@ def numbers_of(value):
 
 
 def same_drawing(_program, folder):
-    """The page and tools/draw draw the same shapes of one description."""
+    """Checks that the page and tools/draw draw the same shapes for a description."""
     with page(folder) as shown:
         if shown is None:
             return
@@ -343,7 +343,7 @@ def same_drawing(_program, folder):
 
 
 def large(program, folder):
-    """Thousands of objects become blocks, and a step stays quick."""
+    """Checks that thousands of objects become blocks, and that a step stays quick."""
     text = "heaptrace 1\nspace 65536 mutators 1\n" + "m 0 new r0 1 3\nm 0 put r0 0 r1\nm 0 move r1 r0\n" * 5000
     text += "c begin\n" + "c roots\nc scan\n" * 2000
     with page(folder, file_of(folder, "large.trace", text.encode())) as shown:
@@ -366,7 +366,7 @@ def large(program, folder):
 
 
 def looks(_program, folder):
-    """Contrast in light and dark, nothing too wide for small screens, and no motion for readers who want none."""
+    """Checks the contrast in light and dark, that nothing is too wide for small screens, and that readers can turn off motion."""
     with page(folder) as shown:
         if shown is None:
             return

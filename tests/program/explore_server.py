@@ -1,4 +1,4 @@
-"""The server of the page of gcflip.explore, by requests: what it refuses, what its command says, and its answers."""
+"""Tests of the server of gcflip.explore, by requests: its refusals, the messages of its command, and its answers."""
 import contextlib
 import http.client
 import os
@@ -18,7 +18,7 @@ from .web_page import ADDRESS, SECONDS, Server, hear_interrupts, served, wrong
 
 PAGE = os.path.join(TOP, "bindings", "python", "gcflip", "explore", "page")
 
-# The addresses that are refused, by their paths behind the host. T is the token.
+# The refused addresses, by their paths after the host. T is the token.
 REFUSED_PATHS = {
     "no token": ("/", 403), "no token before a file": ("/main.js", 403), "nothing behind the token": ("/T", 403),
     "a part of the token": ("/T-/", 403), "another token": ("/" + "A" * 32 + "/", 403), "a token of letters beyond ASCII": ("/%C3%A4/", 403),
@@ -30,7 +30,7 @@ REFUSED_PATHS = {
 
 
 def files(_program, folder):
-    """The files of the page come with the token, and nothing else comes."""
+    """Checks that the server sends the files of the page with the token, and nothing else."""
     with served(folder) as server:
         if server is None:
             return
@@ -59,7 +59,7 @@ HOSTS = {"another name": "example.org", "another name with the port": "example.o
 
 
 def refusals(_program, folder):
-    """Requests that are refused: of another host, not of the page, too long, and broken ones. The server goes on."""
+    """Checks that the server refuses requests of another host, not of the page, too long, or broken, and continues."""
     with served(folder) as server:
         if server is None:
             return
@@ -72,7 +72,7 @@ def refusals(_program, folder):
         status, _, _ = server.request("GET", "/%s/" % server.token, Host="localhost:%d" % server.port)
         yield "localhost is the host as well", wrong(status, 200)
         for kind in ("text/plain", "application/x-www-form-urlencoded", "multipart/form-data"):
-            # A form of another site can send these kinds alone.
+            # A form of another site can send only these kinds.
             yield "a body of type %s" % kind, wrong(server.request("POST", path, "{}", Content_Type=kind)[0], 415)
         json_type = {"Content_Type": "application/json"}
         for name, body in {"no JSON": "{", "a byte of no text": b"\xff", "much nesting": "[" * 100000}.items():
@@ -80,7 +80,7 @@ def refusals(_program, folder):
         for length, wanted in {"16777217": 413, "99999999999999999999": 413, "-1": 411, "1x": 411, "": 411, "\u00b2": 411}.items():
             status = raw_request(server, path, "Content-Length: %s\r\n" % length)
             yield "a length of %r" % length, wrong(status, wanted)
-        yield "a body that is too long is read away", wrong(server.request("POST", path, b" " * 20000000, **json_type)[0], 413)
+        yield "a body that is too long is read and discarded", wrong(server.request("POST", path, b" " * 20000000, **json_type)[0], 413)
         idle = [socket.create_connection(("127.0.0.1", server.port), timeout=SECONDS) for _ in range(40)]
         yield "more than 32 connections are closed", wrong([is_closed(connection) for connection in idle[32:]], [True] * 8)
         for connection in idle:
@@ -98,7 +98,7 @@ def refusals(_program, folder):
 
 
 def is_closed(connection):
-    """Returns whether the server closes a connection soon. It waits longer for a request."""
+    """Returns whether the server closes a connection soon. For a request it would wait longer."""
     connection.settimeout(5)
     try:
         return connection.recv(1) == b""
@@ -109,7 +109,7 @@ def is_closed(connection):
 
 
 def answers_again(server, path):
-    """Waits until the server takes a request again."""
+    """Waits until the server accepts a request again."""
     end = time.monotonic() + SECONDS
     while time.monotonic() < end:
         with contextlib.suppress(OSError, http.client.HTTPException):
@@ -119,7 +119,7 @@ def answers_again(server, path):
 
 
 def raw_request(server, path, headers):
-    """Sends a request as it stands, and returns the status of the answer."""
+    """Sends a raw request, and returns the status of the answer."""
     with socket.create_connection(("127.0.0.1", server.port), timeout=SECONDS) as connection:
         connection.sendall(("POST %s HTTP/1.1\r\nHost: 127.0.0.1:%d\r\nContent-Type: application/json\r\n%s\r\n" % (
             path, server.port, headers)).encode("latin-1"))
@@ -127,7 +127,7 @@ def raw_request(server, path, headers):
 
 
 def commands(_program, folder):
-    """What the command says of its arguments."""
+    """Checks the messages of the command about its arguments."""
     python = prepared(folder)
     if python is None:
         return
@@ -161,7 +161,7 @@ def commands(_program, folder):
 
 
 def answers(_program, folder):
-    """The replies to all traces, the faults of all other texts, and the verdicts on all pair texts, over HTTP."""
+    """Compares the replies to all traces, the faults of all other texts, and the verdicts on all pair texts, over HTTP."""
     with served(folder) as server:
         if server is None:
             return

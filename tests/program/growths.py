@@ -1,11 +1,11 @@
 """Tests that refuse each request for memory or for a thread in turn.
 
-No contract can say that memory is left, or what the system does if it is not. So a small C library stands in front of the
-C library's allocator and of its start of threads. It refuses the n-th request of a run, for n from 1 on until a run meets
-no refusal, and then again all requests from the n-th on.
+No contract can say that memory is left, or what the system does if it is not. So a small C library replaces the C library's
+allocator and its start of threads. It refuses the n-th request of a run, for n = 1, 2 and so on until a run meets no
+refusal. Then it does so again with all requests from the n-th on.
 
-Only a check of 2048 pairs or more asks for threads. It does so once it has all other memory, and it goes on without them.
-So such a check has a first request for threads:
+Only a check of 2048 pairs or more asks for threads. It does so once it has all other memory, and it can continue without
+them. So such a check has a first request for threads:
 
 - If it, or a later request, is refused, alone or with all later ones, the outcome is the usual one.
 - If an earlier request is refused with all later ones, the outcome is `no memory`, with status 5, and nothing else.
@@ -31,7 +31,7 @@ LAST = 1 << 62
 
 
 def compiler():
-    """Returns the machine's C compiler, otherwise that of the toolchain."""
+    """Returns the machine's C compiler, or else the toolchain's."""
     found = shutil.which("cc")
     if found:
         return [found]
@@ -40,7 +40,7 @@ def compiler():
     clang = os.path.join(toolchain, "bin", "clang")
     if os.path.exists(clang):
         return [clang, "--ld-path=" + os.path.join(toolchain, "bin", "ld.lld"), "-nostdlib"]
-    raise FileNotFoundError("neither cc nor the toolchain's clang is there")
+    raise FileNotFoundError("there is neither cc nor the toolchain's clang")
 
 
 def refusing_allocator(folder):
@@ -71,8 +71,8 @@ class Refusing:
 
     def spared_behind(self, words, text, usual):
         """Returns the first request that the program can do without: if it and all later ones are refused, the outcome is
-        the usual one. If there is none, that is one more than the number of requests. Also returns why an outcome is not
-        as wanted, or None.
+        the usual one. If there is no such request, returns one more than the number of requests. Also returns why an
+        outcome is wrong, or None.
         """
         spared = None
         for first in range(1, MOST_REQUESTS):
@@ -88,7 +88,7 @@ class Refusing:
         return spared or MOST_REQUESTS, TOO_MANY
 
     def spared_alone(self, words, text, usual, spared):
-        """Returns why an outcome with one refused request is not as wanted, or None."""
+        """Returns why an outcome with one refused request is wrong, or None."""
         for request in range(1, MOST_REQUESTS):
             found, refused = self.run(words, text, request, request)
             if not refused:
@@ -101,7 +101,7 @@ class Refusing:
         return TOO_MANY
 
     def in_turn(self, words, text, usual, in_threads):
-        """Returns why an outcome is not as wanted, or None: with all requests from one on refused, and with one."""
+        """Returns why an outcome is wrong, or None. Refuses one request, and also all requests from one on."""
         spared, behind = self.spared_behind(words, text, usual)
         _, refused = self.run(words, text, spared, LAST)
         if behind is None and spared == 1:
@@ -117,10 +117,10 @@ def growths(program, folder):
     path = file_of(folder, "played", text)
     missing = os.path.join(folder, "nothing", "here")
     yes = file_of(folder, "yes", text_of(CHECKED["old_addresses_may_fall"][0]))
-    # So long that the input buffer grows several times, and that threads share the pairs.
+    # Long enough that the input buffer grows several times, and that threads share the pairs.
     long_text, long_verdict = all_paired(20000, 100)
     long_yes = file_of(folder, "long yes", long_text)
-    # The first fault is reported, whichever piece has no thread of its own.
+    # The first fault is reported, no matter which piece has no thread of its own.
     altered_text, altered_verdict = all_paired(20000, 100, (9000, 19999))
     altered = file_of(folder, "altered", altered_text)
     most_for_one_text, most_for_one_verdict = all_paired(2047, 1)
@@ -178,8 +178,8 @@ def wrong_end(program, folder, text, found, turns):
 
 
 def growths_in_threads(program, folder):
-    """Runs scripts in threads. Which thread makes a request depends on the schedule, so any allowed end will do, and each
-    has to occur. A run that meets no refusal is right."""
+    """Runs scripts in threads. Which thread makes a request depends on the schedule, so a run may end in any allowed way, and
+    each way has to occur. A run that meets no refusal is complete."""
     refusing = Refusing(program, folder)
     text = b"heaptrace 1\nspace 64 mutators 2\nm 0 new g0 1 1\nm 0 num r0 5\nm 0 put g0 0 r0\nm 1 get r1 g0 0\n"
     words = ["threads", file_of(folder, "scripts", text), "40"]

@@ -1,15 +1,15 @@
-"""Runs the program, and compares its outcome with the wanted one."""
+"""Runs the program, and compares its outcome with the expected one."""
 import os
 import resource
 import subprocess
 
-# No case needs as much. A program that hangs or takes all memory is a failure, and does not harm the machine.
+# No case needs this much. A program that hangs or takes all memory is a failure, and does not harm the machine.
 SECONDS = 60
 BYTES = 4 << 30
 
 
 class Skipped(str):
-    """Why a case was not run. It stands in the place of why a case failed."""
+    """Why a case was not run, given instead of why a case failed."""
 
 
 class Outcome:
@@ -25,7 +25,7 @@ class Outcome:
 
 
 def refusal(line, status):
-    """Returns the outcome of a fault: its line alone, and nothing on standard output."""
+    """Returns the outcome of a fault: only its line, and nothing on standard output."""
     return Outcome(b"", line.encode() + b"\n", status)
 
 
@@ -34,8 +34,8 @@ def limit_memory():
 
 
 def run(program, words=(), text=b"", **streams):
-    """Runs the program with these words, and the text on standard input. `streams` may put descriptors or files in
-    place of stdin, stdout and stderr, and gives what else subprocess.run takes."""
+    """Runs the program with these arguments, and the text on standard input. `streams` may replace stdin, stdout and stderr by
+    descriptors or files, and gives further arguments of subprocess.run."""
     given = {"stdout": subprocess.PIPE, "stderr": subprocess.PIPE, **streams}
     if "stdin" not in given:
         given["input"] = text
@@ -53,7 +53,7 @@ def shown(text):
 
 
 def difference(found, wanted):
-    """Returns why an outcome is not the wanted one, or None if it is."""
+    """Returns why an outcome is not the expected one, or None if it is."""
     if found.status != wanted.status:
         return "status %s, wanted %s; standard error %s" % (found.status, wanted.status, shown(found.stderr))
     if found.stderr != wanted.stderr:

@@ -1,4 +1,4 @@
-"""examples/lisp: a Lisp in C on the collected heap. Its programs, its errors, heaps that are small, full or without memory, and traces."""
+"""Tests of examples/lisp, a Lisp in C on the collected heap: programs, errors, small heaps, full heaps, out of memory, and traces."""
 import atexit
 import functools
 import glob
@@ -20,7 +20,7 @@ SOURCES = sorted(glob.glob(os.path.join(FOLDER, "*.c")))
 PROGRAMS = os.path.join(FOLDER, "programs")
 DOCUMENT = os.path.join("examples", "lisp", "README.md")
 
-# The programs by their names, with the sizes of heaps that they run in. The strings need 32771 words for one string.
+# The programs by name, with the heap sizes for their runs. The strings need 32771 words for one string.
 HEAPS = {
     "churn": [20000],
     "nqueens": [6000, 262144],
@@ -30,7 +30,7 @@ HEAPS = {
     "tak": [5000, 262144],
 }
 
-# What is read, and the values that are printed, with | or spaces between them.
+# The input, and the printed values, with | or spaces between them.
 EVALUATED = {
     "integers": (
         "(+ 1 2 3) (+) (- 5) (- 10 1 2) (* 2 3 4) (quotient -7 2) (remainder -7 2) (modulo -7 2) (modulo 7 -2) +7 -0",
@@ -71,7 +71,7 @@ EVALUATED = {
     "exit": ("1 (exit) 2", "1"),
 }
 
-# What is read, and its errors.
+# The input, and its errors.
 WRONG = [
     ("(car 7)", "input, line 1, column 1: car expects a pair, but found 7"),
     ("\n  (list 1\n   (car \"é\" ))", "input, line 3, column 4: car expects a pair, but found \"é\""),
@@ -124,7 +124,7 @@ WRONG = [
     ("x" * 256, "input, line 1, column 1: a name or a number has at most 255 bytes"),
 ]
 
-# Words of options that are wrong.
+# Wrong options.
 WRONG_OPTIONS = [["--heap"], ["--heap", "0"], ["--heap", "1048577"], ["--heap", "12x"], ["--heap", "-1"], ["--heep", "5"], ["--record"],
                  ["--record", "/"]]
 
@@ -155,7 +155,7 @@ WAYS = [("gcc", ["gcc"]), ("gcc with sanitizers", ["gcc", *SANITIZERS])]
 
 @functools.lru_cache(maxsize=None)
 def built_lisps():
-    """The name of each way of building, and the Lisp: built once for all groups, in a folder that lives as long as the run."""
+    """Returns the name of each way of building, with the Lisp. Builds once for all groups, in a folder that lives as long as the run."""
     folder = tempfile.mkdtemp()
     atexit.register(shutil.rmtree, folder)
     built = library(folder)
@@ -168,12 +168,12 @@ def content(name):
 
 
 def totals(outcome):
-    """The words, the collections, the copied objects and the waits that --pauses prints."""
+    """Returns the words, the collections, the copied objects and the waits that --pauses prints."""
     return [int(number) for number in TOTALS.search(outcome.stderr).groups()]
 
 
 def programs(_program, _folder):
-    """Each program prints what its comments derive."""
+    """Checks that each program prints what its comments derive."""
     known = sorted(name[:-len(".lisp")] for name in os.listdir(PROGRAMS) if name.endswith(".lisp"))
     yield "each program has a heap", None if known == sorted(HEAPS) else "there are %s" % known
     for way, lisp in built_lisps():
@@ -185,7 +185,7 @@ def programs(_program, _folder):
 
 
 def evaluating(_program, _folder):
-    """Values, errors with their places, and that the REPL goes on behind each error."""
+    """Checks values, errors with their places, and that the REPL continues after each error."""
     for way, lisp in built_lisps():
         for name, (text, values) in EVALUATED.items() if lisp.why is None else []:
             lines = values.split("|" if "|" in values else " ")
@@ -199,7 +199,7 @@ def evaluating(_program, _folder):
 
 
 def command_line(_program, folder):
-    """Files, options and statuses."""
+    """Tests files, options and statuses."""
     for way, lisp in built_lisps():
         for words in WRONG_OPTIONS:
             status = lisp.run("", *words).status
@@ -219,8 +219,8 @@ def command_line(_program, folder):
 
 
 def interrupted(path, endless):
-    """What a run printed whose endless expression was interrupted. Signals come until it ends, since one before the expression has no
-    effect."""
+    """Runs an endless expression and interrupts it. Returns the output. Sends signals until the run ends, since a signal before the
+    expression has no effect."""
     ran = subprocess.Popen([path], stdin=subprocess.PIPE, stdout=subprocess.PIPE, stderr=subprocess.PIPE)
     ran.stdin.write(("(car 1)\n%s\n(+ 1 2)\n" % endless).encode())
     ran.stdin.close()
@@ -237,7 +237,7 @@ ENDLESS = ["((lambda (f) (f f)) (lambda (f) (f f)))",
 
 
 def interrupting(_program, _folder):
-    """Ctrl-C ends an endless expression, and the REPL goes on."""
+    """Checks that Ctrl-C ends an endless expression, and that the REPL continues."""
     for way, lisp in built_lisps():
         for endless in ENDLESS:
             found = interrupted(lisp.path, endless)
@@ -246,15 +246,15 @@ def interrupting(_program, _folder):
 
 
 def most_live(heap):
-    """The words that may be live so that no allocation waits for a whole collection, as the README derives."""
+    """Returns the most live words with which no allocation waits for a whole collection, as the README derives."""
     return (2 * (heap - 1 - heap // 32) - 2) // 3
 
 
-# The Lisp itself, and the program below without what it keeps, take less than this.
+# The Lisp itself, and the program below without the data that it keeps, take less than this.
 OWN_WORDS = 4200
 
-# Keeps functions, each with a scope of 60 variables. A function takes 7 words, its scope 64, and its pair 4. To copy these objects takes 6, 63
-# and 3 steps, since a scan copies what a field refers to. So they cost nearly as many steps as they have words, as README assumes.
+# Keeps functions, each with a scope of 60 variables. A function takes 7 words, its scope 64, and its pair 4. Copying these objects takes 6, 63
+# and 3 steps, since a scan copies a field's target. So they cost nearly as many steps as they have words, as the README assumes.
 NAMES = " ".join("v%d" % number for number in range(60))
 KEEPING = """(define (wide %s) (lambda () v0))
 (define numbers (iota 60))
@@ -268,7 +268,7 @@ KEPT_WORDS = 7 + 64 + 4
 
 
 def pace(_program, _folder):
-    """No allocation waits for a whole collection while live data stay below the bound, and memory stays constant."""
+    """Checks that no allocation waits for a whole collection while live data stay below the bound, and that memory stays constant."""
     for way, lisp in built_lisps():
         for heap in (8000, 20000, 65536, 262144):
             kept = (most_live(heap) - OWN_WORDS) // KEPT_WORDS
@@ -295,7 +295,7 @@ FILLING = """(define big '())
 
 
 def limits(_program, _folder):
-    """Heaps that are too small or full, and data and calls that are deep."""
+    """Tests heaps that are too small or full, and deep data and calls."""
     for way, lisp in built_lisps():
         for heap in [1, 2, 10, 100, 1000, 2500]:
             found = lisp.run("(+ 1 2)", "--heap", str(heap))
@@ -330,8 +330,8 @@ REFUSED_VALUES = [b"200", b"300", b"100", b"3"]
 
 
 def wrong_refusal(found):
-    """Why a run is not right in which one allocation was refused, or None. There may be an error in its place, and later expressions have
-    their values; if there is none, all have. The collector tries again."""
+    """Returns why a run with one refused allocation is wrong, or None. At most one expression ends in an error, and all others have their
+    values. There may be no error, since the collector tries again."""
     if found.status == 2 and b"out of memory: the system has none for the heap" in found.stderr:
         return None
     values, errors = found.stdout.split(), found.stderr.count(b"error: ")
@@ -343,7 +343,7 @@ def wrong_refusal(found):
 
 
 def refused_allocations(_program, folder):
-    """Each allocation of the library fails in turn: an error at most, and the REPL goes on."""
+    """Makes each allocation of the library fail in turn. There is at most an error, and the REPL continues."""
     built = library(folder)
     if built is None or not usable(folder, *WAYS[1]):
         return
@@ -361,7 +361,7 @@ def refused_allocations(_program, folder):
     yield "allocations were refused", None if refused > 20 and errors > 0 else "%d, with %d errors" % (refused, errors)
 
 
-# More than the program and one space of 8 MiB take, and less than they take with two.
+# More memory than the program takes with one space of 8 MiB, and less than with two.
 ONE_SPACE = 16 << 20
 
 
@@ -370,7 +370,7 @@ def limit_memory():
 
 
 def no_collector(_program, _folder):
-    """The system has no memory for a second space: what fits in the heap is evaluated, then there is an error, and the REPL goes on."""
+    """Gives the system no memory for a second space. What fits in the heap is evaluated, then there is an error, and the REPL continues."""
     for way, lisp in built_lisps()[:1]:
         text = "(define (spin n) (if (= n 0) 'done (spin (- n 1)))) (spin 20000)\n(spin 100000)\n(+ 1 2)\n"
         found = lisp.run(text, "--heap", "1048576", preexec_fn=limit_memory)
@@ -379,7 +379,7 @@ def no_collector(_program, _folder):
 
 
 def traces(program, folder):
-    """A recorded run is replayed with status 0, and its reports and pairs are right."""
+    """Checks that a recorded run is replayed with status 0, and that its reports and pairs are right."""
     for way, lisp in built_lisps():
         trace = os.path.join(folder, "trace")
         found = lisp.run_program("primes", "--heap", "8000", "--pauses", "--record", trace)
@@ -399,7 +399,7 @@ def traces(program, folder):
 
 
 def histogram(_program, _folder):
-    """The counts of the histogram add up, and the longest call is one of those that are listed."""
+    """Checks that the counts of the histogram add up, and that the longest call is listed."""
     for way, lisp in built_lisps():
         printed = lisp.run_program("tak", "--heap", "20000", "--pauses").stderr.decode()
         calls = int(re.match(r"(\d+) calls on the heap by their times\n", printed).group(1))
@@ -411,12 +411,12 @@ def histogram(_program, _folder):
 
 
 def without_counts(line):
-    """A line without the place and the numbers of an error of a full heap, which depend on where the heap was full."""
+    """Returns a line. Removes the place and the numbers of a full heap's error, which depend on where the heap was full."""
     return re.sub(r"\d+", "N", line) if "the heap is full" in line else line
 
 
 def sessions(_program, _folder):
-    """The sessions of the README print what they show, but for the numbers of a full heap."""
+    """Checks that the sessions of the README print what they show, except for the numbers of a full heap."""
     for way, lisp in built_lisps()[:1]:
         for number, block in enumerate(blocks(DOCUMENT, "lisp"), 1):
             typed = [line[2:] for line in block if line.startswith("> ")]

@@ -1,6 +1,6 @@
 """Pair texts with their verdicts, and other texts with their faults.
 
-Verdicts and faults stand as the formats and the checker's rules give them (docs/FORMATS.md); none was taken from a run.
+Verdicts and faults follow from the formats and the checker's rules (docs/FORMATS.md); none was taken from a run.
 """
 
 
@@ -207,7 +207,7 @@ WRONG_LINES = {
     "pair_too_many": (11, b"1 1"),
 }
 
-# The line in which a wrong number in an earlier line is noticed.
+# The line at which a wrong number in an earlier line is noticed.
 NOTICED_IN = {"a_root_too_few": 6, "a_root_too_many": 5, "a_pair_too_few": 11}
 
 # The pair of a text with one pair.
@@ -228,7 +228,7 @@ def with_line(text, number, line):
 
 
 def refused_texts():
-    """Yields each text that is no pair: name, bytes, line on standard error."""
+    """Yields each text that is not a pair: name, bytes, line on standard error."""
     for name, (number, line) in WRONG_LINES.items():
         yield name, with_line(LEAST, number, line), bad_line(NOTICED_IN.get(name, number))
     one_pair = text_of(CHECKED["links_differ"][0])
@@ -254,7 +254,7 @@ def image_without_fields(headers, roots):
 
 
 def all_paired(count, roots, altered=()):
-    """Returns the text of so many objects without fields, each paired with the one at its address, and its verdict. The
+    """Returns the text of this many objects without fields, each paired with the one at its address, and its verdict. The
     altered pairs, lowest first, have a replica of another kind."""
     headers = [16777216] * count
     old = image_without_fields(headers, roots)

@@ -1,4 +1,4 @@
-"""Tests of playing: traces with their replies, texts that are no trace, every prefix of a trace, and the limit on its length."""
+"""Tests of playing: traces with their replies, texts that are not traces, every prefix of a trace, and the limit on its length."""
 import subprocess
 import time
 
@@ -28,7 +28,7 @@ def refused(program, folder):
 
 
 def outcome_of_cut(text, replies, length):
-    """Returns the outcome of the first bytes of a good trace. Whole lines are a trace, any other prefix is not."""
+    """Returns the expected outcome of the first bytes of a good trace. Whole lines are a trace, any other prefix is not."""
     front = text[:length]
     lines = front.count(b"\n")
     if lines < 2:
@@ -46,7 +46,7 @@ def cuts(program, _folder):
 
 
 def byte_by_byte(program, _folder):
-    """Plays from a pipe, which gives what it has, so that a line comes in many pieces."""
+    """Plays from a pipe that delivers a line in many pieces."""
     text, replies = traces.trace_and_replies(traces.PLAYED["full_leaves_the_slot_as_it_was"])
     with subprocess.Popen([program], stdin=subprocess.PIPE, stdout=subprocess.PIPE, stderr=subprocess.PIPE) as running:
         for byte in text:
@@ -85,7 +85,7 @@ def limit(program, folder):
 
 
 def most_events(program, folder):
-    """Plays the trace with the most events: a line has at least seven bytes."""
+    """Plays the trace with the most events. A line has at least seven bytes."""
     text = b"heaptrace 1\nspace 1 mutators 1\n" + b"c flip\n" * 2396740
     assert LIMIT - len(b"c flip\n") < len(text) <= LIMIT
     for way, found in both_ways(program, folder, text):

@@ -1,4 +1,4 @@
-"""bindings/python: the package over the shared library, built by its pyproject.toml, and tested by the programs of tests/python."""
+"""Tests of bindings/python: the package over the shared library, built by its pyproject.toml, with the programs of tests/python."""
 import os
 import shutil
 import sys
@@ -14,12 +14,12 @@ TOUR = os.path.join(TOP, "examples", "python")
 
 
 def built_package(folder):
-    """The folder that has the package as its pyproject.toml builds it, and why it could not be built, or None. Without setuptools
-    it is the source."""
+    """Returns the folder with the package as built by its pyproject.toml, and why it could not be built, or None. Without setuptools
+    the folder is the source."""
     if done([sys.executable, "-c", "import setuptools"]).status != 0:
         skip("the built Python package", "no setuptools; the source is tested")
         return PACKAGE, None
-    # setuptools writes beside the source, and takes the examples from the top of the repository.
+    # setuptools writes next to the source, and takes the examples from the top of the repository.
     source = shutil.copytree(PACKAGE, os.path.join(folder, "bindings", "python"), ignore=shutil.ignore_patterns("__pycache__"))
     shutil.copytree(os.path.join(TOP, "examples"), os.path.join(folder, "examples"), ignore=shutil.ignore_patterns("__pycache__"))
     target = os.path.join(folder, "site")
@@ -53,13 +53,13 @@ class Python:
 
 
 def prepared(folder):
-    """Python with the package; None, and said aloud, where the library cannot be built."""
+    """Returns Python with the package, or None, with a line that says so, if the library cannot be built."""
     built = library(folder)
     return None if built is None else Python(built, folder)
 
 
 def suites(_program, folder):
-    """The files of tests of the package, and what its page shows."""
+    """Runs the package's test files, and the sessions of its README."""
     python = prepared(folder)
     if python is None:
         return
@@ -73,7 +73,7 @@ def suites(_program, folder):
 
 
 def texts(_program, folder):
-    """The examples, and all other pair texts, get their verdicts."""
+    """Checks that the examples and all other pair texts get their verdicts."""
     python = prepared(folder)
     if python is None:
         return
@@ -88,7 +88,7 @@ def texts(_program, folder):
 
 
 def plays(_program, folder):
-    """The examples, and all other traces without faults, get their replies."""
+    """Checks that the examples and all other traces without faults get their replies."""
     python = prepared(folder)
     if python is None:
         return
@@ -102,7 +102,7 @@ def plays(_program, folder):
 
 
 def tour(_program, folder):
-    """examples/python prints its railway.output, which the README beside it derives."""
+    """Checks that examples/python prints its railway.output, which its README derives."""
     python = prepared(folder)
     if python is None:
         return
@@ -111,7 +111,7 @@ def tour(_program, folder):
 
 
 def content_of(path):
-    """The bytes of a file; None if there is none."""
+    """Returns the bytes of a file, or None if it does not exist."""
     if not os.path.exists(path):
         return None
     with open(path, "rb") as file:
@@ -119,7 +119,7 @@ def content_of(path):
 
 
 def not_found(_program, folder):
-    """Without the shared library the import says which file is missing."""
+    """Checks that without the shared library the import says which file is missing."""
     environment = dict(os.environ, PYTHONPATH=PACKAGE, PYTHONDONTWRITEBYTECODE="1", GCFLIP_LIBRARY=os.path.join(folder, "nothing.so"))
     found = done([sys.executable, "-c", "import gcflip"], env=environment)
     said = found.stderr.decode().strip().split("\n")[-1]

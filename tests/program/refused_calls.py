@@ -1,13 +1,13 @@
 """Tests that refuse each allocation of a library's call in turn.
 
 Each test of crates/growths makes one call between two fences, which are requests for memory of a size that the refusing
-allocator knows. The allocator refuses the n-th request between them, for n from 1 on until a run meets no refusal. If the
-call returned NoMemory, the test retries it, says so by a request of another such size, and compares the reply and the
-state.
+allocator knows. The allocator refuses the n-th request between them, for n = 1, 2 and so on until a run meets no refusal. If
+the call returned NoMemory, the test retries it, signals that by a request of another such size, and compares the reply and
+the state.
 
 A test is right if each of its runs passes, the last run retried nothing, and every other run retried, apart from the
-requests that the call can do without. The number of refused requests is counted: a flip that leaves out the checker makes
-fewer, and one whose pairs grow one by one makes more.
+requests that the call can do without. The refused requests are counted: a flip that skips the checker makes fewer, and one
+whose pairs grow one by one makes more.
 """
 import os
 import subprocess
@@ -20,11 +20,11 @@ BUILT = os.path.join(os.path.dirname(os.path.abspath(__file__)), "..", "..", "cr
 FENCE = 1000003
 RETRY = 1000033
 
-# The number of refused requests, if it follows from what a call has to keep.
+# The number of refused requests, if it follows from the data that a call has to keep.
 EXACTLY = {
     # The pairs, the new roots, and the checker's three tables.
     "collected_heaps::flip_of_1000_that_keeps_nothing": 5,
-    # The same, and the new words and the new roots of the kept pair.
+    # The same, and the words and roots of the kept pair.
     "collected_heaps::flip_of_1000_that_keeps_the_pair": 7,
     # The same, and an entry of the history.
     "worlds::flip_of_1000_with_a_full_history": 8,
@@ -34,7 +34,7 @@ AT_LEAST = {"worlds::flip_of_1000_in_threads": 7}
 
 # The requests that a call can do without.
 SPARED = {
-    # After the checker's three tables, a check asks for threads alone.
+    # After the checker's three tables, a check asks only for threads.
     "checks::check_of_many_pairs_in_threads": lambda request: request > 3,
     # Room for all seats at once: without it, each seat asks for its own.
     "seats::shared_open": lambda request: request == 1,
@@ -67,13 +67,13 @@ def names():
 
 
 def wrong_count(name, refused):
-    """Returns why so many refused requests are not what the call may make, or None."""
+    """Returns why this number of refused requests is wrong for the call, or None."""
     if refused == 0:
         return "no request was refused"
     if name in EXACTLY and refused != EXACTLY[name]:
         return "%d requests were refused, wanted %d" % (refused, EXACTLY[name])
     if refused < AT_LEAST.get(name, 1):
-        return "%d requests were refused, wanted %d at least" % (refused, AT_LEAST[name])
+        return "%d requests were refused, wanted at least %d" % (refused, AT_LEAST[name])
     return None
 
 
@@ -98,7 +98,7 @@ def refused_calls(_program, folder):
     refusing_allocator(folder)
     found = names()
     for name in [*EXACTLY, *AT_LEAST, *SPARED]:
-        yield "refused_calls, %s is a test" % name, None if name in found else "it is not there"
+        yield "refused_calls, %s is a test" % name, None if name in found else "it is missing"
     for name in found:
         yield "refused_calls, %s" % name, wrong_refusals(folder, name)
 

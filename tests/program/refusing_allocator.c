@@ -1,10 +1,10 @@
-/* Refuses the requests for memory or for a thread whose numbers, counted from 1 over all threads, lie from
-   REFUSED_FIRST to REFUSED_LAST, and makes the file that REFUSED_MARK names when it refuses one. It stands in front of
-   the C library by LD_PRELOAD. It is written without headers, so that a compiler alone can build it.
+/* Refuses requests for memory or for a thread: those with numbers from REFUSED_FIRST to REFUSED_LAST, counted from 1 over
+   all threads. If it refuses one, it creates the file that REFUSED_MARK names. LD_PRELOAD puts it before the C library. It
+   uses no headers, so that a compiler alone can build it.
 
-   Where REFUSED_FENCE gives a size, a request of that size is a fence. Fences are granted and not counted, and other
-   requests count only behind an odd number of them. A request of REFUSED_RETRY bytes is granted as well, and makes the
-   file that REFUSED_RETRY_MARK names. */
+   If REFUSED_FENCE gives a size, a request of that size is a fence. Fences are granted and not counted, and other requests
+   count only after an odd number of fences. A request of REFUSED_RETRY bytes is granted too, and creates the file that
+   REFUSED_RETRY_MARK names. */
 
 typedef unsigned long size_type;
 

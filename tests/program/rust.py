@@ -1,4 +1,4 @@
-"""bindings/rust: the crate over the library, by cargo: its own tests, its lints, its examples, and all pair texts and traces."""
+"""Tests of bindings/rust, the crate over the library, by cargo: its own tests, its lints, its examples, and all pair texts and traces."""
 import os
 import shutil
 
@@ -10,12 +10,12 @@ from .python import content_of
 CRATE = os.path.join(TOP, "bindings", "rust")
 SECONDS = 600
 
-# What the example programs print, as their comments derive.
+# The output of the example programs, as their comments derive it.
 EXAMPLE_OUTPUT = {"first_check": b"flip: 1 pairs\n", "first_heap": b"Number(42)\n", "two_threads": b"50005000\n"}
 
 
 class Cargo:
-    """Cargo in the crate, with the installed library, and without a registry. What it builds goes to a folder of the tests."""
+    """Cargo in the crate, with the installed library, and without a registry. It builds in a folder of the tests."""
 
     def __init__(self, built, folder):
         self.target = os.path.join(folder, "target")
@@ -29,7 +29,7 @@ class Cargo:
 
 
 def prepared(folder):
-    """Cargo with the library; None, and said aloud, where either is missing."""
+    """Returns cargo with the library, or None, with a line that says so, if either is missing."""
     if shutil.which("cargo") is None or done(["cargo", "--version"]).status != 0:
         skip("rust", "no cargo")
         return None
@@ -38,17 +38,17 @@ def prepared(folder):
 
 
 def failed(outcome):
-    """Why the run failed, or None."""
+    """Returns why the run failed, or None."""
     return None if outcome.status == 0 else (outcome.stdout + outcome.stderr).decode()
 
 
 def counted_tests(outcome):
-    """The numbers of tests that passed, for each program of tests."""
+    """Returns the numbers of tests that passed, for each test program."""
     return [int(line.split()[3]) for line in outcome.stdout.decode().split("\n") if line.startswith("test result: ok.")]
 
 
 def suites(_program, folder):
-    """The tests of the crate, those in its documents, its lints, its layout, and that the links of its documents lead somewhere."""
+    """Runs the tests of the crate and of its documents, its lints, and checks its format and the links of its documents."""
     cargo = prepared(folder)
     if cargo is None:
         return
@@ -61,16 +61,16 @@ def suites(_program, folder):
     if done(["cargo", "clippy", "--version"]).status == 0:
         yield "cargo clippy", failed(cargo.run("clippy", "--all-targets", "--", "-D", "warnings"))
     else:
-        skip("cargo clippy", "it is not there")
+        skip("cargo clippy", "it is missing")
     yield "cargo doc", failed(cargo.run("doc"))
     if done(["cargo", "fmt", "--version"]).status == 0:
         yield "cargo fmt", failed(done(["cargo", "fmt", "--check"], cwd=CRATE))
     else:
-        skip("cargo fmt", "it is not there")
+        skip("cargo fmt", "it is missing")
 
 
 def examples(_program, folder):
-    """The example programs print what their comments say."""
+    """Checks that the example programs print what their comments say."""
     cargo = prepared(folder)
     if cargo is None:
         return
@@ -82,7 +82,7 @@ def examples(_program, folder):
 
 
 def texts(cargo, folder):
-    """The examples, and all other pair texts, get their verdicts."""
+    """Checks that the examples and all other pair texts get their verdicts."""
     cases = [(name, file_of(folder, "text %d" % number, text), line) for number, (name, text, line) in enumerate(texts_and_lines())]
     found = done([cargo.example("check"), *[file for _, file, _ in cases]])
     yield "check.rs", difference(found, Outcome(found.stdout))
@@ -94,7 +94,7 @@ def texts(cargo, folder):
 
 
 def plays(cargo, folder):
-    """The examples, and all other traces without faults, get their replies."""
+    """Checks that the examples and all other traces without faults get their replies."""
     cases = [(name, os.path.join(folder, "replies %d" % number), file_of(folder, "trace %d" % number, trace), replies)
              for number, (name, trace, replies) in enumerate(traces_and_replies())]
     found = done([cargo.example("play"), *[path for _, target, source, _ in cases for path in (source, target)]])
@@ -105,7 +105,7 @@ def plays(cargo, folder):
 
 
 def linking(_program, folder):
-    """The library is found by pkg-config, as a shared library where there is no archive, and what is missing is said."""
+    """Checks that pkg-config finds the library, that the shared library is used without an archive, and that a message says what is missing."""
     cargo = prepared(folder)
     if cargo is None:
         return

@@ -11,7 +11,7 @@ CANNOT_WRITE = refusal("cannot write", 4)
 
 
 def to_full_device(program, words, text=b""):
-    """Runs the program with its output to a device that takes no byte."""
+    """Runs the program with its output to a device that accepts no byte."""
     with open("/dev/full", "wb") as full:
         return run(program, words, text=text, stdout=full)
 
@@ -49,7 +49,7 @@ def readers(program, folder):
 
 
 def closed_streams(program, folder):
-    """A stream that is closed from the start fails like any other, even if a file takes its descriptor."""
+    """Checks that a stream that is closed from the start fails like any other, even if a file gets its descriptor."""
     text, _ = trace_and_replies(PLAYED["cycle_of_two"])
     path = file_of(folder, "played", text)
     pair = file_of(folder, "pair", LEAST)
@@ -77,7 +77,7 @@ def writers(program, folder):
 
 
 def writers_of_verdicts(program, folder):
-    """A verdict that cannot be written is `cannot write`, whether yes or refusal. A bad text needs no writer."""
+    """Checks that a verdict that cannot be written is `cannot write`, for a yes and for a refusal. A bad text needs no writer."""
     refused = text_of(CHECKED["kinds_differ"][0])
     for name, writer in [("full_device", to_full_device), ("pipe_without_reader", to_pipe_without_reader)]:
         for verdict, text in [("yes", LEAST), ("refusal", refused)]:
@@ -88,7 +88,7 @@ def writers_of_verdicts(program, folder):
 
 
 def nothing_to_write(program, _folder):
-    """A writer that takes no byte is no fault if there is nothing to write."""
+    """Checks that a writer that accepts no byte is not a fault if there is nothing to write."""
     text, _ = trace_and_replies(PLAYED["no_events_no_replies"])
     bad_line = refusal("trace: bad line 3", 3)
     for name, writer in [("full_device", to_full_device), ("pipe_without_reader", to_pipe_without_reader)]:
@@ -97,7 +97,7 @@ def nothing_to_write(program, _folder):
 
 
 def broken_off(program, _folder):
-    """The reader of the output goes away after the first reply."""
+    """Closes the reader of the output after the first reply."""
     text = b"heaptrace 1\nspace 8 mutators 1\n" + b"m 0 look r0\n" * 100000
     with subprocess.Popen(["head", "-n", "1"], stdin=subprocess.PIPE, stdout=subprocess.PIPE) as reader:
         found = run(program, text=text, stdout=reader.stdin)
@@ -108,7 +108,7 @@ def broken_off(program, _folder):
 
 
 def standard_error(program, folder):
-    """The status tells the fault even if its line cannot be written."""
+    """Checks that the status gives the fault even if its line cannot be written."""
     missing = os.path.join(folder, "nothing", "here")
     with open("/dev/full", "wb") as full:
         found = [

@@ -1,7 +1,6 @@
 """Traces with the reply to each line, and other texts with their faults.
 
-The replies and faults stand as the formats and the commands' rules give them (docs/FORMATS.md); none was taken from
-a run.
+The replies and faults follow from the formats and the commands' rules (docs/FORMATS.md); none was taken from a run.
 """
 import textwrap
 
@@ -516,7 +515,7 @@ PLAYED.update(COLLECTED)
 
 
 def version_of(events):
-    """Returns the least version that has all these lines. Version 2 adds a collection's own size, version 3 raw objects."""
+    """Returns the lowest version that has all these lines. Version 2 adds a collection's own size, version 3 raw objects."""
     if any(event.split(" ")[2:3] == ["raw"] for event, _ in events):
         return 3
     return 2 if any(event.startswith("c begin ") for event, _ in events) else 1
@@ -635,7 +634,7 @@ BAD_LINES_OF_THE_THIRD = {
 
 
 def refused_texts():
-    """Yields each text that is no trace: name, bytes, line on standard error."""
+    """Yields each text that is not a trace: name, bytes, line on standard error."""
     start = b"heaptrace 1\nspace 8 mutators 1\n"
     for name, text in HEADERS.items():
         yield name, text, BAD_HEADER

@@ -1,4 +1,4 @@
-"""The page of `python3 -m gcflip.explore` as the tests use it: its server, and the page in a headless browser."""
+"""Starts the server of `python3 -m gcflip.explore` and its page in a headless browser, for tests."""
 import contextlib
 import http.client
 import json
@@ -16,12 +16,12 @@ SECONDS = 30
 
 
 def hear_interrupts():
-    """Undoes that a shell makes its background jobs, and all that they start, ignore interrupts."""
+    """Restores interrupts, which a shell's background jobs and their children ignore."""
     signal.signal(signal.SIGINT, signal.SIG_DFL)
 
 
 class Server:
-    """The server, as the command starts it."""
+    """The server, started by its command."""
 
     def __init__(self, python, *words):
         self.process = subprocess.Popen([sys.executable, "-m", "gcflip.explore", "--no-browser", *words], env=python.environment,
@@ -35,7 +35,7 @@ class Server:
         self.address, self.port, self.token = found.group(0), int(found.group(1)), found.group(2)
 
     def request(self, method, path, body=None, **headers):
-        """Returns the status, the headers and the body of what the server answers."""
+        """Returns the status, the headers and the body of the server's answer."""
         connection = http.client.HTTPConnection("127.0.0.1", self.port, timeout=SECONDS)
         connection.request(method, path, body, {name.replace("_", "-"): value for name, value in headers.items()})
         response = connection.getresponse()
@@ -61,7 +61,7 @@ class Server:
 
 @contextlib.contextmanager
 def served(folder, *words):
-    """Gives a server; None, and said aloud, where the library cannot be built."""
+    """Yields a server, or None, with a line that says so, if the library cannot be built."""
     python = prepared(folder)
     if python is None:
         yield None
@@ -74,7 +74,7 @@ def served(folder, *words):
 
 
 class Page(browser.Browser):
-    """The page in a browser, with what a reader does there."""
+    """The page in a browser, with the actions of a reader."""
 
     def __init__(self, path, folder, server):
         super().__init__(path, folder)
@@ -89,7 +89,7 @@ class Page(browser.Browser):
         self.run("document.getElementById(%s).click();" % json.dumps(name))
 
     def text(self, name):
-        """Returns what an element shows."""
+        """Returns the text of an element."""
         return self.run("return document.getElementById(%s).innerText;" % json.dumps(name))
 
     def set(self, name, value):
@@ -113,7 +113,7 @@ class Page(browser.Browser):
         return self.run("return document.querySelector('#trace-editor textarea').value;")
 
     def replies(self):
-        """Returns the replies beside the lines in sight, by the numbers of their lines."""
+        """Returns the replies next to the visible lines, by line number."""
         found = self.run("""return [...document.querySelectorAll("#trace-editor .replies div")]
             .map((it) => [Number(it.dataset.line), it.textContent]);""")
         return dict(map(tuple, found))
@@ -126,7 +126,7 @@ class Page(browser.Browser):
                  % (json.dumps(list(data)), json.dumps(name), json.dumps(area)))
 
     def command(self, name, **words):
-        """Presses the button of a command, with these words in its inputs, from the first on."""
+        """Presses the button of a command, after it puts these words into its inputs in order."""
         self.run("""const form = document.querySelector(`[data-command="${%s}"]`);
             for (const [at, value] of %s.entries()) { form.querySelectorAll("input, select")[at].value = value; }
             form.querySelector("button").click();""" % (json.dumps(name), json.dumps([str(word) for word in words.values()])))
@@ -134,7 +134,7 @@ class Page(browser.Browser):
 
 @contextlib.contextmanager
 def page(folder, *words):
-    """Gives the page in a browser; None, and said aloud, where there is none."""
+    """Yields the page in a browser, or None, with a line that says so, if there is no browser."""
     path = browser.found()
     if path is None:
         skip("explore in a browser", "there is no chromium on the path; 'apt-get install chromium' installs it")

@@ -5,7 +5,7 @@ import resource
 
 @contextlib.contextmanager
 def at_most(more):
-    """Lets the process take only so many bytes more."""
+    """Limits the process to this many more bytes of memory."""
     with open("/proc/self/statm") as file:
         taken = int(file.read().split()[0]) * resource.getpagesize()
     soft, hard = resource.getrlimit(resource.RLIMIT_AS)

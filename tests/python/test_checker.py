@@ -11,7 +11,7 @@ from limits import at_most
 # Of <sys/mman.h>; the module mmap has it from Python 3.13 on.
 MAP_NORESERVE = 0x4000
 
-# Garbage of two fields at 1, an object without fields at 5, and the one root refers to that.
+# Garbage with two fields at 1, and an object without fields at 5, to which the one root refers.
 OLD = Image([0, 16777218, 0, 1, 1, 16777216, 0], [10], size=8)
 NEW = Image([0, 16777216, 0], [2], size=8)
 PAIRS = [(5, 1)]
@@ -94,7 +94,7 @@ class Rows(unittest.TestCase):
         words = array.array("Q", OLD.words)
         check(Image(words, OLD.roots, 8), NEW, PAIRS)
         self.assertEqual(list(words), OLD.words)
-        words.append(0)  # no view of it is left, so it can grow
+        words.append(0)  # it has no views any more, so it can grow
 
     def test_wrong_rows(self):
         for words in (array.array("I", [0]), array.array("d", [0]), memoryview(array.array("Q", range(4)))[::2], "0"):
@@ -121,7 +121,7 @@ class Rows(unittest.TestCase):
 
 class Memory(unittest.TestCase):
     def test_out_of_memory(self):
-        """Fifteen objects of 65535 fields take nearly a whole space, and the checker's tables 5 MB."""
+        """Checks images of 15 objects with 65535 fields, which take nearly a whole space. The checker's tables take 5 MB."""
         words = array.array("Q", bytes(8 * (1 + 15 * 65537)))
         for number in range(15):
             words[1 + 65537 * number] = 16777216 + 65535
@@ -133,7 +133,7 @@ class Memory(unittest.TestCase):
         self.assertTrue(issubclass(gcflip.OutOfMemory, MemoryError))
 
     def test_too_many_pairs(self):
-        """The pairs take 32 GiB of addresses and no memory, since nobody reads them."""
+        """Checks 2^32 pairs. They take 32 GiB of addresses but no memory, since nothing reads them."""
         try:
             reserved = mmap.mmap(-1, 8 << 32, flags=mmap.MAP_PRIVATE | mmap.MAP_ANONYMOUS | MAP_NORESERVE)
         except OSError as error:

@@ -1,4 +1,4 @@
-"""Tests of what stands behind the page of gcflip.explore: players, the useful step, certificates, spoiled pairs and requests."""
+"""Tests of the Python code of gcflip.explore: players, the useful step, certificates, spoiled pairs and requests."""
 import random
 import unittest
 
@@ -9,7 +9,7 @@ from gcflip_drawing.trace_text import event_of, read_trace
 
 TRACES = [example for example in requests.examples() if example["kind"] == "trace"]
 PAIRS = [example for example in requests.examples() if example["kind"] == "pair"]
-# Small objects, both sorts, written while a collection is open, and a new space that is too small for a while.
+# Small objects of both sorts, writes while a collection is open, and a new space that is too small for a while.
 LONG = ("heaptrace 3\nspace 64 mutators 2\nm 0 new g0 1 2\nm 1 raw r1 2 3\nm 0 put g0 0 r1\nm 0 new r0 3 1\nm 0 put g0 1 r0\nc begin 7\n"
         "c roots\nc scan\nm 1 put g0 0 r1\nm 0 put g0 1 r3\nc drop\nc begin\nm 0 put r0 0 g0\n")
 
@@ -30,7 +30,7 @@ def played(trace, position):
 
 class Players(unittest.TestCase):
     def test_useful_step_is_that_of_work(self):
-        """From each position on, the useful steps up to a flip are those of `Heap.work`, and leave the same heap."""
+        """Checks from each position that the useful steps up to a flip are those of `Heap.work`, and lead to the same heap."""
         for _, trace, position in positions():
             one, other = played(trace, position), played(trace, position)
             for _ in range(40):
@@ -68,7 +68,7 @@ class Players(unittest.TestCase):
         trace = read_trace(b"heaptrace 1\nspace 8 mutators 1\nm 0 new r0 1 1\nm 0 num r1 4\nm 0 put r0 0 r1\n")
         changed = [tuple(change) for change in played(trace, 3).changed]
         self.assertEqual(changed, [(True, "words", 3)])
-        # An object of one field takes the words 1 to 3, and r0 is the place behind the 16 shared slots.
+        # An object of one field takes the words 1 to 3, and r0 is the root after the 16 shared slots.
         changed = [tuple(change) for change in played(trace, 1).changed]
         self.assertEqual(changed, [(True, "words", 1), (True, "words", 2), (True, "words", 3), (True, "roots", 16)])
 
@@ -98,12 +98,12 @@ class Pictures(unittest.TestCase):
             names = [shape for shape in picture["shapes"] if shape.get("text") in ("reachable", "words in use")]
             self.assertEqual(len(names), 1)
             boxes = [shape for shape in picture["shapes"] if shape["kind"] == "box"]
-            # A sample of the legend is 18 wide and 12 high, and no word is.
+            # A sample of the legend is 18 wide and 12 high, and no word has that size.
             above = [box["y"] + box["height"] for box in boxes if (box["width"], box["height"]) != (18, 12)]
             self.assertLess(max(above, default=0), names[0]["y"] - 10)
 
     def test_garbage_is_grey(self):
-        """The object at 1 became unreachable during the collection, and so did its replica. The one at 4 is in a root."""
+        """Checks unreachable objects. The one at 1 became so during the collection, as did its replica. A root refers to the one at 4."""
         text = next(example["text"] for example in TRACES if example["name"] == "root_made_after_the_scan")
         trace = read_trace(text.encode())
         boxes = state.described(played(trace, 13), trace, 900)["picture"]["shapes"]
@@ -126,7 +126,7 @@ class Pictures(unittest.TestCase):
         self.assertLess(abs(pointer["points"][2][1] - fields[1]["y"]), 6)
 
     def test_the_scan_pointer_stays_in_its_row(self):
-        """Once the last field of a row is scanned, the pointer is behind it, and not in front of the next row."""
+        """Checks that once the last field of a row is scanned, the pointer is after it, and not before the next row."""
         trace = read_trace(b"heaptrace 1\nspace 12 mutators 1\nm 0 new r0 1 3\nc begin\nc roots\nc scan\nc scan\nc scan\n")
         shapes = state.described(played(trace, 6), trace, 348)["picture"]["shapes"]
         # The picture has six columns, so the object's words 1 to 5 fill the first row.
@@ -141,7 +141,8 @@ class Pictures(unittest.TestCase):
 
 class Certificates(unittest.TestCase):
     def test_conditions_hold_where_a_flip_passes(self):
-        """The listed conditions hold exactly where the library flips, and then the listed certificate is what the flip reports."""
+        """Checks that the listed conditions hold exactly if the library flips, and that the flip reports the pairs of the listed
+        certificate."""
         seen = set()
         for _, trace, position in positions():
             player = played(trace, position)
@@ -156,7 +157,7 @@ class Certificates(unittest.TestCase):
         self.assertEqual(seen, {False, True})
 
     def test_a_flip_leaves_what_the_certificate_promised(self):
-        """The words and roots of the new heap are those of the certificate, but for links."""
+        """Checks that the words and roots of the new heap are those of the certificate, except for links."""
         for _, trace, position in positions():
             player = played(trace, position)
             words = player.words()
@@ -282,7 +283,7 @@ class Requests(unittest.TestCase):
             self.assertEqual(written(read_pair(example["text"])), example["text"])
 
     def test_a_heap_in_use_stays_as_it_is(self):
-        """A request that is refused leaves the players as they were."""
+        """Checks that a refused request leaves the players unchanged."""
         text = TRACES[0]["text"]
         before = self.ask("play", text=text, position=1)
         with self.assertRaises(requests.BadRequest):
@@ -291,7 +292,7 @@ class Requests(unittest.TestCase):
 
 
 class RandomTraces(unittest.TestCase):
-    """Traces that random buttons make, in heaps of sizes around the bound between words and blocks."""
+    """Plays traces that random buttons make, in heaps of sizes around the bound between words and blocks."""
 
     FORMS = ["m K new S 7 N", "m K raw S 7 N", "m K num S 9", "m K nil S", "m K move S S", "m K get S S N", "m K put S N S", "m K put S N S",
              "m K look S", "c begin", "c begin 70", "c roots", "c roots", "c scan", "c scan", "c scan", "c apply K", "c flip", "c drop"]

@@ -11,7 +11,7 @@ from limits import at_most
 
 
 class WrittenWhileScanning(unittest.TestCase):
-    """The trace examples/write_while_scanning.trace by calls, with the replies that its file has."""
+    """Makes the calls of examples/write_while_scanning.trace, and expects the replies of its file."""
 
     def test_replies(self):
         with Heap(32) as heap:
@@ -143,7 +143,7 @@ class Steps(unittest.TestCase):
             self.assertEqual(heap.drop(), Step.DROPPED)
 
     def test_work(self):
-        """begin, the root, the field, past the object, the flip: five steps, and a replica of three words."""
+        """Performs five steps: begin, the root, the field, past the object, the flip. The replica has three words."""
         with Heap(16) as heap:
             heap.mutator(0).new(own(0), 1, 1)
             self.assertEqual(heap.work(1), (1, 0, Step.BEGUN, 0))
@@ -193,7 +193,7 @@ class Lives(unittest.TestCase):
             heap.counts()
 
     def test_a_heap_that_nobody_has_is_freed(self):
-        """Two thousand heaps of 8 MiB do not fit beside each other."""
+        """Opens two thousand heaps of 8 MiB within 256 MiB, so each has to be freed."""
         with at_most(256 << 20):
             for _ in range(2000):
                 Heap(1048576)
@@ -218,7 +218,7 @@ class Lives(unittest.TestCase):
         heap.close()
 
     def test_threads_take_turns(self):
-        """Each of four threads counts to 2000 in an object that a collector copies meanwhile."""
+        """Lets each of four threads count to 2000 in an object that a collector copies meanwhile."""
         with Heap(4096, 4) as heap:
             threads = [threading.Thread(target=count, args=(heap.mutator(number),)) for number in range(4)]
             for thread in threads:

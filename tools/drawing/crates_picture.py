@@ -1,4 +1,4 @@
-"""Lays out the graph of the crates: each above those that it stands on, with an arrow to each that no other one covers."""
+"""Lays out the graph of the crates: each crate above those that it uses, with an arrow to each of them, unless a path leads there too."""
 from gcflip_drawing.pair_text import Unreadable
 from gcflip_drawing.picture import Picture
 
@@ -6,7 +6,7 @@ BOX_WIDTH, BOX, GAP_X, GAP_Y, LEFT, TOP = 104, 34, 30, 40, 24, 24
 
 
 def read_crates(text):
-    """Returns the crates that each crate of the list uses, without those of the toolchain."""
+    """Returns the crates that each crate of the list uses, without the toolchain's."""
     listed = {}
     for line in text.split("\n"):
         name, colon, uses = line.split("#")[0].partition(":")
@@ -18,7 +18,7 @@ def read_crates(text):
 
 
 def levels_of(uses):
-    """Returns how far each crate is above the lowest ones: one more than the highest that it uses."""
+    """Returns the level of each crate: one more than the highest level that it uses."""
     levels = {}
 
     def level(name):
@@ -32,7 +32,7 @@ def levels_of(uses):
 
 
 def covered(uses, name):
-    """Returns what a crate uses through another one."""
+    """Returns the crates that a crate uses through another one."""
     found = set()
     waiting = [further for use in uses[name] for further in uses[use]]
     while waiting:
@@ -44,12 +44,12 @@ def covered(uses, name):
 
 
 def arrows_of(uses):
-    """Returns who stands on whom, without what is covered."""
+    """Returns the arrows: each crate with each crate that it uses, unless it also uses that one through another."""
     return [(name, use) for name in uses for use in uses[name] if use not in covered(uses, name)]
 
 
 def orders(levels, arrows):
-    """Returns the crates of each level, from the highest down, each near those that it is joined to."""
+    """Returns the crates of each level, from the highest down, each near those that it is connected to."""
     rows = [sorted(name for name in levels if levels[name] == level) for level in range(max(levels.values()) + 1)]
     for _ in range(8):
         place = {name: at - len(row) / 2 for row in rows for at, name in enumerate(row)}
@@ -71,7 +71,7 @@ def places_of(rows, width):
 
 
 def drawn(uses, title):
-    """Returns the picture of the crates. `uses` has those that each crate uses."""
+    """Returns the picture of the crates. `uses` has the crates that each crate uses."""
     picture = Picture(title)
     levels, arrows = levels_of(uses), arrows_of(uses)
     rows = orders(levels, arrows)

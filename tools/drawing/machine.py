@@ -1,5 +1,5 @@
-"""Plays a trace, to know after each event the words in use and the log entries. It tells nothing that `gcflip play` does not; the
-tests compare its replies with those of the program."""
+"""Plays a trace, to find the words in use and the log entries after each event. The tests compare its replies with the
+program's."""
 from gcflip_drawing.timeline import Measure
 
 NIL = ("nil",)
@@ -61,7 +61,7 @@ class Machine:
         return getattr(self, "do_" + event.name)(event.mutator, *event.numbers)
 
     def measured(self, event):
-        """Performs an event, and returns what it left."""
+        """Performs an event, and returns the measure after it."""
         reply, c = self.play(event), self.collection
         entries = tuple(len(log) for log in c.logs) if c else (0,) * self.mutators
         return Measure(reply, self.size, self.end, c.end if c else 0, c is not None, entries)

@@ -1,9 +1,9 @@
-/* Checks that a heap image may take the place of another one. It prints 'yes 1'. */
+/* Checks that one heap image may replace another. Prints 'yes 1'. */
 #include <gcflip.h>
 #include <stdio.h>
 
-/* The old image has garbage of two fields at address 1 and an object without fields at address 5, to which the root refers.
-   The new image has the object alone. */
+/* The old image has garbage with two fields at address 1, and an object without fields at address 5, to which the root refers.
+   The new image has only the object. */
 static const uint64_t old_words[] = {0, 16777218, 0, 1, 1, 16777216, 0};
 static const uint64_t old_roots[] = {2 * 5};
 static const uint64_t new_words[] = {0, 16777216, 0};

@@ -1,5 +1,5 @@
-/* Makes an object, lets the collector copy it, and reads its field. Mutators
-   could go on between two calls of work. */
+/* Makes an object, lets the collector copy it, and reads its field. Mutators can
+   run between two calls of work. */
 #include <gcflip_heap.h>
 #include <stdio.h>
 

@@ -1,7 +1,7 @@
 """Herbpond's certificate checker and its collected heap.
 
-`check` decides whether a heap image may take the place of another one, and `check_text` does so for a pair text. `Heap` is a
-heap of objects with an incremental, replicating collector. What is proved of both is proved of the library, not of this package.
+`check` decides whether one heap image may replace another, and `check_text` does so for a pair text. `Heap` is a heap of
+objects with an incremental, replicating collector. The proofs are about the library, not about this package.
 """
 from .checker import Image, Pairs, Row, check, check_text
 from .errors import (BadLine, BadText, Busy, Closed, EndsEarly, FlipRefused, Full, GcflipError, HeapRefused, Idle, NoField, NoNumber,

@@ -1,4 +1,4 @@
-"""The checker: whether a heap image may take the place of another one."""
+"""The checker, which decides whether one heap image may replace another."""
 from __future__ import annotations
 
 import array
@@ -11,7 +11,7 @@ from .errors import BadLine, EndsEarly, OutOfMemory, Refusal, Refused, TextTooLa
 from .library import LIBRARY, Verdict, check_ranges
 
 Row = Union[Sequence[int], array.array, memoryview]
-"""Words. An `array` of type 'Q', or another writable and contiguous buffer of such words, is read in place. Others are copied."""
+"""Words. An `array` of type 'Q', or another writable and contiguous buffer of 64-bit words, is read in place. Others are copied."""
 
 Pairs = Union[Iterable[Tuple[int, int]], array.array, memoryview]
 """Pairs of an old address and a new one. A writable buffer of 32-bit words, two for each pair, is read in place."""
@@ -28,20 +28,20 @@ class Image:
     roots: Row
     """The root words."""
     size: int | None = None
-    """The words of the space, 1 to 1048576; as many as there are in `words` by default."""
+    """The words of the space, 1 to 1048576; by default the length of `words`."""
     raws: bool = True
-    """Whether header words of raw objects count."""
+    """Whether header words of raw objects are valid."""
 
 
 class _Block:
-    """Numbers in memory that stays where it is while the block lives."""
+    """Numbers in memory that does not move while the block lives."""
 
     def __init__(self, numbers: Any, code: str) -> None:
         view = _view(numbers, code)
         self.count = view.nbytes // view.itemsize
         kind = ctypes.c_char * view.nbytes
         if view.nbytes == 0:
-            self.at: Any = ctypes.c_uint64()  # a row without numbers has an address as well
+            self.at: Any = ctypes.c_uint64()  # an empty array needs an address too
         elif view.readonly:
             self.at = kind.from_buffer_copy(view)
         else:
@@ -50,7 +50,7 @@ class _Block:
 
 
 def _view(numbers: Any, code: str) -> memoryview:
-    """Returns a view of numbers of this type: of the buffer itself, or of a new array."""
+    """Returns a view of numbers of this type, either of the buffer itself or of a new array."""
     try:
         view = memoryview(numbers)
     except TypeError:
@@ -62,7 +62,7 @@ def _view(numbers: Any, code: str) -> memoryview:
 
 
 def _flat(pairs: Pairs) -> Any:
-    """Returns the addresses of pairs one behind the other. A buffer has them so already."""
+    """Returns the addresses of pairs one after the other, as a buffer already has them."""
     try:
         return memoryview(pairs)  # type: ignore[arg-type]
     except TypeError:
@@ -72,14 +72,14 @@ def _flat(pairs: Pairs) -> Any:
 def check(old: Image, new: Image, pairs: Pairs) -> int:
     """Checks a certificate against two images, and returns the number of its pairs.
 
-    Makes no assumption about the images and the pairs. Nobody may write to them during the call. Other threads run meanwhile.
+    Makes no assumption about the images and the pairs. Other threads may run during the call, but must not write to them.
 
-    If it returns, it is proved that every object that the old roots reach has exactly one replica, equal to it field by
+    If the call returns, it is proved that every object that the old roots reach has exactly one replica, equal to it field by
     field; that every path finds the same in both heaps; and that every list of commands gets the same replies from both, up
     to the first allocation for which one of them has no room.
 
-    Raises Refused if a condition fails, OutOfMemory, TooManyPairs for 2^32 pairs or more, OutOfRange for a size beyond 32 bits,
-    and OverflowError for a word or an address that is too large.
+    Raises Refused if a condition fails, OutOfMemory, TooManyPairs for 2^32 pairs or more, OutOfRange for a size of more than 32
+    bits, and OverflowError for a word or an address that is too large.
     """
     addresses = _Block(_flat(pairs), "I")
     if addresses.count % 2 == 1:
@@ -98,10 +98,10 @@ def _arguments(image: Image, words: _Block, roots: _Block) -> tuple[Any, ...]:
 
 
 def check_text(text: bytes | bytearray | memoryview) -> int:
-    """Checks the pair of images that a text spells, in the format `heappair 1` or `heappair 2`, and returns the number of its
-    pairs, as `check` does. The text is read in place; if it is a buffer that cannot be written, but not bytes, it is copied.
+    """Checks the pair of images in a text of the format `heappair 1` or `heappair 2`, and returns the number of its pairs, as
+    `check` does. Reads the text in place; only a read-only buffer that is not bytes is copied.
 
-    Raises BadLine, EndsEarly or TextTooLarge if the text is no pair text, else what `check` raises.
+    Raises BadLine, EndsEarly or TextTooLarge if the text is not a pair text, else what `check` raises.
     """
     verdict = Verdict()
     if isinstance(text, bytes):
@@ -113,7 +113,7 @@ def check_text(text: bytes | bytearray | memoryview) -> int:
 
 
 def _pairs_of(answer: int, verdict: Verdict) -> int:
-    """Returns the number of pairs of a yes, or raises what another answer tells."""
+    """Returns the number of pairs of a yes. Raises the exception for any other answer."""
     if answer == REFUSED:
         raise Refused(Refusal(verdict.refusal), verdict.place, verdict.field)
     if answer == BAD_LINE:

@@ -1,4 +1,4 @@
-"""The exceptions of the package. A call that raises one of them has changed nothing."""
+"""The exceptions of the package. A call that raises one has changed nothing, except `put_number`, as it says."""
 from __future__ import annotations
 
 import enum
@@ -27,9 +27,9 @@ class Refusal(enum.IntEnum):
     """The conditions of a certificate, in the order in which they are checked. Pairs, fields and roots are counted from 0."""
 
     OldShape = 1
-    """No object starts at address `place` of the old image, and one has to; or `place` is 0."""
+    """No valid object starts at address `place` of the old image although one has to, or `place` is 0."""
     NewShape = 2
-    """The same of the new image."""
+    """The same for the new image."""
     RootCount = 3
     """The images have different numbers of roots."""
     OldNotStart = 4
@@ -49,7 +49,7 @@ class Refusal(enum.IntEnum):
 
 
 class Refused(GcflipError):
-    """The checker refused the certificate. As a text it is the line that `gcflip check` prints."""
+    """The checker refused the certificate. Its text is the line that `gcflip check` prints."""
 
     def __init__(self, refusal: Refusal, place: int, field: int) -> None:
         super().__init__(refusal, place, field)
@@ -66,15 +66,15 @@ class Refused(GcflipError):
 
 
 class TooManyPairs(GcflipError, ValueError):
-    """A certificate of 2^32 pairs or more."""
+    """The certificate has 2^32 pairs or more."""
 
 
 class BadText(GcflipError, ValueError):
-    """A text that is no pair text. As a text it is the line that `gcflip check` prints."""
+    """The text is not a pair text. The exception's text is the line that `gcflip check` prints."""
 
 
 class BadLine(BadText):
-    """The first bad line of the text."""
+    """The text has a bad line; this is the first one."""
 
     def __init__(self, line: int) -> None:
         super().__init__("pair: bad line %d" % line)
@@ -100,7 +100,7 @@ class TextTooLarge(BadText):
 
 
 class HeapRefused(GcflipError):
-    """The heap refused a command or a step. As a text it is the reply of a played trace."""
+    """The heap refused a command or a step. Its text is the reply that `gcflip play` prints."""
 
     reply = ""
 
@@ -127,7 +127,7 @@ class NoField(HeapRefused):
 
 
 class NoNumber(HeapRefused):
-    """The object is raw and the value is no number."""
+    """The object is raw and the value is not a number."""
 
     reply = "no number"
 

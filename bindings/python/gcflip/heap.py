@@ -34,12 +34,12 @@ REFUSED: dict[int, type[HeapRefused]] = {
 
 
 def own(number: int) -> int:
-    """Returns the mutator's own slot of this number, 0 to 15, which a trace calls r0 to r15."""
+    """Returns the mutator's own slot with this number, 0 to 15; in a trace it is r0 to r15."""
     return _slot(number, 0)
 
 
 def shared(number: int) -> int:
-    """Returns the slot of this number, 0 to 15, that all mutators share, and a trace calls g0 to g15."""
+    """Returns the shared slot with this number, 0 to 15; in a trace it is g0 to g15."""
     return _slot(number, SLOTS)
 
 
@@ -50,7 +50,7 @@ def _slot(number: int, first: int) -> int:
 
 
 class Object(NamedTuple):
-    """What is seen of a reference: the object's kind and the number of its fields. No call tells an address."""
+    """A reference as mutators see it: the object's kind and the number of its fields, without an address."""
 
     kind: int
     length: int
@@ -59,11 +59,11 @@ class Object(NamedTuple):
 
 
 Value = Union[None, int, Object]
-"""A value that is seen: None for nil, a number, or an object."""
+"""A value as mutators see it: None for nil, a number, or an object."""
 
 
 class Step(enum.Enum):
-    """What a step of the collector did. Its value is the reply of a played trace."""
+    """What a step of the collector did. Its value is the reply that `gcflip play` prints."""
 
     BEGUN = "begun"
     """A collection is open now."""
@@ -78,7 +78,7 @@ class Step(enum.Enum):
     APPLIED = "applied"
     """One log entry was applied."""
     FLIPPED = "flipped"
-    """Mutators go on in the new space."""
+    """Mutators continue in the new space."""
     DROPPED = "dropped"
     """The collection was given up."""
     NO_ROOM = "no room"
@@ -93,9 +93,9 @@ class Work(NamedTuple):
     """What `work` did."""
 
     steps: int
-    """How many steps were made, at least 1."""
+    """The number of steps performed, at least 1."""
     copied: int
-    """How many words replicas took in the new space."""
+    """The number of words that replicas took in the new space during these steps."""
     last: Step
     """What the last step did."""
     pairs: int
@@ -121,7 +121,7 @@ class Counts(NamedTuple):
     scan_place: int
     """The address of the replica at the scan pointer, or `new_end`."""
     scan_field: int
-    """How many of its fields are scanned."""
+    """The number of its fields that are scanned."""
 
 
 class LogEntry(NamedTuple):
@@ -133,7 +133,7 @@ class LogEntry(NamedTuple):
 
 
 class Heap:
-    """A heap, and a context manager that closes it. Its calls may come from several threads: a lock lets one in at a time.
+    """A heap, and a context manager that closes it. Several threads may call it: a lock lets in one call at a time.
 
     All calls raise Closed after `close`, and OutOfRange if an argument is out of its range.
     """
@@ -157,7 +157,7 @@ class Heap:
             self._close()
 
     def mutator(self, number: int) -> Mutator:
-        """Returns the mutator of this number, counted from 0."""
+        """Returns the mutator with this number, counted from 0."""
         if not 0 <= number < self.counts().mutators:
             raise OutOfRange("there is no mutator %d" % number)
         return Mutator(self, number)
@@ -193,11 +193,11 @@ class Heap:
         return self._step("drop")
 
     def work(self, most: int) -> Work:
-        """Makes useful steps, at most `most`, which is not 0.
+        """Performs at most `most` useful steps; `most` is not 0.
 
-        The useful step begins a collection if none is open; else it is the first of roots, scan and apply with something left to
-        do, and at last the flip. Work ends after a flip, and after a step for which there is no room. If an allocation fails,
-        it ends before that step, and raises OutOfMemory only if that was the first one.
+        The useful step begins a collection if none is open. Otherwise it is the first of roots, scan and apply with something
+        left to do, and the flip if none of them has. The call ends after a flip, and after a step that finds no room. If an
+        allocation fails, it ends before that step; it raises OutOfMemory only if that was the first step.
         """
         work = library.Work()
         self._call("work", most, work)
@@ -218,7 +218,7 @@ class Heap:
         return length.value
 
     def log_entry(self, mutator: int, number: int) -> LogEntry:
-        """Reads an entry of a mutator's log, the oldest being entry 0."""
+        """Reads an entry of a mutator's log. Entry 0 is the oldest."""
         entry = library.LogEntry()
         self._call("log_entry", mutator, number, entry)
         return LogEntry(entry.object, entry.field)
@@ -242,13 +242,13 @@ class Heap:
         return _step_of(self._call(name, *numbers))
 
     def _call(self, name: str, *arguments: Any) -> Answer:
-        """Makes a call and returns its reply. Raises what a refusal tells."""
+        """Makes a call and returns its reply. Raises the exception for a refusal."""
         check_ranges(tuple(argument for argument in arguments if isinstance(argument, int)), HEAP[name])
         with self._lock:
             return self._made(name, *arguments)
 
     def _made(self, name: str, *arguments: Any) -> Answer:
-        """Does the same where the arguments are in range and the lock is held."""
+        """Does the same if the arguments are in range and the lock is held."""
         answer = Answer(getattr(LIBRARY, "gcflip_heap_" + name)(self._handle, *arguments))
         if answer in NOTHING_DONE:
             raise NOTHING_DONE[answer](name)
@@ -257,14 +257,14 @@ class Heap:
         return answer
 
     def _new_from(self, mutator: int, slot: int, kind: int, sources: Sequence[int]) -> None:
-        """Makes an object that takes its fields from slots."""
+        """Makes an object whose fields take the values of slots."""
         check_ranges((mutator, slot, kind, *sources), (MUTATOR, SLOT, ctypes.c_uint8, *[SLOT] * len(sources)))
         numbers = (ctypes.c_uint8 * max(1, len(sources)))(*sources)
         with self._lock:
             self._made("new_from", mutator, slot, kind, numbers, len(sources))
 
     def _get(self, mutator: int, slot: int, source: int, field: int) -> Value:
-        """Gets a field into a slot, and looks at it before another thread can change it."""
+        """Reads a field into a slot, and looks at the slot before another thread can change it."""
         check_ranges((mutator, slot, source, field), HEAP["get"])
         number, view = ctypes.c_uint64(), library.View()
         with self._lock:
@@ -280,19 +280,19 @@ def _zeros(count: int) -> array.array:
 
 
 class Mutator:
-    """A client of a heap, with sixteen slots of its own (`own`) beside the shared ones (`shared`). Slots are the roots."""
+    """A client of a heap, with sixteen slots of its own (`own`) in addition to the shared ones (`shared`). Slots are the roots."""
 
     def __init__(self, heap: Heap, number: int) -> None:
         self.heap = heap
         self.number = number
 
     def new(self, slot: int, kind: int, length: int) -> None:
-        """Makes an object of a kind, 0 to 255, with so many fields, at most 65535, all nil, and puts a reference to it into the
-        slot. It takes length + 2 words. Raises Full."""
+        """Makes an object of a kind, 0 to 255, with `length` fields, at most 65535, all nil, and puts a reference to it into the
+        slot. The object takes length + 2 words. Raises Full."""
         self._call("new", slot, kind, length)
 
     def raw(self, slot: int, kind: int, length: int) -> None:
-        """Makes an object whose fields are plain numbers, all 0, like `new`."""
+        """Makes a raw object, whose fields are plain numbers, all 0. Otherwise like `new`."""
         self._call("raw", slot, kind, length)
 
     def num(self, slot: int, number: int) -> None:
@@ -308,8 +308,7 @@ class Mutator:
         self._call("move", slot, source)
 
     def get(self, slot: int, source: int, field: int) -> Value:
-        """Reads a field of the object that slot `source` refers to into the slot, and returns what is seen of it. Raises NoObject and
-        NoField."""
+        """Reads a field of the object that slot `source` refers to into the slot, and returns its value. Raises NoObject and NoField."""
         return self.heap._get(self.number, slot, source, field)
 
     def put(self, slot: int, field: int, source: int) -> None:
@@ -318,18 +317,18 @@ class Mutator:
         self._call("put", slot, field, source)
 
     def put_number(self, slot: int, field: int, source: int, number: int) -> None:
-        """Puts a number below 2^63 into slot `source`, and then writes it into a field like `put`. If that raises OutOfMemory, it did
-        neither."""
+        """Puts a number below 2^63 into slot `source`, and then writes it into a field like `put`. If the call raises NoObject or NoField,
+        slot `source` has the number; if it raises OutOfMemory, nothing changed."""
         self._call("put_number", slot, field, source, number)
 
     def cons(self, slot: int, kind: int, first: int, second: int) -> None:
-        """Makes an object of two fields, which take the values of two slots, and puts a reference to it into the slot: what `new` and two
-        `put` do one after the other. A field that is given from the slot itself refers to the object. Raises Full, and OutOfMemory while
-        a collection is open; then it did nothing."""
+        """Makes an object with two fields, which take the values of two slots, and puts a reference to it into the slot: a `new` and two
+        `put`. If `first` or `second` is the slot itself, that field refers to the new object. Raises Full, and OutOfMemory while a
+        collection is open; then nothing changed."""
         self._call("cons", slot, kind, first, second)
 
     def new_from(self, slot: int, kind: int, sources: Sequence[int]) -> None:
-        """Makes an object with a field for each of these slots, at most 65535, which takes the slot's value, like `cons`."""
+        """Makes an object with a field for each of these slots, at most 65535, as `cons` does for two. Each field takes its slot's value."""
         self.heap._new_from(self.number, slot, kind, sources)
 
     def same(self, first: int, second: int) -> bool:
@@ -337,7 +336,7 @@ class Mutator:
         return self._call("same", first, second) == Answer.SAME
 
     def look(self, slot: int) -> Value:
-        """Returns what is seen of the slot's value."""
+        """Returns the slot's value."""
         view = library.View()
         return _seen(self._call("look", slot, view), view)
 

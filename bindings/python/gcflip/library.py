@@ -1,4 +1,4 @@
-"""The shared library: where it is, its calls, and its structs."""
+"""Finds the shared library, and declares its structs and calls."""
 from __future__ import annotations
 
 import ctypes
@@ -27,7 +27,7 @@ class Work(ctypes.Structure):
 
 
 class Answer(enum.IntEnum):
-    """The numbers that calls on a heap return, as gcflip_heap.h has them. From 1 to 15 nothing was done."""
+    """The numbers that calls on a heap return, as in gcflip_heap.h. With 1 to 15 the call did nothing."""
 
     DONE = 0
     NO_MEMORY = 1
@@ -117,7 +117,7 @@ def declare(library: ctypes.CDLL, name: str, arguments: list[Any]) -> None:
 
 
 def opened() -> ctypes.CDLL:
-    """Loads the file that the environment variable GCFLIP_LIBRARY names, or libgcflip.so by the linker's search. Raises OSError."""
+    """Loads the file that the environment variable GCFLIP_LIBRARY names, or libgcflip.so, which the loader finds. Raises OSError."""
     try:
         library = ctypes.CDLL(os.environ.get("GCFLIP_LIBRARY") or "libgcflip.so")
     except OSError as error:
@@ -133,7 +133,7 @@ LIBRARY = opened()
 
 
 def check_ranges(values: tuple[int, ...], types: list[Any]) -> None:
-    """Raises OutOfRange unless each number fits its type. ctypes would cut it off."""
+    """Raises OutOfRange unless each number fits its type. ctypes would truncate it."""
     for value, kind in zip(values, types):
         if not 0 <= value < 1 << 8 * ctypes.sizeof(kind):
             raise OutOfRange("%d is negative or has more than %d bits" % (value, 8 * ctypes.sizeof(kind)))

@@ -1,4 +1,4 @@
-"""Lays out a scene of large heaps: each space as rows of blocks, in which neighbours of one sort are one block."""
+"""Lays out a scene of large heaps: each space as rows of blocks. Neighbouring blocks of one sort are joined."""
 from typing import NamedTuple
 
 from .picture import MARGIN, Picture
@@ -8,12 +8,12 @@ from .words_picture import LINES, ROOT_X, draw_caption
 BLOCK, ROW = 8, 10
 MOST_LINES = 64
 BETWEEN = 90
-# If a block has as many words of several sorts, the first of these wins.
+# If several sorts tie for the most words of a block, the first one in this list wins.
 SORTS = ["unknown", "object", "raw", "garbage", "reserved", "free"]
 
 
 class Blocks(NamedTuple):
-    """How many blocks a row has, how many rows a space has at most, and whether rows that are wholly free are drawn."""
+    """The blocks in a row, the most rows of a space, and whether entirely free rows are drawn."""
 
     columns: int = 110
     rows: int = 48
@@ -24,12 +24,12 @@ class Blocks(NamedTuple):
 
 
 def blocks_of(width):
-    """Returns the blocks for a picture of this width, in which both spaces stand on one screen."""
+    """Returns the grid for a picture of this width, with which both spaces fit on one screen."""
     return Blocks(max(30, min(160, (width - 2 * ROOT_X) // BLOCK)), 20, True)
 
 
 class Side:
-    """A space in the picture, with the sort of each of its blocks of words."""
+    """A space in the picture, with the sort of each of its blocks."""
 
     def __init__(self, space, is_old, top, blocks, scale):
         self.space, self.is_old, self.top, self.blocks, self.scale = space, is_old, top, blocks, scale
@@ -47,13 +47,13 @@ class Side:
         return sorts
 
     def sorts_of_blocks(self):
-        """Returns the sort that most words of each block have."""
+        """Returns the most frequent sort of word in each block."""
         sorts = self.sorts_of_words()
         parts = [sorts[at:at + self.scale] for at in range(0, len(sorts), self.scale)]
         return [part[0] if part.count(part[0]) == len(part) else max(SORTS, key=part.count) for part in parts]
 
     def place(self, address):
-        """Returns the middle of an address's block."""
+        """Returns the middle of the block that has an address."""
         block = address // self.scale
         columns = self.blocks.columns
         return ROOT_X + (block % columns + 0.5) * BLOCK, self.top + (block // columns + 0.5) * ROW
@@ -62,7 +62,7 @@ class Side:
         return self.rows * ROW
 
     def runs(self):
-        """Yields the neighbours of one sort within a row: first block, number of blocks, sort."""
+        """Yields the runs of blocks of one sort within a row: first block, number of blocks, sort."""
         at, columns = 0, self.blocks.columns
         while at < len(self.sorts):
             end, row_end = at + 1, (at // columns + 1) * columns
@@ -86,7 +86,7 @@ def heading(space):
 
 
 def draw_joined(picture, sides, scene):
-    """Draws as many lines between objects that belong together as stay readable, at even distances. Returns the legend's words for them."""
+    """Draws lines between objects that belong together, evenly spaced and as many as stay readable. Returns their entry in the legend."""
     step = max(1, -(-len(scene.joined) // MOST_LINES))
     for old, new in scene.joined[::step]:
         if old < len(scene.old.words) and new < len(scene.new.words):
@@ -95,7 +95,7 @@ def draw_joined(picture, sides, scene):
 
 
 def draw_faults(picture, sides, scene):
-    """Marks the blocks that the refused words are in, and the pair that is refused."""
+    """Marks the blocks with the refused words, and the pair that is refused."""
     places = []
     for mark in scene.marks_of("fault"):
         side = sides[0 if mark.is_old else 1]
@@ -122,7 +122,7 @@ def draw_scan(picture, side, scan):
 
 
 def draw_legend(picture, scene, y, scale, lines, right):
-    """Draws a sample of each role with its name, in as many lines as they need. Returns the base of the last line."""
+    """Draws a sample of each role with its name, in as many lines as needed. Returns the base of the last line."""
     x = ROOT_X
     words = "a block is %s wide" % ("one word" if scale == 1 else "%d words" % scale)
     for role, name in [item for item in scene.legend if item[0] not in ("root", "changed")] + [("", words)]:
@@ -141,7 +141,7 @@ def draw_legend(picture, scene, y, scale, lines, right):
 
 
 def drawn_in_blocks(scene, blocks=Blocks()):
-    """Returns the picture of a scene that has too many words to draw one by one."""
+    """Returns the picture of a scene with too many words to draw one by one."""
     picture, width = Picture(scene.title), ROOT_X * 2 + blocks.width()
     words = [space.size if blocks.is_whole else len(space.words) for space, _ in scene.spaces()]
     scale = max(1, -(-max(words) // (blocks.columns * blocks.rows)))

@@ -1,4 +1,4 @@
-"""What the picture of a heap shows while a trace is played: its space, and the new space of an open collection with links, scan pointer
+"""Describes the picture of a heap while a trace is played: its space, and the new space of an open collection with links, scan pointer
 and log entries."""
 from typing import NamedTuple
 
@@ -11,23 +11,23 @@ LEGEND_OF_A_COLLECTION = [("logged", "field of a log entry"), ("scan", "scan poi
 
 
 class State(NamedTuple):
-    """What is drawn of a heap. All addresses are those of the library."""
+    """The state of a heap that is drawn. All addresses are the library's."""
 
     old: Image
     new: "Image | None"
     """The new space of an open collection. Its roots are those that a flip would make."""
     scan: "tuple[int, int]"
-    """The replica at the scan pointer, and how many of its fields are scanned."""
+    """The replica at the scan pointer, and the number of its fields that are scanned."""
     logs: "list[list[tuple[int, int]]]"
     """The object and the field of each entry of each mutator's log."""
     is_ready: bool
-    """Whether a flip would be checked now."""
+    """Whether the collection is ready, so that the checker would be asked now."""
     changed: "tuple[Changed, ...]"
     """What the last event changed."""
 
 
 class Changed(NamedTuple):
-    """A word of the old space or of the new one that the last event changed, or a root word. `row` is words or roots."""
+    """A word of the old or new space, or a root word, that the last event changed. `row` is words or roots."""
 
     is_old: bool
     row: str
@@ -56,7 +56,7 @@ def logged(state, places):
 
 
 def scan_of(state, objects):
-    """Returns the place of the scan pointer: in front of the next field, or behind an object whose fields are all scanned."""
+    """Returns the place of the scan pointer: before the next field, or after an object whose fields are all scanned."""
     start, field = state.scan
     if start not in objects:
         return Scan(len(state.new.words) - 1, True)
@@ -65,7 +65,7 @@ def scan_of(state, objects):
 
 
 def scene_of(state, title):
-    """Returns what is drawn of a state."""
+    """Returns the scene of a state."""
     if state.new is None:
         scene = Scene(title, Space("space", state.old))
     else:

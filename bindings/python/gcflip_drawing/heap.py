@@ -1,4 +1,4 @@
-"""What the words of a heap image mean."""
+"""Decodes the words of a heap image."""
 
 PLAIN, RAW, HEADERS = 16777216, 50331648, 16777216
 
@@ -14,7 +14,7 @@ class Object:
 
 
 def header_of(word, raws):
-    """Returns whether a header word is raw, its kind and its length, or None if the word is no header."""
+    """Returns whether a header word is raw, its kind and its length, or None if the word is not a header."""
     for least, raw in ((PLAIN, False), (RAW, True)):
         if least <= word < least + HEADERS and (raws or not raw):
             return raw, (word - least) // 65536, (word - least) % 65536
@@ -22,7 +22,7 @@ def header_of(word, raws):
 
 
 def walk(words, raws):
-    """Returns the objects of a space by their starts, up to the first word that is no header or whose object runs past the end."""
+    """Returns the objects of a space by their starts, up to the first word that is not a header or whose object runs past the end."""
     found, at = {}, 1
     while at < len(words):
         header = header_of(words[at], raws)
@@ -40,7 +40,7 @@ def target(word):
 
 
 def shown(word):
-    """Returns what a field or root word means."""
+    """Returns the meaning of a field or root word."""
     if word == 0:
         return "nil"
     if word % 2 == 1:
@@ -49,7 +49,7 @@ def shown(word):
 
 
 def references(thing):
-    """Returns the field numbers of an object that hold references, with the addresses."""
+    """Returns the numbers of an object's fields that hold references, with the addresses."""
     if thing.raw:
         return []
     return [(i, target(word)) for i, word in enumerate(thing.fields) if target(word) is not None]

@@ -1,4 +1,4 @@
-"""What the picture of a pair text shows: both heaps, the pairs of the certificate, and the place that the checker refuses."""
+"""Describes the picture of a pair text: both heaps, the pairs of the certificate, and the place that the checker refuses."""
 from . import scene_picture
 from .scene import Mark, Scene, Space
 
@@ -7,7 +7,7 @@ LEGEND = [("object", "reachable"), ("raw", "raw"), ("garbage", "unreachable"), (
 
 
 def faults(scene, pairs, verdict):
-    """Yields marks of what the checker refused: an object, one of its fields, or a word."""
+    """Yields marks for what the checker refused: an object, one of its fields, or a word."""
     for space, is_old in scene.spaces():
         address = verdict.address(is_old, pairs)
         if address is None:
@@ -21,7 +21,7 @@ def faults(scene, pairs, verdict):
 
 
 def scene_of(text, title, verdict):
-    """Returns what is drawn of a pair text. `verdict` is the checker's, or None if it was not asked."""
+    """Returns the scene of a pair text. `verdict` is the checker's, or None if it was not asked."""
     scene = Scene(title, Space("old space", text.old, text.raws), Space("new space", text.new, text.raws), text.pairs)
     scene.legend, scene.caption = LEGEND, ("not checked", "label")
     if verdict:

@@ -1,4 +1,4 @@
-"""Reads and writes pair texts, as far as a picture needs them. Only `gcflip check` and the library decide what a pair text is."""
+"""Reads and writes pair texts as far as pictures need it. Only `gcflip check` and the library decide what a pair text is."""
 import re
 
 NUMBER = re.compile(r"0|[1-9][0-9]{0,19}")
@@ -6,7 +6,7 @@ MOST_WORDS = 1048576
 
 
 class Unreadable(Exception):
-    """Why there is no picture of a text."""
+    """The reason why a text has no picture."""
 
 
 class Image:
@@ -42,7 +42,7 @@ class Lines:
         return self.lines[self.at - 1]
 
     def numbers(self, form, wanted):
-        """Returns the numbers of the next line, which has to look like the form, with a '#' for each number."""
+        """Returns the numbers of the next line, which has to match the form, with a '#' for each number."""
         words, forms = self.next(wanted).split(" "), form.split(" ")
         if len(words) != len(forms) or any(not NUMBER.fullmatch(word) if form == "#" else word != form for word, form in zip(words, forms)):
             self.fail("%s, as '%s'" % (wanted, " ".join(forms)))

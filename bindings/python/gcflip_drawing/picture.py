@@ -1,6 +1,6 @@
-"""A picture as plain data: its title, its size, and shapes with roles. A renderer decides what a role looks like.
+"""A picture as plain data: its title, its size, and shapes with roles. A renderer decides what each role looks like.
 
-Each shape has a kind and a role, and what its kind needs. Coordinates are pixels from the upper left corner.
+Each shape has a kind and a role, and the members of its kind. Coordinates are pixels from the upper left corner.
 
     box     x, y, width, height; text, shown in its middle; tip, shown when pointed at
     text    x, y of its base line; text; anchor, which is start, middle or end; turned, if it is read upwards
@@ -10,16 +10,16 @@ Each shape has a kind and a role, and what its kind needs. Coordinates are pixel
 """
 
 
-# The heights of texts by their roles, in pixels. A letter is about six tenths as wide as high.
+# The heights of texts by their roles, in pixels. A letter's width is about six tenths of its height.
 TEXT_SIZES = {"title": 15, "label": 12, "small": 10, "value": 11, "verdict": 13, "refusal": 13}
 BOLD = ("title", "verdict", "refusal")
 LINE_HEIGHT = 16
-# The least distance of a text from the right side.
+# The smallest distance of a text from the right side.
 MARGIN = 12
 
 
 def text_width(text, role):
-    """Returns about how wide a text is."""
+    """Returns the approximate width of a text."""
     return len(text) * TEXT_SIZES[role] * (0.66 if role in BOLD else 0.6)
 
 
@@ -63,7 +63,7 @@ class Picture:
         self.shapes.append({"kind": kind, "role": role, **rest})
 
     def sized(self, width, height):
-        """Sets the size, with a greater width if a text needs it, and returns the picture."""
+        """Sets the size, wider if a text needs it, and returns the picture."""
         ends = [shape["x"] + text_width(shape["text"], shape["role"]) + MARGIN for shape in self.shapes
                 if shape["kind"] == "text" and shape["anchor"] == "start" and not shape["turned"]]
         self.width, self.height = max([width] + ends), height

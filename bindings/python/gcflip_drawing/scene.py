@@ -1,4 +1,4 @@
-"""What a picture of a heap shows: one space or two, which objects belong together, and what is marked."""
+"""A scene, which a picture of a heap shows: one or two spaces, which objects belong together, and marks."""
 from typing import NamedTuple
 
 from .heap import reachable, walk
@@ -24,13 +24,13 @@ def counted(count, name):
 
 
 def objects_of(space):
-    """Returns how many objects a space has, in words."""
+    """Returns the number of objects of a space, as a text."""
     unreachable = space.unreachable()
     return counted(len(space.objects), "object") + (", %d of them unreachable" % unreachable if unreachable else "")
 
 
 class Mark(NamedTuple):
-    """Words of a space that are marked. `role` says what for."""
+    """A mark on words of a space. `role` says what it means."""
 
     is_old: bool
     address: int
@@ -40,21 +40,21 @@ class Mark(NamedTuple):
 
 
 class Scan(NamedTuple):
-    """The place of the scan pointer: in front of a word of the new space, or behind it."""
+    """The place of the scan pointer: before a word of the new space, or after it."""
 
     address: int
     is_behind: bool
 
 
 class Scene:
-    """What is drawn. `new` is None if there is one space. `joined` has pairs of an old address and a new one, which get lines of the role
-    `joined_as`. `scan` is a Scan, or None."""
+    """One or two spaces with marks. `new` is None if there is one space. `joined` has pairs of an old and a new address, which get
+    lines of the role `joined_as`. `scan` is a Scan, or None."""
 
     def __init__(self, title, old, new=None, joined=(), joined_as="pair"):
         self.title, self.old, self.new, self.joined, self.joined_as = title, old, new, joined, joined_as
         self.caption, self.legend = None, []
         self.marks, self.scan = [], None
-        # Whether they belong to the old space, and their places.
+        # For each root: whether it belongs to the old space, and its place.
         self.changed_roots = set()
         # The place of the root that the checker names.
         self.root = None
@@ -67,7 +67,7 @@ class Scene:
             self.marks.append(Mark(is_old, address, 1, "changed"))
 
     def spaces(self):
-        """Returns the spaces that there are, each with whether it is the old one."""
+        """Returns the one or two spaces, each with whether it is the old one."""
         return [(self.old, True)] + ([] if self.new is None else [(self.new, False)])
 
     def marks_of(self, role):

@@ -13,6 +13,6 @@ def drawn(scene, grid=Grid(), blocks=Blocks()):
 
 
 def drawn_in_width(scene, width):
-    """Returns the picture of a scene, about as wide as `width`. Spaces are drawn to their ends, unless few of very many words are in use."""
+    """Returns the picture of a scene, about as wide as `width`. Draws spaces to their ends, unless few of very many words are in use."""
     is_small = max(space.size for space, _ in scene.spaces()) <= MOST_WORDS
     return drawn(scene, grid_of(width, is_small), blocks_of(width))

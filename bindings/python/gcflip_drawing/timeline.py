@@ -13,13 +13,13 @@ MARKS = {"dropped": "drop", "full": "full", "no room": "no-room"}
 
 
 class Measure(NamedTuple):
-    """What an event left."""
+    """The state after an event."""
 
     reply: str
     size: int
     """The words of the mutators' space."""
     used: int
-    """Those up to its end."""
+    """Its words in use, up to its end."""
     copied: int
     """The words up to the end of an open collection's new space, or 0."""
     is_open: bool
@@ -28,7 +28,7 @@ class Measure(NamedTuple):
 
 
 class Frame(NamedTuple):
-    """How large the chart is, and whether it has its title and the lines of events."""
+    """The size of the chart, and whether it has its title and the lines of events."""
 
     width: int = 860
     height: int = 190
@@ -39,8 +39,8 @@ class Frame(NamedTuple):
 
 
 class Column:
-    """What the events of one column of the picture leave: the size of the space, the most words, the most entries of each
-    log, and which marks there were."""
+    """A summary of the events in one column of the picture: the size of the space, the most words, the most entries of each log,
+    and the marks."""
 
     def __init__(self, mutators):
         self.size, self.used, self.copied, self.is_open, self.marks = 0, 0, 0, False, set()
@@ -57,13 +57,13 @@ class Column:
 
 
 def mark_of(reply):
-    """Returns the mark that a reply gets, or None."""
+    """Returns the mark for a reply, or None."""
     return "flip" if reply.startswith("flipped") else MARKS.get(reply)
 
 
 class Run:
-    """A trace of `count` events, of which the first ones were played, with a measure for each of these: its columns, its replies if
-    they are few, and the count of each mark."""
+    """A trace of `count` events. The first ones were played and have a measure each. Has the columns of the chart, the replies if
+    there are few, and the count of each mark."""
 
     def __init__(self, mutators, count, measures, frame=Frame()):
         self.frame, self.columns, self.replies = frame, [], []
@@ -91,7 +91,7 @@ class Run:
         return LEFT + self.frame.width
 
     def most_words(self):
-        """Returns the words that the chart has room for: the whole space, unless that would flatten the curves."""
+        """Returns the number of words at the top of the chart: the whole space, unless that would flatten the curves."""
         sizes = max([column.size for column in self.columns] + [1])
         words = max([max(column.used, column.copied) for column in self.columns] + [1])
         return max(sizes, words) if 3 * words >= sizes else words * 5 // 4
@@ -101,8 +101,8 @@ class Run:
         return max([column.size for column in self.columns] + [0]) <= self.most_words()
 
     def logs(self):
-        """Returns the entries of each log by columns, with the log's name. Logs that never have one are left out, and many
-        logs are put together."""
+        """Returns the entries of each log by columns, with the log's name. Leaves out logs that stay empty, and combines many
+        logs."""
         found = [("log %d" % m, list(entries)) for m, entries in enumerate(zip(*[column.entries for column in self.columns]))]
         found = [(name, entries) for name, entries in found if max(entries) > 0]
         if len(found) > MOST_LOGS:
@@ -111,7 +111,7 @@ class Run:
 
 
 def stairs(run, values, height):
-    """Returns the points of a curve that has a value in each column. `height` says where a value stands."""
+    """Returns the points of a curve with a value in each column. `height` gives the position of a value."""
     points = []
     for at, value in enumerate(values):
         points += [(run.x(at), height(value)), (run.x(at + 1), height(value))]
@@ -119,7 +119,7 @@ def stairs(run, values, height):
 
 
 def spans(flags):
-    """Yields the neighbouring columns in which a flag is set, as first column and number of columns."""
+    """Yields the runs of columns in which a flag is set, as first column and number of columns."""
     at = 0
     while at < len(flags):
         end = at
@@ -131,7 +131,7 @@ def spans(flags):
 
 
 def draw_area(picture, run, values, height, floor, role):
-    """Fills the space below a curve, wherever it is above zero."""
+    """Fills the area below a curve where it is above zero."""
     for first, count in spans([value > 0 for value in values]):
         part = stairs(run, values, height)[2 * first:2 * (first + count)]
         picture.area([(part[0][0], floor)] + part + [(part[-1][0], floor)], role)
@@ -167,7 +167,7 @@ def draw_words(picture, run):
 
 
 def draw_marks(picture, run, top):
-    """Draws a lane for each sort of mark that the trace has. Returns its lower end."""
+    """Draws a lane for each sort of mark that the trace has. Returns the lower end."""
     for role, name in LANES:
         if run.counts[role] == 0:
             continue
@@ -215,7 +215,7 @@ LEGEND = [("used", "words in use"), ("copied", "words in the new space"), ("coll
 
 
 def draw_legend(picture, run, y):
-    """Draws a sample of each role with its name, in as many lines as they need. Returns the base of the last line."""
+    """Draws a sample of each role with its name, in as many lines as needed. Returns the base of the last line."""
     x = 24
     for role, name in LEGEND + ([("limit", "size of the space")] if run.shows_size() else []):
         sample = 28 if role == "limit" else 18
@@ -231,13 +231,13 @@ def draw_legend(picture, run, y):
 
 
 def draw_cursor(picture, run, floor):
-    """Draws a line behind the last event that was played."""
+    """Draws a line after the last event that was played."""
     x = run.x(len(run.columns))
     picture.line([(x, run.frame.top()), (x, floor)], "cursor")
 
 
 def drawn(trace, measures, title, frame=Frame()):
-    """Returns the picture of a trace whose first events were played, with a measure for each of these."""
+    """Returns the picture of a trace, from a measure for each event that was played."""
     run = Run(trace.mutators, len(trace.events), measures, frame)
     picture = Picture(title)
     if frame.has_texts:

@@ -1,4 +1,4 @@
-"""Reads trace texts. A text that is no trace gets the line that `gcflip play` prints; docs/FORMATS.md has the grammar."""
+"""Reads trace texts. For a text that is not a trace, the fault is the line that `gcflip play` prints. docs/FORMATS.md has the grammar."""
 import re
 from typing import NamedTuple
 
@@ -13,7 +13,7 @@ SECOND_LINE = re.compile("space (%s) mutators (%s)" % (DECIMAL.pattern, DECIMAL.
 
 
 class BadTrace(Exception):
-    """A text that is no trace. As a text it is the line that `gcflip play` prints; `line` is the faulty line, or None."""
+    """The text is not a trace. The exception's text is the line that `gcflip play` prints; `line` is the faulty line, or None."""
 
     def __init__(self, message, line=None):
         super().__init__(message)
@@ -58,7 +58,7 @@ def size(word):
 mutator, kind, length, field = number_to(MOST_MUTATORS - 1), number_to(255), number_to(65535), number_to(65535)
 number = number_to(9223372036854775807)
 
-# The forms of each command and of each step: the least version that has the form, and the readers of its words.
+# The forms of each command and of each step: the lowest version that has the form, and the readers of its words.
 COMMANDS = {
     "new": [(1, (slot, kind, length))],
     "raw": [(3, (slot, kind, length))],
@@ -97,7 +97,7 @@ def event_of(line, version=3):
 
 
 def version_of(events):
-    """Returns the least version that has all these events."""
+    """Returns the lowest version that has all these events."""
     least = [form[0] for event in events for form in (STEPS if event.mutator is None else COMMANDS)[event.name]
              if len(form[1]) == len(event.numbers)]
     return max(least, default=1)
@@ -117,7 +117,7 @@ def read_trace(data):
     """Returns the trace that these bytes spell. Raises BadTrace."""
     if len(data) > MOST_BYTES:
         raise BadTrace("trace: too large")
-    # Each byte becomes a character, so that a byte of no text is met where it stands.
+    # Each byte becomes a character, so that a byte that is not text is found at its place.
     lines = data.decode("latin-1").split("\n")
     first = FIRST_LINE.fullmatch(lines[0])
     second = SECOND_LINE.fullmatch(lines[1]) if len(lines) > 2 else None
@@ -130,7 +130,7 @@ def read_trace(data):
 
 
 def read_events(lines, version, mutators):
-    """Yields the events of the lines behind the first two. Raises BadTrace."""
+    """Yields the events of the lines after the first two. Raises BadTrace."""
     for at, line in enumerate(lines, 3):
         is_last = at == len(lines) + 2
         if is_last and not line:

@@ -1,4 +1,4 @@
-"""What the checker says of a pair, and which place it names."""
+"""The checker's verdict on a pair, and the place that it names."""
 import re
 
 MEANINGS = {
@@ -16,7 +16,7 @@ MEANINGS = {
 
 
 class Verdict:
-    """The line that the checker wrote, the name of its refusal or None, and the numbers that follow it."""
+    """The line that the checker wrote, the name of the refusal or None, and the numbers after it."""
 
     def __init__(self, line):
         self.line, self.refusal, self.places = line, None, []
@@ -25,7 +25,7 @@ class Verdict:
             self.refusal, self.places = match.group(1), [int(place) for place in match.group(2).split()]
 
     def meaning(self):
-        """Returns the meaning of a refusal in words. A yes needs none."""
+        """Explains a refusal in words. A yes needs no explanation."""
         return MEANINGS[self.refusal] % tuple(self.places) if self.refusal else ""
 
     def caption(self):

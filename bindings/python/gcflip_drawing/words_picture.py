@@ -10,23 +10,23 @@ CELL, HEIGHT = 50, 30
 ROOT_X, ROOT_WIDTH = 24, 96
 GAP = 34
 BETWEEN = 44
-# A row that is wholly free is lower, and nothing is drawn between such rows.
+# An entirely free row is lower, and nothing is drawn between such rows.
 FREE_HEIGHT, FREE_GAP, LABEL_GAP = 10, 4, 16
-# A caption and a legend need as many columns.
+# A caption and a legend need this many columns.
 LEAST_COLUMNS = 11
 MOST_SHOWN_ROOTS = 24
 RIGHT = 24
 LEAST_WIDTH_WITH_ROOTS = 560
-# In a space of more rows, an object has the names of its roots beside its address, and no arrows from them.
+# In a space with more rows, the names of an object's roots are next to its address, and no arrows are drawn from them.
 MOST_ROWS_WITH_ARROWS = 2
 
 
 class Grid(NamedTuple):
-    """How a space is put into rows."""
+    """How a space is laid out in rows."""
 
     columns: int = 16
     has_roots: bool = True
-    """Whether roots stand at the left, with arrows to their targets."""
+    """Whether roots are at the left, with arrows to their targets."""
     is_whole: bool = False
     """Whether all free words are drawn, or only as many as fill the last row."""
 
@@ -35,25 +35,25 @@ class Grid(NamedTuple):
 
 
 def grid_of(width, is_whole=False):
-    """Returns the grid for a picture of about this width. Roots stand at the left where enough columns are left."""
+    """Returns the grid for a picture of about this width. Roots are at the left if enough columns remain."""
     has_roots = width >= LEAST_WIDTH_WITH_ROOTS
     left = Grid(has_roots=has_roots).left()
     return Grid(max(4, min(24, (width - left - RIGHT) // CELL)), has_roots, is_whole)
 
 
 class Side:
-    """A space in the picture: where its words stand."""
+    """A space in the picture, with the positions of its words."""
 
     def __init__(self, space, is_old, top, grid, marks=()):
         self.space, self.is_old, self.top, self.grid = space, is_old, top, grid
         self.rows = max(1, -(-self.drawn_words() // grid.columns))
-        # The rows that have words of objects, if the free ones behind them are drawn lower.
+        # The rows with words of objects, if the free rows after them are drawn lower.
         self.high_rows = max(1, -(-len(space.words) // grid.columns)) if grid.is_whole else self.rows
         self.has_arrows = grid.has_roots and self.high_rows <= MOST_ROWS_WITH_ARROWS
         self.changed = {mark.address + i for mark in marks if mark.is_old == is_old and mark.role == "changed" for i in range(mark.size)}
 
     def label(self, thing):
-        """Returns what stands beside an object: its address, and its roots if there are no arrows from them."""
+        """Returns the label of an object: its address, and its roots if there are no arrows from them."""
         if self.has_arrows:
             return str(thing.start)
         names = [name for name, word in zip(root_names(len(self.space.roots)), self.space.roots) if target(word) == thing.start]
@@ -100,7 +100,7 @@ class Side:
         return -distance if self.is_old else distance
 
     def segments(self, start, size):
-        """Yields the parts of a run of words that stand in one row, as first address and number of words."""
+        """Yields the part of a run of words in each row, as first address and number of words."""
         while size > 0:
             count = min(size, self.grid.columns - start % self.grid.columns)
             yield start, count
@@ -172,7 +172,7 @@ def draw_reference(picture, side, start, end, role):
 
 
 def root_names(count):
-    """Returns the names of the places in a list of roots. They are slots if some number of mutators has as many."""
+    """Returns the names of the places in a list of roots. They are slots if the length fits some number of mutators."""
     if count < 32 or count % 16:
         return ["root %d" % place for place in range(count)]
     shared = ["g%d" % place for place in range(16)]
@@ -225,11 +225,11 @@ def draw_marks(picture, side, scene):
 
 
 def draw_scan(picture, side, scan):
-    """Draws the scan pointer at the border of a word, left of the address that may stand there."""
+    """Draws the scan pointer at the border of a word, left of an address that may be there."""
     x, y = side.place(scan.address)
     x += CELL if scan.is_behind else 0
     picture.area([(x - 13, y - 12), (x - 1, y - 12), (x - 7, y - 1)], "scan")
-    # In front of a row there is no room for a text.
+    # There is no room for a text before a row.
     if x > ROOT_X + CELL / 2:
         picture.text(x - 15, y - 4, "scan", "small", "end")
 
@@ -243,7 +243,7 @@ LINES = ("pair", "link")
 
 
 def draw_legend(picture, legend, y, right):
-    """Draws a sample of each role with its name, in as many lines as they need. Returns the base of the last line."""
+    """Draws a sample of each role with its name, in as many lines as needed. Returns the base of the last line."""
     x = ROOT_X
     for role, name in legend:
         sample = 34 if role in LINES else 18

@@ -1,5 +1,5 @@
 //! Plays traces: reads each SOURCE, performs its lines on a heap, and writes the replies to its TARGET, as `gcflip play` does. Run it with
-//! `cargo run --example play -- SOURCE TARGET ...`. A line that is none ends it with an error.
+//! `cargo run --example play -- SOURCE TARGET ...`. A line that is not an event line ends it with an error.
 
 use gcflip::{Error, Heap, Mutator, Slot, Step, Value};
 use std::error::Error as Fault;
@@ -7,7 +7,7 @@ use std::fmt::Write;
 
 type Played<T> = Result<T, Box<dyn Fault>>;
 
-/// The tokens of a line that are left.
+/// The remaining tokens of a line.
 struct Tokens<'a>(std::str::SplitWhitespace<'a>);
 
 impl<'a> Tokens<'a> {
@@ -22,7 +22,7 @@ impl<'a> Tokens<'a> {
         Ok(self.word()?.parse()?)
     }
 
-    /// Reads a slot, as `r3` or `g0`.
+    /// Reads a slot, such as `r3` or `g0`.
     fn slot(&mut self) -> Played<Slot> {
         let word = self.word()?;
         let number = word.get(1..).ok_or("a slot is missing")?.parse()?;
@@ -52,7 +52,7 @@ fn stepped(step: Step) -> String {
     }
 }
 
-/// Returns the reply, or the refusal as one. Other errors end the play.
+/// Returns the reply. A refusal is a reply too; other errors end the play.
 fn reply(result: gcflip::Result<String>) -> Played<String> {
     match result {
         Ok(reply) => Ok(reply),

@@ -1,4 +1,4 @@
-//! The checker: whether a heap image may take the place of another one.
+//! The checker, which decides whether one heap image may replace another.
 
 use crate::sys::{self, Pair, RawImage, RawVerdict};
 use std::fmt;
@@ -12,13 +12,13 @@ pub struct Image<'a> {
     pub words: &'a [u64],
     /// The root words.
     pub roots: &'a [u64],
-    /// Whether header words of raw objects count.
+    /// Whether header words of raw objects are valid.
     pub raws: bool,
 }
 
 impl Image<'_> {
     fn raw(&self) -> RawImage<'_> {
-        // No space has as many words as the greatest number here, so an image with more is refused.
+        // No space has u32::MAX words, so the check refuses an image with that many or more.
         let end = u32::try_from(self.words.len()).unwrap_or(u32::MAX);
         RawImage { size: self.size, end, raws: self.raws, words: self.words, roots: self.roots }
     }
@@ -33,16 +33,16 @@ pub struct Yes {
 
 /// Why a check did not return a yes. A runtime must not flip then.
 ///
-/// The first ten are the conditions of a certificate, in the order in which they are checked, and a refusal is the first one that fails. Pairs,
-/// fields and roots are counted from 0. As a text they are the lines that `gcflip check` prints.
+/// The first ten are the conditions of a certificate, in the order in which they are checked, and a refusal names the first one that fails.
+/// Pairs, fields and roots are counted from 0. Each of the ten displays as the line that `gcflip check` prints.
 #[derive(Clone, Copy, Debug, PartialEq, Eq, Hash)]
 pub enum Refusal {
-    /// No object starts at this address of the old image, and one has to; or the address is 0.
+    /// No valid object starts at this address of the old image although one has to, or the address is 0.
     OldShape {
         /// The address.
         address: u64,
     },
-    /// The same of the new image.
+    /// The same for the new image.
     NewShape {
         /// The address.
         address: u64,
@@ -116,7 +116,7 @@ impl std::error::Error for Refusal {}
 /// Why the check of a text did not return a yes.
 #[derive(Clone, Copy, Debug, PartialEq, Eq, Hash)]
 pub enum TextRefusal {
-    /// The text spells a pair of images, and their check was refused.
+    /// The text spells a pair of images, and the checker refused it.
     Refused(Refusal),
     /// This line, counted from 1, is the first bad one.
     BadLine(u64),
@@ -141,11 +141,13 @@ impl std::error::Error for TextRefusal {}
 
 /// Checks a certificate against two images. Makes no assumption about the images or who produced them.
 ///
-/// If it returns a [`Yes`], it is proved that every object that the old roots reach has exactly one replica, which is no other such object's
-/// replica and is equal to it field by field; that every path finds the same in both heaps; and that every list of commands gets the same
-/// replies from both, up to the first allocation for which one of them has no room.
+/// If it returns a [`Yes`], it is proved that
 ///
-/// Allocates 4 bytes for each word of the old image and one for each word of either, and frees them before it returns.
+/// - every object that the old roots reach has exactly one replica, equal to it field by field, and no two of these objects share a replica;
+/// - every path from a root finds the same in both heaps;
+/// - every list of commands gets the same replies from both heaps, up to the first allocation for which one of them has no room.
+///
+/// Allocates 5 bytes for each word of the old image and 1 byte for each word of the new one, and frees them before it returns.
 ///
 /// # Errors
 ///
@@ -153,7 +155,7 @@ impl std::error::Error for TextRefusal {}
 ///
 /// # Examples
 ///
-/// A field that was not brought up to date: the replica at 1 has nil where the original at 1 has the number 9, which is word 19.
+/// The replica's field was not brought up to date: it has nil, but the original's field has the number 9, which is word 19.
 ///
 /// ```
 /// use gcflip::{check, Image, Pair, Refusal};
@@ -168,11 +170,11 @@ pub fn check(old: &Image, new: &Image, pairs: &[Pair]) -> Result<Yes, Refusal> {
     verdict_of(answer, &verdict)
 }
 
-/// Checks the pair of images that a text spells, in the format `heappair 1` or `heappair 2`. The text is read in place.
+/// Checks the pair of images in a text of the format `heappair 1` or `heappair 2`. Reads the text in place.
 ///
 /// # Errors
 ///
-/// Returns what is wrong with the text, or what [`check`] returns.
+/// Returns the fault of the text, or the error of [`check`].
 ///
 /// # Examples
 ///

@@ -6,10 +6,10 @@ use std::fmt;
 
 const SLOTS: u8 = 16;
 
-/// What calls on a heap return.
+/// The result of a call on a heap.
 pub type Result<T, E = Error> = std::result::Result<T, E>;
 
-/// Why a call on a heap did nothing. The heap is as it was before the call.
+/// Why a call on a heap failed. The heap is then unchanged, except after [`Mutator::put_number`] and [`Heap::collect`], as they say.
 #[derive(Clone, Copy, Debug, PartialEq, Eq, Hash)]
 pub enum Error {
     /// An allocation failed. The call can be retried.
@@ -22,7 +22,7 @@ pub enum Error {
     NoObject,
     /// The object has no such field.
     NoField,
-    /// The object is raw and the value no number.
+    /// The object is raw and the value is not a number.
     NoNumber,
     /// A collection is open already.
     Busy,
@@ -70,7 +70,7 @@ impl std::error::Error for Error {}
 pub struct Slot(u8);
 
 impl Slot {
-    /// Returns the slot of this number, 0 to 15, that each mutator has for itself.
+    /// Returns the mutator's own slot with this number, 0 to 15.
     ///
     /// # Panics
     ///
@@ -80,7 +80,7 @@ impl Slot {
         Slot(number)
     }
 
-    /// Returns the slot of this number, 0 to 15, that all mutators share.
+    /// Returns the shared slot with this number, 0 to 15.
     ///
     /// # Panics
     ///
@@ -98,7 +98,7 @@ impl fmt::Display for Slot {
     }
 }
 
-/// What is seen of a value. No call shows an address.
+/// A value as mutators see it: without addresses.
 #[derive(Clone, Copy, Debug, PartialEq, Eq, Hash)]
 pub enum Value {
     /// Nil.
@@ -136,7 +136,7 @@ pub enum Step {
     Scanned,
     /// One log entry was applied.
     Applied,
-    /// Mutators go on in the new space.
+    /// Mutators continue in the new space.
     Flipped {
         /// The number of pairs.
         pairs: u32,
@@ -148,9 +148,9 @@ pub enum Step {
 /// What [`Heap::work`] did.
 #[derive(Clone, Copy, Debug, PartialEq, Eq, Hash)]
 pub struct Work {
-    /// How many steps were made, at least 1.
+    /// The number of steps performed, at least 1.
     pub steps: u32,
-    /// How many words replicas took in the new space.
+    /// The number of words that replicas took in the new space during these steps.
     pub copied: u32,
     /// What the last step did.
     pub last: Step,
@@ -175,7 +175,7 @@ pub struct Counts {
     pub new_end: u32,
     /// The address of the replica at the scan pointer, or `new_end`.
     pub scan_place: u32,
-    /// How many of its fields are scanned.
+    /// The number of its fields that are scanned.
     pub scan_field: u32,
 }
 
@@ -197,9 +197,9 @@ impl OwnedImage {
     }
 }
 
-/// A collected heap. Each call returns an error if it did nothing; the heap is then as it was.
+/// A collected heap. [`Error`] says what a failed call leaves.
 ///
-/// A heap may move between threads, and one thread at a time uses it: it is `Send` and not `Sync`. Put it into a `Mutex` to share it.
+/// A heap may move between threads, but only one thread at a time may use it: it is `Send` but not `Sync`. Put it into a `Mutex` to share it.
 ///
 /// ```
 /// fn moves<T: Send>() {}
@@ -232,7 +232,7 @@ impl Heap {
         done(answer, Heap { handle, mutators })
     }
 
-    /// Returns the mutator of this number, counted from 0.
+    /// Returns the mutator with this number, counted from 0.
     ///
     /// # Errors
     ///
@@ -302,7 +302,7 @@ impl Heap {
         replied(answer).map(|_| pairs)
     }
 
-    /// Gives the open collection up: frees the new space and the logs.
+    /// Ends the open collection without a flip: frees the new space and the logs.
     ///
     /// # Errors
     ///
@@ -311,10 +311,10 @@ impl Heap {
         replied(self.handle.give_up()).map(drop)
     }
 
-    /// Makes useful steps, at most `most`.
+    /// Performs at most `most` useful steps.
     ///
-    /// The useful step begins a collection if none is open; else it is the first of roots, scan and apply with something left to do, and at last
-    /// the flip. Work ends after a flip, and after a step for which there is no room. If an allocation fails, it ends before that step.
+    /// The useful step begins a collection if none is open. Otherwise it is the first of roots, scan and apply with something left to do, and the
+    /// flip if none of them has. The call ends after a flip, and after a step that finds no room. If an allocation fails, it ends before that step.
     ///
     /// # Errors
     ///
@@ -325,11 +325,11 @@ impl Heap {
         Ok(Work { steps: work.steps, copied: work.copied, last: step_of(work.last, work.pairs) })
     }
 
-    /// Collects the garbage: finishes the open collection, or makes a whole one, and returns the number of pairs of its flip.
+    /// Collects garbage: finishes the open collection, or performs a whole one, and returns the number of pairs of its flip.
     ///
     /// # Errors
     ///
-    /// Returns `NoRoom` if the open collection has a new space that is too small, or `NoMemory`.
+    /// Returns `NoRoom` if the new space of the open collection is too small, or `NoMemory`. The steps before the failure stay done.
     pub fn collect(&self) -> Result<u32> {
         loop {
             match self.work(u32::MAX)?.last {
@@ -368,7 +368,7 @@ impl Heap {
         done(answer, length)
     }
 
-    /// Reads an entry of a mutator's log, the oldest being entry 0.
+    /// Reads an entry of a mutator's log. Entry 0 is the oldest.
     ///
     /// # Errors
     ///
@@ -409,7 +409,7 @@ impl Heap {
     }
 }
 
-/// A client of a heap, with sixteen slots of its own beside the shared ones. Slots are the roots.
+/// A client of a heap, with sixteen slots of its own in addition to the shared ones. Slots are the roots.
 #[derive(Clone, Copy, Debug)]
 pub struct Mutator<'a> {
     heap: &'a Heap,
@@ -417,8 +417,8 @@ pub struct Mutator<'a> {
 }
 
 impl Mutator<'_> {
-    /// Makes an object of this kind with so many fields, all nil, and puts a reference to it into the slot. It takes two words more than it has
-    /// fields.
+    /// Makes an object of this kind with this number of fields, all nil, and puts a reference to it into the slot. The object takes
+    /// `fields` + 2 words.
     ///
     /// # Errors
     ///
@@ -427,7 +427,7 @@ impl Mutator<'_> {
         replied(self.heap.handle.make(self.number, slot.0, kind, fields)).map(drop)
     }
 
-    /// Makes an object whose fields are plain numbers, all 0, like [`Mutator::make`].
+    /// Makes a raw object, whose fields are plain numbers, all 0. Otherwise like [`Mutator::make`].
     ///
     /// # Errors
     ///
@@ -455,7 +455,7 @@ impl Mutator<'_> {
         always(self.heap.handle.copy(self.number, slot.0, source.0));
     }
 
-    /// Reads a field of the object that slot `source` refers to into the slot, and returns what is seen of it.
+    /// Reads a field of the object that slot `source` refers to into the slot, and returns its value.
     ///
     /// # Errors
     ///
@@ -465,7 +465,7 @@ impl Mutator<'_> {
         Ok(match replied(answer)? {
             sys::GCFLIP_NIL => Value::Nil,
             sys::GCFLIP_NUMBER => Value::Number(number),
-            // The library does not read the object that it found.
+            // The library's `get` does not read the object that it finds.
             _ => self.look(slot),
         })
     }
@@ -479,32 +479,31 @@ impl Mutator<'_> {
         replied(self.heap.handle.put(self.number, slot.0, field, source.0)).map(drop)
     }
 
-    /// Puts a number below 2^63 into slot `source`, and then writes it into a field like [`Mutator::put`]. If that returns `NoMemory`, it did
-    /// neither.
+    /// Puts a number below 2^63 into slot `source`, and then writes it into a field like [`Mutator::put`].
     ///
     /// # Errors
     ///
-    /// Returns `NoObject` or `NoField`; the slot has the number then. Returns `OutOfRange` if the number is larger, or, while a collection is
-    /// open, `NoMemory`.
+    /// Returns `NoObject` or `NoField`; the slot then has the number. Returns `OutOfRange` if the number is larger, or, while a collection is
+    /// open, `NoMemory`; then nothing changed.
     pub fn put_number(&self, slot: Slot, field: u16, source: Slot, number: u64) -> Result<()> {
         replied(self.heap.handle.put_number(self.number, slot.0, field, source.0, number)).map(drop)
     }
 
-    /// Makes an object of two fields, which take the values of two slots, and puts a reference to it into the slot: what [`Mutator::make`] and two
-    /// [`Mutator::put`] do one after the other. A field that is given from the slot itself refers to the object.
+    /// Makes an object with two fields, which take the values of two slots, and puts a reference to it into the slot: a [`Mutator::make`] and two
+    /// [`Mutator::put`]. If `first` or `second` is the slot itself, that field refers to the new object.
     ///
     /// # Errors
     ///
-    /// Returns `Full`, or, while a collection is open, `NoMemory`. Then it did nothing.
+    /// Returns `Full`, or, while a collection is open, `NoMemory`. Then nothing changed.
     pub fn cons(&self, slot: Slot, kind: u8, first: Slot, second: Slot) -> Result<()> {
         replied(self.heap.handle.cons(self.number, slot.0, kind, first.0, second.0)).map(drop)
     }
 
-    /// Makes an object with a field for each of these slots, which takes the slot's value, like [`Mutator::cons`].
+    /// Makes an object with a field for each of these slots, as [`Mutator::cons`] does for two. Each field takes its slot's value.
     ///
     /// # Errors
     ///
-    /// Returns `OutOfRange` if there are more than 65535, `Full`, or, while a collection is open, `NoMemory`. Then it did nothing.
+    /// Returns `OutOfRange` if there are more than 65535, `Full`, or, while a collection is open, `NoMemory`. Then nothing changed.
     pub fn make_from(&self, slot: Slot, kind: u8, fields: &[Slot]) -> Result<()> {
         replied(self.heap.handle.new_from(self.number, slot.0, kind, fields)).map(drop)
     }
@@ -514,7 +513,7 @@ impl Mutator<'_> {
         always(self.heap.handle.same(self.number, first.0, second.0)) == sys::GCFLIP_SAME
     }
 
-    /// Returns what is seen of the slot's value.
+    /// Returns the slot's value.
     pub fn look(&self, slot: Slot) -> Value {
         let (answer, view) = self.heap.handle.look(self.number, slot.0);
         // A kind has 8 bits and a number of fields 16, as the header says.
@@ -540,7 +539,7 @@ fn done<T>(answer: u32, result: T) -> Result<T> {
     }
 }
 
-/// Returns the answer, or the error that it says.
+/// Returns the answer, or the error that it stands for.
 fn replied(answer: u32) -> Result<u32> {
     match answer {
         sys::GCFLIP_HEAP_NO_MEMORY => Err(Error::NoMemory),
@@ -558,7 +557,7 @@ fn replied(answer: u32) -> Result<u32> {
     }
 }
 
-/// Returns the answer to a command that cannot fail: its mutator and its slots exist.
+/// Returns the answer to a command that cannot fail, since its mutator and its slots exist.
 fn always(answer: u32) -> u32 {
     replied(answer).unwrap_or_else(|error| unreachable!("{error}"))
 }

@@ -1,18 +1,18 @@
 //! Herbpond's certificate checker and its collected heap, for Rust.
 //!
-//! - [`check`] decides whether a heap image may take the place of another one. A runtime with a moving collector of its own calls it before it
-//!   frees the old space. [`check_text`] does the same for a pair text.
+//! - [`check`] decides whether one heap image may replace another. A runtime with its own moving collector calls it before it frees the old
+//!   space. [`check_text`] does the same for a pair text.
 //! - [`Heap`] is a heap of objects for 1 to 16 mutators, with an incremental, replicating collector whose every flip has to pass the checker.
 //!
-//! What is proved is proved of the C library that this crate links. The crate makes its calls, and turns numbers into types. The documents are
-//! in the repository: `docs/EMBEDDING.md` for both, `docs/FORMATS.md` for words, replies and texts.
+//! The proofs are about the C library that this crate links. The crate calls it, and turns numbers into types. The documents are in the
+//! repository: `docs/EMBEDDING.md` for both parts, `docs/FORMATS.md` for words, replies and texts.
 //!
-//! Checks may run in several threads at the same time. A heap may move between threads, and one at a time uses it. Make no call from a signal
-//! handler, or in the forked child of a process with threads.
+//! Checks may run in several threads at the same time. A heap may move between threads, but only one thread at a time may use it. Make no
+//! call from a signal handler, or in the forked child of a process with threads.
 //!
 //! # A check
 //!
-//! An object at address 5 of the old image has a replica at address 1 of the new one, and the garbage in front of it has none:
+//! The object at address 5 of the old image has a replica at address 1 of the new one, and the garbage before it has none:
 //!
 //! ```
 //! use gcflip::{check, Image, Pair, Refusal};
@@ -42,7 +42,7 @@
 //! mutator.num(NUMBER, 42)?;
 //! mutator.put(LIST, 1, NUMBER)?; // field 1 takes the number
 //! while !matches!(heap.work(2)?.last, Step::Flipped { .. }) {
-//!     mutator.look(LIST); // the mutator goes on
+//!     mutator.look(LIST); // the mutator continues
 //! }
 //! assert_eq!(mutator.get(NUMBER, LIST, 1)?, Value::Number(42)); // read from the new space
 //! # Ok(())

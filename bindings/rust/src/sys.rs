@@ -1,17 +1,17 @@
 //! The C library: its structs, its numbers and its calls. This is the only module with unsafe code.
 //!
-//! The headers `gcflip.h` and `gcflip_heap.h` say at their heads what a caller owes. For the pointers that is: none is NULL, each is aligned, its
-//! memory is initialized and has as many elements as the count beside it, nobody writes it meanwhile, and no two overlap. References and slices
-//! of Rust have all that, those without elements as well. A handle is used by one thread at a time, is not copied, and nobody else
-//! writes it: [`Handle`] owns it, and is `Send` and not `Sync`. The headers also forbid calls from a signal handler, and in the forked child of a
-//! process with threads. A program gets there by unsafe code of its own alone, which has to keep these two rules.
+//! The headers `gcflip.h` and `gcflip_heap.h` begin with the rules for callers. A pointer is not NULL, it is aligned, its memory is initialized
+//! and has as many elements as its count says, nobody writes it during the call, and no two pointers overlap. References and slices of Rust
+//! satisfy all of this, empty ones included. One thread at a time uses a handle, it is not copied, and nobody else writes it: [`Handle`] owns it,
+//! and is `Send` but not `Sync`. The headers also forbid calls from a signal handler, and in the forked child of a process with threads. A
+//! program can get there only with unsafe code of its own, which has to keep these two rules.
 #![allow(unsafe_code)]
 
 use crate::heap::Slot;
 use std::cell::UnsafeCell;
 use std::ffi::c_void;
 
-/// An object of the old image and its replica in the new one, by the places of their header words.
+/// An object of the old image and its replica in the new one, by the addresses of their header words.
 #[repr(C)]
 #[derive(Clone, Copy, Debug, PartialEq, Eq, Hash)]
 pub struct Pair {
@@ -71,16 +71,16 @@ pub struct RawCounts {
     pub scan_field: u32,
 }
 
-/// A handle of C: where the heap lies.
+/// A handle of C: the address of the heap.
 #[repr(C)]
 pub struct RawHeap {
     at: *mut c_void,
 }
 
-/// Defines numbers of the headers, and lists them for the test that compares both.
+/// Defines numbers of the headers, and lists them for the test that compares them with C.
 macro_rules! numbers {
     ($($name:ident = $number:literal,)*) => {
-        // Some are only compared.
+        // Some are only used by that test.
         $(#[allow(dead_code)]
         pub const $name: u32 = $number;)*
         #[cfg(test)]
@@ -135,7 +135,7 @@ numbers! {
     GCFLIP_DROPPED = 44,
 }
 
-/// Declares calls, and lists them as declarations of C for the test that compares both.
+/// Declares calls, and lists them as C declarations for the test that compares them with the headers.
 macro_rules! calls {
     ($($name:ident($($type:ty),*);)*) => {
         extern "C" {
@@ -194,7 +194,7 @@ pub struct RawImage<'a> {
 
 pub fn check(old: &RawImage, new: &RawImage, pairs: &[Pair]) -> (u32, RawVerdict) {
     let mut verdict = RawVerdict::default();
-    // SAFETY: each pointer and the count behind it are those of one slice, and the verdict is a local variable that nothing overlaps.
+    // SAFETY: each pointer and the count after it are those of one slice, and the verdict is a local variable that nothing overlaps.
     let answer = unsafe {
         gcflip_check(
             old.size,
@@ -233,15 +233,15 @@ pub struct Handle {
     heap: UnsafeCell<RawHeap>,
 }
 
-// SAFETY: the header lets a heap move between threads as long as one thread at a time uses it. A `Handle` has no part of its own thread, and
-// is not `Sync` because of its `UnsafeCell`, so that no other thread can use it meanwhile.
+// SAFETY: the header lets a heap move between threads as long as one thread at a time uses it. A `Handle` holds nothing that is tied to a
+// thread. Its `UnsafeCell` makes it not `Sync`, so no other thread can use it at the same time.
 unsafe impl Send for Handle {}
 
 impl Handle {
-    /// Opens a heap. Returns the answer and the handle, which is of use only if the answer is `GCFLIP_DONE`.
+    /// Opens a heap. Returns the answer and the handle, which has a heap only if the answer is `GCFLIP_DONE`.
     pub fn open(size: u32, mutators: u8) -> (u32, Handle) {
         let handle = Handle { heap: UnsafeCell::new(RawHeap { at: std::ptr::null_mut() }) };
-        // SAFETY: the pointer is to the handle's own cell, which holds a handle without a heap. It may be moved in memory afterwards.
+        // SAFETY: the pointer is to the handle's own cell, which holds a handle without a heap. A handle may be moved in memory afterwards.
         let answer = unsafe { gcflip_heap_open(handle.heap.get(), size, mutators) };
         (answer, handle)
     }
@@ -254,13 +254,13 @@ impl Drop for Handle {
     }
 }
 
-/// Defines calls of a handle that return an answer alone.
+/// Defines calls of a handle that return only an answer.
 macro_rules! answers {
     ($($method:ident: $call:ident($($argument:ident: $type:ty),*);)*) => {
         impl Handle {
             $(pub fn $method(&self, $($argument: $type),*) -> u32 {
                 // SAFETY: the pointer is to the handle's own cell. No other call on this handle is running: `Handle` is not `Sync`, and
-                // the library calls nothing back.
+                // the library makes no callbacks.
                 unsafe { $call(self.heap.get(), $($argument),*) }
             })*
         }
@@ -312,7 +312,7 @@ results! {
 
 impl Handle {
     pub fn image(&self, words: &mut [u64], roots: &mut [u64]) -> u32 {
-        // SAFETY: each pointer and the count behind it are those of one exclusive slice, and the handle is the cell's own. No other call on it
+        // SAFETY: each pointer and the count after it are those of one exclusive slice, and the handle is in its own cell. No other call on it
         // is running, as in `results`.
         unsafe { gcflip_heap_image(self.heap.get(), words.as_mut_ptr(), words.len(), roots.as_mut_ptr(), roots.len()) }
     }

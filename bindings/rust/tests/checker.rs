@@ -1,15 +1,15 @@
-//! Each verdict of the checker, on certificates that are right but for one thing. Verdicts are derived by hand from `docs/FORMATS.md`.
+//! Tests each verdict of the checker, on certificates with one thing wrong. The verdicts are derived by hand from `docs/FORMATS.md`.
 
 use gcflip::{check, check_text, Image, Pair, Refusal, TextRefusal, Yes};
 
-/// The header of an object of kind 1 with so many fields.
+/// Returns the header of an object of kind 1 with this number of fields.
 const fn header(fields: u64) -> u64 {
     (1 << 24) + (1 << 16) + fields
 }
 
 const NIL: u64 = 0;
 
-/// An object at 1 with a number and a reference to an object at 5, which has a nil field. The replicas lie in the other order.
+/// An object at 1 with a number and a reference to an object at 5, which has a nil field. The replicas are in the other order.
 const OLD: [u64; 8] = [0, header(2), 0, 15, 10, header(1), 0, NIL];
 const NEW: [u64; 8] = [0, header(1), 0, NIL, header(2), 0, 15, 2];
 const PAIRS: [Pair; 2] = [pair(5, 1), pair(1, 4)];
@@ -22,7 +22,7 @@ fn image<'a>(words: &'a [u64], roots: &'a [u64]) -> Image<'a> {
     Image { size: 8, words, roots, raws: true }
 }
 
-/// Checks these new words and pairs against the right rest.
+/// Checks these new words and pairs, with everything else right.
 fn changed(new: [u64; 8], pairs: &[Pair]) -> Result<Yes, Refusal> {
     check(&image(&OLD, &[2, NIL]), &image(&new, &[8, NIL]), pairs)
 }

@@ -1,4 +1,4 @@
-//! Each call on a heap, and each error but `FlipRefused`, which is proved never to come, and `NoMemory` (out_of_memory.rs).
+//! Tests each call on a heap, and each error but `FlipRefused`, which is proved never to occur, and `NoMemory` (out_of_memory.rs).
 
 use gcflip::{check, Error, Heap, LogEntry, Pair, Slot, Step, Value};
 
@@ -6,10 +6,10 @@ const A: Slot = Slot::own(0);
 const B: Slot = Slot::own(1);
 const SHARED: Slot = Slot::shared(0);
 
-/// What is seen of an object of kind 7 with two fields.
+/// An object of kind 7 with two fields, as mutators see it.
 const TWO_FIELDS: Value = Value::Object { kind: 7, fields: 2 };
 
-/// A heap of 16 words with an object of two fields in the shared slot.
+/// Returns a heap of 16 words with an object of two fields in the shared slot.
 fn prepared() -> Heap {
     let heap = Heap::open(16, 2).unwrap();
     heap.mutator(0).unwrap().make(SHARED, 7, 2).unwrap();

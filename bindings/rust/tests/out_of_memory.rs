@@ -1,5 +1,5 @@
-//! Calls whose allocations fail. This program defines the three functions by which the archive allocates, and lets one allocation fail.
-//! `docs/EMBEDDING.md` says what they owe.
+//! Tests calls whose allocations fail. This program defines the three functions from which the archive gets memory, and makes one allocation
+//! fail. `docs/EMBEDDING.md` says what the three functions owe.
 
 use gcflip::{check, Error, Heap, Image, Pair, Refusal, Slot, Step, Value};
 use std::alloc::{alloc, dealloc, realloc, Layout};
@@ -11,11 +11,11 @@ pub struct Memory {
     at: *mut u8,
 }
 
-/// The size of a block stands in front of it.
+/// A header with the size of a block precedes the block.
 const HEADER: usize = 16;
 
 thread_local! {
-    /// The allocations from here to the one that fails; 0 if none fails.
+    /// The number of allocations until one fails, that one included; 0 if none fails.
     static FAILING: Cell<u32> = const { Cell::new(0) };
 }
 
@@ -29,7 +29,7 @@ fn layout(size: usize) -> Layout {
     Layout::from_size_align(HEADER + size, HEADER).unwrap()
 }
 
-/// Returns the block behind its header, or nothing.
+/// Returns the block after its header, or a failure.
 unsafe fn memory(header: *mut u8, size: usize) -> Memory {
     if header.is_null() {
         return Memory { ok: false, at: std::ptr::NonNull::<u8>::dangling().as_ptr() };
@@ -56,8 +56,8 @@ unsafe extern "C" fn rattle_dealloc(old: *mut u8) {
     dealloc(header, layout(header.cast::<usize>().read()));
 }
 
-/// Makes the call with its n-th allocation failing, for each n until none fails. Each call but the last has to return the error. Returns how
-/// many did.
+/// Makes the call with its n-th allocation failing, for n = 1, 2 and so on until none fails. Each call but the last has to return the error.
+/// Returns the number of failed calls.
 fn refused<T, E: Copy + PartialEq + std::fmt::Debug>(error: E, mut call: impl FnMut() -> Result<T, E>) -> u32 {
     for failing in 1..100 {
         FAILING.set(failing);
@@ -74,7 +74,7 @@ fn refused<T, E: Copy + PartialEq + std::fmt::Debug>(error: E, mut call: impl Fn
 
 const SLOT: Slot = Slot::own(0);
 
-/// A heap with one object.
+/// Returns a heap with one object.
 fn prepared() -> Heap {
     let heap = Heap::open(64, 1).unwrap();
     heap.mutator(0).unwrap().make(SLOT, 1, 1).unwrap();

@@ -1,6 +1,6 @@
 ; In how many ways can n queens stand on a board of n by n squares so that none attacks another?
 
-; Whether a queen in the next row and in this column is safe from those in the rows before, of which the last is the first in the list.
+; Returns whether a queen in the next row and in this column is safe from those in the rows before. The list has the last row first.
 (define (safe? column queens)
   (let loop ((queens queens) (distance 1))
     (or (null? queens)

@@ -1,4 +1,4 @@
-; A queue at a counter. It is a pair of its first and its last cell, and it grows by set-cdr!, also while the collector copies it.
+; A queue at a counter. It is a pair of its first and its last cell, and it grows by set-cdr!, even while the collector copies it.
 
 (define (make-queue) (cons '() '()))
 (define (queue-empty? queue) (null? (car queue)))
@@ -15,7 +15,7 @@
     (set-car! queue (cdr (car queue)))
     item))
 
-; Each second minute a customer comes, and to serve one takes three minutes. So customer i, who comes at minute 2 i, is served at minute
+; Every second minute a customer comes, and serving one takes three minutes. So customer i, who comes at minute 2 i, is served at minute
 ; 3 i, and waits for i minutes.
 (define (serve customers)
   (let ((queue (make-queue)) (longest 0) (waited 0) (served 0) (free-at 0) (length-now 0))
@@ -42,7 +42,7 @@
 (write (serve 1000))
 (newline)
 
-; Josephus' circle: each third of 41 leaves. The last one stood in place 31.
+; Josephus' circle: every third of 41 leaves. The last one stood in place 31.
 (define (last-in-circle people step)
   (let ((queue (make-queue)))
     (for-each (lambda (person) (enqueue! queue (+ person 1))) (iota people))

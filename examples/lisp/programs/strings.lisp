@@ -1,4 +1,4 @@
-; Builds a long string by appending to it: each string but the last becomes garbage at once.
+; Builds a long string by appending to it: each string but the last becomes garbage immediately.
 
 (define (join numbers)
   (let loop ((text "") (numbers numbers))

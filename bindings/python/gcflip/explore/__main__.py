@@ -20,7 +20,7 @@ def arguments() -> argparse.Namespace:
 
 
 def opened(path: str) -> dict[str, str]:
-    """Reads the file to open. Ends the program with a message if it is none that the page can show."""
+    """Reads the file to open. Ends the program with a message if the page cannot show it."""
     try:
         with open(path, "rb") as file:
             data = file.read(MOST_TEXT + 1)
@@ -47,7 +47,7 @@ def main() -> None:
     except (OSError, OverflowError) as error:
         sys.exit("explore: port %d: %s" % (given.port, getattr(error, "strerror", None) or error))
     print("The page is at %s\nCtrl+C ends it." % server.address(), flush=True)
-    # A browser in a terminal keeps this thread until it is left.
+    # A browser in a terminal blocks this thread until it ends, so another thread serves.
     serving = threading.Thread(target=server.serve_forever, daemon=True)
     serving.start()
     try:

@@ -13,7 +13,7 @@ from gcflip_drawing.verdicts import Verdict
 
 
 class Place(NamedTuple):
-    """A word of a pair text: of the words or the roots of a heap."""
+    """The place of a word in a pair text: among the words or the roots of a heap."""
 
     heap: str
     row: str
@@ -21,8 +21,8 @@ class Place(NamedTuple):
 
 
 def checked(text: bytes, width: int, changed: Place | None = None) -> dict[str, Any]:
-    """Returns the line that the checker prints for a text, its meaning, and the picture if the text is a pair text. A changed word is
-    marked in it."""
+    """Returns the line that the checker prints for a text, its meaning, and the picture if the text is a pair text. Marks a changed
+    word in the picture."""
     try:
         verdict = Verdict("yes %d" % check_text(text))
     except BadText as fault:
@@ -30,7 +30,7 @@ def checked(text: bytes, width: int, changed: Place | None = None) -> dict[str, 
     except Refused as refusal:
         verdict = Verdict(str(refusal))
     scene = scene_of(read_pair(text.decode("ascii")), "The pair of heaps", verdict)
-    # The page has the verdict above the picture.
+    # The page shows the verdict above the picture.
     scene.caption = None
     if changed:
         scene.note_changed(changed.heap == "old", changed.row, changed.at)
@@ -45,7 +45,7 @@ def row_of(pair: PairText, heap: str, row: str) -> list[int]:
 
 
 def name_of(pair: PairText, place: Place) -> str:
-    """Returns what a word is: a root, or a part of an object."""
+    """Says what a word is: a root, or a part of an object."""
     if place.row == "roots":
         return "root %d of the %s heap" % (place.at, place.heap)
     if place.at == 0:
@@ -58,13 +58,13 @@ def name_of(pair: PairText, place: Place) -> str:
 
 
 def other_words(word: int, chosen: random.Random) -> list[int]:
-    """Returns words that could take a word's place: nil, a number, a reference, the next word, or one bit changed."""
+    """Returns words that could replace a word: nil, a number, a reference, the next word, or one bit changed."""
     found = [0, 2 * chosen.randrange(100) + 1, 2 * chosen.randrange(1, 16), word + 1, word ^ 1 << chosen.randrange(26)]
     return [other for other in found if other != word and other < 1 << 64]
 
 
 def why_accepted(pair: PairText, place: Place) -> str:
-    """Returns why the checker says yes although a word changed."""
+    """Explains why the checker says yes although a word changed."""
     objects = walk(row_of(pair, place.heap, "words"), pair.raws) if place.row == "words" else {}
     if any(place.at == start + 1 for start in objects):
         return "It is a link word, and no check reads links."
@@ -75,7 +75,7 @@ def why_accepted(pair: PairText, place: Place) -> str:
 
 
 def places_to_spoil(pair: PairText, chosen: random.Random) -> list[Place]:
-    """Returns the places of one heap's words, or now and then those of its roots that are not nil."""
+    """Returns the places of one heap's words, or in one case of four those of its roots that are not nil."""
     heap = chosen.choice(["old", "new"])
     words = [Place(heap, "words", at) for at in range(len(row_of(pair, heap, "words")))]
     roots = [Place(heap, "roots", at) for at, word in enumerate(row_of(pair, heap, "roots")) if word != 0]
@@ -83,7 +83,7 @@ def places_to_spoil(pair: PairText, chosen: random.Random) -> list[Place]:
 
 
 def spoiled(text: bytes, width: int, chosen: random.Random) -> dict[str, Any]:
-    """Changes one word of a pair text at random. Returns the new text, what was changed, and what the checker says. Raises BadText."""
+    """Changes one random word of a pair text. Returns the new text, the change, and what the checker says. Raises BadText."""
     try:
         check_text(text)
     except Refused:

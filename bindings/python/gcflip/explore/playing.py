@@ -1,4 +1,4 @@
-"""Plays traces over the binding. Each reply is the shared library's, as the line that `gcflip play` prints."""
+"""Plays traces through the binding. Each reply is the shared library's, written as the line that `gcflip play` prints."""
 from __future__ import annotations
 
 from typing import Iterable, NamedTuple
@@ -9,7 +9,7 @@ from gcflip_drawing.timeline import Measure
 from gcflip_drawing.trace_text import Event, Trace, event_of
 
 MOST_PLAYERS = 4
-# What an event changed is found by comparing images, for heaps up to this size.
+# Changes are found by comparing the images before and after an event, for heaps up to this size.
 MOST_COMPARED_WORDS = 192
 
 
@@ -38,14 +38,14 @@ def step_line(heap: Heap, event: Event) -> str:
 
 
 class Words(NamedTuple):
-    """The words of both spaces and the root words. There are no new words while no collection is open."""
+    """The words of both spaces and the root words. `new` is None while no collection is open."""
 
     old: Image
     new: Image | None
 
 
 class Player:
-    """A heap, and the events that were played on it: their lines, and what each one left."""
+    """A heap, and the events that were played on it: their lines, and a measure after each one."""
 
     def __init__(self, size: int, mutators: int) -> None:
         self.heap = Heap(size, mutators)
@@ -56,7 +56,7 @@ class Player:
         self.changed: list[Changed] = []
 
     def play(self, event: Event) -> str:
-        """Performs an event, and returns the line of its reply. Raises OutOfMemory; the event was then not performed."""
+        """Performs an event, and returns the line of its reply. Raises OutOfMemory; the event is then not performed."""
         try:
             reply = step_line(self.heap, event) if event.mutator is None else command_line(self.mutators[event.mutator], event)
         except HeapRefused as refusal:
@@ -66,7 +66,7 @@ class Player:
         return reply
 
     def play_to(self, trace: Trace, position: int) -> None:
-        """Plays the events of a trace that are left before a position, and notes what the last one changed."""
+        """Plays the remaining events of a trace up to a position, and notes what the last one changed."""
         for event in trace.events[len(self.lines):position]:
             before = self.words() if len(self.lines) == position - 1 else None
             self.play(event)
@@ -86,7 +86,7 @@ class Player:
         return self.lines[-1]
 
     def candidates(self) -> list[str]:
-        """Returns the steps among which the useful one is, in the order of `Heap.work`."""
+        """Returns the steps that may be the useful one, in the order of `Heap.work`."""
         if not self.heap.counts().is_open:
             return ["c begin"]
         return ["c roots", "c scan", *["c apply %d" % mutator.number for mutator in self.mutators], "c flip"]
@@ -107,13 +107,13 @@ class Player:
         return [[tuple(self.heap.log_entry(mutator, number)) for number in range(length)] for mutator, length in enumerate(lengths)]
 
     def has_played(self, trace: Trace, position: int) -> bool:
-        """Returns whether this heap is on the way to a position of a trace."""
+        """Returns whether the events played so far are the first events of this trace, and at most up to the position."""
         return (self.size, len(self.mutators)) == (trace.size, trace.mutators) and len(self.lines) <= position and all(
             line == event.line for line, event in zip(self.lines, trace.events))
 
 
 def changes(before: Words, after: Words) -> Iterable[Changed]:
-    """Yields the words that an event changed. Nothing is compared across a flip, which changes them all, and in large heaps."""
+    """Yields the words that an event changed, but none for a flip, a drop, or a large heap."""
     if before.new and not after.new or max(len(after.old.words), len(after.new.words) if after.new else 0) > MOST_COMPARED_WORDS:
         return
     compared = [(True, "words", before.old.words, after.old.words), (True, "roots", before.old.roots, after.old.roots)]
@@ -126,7 +126,7 @@ def changes(before: Words, after: Words) -> Iterable[Changed]:
 
 
 class Players:
-    """The players of the last requests. One goes on from where it stands; going back means to play from the start."""
+    """The players of the last requests. A player only goes forward; to go back, a trace is played from the start."""
 
     def __init__(self) -> None:
         self.players: list[Player] = []

@@ -1,4 +1,4 @@
-"""What the page can ask for: each request is a function from its JSON to its answer. A `BadRequest` is told as its message."""
+"""The requests of the page: each is a function from its JSON to its answer. The page gets the message of a `BadRequest`."""
 from __future__ import annotations
 
 import functools
@@ -16,7 +16,7 @@ from .playing import Player, Players
 
 MOST_EVENTS = 20000
 HERE = os.path.dirname(os.path.abspath(__file__))
-# An installed package has copies of the examples. In the repository they stand at the top.
+# An installed package has copies of the examples. In the repository they are at the top.
 PLACES = (os.path.join(HERE, "examples"), os.path.join(HERE, "..", "..", "..", "..", "examples"))
 EXAMPLES = next((place for place in PLACES if os.path.isdir(place)), PLACES[0])
 TRACE, PAIR = "heaptrace", "heappair"
@@ -27,7 +27,7 @@ class BadRequest(Exception):
 
 
 class Asked:
-    """The JSON of a request, whose parts are read by their names. Raises BadRequest for a part that is missing or wrong."""
+    """The JSON of a request. Its methods read parts by name, and raise BadRequest for a part that is missing or wrong."""
 
     def __init__(self, data: Any) -> None:
         if not isinstance(data, dict):
@@ -78,7 +78,7 @@ class Desk:
             "start": self.start, "play": self.play, "insert": self.insert, "pair": self.pair, "check": self.check, "spoil": self.spoil}
 
     def answer(self, name: str, data: Any) -> dict[str, Any]:
-        """Answers a request, whose name is one of `answers`. Raises BadRequest."""
+        """Answers a request. Its name is one of `answers`. Raises BadRequest."""
         with self.lock:
             try:
                 return self.answers[name](Asked(data))
@@ -92,7 +92,7 @@ class Desk:
         return {"examples": examples(), "file": self.file}
 
     def play(self, asked: Asked) -> dict[str, Any]:
-        """Plays a trace up to a position, or up to the next flip behind it."""
+        """Plays a trace up to a position, or up to the next flip after it."""
         trace = asked.trace()
         position = asked.position(trace)
         player = self.players.at(trace, position)
@@ -101,7 +101,7 @@ class Desk:
         return self.told(player, trace, asked)
 
     def before_flip(self, trace: Trace, position: int) -> Player:
-        """Returns a player at the next flip behind a position, or at the position if there is none."""
+        """Returns a player before the next flip after a position, or at the position if there is none."""
         player = self.players.at(trace, len(trace.events))
         flips = [at for at, measure in enumerate(player.measures) if measure.reply.startswith("flipped") and at > position]
         return self.players.at(trace, min(flips, default=position))
@@ -113,7 +113,7 @@ class Desk:
         return {**state.described(player, trace, asked.width()), "known": min(known, len(replies)), "replies": replies[known:]}
 
     def insert(self, asked: Asked) -> dict[str, Any]:
-        """Puts an event behind the last one that was played, and plays it. Without a line it is the collector's useful step."""
+        """Inserts an event after the last one that was played, and plays it. Without a line, the event is the collector's useful step."""
         trace = asked.trace()
         position = asked.position(trace)
         if len(trace.events) >= MOST_EVENTS:
@@ -126,7 +126,7 @@ class Desk:
         if event is None:
             raise BadRequest("'%s' is no event." % line)
         text = with_event(trace, position, event)
-        # The reader has the last word: the event's mutator may not exist.
+        # The longer trace may be refused: the event's mutator may not exist.
         longer = read(text)
         return {"text": text, **self.told(self.players.at(longer, position + 1), longer, asked)}
 
@@ -142,7 +142,7 @@ class Desk:
         return checking.checked(asked.text().encode("utf-8", "surrogatepass"), asked.width())
 
     def spoil(self, asked: Asked) -> dict[str, Any]:
-        """Changes a word of a pair text at random."""
+        """Changes one random word of a pair text."""
         try:
             return checking.spoiled(asked.text().encode("utf-8", "surrogatepass"), asked.width(), self.chosen)
         except BadText as fault:
@@ -150,14 +150,14 @@ class Desk:
 
 
 def with_event(trace: Trace, position: int, event: Event) -> str:
-    """Returns the text of a trace with one more event at a position, in a version that has them all."""
+    """Returns the text of a trace with one more event at a position, in a version that has all its events."""
     events = [*trace.events[:position], event, *trace.events[position:]]
     version = max(trace.version, version_of(events))
     return heading(version, trace.size, trace.mutators) + "".join(event.line + "\n" for event in events)
 
 
 def kind_of(text: str) -> str | None:
-    """Returns which text this is by its first word: TRACE, PAIR or None."""
+    """Returns the kind of a text by its first word: TRACE, PAIR or None."""
     return next((kind for kind in (TRACE, PAIR) if text.startswith(kind + " ")), None)
 
 

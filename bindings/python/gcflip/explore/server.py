@@ -1,7 +1,7 @@
-"""Serves the page and its requests on loopback, to whoever knows the token in the address.
+"""Serves the page and its requests on loopback, to anyone who knows the token in the address.
 
-A web site that the user visits can reach loopback as well, but it does not know the token. The Host header has to be loopback's, so
-that no foreign name can be bound to the address. Files come from a fixed table, and requests are bounded. Other users of the machine who
+A web site that the user visits can reach loopback too, but does not know the token. The Host header has to be loopback's, so that no
+other name can be bound to the address. Files come from a fixed table, and requests are bounded. Other users of the machine who
 may list its processes can see the address with which a browser was started.
 """
 from __future__ import annotations
@@ -22,11 +22,11 @@ PAGE = os.path.join(os.path.dirname(os.path.abspath(__file__)), "page")
 TYPES = {".html": "text/html; charset=utf-8", ".css": "text/css; charset=utf-8", ".js": "text/javascript; charset=utf-8",
          ".svg": "image/svg+xml"}
 PLAIN = "text/plain; charset=utf-8"
-# A text has at most so many bytes, and the JSON of a request twice as many.
+# The most bytes of a text, and of the JSON of a request.
 MOST_TEXT = 8388608
 MOST_BYTES = 2 * MOST_TEXT
 MOST_CONNECTIONS = 32
-# A connection that says nothing for so long is closed.
+# A connection that is silent for this long is closed.
 SECONDS = 20
 HEADERS = {
     "Content-Security-Policy": "default-src 'none'; script-src 'self'; style-src 'self'; img-src 'self'; connect-src 'self'; "
@@ -40,7 +40,7 @@ HEADERS = {
 
 
 def page_files() -> dict[str, tuple[str, bytes]]:
-    """Reads the files of the page: their types and contents, by the names in the address. The page itself has the empty name."""
+    """Reads the files of the page. Returns their types and contents by the names in the address. The page itself has the empty name."""
     found = {}
     for name in os.listdir(PAGE):
         with open(os.path.join(PAGE, name), "rb") as file:
@@ -70,7 +70,7 @@ class Handler(http.server.BaseHTTPRequestHandler):
         self.reply(self.answer)
 
     def reply(self, handle: Any) -> None:
-        """Sends what a handler returns, or why the request is refused."""
+        """Sends the handler's result, or the reason why the request is refused."""
         try:
             kind, body = handle(self.name())
             self.send(200, kind, body)
@@ -83,7 +83,7 @@ class Handler(http.server.BaseHTTPRequestHandler):
             raise
 
     def name(self) -> str:
-        """Returns what is asked for: the path behind the token."""
+        """Returns the requested name, which is the path after the token."""
         if self.headers.get("Host") not in self.server.hosts():
             raise Refusal(403, "This server answers requests to 127.0.0.1 alone.")
         _, _, rest = self.path.partition("/")
@@ -126,7 +126,7 @@ class Handler(http.server.BaseHTTPRequestHandler):
         return body
 
     def skip(self, most: int) -> None:
-        """Reads away what is sent, up to a bound. A sender that is cut off would not read the answer."""
+        """Reads and discards the body, up to a bound. A sender that is cut off would not read the answer."""
         self.connection.settimeout(1)
         try:
             while most > 0:
@@ -145,11 +145,11 @@ class Handler(http.server.BaseHTTPRequestHandler):
         self.wfile.write(body)
 
     def log_message(self, *_words: Any) -> None:
-        """Says nothing: the address has the token."""
+        """Logs nothing, since the address contains the token."""
 
 
 class Server(http.server.ThreadingHTTPServer):
-    """The server, which has its token and the files of the page."""
+    """The server, with its token and the files of the page."""
 
     daemon_threads = True
 
@@ -180,6 +180,6 @@ class Server(http.server.ThreadingHTTPServer):
             self.free.release()
 
     def handle_error(self, request: Any, client_address: Any) -> None:
-        """Prints an error to the terminal, but says nothing of a connection that broke off."""
+        """Prints an error to the terminal, except for a broken connection."""
         if not isinstance(sys.exc_info()[1], (ConnectionError, socket.timeout)):
             super().handle_error(request, client_address)

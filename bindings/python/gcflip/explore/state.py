@@ -14,13 +14,13 @@ from gcflip_drawing.words_picture import root_names
 
 from .playing import Player, Words
 
-# Longer lists are cut, and their length is told.
+# Longer lists are cut, and the page gets their length.
 MOST_LISTED = 200
 TIMELINE_HEIGHT = 110
 
 
 class Certificate:
-    """The certificate of an open collection as it stands, and what the checker says of it."""
+    """The current certificate of an open collection, and the checker's verdict on it."""
 
     def __init__(self, words: Words) -> None:
         assert words.new is not None
@@ -40,7 +40,7 @@ class Certificate:
 
 
 def conditions(player: Player, words: Words) -> list[dict[str, Any]]:
-    """Returns the conditions of a flip in the order in which the collector fulfils them, and whether each one holds."""
+    """Returns the conditions of a flip in the order in which the collector meets them, and whether each one holds."""
     assert words.new is not None
     counts = player.heap.counts()
     originals = {original for original, _ in collection_picture.replicas(words.new.words)}
@@ -63,7 +63,7 @@ def roots(player: Player, words: Words) -> list[dict[str, Any]]:
 
 
 def collection(player: Player, words: Words) -> dict[str, Any]:
-    """Returns what the page lists of an open collection."""
+    """Returns what the page lists about an open collection."""
     certificate, found = Certificate(words), conditions(player, words)
     verdict = certificate.verdict()
     return {

@@ -1,5 +1,5 @@
-//! Compares the structs, the numbers and the calls of this crate with the headers, by the C compiler: what the crate says of them becomes C code,
-//! which compiles only if the headers say the same.
+//! Compares the structs, the numbers and the calls of this crate with the headers, using the C compiler. The crate's definitions become C code,
+//! which compiles only if the headers agree.
 
 use super::*;
 use std::mem::{align_of, offset_of, size_of};
@@ -40,7 +40,7 @@ c_types! {
     *mut LogEntry = "gcflip_log_entry *",
 }
 
-/// Returns what has to hold in C of a struct and of each of its fields.
+/// Returns the conditions in C on a struct and on each of its fields.
 macro_rules! struct_rules {
     ($type:ident as $name:literal: $($field:ident),*) => {{
         #[allow(dead_code)]
@@ -54,7 +54,7 @@ macro_rules! struct_rules {
     }};
 }
 
-/// Returns the size of what the function points to.
+/// Returns the size of the function's target.
 fn size_of_field<S, F>(_: fn(&S) -> *const F) -> usize {
     size_of::<F>()
 }
@@ -73,7 +73,7 @@ fn rules() -> Vec<String> {
     numbers.chain(structs.concat()).collect()
 }
 
-/// Returns whether C code behind the headers compiles.
+/// Returns whether C code compiles after the headers.
 fn compiles(code: &[String]) -> bool {
     let folder = Path::new(env!("CARGO_MANIFEST_DIR")).join("../c");
     let text = format!("#include \"gcflip.h\"\n#include \"gcflip_heap.h\"\n{}\n", code.join("\n"));

@@ -1,4 +1,4 @@
-// The tab in which a trace is played: its text, its position, and what the server told of the heap there.
+// The tab in which a trace is played: its text, its position, and the server's description of the heap there.
 
 import { CommandButtons } from "./commands.js";
 import { Editor } from "./editor.js";
@@ -8,7 +8,7 @@ import { meaning } from "./meanings.js";
 import { render } from "./picture.js";
 import { ask, say } from "./server.js";
 
-// The first event stands in this line.
+// The first event is in this line.
 const FIRST = 3;
 const PAUSE = 700;
 const MOST_PAUSES = 60;
@@ -67,7 +67,7 @@ export class Collector {
     return example ? this.open(example.text, example) : Promise.resolve();
   }
 
-  // Shows an example, played up to a position. A reader may have changed the trace meanwhile.
+  // Shows an example, played up to a position. The reader may have changed the trace meanwhile.
   showExample(name, position) {
     if (this.text !== this.examples.find((each) => each.name === name).text) {
       this.choose(name);
@@ -89,7 +89,7 @@ export class Collector {
     });
   }
 
-  // Takes an edited text. What stands before the first changed line stays played.
+  // Takes an edited text. The events before the first changed line stay played.
   edit(text) {
     this.stop();
     return this.then(() => {
@@ -108,7 +108,7 @@ export class Collector {
 
   // ---- playing
 
-  // Performs an action once those before it are done.
+  // Performs an action after those before it are done.
   then(act) {
     this.turn = this.turn.then(async () => {
       try {
@@ -121,7 +121,7 @@ export class Collector {
     return this.turn;
   }
 
-  // Goes to a position, within the trace. Where that is may depend on the actions that are still waiting, so `where` is called after them.
+  // Goes to a position within the trace. It may depend on actions that are still waiting, so `where` is called after them.
   go(where) {
     return this.then(() => this.asked(Math.max(0, Math.min(where(), this.total ?? 0)), {}));
   }
@@ -136,7 +136,7 @@ export class Collector {
     });
   }
 
-  // Puts a line behind the last event that was played, and plays it. Without a line it is the useful step of the collector.
+  // Inserts a line after the last event that was played, and plays it. Without a line, it plays the collector's useful step.
   insert(line) {
     return this.then(async () => {
       const answer = await this.answered("insert", this.position, line === null ? {} : { line });
@@ -170,7 +170,7 @@ export class Collector {
     return Math.floor(byId("picture").clientWidth);
   }
 
-  // Draws again in another width.
+  // Redraws in another width.
   resized() {
     clearTimeout(this.waiting);
     if (this.drawnWidth !== undefined && this.width() > 0 && this.width() !== this.drawnWidth) {
@@ -256,7 +256,7 @@ export class Collector {
     const at = { "play-start": this.position > 0, "play-back": this.position > 0, "play-step": this.position < this.total,
       "play-run": this.position < this.total, "play-flip": this.position < this.total, "play-work": true };
     for (const [id, useful] of Object.entries(at)) {
-      // A button that is disabled loses the focus, so these are only marked.
+      // A disabled button would lose the focus, so these are only marked as disabled.
       byId(id).setAttribute("aria-disabled", String(!(enabled && useful)));
     }
     byId("panel-collector").classList.toggle("stale", !enabled);

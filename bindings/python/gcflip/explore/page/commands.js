@@ -5,7 +5,7 @@ import { byId, make } from "./elements.js";
 const SLOTS = ["r", "g"].flatMap((letter) => Array.from({ length: 16 }, (_, number) => `${letter}${number}`));
 const GREATEST = { kind: 255, fields: 65535, field: 65535, words: 1048576 };
 
-// Of each step and each command: its name, what it does, its words, and another key if the name stands twice.
+// For each step and each command: its name, what it does, its words, and another key if the name occurs twice.
 const STEPS = [
   ["begin", "open a collection", []],
   ["roots", "replicate the target of a root", []],
@@ -27,7 +27,7 @@ const COMMANDS = [
   ["look", "look at a slot", ["slot"]],
 ];
 
-// What the inputs hold first. A slot's name makes an input for slots.
+// The initial values of the inputs. A slot's name makes an input for slots.
 const FIRST_VALUES = {
   to: "r0", from: "r0", into: "r0", value: "r1", slot: "r0", and: "r1", kind: "1", fields: "2", field: "0", number: "7", words: "64",
 };
@@ -46,7 +46,7 @@ function input(word, mutators) {
   if (SLOTS.includes(value)) {
     return choice(SLOTS, value);
   }
-  // Numbers have up to 19 digits, more than a field for numbers keeps exactly.
+  // Numbers have up to 19 digits, more than a number input keeps exactly.
   return make("input", {
     type: "text", inputMode: "numeric", pattern: "0|[1-9][0-9]{0,18}", required: true, value, className: word in GREATEST ? "" : "wide",
     title: `0 to ${GREATEST[word] ?? "9223372036854775807"}`,
@@ -73,7 +73,7 @@ export class CommandButtons {
     this.mutators = 0;
   }
 
-  // Shows the buttons for so many mutators.
+  // Shows the buttons for this many mutators.
   show(mutators) {
     if (mutators === this.mutators) {
       return;

@@ -1,4 +1,4 @@
-// An editor of a text with line numbers at the left, and notes beside its lines at the right. Only the lines in sight have elements.
+// A text editor with line numbers at the left and notes next to its lines at the right. Only visible lines have elements.
 
 import { make } from "./elements.js";
 
@@ -28,7 +28,7 @@ export class Editor {
     new ResizeObserver(() => this.draw()).observe(this.area);
   }
 
-  // Shows a text. Until it is edited, `text` stays as it was given, whatever the browser makes of its line ends.
+  // Shows a text. Until it is edited, `text` stays as given, even if the browser changes its line ends.
   show(text) {
     clearTimeout(this.waiting);
     this.waiting = null;
@@ -46,7 +46,7 @@ export class Editor {
     this.waiting = setTimeout(() => this.flush(), 300);
   }
 
-  // Tells of an edit that was not told yet.
+  // Reports an edit that was not reported yet.
   flush() {
     if (this.waiting !== null) {
       clearTimeout(this.waiting);

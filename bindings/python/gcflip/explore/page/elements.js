@@ -17,7 +17,7 @@ export function fill(select, groups) {
   select.replaceChildren(...groups.map(([label, options]) => make("optgroup", { label }, ...options.map(option))));
 }
 
-// Calls `act` with each file that is chosen by an input or dropped on an area.
+// Calls `act` with each file that is chosen in an input or dropped on an area.
 export function onFiles(input, area, act) {
   input.addEventListener("change", () => {
     if (input.files.length > 0) {

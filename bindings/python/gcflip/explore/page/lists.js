@@ -1,4 +1,4 @@
-// The lists beside the picture: certificate, logs and roots.
+// The lists next to the picture: certificate, logs and roots.
 
 import { byId, make } from "./elements.js";
 

@@ -1,4 +1,4 @@
-// Starts the page: its tabs, the keyboard, and what is opened first.
+// Starts the page: its tabs, the keyboard, and the text that is opened first.
 
 import { Checker } from "./checker.js";
 import { Collector } from "./collector.js";
@@ -38,7 +38,7 @@ function listenToTabs() {
 
 const KEYS = { ArrowRight: "play-step", ArrowLeft: "play-back", Home: "play-start", r: "play-run", f: "play-flip", w: "play-work" };
 
-// Keys play the trace, unless something is written, chosen or scrolled.
+// Keys play the trace, unless the reader is typing, choosing or scrolling.
 function listenToKeys() {
   document.addEventListener("keydown", (event) => {
     const busy = event.target.closest("textarea, input, select, .picture") || event.ctrlKey || event.altKey || event.metaKey;
@@ -50,7 +50,7 @@ function listenToKeys() {
   });
 }
 
-// Opens files in the tab of their kind. Another text stays in the tab where it was opened, which says what is wrong with it.
+// Opens files in the tab of their kind. Any other text stays in the tab where it was opened, which says what is wrong with it.
 function listenToFiles(tabs) {
   const places = { collector: ["trace-file", "panel-collector"], checker: ["pair-file", "panel-checker"] };
   for (const [tab, [input, area]] of Object.entries(places)) {
@@ -82,7 +82,7 @@ async function start() {
   for (const button of document.querySelectorAll(".tour-start")) {
     button.addEventListener("click", () => tour.start());
   }
-  // A picture needs the width of its place, so each tab is shown while it is drawn first.
+  // A picture needs the width of its place, so each tab is shown while it is first drawn.
   show("checker");
   await (file?.kind === "pair" ? checker.open(file.text) : checker.choose(FIRST_PAIR));
   show("collector");
@@ -93,7 +93,7 @@ async function start() {
   document.body.dataset.ready = "yes";
 }
 
-// A file that is dropped beside a place for files would be opened instead of the page.
+// If a file is dropped outside a place for files, the browser would open it instead of the page.
 for (const kind of ["dragover", "drop"]) {
   addEventListener(kind, (event) => event.preventDefault());
 }

@@ -62,7 +62,7 @@ const STEPS = {
   drop: { dropped: "The collector gave the collection up, with its new space and its logs." },
 };
 
-// Says what a value is, from its words in a reply.
+// Describes a value, from its words in a reply.
 function value([sort, first, second]) {
   const others = { nil: "nil", num: `the number ${first}` };
   return others[sort] ?? `a reference to ${sort === "raw" ? "a raw object" : "an object"} of kind ${first} ${withFields(second, "")}`;

@@ -1,4 +1,4 @@
-// Renders a picture as SVG. The server lays pictures out; gcflip_drawing/picture.py says what a description is made of.
+// Renders a picture as SVG. The server lays pictures out; gcflip_drawing/picture.py defines the descriptions.
 
 const NAMESPACE = "http://www.w3.org/2000/svg";
 // The roles of arrows that have a head.

@@ -27,10 +27,10 @@ export function say(text) {
   message.hidden = !text;
 }
 
-// The server takes no longer texts.
+// The server refuses longer texts.
 const MOST_BYTES = 8388608;
 
-// Returns the text of a file. A byte that is no text becomes a character that no format has. Throws an Error if the file is too large.
+// Returns the text of a file. A byte that is not text becomes a character that no format has. Throws an Error if the file is too large.
 export async function textOf(file) {
   if (file.size > MOST_BYTES) {
     throw new Error(`This page takes texts of up to ${MOST_BYTES >> 20} MiB. 'gcflip' itself takes longer ones.`);

@@ -4,8 +4,8 @@ import { byId, make } from "./elements.js";
 
 const EXAMPLE = "write_while_scanning";
 
-// Of each stop: the number of events that are played, the places of the page to look at, a title, and paragraphs. `reply` is what
-// the last event is answered; the tests compare it with the program's.
+// For each stop: the number of events that are played, the places of the page to look at, a title, and paragraphs. `reply` is the reply
+// to the last event; the tests compare it with the program's.
 export const STOPS = [
   {
     position: 0, look: ["trace", "heap"], title: "A program, a collector, and one heap",
@@ -83,7 +83,7 @@ export const STOPS = [
 ];
 
 export class Tour {
-  // `onStart` brings the tab of the collector in front.
+  // `onStart` brings the tab of the collector to the front.
   constructor(collector, onStart) {
     this.collector = collector;
     this.onStart = onStart;
