@@ -15,16 +15,14 @@ use std::sync::Wait;
 use std::test::Fail;
 use std::thread::{Threads, join};
 
-#[test]
-fn one_seat_of_each_kind(rt: HostRuntime) -> Result<(), Fail> {
-    let r0 = Slot::own(0).ok_or("slot")?;
+/// Returns the rows of a run in which the mutator writes to an object that is already copied.
+fn write_while_scanning(r0: Slot) -> [Row; 10] {
     let new = Op::New {
         d: r0,
         kind: 0,
         len: 1,
     };
-    let put = Op::Put { s: r0, i: 0, t: r0 };
-    let rows = [
+    [
         Row::Call(new, Reply::Made),
         Row::Step(Step::Scan, StepReply::Idle),
         Row::Step(Step::Apply(0), StepReply::Idle),
@@ -32,15 +30,26 @@ fn one_seat_of_each_kind(rt: HostRuntime) -> Result<(), Fail> {
         Row::Useful(Step::Roots, StepReply::Copied),
         Row::Useful(Step::Scan, StepReply::Scanned),
         Row::Useful(Step::Scan, StepReply::Passed),
-        Row::Call(put, Reply::Done),
+        Row::Call(write_of(r0), Reply::Done),
         Row::Useful(Step::Apply(0), StepReply::Applied),
         Row::Useful(Step::Flip, StepReply::Flipped { pairs: 1 }),
-    ];
+    ]
+}
+
+/// Returns the command that writes a reference to the object in `r0` to that object's first field.
+fn write_of(r0: Slot) -> Op {
+    Op::Put { s: r0, i: 0, t: r0 }
+}
+
+#[test]
+fn one_seat_of_each_kind(rt: HostRuntime) -> Result<(), Fail> {
+    let r0 = Slot::own(0).ok_or("slot")?;
+    let rows = write_while_scanning(r0);
     let mut opened = fresh(rt.alloc())?;
     assert!(rt; are_fresh(&opened));
-    assert!(rt; refuses_the_wrong_seats(&rt, &mut opened, &new));
+    assert!(rt; refuses_the_wrong_seats(&rt, &mut opened, r0));
     play(&rt, &mut opened, &rows);
-    assert!(rt; has_receipts_of_the_write(&opened, put));
+    assert!(rt; has_receipts_of_the_write(&opened, r0));
     let seats = two_seats(rt.alloc(), opened.collector, opened.mutator)?;
     let world = opened.shared.close(seats).map_err(|fault| fault.kind)?;
     assert!(rt; is_history_of(world.history(), &rows));
@@ -65,10 +74,10 @@ fn are_fresh(opened: &Opened) -> bool {
 fn refuses_the_wrong_seats<R: Threads + Wait + Sync>(
     rt: &R,
     opened: &mut Opened,
-    new: &Op,
+    r0: Slot,
 ) -> bool {
     let shared = &opened.shared;
-    shared.call(rt, &mut opened.collector, new) == Err(CallFault::NotAMutator)
+    shared.call(rt, &mut opened.collector, &Op::Nil { d: r0 }) == Err(CallFault::NotAMutator)
         && shared.step(rt, &mut opened.mutator, Step::Scan) == Err(CallFault::NotACollector)
         && shared.useful(rt, &mut opened.mutator) == Err(CallFault::NotACollector)
         && shared.step(rt, &mut opened.collector, Step::Apply(1)) == Err(CallFault::NoSuchMutator)
@@ -76,13 +85,13 @@ fn refuses_the_wrong_seats<R: Threads + Wait + Sync>(
 
 /// Returns whether the mutator's seat has two receipts, the last of the write, which is the eighth event, and the
 /// collector's seat the eight others.
-fn has_receipts_of_the_write(opened: &Opened, put: Op) -> bool {
+fn has_receipts_of_the_write(opened: &Opened, r0: Slot) -> bool {
     let receipts = opened.mutator.receipts();
     receipts.len() == 2
         && opened.collector.receipts().len() == 8
         && receipts
             .last()
-            .is_some_and(|written| is_of_the_write(written, put))
+            .is_some_and(|written| is_of_the_write(written, write_of(r0)))
 }
 
 /// Returns whether the receipt is that of the write.
