@@ -4,6 +4,7 @@ use gc_words::{ImageRef, NewAddr, OldAddr, Pair};
 use std::alloc::Global;
 use std::io;
 use std::io::{Read, Write};
+use std::process::Abort;
 use std::test::Fail;
 
 /// Two images without objects.
@@ -244,54 +245,57 @@ fn a_front_goes_out_before_the_writer_fails(rt: HostRuntime) -> Result<(), Fail>
     Ok(())
 }
 
-#[test]
-fn what_is_out_of_range_has_no_text(rt: HostRuntime) -> Result<(), Fail> {
-    let words = [0u64; 2];
-    let roots = vec![in rt.alloc(); 0u64; 273]?;
-    let pair = Pair {
-        old: OldAddr(u32::MAX),
-        new: NewAddr(u32::MAX),
-    };
-    let pairs = vec![in rt.alloc(); pair; 524287]?;
-    let many = vec![in rt.alloc(); pair; 524288]?;
-    let good = ImageRef {
-        size: 1048576,
-        end: 2,
-        words: &words,
-        roots: &roots[..272],
-        raws: true,
-    };
+/// Returns whether neither of the two has a text with the other.
+fn do_not_fit(one: ImageRef, other: ImageRef, pairs: &[Pair]) -> bool {
+    !pair_fits(one, other, pairs) && !pair_fits(other, one, pairs)
+}
+
+/// Asserts that an image fits with itself, with and without raw headers, and not with one that differs in that.
+fn expect_fitting(rt: &impl Abort, good: ImageRef, pairs: &[Pair]) {
     let without = ImageRef {
         raws: false,
         ..good
     };
-    assert!(rt; pair_fits(good, good, &pairs));
-    assert!(rt; pair_fits(without, without, &pairs));
-    assert!(rt; !pair_fits(good, without, &pairs));
-    assert!(rt; !pair_fits(without, good, &pairs));
-    assert!(rt; !pair_fits(good, good, &many));
-    let bad = [
-        ImageRef { size: 0, ..good },
-        ImageRef {
-            size: 1048577,
-            ..good
-        },
-        ImageRef { end: 1, ..good },
-        ImageRef { end: 3, ..good },
-        ImageRef {
-            end: 0,
-            words: &words[..0],
-            ..good
-        },
-        ImageRef {
-            roots: &roots,
-            ..good
-        },
-    ];
-    for image in bad {
-        assert!(rt; !pair_fits(image, good, &pairs));
-        assert!(rt; !pair_fits(good, image, &pairs));
+    assert!(rt; pair_fits(good, good, pairs));
+    assert!(rt; pair_fits(without, without, pairs));
+    assert!(rt; do_not_fit(good, without, pairs));
+}
+
+/// Asserts that an image of two words and 272 roots has no text once a number of it is out of range.
+fn expect_out_of_range(rt: &impl Abort, good: ImageRef, pairs: &[Pair]) {
+    for size in [0, 1048577] {
+        assert!(rt; do_not_fit(ImageRef { size, ..good }, good, pairs));
     }
+    for end in [1, 3] {
+        assert!(rt; do_not_fit(ImageRef { end, ..good }, good, pairs));
+    }
+    let empty = ImageRef {
+        end: 0,
+        words: &[],
+        ..good
+    };
+    assert!(rt; do_not_fit(empty, good, pairs));
+    let roots = &[0u64; 273];
+    assert!(rt; do_not_fit(ImageRef { roots, ..good }, good, pairs));
+}
+
+#[test]
+fn what_is_out_of_range_has_no_text(rt: HostRuntime) -> Result<(), Fail> {
+    let good = ImageRef {
+        size: 1048576,
+        end: 2,
+        words: &[0u64; 2],
+        roots: &[0u64; 272],
+        raws: true,
+    };
+    let pair = Pair {
+        old: OldAddr(u32::MAX),
+        new: NewAddr(u32::MAX),
+    };
+    let pairs = vec![in rt.alloc(); pair; 524288]?;
+    expect_fitting(&rt, good, &pairs[1..]);
+    expect_out_of_range(&rt, good, &pairs[1..]);
+    assert!(rt; !pair_fits(good, good, &pairs));
     Ok(())
 }
 

@@ -1,4 +1,3 @@
-mod growths;
 mod rows;
 
 ghost use Rattle.std.specs.Prelude.{◌≡◌, ◌≤◌, IfOk};
@@ -26,24 +25,42 @@ fn empty(alloc: Global, size: u32, mutators: u8) -> Result<Heap, NoMemory>
     Heap::new(alloc, size, mutators)
 }
 
-/// Flips, and returns the pairs and the new roots.
-fn flip(
+/// Performs the rows and flips. Returns how many pairs there were, the first of them, and the new root word of r0.
+fn play_and_flip(
+    rt: &impl Abort,
     alloc: Global,
-    collection: Collection,
+    mut collection: Collection,
     heap: &mut Heap,
-) -> Result<(Vec<Pair>, Vec<u64>), NoMemory>
+    rows: &[Row],
+) -> Result<(usize, Option<Pair>, Option<u64>), NoMemory>
     requires belongs { BelongsTo heap.old collection }
     ensures idle { IfOk result (λ _. HasNoLinks heap.new) }
     ensures mutators { heap.new.mutators ≡ heap.old.mutators }
 {
-    if !collection.ready(heap) {
-        return Err(NoMemory);
-    }
+    play(rt, &mut collection, heap, rows)?;
+    assert!(rt; collection.ready(heap));
     let pairs = collection.pairs(alloc)?;
+    let flipped = (pairs.len(), pairs.first().copied());
     let roots = collection.new_roots(alloc, heap)?;
-    let kept = collection.new_roots(alloc, heap)?;
+    let r0 = roots.get(16).copied();
     let (_, _) = collection.flip_into(heap, roots);
-    Ok((pairs, kept))
+    Ok((flipped.0, flipped.1, r0))
+}
+
+/// Performs the rows and gives the collection up.
+fn play_and_drop(
+    rt: &impl Abort,
+    mut collection: Collection,
+    heap: &mut Heap,
+    rows: &[Row],
+) -> Result<(), NoMemory>
+    requires belongs { BelongsTo heap.old collection }
+    ensures idle { IfOk result (λ _. HasNoLinks heap.new) }
+    ensures mutators { heap.new.mutators ≡ heap.old.mutators }
+{
+    play(rt, &mut collection, heap, rows)?;
+    collection.drop_into(heap);
+    Ok(())
 }
 
 #[test]
@@ -54,7 +71,7 @@ fn write_while_scanning(rt: HostRuntime) -> Result<(), Fail> {
     let mut heap = empty(rt.alloc(), 32, 1)?;
     let made = [(new(r0, 1, 1), Reply::Made), (num(&rt, r1, 9), Reply::Done)];
     play_idle(&rt, &mut heap, &made);
-    let mut collection = Collection::begin(rt.alloc(), &heap)?;
+    let collection = Collection::begin(rt.alloc(), &heap)?;
     let rows = [
         Row::Roots(StepReply::Copied),
         Row::Scan(StepReply::Scanned),
@@ -64,14 +81,12 @@ fn write_while_scanning(rt: HostRuntime) -> Result<(), Fail> {
         Row::Apply(0, StepReply::Applied),
         Row::Ready(true),
     ];
-    play(&rt, &mut collection, &mut heap, &rows)?;
-    let (pairs, roots) = flip(rt.alloc(), collection, &mut heap)?;
-    let copied = [Pair {
+    let flipped = play_and_flip(&rt, rt.alloc(), collection, &mut heap, &rows)?;
+    let copied = Pair {
         old: OldAddr(1),
         new: NewAddr(1),
-    }];
-    assert_eq!(rt; pairs.as_slice(), copied.as_slice());
-    assert_eq!(rt; roots.get(16).copied(), Some(2));
+    };
+    assert_eq!(rt; flipped, (1, Some(copied), Some(2)));
     play_idle(&rt, &mut heap, &[(get(r2, r0, 0), saw(&rt, 9))]);
     Ok(())
 }
@@ -101,7 +116,7 @@ fn raw_object_is_written_while_it_is_copied(rt: HostRuntime) -> Result<(), Fail>
     let r0 = own(&rt, 0);
     let r1 = own(&rt, 1);
     let mut heap = raw_eight(&rt, rt.alloc(), r0, r1)?;
-    let mut collection = Collection::begin(rt.alloc(), &heap)?;
+    let collection = Collection::begin(rt.alloc(), &heap)?;
     let rows = [
         Row::Roots(StepReply::Copied),
         Row::Command(0, num(&rt, r1, 10), Reply::Done),
@@ -111,9 +126,8 @@ fn raw_object_is_written_while_it_is_copied(rt: HostRuntime) -> Result<(), Fail>
         Row::Ready(false),
         Row::Apply(0, StepReply::Applied),
     ];
-    play(&rt, &mut collection, &mut heap, &rows)?;
-    let (_, roots) = flip(rt.alloc(), collection, &mut heap)?;
-    assert_eq!(rt; roots.get(16).copied(), Some(2));
+    let (_, _, root) = play_and_flip(&rt, rt.alloc(), collection, &mut heap, &rows)?;
+    assert_eq!(rt; root, Some(2));
     let read = [
         (get(r1, r0, 0), saw(&rt, 8)),
         (get(r1, r0, 1), saw(&rt, 10)),
@@ -144,7 +158,7 @@ fn log_across_two_mutators(rt: HostRuntime) -> Result<(), Fail> {
     let r1 = own(&rt, 1);
     let mut heap = empty(rt.alloc(), 32, 2)?;
     play_idle(&rt, &mut heap, &[(new(g0, 1, 1), Reply::Made)]);
-    let mut collection = Collection::begin(rt.alloc(), &heap)?;
+    let collection = Collection::begin(rt.alloc(), &heap)?;
     let rows = [
         Row::Roots(StepReply::Copied),
         Row::Scan(StepReply::Scanned),
@@ -161,9 +175,8 @@ fn log_across_two_mutators(rt: HostRuntime) -> Result<(), Fail> {
         Row::Apply(0, StepReply::Clean),
         Row::NextLog(None),
     ];
-    play(&rt, &mut collection, &mut heap, &rows)?;
-    let (pairs, _) = flip(rt.alloc(), collection, &mut heap)?;
-    assert_eq!(rt; pairs.len(), 1);
+    let (pairs, _, _) = play_and_flip(&rt, rt.alloc(), collection, &mut heap, &rows)?;
+    assert_eq!(rt; pairs, 1);
     play_idle(&rt, &mut heap, &[(get(r1, g0, 0), saw(&rt, 8))]);
     Ok(())
 }
@@ -173,14 +186,13 @@ fn link_left_over(rt: HostRuntime) -> Result<(), Fail> {
     let r0 = own(&rt, 0);
     let mut heap = empty(rt.alloc(), 16, 1)?;
     play_idle(&rt, &mut heap, &[(new(r0, 2, 1), Reply::Made)]);
-    let mut given_up = Collection::begin(rt.alloc(), &heap)?;
     let copied_and_logged = [
         Row::Roots(StepReply::Copied),
         Row::Command(0, put(r0, 0, r0), Reply::Done),
     ];
-    play(&rt, &mut given_up, &mut heap, &copied_and_logged)?;
-    given_up.drop_into(&mut heap);
-    let mut collection = Collection::begin(rt.alloc(), &heap)?;
+    let given_up = Collection::begin(rt.alloc(), &heap)?;
+    play_and_drop(&rt, given_up, &mut heap, &copied_and_logged)?;
+    let collection = Collection::begin(rt.alloc(), &heap)?;
     let rows = [
         Row::Apply(0, StepReply::Clean),
         Row::Roots(StepReply::Copied),
@@ -190,10 +202,8 @@ fn link_left_over(rt: HostRuntime) -> Result<(), Fail> {
         Row::Scan(StepReply::Passed),
         Row::ScanDone(true),
     ];
-    play(&rt, &mut collection, &mut heap, &rows)?;
-    let (pairs, roots) = flip(rt.alloc(), collection, &mut heap)?;
-    assert_eq!(rt; pairs.len(), 1);
-    assert_eq!(rt; roots.get(16).copied(), Some(2));
+    let (pairs, _, root) = play_and_flip(&rt, rt.alloc(), collection, &mut heap, &rows)?;
+    assert_eq!(rt; (pairs, root), (1, Some(2)));
     Ok(())
 }
 
@@ -203,7 +213,7 @@ fn entry_stays_without_room(rt: HostRuntime) -> Result<(), Fail> {
     let r1 = own(&rt, 1);
     let mut heap = empty(rt.alloc(), 16, 1)?;
     play_idle(&rt, &mut heap, &[(new(r0, 1, 1), Reply::Made)]);
-    let mut collection = Collection::begin_sized(rt.alloc(), &heap, 5)?;
+    let collection = Collection::begin_sized(rt.alloc(), &heap, 5)?;
     let rows = [
         Row::Roots(StepReply::Copied),
         Row::Scan(StepReply::Scanned),
@@ -218,9 +228,8 @@ fn entry_stays_without_room(rt: HostRuntime) -> Result<(), Fail> {
         Row::Apply(0, StepReply::Applied),
         Row::Apply(0, StepReply::Clean),
     ];
-    play(&rt, &mut collection, &mut heap, &rows)?;
-    let (pairs, _) = flip(rt.alloc(), collection, &mut heap)?;
-    assert_eq!(rt; pairs.len(), 1);
+    let (pairs, _, _) = play_and_flip(&rt, rt.alloc(), collection, &mut heap, &rows)?;
+    assert_eq!(rt; pairs, 1);
     // The mutators' space has the new size.
     assert_eq!(rt; heap.space().size(), 5);
     Ok(())
@@ -231,11 +240,10 @@ fn too_small_for_a_replica(rt: HostRuntime) -> Result<(), Fail> {
     let r0 = own(&rt, 0);
     let mut heap = empty(rt.alloc(), 7, 1)?;
     play_idle(&rt, &mut heap, &[(new(r0, 3, 4), Reply::Made)]);
-    let mut small = Collection::begin_sized(rt.alloc(), &heap, 6)?;
     let full = [Row::Roots(StepReply::NoRoom), Row::Ready(false)];
-    play(&rt, &mut small, &mut heap, &full)?;
-    small.drop_into(&mut heap);
-    let mut collection = Collection::begin_sized(rt.alloc(), &heap, 12)?;
+    let small = Collection::begin_sized(rt.alloc(), &heap, 6)?;
+    play_and_drop(&rt, small, &mut heap, &full)?;
+    let collection = Collection::begin_sized(rt.alloc(), &heap, 12)?;
     let rows = [
         Row::Roots(StepReply::Copied),
         Row::Scan(StepReply::Scanned),
@@ -244,9 +252,8 @@ fn too_small_for_a_replica(rt: HostRuntime) -> Result<(), Fail> {
         Row::Scan(StepReply::Scanned),
         Row::Scan(StepReply::Passed),
     ];
-    play(&rt, &mut collection, &mut heap, &rows)?;
-    let (pairs, _) = flip(rt.alloc(), collection, &mut heap)?;
-    assert_eq!(rt; pairs.len(), 1);
+    let (pairs, _, _) = play_and_flip(&rt, rt.alloc(), collection, &mut heap, &rows)?;
+    assert_eq!(rt; pairs, 1);
     assert_eq!(rt; heap.space().free(), 5);
     Ok(())
 }

@@ -1,4 +1,3 @@
-mod growths;
 mod rows;
 
 ghost use Rattle.std.specs.Prelude.{◌≡◌, IfOk};

@@ -1,4 +1,4 @@
-ghost use Rattle.std.specs.Prelude.{◌≡◌, ◌≤◌, ◌<◌};
+ghost use Rattle.std.specs.Prelude.{◌≡◌, ◌≤◌, ◌<◌, IfOk};
 ghost use Rattle.gc_graph.specs.Limits.{most_words};
 ghost use Rattle.gc_graph.specs.Machine.{HasMutator};
 
@@ -237,21 +237,42 @@ fn exactly_full(rt: HostRuntime) -> Result<(), Fail> {
     expect_replies(&rt, rt.alloc(), 1048576, &commands, &expected)
 }
 
+/// Returns a heap of 9 words with an object of kind 1 and two fields in r0.
+fn with_an_object(rt: &impl Abort, alloc: Global, r0: Slot) -> Result<Heap, NoMemory>
+    ensures { IfOk result (λ heap. heap.mutators ≡ 1) }
+{
+    let mut heap = Heap::new(alloc, 9, 1)?;
+    expect(rt, &mut heap, &new(r0, 1, 2), Reply::Made);
+    Ok(heap)
+}
+
+/// Asserts that a command of the first mutator gets this reply.
+fn expect(rt: &impl Abort, heap: &mut Heap, op: &Op, reply: Reply)
+    requires { 0 < heap.old.mutators }
+    ensures { heap.new.mutators ≡ heap.old.mutators }
+{
+    assert_eq!(rt; heap.apply(0, op), reply);
+}
+
+/// Asserts that the heap's image has these words, of which the last is before its end.
+fn expect_words(rt: &impl Abort, heap: &Heap, words: &[u64]) {
+    let image = heap.image();
+    assert_eq!(rt; image.words, words);
+    assert_eq!(rt; image.end as usize, words.len());
+}
+
 #[test]
 fn words_of_an_object(rt: HostRuntime) -> Result<(), Fail> {
     let r0 = Slot::own(0).ok_or("slot")?;
-    let mut heap = Heap::new(rt.alloc(), 9, 1)?;
-    assert_eq!(rt; heap.apply(0, &new(r0, 1, 2)), Reply::Made);
-    assert_eq!(rt; heap.apply(0, &Op::Put { s: r0, i: 1, t: r0 }), Reply::Done);
+    let mut heap = with_an_object(&rt, rt.alloc(), r0)?;
+    expect(&rt, &mut heap, &Op::Put { s: r0, i: 1, t: r0 }, Reply::Done);
+    expect_words(&rt, &heap, &[0, 16842754, 0, 0, 2]);
     let image = heap.image();
-    assert_eq!(rt; (image.size, image.end), (9, 5));
-    assert_eq!(rt; image.words, [0, 16842754, 0, 0, 2].as_slice());
     assert_eq!(rt;
-        (image.roots.len(), heap.roots().len(), heap.mutators()),
-        (32, 32, 1)
+        (image.size, image.roots.len(), heap.space().end()),
+        (9, 32, 5)
     );
-    assert_eq!(rt; heap.roots().get(16), Some(&2));
-    assert_eq!(rt; heap.space().end(), 5);
+    assert_eq!(rt; heap.roots().get(16).copied(), Some(2));
     assert_eq!(rt; heap.target(0, r0), Some(OldAddr(1)));
     Ok(())
 }
@@ -259,31 +280,29 @@ fn words_of_an_object(rt: HostRuntime) -> Result<(), Fail> {
 #[test]
 fn links_are_no_matter_of_mutators(rt: HostRuntime) -> Result<(), Fail> {
     let r0 = Slot::own(0).ok_or("slot")?;
-    let mut heap = Heap::new(rt.alloc(), 9, 1)?;
-    assert_eq!(rt; heap.apply(0, &new(r0, 1, 2)), Reply::Made);
+    let mut heap = with_an_object(&rt, rt.alloc(), r0)?;
     let Some(at) = heap.target(0, r0) else {
         return Err("no object".into());
     };
     heap.set_link(at, NewAddr(7));
-    assert_eq!(rt; heap.image().words, [0, 16842754, 7, 0, 0].as_slice());
-    assert_eq!(rt; heap.apply(0, &Op::Look { s: r0 }), object(1, 2));
+    expect_words(&rt, &heap, &[0, 16842754, 7, 0, 0]);
+    expect(&rt, &mut heap, &Op::Look { s: r0 }, object(1, 2));
     heap.clear_links();
-    assert_eq!(rt; heap.image().words, [0, 16842754, 0, 0, 0].as_slice());
+    expect_words(&rt, &heap, &[0, 16842754, 0, 0, 0]);
     Ok(())
 }
 
 #[test]
 fn another_space_is_put_in_place(rt: HostRuntime) -> Result<(), Fail> {
     let r0 = Slot::own(0).ok_or("slot")?;
-    let mut heap = Heap::new(rt.alloc(), 9, 1)?;
-    assert_eq!(rt; heap.apply(0, &new(r0, 1, 2)), Reply::Made);
     let space = Space::new(rt.alloc(), 3)?;
     let roots = vec![in rt.alloc(); 0u64; 32]?;
+    let mut heap = with_an_object(&rt, rt.alloc(), r0)?;
     let (former_space, former_roots) = heap.replace(space, roots);
     assert_eq!(rt; former_space.words(), [0, 16842754, 0, 0, 0].as_slice());
-    assert_eq!(rt; former_roots.get(16), Some(&2));
-    assert_eq!(rt; heap.image().words, [0].as_slice());
-    assert_eq!(rt; heap.apply(0, &new(r0, 1, 0)), Reply::Made);
-    assert_eq!(rt; heap.apply(0, &new(r0, 1, 0)), Reply::Full);
+    assert_eq!(rt; former_roots.get(16).copied(), Some(2));
+    expect_words(&rt, &heap, &[0]);
+    expect(&rt, &mut heap, &new(r0, 1, 0), Reply::Made);
+    expect(&rt, &mut heap, &new(r0, 1, 0), Reply::Full);
     Ok(())
 }

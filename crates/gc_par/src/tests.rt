@@ -1,5 +1,4 @@
 mod altered;
-mod growths;
 mod rows;
 mod slow_check;
 mod streams;

@@ -1,6 +1,5 @@
 mod closing;
 mod gates;
-mod growths;
 mod rows;
 
 use crate::{CallFault, CloseKind, Receipt, Seat, Shared, ThreadsFault};

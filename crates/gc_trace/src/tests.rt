@@ -1,4 +1,3 @@
-mod growths;
 mod pairs;
 mod plays;
 mod reader;

@@ -1,5 +1,4 @@
 mod entries;
-mod growths;
 mod rows;
 
 use crate::World;

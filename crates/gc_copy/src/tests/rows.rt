@@ -139,12 +139,7 @@ fn expect<T: Copy + PartialEq + Debug>(rt: &impl Abort, place: usize, got: T, wa
 }
 
 /// Performs a command of mutator `m` while the collection is open.
-pub fn mutate(
-    collection: &mut Collection,
-    heap: &mut Heap,
-    m: u8,
-    op: &Op,
-) -> Result<Reply, NoMemory>
+fn mutate(collection: &mut Collection, heap: &mut Heap, m: u8, op: &Op) -> Result<Reply, NoMemory>
     requires belongs { BelongsTo heap.old collection.old }
     requires mutator { m < heap.old.mutators }
     ensures belongs { BelongsTo heap.new collection.new }

@@ -68,7 +68,7 @@ pub fn play(rt: &impl Abort, heap: &mut CollectedHeap, rows: &[Row]) -> Result<(
 }
 
 /// Performs a row and tests its answer. On `NoMemory` the heap is unchanged.
-pub fn perform(
+fn perform(
     rt: &impl Abort,
     heap: &mut CollectedHeap,
     place: usize,

@@ -38,7 +38,7 @@ fn one(alloc: Global, first: &[Op]) -> Result<Vec<Vec<Op>>, AllocError>
     Ok(scripts)
 }
 
-pub(super) fn two(alloc: Global, first: &[Op], second: &[Op]) -> Result<Vec<Vec<Op>>, AllocError>
+fn two(alloc: Global, first: &[Op], second: &[Op]) -> Result<Vec<Vec<Op>>, AllocError>
     ensures { IfOk result (λ scripts. vec_len scripts ≡ 2) }
 {
     let mut scripts = Vec::new(alloc);
@@ -63,7 +63,7 @@ fn two_numbers(alloc: Global) -> Result<Vec<Vec<Op>>, Fail>
 }
 
 /// Returns two scripts. The first writes 5 to the field of a new shared object, and the second reads the field.
-pub(super) fn write_and_read() -> Result<([Op; 3], [Op; 1]), Fail> {
+fn write_and_read() -> Result<([Op; 3], [Op; 1]), Fail> {
     let g0 = Slot::shared(0).ok_or("slot")?;
     let r0 = Slot::own(0).ok_or("slot")?;
     let r1 = Slot::own(1).ok_or("slot")?;
@@ -120,11 +120,16 @@ fn expect_after_write<R: Threads + Wait + Clock + Abort + Sync>(
         written: AtomicBool::new(false),
     };
     let world = run_threads(rt, alloc, 64, scripts, 40, &gate)?;
+    expect_answers(rt, &world, events, answers);
+    Ok(())
+}
+
+/// Asserts how many events there are, and how often each mutator got an answer.
+fn expect_answers(rt: &impl Abort, world: &World, events: usize, answers: &[(u8, Answer, u32)]) {
     assert_eq!(rt; world.history().len(), events);
     for (m, answer, count) in answers {
-        assert!(rt; answers_of(&world, *m, *answer) == *count);
+        assert!(rt; answers_of(world, *m, *answer) == *count);
     }
-    Ok(())
 }
 
 /// Returns the answer that shows the number 5.
@@ -390,8 +395,8 @@ fn a_command_is_told_once_it_is_made(rt: HostRuntime) -> Result<(), Fail> {
         answered: AtomicBool::new(false),
     };
     let world = run_threads(&rt, rt.alloc(), 64, scripts, 0, &gate)?;
-    assert_eq!(rt; world.history().len(), 5);
-    assert!(rt; answers_of(&world, 1, saw_five()?) == 2);
+    let answers = [(0, Answer::Mutator(Reply::Made), 1), (1, saw_five()?, 2)];
+    expect_answers(&rt, &world, 5, &answers);
     Ok(())
 }
 

@@ -4,9 +4,9 @@
 ghost use Rattle.std.specs.Prelude.{IsTrue};
 ghost use Rattle.gc_shared.specs.Seats.{HasSize};
 
-use crate::{CallFault, Seat, Shared};
+use crate::{Seat, Shared};
 use gc_copy::{Step, StepReply};
-use gc_graph::{MOST_WORDS, NoMemory, Op, Reply};
+use gc_graph::{MOST_WORDS, Op, Reply};
 use gc_world::Entry;
 use std::alloc::Global;
 use std::process::Abort;
@@ -33,12 +33,9 @@ pub enum Row {
     Useful(Step, StepReply),
 }
 
-/// Opens a world of 32 words for one mutator and one collector. Retries if an allocation fails.
+/// Opens a world of 32 words for one mutator and one collector.
 pub fn fresh(alloc: Global) -> Result<Opened, Fail> {
-    let (shared, mut seats) = match Shared::open(alloc, 32, 1, 1) {
-        Ok(opened) => opened,
-        Err(NoMemory) => Shared::open(alloc, 32, 1, 1)?,
-    };
+    let (shared, mut seats) = Shared::open(alloc, 32, 1, 1)?;
     let collector = seats.pop().ok_or("two seats")?;
     let mutator = seats.pop().ok_or("two seats")?;
     Ok(Opened {
@@ -65,17 +62,17 @@ pub fn play(rt: &(impl Threads + Wait + Abort + Sync), opened: &mut Opened, rows
 
 /// Performs a row, and returns whether it gave the answer of the row.
 fn is_answered(rt: &(impl Threads + Wait + Abort + Sync), opened: &mut Opened, row: &Row) -> bool {
+    let Opened {
+        shared,
+        mutator,
+        collector,
+    } = opened;
     match row {
-        Row::Call(op, reply) => {
-            call_again(rt, &opened.shared, &mut opened.mutator, op) == Ok(*reply)
-        }
+        Row::Call(op, reply) => shared.call(rt, mutator, op) == Ok(*reply),
         Row::Step(step, reply) => {
-            has_size(*step)
-                && step_again(rt, &opened.shared, &mut opened.collector, *step) == Ok(*reply)
+            has_size(*step) && shared.step(rt, collector, *step) == Ok(*reply)
         }
-        Row::Useful(step, reply) => {
-            useful_again(rt, &opened.shared, &mut opened.collector) == Ok((*step, *reply))
-        }
+        Row::Useful(step, reply) => shared.useful(rt, collector) == Ok((*step, *reply)),
     }
 }
 
@@ -109,53 +106,4 @@ pub fn is_history_of(history: &[Entry], rows: &[Row]) -> bool {
         }
     }
     true
-}
-
-fn call_again(
-    rt: &(impl Wait + Abort),
-    shared: &Shared,
-    seat: &mut Seat,
-    op: &Op,
-) -> Result<Reply, CallFault> {
-    let count = seat.receipts().len();
-    match shared.call(rt, seat, op) {
-        Err(CallFault::NoMemory) => {
-            assert_eq!(rt; seat.receipts().len(), count);
-            shared.call(rt, seat, op)
-        }
-        answer => answer,
-    }
-}
-
-fn step_again(
-    rt: &(impl Threads + Wait + Abort + Sync),
-    shared: &Shared,
-    seat: &mut Seat,
-    step: Step,
-) -> Result<StepReply, CallFault>
-    requires { HasSize step }
-{
-    let count = seat.receipts().len();
-    match shared.step(rt, seat, step) {
-        Err(CallFault::NoMemory) => {
-            assert_eq!(rt; seat.receipts().len(), count);
-            shared.step(rt, seat, step)
-        }
-        answer => answer,
-    }
-}
-
-fn useful_again(
-    rt: &(impl Threads + Wait + Abort + Sync),
-    shared: &Shared,
-    seat: &mut Seat,
-) -> Result<(Step, StepReply), CallFault> {
-    let count = seat.receipts().len();
-    match shared.useful(rt, seat) {
-        Err(CallFault::NoMemory) => {
-            assert_eq!(rt; seat.receipts().len(), count);
-            shared.useful(rt, seat)
-        }
-        answer => answer,
-    }
 }

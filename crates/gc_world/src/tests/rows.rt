@@ -46,7 +46,7 @@ pub fn play(
 }
 
 /// Performs a row and tests its answer. On `NoMemory` the world is unchanged.
-pub fn perform(
+fn perform(
     rt: &(impl Threads + Sync + Abort),
     world: &mut World,
     in_threads: bool,
