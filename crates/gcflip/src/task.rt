@@ -2,7 +2,7 @@ ghost use Rattle.std.specs.Prelude.{◌≡◌, ◌⊎◌, ℕ, List, [], ◌∷�
 ghost use Rattle.std.specs.Prelude.{Some, None, IfSome, IfOk, IfErr, IsSomeAnd, MatchResult};
 ghost use Rattle.clap.specs.Words.{Row, app_of, fault_of, first_of, kind_of, rule_of, subcommand_of, subcommand_rows_of};
 ghost use Rattle.clap.specs.declared.builder.Command.TheViews.{out-Command};
-ghost use Rattle.gcflip.specs.CommandLine.{IsAskedBy, IsFor, IsInRange, IsPlainArgument, command_line, file_command, number_command, flip_rule, turns_rule};
+ghost use Rattle.gcflip.specs.CommandLine.{IsAskedBy, IsFor, IsInRange, IsPlainArgument, command_line, file_command, files_line, number_command, flip_rule, turns_rule};
 
 use clap::error::ErrorKind;
 use clap::{Arg, ArgMatches, Command, Error, value_parser};
@@ -74,39 +74,45 @@ fn on_file_with<'a>(
     Ok(on_file(alloc, name, about)?.arg(number)?)
 }
 
-/// Returns the definition of the program's command line.
-fn command<'a>(alloc: Global) -> Result<Command<'a>, Error>
-    ensures shape { IfOk result (λ c. app_of c ≡ command_line) }
+/// Returns the definition of the command line with the subcommands that take nothing but a file.
+fn files<'a>(alloc: Global) -> Result<Command<'a>, Error>
+    ensures shape { IfOk result (λ c. app_of c ≡ files_line) }
     ensures memory { IfErr result (λ e. kind_of e ≡ ErrorKind.OutOfMemory) }
 {
     let play = on_file(alloc, "play", "Plays a trace: writes a line for each reply")?;
+    let with_play = Command::new(alloc, "gcflip")
+        .about("Plays the trace on standard input, or does what a subcommand says")
+        .subcommand(play)?;
     let check = on_file(
         alloc,
         "check",
         "Checks a pair of heaps: writes the line of the verdict",
     )?;
+    let with_check = with_play.subcommand(check)?;
     let report = on_file(alloc, "report", "Plays a trace: writes a report of its run")?;
+    Ok(with_check.subcommand(report)?)
+}
+
+/// Returns the definition of the program's command line.
+fn command<'a>(alloc: Global) -> Result<Command<'a>, Error>
+    ensures shape { IfOk result (λ c. app_of c ≡ command_line) }
+    ensures memory { IfErr result (λ e. kind_of e ≡ ErrorKind.OutOfMemory) }
+{
+    let files = files(alloc)?;
     let pair = on_file_with(
         alloc,
         "pair",
         "Plays a trace: writes the pair of its N-th flip",
         flip_number(alloc),
     )?;
+    let with_pair = files.subcommand(pair)?;
     let threads = on_file_with(
         alloc,
         "threads",
         "Runs a trace's mutators in threads, beside a collector: writes the trace of what happened",
         turns(alloc),
     )?;
-    Ok(
-        Command::new(alloc, "gcflip")
-            .about("Plays the trace on standard input, or does what a subcommand says")
-            .subcommand(play)?
-            .subcommand(check)?
-            .subcommand(report)?
-            .subcommand(pair)?
-            .subcommand(threads)?,
-    )
+    Ok(with_pair.subcommand(threads)?)
 }
 
 /// Returns the task of `pair FILE N`. Clap has checked the number's range; the check here proves it.
