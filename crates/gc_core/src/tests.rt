@@ -32,28 +32,44 @@ fn written_while_scanning(rt: &impl Abort, alloc: Global) -> Result<CollectedHea
     Ok(heap)
 }
 
+/// Flips and keeps the pair. Returns the reply, and of a kept pair how many pairs of objects it has, the first of them,
+/// and the new root word of r0.
+fn flip_and_keep(
+    heap: &mut CollectedHeap,
+) -> Result<(StepReply, Option<(usize, Option<Pair>, Option<u64>)>), NoMemory>
+    ensures { heap.new.mutators ≡ heap.old.mutators }
+{
+    let flip = heap.flip(&Sequential, Keep::Pair)?;
+    let kept = match flip.pair {
+        Some(file) => Some((
+            file.pairs.len(),
+            file.pairs.first().copied(),
+            file.new.roots.get(16).copied(),
+        )),
+        None => None,
+    };
+    Ok((flip.reply, kept))
+}
+
 #[test]
 fn write_while_scanning(rt: HostRuntime) -> Result<(), Fail> {
     let r0 = own(&rt, 0);
     let r1 = own(&rt, 1);
     let mut heap = written_while_scanning(&rt, rt.alloc())?;
-    let early = heap.flip(&Sequential, Keep::Pair)?;
-    assert_eq!(rt; early.reply, StepReply::NotReady);
-    assert!(rt; early.pair.is_none());
+    let early = flip_and_keep(&mut heap)?;
+    assert!(rt; early == (StepReply::NotReady, None));
     let apply = [
         Row::Useful(Step::Apply(0)),
         Row::Call(Step::Apply(0), StepReply::Applied),
     ];
     play(&rt, &mut heap, &apply)?;
-    let flip = heap.flip(&Sequential, Keep::Pair)?;
-    assert_eq!(rt; flip.reply, StepReply::Flipped { pairs: 1 });
-    let file = flip.pair.ok_or("no pair")?;
-    let pairs = [Pair {
+    let copied = Pair {
         old: OldAddr(1),
         new: NewAddr(1),
-    }];
-    assert_eq!(rt; file.pairs.as_slice(), pairs.as_slice());
-    assert_eq!(rt; file.new.roots.get(16).copied(), Some(2));
+    };
+    let flipped = flip_and_keep(&mut heap)?;
+    let kept = Some((1, Some(copied), Some(2)));
+    assert!(rt; flipped == (StepReply::Flipped { pairs: 1 }, kept));
     let read = [Row::Command(get(r1, r0, 0), saw(&rt, 9))];
     play(&rt, &mut heap, &read)?;
     Ok(())
@@ -62,11 +78,9 @@ fn write_while_scanning(rt: HostRuntime) -> Result<(), Fail> {
 #[test]
 fn no_collection_to_read(rt: HostRuntime) -> Result<(), Fail> {
     let heap = CollectedHeap::open(rt.alloc(), 32, 1)?;
-    assert_eq!(rt; heap.mutators(), 1);
-    assert_eq!(rt; heap.new_space(), None);
-    assert_eq!(rt; heap.log_len(0), 0);
-    assert!(rt; heap.new_words().is_none());
     assert!(rt; !heap.is_open());
+    assert!(rt; heap.new_space() == None && heap.new_words().is_none());
+    assert_eq!(rt; (heap.mutators(), heap.log_len(0)), (1, 0));
     Ok(())
 }
 
@@ -74,35 +88,35 @@ fn no_collection_to_read(rt: HostRuntime) -> Result<(), Fail> {
 fn readings_of_an_open_collection(rt: HostRuntime) -> Result<(), Fail> {
     let heap = written_while_scanning(&rt, rt.alloc())?;
     assert!(rt; heap.is_open());
-    assert_eq!(rt; heap.size(), 32);
-    assert_eq!(rt; heap.end(), 4);
-    assert_eq!(rt; heap.free(), 28);
+    assert_eq!(rt; (heap.size(), heap.end(), heap.free()), (32, 4, 28));
     let scanned = NewSpace {
         size: 32,
         end: 4,
         scan_place: 4,
         scan_field: 0,
     };
-    assert_eq!(rt; heap.new_space(), Some(scanned));
+    assert!(rt; heap.new_space() == Some(scanned));
     let written = LogEntry {
         object: OldAddr(1),
         field: 0,
     };
-    assert_eq!(rt; heap.log_len(0), 1);
-    assert_eq!(rt; heap.log_entry(0, 0), Some(written));
-    assert_eq!(rt; heap.log_entry(0, 1), None);
+    assert!(rt; heap.log_len(0) == 1 && heap.log_entry(0, 0) == Some(written));
+    assert!(rt; heap.log_entry(0, 1) == None);
     Ok(())
+}
+
+/// Returns the words at two places.
+fn words_at(words: &[u64], first: usize, second: usize) -> (Option<u64>, Option<u64>) {
+    (words.get(first).copied(), words.get(second).copied())
 }
 
 #[test]
 fn words_of_an_open_collection(rt: HostRuntime) -> Result<(), Fail> {
     let heap = written_while_scanning(&rt, rt.alloc())?;
     // The original's link is its replica, and the replica's its original.
-    assert_eq!(rt; heap.image().words.get(2).copied(), Some(1));
-    assert_eq!(rt; heap.image().words.get(3).copied(), Some(19));
+    assert_eq!(rt; words_at(heap.image().words, 2, 3), (Some(1), Some(19)));
     let new_words = heap.new_words().ok_or("no words")?;
-    assert_eq!(rt; new_words.get(2).copied(), Some(1));
-    assert_eq!(rt; new_words.get(3).copied(), Some(0));
+    assert_eq!(rt; words_at(new_words, 2, 3), (Some(1), Some(0)));
     Ok(())
 }
 

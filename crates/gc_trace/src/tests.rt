@@ -1,3 +1,4 @@
+mod expectations;
 mod pairs;
 mod plays;
 mod reader;

@@ -1,5 +1,6 @@
 ghost use Rattle.std.specs.Prelude.{◌≤◌};
 
+use crate::tests::expectations::expect_bytes;
 use crate::tests::rows::{
     COLLECT_WHEN_FULL, CYCLE_OF_TWO, ENTRY_WITHOUT_ROOM, LINK_LEFT_OVER, LOG_ACROSS_TWO_MUTATORS,
     LOG_ENTRY_WITHOUT_A_REPLICA, NO_EVENTS, NOTHING_IS_FREED, NOTHING_TO_COPY,
@@ -80,17 +81,23 @@ fn pair_text(alloc: Global, n: u32, trace: &[u8]) -> Result<Vec<u8>, PlayFault>
 #[test]
 fn the_pair_of_a_flip_is_written(rt: HostRuntime) -> Result<(), Fail> {
     let alloc = rt.alloc();
-    assert_eq!(rt;
+    expect_bytes(
+        &rt,
         pair_text(alloc, 1, COLLECT_WHEN_FULL.trace)?.as_slice(),
-        ONE_KEPT
+        ONE_KEPT,
+        "",
     );
-    assert_eq!(rt;
+    expect_bytes(
+        &rt,
         pair_text(alloc, 1, NOTHING_TO_COPY.trace)?.as_slice(),
-        NONE_KEPT
+        NONE_KEPT,
+        "",
     );
-    assert_eq!(rt;
+    expect_bytes(
+        &rt,
         pair_text(alloc, 1, RAW_WRITTEN_WHILE_COPIED.trace)?.as_slice(),
-        RAW_KEPT
+        RAW_KEPT,
+        "",
     );
     Ok(())
 }
@@ -99,8 +106,8 @@ fn the_pair_of_a_flip_is_written(rt: HostRuntime) -> Result<(), Fail> {
 fn each_flip_has_a_pair_of_its_own(rt: HostRuntime) -> Result<(), Fail> {
     let alloc = rt.alloc();
     let trace = SECOND_COLLECTION.trace;
-    assert_eq!(rt; pair_text(alloc, 1, trace)?.as_slice(), ONE_KEPT);
-    assert_eq!(rt; pair_text(alloc, 2, trace)?.as_slice(), BOTH_KEPT);
+    expect_bytes(&rt, pair_text(alloc, 1, trace)?.as_slice(), ONE_KEPT, "");
+    expect_bytes(&rt, pair_text(alloc, 2, trace)?.as_slice(), BOTH_KEPT, "");
     assert_eq!(rt;
         pair_text(alloc, 3, trace).err(),
         Some(PlayFault::NoSuchFlip)
@@ -132,12 +139,7 @@ fn the_checker_says_yes_to_each_first_flip(rt: HostRuntime) -> Result<(), Fail> 
         let verdict = check_text(alloc, &mut Source::new(text.as_slice()), &mut sink)?;
         assert_eq!(rt; verdict, Verdict::Yes { pairs }, "of {}", row.name);
         let line = format!(in alloc; "yes {pairs}\n")?;
-        assert_eq!(rt;
-            sink.into_inner().as_slice(),
-            line.as_bytes(),
-            "of {}",
-            row.name
-        );
+        expect_bytes(&rt, sink.into_inner().as_slice(), line.as_bytes(), row.name);
     }
     Ok(())
 }
@@ -175,6 +177,6 @@ fn a_front_of_the_pair_goes_out_before_the_writer_fails(rt: HostRuntime) {
         let found = play_pair(rt.alloc(), 1, &mut source, &mut sink);
         assert_eq!(rt; found, Err(PlayFault::Write));
         assert!(rt; sink.failed());
-        assert_eq!(rt; sink.into_inner().taken(), b"heappai".as_slice());
+        expect_bytes(&rt, sink.into_inner().taken(), b"heappai".as_slice(), "");
     }
 }

@@ -1,4 +1,5 @@
 use crate::report::NOTHING;
+use crate::tests::expectations::{expect_bytes, expect_text};
 use crate::tests::rows::{NO_EVENTS, ONE_OBJECT_FILLS_THE_SPACE, ROWS};
 use crate::tests::streams::{
     End, Narrow, Slow, Taking, count_of, nine_thousand_flips, played, played_to,
@@ -11,7 +12,7 @@ use std::test::Fail;
 fn replies_are_those_of_the_worked_rows(rt: HostRuntime) -> Result<(), Fail> {
     for row in ROWS {
         let found = played(rt.alloc(), row.trace)?;
-        assert_eq!(rt; found.as_slice(), row.replies, "of {}", row.name);
+        expect_bytes(&rt, found.as_slice(), row.replies, row.name);
     }
     Ok(())
 }
@@ -46,7 +47,12 @@ fn more_replies_than_wait_at_once(rt: HostRuntime) -> Result<(), Fail> {
         text.extend_from_slice(b"m 15 look r15\n")?;
         want.extend_from_slice(b"saw nil\n")?;
     }
-    assert_eq!(rt; played(rt.alloc(), &text)?.as_slice(), want.as_slice());
+    expect_bytes(
+        &rt,
+        played(rt.alloc(), &text)?.as_slice(),
+        want.as_slice(),
+        "",
+    );
     Ok(())
 }
 
@@ -59,9 +65,11 @@ fn a_slow_reader_changes_no_reply(rt: HostRuntime) -> Result<(), Fail> {
     };
     let mut sink = Sink::new(Vec::new(rt.alloc()));
     play(rt.alloc(), &mut Source::new(slow), &mut sink)?;
-    assert_eq!(rt;
+    expect_bytes(
+        &rt,
         sink.into_inner().as_slice(),
-        ONE_OBJECT_FILLS_THE_SPACE.replies
+        ONE_OBJECT_FILLS_THE_SPACE.replies,
+        "",
     );
     Ok(())
 }
@@ -91,42 +99,33 @@ fn a_front_goes_out_before_the_writer_fails(rt: HostRuntime) {
     for end in [End::Silent, End::Broken, End::Interrupted] {
         let (answer, writer) = played_to(rt.alloc(), text, Narrow::new(7, end));
         assert_eq!(rt; answer, Err(PlayFault::Write));
-        assert_eq!(rt; writer.taken(), b"made\nfu".as_slice());
+        expect_bytes(&rt, writer.taken(), b"made\nfu".as_slice(), "");
     }
 }
 
 #[test]
 fn faults_are_shown(rt: HostRuntime) -> Result<(), Fail> {
     let alloc = rt.alloc();
-    assert_eq!(rt;
-        TraceFault::TooLarge.to_string(alloc)?.as_str(),
-        "trace: too large"
-    );
-    assert_eq!(rt;
-        TraceFault::BadHeader.to_string(alloc)?.as_str(),
-        "trace: bad header"
-    );
-    assert_eq!(rt;
-        TraceFault::BadLine(3).to_string(alloc)?.as_str(),
-        "trace: bad line 3"
-    );
-    let stranger = PlayFault::Trace(TraceFault::NoSuchMutator(4));
-    assert_eq!(rt;
-        stranger.to_string(alloc)?.as_str(),
-        "trace: no such mutator at line 4"
-    );
-    assert_eq!(rt;
-        PlayFault::Trace(TraceFault::Read)
-            .to_string(alloc)?
-            .as_str(),
-        "cannot read"
-    );
-    assert_eq!(rt;
-        PlayFault::NoSuchFlip.to_string(alloc)?.as_str(),
-        "trace: no such flip"
-    );
-    assert_eq!(rt; PlayFault::Write.to_string(alloc)?.as_str(), "cannot write");
-    assert_eq!(rt; PlayFault::NoMemory.to_string(alloc)?.as_str(), "no memory");
+    for (fault, text) in [
+        (TraceFault::TooLarge, "trace: too large"),
+        (TraceFault::BadHeader, "trace: bad header"),
+        (TraceFault::BadLine(3), "trace: bad line 3"),
+        (
+            TraceFault::NoSuchMutator(4),
+            "trace: no such mutator at line 4",
+        ),
+        (TraceFault::Read, "cannot read"),
+    ] {
+        expect_text(&rt, alloc, &fault, text)?;
+        expect_text(&rt, alloc, &PlayFault::Trace(fault), text)?;
+    }
+    for (fault, text) in [
+        (PlayFault::NoSuchFlip, "trace: no such flip"),
+        (PlayFault::Write, "cannot write"),
+        (PlayFault::NoMemory, "no memory"),
+    ] {
+        expect_text(&rt, alloc, &fault, text)?;
+    }
     Ok(())
 }
 

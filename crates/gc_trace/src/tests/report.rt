@@ -1,4 +1,5 @@
 use crate::report::NOTHING;
+use crate::tests::expectations::expect_bytes;
 use crate::tests::rows::{COLLECT_WHEN_FULL, NO_EVENTS, RAW_WORDS_KEEP_NOTHING, ROWS};
 use crate::tests::streams::{End, Narrow, Slow};
 use crate::tests::worlds::run_of;
@@ -33,7 +34,7 @@ fn each_answer_is_counted(rt: HostRuntime) -> Result<(), Fail> {
     assert_eq!(rt; report, want);
     let mut sink = Sink::new(Vec::new(rt.alloc()));
     assert_eq!(rt; write_report(&mut sink, &report), Ok(()));
-    assert_eq!(rt; sink.into_inner().as_slice(), COLLECTED);
+    expect_bytes(&rt, sink.into_inner().as_slice(), COLLECTED, "");
     Ok(())
 }
 
@@ -93,7 +94,7 @@ fn a_failed_writer_has_a_front(rt: HostRuntime) {
         assert_eq!(rt; write_report(&mut sink, &NOTHING), Err(WriteFault::Write));
         assert!(rt; sink.failed());
         assert_eq!(rt; write_report(&mut sink, &NOTHING), Err(WriteFault::Write));
-        assert_eq!(rt; sink.into_inner().taken(), b"events ".as_slice());
+        expect_bytes(&rt, sink.into_inner().taken(), b"events ".as_slice(), "");
     }
 }
 
@@ -107,11 +108,11 @@ fn reported(alloc: Global, text: &[u8]) -> Result<Vec<u8>, PlayFault> {
 #[test]
 fn the_report_of_a_play_is_written_alone(rt: HostRuntime) -> Result<(), Fail> {
     let found = reported(rt.alloc(), COLLECT_WHEN_FULL.trace)?;
-    assert_eq!(rt; found.as_slice(), COLLECTED);
+    expect_bytes(&rt, found.as_slice(), COLLECTED, "");
     let nothing = b"events 0\nmade 0\nfull 0\nbegun 0\ncopied 0\nscanned 0\napplied 0\n\
         flips 0\npairs 0\ndropped 0\nrefused 0\nend 1\nfree 7\n";
     let found = reported(rt.alloc(), NO_EVENTS.trace)?;
-    assert_eq!(rt; found.as_slice(), nothing.as_slice());
+    expect_bytes(&rt, found.as_slice(), nothing.as_slice(), "");
     Ok(())
 }
 
@@ -120,7 +121,7 @@ fn raw_objects_are_counted_as_others(rt: HostRuntime) -> Result<(), Fail> {
     let want = b"events 13\nmade 2\nfull 1\nbegun 1\ncopied 1\nscanned 0\napplied 0\n\
         flips 1\npairs 1\ndropped 0\nrefused 0\nend 4\nfree 0\n";
     let found = reported(rt.alloc(), RAW_WORDS_KEEP_NOTHING.trace)?;
-    assert_eq!(rt; found.as_slice(), want.as_slice());
+    expect_bytes(&rt, found.as_slice(), want.as_slice(), "");
     Ok(())
 }
 
@@ -159,6 +160,6 @@ fn a_front_of_the_report_goes_out_before_the_writer_fails(rt: HostRuntime) {
         let found = play_report(rt.alloc(), &mut source, &mut sink);
         assert_eq!(rt; found, Err(PlayFault::Write));
         assert!(rt; sink.failed());
-        assert_eq!(rt; sink.into_inner().taken(), b"events ".as_slice());
+        expect_bytes(&rt, sink.into_inner().taken(), b"events ".as_slice(), "");
     }
 }

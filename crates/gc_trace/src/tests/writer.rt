@@ -1,3 +1,4 @@
+use crate::tests::expectations::expect_bytes;
 use crate::tests::rows::{ROWS, WRITE_WHILE_SCANNING};
 use crate::tests::streams::{End, Narrow, Taking, nine_thousand_flips, played};
 use crate::tests::worlds::run_of;
@@ -36,7 +37,7 @@ fn written_alone(alloc: Global, entry: Entry) -> Result<Vec<u8>, WriteFault> {
 fn worked_rows_are_written_as_they_stand(rt: HostRuntime) -> Result<(), Fail> {
     for row in ROWS {
         let found = written_back(rt.alloc(), row.trace)?;
-        assert_eq!(rt; found.as_slice(), row.trace, "of {}", row.name);
+        expect_bytes(&rt, found.as_slice(), row.trace, row.name);
     }
     Ok(())
 }
@@ -96,7 +97,7 @@ fn each_command_has_its_line_in_the_least_version(rt: HostRuntime) -> Result<(),
     ] {
         let found = written_alone(alloc, Entry::command(15, &op, &Reply::Done))?;
         let want = format!(in alloc; "heaptrace {version}\nspace 9 mutators 16\n{line}\n")?;
-        assert_eq!(rt; found.as_slice(), want.as_bytes());
+        expect_bytes(&rt, found.as_slice(), want.as_bytes(), "");
     }
     Ok(())
 }
@@ -117,7 +118,7 @@ fn each_step_has_its_line_in_the_least_version(rt: HostRuntime) -> Result<(), Fa
     ] {
         let found = written_alone(alloc, Entry::step(step, StepReply::Idle))?;
         let want = format!(in alloc; "heaptrace {version}\nspace 9 mutators 16\n{line}\n")?;
-        assert_eq!(rt; found.as_slice(), want.as_bytes());
+        expect_bytes(&rt, found.as_slice(), want.as_bytes(), "");
     }
     Ok(())
 }
@@ -134,7 +135,7 @@ fn a_version_that_no_line_needs_is_not_written(rt: HostRuntime) -> Result<(), Fa
         let text = format!(in alloc; "heaptrace {version}\nspace 8 mutators 3\n{lines}")?;
         let want = format!(in alloc; "heaptrace {least}\nspace 8 mutators 3\n{lines}")?;
         let found = written_back(alloc, text.as_bytes())?;
-        assert_eq!(rt; found.as_slice(), want.as_bytes());
+        expect_bytes(&rt, found.as_slice(), want.as_bytes(), "");
     }
     Ok(())
 }
@@ -145,9 +146,11 @@ fn more_lines_than_wait_at_once(rt: HostRuntime) -> Result<(), Fail> {
     for _ in 0..3000 {
         text.extend_from_slice(b"m 15 look r15\n")?;
     }
-    assert_eq!(rt;
+    expect_bytes(
+        &rt,
         written_back(rt.alloc(), &text)?.as_slice(),
-        text.as_slice()
+        text.as_slice(),
+        "",
     );
     Ok(())
 }
@@ -179,9 +182,14 @@ fn useful_steps_are_written_as_the_steps_that_they_were(rt: HostRuntime) -> Resu
     let want =
         b"heaptrace 1\nspace 8 mutators 1\nm 0 new r0 0 1\nc scan\nc apply 0\nc begin\nc roots\n\
         c scan\nc scan\nm 0 put r0 0 r0\nc apply 0\nc flip\n";
-    assert_eq!(rt; text.as_slice(), want.as_slice());
+    expect_bytes(&rt, text.as_slice(), want.as_slice(), "");
     let replies = b"made\nidle\nidle\nbegun\ncopied\nscanned\npassed\ndone\napplied\nflipped 1\n";
-    assert_eq!(rt; played(rt.alloc(), &text)?.as_slice(), replies.as_slice());
+    expect_bytes(
+        &rt,
+        played(rt.alloc(), &text)?.as_slice(),
+        replies.as_slice(),
+        "",
+    );
     Ok(())
 }
 
@@ -195,7 +203,7 @@ fn a_front_of_the_trace_goes_out_before_the_writer_fails(rt: HostRuntime) -> Res
         let found = write_trace(&mut sink, world.size(), world.mutators(), world.history());
         assert_eq!(rt; found, Err(WriteFault::Write));
         assert!(rt; sink.failed());
-        assert_eq!(rt; sink.into_inner().taken(), b"heaptra".as_slice());
+        expect_bytes(&rt, sink.into_inner().taken(), b"heaptra".as_slice(), "");
     }
     Ok(())
 }
