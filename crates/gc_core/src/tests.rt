@@ -40,14 +40,13 @@ fn flip_and_keep(
     ensures { heap.new.mutators ≡ heap.old.mutators }
 {
     let flip = heap.flip(&Sequential, Keep::Pair)?;
-    let kept = match flip.pair {
-        Some(file) => Some((
+    let kept = flip.pair.as_ref().map(|file| {
+        (
             file.pairs.len(),
             file.pairs.first().copied(),
             file.new.roots.get(16).copied(),
-        )),
-        None => None,
-    };
+        )
+    });
     Ok((flip.reply, kept))
 }
 
