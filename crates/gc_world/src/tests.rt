@@ -11,16 +11,9 @@ use std::process::Abort;
 use std::test::Fail;
 use std::thread::Threads;
 
-/// Collects a full heap, and then allocates again.
-fn collect_when_full(
-    rt: &(impl Threads + Sync + Abort),
-    alloc: Global,
-    in_threads: bool,
-) -> Result<(), Fail> {
-    let r0 = Slot::own(0).ok_or("slot")?;
-    let r1 = Slot::own(1).ok_or("slot")?;
-    let mut world = World::open(alloc, 9, 1)?;
-    let rows = [
+/// Returns the rows of a run that collects a full heap and then allocates again.
+fn full_and_collected(r0: Slot, r1: Slot) -> [Row; 16] {
+    [
         Row::NextUseful(Step::Begin),
         Row::Command(new(r0, 1, 2), Reply::Made),
         Row::Command(new(r0, 1, 2), Reply::Made),
@@ -37,7 +30,18 @@ fn collect_when_full(
         Row::Step(Step::Flip, StepReply::Flipped { pairs: 1 }),
         Row::IsOpen(false),
         Row::Command(new(r1, 0, 0), Reply::Made),
-    ];
+    ]
+}
+
+fn collect_when_full(
+    rt: &(impl Threads + Sync + Abort),
+    alloc: Global,
+    in_threads: bool,
+) -> Result<(), Fail> {
+    let r0 = Slot::own(0).ok_or("slot")?;
+    let r1 = Slot::own(1).ok_or("slot")?;
+    let rows = full_and_collected(r0, r1);
+    let mut world = World::open(alloc, 9, 1)?;
     play(rt, &mut world, in_threads, &rows)?;
     assert_eq!(rt; world.history().len(), 12);
     assert_eq!(rt; world.heap().space().free(), 2);
