@@ -18,6 +18,3 @@ pub use laws::{texts_have_one_reading, worked_rows, written_is_read};
 pub use limits::pair_fits;
 pub use reader::read_pair;
 pub use writer::write_pair;
-
-#[cfg(test)]
-mod tests;

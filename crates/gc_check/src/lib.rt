@@ -20,6 +20,3 @@ pub use tables::Tables;
 pub use text::{check_text, check_text_by};
 pub use verdict::{CheckFault, RunFault, Verdict, Yes};
 pub use verdict_text::write_verdict;
-
-#[cfg(test)]
-mod tests;

@@ -19,6 +19,3 @@ pub use laws::{
 };
 pub use log::LogEntry;
 pub use step::{Step, StepReply};
-
-#[cfg(test)]
-mod tests;

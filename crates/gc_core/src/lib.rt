@@ -16,6 +16,3 @@ pub use flip::{Flip, Keep};
 pub use laws::runs_are_legal;
 pub use reading::NewSpace;
 pub use slots::{SLOT_NUMBERS, numbered_slot};
-
-#[cfg(test)]
-mod tests;

@@ -21,6 +21,3 @@ pub use plain::{Plain, object_words};
 pub use reply::{Reply, View};
 pub use slot::{Slot, root_count};
 pub use text::{Failed, Sink, Source};
-
-#[cfg(test)]
-mod tests;

@@ -19,6 +19,3 @@ pub use printer::Printer;
 pub use sink::Sink;
 pub use source::{Failed, Source};
 pub use tokens::Tokens;
-
-#[cfg(test)]
-mod tests;

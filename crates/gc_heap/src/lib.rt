@@ -7,6 +7,3 @@ mod taken;
 
 pub use heap::Heap;
 pub use taken::Fetched;
-
-#[cfg(test)]
-mod tests;

@@ -8,6 +8,3 @@ mod text;
 pub use checker::check_par;
 pub use parallel::Parallel;
 pub use text::check_text_par;
-
-#[cfg(test)]
-mod tests;

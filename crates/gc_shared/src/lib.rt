@@ -16,6 +16,3 @@ pub use laws::worked_rows;
 pub use seat::{Receipt, Seat};
 pub use shared::Shared;
 pub use threads::run_threads;
-
-#[cfg(test)]
-mod tests;

@@ -30,6 +30,3 @@ pub use run::run_trace;
 pub use scripts::scripts_of;
 pub use trace::Trace;
 pub use writer::write_trace;
-
-#[cfg(test)]
-mod tests;

@@ -38,7 +38,7 @@ pub struct Report {
 }
 
 /// A report whose numbers are all 0.
-pub const NOTHING: Report = Report {
+const NOTHING: Report = Report {
     events: 0,
     made: 0,
     full: 0,

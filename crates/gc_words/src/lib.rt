@@ -26,6 +26,3 @@ pub use refusal::Refusal;
 pub use shape::{ShapeFault, next_in, walk};
 pub use space::Space;
 pub use value::{Addr, NewAddr, OldAddr, Value, decode, encode, target_of};
-
-#[cfg(test)]
-mod tests;

@@ -1,6 +1,0 @@
-use Rattle.std.proofs.Common.{◌≡◌}
-use Rattle.gc_copy.specs.Words.{HasNoLinks}
-use Rattle.gc_copy.proofs.tests.rows.play_idle.Given as goal
-
-abbrev pub invariant-loop-place : goal.invariant-loop-place
-invariant-loop-place g l = HasNoLinks l.heap × l.heap.mutators ≡ l.initial.heap.mutators

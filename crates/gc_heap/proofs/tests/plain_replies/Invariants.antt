@@ -1,5 +1,0 @@
-use Rattle.gc_graph.specs.Machine.{HasMutator}
-use Rattle.gc_heap.proofs.tests.plain_replies.Given as goal
-
-abbrev pub invariant-loop-op : goal.invariant-loop-op
-invariant-loop-op l = HasMutator l.plain.graph 0

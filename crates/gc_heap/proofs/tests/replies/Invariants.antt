@@ -1,5 +1,0 @@
-use Rattle.std.proofs.Common.{◌<◌}
-use Rattle.gc_heap.proofs.tests.replies.Given as goal
-
-abbrev pub invariant-loop-op : goal.invariant-loop-op
-invariant-loop-op l = 0 < l.heap.mutators

@@ -1,0 +1,6 @@
+use Rattle.std.proofs.Common.{◌≡◌}
+use Rattle.gc_copy.specs.Words.{BelongsTo}
+use Rattle.gc_tests.proofs.tests.copy.rows.play.Given as goal
+
+abbrev pub invariant-loop-place : goal.invariant-loop-place
+invariant-loop-place g l = BelongsTo l.heap l.collection × l.heap.mutators ≡ l.initial.heap.mutators

@@ -1,0 +1,13 @@
+mod cert;
+mod check;
+mod collected;
+mod commands;
+mod copy;
+mod graph;
+mod heap;
+mod par;
+mod shared;
+mod streams;
+mod trace;
+mod words;
+mod world;

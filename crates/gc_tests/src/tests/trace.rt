@@ -1,0 +1,10 @@
+mod expectations;
+mod pairs;
+mod plays;
+mod reader;
+mod report;
+mod rows;
+mod scripts;
+mod texts;
+mod worlds;
+mod writer;
