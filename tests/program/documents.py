@@ -7,9 +7,11 @@ import shutil
 import subprocess
 import sys
 
+from prover.crates import CRATES, TOP, crates_listed
+from prover.edits import BadEdit, Edit, edits_of
+
 from .harness import Skipped, file_of
 
-TOP = os.path.normpath(os.path.join(os.path.dirname(os.path.abspath(__file__)), "..", ".."))
 SOURCES = (".rt", ".antt", ".edit", ".py", ".c", ".txt")
 WORD = re.compile(r"[A-Za-z_]\w{3,}")
 # The languages of code that documents quote, and the endings of the files that it may come from.
@@ -207,10 +209,9 @@ def clauses(_program, _folder):
 
 
 def crates(_program, _folder):
-    with open(os.path.join(TOP, "crates.txt"), encoding="utf-8") as file:
-        for line in file:
-            path = "crates/%s/README.md" % line.split(":")[0].split(" ")[0]
-            yield "%s exists" % path, None if os.path.exists(os.path.join(TOP, path)) else "there is no such file"
+    for crate in crates_listed():
+        path = "crates/%s/README.md" % crate
+        yield "%s exists" % path, None if os.path.exists(os.path.join(TOP, path)) else "there is no such file"
 
 
 # ---- edits
@@ -220,7 +221,7 @@ def unknown_edits(line):
     for quoted, listed in re.findall(r"edits? ((?:`\w+`(?:, )?)+) \(([\w, ]+)\)", line):
         crates_named, edits = listed.split(", "), re.findall(r"`(\w+)`", quoted)
         found = {(crate, edit) for crate in crates_named for edit in edits
-                 if os.path.exists(os.path.join(TOP, "crates", crate, "must-fail", edit + ".edit"))}
+                 if edit + ".edit" in edits_of(crate)}
         yield from ["edit %s" % edit for edit in edits if edit not in {name for _, name in found}]
         yield from ["an edit of %s" % crate for crate in crates_named if crate not in {name for name, _ in found}]
         contracts = [contracts_of(crate) for crate in crates_named]
@@ -349,36 +350,19 @@ def counts(_program, _folder):
         yield "lines of %s" % (name or "all definitions"), None if found and found.group(1) == wanted else "they are %s" % wanted
 
 
-def why_not_applied(crate, edit):
-    """Returns why a must-fail edit cannot be applied, or None. As for `rt ci`, each line has a kind, and each old text occurs once."""
-    texts, path, old, pairs = {}, None, None, 0
-    with open(edit, encoding="utf-8") as lines:
-        for line in lines.read().split("\n"):
-            if line.startswith("file: "):
-                path = os.path.join(crate, line[len("file: "):])
-                if not os.path.exists(path):
-                    return "there is no file %s" % path
-            elif line.startswith("old: "):
-                old = line[len("old: "):]
-            elif line.startswith("new:") and path and old:
-                if path not in texts:
-                    with open(path, encoding="utf-8") as file:
-                        texts[path] = file.read()
-                if texts[path].count(old) != 1:
-                    return "an old text occurs %d times in the file" % texts[path].count(old)
-                texts[path] = texts[path].replace(old, line[len("new: "):])
-                old, pairs = None, pairs + 1
-            elif line and not line.startswith("#"):
-                return "a line is neither file, old, new nor a comment: %s" % line[:60]
-    return None if pairs else "it changes nothing"
+def why_not_applied(crate, name):
+    """Returns why a must-fail edit cannot be applied, or None."""
+    try:
+        Edit(crate, name).texts_in(os.path.join(CRATES, crate))
+    except BadEdit as why:
+        return str(why)
+    return None
 
 
 def applied_edits(_program, _folder):
-    top = os.path.join(TOP, "crates")
-    for name in sorted(os.listdir(top)):
-        folder = os.path.join(top, name, "must-fail")
-        for edit in sorted(os.listdir(folder)) if os.path.isdir(folder) else []:
-            yield "edit %s/%s" % (name, edit), why_not_applied(os.path.join(top, name), os.path.join(folder, edit))
+    for crate in crates_listed():
+        for name in edits_of(crate):
+            yield "edit %s/%s" % (crate, name), why_not_applied(crate, name)
 
 
 GROUPS = [names, words, files, clauses, crates, edits, applied_edits, quotes, names_in_c, c_of_readme, commands, commands_of_tables, definitions, counts]
