@@ -48,7 +48,8 @@ typedef struct gcflip_verdict {
 /* The conditions of a certificate, in the order in which they are checked. A verdict names the first that fails.
  * Pairs, fields and roots are counted from 0. */
 enum gcflip_refusal {
-    GCFLIP_OLD_SHAPE = 1,      /* place: the first address at which no valid object starts although one has to, or 0 */
+    GCFLIP_OLD_SHAPE = 1,      /* place: the first address whose word is no header or whose object goes past `end`; 0 if size, end, the number
+                                * of words or word 0 is wrong */
     GCFLIP_NEW_SHAPE = 2,      /* the same for the new image */
     GCFLIP_ROOT_COUNT = 3,     /* the images have different numbers of roots */
     GCFLIP_OLD_NOT_START = 4,  /* place: the pair; no object starts at its old address */
@@ -60,7 +61,7 @@ enum gcflip_refusal {
     GCFLIP_ROOT_DIFFERS = 10   /* place: the first root that does not correspond */
 };
 
-/* The answers of a check. It writes the verdict only with the answers 0, 1 and 5. */
+/* The answers of a check, which are other numbers than those of gcflip_heap_answer. It writes the verdict only with the answers 0, 1 and 5. */
 enum gcflip_answer {
     GCFLIP_YES = 0,        /* the certificate holds */
     GCFLIP_REFUSED = 1,    /* a condition fails; the verdict says which */

@@ -1,7 +1,7 @@
 /* Herbpond's collected heap: objects of words for 1 to 16 mutators, with an incremental, replicating collector whose
  * every flip has to pass the certificate checker.
  *
- * A handle is a gcflip_heap, set to GCFLIP_NO_HEAP before its first use. gcflip_heap_open gives it a heap and
+ * A handle is a gcflip_heap that has no heap before its first use: it is initialized with GCFLIP_NO_HEAP, or its `at` is set to NULL. gcflip_heap_open gives it a heap and
  * gcflip_heap_close frees the heap. Every call takes the handle and returns one number of gcflip_heap_answer: the reply, or
  * the reason why the call was refused. A refused call changes nothing, neither the heap nor its output arguments.
  *
@@ -207,7 +207,8 @@ typedef struct gcflip_log_entry {
 /* Reads entry k of mutator m's log. Entry 0 is the oldest. */
 uint32_t gcflip_heap_log_entry(gcflip_heap *heap, uint8_t m, size_t k, gcflip_log_entry *entry);
 
-/* Returns the number of root words: the shared slots, and then those of each mutator. */
+/* Returns the number of root words: the shared slots, and then those of each mutator. Shared slot s is root s - 16, and slot s of mutator
+ * m's own is root 16 + 16 * m + s. */
 static inline size_t gcflip_heap_root_count(uint8_t mutators)
 {
     return 16 + 16 * (size_t)mutators;
@@ -218,7 +219,7 @@ static inline size_t gcflip_heap_root_count(uint8_t mutators)
 uint32_t gcflip_heap_image(gcflip_heap *heap, uint64_t *words, size_t word_count, uint64_t *roots, size_t root_count);
 
 /* Copies the words of the open collection's new space. The count must be exactly `new_end` of gcflip_counts. A
- * replica's link is its original's address. */
+ * replica's link is its original's address. If no collection is open, no count is right: GCFLIP_HEAP_OUT_OF_RANGE. */
 uint32_t gcflip_heap_new_words(gcflip_heap *heap, uint64_t *words, size_t word_count);
 
 #ifdef __cplusplus

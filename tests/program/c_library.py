@@ -63,9 +63,9 @@ class Library:
         self.lib = os.path.join(self.prefix, "lib")
         self.made = self.install(self.prefix)
 
-    def install(self, prefix):
-        """Builds the library, and installs it there."""
-        words = ["make", "-C", os.path.join(TOP, "bindings", "c"), "install", "PREFIX=" + prefix]
+    def install(self, prefix, target="install"):
+        """Builds the library, and installs it there; or removes it, if that is the target."""
+        words = ["make", "-C", os.path.join(TOP, "bindings", "c"), target, "PREFIX=" + prefix]
         return done([*words, "OUT=" + os.path.join(self.folder, "out")], timeout=PROVING_SECONDS)
 
     def flags(self, prefix=None):
@@ -147,6 +147,11 @@ def pkg_config(_program, folder):
     built.install(other)
     wanted = ["-I%s/include" % other, "-L%s/lib" % other, "-lgcflip"]
     yield "the words for another folder", None if built.flags(other) == wanted else "they are %s" % built.flags(other)
+    loaded = os.path.basename(os.path.realpath(os.path.join(other, "lib", "libgcflip.so")))
+    yield "the shared library has a version", None if loaded == "libgcflip.so.1" else "it is %s" % loaded
+    built.install(other, "uninstall")
+    left = [name for _, _, names in os.walk(other) for name in names]
+    yield "nothing is left when it is removed", None if not left else "left: %s" % left
 
 
 def texts_and_lines():

@@ -1,6 +1,7 @@
 """Tests of the package's heap."""
 import array
 import gc
+import sys
 import threading
 import unittest
 import weakref
@@ -175,6 +176,23 @@ class Readings(unittest.TestCase):
             image = heap.image()
             self.assertEqual((image.size, gcflip.check(image, image, [(1, 1)])), (16, 1))
 
+    def test_images_while_a_thread_allocates(self):
+        """Each image is that of one moment: its objects end where its words do, while another thread makes objects and collects."""
+        before = sys.getswitchinterval()
+        sys.setswitchinterval(1e-6)
+        self.addCleanup(sys.setswitchinterval, before)
+        with Heap(4096) as heap:
+            done = threading.Event()
+            thread = threading.Thread(target=allocate, args=(heap, done))
+            thread.start()
+            try:
+                for _ in range(1000):
+                    image = heap.image()
+                    self.assertEqual(gcflip.check(image, image, [(at, at) for at in starts(image.words)]), len(starts(image.words)))
+            finally:
+                done.set()
+                thread.join()
+
 
 class Lives(unittest.TestCase):
     def test_closed(self):
@@ -226,6 +244,21 @@ class Lives(unittest.TestCase):
             while any(thread.is_alive() for thread in threads):
                 heap.work(3)
             self.assertEqual([heap.mutator(number).get(own(1), own(0), 0) for number in range(4)], [2000] * 4)
+
+
+def allocate(heap, done):
+    """Makes objects of no fields until it is told to stop, and collects when the heap is full."""
+    while not done.is_set():
+        try:
+            heap.mutator(0).new(own(0), 1, 0)
+        except gcflip.Full:
+            while heap.work(100).last != Step.FLIPPED:
+                pass
+
+
+def starts(words):
+    """Returns the addresses of the objects of an image in which no object has fields."""
+    return range(1, len(words), 2)
 
 
 def count(mutator):

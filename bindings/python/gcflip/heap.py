@@ -207,8 +207,8 @@ class Heap:
 
     def counts(self) -> Counts:
         """Reads how full the heap is, and how far an open collection has come."""
-        counts = library.Counts()
-        self._call("counts", counts)
+        with self._lock:
+            counts = self._counts()
         return Counts(**{name: getattr(counts, name) for name in COUNTS})._replace(is_open=bool(counts.is_open))
 
     def log_length(self, mutator: int) -> int:
@@ -224,17 +224,26 @@ class Heap:
         return LogEntry(entry.object, entry.field)
 
     def image(self) -> Image:
-        """Copies the heap's words, links included, and the root words, the shared slots first."""
-        counts = self.counts()
-        words, roots = _zeros(counts.end), _zeros(SLOTS + SLOTS * counts.mutators)
-        self._call("image", words.buffer_info()[0], len(words), roots.buffer_info()[0], len(roots))
+        """Copies the heap's words, links included, and the root words: the 16 shared slots, and then the 16 of each mutator."""
+        with self._lock:
+            counts = self._counts()
+            words, roots = _zeros(counts.end), _zeros(SLOTS + SLOTS * counts.mutators)
+            self._made("image", words.buffer_info()[0], len(words), roots.buffer_info()[0], len(roots))
         return Image(words, roots, counts.size)
 
     def new_words(self) -> array.array:
-        """Copies the words of the open collection's new space. A replica's link is its original's address."""
-        words = _zeros(self.counts().new_end)
-        self._call("new_words", words.buffer_info()[0], len(words))
+        """Copies the words of the open collection's new space. A replica's link is its original's address. Raises OutOfRange if no
+        collection is open."""
+        with self._lock:
+            words = _zeros(self._counts().new_end)
+            self._made("new_words", words.buffer_info()[0], len(words))
         return words
+
+    def _counts(self) -> library.Counts:
+        """Reads the counts. The caller holds the lock, so they stay true until it lets go."""
+        counts = library.Counts()
+        self._made("counts", counts)
+        return counts
 
     # ---- Calls
 

@@ -129,6 +129,9 @@ fn play(trace: &str) -> Played<String> {
 
 fn main() -> Played<()> {
     let paths: Vec<_> = std::env::args_os().skip(1).collect();
+    if paths.is_empty() || paths.len() % 2 == 1 {
+        return Err("usage: play SOURCE TARGET ...".into());
+    }
     for pair in paths.chunks_exact(2) {
         std::fs::write(&pair[1], play(&std::fs::read_to_string(&pair[0])?)?)?;
     }
