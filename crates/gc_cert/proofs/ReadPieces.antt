@@ -1,5 +1,5 @@
 -- How much of a pair text a reader has read.
-use Rattle.std.proofs.Common.{◌≡◌, ℕ, ◌+◌, ◌-◌, ◌≤◌, true, List, [], ◌∷◌, ◌++◌, length, drop, refl, sym, ap, ◌∙◌, arith, append_assoc, Option, Some}
+use Rattle.std.proofs.Common.{◌≡◌, ℕ, ◌+◌, ◌-◌, ◌≤◌, true, List, ◌++◌, length, drop, refl, sym, ap, ◌∙◌, arith, append_assoc, Option, Some}
 use Rattle.std.proofs.lemmas.List.{drop_at, length-append}
 use Rattle.gc_graph.specs.Lines.{text_of}
 use Rattle.gc_graph.specs.ReadFaults.{MayFailReading}

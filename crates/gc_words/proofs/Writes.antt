@@ -1,5 +1,5 @@
 -- What the calls of a space do to its words, and what they read there.
-use Rattle.std.proofs.Common.{◌≡◌, ℕ, suc, ◌+◌, ◌-◌, ◌<◌, ◌≤◌, true, false, List, [], ◌∷◌, ◌++◌, length, get_or, drop, replicate, Option, Some, None, Ok, is_some, refl, sym, ◌∙◌, ap, subst, arith, length-append, length-set, length-take, length-drop}
+use Rattle.std.proofs.Common.{◌≡◌, ℕ, suc, ◌+◌, ◌-◌, ◌<◌, ◌≤◌, true, false, List, [], ◌∷◌, ◌++◌, length, get_or, drop, Option, Some, None, Ok, is_some, refl, sym, ◌∙◌, ap, subst, arith, length-append, length-set, length-take, length-drop}
 use Rattle.std.specs.Prelude.{slice_index, slice_get, slice_set, IsOk, IsSome}
 use Rattle.std.proofs.lemmas.List.{get_or-take, get_or-drop, length-replicate}
 use Rattle.std.proofs.lemmas.Option.{slice_get-get_or, slice_get_within}

@@ -1,4 +1,4 @@
-use Rattle.std.proofs.Common.{◌≡◌, ℕ, ◌+◌, ◌≤◌, ◌∷◌, ◌++◌, [], List, length, Some, sym, ◌∙◌, ap, subst, cond, is_ok, arith, append_assoc}
+use Rattle.std.proofs.Common.{◌≡◌, ℕ, ◌≤◌, ◌∷◌, ◌++◌, [], List, length, Some, sym, ◌∙◌, ap, subst, cond, is_ok, arith, append_assoc}
 use Rattle.std.specs.Prelude.{IsSome}
 use Rattle.gc_words.specs.Word.{header_word}
 use Rattle.gc_words.specs.Image.{Block, header_at, header_of, block_at}

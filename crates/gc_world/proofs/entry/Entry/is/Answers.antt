@@ -1,4 +1,4 @@
-use Rattle.std.proofs.Common.{◌≡◌, ap, sym, ◌∙◌}
+use Rattle.std.proofs.Common.{ap, sym, ◌∙◌}
 use Rattle.gc_world.specs.Forms.{meaning}
 use Rattle.gc_world.proofs.Equality.{same_form, one_form}
 use Rattle.gc_world.proofs.entry.Entry.is.Goals as goal

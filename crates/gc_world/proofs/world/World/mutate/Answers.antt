@@ -1,4 +1,4 @@
-use Rattle.std.proofs.Common.{◌≡◌, ◌<◌, ◌∷◌, [], ◌++◌, sym, subst, ap, ◌∙◌, List}
+use Rattle.std.proofs.Common.{◌<◌, ◌∷◌, [], ◌++◌, sym, subst, ap, ◌∙◌, List}
 use Rattle.std.specs.Option.{option_map}
 use Rattle.gc_cert.specs.Views.{pair_in}
 use Rattle.gc_world.specs.World.{Past, entry_of}
