@@ -92,14 +92,4 @@ def most_events(program, folder):
         yield "most_events, %s" % way, difference(found, Outcome(stdout=b"idle\n" * 2396740))
 
 
-def small_stack(program, folder):
-    """Plays with a stack of 128 KiB."""
-    text, replies = traces.trace_and_replies(traces.PLAYED["cycle_of_two"])
-    shell = ["-c", 'ulimit -s 128; exec "$0" "$@"', program]
-    found = run("/bin/sh", shell, text=text)
-    yield "small_stack, on standard input", difference(found, Outcome(stdout=replies))
-    found = run("/bin/sh", [*shell, "play", file_of(folder, "text", text)])
-    yield "small_stack, of a file", difference(found, Outcome(stdout=replies))
-
-
-GROUPS = [played, refused, cuts, byte_by_byte, limit, most_events, small_stack]
+GROUPS = [played, refused, cuts, byte_by_byte, limit, most_events]

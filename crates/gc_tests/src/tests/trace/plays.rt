@@ -2,7 +2,8 @@ use crate::tests::streams::{End, Narrow, Slow, Taking};
 use crate::tests::trace::expectations::{expect_bytes, expect_text};
 use crate::tests::trace::report::NOTHING;
 use crate::tests::trace::rows::{NO_EVENTS, ONE_OBJECT_FILLS_THE_SPACE, ROWS};
-use crate::tests::trace::texts::{count_of, nine_thousand_flips, played, played_to};
+use crate::tests::trace::texts::{count_of, flips, played, played_to};
+use crate::tests::trace::worlds::run_of;
 use gc_graph::{Sink, Source};
 use gc_trace::{PlayFault, Report, TraceFault, play};
 use std::test::Fail;
@@ -130,11 +131,21 @@ fn faults_are_shown(rt: HostRuntime) -> Result<(), Fail> {
 
 #[test]
 fn replies_are_written_in_few_calls(rt: HostRuntime) -> Result<(), Fail> {
-    let text = nine_thousand_flips(rt.alloc())?;
+    let text = flips(rt.alloc(), 9000)?;
     let mut writer = Taking::new();
     let mut source = Source::new(text.as_slice());
     play(rt.alloc(), &mut source, &mut Sink::new(&mut writer))?;
     assert_eq!(rt; writer.bytes, 45000);
     assert!(rt; writer.calls < 6, "{} calls", writer.calls);
+    Ok(())
+}
+
+/// A text has at most 16777216 bytes, so no trace has more events than this one.
+#[test]
+fn the_longest_trace_is_run(rt: HostRuntime) -> Result<(), Fail> {
+    let text = flips(rt.alloc(), 2396740)?;
+    assert_eq!(rt; text.len(), 16777211);
+    let world = run_of(rt.alloc(), text.as_slice())?;
+    assert_eq!(rt; world.history().len(), 2396740);
     Ok(())
 }

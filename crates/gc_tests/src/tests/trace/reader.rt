@@ -1,6 +1,6 @@
 use crate::tests::streams::{End, Giving, Same, Slow};
 use crate::tests::trace::rows::ONE_OBJECT_FILLS_THE_SPACE;
-use crate::tests::trace::texts::{count_of, nine_thousand_flips};
+use crate::tests::trace::texts::{count_of, flips};
 use gc_copy::Step;
 use gc_graph::{Op, Sink, Slot, Source};
 use gc_trace::{PlayFault, TraceFault, play, read_trace};
@@ -220,7 +220,7 @@ fn a_reader_that_fails_midway_is_no_text(rt: HostRuntime) {
 
 #[test]
 fn a_text_is_read_in_few_calls(rt: HostRuntime) -> Result<(), Fail> {
-    let text = nine_thousand_flips(rt.alloc())?;
+    let text = flips(rt.alloc(), 9000)?;
     let mut reader = Giving {
         bytes: &text,
         calls: 0,

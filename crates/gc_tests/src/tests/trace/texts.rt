@@ -7,11 +7,11 @@ use std::alloc::Global;
 use std::io::Read;
 use std::test::Fail;
 
-/// A trace of nine thousand `flip` steps without a collection, 63031 bytes.
-pub fn nine_thousand_flips(alloc: Global) -> Result<Vec<u8>, Fail> {
+/// A trace of so many `flip` steps without a collection. It has 31 bytes, and 7 for each step.
+pub fn flips(alloc: Global, steps: usize) -> Result<Vec<u8>, Fail> {
     let mut text = Vec::new(alloc);
     text.extend_from_slice(b"heaptrace 1\nspace 1 mutators 1\n")?;
-    for _ in 0..9000 {
+    for _ in 0..steps {
         text.extend_from_slice(b"c flip\n")?;
     }
     Ok(text)

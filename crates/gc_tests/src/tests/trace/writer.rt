@@ -1,7 +1,7 @@
 use crate::tests::streams::{End, Narrow, Taking};
 use crate::tests::trace::expectations::expect_bytes;
 use crate::tests::trace::rows::{ROWS, WRITE_WHILE_SCANNING};
-use crate::tests::trace::texts::{nine_thousand_flips, played};
+use crate::tests::trace::texts::{flips, played};
 use crate::tests::trace::worlds::run_of;
 use gc_cert::WriteFault;
 use gc_copy::{Step, StepReply};
@@ -211,7 +211,7 @@ fn a_front_of_the_trace_goes_out_before_the_writer_fails(rt: HostRuntime) -> Res
 
 #[test]
 fn a_trace_is_written_in_few_calls(rt: HostRuntime) -> Result<(), Fail> {
-    let text = nine_thousand_flips(rt.alloc())?;
+    let text = flips(rt.alloc(), 9000)?;
     let trace = read_trace(rt.alloc(), &mut Source::new(text.as_slice()))?;
     let world = run_trace(rt.alloc(), &trace)?;
     let mut writer = Taking::new();
