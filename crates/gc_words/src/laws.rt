@@ -13,7 +13,7 @@ ghost use Rattle.gc_words.specs.Walking.{next_of, walk_from, StepsTo, StandsIn};
 ghost use Rattle.gc_words.specs.Closed.{IsClosed, RefersToStart, IsRootWord, IsFieldWord};
 ghost use Rattle.gc_words.specs.Certificate.{Certified};
 ghost use Rattle.gc_words.specs.Fault.{shape_fault, first_difference, first_fault, IsFirstFault};
-ghost use Rattle.gc_words.specs.FaultPlace.{DifferFirstAt};
+ghost use Rattle.gc_words.specs.FaultPlace.{DifferFirstAt, ShapeFailsAt};
 ghost use Rattle.gc_words.specs.Rows.{WordRows, PairRows};
 ghost use Rattle.gc_words.specs.declared.header.Header.{Header};
 ghost use Rattle.gc_words.specs.declared.refusal.Refusal.{Refusal};
@@ -48,6 +48,12 @@ pub fn first_difference_is_first()
         → (first_difference alike 0 vs ws ≡ Some i) ↔ DifferFirstAt alike vs ws i }
     ensures none { (alike : ℕ → ℕ → Bool) (vs ws : List ℕ)
         → (first_difference alike 0 vs ws ≡ None) ↔ AllZip (λ v w. IsTrue (alike v w)) vs ws }
+{}
+
+/// The fault of an image's shape is the first. At address 0 the sizes or word 0 are wrong. At any other address these are right,
+/// objects lie back to back from word 1 up to there, words are left, and no object that ends within them starts there.
+pub fn shape_fault_is_first()
+    ensures { (image : Image) (at : ℕ) → (shape_fault image ≡ Some at) ↔ ShapeFailsAt image at }
 {}
 
 /// If a certificate holds, the graphs of the two images correspond.

@@ -19,8 +19,8 @@ pub use laws::{
     first_fault_is_first, graphs_after_writes, graphs_of_spaces, links_after_writes,
     no_fault_where_certified, no_fault_where_shaped, objects_after_writes,
     objects_have_their_fields, objects_stand_at_their_starts, raws_change_no_objects,
-    references_stay_to_starts, spaces_are_spelled, walks_go_by_steps, words_are_read_back,
-    worked_rows, writes_keep_spaces,
+    references_stay_to_starts, shape_fault_is_first, spaces_are_spelled, walks_go_by_steps,
+    words_are_read_back, worked_rows, writes_keep_spaces,
 };
 pub use layout::field_index;
 pub use refusal::Refusal;
