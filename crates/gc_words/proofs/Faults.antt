@@ -171,7 +171,7 @@ places_hold old new all (p ∷ rest) before k whole count pairs starts =
 
 -- ---- pairs: their objects, and roots
 
-no_difference : (alike : ℕ → ℕ → Bool) (i : ℕ) (vs ws : List ℕ) → first_difference alike i vs ws ≡ None → AllZip (λ v w. alike v w ≡ true) vs ws
+pub no_difference : (alike : ℕ → ℕ → Bool) (i : ℕ) (vs ws : List ℕ) → first_difference alike i vs ws ≡ None → AllZip (λ v w. alike v w ≡ true) vs ws
 no_difference alike i [] [] e = tt
 no_difference alike i [] (w ∷ ws) e = absurd (let no : Some i ≡ None = e in cc)
 no_difference alike i (v ∷ vs) [] e = absurd (let no : Some i ≡ None = e in cc)
@@ -179,7 +179,7 @@ no_difference alike i (v ∷ vs) (w ∷ ws) e =
     let parts : (alike v w ≡ true) × (first_difference alike (suc i) vs ws ≡ None) = if_none (alike v w) _ i e in
     (parts.0, no_difference alike (suc i) vs ws parts.1)
 
-difference_none : (alike : ℕ → ℕ → Bool) (i : ℕ) (vs ws : List ℕ) → AllZip (λ v w. alike v w ≡ true) vs ws → first_difference alike i vs ws ≡ None
+pub difference_none : (alike : ℕ → ℕ → Bool) (i : ℕ) (vs ws : List ℕ) → AllZip (λ v w. alike v w ≡ true) vs ws → first_difference alike i vs ws ≡ None
 difference_none alike i [] [] z = refl
 difference_none alike i [] (w ∷ ws) z = absurd z
 difference_none alike i (v ∷ vs) [] z = absurd z

@@ -12,4 +12,5 @@ pub mod Graphs
 pub mod References
 pub mod Faults
 pub mod FirstFault
+pub mod FaultPlace
 pub mod Certified

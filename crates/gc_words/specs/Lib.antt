@@ -7,5 +7,6 @@ pub mod Walking
 pub mod Closed
 pub mod Certificate
 pub mod Fault
+pub mod FaultPlace
 pub mod Views
 pub mod Rows

@@ -1,6 +1,7 @@
 //! Laws that follow from the definitions. Crates that depend on this one use them in proofs by calling these functions.
 
 ghost use Rattle.std.specs.Prelude.{◌≡◌, ◌≢◌, ◌<◌, ◌≤◌, ◌↔◌, ◌+◌, ◌-◌, ◌++◌, ◌∷◌, [], ℕ, Bool, List, length, Some, None, Ok, Err, IsOk, IsSome, IsTrue, replicate, slice_get, slice_index, slice_set};
+ghost use Rattle.std.specs.List.{AllZip};
 ghost use Rattle.std.specs.Option.{option_map};
 ghost use Rattle.gc_graph.specs.Graph.{Value, Nil, Ref, IsUnused, lookup, field_of, root, new_object, add_object, set_field, set_root};
 ghost use Rattle.gc_graph.specs.Correspond.{Corresponding};
@@ -11,7 +12,8 @@ ghost use Rattle.gc_words.specs.Space.{SpaceWords, IsSpace, CanPlace, empty_spac
 ghost use Rattle.gc_words.specs.Walking.{next_of, walk_from, StepsTo, StandsIn};
 ghost use Rattle.gc_words.specs.Closed.{IsClosed, RefersToStart, IsRootWord, IsFieldWord};
 ghost use Rattle.gc_words.specs.Certificate.{Certified};
-ghost use Rattle.gc_words.specs.Fault.{shape_fault, first_fault, IsFirstFault};
+ghost use Rattle.gc_words.specs.Fault.{shape_fault, first_difference, first_fault, IsFirstFault};
+ghost use Rattle.gc_words.specs.FaultPlace.{DifferFirstAt, ShapeFailsAt};
 ghost use Rattle.gc_words.specs.Rows.{WordRows, PairRows};
 ghost use Rattle.gc_words.specs.declared.header.Header.{Header};
 ghost use Rattle.gc_words.specs.declared.refusal.Refusal.{Refusal};
@@ -37,6 +39,21 @@ pub fn no_fault_where_certified()
 pub fn first_fault_is_first()
     ensures { (old new : Image) (pairs : List (ℕ × ℕ)) (refusal : Refusal)
         → first_fault old new pairs ≡ Some refusal → IsFirstFault old new pairs refusal }
+{}
+
+/// The first difference of two lists of words is the first place at which the two words do not correspond or only one list has a
+/// word. There is none if and only if the lists are equally long and correspond word by word.
+pub fn first_difference_is_first()
+    ensures at { (alike : ℕ → ℕ → Bool) (vs ws : List ℕ) (i : ℕ)
+        → (first_difference alike 0 vs ws ≡ Some i) ↔ DifferFirstAt alike vs ws i }
+    ensures none { (alike : ℕ → ℕ → Bool) (vs ws : List ℕ)
+        → (first_difference alike 0 vs ws ≡ None) ↔ AllZip (λ v w. IsTrue (alike v w)) vs ws }
+{}
+
+/// The fault of an image's shape is the first. At address 0 the sizes or word 0 are wrong. At any other address these are right,
+/// objects lie back to back from word 1 up to there, words are left, and no object that ends within them starts there.
+pub fn shape_fault_is_first()
+    ensures { (image : Image) (at : ℕ) → (shape_fault image ≡ Some at) ↔ ShapeFailsAt image at }
 {}
 
 /// If a certificate holds, the graphs of the two images correspond.

@@ -1,0 +1,171 @@
+-- What the place of a fault means.
+use Rattle.std.proofs.Common.{◌≡◌, ℕ, suc, zero, ◌+◌, ◌-◌, ◌<◌, ◌≤◌, Bool, true, false, cond, ◌&&◌, ◌==◌, List, [], ◌∷◌, length, Option, Some, None, Result, Ok, Err, refl, sym, ◌∙◌, ap, subst, inl, inr, arith}
+use Rattle.std.specs.Prelude.{nat_le, slice_index}
+use Rattle.std.specs.List.{slice_get}
+use Rattle.std.proofs.lemmas.Bool.{eqb-true, eq-eqb, leb-true, le-leb, and_parts, and_from, both_ways, cases_lt}
+use Rattle.std.proofs.lemmas.List.{drop_all}
+use Rattle.gc_words.specs.Word.{header_in}
+use Rattle.gc_words.specs.Image.{Block, Image, walk, with_front}
+use Rattle.gc_words.specs.Fault.{first_difference, fault_of_walk, has_size, shape_fault}
+use Rattle.gc_words.specs.FaultPlace.{AreAlike, DifferFirstAt, IsFramed, LieBetween, StopsAt, ShapeFailsAt}
+use Rattle.gc_words.specs.Walking.{next_after, next_in, walk_on, block_from, StepsIn}
+use Rattle.gc_words.specs.declared.header.Header.{Header}
+use Rattle.gc_words.proofs.Steps.{step, no_step, framed}
+
+-- ---- the first difference of two lists
+
+module _ (alike : ℕ → ℕ → Bool) where
+  -- the lists after words that correspond differ one place earlier
+  later : (v w : ℕ) (vs ws : List ℕ) (i : ℕ) → alike v w ≡ true → DifferFirstAt alike vs ws i → DifferFirstAt alike (v ∷ vs) (w ∷ ws) (suc i)
+  later v w vs ws i t d = record { before = before; here = d.here }
+    where
+      before : (k : ℕ) → k < suc i → AreAlike alike (slice_get (v ∷ vs) k) (slice_get (w ∷ ws) k)
+      before zero h = t
+      before (suc k) h = d.before k (omega arith)
+
+  differ_from : (n j : ℕ) (vs ws : List ℕ) → first_difference alike n vs ws ≡ Some j → (i : ℕ) × (j ≡ n + i) × DifferFirstAt alike vs ws i
+  differ_from n j [] [] e = absurd cc
+  differ_from n j [] (w ∷ ws) e =
+      let same : n ≡ j = cc e in
+      (0, omega arith, record { before = λ k h. absurd (omega arith); here = tt })
+  differ_from n j (v ∷ vs) [] e =
+      let same : n ≡ j = cc e in
+      (0, omega arith, record { before = λ k h. absurd (omega arith); here = tt })
+  differ_from n j (v ∷ vs) (w ∷ ws) e = go (λ f. differ_from (suc n) j vs ws f) (alike v w) refl e
+    where
+      go : (first_difference alike (suc n) vs ws ≡ Some j → (i : ℕ) × (j ≡ suc n + i) × DifferFirstAt alike vs ws i) → (b : Bool) → alike v w ≡ b → cond b (first_difference alike (suc n) vs ws) (Some n) ≡ Some j → (i : ℕ) × (j ≡ n + i) × DifferFirstAt alike (v ∷ vs) (w ∷ ws) i
+      go again true t f =
+          let ih : (i : ℕ) × (j ≡ suc n + i) × DifferFirstAt alike vs ws i = again f in
+          let at : j ≡ suc n + ih.0 = ih.1 in
+          (suc ih.0, omega arith, later v w vs ws ih.0 t ih.2)
+      go again false t f =
+          let same : n ≡ j = cc f in
+          (0, omega arith, record { before = λ k h. absurd (omega arith); here = t })
+
+  found_from : (n i : ℕ) (vs ws : List ℕ) → DifferFirstAt alike vs ws i → first_difference alike n vs ws ≡ Some (n + i)
+  found_from n i [] [] d = absurd d.here
+  found_from n zero [] (w ∷ ws) d = ap (λ k. Some k) (omega arith)
+  found_from n (suc i) [] (w ∷ ws) d = absurd (d.before 0 (omega arith))
+  found_from n zero (v ∷ vs) [] d = ap (λ k. Some k) (omega arith)
+  found_from n (suc i) (v ∷ vs) [] d = absurd (d.before 0 (omega arith))
+  found_from n zero (v ∷ vs) (w ∷ ws) d = ap (λ b. cond b (first_difference alike (suc n) vs ws) (Some n)) d.here ∙ ap (λ k. Some k) (omega arith)
+  found_from n (suc i) (v ∷ vs) (w ∷ ws) d =
+      ap (λ b. cond b (first_difference alike (suc n) vs ws) (Some n)) (d.before 0 (omega arith))
+      ∙ found_from (suc n) i vs ws (record { before = λ k h. d.before (suc k) (omega arith); here = d.here })
+      ∙ ap (λ k. Some k) (omega arith)
+
+  pub differ_first : (vs ws : List ℕ) (i : ℕ) → first_difference alike 0 vs ws ≡ Some i → DifferFirstAt alike vs ws i
+  differ_first vs ws i e =
+      let found : (j : ℕ) × (i ≡ 0 + j) × DifferFirstAt alike vs ws j = differ_from 0 i vs ws e in
+      let at : i ≡ 0 + found.0 = found.1 in
+      let same : found.0 ≡ i = omega arith in
+      subst (DifferFirstAt alike vs ws) same found.2
+
+  pub first_found : (vs ws : List ℕ) (i : ℕ) → DifferFirstAt alike vs ws i → first_difference alike 0 vs ws ≡ Some i
+  first_found vs ws i d = found_from 0 i vs ws d ∙ ap (λ k. Some k) (omega arith)
+
+-- ---- the walk
+
+module _ (raws : Bool) (words : List ℕ) where
+  rises_after : (at next : ℕ) (o : Option Header) (room : ℕ) → next_after at o room ≡ Some next → at < next
+  rises_after at next None room e = absurd (let no : None ≡ Some next = e in cc)
+  rises_after at next (Some h) room e = go (nat_le (h.len + 2) room) e
+    where
+      go : (b : Bool) → cond b (Some (at + (h.len + 2))) None ≡ Some next → at < next
+      go true f = let same : at + (h.len + 2) ≡ next = cc f in omega arith
+      go false f = absurd (let no : None ≡ Some next = f in cc)
+
+  rises : (at next : ℕ) → next_in raws words at ≡ Some next → at < next
+  rises at next e = rises_after at next (header_in raws (slice_index words at)) (length words - at) e
+
+  between : (from : ℕ) (nexts : List ℕ) (to : ℕ) → LieBetween raws words from nexts to → from ≤ to
+  between from [] to lie = let same : from ≡ to = lie in omega arith
+  between from (next ∷ nexts) to lie =
+      let first : from < next = rises from next lie.0 in
+      let rest : next ≤ to = between next nexts to lie.1 in
+      omega arith
+
+  err_behind : (x : ℕ × Block) (r : Result (List (ℕ × Block)) ℕ) (at : ℕ) → with_front x r ≡ Err at → r ≡ Err at
+  err_behind x (Ok xs) at e = absurd (let no : Ok (x ∷ xs) ≡ Err at = e in cc)
+  err_behind x (Err n) at e = e
+
+  stops : (fuel from at : ℕ) → length words ≤ from + fuel → walk_on raws words from ≡ Err at → StopsAt raws words from at
+  stops zero from at enough e = absurd (let no : Ok [] ≡ Err at = sym (ap (walk raws 0 from) (drop_all from words (omega arith))) ∙ e in cc)
+  stops (suc fuel) from at enough e =
+      elim (cases_lt from (length words)) [
+        | inl inside ↦ go (λ next up f. stops fuel next at up f) inside (next_in raws words from) refl
+        | inr past ↦ absurd (let no : Ok [] ≡ Err at = sym (ap (walk raws 0 from) (drop_all from words past)) ∙ e in cc)
+      ]
+    where
+      go : ((next : ℕ) → length words ≤ next + fuel → walk_on raws words next ≡ Err at → StopsAt raws words next at)
+          → from < length words → (o : Option ℕ) → next_in raws words from ≡ o → StopsAt raws words from at
+      go again inside None is =
+          let err : Err from ≡ Err at = sym (no_step raws words from inside is) ∙ e in
+          let same : from ≡ at = cc err in
+          record { nexts = []; objects = same; inside = omega arith; none = subst (λ n. next_in raws words n ≡ None) same is }
+      go again inside (Some next) is =
+          let s : StepsIn raws words from next = step raws words from next inside is in
+          let up : from < next = rises from next is in
+          let rest : StopsAt raws words next at = again next (omega arith) (err_behind _ (walk_on raws words next) at (sym s.walk_is ∙ e)) in
+          record { nexts = next ∷ rest.nexts; objects = (is, rest.objects); inside = rest.inside; none = rest.none }
+
+  stopped : (from : ℕ) (nexts : List ℕ) (at : ℕ) → LieBetween raws words from nexts at → at < length words → next_in raws words at ≡ None → walk_on raws words from ≡ Err at
+  stopped from [] at lie inside none =
+      let same : from ≡ at = lie in
+      subst (λ n. walk_on raws words n ≡ Err at) (sym same) (no_step raws words at inside none)
+  stopped from (next ∷ nexts) at lie inside none =
+      let low : from ≤ at = between from (next ∷ nexts) at lie in
+      let s : StepsIn raws words from next = step raws words from next (omega arith) lie.0 in
+      s.walk_is ∙ ap (with_front (from, block_from words from s.header)) (stopped next nexts at lie.1 inside none)
+
+-- ---- shapes
+
+err_of : {X : Type 0} (r : Result X ℕ) (at : ℕ) → fault_of_walk r ≡ Some at → r ≡ Err at
+err_of (Ok x) at e = absurd (let no : None ≡ Some at = e in cc)
+err_of (Err n) at e = let same : n ≡ at = cc e in ap (λ n. Err n) same
+
+sizes_of : (image : Image) → IsFramed image → has_size image ≡ true
+sizes_of image f = and_from _ _ (and_from _ _ (and_from _ _ (le-leb _ _ f.0) (le-leb _ _ f.1)) (le-leb _ _ f.2)) (le-leb _ _ f.3)
+
+words_of : (image : Image) → IsFramed image → ((length image.words == image.end) && (slice_index image.words 0 == 0)) ≡ true
+words_of image f = and_from _ _ (eq-eqb _ _ f.4) (eq-eqb _ _ f.5)
+
+framed_of : (image : Image) → has_size image ≡ true → ((length image.words == image.end) && (slice_index image.words 0 == 0)) ≡ true → IsFramed image
+framed_of image sizes words =
+    let frame : ((length image.words == image.end) ≡ true) × ((slice_index image.words 0 == 0) ≡ true) = and_parts _ _ words in
+    let p3 : ((nat_le 1 image.size && nat_le image.size 1048576 && nat_le 1 image.end) ≡ true) × (nat_le image.end image.size ≡ true) = and_parts _ _ sizes in
+    let p2 : ((nat_le 1 image.size && nat_le image.size 1048576) ≡ true) × (nat_le 1 image.end ≡ true) = and_parts _ _ p3.0 in
+    let p1 : (nat_le 1 image.size ≡ true) × (nat_le image.size 1048576 ≡ true) = and_parts _ _ p2.0 in
+    (leb-true _ _ p1.0, leb-true _ _ p1.1, leb-true _ _ p2.1, leb-true _ _ p3.1, eqb-true _ _ frame.0, eqb-true _ _ frame.1)
+
+pub shape_fails : (image : Image) (at : ℕ) → shape_fault image ≡ Some at → ShapeFailsAt image at
+shape_fails image at e = go (has_size image) refl ((length image.words == image.end) && (slice_index image.words 0 == 0)) refl e
+  where
+    at_zero : (IsFramed image → ⊥) → Some 0 ≡ Some at → ShapeFailsAt image at
+    at_zero bad f = let same : 0 ≡ at = cc f in subst (ShapeFailsAt image) same bad
+
+    behind_zero : IsFramed image → (n : ℕ) → StopsAt image.raws image.words 1 n → ShapeFailsAt image n
+    behind_zero f zero s = absurd (let low : 1 ≤ 0 = between image.raws image.words 1 s.nexts 0 s.objects in omega arith)
+    behind_zero f (suc n) s = (f, s)
+
+    go : (b : Bool) → has_size image ≡ b → (c : Bool) → ((length image.words == image.end) && (slice_index image.words 0 == 0)) ≡ c
+        → cond b (cond c (fault_of_walk (walk_on image.raws image.words 1)) (Some 0)) (Some 0) ≡ Some at → ShapeFailsAt image at
+    go false hb c hc f = at_zero (λ framed. both_ways (has_size image) hb (sizes_of image framed)) f
+    go true hb false hc f = at_zero (λ framed. both_ways ((length image.words == image.end) && (slice_index image.words 0 == 0)) hc (words_of image framed)) f
+    go true hb true hc f = behind_zero (framed_of image hb hc) at (stops image.raws image.words (length image.words) 1 at (omega arith) (err_of (walk_on image.raws image.words 1) at f))
+
+pub failing_shape : (image : Image) (at : ℕ) → ShapeFailsAt image at → shape_fault image ≡ Some at
+failing_shape image zero bad = go (has_size image) refl ((length image.words == image.end) && (slice_index image.words 0 == 0)) refl
+  where
+    go : (b : Bool) → has_size image ≡ b → (c : Bool) → ((length image.words == image.end) && (slice_index image.words 0 == 0)) ≡ c → shape_fault image ≡ Some 0
+    go false hb c hc = ap (λ b. cond b (cond ((length image.words == image.end) && (slice_index image.words 0 == 0)) (fault_of_walk (walk_on image.raws image.words 1)) (Some 0)) (Some 0)) hb
+    go true hb false hc =
+        ap (λ b. cond b (cond ((length image.words == image.end) && (slice_index image.words 0 == 0)) (fault_of_walk (walk_on image.raws image.words 1)) (Some 0)) (Some 0)) hb
+        ∙ ap (λ c. cond c (fault_of_walk (walk_on image.raws image.words 1)) (Some 0)) hc
+    go true hb true hc = absurd (bad (framed_of image hb hc))
+failing_shape image (suc n) fails =
+    let f : IsFramed image = fails.0 in
+    let s : StopsAt image.raws image.words 1 (suc n) = fails.1 in
+    ap (λ b. cond b (cond ((length image.words == image.end) && (slice_index image.words 0 == 0)) (fault_of_walk (walk_on image.raws image.words 1)) (Some 0)) (Some 0)) (sizes_of image f)
+    ∙ framed image.raws image.end image.words f.4 f.5
+    ∙ ap fault_of_walk (stopped image.raws image.words 1 s.nexts (suc n) s.objects s.inside s.none)
