@@ -1,8 +1,8 @@
-"""Tests of readers and writers that fail."""
+"""Tests of readers and writers that fail, and of how often a run reads and writes."""
 import os
 import subprocess
 
-from .harness import Outcome, difference, file_of, refusal, run
+from .harness import Outcome, Skipped, difference, file_of, refusal, run
 from .pairs import CHECKED, LEAST, text_of
 from .traces import PLAYED, trace_and_replies
 
@@ -121,4 +121,35 @@ def standard_error(program, folder):
     yield "statuses_with_full_standard_error", None if found == wanted else "statuses %s, wanted %s" % (found, wanted)
 
 
-GROUPS = [readers, closed_streams, writers, writers_of_verdicts, nothing_to_write, broken_off, standard_error]
+def calls_of(words, output):
+    """Runs the program with its output to this file. Returns how often it read and wrote, as the system counts it, or None if it does not."""
+    with open(output, "wb") as stdout:
+        process = subprocess.Popen(words, stdin=subprocess.DEVNULL, stdout=stdout, stderr=subprocess.DEVNULL)
+    try:
+        os.waitid(os.P_PID, process.pid, os.WEXITED | os.WNOWAIT)
+        with open("/proc/%d/io" % process.pid) as counted:
+            counts = dict(line.split(": ") for line in counted)
+        return int(counts["syscr"]), int(counts["syscw"])
+    except OSError:
+        return None
+    finally:
+        process.wait()
+
+
+def few_calls(program, folder):
+    """A run reads and writes by pieces, and not by bytes or lines: of 9,000 lines, 63,031 bytes, it makes 9,000 replies, 45,000 bytes."""
+    path = file_of(folder, "flips", b"heaptrace 1\nspace 1 mutators 1\n" + b"c flip\n" * 9000)
+    output = os.path.join(folder, "replies")
+    none = calls_of([program, "play", os.devnull], output)
+    found = calls_of([program, "play", path], output)
+    if none is None or found is None:
+        yield "few_calls", Skipped("the system does not count a process's reads and writes")
+        return
+    reads, writes = found[0] - none[0], found[1] - none[1]
+    yield "few_calls, the replies", None if os.path.getsize(output) == 45000 else "%d bytes" % os.path.getsize(output)
+    yield "few_calls, reads", None if 1 <= reads < 20 else "%d more than for an empty file" % reads
+    # For an empty file it writes a fault's line.
+    yield "few_calls, writes", None if 0 <= writes < 6 else "%d more than for an empty file" % writes
+
+
+GROUPS = [readers, closed_streams, writers, writers_of_verdicts, nothing_to_write, broken_off, standard_error, few_calls]
