@@ -19,7 +19,8 @@
  *
  * Several threads may call at the same time. A call keeps no pointer when it returns, and frees all that it
  * allocated. It writes only the verdict. A check allocates 5 bytes for each word of the old image and 1 byte
- * for each word of the new one; the check of a text also allocates the images and the pairs.
+ * for each word of the new one; the check of a text also allocates the images, the pairs and a buffer for the
+ * longest line.
  */
 #ifndef GCFLIP_H
 #define GCFLIP_H
@@ -84,8 +85,8 @@ uint32_t gcflip_check(uint32_t old_size, uint32_t old_end, bool old_raws, const 
                       const uint64_t *new_roots, size_t new_root_count, const gcflip_pair *pairs,
                       size_t pair_count, gcflip_verdict *verdict);
 
-/* Checks the pair of images in a text of the format `heappair 1` or `heappair 2`. The call reads the text in
- * place; it needs no zero byte at its end. */
+/* Checks the pair of images in a text of the format `heappair 1` or `heappair 2`. The text needs no zero byte at
+ * its end. */
 uint32_t gcflip_check_text(const uint8_t *text, size_t length, gcflip_verdict *verdict);
 
 /* ---- Conveniences over the calls above. Nothing is proved of them. */
