@@ -3,18 +3,10 @@
 #ifndef OWN_ALLOCATOR_H
 #define OWN_ALLOCATOR_H
 
+#include <gcflip_allocator.h>
 #include <stdbool.h>
 #include <stddef.h>
 #include <stdlib.h>
-
-struct gcflip_memory {
-    bool ok;
-    void *at;
-};
-
-struct gcflip_memory rattle_alloc(size_t size, size_t alignment);
-struct gcflip_memory rattle_realloc(void *old, size_t used, size_t size, size_t alignment);
-void rattle_dealloc(void *old);
 
 static long requests, failing;
 static long blocks;
