@@ -44,10 +44,10 @@ fn are_pairs(pairs: &[Pair]) -> bool
     pairs.len() <= MOST_PAIRS
 }
 
-/// Returns whether an image has a text. A shaped one with few enough roots has one.
+/// Returns whether an image has a text. A shaped one with few enough words and roots has one.
 fn image_fits(image: &ImageRef<'_>) -> bool
     ensures text { IsTrue result ↔ HasImageText (image_of image.now) }
-    ensures shaped { IsShaped (image_of image.now) → length image.now.roots.now ≤ most_roots → IsTrue result }
+    ensures shaped { IsShaped (image_of image.now) → image.now.size ≤ most_words → length image.now.roots.now ≤ most_roots → IsTrue result }
 {
     is_size(image.size)
         && is_size(image.end)

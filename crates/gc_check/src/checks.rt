@@ -7,14 +7,14 @@ ghost use Rattle.gc_words.specs.Views.{image_of};
 ghost use Rattle.gc_check.specs.Headline.{Replicated};
 ghost use Rattle.gc_check.specs.Verdict.{pairs_of, IsRefusalOf};
 
-use crate::checker::check;
+use crate::checker::check_wide;
 use crate::verdict::{CheckFault, Yes};
 use gc_words::{ImageRef, Pair};
 use std::alloc::Global;
 
 /// A checker: decides whether a certificate holds of two heap images.
 ///
-/// Code that flips is generic over its checker, so that one body serves `check` and `check_par`. Its contract
+/// Code that flips is generic over its checker, so that one body serves one thread and several. Its contract
 /// then shows that the checker was really asked: generic code knows nothing of `says_yes`, and only a yes of
 /// the method `check` establishes it.
 pub trait Checks {
@@ -46,7 +46,7 @@ pub trait Checks {
             (Replicated (image_of old.entry) (image_of new.entry) (pairs_of cert.now)) };
 }
 
-/// Checks in the calling thread, by `check`.
+/// Checks in the calling thread, by `check_wide`.
 #[derive(Debug, Drop)]
 pub struct Sequential;
 
@@ -60,6 +60,6 @@ impl Checks for Sequential {
         new: ImageRef,
         cert: &[Pair],
     ) -> Result<Yes, CheckFault> {
-        check(alloc, old, new, cert)
+        check_wide(alloc, old, new, cert)
     }
 }

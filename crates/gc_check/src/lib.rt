@@ -12,10 +12,10 @@ mod text;
 mod verdict;
 mod verdict_text;
 
-pub use checker::check;
+pub use checker::{check, check_sizes, check_wide};
 pub use checks::{Checks, Sequential};
 pub use gc_words::Refusal;
-pub use laws::{certified_is_replicated, worked_rows};
+pub use laws::{certified_is_replicated, small_images_mean_the_same, worked_rows};
 pub use tables::Tables;
 pub use text::{check_text, check_text_by};
 pub use verdict::{CheckFault, RunFault, Verdict, Yes};

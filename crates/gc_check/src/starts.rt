@@ -1,5 +1,5 @@
 use crate::verdict::CheckFault;
-use gc_words::{ImageRef, MOST_WORDS, Refusal, ShapeFault, next_in};
+use gc_words::{ImageRef, Refusal, ShapeFault, next_in};
 use std::alloc::Global;
 use std::marker::Model;
 
@@ -118,7 +118,7 @@ fn is_framed(image: ImageRef) -> bool
     ensures { shape_fault (image_of image.entry)
         ≡ (if result then fault_of_walk (walk_all image.entry.raws image.entry.words.now) else Some 0) }
 {
-    (1..=MOST_WORDS).contains(&image.size)
+    image.size >= 1
         && (1..=image.size).contains(&image.end)
         && image.words.len() == image.end as usize
         && image.words[0] == 0

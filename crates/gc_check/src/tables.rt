@@ -1,8 +1,9 @@
+use crate::checker::check_sizes;
 use crate::object::{fields_at, header_word_at};
 use crate::partners::partners_of;
 use crate::starts::Starts;
 use crate::verdict::CheckFault;
-use gc_words::{Addr, Header, ImageRef, Pair, Refusal, Value, decode};
+use gc_words::{Addr, Header, ImageRef, Pair, Refusal, Value, decode_wide};
 use std::alloc::Global;
 use std::marker::Model;
 
@@ -45,12 +46,38 @@ impl<'a> Tables<'a> {
     ghost use Rattle.gc_words.specs.Word.{words_correspond, field_words_correspond};
     ghost use Rattle.gc_words.specs.Fault.{table_fault, pair_fault, root_fault, first_difference};
     ghost use Rattle.gc_words.specs.Views.{image_of};
+    ghost use Rattle.gc_check.specs.Profile.{small_table_fault};
     ghost use Rattle.gc_check.specs.Tables.{pair_at};
     ghost use Rattle.gc_check.specs.Verdict.{pairs_of, IsRefusalOf};
 
-    /// Builds the tables of two images and a certificate, which they borrow. Allocates three times. Returns `Refused`
-    /// with the first fault of shapes, root counts or addresses of pairs, or `NoMemory`.
+    /// Builds the tables of two images of at most `MOST_WORDS` words and a certificate, which they borrow. Allocates
+    /// three times. Returns `Refused` with the first fault of shapes, root counts or addresses of pairs, or `NoMemory`.
+    /// A larger image is refused as `check` refuses it.
+    #[tactic(auto, using(crate::proofs::Sizes::small_tables))]
     pub fn new(
+        alloc: Global,
+        old: ImageRef<'a>,
+        new: ImageRef<'a>,
+        cert: &'a [Pair],
+    ) -> Result<Tables<'a>, CheckFault>
+        requires { length cert.now < 2 ^ 32 }
+        ensures { MatchResult result
+            (λ tables. (small_table_fault (image_of old.entry) (image_of new.entry) (pairs_of cert.now) ≡ None)
+            × (tables ≡ record {
+              old = image_of old.entry;
+              new = image_of new.entry;
+              pairs = pairs_of cert.now;
+            }))
+            (IsRefusalOf (small_table_fault (image_of old.entry) (image_of new.entry) (pairs_of cert.now))) }
+    {
+        match check_sizes(alloc, old, new) {
+            Ok(()) => Tables::new_wide(alloc, old, new, cert),
+            Err(fault) => Err(fault),
+        }
+    }
+
+    /// Builds the tables of two images of any size and a certificate, as `new` does.
+    pub fn new_wide(
         alloc: Global,
         old: ImageRef<'a>,
         new: ImageRef<'a>,
@@ -151,10 +178,10 @@ impl<'a> Tables<'a> {
         if old == new && (old == 0 || old % 2 == 1) {
             return true;
         }
-        let Some(Value::Ref(address)) = decode(old) else {
+        let Some(Value::Ref(address)) = decode_wide(old) else {
             return false;
         };
-        let Some(Value::Ref(other)) = decode(new) else {
+        let Some(Value::Ref(other)) = decode_wide(new) else {
             return false;
         };
         self.is_partner(address, other)

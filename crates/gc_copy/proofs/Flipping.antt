@@ -64,7 +64,7 @@ raw_words_small heap is a o found raw v m = from (block_at heap.space.words a) r
         let small : w.0 < 2 ^ 63 = subst (λ r. IsWordOfField r heap.space.words w.0) header (closed_field_read heap.space.words heap.roots a i.0 w.0 b is.closed e (ap (λ y. field_in y i.0) e ∙ i.1)) in
         subst IsSmall (ap (λ r. cond r (Num w.0) (value_of w.0)) (sym header) ∙ w.2) small
 
-word_fine : (words : List ℕ) (w : ℕ) → ((a : ℕ) → IsNamed (objects_of words) a → (1 ≤ a) × (a < 1048576)) → RefersTo (IsNamed (objects_of words)) (value_of w) → IsRootWord words w
+word_fine : (words : List ℕ) (w : ℕ) → ((a : ℕ) → IsNamed (objects_of words) a → (1 ≤ a) × (a < 4294967295)) → RefersTo (IsNamed (objects_of words)) (value_of w) → IsRootWord words w
 word_fine words w address named = by (w == 0) refl (w % 2 == 1) refl named
   where
     start : (a : ℕ) → IsNamed (objects_of words) a → is_start words a ≡ true
@@ -77,13 +77,13 @@ word_fine words w address named = by (w == 0) refl (w % 2 == 1) refl named
     refers (Num n) h = tt
     refers (Ref a) h = start a h
 
-    even : (b : Bool) → w < 2097152 → (b || nat_lt w 2097152) ≡ true
+    even : (b : Bool) → w < 8589934590 → (b || nat_lt w 8589934590) ≡ true
     even true h = refl
-    even false h = lt-ltb w 2097152 h
+    even false h = lt-ltb w 8589934590 h
 
     by : (z : Bool) → (w == 0) ≡ z → (o : Bool) → (w % 2 == 1) ≡ o → RefersTo (IsNamed (objects_of words)) (cond z Nil (cond o (Num (w / 2)) (Ref (w / 2)))) → IsRootWord words w
     by true e o f h = record { value = even (w % 2 == 1) (let is : w ≡ 0 = eqb-true w 0 e in omega arith); start = refers (value_of w) named }
-    by false e true f h = record { value = ap (λ b. b || nat_lt w 2097152) f; start = refers (value_of w) named }
+    by false e true f h = record { value = ap (λ b. b || nat_lt w 8589934590) f; start = refers (value_of w) named }
     by false e false f h =
         let high = (address (w / 2) h).1 in
         let isnt : w % 2 ≡ 1 → ⊥ = eqb-false (w % 2) 1 f in
@@ -101,7 +101,7 @@ module _ (heap : HeapWords) (x : CollectionWords) (heap_is : IsHeap heap) (is : 
   new_ok : IsSpaceGraph x.space.size (new_free (collection_in x)) (new_graph (collection_in x) (graph_in heap).roots)
   new_ok = new_heap heap.space.size (free_in heap.space) (graph_in heap) (collection_in x) old_ok k.belongs (is.space).size_high parts
 
-  address : (a : ℕ) → IsNamed (objects_of x.space.words) a → (1 ≤ a) × (a < 1048576)
+  address : (a : ℕ) → IsNamed (objects_of x.space.words) a → (1 ≤ a) × (a < 4294967295)
   address a n = named_address x.space.size (new_free (collection_in x)) (new_graph (collection_in x) (graph_in heap).roots) a new_ok (subst (λ os. IsNamed os a) (sym (new_objects_are x)) n)
 
   here : (v : Value) → RefersTo (IsNamed (new_objects (collection_in x))) v → RefersTo (IsNamed (objects_of x.space.words)) v

@@ -96,7 +96,7 @@ pairs_once (r ∷ rest) h (suc i) (suc j) d l within = pairs_once rest h.1 i j d
 -- ---- the certificate
 
 -- for all links
-pub certified : (links links' : ℕ → ℕ) (size free : ℕ) (g : Graph) (c : Collection) → IsSpaceGraph size free g → Belongs g.objects c → c.size ≤ 1048576 → IsReady g c
+pub certified : (links links' : ℕ → ℕ) (size free : ℕ) (g : Graph) (c : Collection) → IsSpaceGraph size free g → Belongs g.objects c → c.size ≤ 4294967295 → IsReady g c
     → Certified (linked_image links size g) (linked_image links' c.size (new_graph c g.roots)) (pairs_of c)
 certified links links' size free g c h k same ready = record {
   old_shaped = image_shaped links size free g h;
@@ -143,7 +143,7 @@ certified links links' size free g c h k same ready = record {
         ((λ i. record { raw = sym ok.raw i; kind = sym ok.kind i; len = sym ok.len i }), zip))
 
 -- so the graphs of both spaces correspond
-pub corresponding_graphs : (size free : ℕ) (g : Graph) (c : Collection) → IsSpaceGraph size free g → Belongs g.objects c → c.size ≤ 1048576 → IsReady g c → Corresponding (pairs_of c) g (new_graph c g.roots)
+pub corresponding_graphs : (size free : ℕ) (g : Graph) (c : Collection) → IsSpaceGraph size free g → Belongs g.objects c → c.size ≤ 4294967295 → IsReady g c → Corresponding (pairs_of c) g (new_graph c g.roots)
 corresponding_graphs size free g c h k same ready =
     let both = corresponding (linked_image no_links size g) (linked_image no_links c.size (new_graph c g.roots)) (pairs_of c) (certified no_links no_links size free g c h k same ready) in
     subst (λ x. Corresponding (pairs_of c) x (new_graph c g.roots)) (graph_back no_links size free g h)

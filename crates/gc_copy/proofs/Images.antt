@@ -19,7 +19,7 @@ use Rattle.gc_copy.proofs.Heap.{refers_map, laid_range, lookup_laid}
 
 -- an address that a reference can hold
 abbrev pub IsAddress : ℕ → Type 0
-IsAddress a = (1 ≤ a) × (a < 1048576)
+IsAddress a = (1 ≤ a) × (a < 4294967295)
 
 has_address : (v : Value) → RefersTo IsAddress v → HasAddress v
 has_address Nil h = tt

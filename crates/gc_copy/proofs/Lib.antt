@@ -6,6 +6,7 @@ pub mod Numbers
 pub mod Replicas
 pub mod Steps
 pub mod Runs
+pub mod Sizes
 pub mod Images
 pub mod Flips
 pub mod Room

@@ -369,7 +369,7 @@ replica_raw heap c name i w r raw belongs e field is =
 -- ---- moved values
 
 -- the place of a replica is an address
-pub replica_address : (objects : List (ℕ × Object)) (c : CollectionWords) (r : Replica) → IsCollection c → Belongs objects (collection_in c) → In r (replicas_in c.space.words) → (1 ≤ r.place) × (r.place < 1048576)
+pub replica_address : (objects : List (ℕ × Object)) (c : CollectionWords) (r : Replica) → IsCollection c → Belongs objects (collection_in c) → In r (replicas_in c.space.words) → (1 ≤ r.place) × (r.place < 4294967295)
 replica_address objects c r is belongs l =
     let range = laid_range 1 (new_objects (collection_in c)) (new_end (collection_in c)) (placed r) belongs.laid (in_map placed r (replicas_in c.space.words) l) in
     let room = belongs.room in
@@ -454,7 +454,7 @@ pub record Tells (c : CollectionWords) (a link : ℕ) : Type 0 where
   pub small : link < 2 ^ 32
   pub none : link ≡ 0 → option_map (λ r. r.place) (replica_of (collection_in c) a) ≡ None
   pub some : (link ≡ 0 → ⊥) → option_map (λ r. r.place) (replica_of (collection_in c) a) ≡ Some link
-  pub address : (link ≡ 0 → ⊥) → (1 ≤ link) × (link < 1048576)
+  pub address : (link ≡ 0 → ⊥) → (1 ≤ link) × (link < 4294967295)
 
 pub link_tells : (heap : HeapWords) (c : CollectionWords) (a link : ℕ) → IsCollection c → BelongsTo heap c → is_start heap.space.words a ≡ true → link ≡ link_at heap.space.words a → Tells c a link
 link_tells heap c a link is k start e = from (replica_of (collection_in c) a) refl (e ∙ k.links a start)
@@ -462,7 +462,7 @@ link_tells heap c a link is k start e = from (replica_of (collection_in c) a) re
     from : (o : Option Replica) → replica_of (collection_in c) a ≡ o → link ≡ place_or_zero o → Tells c a link
     from None f g = record { small = omega arith; none = λ z. ap (option_map (λ (r : Replica). r.place)) f; some = λ n. absurd (n g); address = λ n. absurd (n g) }
     from (Some r) f g =
-        let at : (1 ≤ r.place) × (r.place < 1048576) = replica_address (graph_in heap).objects c r is k.belongs (replica_in (collection_in c) a r f).0 in
+        let at : (1 ≤ r.place) × (r.place < 4294967295) = replica_address (graph_in heap).objects c r is k.belongs (replica_in (collection_in c) a r f).0 in
         let same : link ≡ r.place = g in
         record {
           small = omega (arith, at);

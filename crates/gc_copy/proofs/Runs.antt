@@ -22,7 +22,7 @@ pub record Reached (mutators : ℕ) (s : State) : Type 0 where
   pub ok : IsState s
   pub count : s.mutators ≡ mutators
 
-pub opening_ok : (size mutators : ℕ) → 1 ≤ size → size ≤ 1048576 → IsState (opening_state size mutators)
+pub opening_ok : (size mutators : ℕ) → 1 ≤ size → size ≤ 4294967295 → IsState (opening_state size mutators)
 opening_ok size mutators low high = record {
   heap = record {
     high = high;
@@ -85,5 +85,5 @@ pub run_keeps : (mutators : ℕ) (events : List Event) (s : State) → Reached m
 run_keeps mutators [] s h r = h
 run_keeps mutators (event ∷ events) s h r = run_keeps mutators events (after s event) (event_keeps mutators s event h r.0) r.1
 
-pub run_ok : (size mutators : ℕ) (events : List Event) → 1 ≤ size → size ≤ 1048576 → AreEvents mutators events → IsState (state_after (opening_state size mutators) events)
+pub run_ok : (size mutators : ℕ) (events : List Event) → 1 ≤ size → size ≤ 4294967295 → AreEvents mutators events → IsState (state_after (opening_state size mutators) events)
 run_ok size mutators events low high r = (run_keeps mutators events (opening_state size mutators) (record { ok = opening_ok size mutators low high; count = refl }) r).ok

@@ -89,7 +89,7 @@ pub has_few_pairs : (s : State) → IsState s → HasFewPairs s
 has_few_pairs s h c is =
     let k : IsOpened s c = subst (IsOpen s) is h.collection in
     let t = two_words 1 (map placed c.replicas) (replicas_end c.replicas) (k.belongs).laid in
-    let room = (k.belongs).room in let same = k.size in
+    let room = (k.belongs).room in
     omega (arith, t, length-map c.replicas placed, length-map c.replicas pair)
 
 -- ---- commands and notes

@@ -178,14 +178,14 @@ bringing g c Due Due' name i next numbers h due less is = go (field_of (lookup g
 
 -- ---- the collector's steps
 
-grown_open : (s : State) (c next : Collection) → c.size ≤ 1048576 → length c.logs ≡ s.mutators → IsScanPlace c.scan_place c.scan_field c → ((a i : ℕ) → IsLogged c a i → HasField s.heap.graph.objects a i) → HasRawNumbers s.heap.graph.objects
+grown_open : (s : State) (c next : Collection) → c.size ≤ 4294967295 → length c.logs ≡ s.mutators → IsScanPlace c.scan_place c.scan_field c → ((a i : ℕ) → IsLogged c a i → HasField s.heap.graph.objects a i) → HasRawNumbers s.heap.graph.objects
     → Grown s.heap.graph.objects c (IsDue c) next → IsOpened s next
 grown_open s c next same count scan entries numbers h = record {
   belongs = belongs_from (IsDue next) s.heap.graph.objects next
       (replicas_due s.heap.graph.objects next.size (IsDue c) (IsDue next) next.replicas h.replicas (λ r k i w d. due_same c next r.object.raw r.place r.original i h.logs h.scan_place h.scan_field d))
       (subst (λ p. IsScanPlace p next.scan_field next) (sym h.scan_place) (subst (λ f. IsScanPlace c.scan_place f next) (sym h.scan_field) (h.scan c.scan_place c.scan_field scan)))
       (λ a i d. entries a i (d.0, subst (λ (l : List (List (ℕ × ℕ))). In {X = ℕ × ℕ} (a, i) (log_or_nil (slice_get l d.0))) h.logs d.1)) numbers;
-  size = subst (λ n. n ≤ 1048576) (sym h.size) same;
+  size = subst (λ n. n ≤ 4294967295) (sym h.size) same;
   logs = ap length h.logs ∙ count;
 }
 
@@ -292,7 +292,7 @@ scanned_open s c r (Some n) d k here place more is e = subst (IsOpened s) same (
       (replicas_due objects n.size (But (IsDue c) r.original c.scan_field) (IsDue n') n.replicas grown.replicas less)
       (subst (λ p. IsScanPlace p (suc n.scan_field) n) (sym grown.scan_place) (subst (λ f. IsScanPlace c.scan_place (suc f) n) (sym grown.scan_field) (grown.scan c.scan_place (suc c.scan_field) here_next)))
       (λ a i x. (k.belongs).entries a i (x.0, subst (λ (l : List (List (ℕ × ℕ))). In {X = ℕ × ℕ} (a, i) (log_or_nil (slice_get l x.0))) grown.logs x.1)) (k.belongs).numbers;
-  size = subst (λ n. n ≤ 1048576) (sym grown.size) k.size;
+  size = subst (λ n. n ≤ 4294967295) (sym grown.size) k.size;
   logs = ap length grown.logs ∙ k.logs;
 })
   where
@@ -491,7 +491,7 @@ new_small g c h k ready = record {
   roots = λ w l. let r = in_map_from (moved c) w g.roots l in subst IsSmall r.2 (small_moved c r.0 (h.roots r.0 r.1));
 }
 
-pub new_heap : (size free : ℕ) (g : Graph) (c : Collection) → IsSpaceGraph size free g → Belongs g.objects c → c.size ≤ 1048576 → IsReady g c → IsSpaceGraph c.size (new_free c) (new_graph c g.roots)
+pub new_heap : (size free : ℕ) (g : Graph) (c : Collection) → IsSpaceGraph size free g → Belongs g.objects c → c.size ≤ 4294967295 → IsReady g c → IsSpaceGraph c.size (new_free c) (new_graph c g.roots)
 new_heap size free g c h k same ready = record {
   high = same;
   room = let y = k.room in let z = laid_end 1 (map placed c.replicas) (replicas_end c.replicas) k.laid in omega arith;
@@ -544,7 +544,7 @@ begun_belongs objects mutators size numbers low = record {
   numbers = numbers;
 }
 
-fresh_open : (s : State) (size : ℕ) → HasRawNumbers s.heap.graph.objects → 1 ≤ size → size ≤ 1048576 → IsOpened s (fresh_collection s.mutators size)
+fresh_open : (s : State) (size : ℕ) → HasRawNumbers s.heap.graph.objects → 1 ≤ size → size ≤ 4294967295 → IsOpened s (fresh_collection s.mutators size)
 fresh_open s size numbers low high = record { belongs = begun_belongs s.heap.graph.objects s.mutators size numbers low; size = high; logs = length-replicate s.mutators [] }
 
 -- a step of an open collection keeps it belonging to the heap

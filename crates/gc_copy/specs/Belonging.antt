@@ -1,6 +1,6 @@
 -- Heaps whose names are addresses, and when a collection belongs to a heap.
 use Rattle.std.specs.Prelude.{◌≡◌, ◌⊎◌, ℕ, Bool, true, false, ◌-◌, ◌<◌, ◌≤◌, ◌^◌, List, [], ◌∷◌, length, map, Option, Some, None, slice_get, IsTrue, ⊤}
-use Rattle.gc_graph.specs.Limits.{most_words, kinds, lengths}
+use Rattle.gc_graph.specs.Limits.{largest_space, kinds, lengths}
 use Rattle.gc_graph.specs.Slots.{roots_of}
 use Rattle.gc_graph.specs.Graph.{Value, Nil, Num, Ref, Object, Graph, lookup}
 use Rattle.gc_graph.specs.Machine.{is_number}
@@ -38,7 +38,7 @@ HasRawNumbers objects = (a : ℕ) (o : Object) → lookup objects a ≡ Some o �
 
 -- A graph of objects in a space with this size and this many free words. Each name is the address of its object.
 pub record IsSpaceGraph (size free : ℕ) (g : Graph) : Type 0 where
-  pub high : size ≤ most_words
+  pub high : size ≤ largest_space
   pub room : free < size
   pub laid : Laid 1 g.objects (size - free)
   pub objects : (a : ℕ) (o : Object) → In (a, o) g.objects → IsObject g.objects o
@@ -111,7 +111,7 @@ BelongsBut E objects c = BelongsBy (λ raw p a i. IsDue c raw p a i ⊎ E a i) o
 -- the open collection belongs to the heap, its space is within the size limit, and each mutator has a log
 pub record IsOpened (s : State) (c : Collection) : Type 0 where
   pub belongs : Belongs s.heap.graph.objects c
-  pub size : c.size ≤ most_words
+  pub size : c.size ≤ largest_space
   pub logs : length c.logs ≡ s.mutators
 
 abbrev pub IsOpen : State → Option Collection → Type 0

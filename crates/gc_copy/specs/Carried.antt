@@ -1,7 +1,7 @@
 -- What a collection can copy: objects that were reachable when it began, and objects allocated since.
 use Rattle.std.specs.Prelude.{◌⊎◌, ℕ, ◌≤◌, Bool, true, false, if◌then◌else◌, List, [], ◌∷◌, Option, Some, None, ⊤}
 use Rattle.std.specs.List.{All}
-use Rattle.gc_graph.specs.Limits.{most_words}
+use Rattle.gc_graph.specs.Limits.{largest_space}
 use Rattle.gc_graph.specs.Graph.{Value, Object, Graph, Reachable}
 use Rattle.gc_copy.specs.State.{Collection, State, opening_state, heap_end, pairs_of}
 use Rattle.gc_copy.specs.Steps.{collect}
@@ -36,7 +36,7 @@ OnlyKeptIsPaired base (Some c) = All (λ p. IsLiveSince base p.0) (pairs_of c)
 
 -- in every run, each original of an open collection was reachable when the collection began, or was allocated since
 abbrev pub CarriesOnlyKept : Type 0
-CarriesOnlyKept = (size mutators : ℕ) (events : List Event) → 1 ≤ size → size ≤ most_words → AreEvents mutators events
+CarriesOnlyKept = (size mutators : ℕ) (events : List Event) → 1 ≤ size → size ≤ largest_space → AreEvents mutators events
     → (let opening = opening_state size mutators in OnlyKeptIsPaired (base_of_run opening opening events) (state_after opening events).collection)
 
 -- P holds of each name in a root, and of each name in a field of an object that satisfies P
@@ -51,6 +51,6 @@ OnlyKeptIsNamed base g (Some c) = LeadsOnlyTo (IsLiveSince base) g × OnlyKeptIs
 -- Call an object live if it was reachable when the open collection began, or was allocated since. In every run, each original
 -- is live, and roots and fields of live objects refer only to live objects.
 abbrev pub NamesOnlyKept : Type 0
-NamesOnlyKept = (size mutators : ℕ) (events : List Event) → 1 ≤ size → size ≤ most_words → AreEvents mutators events
+NamesOnlyKept = (size mutators : ℕ) (events : List Event) → 1 ≤ size → size ≤ largest_space → AreEvents mutators events
     → (let opening = opening_state size mutators in
     let s = state_after opening events in OnlyKeptIsNamed (base_of_run opening opening events) s.heap.graph s.collection)

@@ -1,6 +1,5 @@
 -- Properties of a heap with an open collection that belongs to it.
-use Rattle.std.specs.Prelude.{◌≡◌, ◌≢◌, ◌↔◌, ◌≤◌, length, Some, IsTrue}
-use Rattle.gc_graph.specs.Limits.{most_pairs}
+use Rattle.std.specs.Prelude.{◌≡◌, ◌≢◌, ◌↔◌, ◌≤◌, ◌<◌, ◌*◌, length, Some, IsTrue}
 use Rattle.gc_words.specs.Image.{IsShaped, roomy_of}
 use Rattle.gc_words.specs.Certificate.{Certified}
 use Rattle.gc_copy.specs.State.{Collection, State, new_graph, pairs_of}
@@ -34,6 +33,6 @@ AlwaysHasRoom s = (c : Collection) → s.collection ≡ Some c → s.size ≤ c.
 abbrev pub ScansToTheEnd : State → Type 0
 ScansToTheEnd s = (c : Collection) → s.collection ≡ Some c → ((collect s steps.Scan).0 ≡ Clean) ↔ IsTrue (scan_done c)
 
--- there are no more pairs than a space can have objects
+-- there are no more pairs than the new space can have objects: each takes at least two words, and word 0 belongs to none
 abbrev pub HasFewPairs : State → Type 0
-HasFewPairs s = (c : Collection) → s.collection ≡ Some c → length (pairs_of c) ≤ most_pairs
+HasFewPairs s = (c : Collection) → s.collection ≡ Some c → 2 * length (pairs_of c) < c.size

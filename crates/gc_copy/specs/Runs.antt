@@ -1,7 +1,7 @@
 -- Runs of a heap with its collector: the states and answers that lists of events lead to.
-use Rattle.std.specs.Prelude.{ℕ, ◌<◌, ◌≤◌, ◌==◌, if◌then◌else◌, List, [], ◌∷◌, ⊤}
+use Rattle.std.specs.Prelude.{ℕ, ◌<◌, ◌≤◌, ◌==◌, if◌then◌else◌, List, [], ◌∷◌, ⊤, IfSome}
 use Rattle.std.specs.List.{flat_map}
-use Rattle.gc_graph.specs.Limits.{most_words}
+use Rattle.gc_graph.specs.Limits.{largest_space}
 use Rattle.gc_graph.specs.Range.{IsCommand}
 use Rattle.gc_graph.specs.declared.command.Op.{Op}
 use Rattle.gc_copy.specs.State.{State, opening_state}
@@ -13,23 +13,33 @@ use Rattle.gc_copy.specs.declared.event.Answer.TheVariants.{Mutator, Collector}
 use Rattle.gc_copy.specs.declared.step.Step.{Step}
 use Rattle.gc_copy.specs.declared.step.Step.TheVariants as steps
 
--- the step's argument is in range: the size of a space, or the number of a log
+-- the step's argument is in range: the size of a space of at most `most` words, or the number of a log
+abbrev pub IsStepWithin : ℕ → ℕ → Step → Type 0
+IsStepWithin most mutators steps.Begin = ⊤
+IsStepWithin most mutators (steps.BeginSized size) = (1 ≤ size) × (size ≤ most)
+IsStepWithin most mutators steps.Roots = ⊤
+IsStepWithin most mutators steps.Scan = ⊤
+IsStepWithin most mutators (steps.Apply k) = k < mutators
+IsStepWithin most mutators steps.Flip = ⊤
+IsStepWithin most mutators steps.Drop = ⊤
+
+abbrev pub IsEventWithin : ℕ → ℕ → Event → Type 0
+IsEventWithin most mutators (Mutate m op) = (m < mutators) × IsCommand op
+IsEventWithin most mutators (Collect step) = IsStepWithin most mutators step
+
+abbrev pub AreEventsWithin : ℕ → ℕ → List Event → Type 0
+AreEventsWithin most mutators [] = ⊤
+AreEventsWithin most mutators (event ∷ events) = IsEventWithin most mutators event × AreEventsWithin most mutators events
+
+-- the same of a heap, which takes a space of any size
 abbrev pub IsStep : ℕ → Step → Type 0
-IsStep mutators steps.Begin = ⊤
-IsStep mutators (steps.BeginSized size) = (1 ≤ size) × (size ≤ most_words)
-IsStep mutators steps.Roots = ⊤
-IsStep mutators steps.Scan = ⊤
-IsStep mutators (steps.Apply k) = k < mutators
-IsStep mutators steps.Flip = ⊤
-IsStep mutators steps.Drop = ⊤
+IsStep mutators step = IsStepWithin largest_space mutators step
 
 abbrev pub IsEvent : ℕ → Event → Type 0
-IsEvent mutators (Mutate m op) = (m < mutators) × IsCommand op
-IsEvent mutators (Collect step) = IsStep mutators step
+IsEvent mutators event = IsEventWithin largest_space mutators event
 
 abbrev pub AreEvents : ℕ → List Event → Type 0
-AreEvents mutators [] = ⊤
-AreEvents mutators (event ∷ events) = IsEvent mutators event × AreEvents mutators events
+AreEvents mutators events = AreEventsWithin largest_space mutators events
 
 abbrev pub after : State → Event → State
 after s (Mutate m op) = (mutate s m op).1
@@ -41,7 +51,14 @@ state_after s (event ∷ events) = state_after (after s event) events
 
 -- P holds in every state that a run from an empty heap leads to
 abbrev pub InEveryRun : (State → Type 0) → Type 0
-InEveryRun P = (size mutators : ℕ) (events : List Event) → 1 ≤ size → size ≤ most_words → AreEvents mutators events → P (state_after (opening_state size mutators) events)
+InEveryRun P = (size mutators : ℕ) (events : List Event) → 1 ≤ size → size ≤ largest_space → AreEvents mutators events → P (state_after (opening_state size mutators) events)
+
+-- ---- sizes
+
+-- the heap's space has at most `most` words, and so has the new space of an open collection
+pub record HasSizesWithin (most : ℕ) (s : State) : Type 0 where
+  pub heap : s.size ≤ most
+  pub collection : IfSome s.collection (λ c. c.size ≤ most)
 
 -- ---- answers
 

@@ -1,7 +1,7 @@
 //! Laws that follow from the definitions. Crates that depend on this one use them in proofs by calling these functions.
 
 ghost use Rattle.std.specs.Prelude.{◌≡◌, ◌≢◌, ◌++◌, ◌∷◌, [], ℕ, List, ◌-◌, ◌<◌, ◌≤◌, ◌==◌, length, Some, is_none, ◌⊎◌, IsTrue, IsFalse};
-ghost use Rattle.gc_graph.specs.Limits.{most_words};
+ghost use Rattle.gc_graph.specs.Limits.{largest_space};
 ghost use Rattle.gc_graph.specs.Graph.{Value, Ref, Object, Graph, IsUnused, set_field};
 ghost use Rattle.gc_graph.specs.Correspond.{Corresponding};
 ghost use Rattle.gc_graph.specs.Machine.{Roomy, roomy_step};
@@ -20,7 +20,8 @@ ghost use Rattle.gc_copy.specs.Linked.{image_of_graph, linked_image, old_links, 
 ghost use Rattle.gc_copy.specs.Steps.{roots_done, written, log_at, with_log, WritesField, with_collection, write_replica, fresh_collection, mutate, collect, is_change, is_ready, useful_step};
 ghost use Rattle.gc_copy.specs.Members.{In};
 ghost use Rattle.gc_copy.specs.Belonging.{HasRawNumbers, IsSpaceGraph, HasField, Belongs, BelongsBut, IsOpened, IsOpen, IsState};
-ghost use Rattle.gc_copy.specs.Runs.{IsStep, InEveryRun};
+ghost use Rattle.gc_copy.specs.Runs.{IsStepWithin, IsEventWithin, AreEventsWithin, IsStep, AreEvents, InEveryRun, HasSizesWithin, after, state_after};
+ghost use Rattle.gc_copy.specs.declared.event.Event.{Event};
 ghost use Rattle.gc_copy.specs.Passing.{HasImage, PassesWhereReady, NeverRefused, AlwaysHasRoom, ScansToTheEnd, HasFewPairs};
 ghost use Rattle.gc_copy.specs.Carried.{CarriesOnlyKept, NamesOnlyKept};
 ghost use Rattle.gc_copy.specs.Staying.{StaysDone};
@@ -68,12 +69,26 @@ pub fn steps_keep_belonging()
 /// Commands and steps keep the heap sound, and an open collection still belongs to it.
 pub fn states_are_kept()
     ensures opening { (size mutators : ℕ)
-        → 1 ≤ size → size ≤ most_words → IsState (opening_state size mutators) }
+        → 1 ≤ size → size ≤ largest_space → IsState (opening_state size mutators) }
     ensures commands { (s : State) (m : ℕ) (op : Op)
         → IsState s → m < s.mutators → IsCommand op → IsState (mutate s m op).1 }
     ensures steps { (s : State) (step : Step)
         → IsState s → IsStep s.mutators step → IsState (collect s step).1 }
     ensures runs { InEveryRun IsState }
+{}
+
+/// In a run whose opening and begins are within a limit, so are the sizes of all spaces. A step or an event that is within a limit
+/// is one of a heap.
+pub fn sizes_stay_within()
+    ensures events { (most mutators : ℕ) (s : State) (event : Event)
+        → HasSizesWithin most s → IsEventWithin most mutators event → HasSizesWithin most (after s event) }
+    ensures runs { (most size mutators : ℕ) (events : List Event)
+        → size ≤ most → AreEventsWithin most mutators events
+        → HasSizesWithin most (state_after (opening_state size mutators) events) }
+    ensures steps { (most mutators : ℕ) (step : Step)
+        → most ≤ largest_space → IsStepWithin most mutators step → IsStep mutators step }
+    ensures wider { (most mutators : ℕ) (events : List Event)
+        → most ≤ largest_space → AreEventsWithin most mutators events → AreEvents mutators events }
 {}
 
 /// A heap is the graph of its image, whatever the links are.
@@ -122,13 +137,13 @@ pub fn links_tell_replicas()
 /// one. So its flip passes the check, and no flip is ever refused.
 pub fn ready_flips_pass()
     ensures certified { (links others : ℕ → ℕ) (size free : ℕ) (g : Graph) (c : Collection)
-        → IsSpaceGraph size free g → Belongs g.objects c → c.size ≤ most_words → IsTrue (is_ready c g)
+        → IsSpaceGraph size free g → Belongs g.objects c → c.size ≤ largest_space → IsTrue (is_ready c g)
         → Certified (linked_image links size g) (linked_image others c.size (new_graph c g.roots)) (pairs_of c) }
     ensures heap { (size free : ℕ) (g : Graph) (c : Collection)
-        → IsSpaceGraph size free g → Belongs g.objects c → c.size ≤ most_words → IsTrue (is_ready c g)
+        → IsSpaceGraph size free g → Belongs g.objects c → c.size ≤ largest_space → IsTrue (is_ready c g)
         → IsSpaceGraph c.size (new_free c) (new_graph c g.roots) }
     ensures corresponding { (size free : ℕ) (g : Graph) (c : Collection)
-        → IsSpaceGraph size free g → Belongs g.objects c → c.size ≤ most_words → IsTrue (is_ready c g)
+        → IsSpaceGraph size free g → Belongs g.objects c → c.size ≤ largest_space → IsTrue (is_ready c g)
         → Corresponding (pairs_of c) g (new_graph c g.roots) }
     ensures passes { (s : State) → IsState s → PassesWhereReady s }
     ensures never_refused { (s : State) → IsState s → NeverRefused s }
@@ -161,7 +176,8 @@ pub fn room_suffices()
         → (collect (open_state heap c) step).0 ≢ NoRoom }
 {}
 
-/// `Scan` replies `Clean` exactly if the scan pointer is at the new end, and a collection has at most `MOST_PAIRS` pairs.
+/// `Scan` replies `Clean` exactly if the scan pointer is at the new end. Twice the pairs of a collection are fewer than the words of
+/// its new space.
 pub fn scans_and_pairs_are_bounded()
     ensures scans { (s : State) → IsState s → ScansToTheEnd s }
     ensures pairs { (s : State) → IsState s → HasFewPairs s }

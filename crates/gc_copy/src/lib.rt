@@ -15,7 +15,8 @@ pub use laws::{
     answers_tell_changes, belonging_is_kept, commands_keep_collections, commands_leave_collections,
     heaps_have_addresses_as_names, images_have_their_graphs, images_show_links,
     links_tell_replicas, only_kept_is_carried, ready_flips_pass, room_suffices, roots_stay_done,
-    scans_and_pairs_are_bounded, states_are_kept, steps_keep_belonging, worked_rows,
+    scans_and_pairs_are_bounded, sizes_stay_within, states_are_kept, steps_keep_belonging,
+    worked_rows,
 };
 pub use log::LogEntry;
 pub use step::{Step, StepReply};

@@ -1,7 +1,7 @@
 -- The replies of a run, event by event, compared with a graph that has no collector.
 use Rattle.std.proofs.Common.{◌≡◌, ◌≢◌, ◌⊎◌, inl, inr, ℕ, ◌<◌, ◌≤◌, nat_lt, List, [], ◌∷◌, Option, Some, None, refl, sym, subst, arith}
 use Rattle.std.proofs.lemmas.Bool.{cond_both, ltb-true}
-use Rattle.gc_graph.specs.Limits.{most_words}
+use Rattle.gc_graph.specs.Limits.{largest_space}
 use Rattle.gc_graph.specs.Graph.{Graph, opening, fresh_name}
 use Rattle.gc_graph.specs.Machine.{Roomy, step, words_taken, roomy_step, MakesObject}
 use Rattle.gc_graph.specs.Legal.{IsLegalFrom, IsLegal}
@@ -115,7 +115,7 @@ legal_from mutators (event ∷ events) s g pairs h matched r =
     legal_event mutators events event s g pairs h.ok matched
     (λ later others matched. legal_from mutators events (after s event) later others next matched r.1)
 
-pub run_is_legal : (size mutators : ℕ) (events : List Event) → 1 ≤ size → size ≤ most_words → AreEvents mutators events → IsLegal mutators (told_in (opening_state size mutators) events)
+pub run_is_legal : (size mutators : ℕ) (events : List Event) → 1 ≤ size → size ≤ largest_space → AreEvents mutators events → IsLegal mutators (told_in (opening_state size mutators) events)
 run_is_legal size mutators events low high are =
     legal_from mutators events (opening_state size mutators) (opening mutators) (own_pairs (opening mutators).objects)
     (record { ok = opening_ok size mutators low high; count = refl }) (matched_itself (opening mutators)) are

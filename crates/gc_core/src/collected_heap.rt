@@ -35,16 +35,15 @@ impl Model for CollectedHeap {
 
 impl CollectedHeap {
     ghost use Rattle.std.specs.Prelude.{◌≡◌, ◌≤◌, IfOk, is_some};
-    ghost use Rattle.gc_graph.specs.Limits.{most_words, most_mutators};
+    ghost use Rattle.gc_graph.specs.Limits.{most_mutators};
     ghost use Rattle.gc_copy.specs.State.{opening_state};
     ghost use Rattle.gc_copy.specs.Steps.{useful_step};
     ghost use Rattle.gc_copy.specs.Runs.{IsStep};
     ghost use Rattle.gc_heap.specs.Heap.{roomy_in};
 
-    /// Returns an empty heap of `size` words, 1 to 1048576, for 1 to 16 mutators.
+    /// Returns an empty heap of `size` words, at least 1, for 1 to 16 mutators.
     pub fn open(alloc: Global, size: u32, mutators: u8) -> Result<CollectedHeap, NoMemory>
         requires low { 1 ≤ size }
-        requires high { size ≤ most_words }
         requires some { 1 ≤ mutators }
         requires few { mutators ≤ most_mutators }
         ensures { IfOk result (λ heap. heap ≡ opening_state size mutators) }

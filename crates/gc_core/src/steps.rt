@@ -6,7 +6,6 @@ use gc_graph::NoMemory;
 
 impl CollectedHeap {
     ghost use Rattle.std.specs.Prelude.{◌≡◌, ◌≢◌, ◌<◌, ◌≤◌, IfOk, OnErr};
-    ghost use Rattle.gc_graph.specs.Limits.{most_words};
     ghost use Rattle.gc_copy.specs.Steps.{collect, useful_step};
     ghost use Rattle.gc_copy.specs.Runs.{IsStep};
     ghost use Rattle.gc_copy.specs.declared.step.Step.{Step};
@@ -42,11 +41,10 @@ impl CollectedHeap {
         }
     }
 
-    /// Opens a collection whose new space has `size` words, 1 to 1048576. Returns `Begun`, or `Busy` if one is already
+    /// Opens a collection whose new space has `size` words, at least 1. Returns `Begun`, or `Busy` if one is already
     /// open. On `NoMemory` nothing has changed.
     pub fn begin_sized(&mut self, size: u32) -> Result<StepReply, NoMemory>
         requires low { 1 ≤ size }
-        requires high { size ≤ most_words }
         ensures step { IfOk result (λ reply. collect self.old (Step.BeginSized size) ≡ (reply, self.new)) }
         ensures refused { OnErr result (self.new ≡ self.old) }
         ensures mutators { self.new.mutators ≡ self.old.mutators }

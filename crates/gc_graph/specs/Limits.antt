@@ -2,9 +2,13 @@
 -- they are used.
 use Rattle.std.specs.Prelude.{ℕ, ◌+◌, ◌*◌}
 
--- the maximum number of words in a space
+-- the maximum number of words in a space of a text, of the plain machine, and of the images that `check` accepts
 abbrev pub most_words : ℕ
 most_words = 1048576
+
+-- the maximum number of words in any other space: its size and its addresses are numbers of 32 bits
+abbrev pub largest_space : ℕ
+largest_space = 4294967295
 
 -- the maximum number of objects in a space, and so of pairs in a certificate: each object takes at least two words, and
 -- the first word is reserved

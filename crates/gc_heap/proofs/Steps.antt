@@ -54,7 +54,7 @@ new_graph : (h : HeapWords) (p : ℕ) (header : Header) → IsHeap h → CanPlac
     → graph_in (with_new h p header) ≡ set_root (add_object (graph_in h) (end_of h.space) (new_object header.raw header.kind header.len)) p (Ref (end_of h.space))
 new_graph h p header heap can =
     let low : 1 ≤ length h.space.words = heap.space.end_low in
-    let high : h.space.size ≤ 1048576 = heap.space.size_high in
+    let high : h.space.size ≤ 4294967295 = heap.space.size_high in
     let value : value_of (word_of (Ref (end_of h.space))) ≡ Ref (end_of h.space) = meaning (word_of (Ref (end_of h.space))) (Ref (end_of h.space)) (value_read_back (Ref (end_of h.space)) (low, omega arith)) in
     graph_root (with_object h.space header) p (word_of (Ref (end_of h.space))) h.roots
     ∙ ap (λ g. set_root g p (value_of (word_of (Ref (end_of h.space))))) (graph_placed h.space header h.roots can)

@@ -46,7 +46,7 @@ impl Model for Heap {
 impl Heap {
     ghost use Rattle.std.specs.Prelude.{◌≡◌, ◌<◌, ◌≤◌, IfOk, IfSome, IsTrue, length, slice_set, if◌then◌else◌};
     ghost use Rattle.std.specs.Option.{option_map};
-    ghost use Rattle.gc_graph.specs.Limits.{most_words, most_mutators};
+    ghost use Rattle.gc_graph.specs.Limits.{most_mutators};
     ghost use Rattle.gc_graph.specs.Slots.{place as place_of};
     ghost use Rattle.gc_graph.specs.Graph.{name_of, object_of, field_of, root};
     ghost use Rattle.gc_graph.specs.Machine.{roomy_step, opening_roomy, get_field, put_field, same as same_in};
@@ -59,11 +59,10 @@ impl Heap {
     ghost use Rattle.gc_heap.specs.Internal.Taken.{taken_reply, IsTakenWord};
     ghost use Rattle.gc_heap.specs.Heap.{IsHeap, KeepsLinks, empty_heap, image_of, graph_in, roomy_in};
 
-    /// Returns a heap without objects whose roots are all nil. It has `size` words, 1 to `MOST_WORDS`, and 1 to
+    /// Returns a heap without objects whose roots are all nil. It has `size` words, at least 1, and 1 to
     /// `MOST_MUTATORS` mutators.
     pub fn new(alloc: Global, size: u32, mutators: u8) -> Result<Heap, NoMemory>
         requires low { 1 ≤ size }
-        requires high { size ≤ most_words }
         requires some { 1 ≤ mutators }
         requires few { mutators ≤ most_mutators }
         ensures empty { IfOk result (λ heap. heap ≡ empty_heap size mutators) }

@@ -13,7 +13,7 @@ ghost use Rattle.gc_words.specs.Closed.{IsRootWord, IsFieldWord};
 
 use crate::taken::Fetched;
 use gc_graph::View;
-use gc_words::{Addr, Header, Space, Value, decode};
+use gc_words::{Addr, Header, Space, Value, decode_wide};
 
 /// Returns whether the object that starts here, and has this header, has a field `i`.
 pub fn has_field(space: &Space, at: Addr, header: Header, i: u16) -> bool
@@ -30,7 +30,7 @@ pub fn view(space: &Space, word: u64) -> View
     requires shaped { IsSpace space.now }
     ensures { result ≡ view_of (objects_of space.now.words) (value_of word) }
 {
-    let Some(value) = decode(word) else {
+    let Some(value) = decode_wide(word) else {
         return View::Nil;
     };
     match &value {
@@ -55,7 +55,7 @@ pub fn fetched(space: &Space, word: u64) -> Fetched
     requires shaped { IsSpace space.now }
     ensures { result ≡ fetched_of (Saw (view_of (objects_of space.now.words) (value_of word))) }
 {
-    let Some(value) = decode(word) else {
+    let Some(value) = decode_wide(word) else {
         return Fetched::Nil;
     };
     match &value {
@@ -100,7 +100,7 @@ fn number_of(word: u64) -> Option<u64>
     ensures value { IfSome result (λ n. Num n ≡ value_of word) }
     ensures bound { IfSome result (λ n. n < 2 ^ 63) }
 {
-    let value = decode(word)?;
+    let value = decode_wide(word)?;
     match &value {
         Value::Num(n) => Some(n.get()),
         _ => None,

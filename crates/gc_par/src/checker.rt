@@ -3,10 +3,11 @@ ghost use Rattle.gc_words.specs.Certificate.{Certified};
 ghost use Rattle.gc_words.specs.Fault.{first_fault, object_faults};
 ghost use Rattle.gc_words.specs.Views.{image_of};
 ghost use Rattle.gc_check.specs.Headline.{Replicated};
+ghost use Rattle.gc_check.specs.Profile.{CertifiedSmall, first_small_fault};
 ghost use Rattle.gc_check.specs.Verdict.{pairs_of, IsRefusalOf};
 ghost use Rattle.gc_par.specs.Internal.Least.{fault_at, place_or, IsFirst};
 
-use gc_check::{CheckFault, Refusal, Tables, Yes, certified_is_replicated};
+use gc_check::{CheckFault, Refusal, Tables, Yes, certified_is_replicated, check_sizes};
 use gc_words::{ImageRef, Pair, no_fault_where_certified};
 use rayon::prelude::*;
 use std::alloc::Global;
@@ -14,7 +15,32 @@ use std::thread::Threads;
 
 /// Checks a certificate against two heap images, as `gc_check::check` does. If there are many pairs, several threads
 /// compare their objects. The verdict does not depend on the threads.
+#[tactic(auto, using(crate::proofs::Sizes::same_fault))]
 pub fn check_par(
+    rt: &(impl Threads + Sync),
+    alloc: Global,
+    old: ImageRef,
+    new: ImageRef,
+    cert: &[Pair],
+) -> Result<Yes, CheckFault>
+    requires { length cert.now < 2 ^ 32 }
+    ensures pairs { IfOk result (λ yes. yes.pairs ≡ length cert.now) }
+    ensures yes { OnOk result (CertifiedSmall (image_of old.entry) (image_of new.entry) (pairs_of cert.now)) }
+    ensures refused { IfErr result
+        (IsRefusalOf (first_small_fault (image_of old.entry) (image_of new.entry) (pairs_of cert.now))) }
+
+    // The soundness theorem: what a yes promises for everything that mutators do afterwards.
+    ensures replicated { OnOk result
+        (Replicated (image_of old.entry) (image_of new.entry) (pairs_of cert.now)) }
+{
+    match check_sizes(alloc, old, new) {
+        Ok(()) => check_par_wide(rt, alloc, old, new, cert),
+        Err(fault) => Err(fault),
+    }
+}
+
+/// The same for images of any size, as `gc_check::check_wide` does.
+pub fn check_par_wide(
     rt: &(impl Threads + Sync),
     alloc: Global,
     old: ImageRef,
@@ -31,7 +57,7 @@ pub fn check_par(
     ensures replicated { OnOk result
         (Replicated (image_of old.entry) (image_of new.entry) (pairs_of cert.now)) }
 {
-    let tables = match Tables::new(alloc, old, new, cert) {
+    let tables = match Tables::new_wide(alloc, old, new, cert) {
         Ok(tables) => tables,
         Err(fault) => return Err(fault),
     };

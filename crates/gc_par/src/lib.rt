@@ -5,6 +5,6 @@ mod checker;
 mod parallel;
 mod text;
 
-pub use checker::check_par;
+pub use checker::{check_par, check_par_wide};
 pub use parallel::Parallel;
 pub use text::check_text_par;

@@ -1,13 +1,13 @@
 ghost use Rattle.std.specs.Thread.{IsSync};
 ghost use Rattle.gc_words.specs.Certificate.{Certified};
 
-use crate::checker::check_par;
+use crate::checker::check_par_wide;
 use gc_check::{CheckFault, Checks, Yes};
 use gc_words::{ImageRef, Pair};
 use std::alloc::Global;
 use std::thread::Threads;
 
-/// A checker that calls `check_par` with the threads of a runtime.
+/// A checker that calls `check_par_wide` with the threads of a runtime.
 #[derive(Debug, Drop)]
 pub struct Parallel<'a, R> {
     rt: &'a R,
@@ -33,6 +33,6 @@ impl<R: Threads + Sync> Checks for Parallel<'_, R> {
         new: ImageRef,
         cert: &[Pair],
     ) -> Result<Yes, CheckFault> {
-        check_par(self.rt, alloc, old, new, cert)
+        check_par_wide(self.rt, alloc, old, new, cert)
     }
 }

@@ -133,9 +133,9 @@ words_of image f = and_from _ _ (eq-eqb _ _ f.4) (eq-eqb _ _ f.5)
 framed_of : (image : Image) → has_size image ≡ true → ((length image.words == image.end) && (slice_index image.words 0 == 0)) ≡ true → IsFramed image
 framed_of image sizes words =
     let frame : ((length image.words == image.end) ≡ true) × ((slice_index image.words 0 == 0) ≡ true) = and_parts _ _ words in
-    let p3 : ((nat_le 1 image.size && nat_le image.size 1048576 && nat_le 1 image.end) ≡ true) × (nat_le image.end image.size ≡ true) = and_parts _ _ sizes in
-    let p2 : ((nat_le 1 image.size && nat_le image.size 1048576) ≡ true) × (nat_le 1 image.end ≡ true) = and_parts _ _ p3.0 in
-    let p1 : (nat_le 1 image.size ≡ true) × (nat_le image.size 1048576 ≡ true) = and_parts _ _ p2.0 in
+    let p3 : ((nat_le 1 image.size && nat_le image.size 4294967295 && nat_le 1 image.end) ≡ true) × (nat_le image.end image.size ≡ true) = and_parts _ _ sizes in
+    let p2 : ((nat_le 1 image.size && nat_le image.size 4294967295) ≡ true) × (nat_le 1 image.end ≡ true) = and_parts _ _ p3.0 in
+    let p1 : (nat_le 1 image.size ≡ true) × (nat_le image.size 4294967295 ≡ true) = and_parts _ _ p2.0 in
     (leb-true _ _ p1.0, leb-true _ _ p1.1, leb-true _ _ p2.1, leb-true _ _ p3.1, eqb-true _ _ frame.0, eqb-true _ _ frame.1)
 
 pub shape_fails : (image : Image) (at : ℕ) → shape_fault image ≡ Some at → ShapeFailsAt image at

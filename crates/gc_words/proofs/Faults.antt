@@ -65,9 +65,9 @@ shaped image e =
     let parts : (has_size image ≡ true) × (words_fault image.raws image.end image.words ≡ None) = if_none (has_size image) _ 0 e in
     let words : (((length image.words == image.end) && (slice_index image.words 0 == 0)) ≡ true) × (fault_of_walk (walk_all image.raws image.words) ≡ None) = if_none _ _ 0 parts.1 in
     let frame : ((length image.words == image.end) ≡ true) × ((slice_index image.words 0 == 0) ≡ true) = and_parts _ _ words.0 in
-    let p3 : ((nat_le 1 image.size && nat_le image.size 1048576 && nat_le 1 image.end) ≡ true) × (nat_le image.end image.size ≡ true) = and_parts _ _ parts.0 in
-    let p2 : ((nat_le 1 image.size && nat_le image.size 1048576) ≡ true) × (nat_le 1 image.end ≡ true) = and_parts _ _ p3.0 in
-    let p1 : (nat_le 1 image.size ≡ true) × (nat_le image.size 1048576 ≡ true) = and_parts _ _ p2.0 in
+    let p3 : ((nat_le 1 image.size && nat_le image.size 4294967295 && nat_le 1 image.end) ≡ true) × (nat_le image.end image.size ≡ true) = and_parts _ _ parts.0 in
+    let p2 : ((nat_le 1 image.size && nat_le image.size 4294967295) ≡ true) × (nat_le 1 image.end ≡ true) = and_parts _ _ p3.0 in
+    let p1 : (nat_le 1 image.size ≡ true) × (nat_le image.size 4294967295 ≡ true) = and_parts _ _ p2.0 in
     record {
       size_low = leb-true _ _ p1.0;
       size_high = leb-true _ _ p1.1;

@@ -22,14 +22,14 @@ value_read_back (Num n) h =
     let odd : ((2 * n + 1) % 2 == 1) ≡ true = eq-eqb _ _ (omega arith) in
     let some : (2 * n + 1 == 0) ≡ false = ne_eqb _ _ (λ e. omega arith) in
     let half : (2 * n + 1) / 2 ≡ n = omega arith in
-    ap (λ b. cond (b || nat_lt (2 * n + 1) 2097152) (Some (cond (2 * n + 1 == 0) Nil (cond b (Num ((2 * n + 1) / 2)) (Ref ((2 * n + 1) / 2))))) None) odd
+    ap (λ b. cond (b || nat_lt (2 * n + 1) 8589934590) (Some (cond (2 * n + 1 == 0) Nil (cond b (Num ((2 * n + 1) / 2)) (Ref ((2 * n + 1) / 2))))) None) odd
     ∙ ap (λ b. Some (cond b Nil (Num ((2 * n + 1) / 2)))) some ∙ ap (λ m. Some (Num m)) half
 value_read_back (Ref a) h =
     let even : ((2 * a) % 2 == 1) ≡ false = ne_eqb _ _ (λ e. omega arith) in
     let some : (2 * a == 0) ≡ false = ne_eqb _ _ (λ e. omega arith) in
-    let low : nat_lt (2 * a) 2097152 ≡ true = lt-ltb _ _ (omega arith) in
+    let low : nat_lt (2 * a) 8589934590 ≡ true = lt-ltb _ _ (omega arith) in
     let half : (2 * a) / 2 ≡ a = omega arith in
-    ap (λ b. cond (b || nat_lt (2 * a) 2097152) (Some (cond (2 * a == 0) Nil (cond b (Num ((2 * a) / 2)) (Ref ((2 * a) / 2))))) None) even
+    ap (λ b. cond (b || nat_lt (2 * a) 8589934590) (Some (cond (2 * a == 0) Nil (cond b (Num ((2 * a) / 2)) (Ref ((2 * a) / 2))))) None) even
     ∙ ap (λ b. cond b (Some (cond (2 * a == 0) Nil (Ref ((2 * a) / 2)))) None) low
     ∙ ap (λ b. Some (cond b Nil (Ref ((2 * a) / 2)))) some ∙ ap (λ m. Some (Ref m)) half
 
@@ -60,8 +60,8 @@ meant w is =
         subst (IsWordOf w) (sym (ap (λ b. cond b (Num (w / 2)) (Ref (w / 2))) odd)) (omega arith, tt)
     by_parity (inr even) some =
         let not_one : w % 2 ≡ 1 → ⊥ = eqb-false _ _ even in
-        let low : nat_lt w 2097152 ≡ true = elim (or_cases (w % 2 == 1) (nat_lt w 2097152) is) [ inl odd ↦ absurd (not_one (eqb-true _ _ odd)) | inr low ↦ low ] in
-        let less : w < 2097152 = ltb-true _ _ low in
+        let low : nat_lt w 8589934590 ≡ true = elim (or_cases (w % 2 == 1) (nat_lt w 8589934590) is) [ inl odd ↦ absurd (not_one (eqb-true _ _ odd)) | inr low ↦ low ] in
+        let less : w < 8589934590 = ltb-true _ _ low in
         subst (IsWordOf w) (sym (ap (λ b. cond b (Num (w / 2)) (Ref (w / 2))) even)) (omega arith, (omega arith, omega arith))
 
 pub word_read_back : (w : ℕ) (v : Value) → read_value w ≡ Some v → IsWordOf w v

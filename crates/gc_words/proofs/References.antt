@@ -179,7 +179,7 @@ module _ (s : SpaceWords) (h : Header) (can : CanPlace s h) where
   pub placed_reference : IsRootWord after (word_of (Ref (end_of s)))
   placed_reference =
       let low : 1 ≤ length s.words = can.shaped.end_low in
-      let high : s.size ≤ 1048576 = can.shaped.size_high in
+      let high : s.size ≤ 4294967295 = can.shaped.size_high in
       let room : h.len + 2 ≤ free_in s = can.room in
       value_refers after (Ref (end_of s)) (low, omega arith) (ap (λ bs. is_some (block_in bs (end_of s))) objects_after ∙ start_last (blocks s.words) (end_of s) (fresh_block h))
 

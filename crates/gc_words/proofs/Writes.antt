@@ -75,7 +75,7 @@ field_read words a i ok some = read (block_at words a) refl some
 -- ---- what is written
 
 -- a space whose walk is known
-pub space_of : (size : ℕ) (words : List ℕ) (bs : List (ℕ × Block)) → 1 ≤ length words → length words ≤ size → size ≤ 1048576 → slice_index words 0 ≡ 0 → walk_words words ≡ Ok bs
+pub space_of : (size : ℕ) (words : List ℕ) (bs : List (ℕ × Block)) → 1 ≤ length words → length words ≤ size → size ≤ 4294967295 → slice_index words 0 ≡ 0 → walk_words words ≡ Ok bs
     → IsSpace (record { size = size; words = words }) × (blocks words ≡ bs)
 space_of size words bs low high bound reserved walked = (
   record {

@@ -1,7 +1,7 @@
 -- The first condition of a certificate that fails.
 use Rattle.std.specs.Prelude.{◌≡◌, ◌≢◌, ◌<◌, IsTrue, ℕ, suc, ◌==◌, nat_le, Bool, true, false, ◌&&◌, not, if◌then◌else◌, List, [], ◌∷◌, ◌++◌, length, take, slice_index, Option, Some, None, Result, Ok, Err}
 use Rattle.std.specs.List.{All, AllPairs, list_any}
-use Rattle.gc_graph.specs.Limits.{most_words}
+use Rattle.gc_graph.specs.Limits.{largest_space}
 use Rattle.gc_words.specs.Word.{words_correspond, field_words_correspond}
 use Rattle.gc_words.specs.Image.{Image, Block, IsShaped, walk_all, block_at, is_start}
 use Rattle.gc_words.specs.Certificate.{BlocksCorrespond}
@@ -34,7 +34,7 @@ abbrev pub words_fault : Bool → ℕ → List ℕ → Option ℕ
 words_fault raws end words = if (length words == end) && (slice_index words 0 == 0) then fault_of_walk (walk_all raws words) else Some 0
 
 abbrev pub has_size : Image → Bool
-has_size image = nat_le 1 image.size && nat_le image.size most_words && nat_le 1 image.end && nat_le image.end image.size
+has_size image = nat_le 1 image.size && nat_le image.size largest_space && nat_le 1 image.end && nat_le image.end image.size
 
 abbrev pub shape_fault : Image → Option ℕ
 shape_fault image = if has_size image then words_fault image.raws image.end image.words else Some 0

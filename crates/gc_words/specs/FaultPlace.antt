@@ -1,7 +1,7 @@
 -- What it means that two lists of words first differ at a place, or that an image's shape is first wrong at an address.
 use Rattle.std.specs.Prelude.{◌≡◌, ◌<◌, ◌≤◌, IsTrue, ℕ, zero, suc, Bool, false, List, [], ◌∷◌, length, slice_index, Option, Some, None, ⊤}
 use Rattle.std.specs.List.{slice_get}
-use Rattle.gc_graph.specs.Limits.{most_words}
+use Rattle.gc_graph.specs.Limits.{largest_space}
 use Rattle.gc_words.specs.Image.{Image}
 use Rattle.gc_words.specs.Walking.{next_in}
 
@@ -29,7 +29,7 @@ pub record DifferFirstAt (alike : ℕ → ℕ → Bool) (vs ws : List ℕ) (i : 
 
 -- what a shaped image has besides its objects: its sizes fit, there are as many words as its end says, and word 0 is 0
 abbrev pub IsFramed : Image → Type 0
-IsFramed image = (1 ≤ image.size) × (image.size ≤ most_words) × (1 ≤ image.end) × (image.end ≤ image.size) × (length image.words ≡ image.end) × (slice_index image.words 0 ≡ 0)
+IsFramed image = (1 ≤ image.size) × (image.size ≤ largest_space) × (1 ≤ image.end) × (image.end ≤ image.size) × (length image.words ≡ image.end) × (slice_index image.words 0 ≡ 0)
 
 -- objects lie back to back from one address up to another; `nexts` are the addresses after each of them
 abbrev pub LieBetween : Bool → List ℕ → ℕ → List ℕ → ℕ → Type 0

@@ -1,6 +1,6 @@
 -- The words of a space: a reserved word, then objects back to back. An image also has root words.
 use Rattle.std.specs.Prelude.{◌≡◌, ℕ, zero, suc, ◌+◌, ◌-◌, ◌≤◌, ◌==◌, nat_le, Bool, true, if◌then◌else◌, List, [], ◌∷◌, length, take, drop, map, replicate, slice_get, slice_index, slice_set, Option, Some, None, Result, Ok, Err, IsOk, is_some}
-use Rattle.gc_graph.specs.Limits.{most_words}
+use Rattle.gc_graph.specs.Limits.{largest_space}
 use Rattle.gc_graph.specs.Graph.{Object, Graph}
 use Rattle.gc_graph.specs.Machine.{Roomy}
 use Rattle.gc_words.specs.Word.{header_in, value_of, field_value}
@@ -48,7 +48,7 @@ walk_words words = walk_all true words
 -- Word 0 is reserved and is 0, and the walk over the other words reaches the end.
 pub record HasShape (raws : Bool) (size end : ℕ) (words : List ℕ) : Type 0 where
   pub size_low : 1 ≤ size
-  pub size_high : size ≤ most_words
+  pub size_high : size ≤ largest_space
   pub end_low : 1 ≤ end
   pub end_high : end ≤ size
   pub count : length words ≡ end

@@ -1,7 +1,7 @@
 -- Worked rows: words with their meanings, and certificates with their first faults.
 use Rattle.std.specs.Prelude.{◌≡◌, ℕ, true, false, List, [], ◌∷◌, Some, None}
 use Rattle.gc_graph.specs.Graph.{Nil, Num, Ref}
-use Rattle.gc_words.specs.Word.{read_header, read_value}
+use Rattle.gc_words.specs.Word.{read_header, read_value, read_value_within}
 use Rattle.gc_words.specs.Image.{Image}
 use Rattle.gc_words.specs.Fault.{first_fault}
 use Rattle.gc_words.specs.declared.refusal.Refusal.TheVariants.{OldShape, NewShape, RootCount, OldNotStart, NewNotStart, NotRising, Twice, HeaderDiffers, FieldDiffers, RootDiffers}
@@ -13,8 +13,8 @@ pub record WordRows : Type 0 where
   pub three : read_value 3 ≡ Some (Num 1)
   pub nine : read_value 9 ≡ Some (Num 4)
   pub eight : read_value 8 ≡ Some (Ref 4)
-  pub greatest_address : read_value 2097150 ≡ Some (Ref 1048575)
-  pub no_address : read_value 2097152 ≡ None
+  pub greatest_address : read_value_within 1048576 2097150 ≡ Some (Ref 1048575)
+  pub no_address : read_value_within 1048576 2097152 ≡ None
   pub even_greatest : read_value 18446744073709551614 ≡ None
   pub greatest_number : read_value 18446744073709551615 ≡ Some (Num 9223372036854775807)
   pub low : read_header 16777215 ≡ None

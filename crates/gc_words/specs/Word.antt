@@ -1,6 +1,6 @@
 -- What words mean: headers of objects and values.
 use Rattle.std.specs.Prelude.{ℕ, ◌+◌, ◌-◌, ◌*◌, ◌/◌, ◌%◌, ◌<◌, ◌≤◌, ◌==◌, nat_lt, nat_le, Bool, true, false, ◌&&◌, ◌||◌, if◌then◌else◌, List, Option, Some, None, ⊤}
-use Rattle.gc_graph.specs.Limits.{most_words, kinds, lengths}
+use Rattle.gc_graph.specs.Limits.{largest_space, kinds, lengths}
 use Rattle.gc_graph.specs.Graph.{Value, Nil, Num, Ref}
 use Rattle.gc_graph.specs.Correspond.{correspond}
 use Rattle.gc_words.specs.declared.header.Header.{Header}
@@ -46,13 +46,21 @@ header_in false w = unless_raw (read_header w)
 abbrev pub value_of : ℕ → Value
 value_of w = if w == 0 then Nil else if w % 2 == 1 then Num (w / 2) else Ref (w / 2)
 
--- An odd word is a value. An even word is a value exactly if its address is below the maximum number of words in a space.
+-- An odd word is a value. An even word is a value exactly if its address is below the number of words in the space.
+abbrev pub is_value_within : ℕ → ℕ → Bool
+is_value_within size w = (w % 2 == 1) || nat_lt w (2 * size)
+
+-- a value in some space
 abbrev pub is_value : ℕ → Bool
-is_value w = (w % 2 == 1) || nat_lt w (2 * most_words)
+is_value w = is_value_within largest_space w
+
+-- the value that a word of a space of this size can encode
+abbrev pub read_value_within : ℕ → ℕ → Option Value
+read_value_within size w = if is_value_within size w then Some (value_of w) else None
 
 -- the value that a word encodes, if it is one
 abbrev pub read_value : ℕ → Option Value
-read_value w = if is_value w then Some (value_of w) else None
+read_value w = read_value_within largest_space w
 
 abbrev pub word_of : Value → ℕ
 word_of Nil = 0
@@ -63,7 +71,7 @@ word_of (Ref a) = 2 * a
 abbrev pub HasAddress : Value → Type 0
 HasAddress Nil = ⊤
 HasAddress (Num n) = ⊤
-HasAddress (Ref a) = (1 ≤ a) × (a < most_words)
+HasAddress (Ref a) = (1 ≤ a) × (a < largest_space)
 
 -- the value of a field word of an object with this header: each word of a raw object is a number
 abbrev pub field_value : Header → ℕ → Value

@@ -30,7 +30,6 @@ impl Model for Space {
 
 impl Space {
     ghost use Rattle.std.specs.Prelude.{◌≡◌, ◌<◌, ◌≤◌, ◌+◌, ◌∷◌, ◌++◌, [], ◌↔◌, Some, IsTrue, IsSome, IfOk};
-    ghost use Rattle.gc_graph.specs.Limits.{most_words};
     ghost use Rattle.gc_words.specs.Image.{Block, blocks, block_at, is_start, header_at, field_at, set_block, fresh_block};
     ghost use Rattle.gc_words.specs.Spelling.{link_at};
     ghost use Rattle.gc_words.specs.Layout.{next_place};
@@ -39,10 +38,9 @@ impl Space {
     ghost use Rattle.gc_words.specs.Space.{IsSpace, empty_space, end_of, free_in, HasRoomFor, with_block, with_object, with_field_at, with_link, without_links, image_with};
     ghost use Rattle.gc_words.specs.Views.{image_of};
 
-    /// Returns an empty space of `size` words, 1 to `MOST_WORDS`.
+    /// Returns an empty space of `size` words, at least 1.
     pub fn new(alloc: Global, size: u32) -> Result<Space, NoMemory>
         requires low { 1 ≤ size }
-        requires high { size ≤ most_words }
         ensures empty { IfOk result (λ space. space ≡ empty_space size) }
         ensures shaped { IfOk result IsSpace }
     {

@@ -1,10 +1,11 @@
-ghost use Rattle.std.specs.Prelude.{◌≡◌, Some, IfSome, IsTrue};
+ghost use Rattle.std.specs.Prelude.{◌≡◌, ◌≤◌, Some, IfSome, IsTrue};
 ghost use Rattle.std.specs.Option.{option_map};
 ghost use Rattle.gc_graph.specs.Graph.{name_of};
-ghost use Rattle.gc_words.specs.Word.{is_value, value_of, read_value, word_of, HasAddress};
+ghost use Rattle.gc_graph.specs.Limits.{most_words};
+ghost use Rattle.gc_words.specs.Word.{is_value, value_of, read_value, read_value_within, word_of, HasAddress};
 ghost use Rattle.gc_words.specs.Views.{graph_value};
 
-use gc_graph::Number;
+use gc_graph::{MOST_WORDS, Number};
 
 /// The place of a word in a space. Any number is an `Addr`; the calls that take one restrict it.
 #[derive(Clone, Copy, Debug, PartialEq, Eq)]
@@ -29,20 +30,34 @@ pub enum Value {
     Ref(Addr),
 }
 
-/// The smallest even word that is not a value: its address would have more than 20 bits.
-const NO_REFERENCE: u64 = 2_097_152;
-
-/// Decodes a word: 0 is nil, `2n + 1` the number n, `2a` a reference to the address a, which is below 2^20. Returns
-/// `None` for any other word.
+/// Decodes a word of a space of at most `MOST_WORDS` words: 0 is nil, `2n + 1` the number n, `2a` a reference to the
+/// address a, which is below 2^20. Returns `None` for any other word.
 pub fn decode(word: u64) -> Option<Value>
+    ensures value { option_map graph_value result ≡ read_value_within most_words word }
+    ensures address { IfSome result (λ value. HasAddress (graph_value value)) }
+{
+    decode_within(MOST_WORDS, word)
+}
+
+/// Decodes a word of a space of any size: the address of a reference is below 2^32 - 1. Returns `None` for any other word.
+pub fn decode_wide(word: u64) -> Option<Value>
     ensures value { option_map graph_value result ≡ read_value word }
+    ensures address { IfSome result (λ value. HasAddress (graph_value value)) }
+{
+    decode_within(u32::MAX, word)
+}
+
+// Decodes a word of a space of this many words, at least 1.
+fn decode_within(size: u32, word: u64) -> Option<Value>
+    requires { 1 ≤ size }
+    ensures value { option_map graph_value result ≡ read_value_within size word }
     ensures address { IfSome result (λ value. HasAddress (graph_value value)) }
 {
     if word == 0 {
         Some(Value::Nil)
     } else if word % 2 == 1 {
         Number::new(word / 2).map(Value::Num)
-    } else if word < NO_REFERENCE {
+    } else if word < 2 * u64::from(size) {
         Some(Value::Ref(Addr((word / 2) as u32)))
     } else {
         None
@@ -54,13 +69,13 @@ pub fn target_of(word: u64) -> Option<Addr>
     requires { IsTrue (is_value word) }
     ensures { option_map (λ a. a.0) result ≡ name_of (value_of word) }
 {
-    match decode(word) {
+    match decode_wide(word) {
         Some(Value::Ref(at)) => Some(at),
         _ => None,
     }
 }
 
-/// Encodes the value as a word, which `decode` decodes again.
+/// Encodes the value as a word, which `decode_wide` decodes again.
 pub fn encode(value: Value) -> u64
     requires { HasAddress (graph_value value) }
     ensures word { result ≡ word_of (graph_value value) }

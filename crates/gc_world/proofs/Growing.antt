@@ -1,7 +1,8 @@
 -- A history with one more entry.
 use Rattle.std.proofs.Common.{◌≡◌, ℕ, ◌≤◌, List, [], ◌∷◌, ◌++◌, refl, ap}
+use Rattle.gc_graph.specs.Limits.{most_words}
 use Rattle.gc_copy.specs.State.{State, opening_state}
-use Rattle.gc_copy.specs.Runs.{IsEvent, AreEvents, after, answer, answers}
+use Rattle.gc_copy.specs.Runs.{IsEventWithin, AreEventsWithin, after, answer, answers}
 use Rattle.gc_copy.specs.Runs as runs
 use Rattle.gc_world.specs.History.{unmarked, events_of, answers_of, RunsFrom, state_after, IsUseful, UsefulFrom, IsHistory}
 use Rattle.gc_world.specs.declared.entry.Entry.{Entry}
@@ -11,7 +12,7 @@ module _ (last : Entry) where
   state_more s [] = refl
   state_more s (entry ∷ entries) = state_more (after s entry.event) entries
 
-  events_more : (mutators : ℕ) (entries : List Entry) → AreEvents mutators (events_of entries) → IsEvent mutators last.event → AreEvents mutators (events_of (entries ++ last ∷ []))
+  events_more : (mutators : ℕ) (entries : List Entry) → AreEventsWithin most_words mutators (events_of entries) → IsEventWithin most_words mutators last.event → AreEventsWithin most_words mutators (events_of (entries ++ last ∷ []))
   events_more mutators [] h r = (r, tt)
   events_more mutators (entry ∷ entries) h r = (h.0, events_more mutators entries h.1 r)
 
@@ -28,7 +29,7 @@ module _ (last : Entry) where
   useful_more s [] h u = (u, tt)
   useful_more s (entry ∷ entries) h u = (h.0, useful_more (after s entry.event) entries h.1 u)
 
-  pub history_more : (size mutators : ℕ) (entries : List Entry) → IsHistory size mutators entries → IsEvent mutators last.event
+  pub history_more : (size mutators : ℕ) (entries : List Entry) → IsHistory size mutators entries → IsEventWithin most_words mutators last.event
       → unmarked last.answer ≡ answer (state_after size mutators entries) last.event → IsUseful (state_after size mutators entries) last.event last.answer
       → IsHistory size mutators (entries ++ last ∷ [])
   history_more size mutators entries h r a u = record {

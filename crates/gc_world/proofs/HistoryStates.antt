@@ -1,16 +1,18 @@
 -- Facts about the state that a history leads to, and about its answers.
-use Rattle.std.proofs.Common.{◌≡◌, ◌≢◌, ℕ, List, [], ◌∷◌, refl, sym, ◌∙◌}
+use Rattle.std.proofs.Common.{◌≡◌, ◌≢◌, ℕ, List, [], ◌∷◌, refl, sym, ◌∙◌, ◌≤◌, arith}
 use Rattle.std.specs.List.{All}
 use Rattle.std.proofs.lemmas.List.Elements.{All-nil, All-cons}
+use Rattle.gc_graph.specs.Limits.{most_words}
 use Rattle.gc_copy.specs.State.{State, opening_state}
 use Rattle.gc_copy.specs.Belonging.{IsState}
-use Rattle.gc_copy.specs.Runs.{AreEvents, after, answer, answers}
+use Rattle.gc_copy.specs.Runs.{AreEvents, HasSizesWithin, after, answer, answers}
 use Rattle.gc_copy.specs.declared.event.Event.{Event}
 use Rattle.gc_copy.specs.declared.event.Event.TheVariants.{Mutate, Collect}
 use Rattle.gc_copy.specs.declared.event.Answer.TheVariants.{Collector}
 use Rattle.gc_copy.specs.Carried.{OnlyKeptIsPaired, base_of_run}
 use Rattle.gc_copy.specs.declared.step.StepReply.TheVariants.{Refused}
 use Rattle.gc_copy.proofs.Runs.{Reached, opening_ok, event_keeps, run_keeps}
+use Rattle.gc_copy.proofs.Sizes.{run_within, wider_events}
 use Rattle.gc_copy.proofs.StateLaws.{never_refused}
 use Rattle.gc_copy.proofs.Carried.{carries_only_kept}
 use Rattle.gc_world.specs.History.{unmarked, events_of, answers_of, RunsFrom, state_after, IsHistory}
@@ -18,10 +20,16 @@ use Rattle.gc_world.specs.declared.entry.Entry.{Entry}
 
 module _ (size mutators : ℕ) (entries : List Entry) (h : IsHistory size mutators entries) where
   opens : Reached mutators (opening_state size mutators)
-  opens = record { ok = opening_ok size mutators h.low h.high; count = refl }
+  opens = let high : size ≤ 1048576 = h.high in record { ok = opening_ok size mutators h.low (omega arith); count = refl }
+
+  are_events : AreEvents mutators (events_of entries)
+  are_events = wider_events most_words mutators (events_of entries) (omega arith) h.events
 
   pub reached : Reached mutators (state_after size mutators entries)
-  reached = run_keeps mutators (events_of entries) (opening_state size mutators) opens h.events
+  reached = run_keeps mutators (events_of entries) (opening_state size mutators) opens are_events
+
+  pub sizes_within : HasSizesWithin most_words (state_after size mutators entries)
+  sizes_within = run_within most_words size mutators (events_of entries) h.high h.events
 
 -- ---- no answer is `Refused`
 
@@ -40,10 +48,12 @@ none_from mutators (entry ∷ entries) s h r e =
     (none_from mutators entries (after s entry.event) (event_keeps mutators s entry.event h r.0) r.1 rest)
 
 pub none_refused : (size mutators : ℕ) (entries : List Entry) → IsHistory size mutators entries → All (λ (entry : Entry). unmarked entry.answer ≢ Collector Refused) entries
-none_refused size mutators entries h = none_from mutators entries (opening_state size mutators) (opens size mutators entries h) h.events h.run
+none_refused size mutators entries h = none_from mutators entries (opening_state size mutators) (opens size mutators entries h) (are_events size mutators entries h) h.run
 
 -- ---- only what was reachable or made later is copied
 
 pub only_kept : (size mutators : ℕ) (entries : List Entry) → IsHistory size mutators entries
     → (let opening = opening_state size mutators in OnlyKeptIsPaired (base_of_run opening opening (events_of entries)) (state_after size mutators entries).collection)
-only_kept size mutators entries h = carries_only_kept size mutators (events_of entries) h.low h.high h.events
+only_kept size mutators entries h =
+    let high : size ≤ 1048576 = h.high in
+    carries_only_kept size mutators (events_of entries) h.low (omega arith) (are_events size mutators entries h)

@@ -1,5 +1,5 @@
 -- The replies in a history are the replies of its run.
-use Rattle.std.proofs.Common.{◌≡◌, ℕ, List, [], ◌∷◌, ◌++◌, refl, sym, subst}
+use Rattle.std.proofs.Common.{◌≡◌, ℕ, List, [], ◌∷◌, ◌++◌, refl, sym, subst, ◌≤◌, arith}
 use Rattle.gc_graph.specs.Legal.{IsLegal}
 use Rattle.gc_graph.specs.declared.command.Op.{Op}
 use Rattle.gc_graph.specs.declared.reply.Reply.{Reply}
@@ -11,6 +11,7 @@ use Rattle.gc_copy.specs.declared.event.Answer as answered
 use Rattle.gc_copy.specs.declared.event.Answer.TheVariants.{Mutator, Collector, Useful}
 use Rattle.gc_core.specs.Replies.{told_in}
 use Rattle.gc_core.proofs.LegalRuns.{run_is_legal}
+use Rattle.gc_copy.proofs.Sizes.{wider_events}
 use Rattle.gc_world.specs.History.{unmarked, events_of, answers_of, RunsFrom, told_by, told_of, IsHistory}
 use Rattle.gc_world.specs.declared.entry.Entry.{Entry}
 
@@ -35,4 +36,4 @@ told_is_run (entry ∷ entries) s e =
 pub history_is_legal : (size mutators : ℕ) (entries : List Entry) → IsHistory size mutators entries → IsLegal mutators (told_of entries)
 history_is_legal size mutators entries h =
     subst (IsLegal mutators) (sym (told_is_run entries (opening_state size mutators) h.run))
-    (run_is_legal size mutators (events_of entries) h.low h.high h.events)
+    (let high : size ≤ 1048576 = h.high in run_is_legal size mutators (events_of entries) h.low (omega arith) (wider_events 1048576 mutators (events_of entries) (omega arith) h.events))

@@ -1,10 +1,11 @@
 -- A world after one more event.
 use Rattle.std.proofs.Common.{◌≡◌, ℕ, ◌<◌, List, [], ◌∷◌, ◌++◌, Option, ap, sym, ◌∙◌, subst}
+use Rattle.gc_graph.specs.Limits.{most_words}
 use Rattle.gc_graph.specs.declared.command.Op.{Op}
 use Rattle.gc_graph.specs.declared.reply.Reply.{Reply}
 use Rattle.gc_copy.specs.State.{State, opening_state}
 use Rattle.gc_copy.specs.Steps.{mutate, collect}
-use Rattle.gc_copy.specs.Runs.{IsEvent, IsStep, after, answer}
+use Rattle.gc_copy.specs.Runs.{IsEventWithin, IsStepWithin, after, answer}
 use Rattle.gc_copy.specs.declared.event.Answer.TheVariants.{Mutator, Collector}
 use Rattle.gc_copy.specs.declared.step.Step.{Step}
 use Rattle.gc_copy.specs.declared.step.StepReply.{StepReply}
@@ -19,7 +20,7 @@ use Rattle.gc_world.specs.declared.entry.Entry.{Entry}
 use Rattle.gc_world.proofs.Growing.{history_more, state_more}
 
 pub grows : (old new : State) (size mutators : ℕ) (entries : List Entry) (kept later : Option CertifiedPair) (entry : Entry)
-    → IsWorld old (record { size = size; mutators = mutators; entries = entries; kept = kept }) → IsEvent mutators entry.event
+    → IsWorld old (record { size = size; mutators = mutators; entries = entries; kept = kept }) → IsEventWithin most_words mutators entry.event
     → unmarked entry.answer ≡ answer old entry.event → IsUseful old entry.event entry.answer
     → new ≡ after old entry.event → IsKept later
     → IsWorld new (record { size = size; mutators = mutators; entries = entries ++ entry ∷ []; kept = later })
@@ -42,7 +43,7 @@ commanded old new size before after_it m op reply entries items kept w less comm
 
 -- after a step, whether or not its answer is marked `Useful`
 pub stepped : (old new : State) (size before after_it : ℕ) (step : Step) (reply : StepReply) (answered : Answer) (entries items : List Entry) (kept later : Option CertifiedPair)
-    → IsWorld old (record { size = size; mutators = before; entries = entries; kept = kept }) → IsStep before step → collect old step ≡ (reply, new)
+    → IsWorld old (record { size = size; mutators = before; entries = entries; kept = kept }) → IsStepWithin most_words before step → collect old step ≡ (reply, new)
     → unmarked answered ≡ Collector reply → IsUseful old (Collect step) answered → after_it ≡ before
     → items ≡ entries ++ entry_of (Collect step) answered ∷ [] → IsKept later → IsWorld new (record { size = size; mutators = after_it; entries = items; kept = later })
 stepped old new size before after_it step reply answered entries items kept later w range made is useful same more fine =

@@ -60,7 +60,7 @@ pub record IsHistory (size mutators : ℕ) (entries : List Entry) : Type 0 where
   pub high : size ≤ most_words
   pub some : 1 ≤ mutators
   pub few : mutators ≤ most_mutators
-  pub events : runs.AreEvents mutators (events_of entries)
+  pub events : runs.AreEventsWithin most_words mutators (events_of entries)
   pub run : IsCoreRun size mutators entries
   pub useful : UsefulFrom (opening_state size mutators) entries
 

@@ -1,5 +1,6 @@
 -- A world as contracts see it: its opening size and number of mutators, its history, and the kept pair of a flip.
-use Rattle.std.specs.Prelude.{ℕ, List, [], ◌∷◌, ◌++◌, Option}
+use Rattle.std.specs.Prelude.{ℕ, ◌≤◌, List, [], ◌∷◌, ◌++◌, Option}
+use Rattle.gc_graph.specs.Limits.{most_words}
 use Rattle.gc_copy.specs.State.{State}
 use Rattle.gc_cert.specs.Grammar.{CertifiedPair}
 use Rattle.gc_world.specs.History.{state_after}
@@ -24,3 +25,7 @@ entry_of event answer = record { event = event; answer = answer }
 -- the world after one more event, with this answer
 abbrev pub with_entry : Past → Event → Answer → Past
 with_entry past event answer = record past { entries = past.entries ++ entry_of event answer ∷ [] }
+
+-- both images of the pair are small enough for its text
+abbrev pub HasSmallImages : CertifiedPair → Type 0
+HasSmallImages pair = (pair.old.size ≤ most_words) × (pair.new.size ≤ most_words)

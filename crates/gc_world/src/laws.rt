@@ -5,7 +5,7 @@ ghost use Rattle.std.specs.List.{All};
 ghost use Rattle.gc_graph.specs.Legal.{IsLegal};
 ghost use Rattle.gc_graph.specs.Limits.{most_words, most_mutators};
 ghost use Rattle.gc_copy.specs.State.{opening_state};
-ghost use Rattle.gc_copy.specs.Runs.{IsEvent, after, answer};
+ghost use Rattle.gc_copy.specs.Runs.{IsEventWithin, after, answer, HasSizesWithin};
 ghost use Rattle.gc_copy.specs.declared.event.Answer.TheVariants.{Collector};
 ghost use Rattle.gc_copy.specs.Belonging.{IsState};
 ghost use Rattle.gc_copy.specs.Passing.{PassesWhereReady, AlwaysHasRoom};
@@ -22,7 +22,7 @@ pub fn histories_grow()
         → 1 ≤ size → size ≤ most_words → 1 ≤ mutators → mutators ≤ most_mutators → IsHistory size mutators [] }
     ensures event { (size mutators : ℕ) (entries : List Entry) (entry : Entry)
         → IsHistory size mutators entries
-        → IsEvent mutators entry.event
+        → IsEventWithin most_words mutators entry.event
         → unmarked entry.answer
         ≡ answer (state_after size mutators entries) entry.event
         → IsUseful (state_after size mutators entries) entry.event entry.answer
@@ -42,7 +42,7 @@ pub fn runs_are_legal()
 /// The state that a history leads to is a state of the core, with as many mutators as the world was opened with. In
 /// that state, the flip of a ready collection replies `Flipped` with the number of pairs. If the new space is at least
 /// as large as the old one, no step replies `NoRoom`. Each original of an open collection was reachable when the
-/// collection began, or was made later. No answer of a history is `Refused`.
+/// collection began, or was made later. No answer of a history is `Refused`. Both spaces are small enough for a text.
 pub fn runs_keep_states()
     ensures states { (size mutators : ℕ) (entries : List Entry)
         → IsHistory size mutators entries → IsState (state_after size mutators entries) }
@@ -60,4 +60,6 @@ pub fn runs_keep_states()
         → (let opening = opening_state size mutators in
         OnlyKeptIsPaired (base_of_run opening opening (events_of entries))
         (state_after size mutators entries).collection) }
+    ensures small { (size mutators : ℕ) (entries : List Entry)
+        → IsHistory size mutators entries → HasSizesWithin most_words (state_after size mutators entries) }
 {}

@@ -52,10 +52,10 @@ impl World {
     ghost use Rattle.gc_heap.specs.Heap.{roomy_in};
     ghost use Rattle.gc_cert.specs.Views.{pair_in};
     ghost use Rattle.gc_copy.specs.Steps.{mutate, collect, useful_step};
-    ghost use Rattle.gc_copy.specs.Runs.{IsStep};
+    ghost use Rattle.gc_copy.specs.Runs.{IsStepWithin};
     ghost use Rattle.gc_core.specs.Flip.{kept_after, IsCertified, PassesIfReady, HasRoomIfLarge};
     ghost use Rattle.gc_world.specs.History.{IsHistory};
-    ghost use Rattle.gc_world.specs.World.{present, with_entry};
+    ghost use Rattle.gc_world.specs.World.{present, with_entry, HasSmallImages};
     ghost use Rattle.gc_copy.specs.declared.event.Event.{Event};
     ghost use Rattle.gc_copy.specs.declared.event.Answer.{Answer};
 
@@ -98,10 +98,11 @@ impl World {
         Ok(reply)
     }
 
-    /// Performs one collector step. A flip happens only if the checker accepts the certificate; the world then
-    /// keeps the accepted pair of heaps. On `NoMemory` the world is unchanged.
+    /// Performs one collector step, whose size, if it has one, is one that a trace can hold. A flip happens only if the
+    /// checker accepts the certificate; the world then keeps the accepted pair of heaps. On `NoMemory` the world is
+    /// unchanged.
     pub fn collect(&mut self, step: Step) -> Result<StepReply, NoMemory>
-        requires { IsStep self.old.mutators step }
+        requires { IsStepWithin most_words self.old.mutators step }
         ensures answered { IfOk result (λ reply.
             self.new ≡ record (with_entry self.old (Event.Collect step) (Answer.Collector reply)) {
               kept = kept_after self.old.kept (present self.old) reply;
@@ -125,7 +126,7 @@ impl World {
         rt: &(impl Threads + Sync),
         step: Step,
     ) -> Result<StepReply, NoMemory>
-        requires { IsStep self.old.mutators step }
+        requires { IsStepWithin most_words self.old.mutators step }
         ensures answered { IfOk result (λ reply.
             self.new ≡ record (with_entry self.old (Event.Collect step) (Answer.Collector reply)) {
               kept = kept_after self.old.kept (present self.old) reply;
@@ -206,6 +207,7 @@ impl World {
     pub fn take_flip(&mut self) -> Option<PairFile>
         ensures taken { option_map pair_in result ≡ self.old.kept }
         ensures certified { IfSome result (λ file. IsCertified (pair_in file)) }
+        ensures small { IfSome result (λ file. HasSmallImages (pair_in file)) }
         ensures rest { self.new ≡ record self.old { kept = None } }
     {
         self.kept.take()
@@ -222,10 +224,11 @@ impl World {
 
 ghost use Rattle.std.specs.Prelude.{◌≡◌, ◌≢◌, ◌<◌, ◌++◌, ◌∷◌, [], IfOk, OnOk, OnErr, vec_len, vec_capacity};
 ghost use Rattle.std.specs.Option.{option_map};
+ghost use Rattle.gc_graph.specs.Limits.{most_words};
 ghost use Rattle.gc_graph.specs.Range.{IsCommand};
 ghost use Rattle.gc_cert.specs.Views.{pair_in};
 ghost use Rattle.gc_copy.specs.Steps.{collect};
-ghost use Rattle.gc_copy.specs.Runs.{IsStep};
+ghost use Rattle.gc_copy.specs.Runs.{IsStepWithin, HasSizesWithin};
 ghost use Rattle.gc_core.specs.Flip.{kept_after, PassesIfReady, HasRoomIfLarge};
 ghost use Rattle.gc_copy.specs.declared.step.Step.{Step};
 ghost use Rattle.gc_copy.specs.declared.step.StepReply.{StepReply};
@@ -256,6 +259,7 @@ fn record_command(history: &mut Vec<Entry>, m: u8, op: Op, reply: &Reply)
 }
 
 // Performs a step, and keeps the pair if it flipped. Every other step goes straight to the heap.
+#[tactic(auto, using(crate::proofs::Sizes::heap_step))]
 fn perform<C: Checks>(
     heap: &mut CollectedHeap,
     kept: &mut Option<PairFile>,
@@ -263,7 +267,8 @@ fn perform<C: Checks>(
     step: Step,
 ) -> Result<StepReply, NoMemory>
     requires can { C.can_check checker.now }
-    requires step { IsStep heap.old.mutators step }
+    requires step { IsStepWithin most_words heap.old.mutators step }
+    requires small { HasSizesWithin most_words heap.old }
     ensures step { IfOk result (λ reply. collect heap.old step ≡ (reply, heap.new)) }
     ensures passes { step ≡ Step.Flip → IfOk result (PassesIfReady heap.old) }
     ensures never_refused { IfOk result (λ reply. reply ≢ StepReply.Refused) }

@@ -1,5 +1,4 @@
 ghost use Rattle.std.specs.Prelude.{◌≡◌, ◌≤◌, [], IfOk, map, replicate};
-ghost use Rattle.gc_graph.specs.Limits.{most_words};
 ghost use Rattle.gc_copy.specs.Steps.{collect};
 ghost use Rattle.gc_copy.specs.Words.{entries_of, idle_state, open_state, HasNoLinks, BelongsTo};
 ghost use Rattle.gc_copy.specs.declared.step.Step.{Step};
@@ -22,11 +21,10 @@ impl Collection {
         Collection::begin_sized(alloc, heap, heap.space().size())
     }
 
-    /// Opens a collection of this heap whose new space has `size` words, 1 to `MOST_WORDS`.
+    /// Opens a collection of this heap whose new space has `size` words, at least 1.
     pub fn begin_sized(alloc: Global, heap: &Heap, size: u32) -> Result<Collection, NoMemory>
         requires links { HasNoLinks heap.now }
         requires low { 1 ≤ size }
-        requires high { size ≤ most_words }
         ensures step { IfOk result (λ c. collect (idle_state heap.now) (Step.BeginSized size) ≡ (StepReply.Begun, open_state heap.now c)) }
         ensures belongs { IfOk result (BelongsTo heap.now) }
     {

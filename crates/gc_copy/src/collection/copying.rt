@@ -1,6 +1,6 @@
 ghost use Rattle.std.specs.Prelude.{◌≤◌, ◌<◌, IfSome, ◌≡◌, OnOk, OnErr, Some, None, true, false, IsTrue, IsSome};
 ghost use Rattle.std.specs.Option.{option_map};
-ghost use Rattle.gc_graph.specs.Limits.{most_words};
+ghost use Rattle.gc_graph.specs.Limits.{largest_space};
 ghost use Rattle.gc_graph.specs.Graph.{lookup};
 ghost use Rattle.gc_words.specs.Word.{value_of, word_of};
 ghost use Rattle.gc_words.specs.Image.{Block, block_at, is_start, header_at, field_at};
@@ -30,7 +30,7 @@ impl Collection {
         requires belongs { BelongsTo heap.now self.now }
         requires start { IsTrue (is_start heap.now.space.words original.0) }
         ensures place { option_map (λ a. a.0) result ≡ option_map (λ r. r.place) (replica_in (collection_in self.now) original.0) }
-        ensures address { IfSome result (λ a. (1 ≤ a.0) × (a.0 < most_words)) }
+        ensures address { IfSome result (λ a. (1 ≤ a.0) × (a.0 < largest_space)) }
     {
         // Here the prover learns how large the new space is.
         let _ = &self.space;

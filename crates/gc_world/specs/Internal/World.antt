@@ -4,12 +4,12 @@ use Rattle.gc_core.specs.Flip.{IsCertified}
 use Rattle.gc_copy.specs.State.{State}
 use Rattle.gc_cert.specs.Grammar.{CertifiedPair}
 use Rattle.gc_world.specs.History.{IsHistory}
-use Rattle.gc_world.specs.World.{Past, present}
+use Rattle.gc_world.specs.World.{Past, present, HasSmallImages}
 
--- a kept pair is certified
+-- a kept pair is certified, and its images are small
 abbrev pub IsKept : Option CertifiedPair → Type 0
 IsKept None = ⊤
-IsKept (Some pair) = IsCertified pair
+IsKept (Some pair) = IsCertified pair × HasSmallImages pair
 
 -- the heap is the state that the history leads to
 pub record IsWorld (now : State) (past : Past) : Type 0 where

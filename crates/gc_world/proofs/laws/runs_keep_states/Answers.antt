@@ -1,7 +1,7 @@
 use Rattle.gc_copy.proofs.StateLaws.{passes_where_ready}
 use Rattle.gc_copy.proofs.Room.{has_room}
 use Rattle.gc_world.specs.History.{state_after}
-use Rattle.gc_world.proofs.HistoryStates.{reached, none_refused, only_kept}
+use Rattle.gc_world.proofs.HistoryStates.{reached, sizes_within, none_refused, only_kept}
 use Rattle.gc_world.proofs.laws.runs_keep_states.Goals as goal
 
 pub returns : goal.returns
@@ -12,4 +12,5 @@ returns c = record {
   none_refused = none_refused;
   room = λ size mutators entries h. has_room (state_after size mutators entries) (reached size mutators entries h).ok;
   kept = only_kept;
+  small = sizes_within;
 }

@@ -1,11 +1,14 @@
-use Rattle.std.proofs.Common.{◌≡◌, [], ◌∷◌, ◌++◌, refl, sym, ap, ◌∙◌}
+use Rattle.std.proofs.Common.{◌≡◌, [], ◌∷◌, ◌++◌, refl, sym, subst, ap, ◌∙◌}
 use Rattle.std.specs.Option.{option_map}
+use Rattle.gc_graph.specs.Limits.{most_words}
 use Rattle.gc_cert.specs.Views.{pair_in}
 use Rattle.gc_copy.specs.State.{State}
 use Rattle.gc_copy.specs.Steps.{collect}
+use Rattle.gc_copy.specs.Runs.{HasSizesWithin}
 use Rattle.gc_world.specs.World.{present, entry_of}
 use Rattle.gc_copy.specs.declared.event.Answer.TheVariants.{Useful}
 use Rattle.gc_copy.specs.declared.event.Event.TheVariants.{Collect}
+use Rattle.gc_world.proofs.Sizes.{useful_within, world_within}
 use Rattle.gc_world.proofs.Worlds.{stepped}
 use Rattle.gc_world.proofs.world.World.collect_useful.Goals as goal
 
@@ -17,7 +20,7 @@ invariant_of-self-2 g c =
     let items : c.push_reserved.new.self.items ≡ c.self.inside.history.items ++ entry_of (Collect c.next_useful_step-step.result) (Useful c.in_ok-reply.reply) ∷ []
     = rw (c.push_reserved.ensures.items, c.useful.ensures, c.make_room.ensures.items) refl in
     stepped c.self.inside.heap c.perform.new.heap c.self.inside.size c.self.inside.heap.mutators c.perform.new.heap.mutators c.next_useful_step-step.result c.in_ok-reply.reply (Useful c.in_ok-reply.reply)
-    c.self.inside.history.items c.push_reserved.new.self.items (option_map pair_in c.self.inside.kept) (option_map pair_in c.perform.new.kept) c.self.invariant c.next_useful_step-step.ensures.step made refl c.next_useful_step-step.ensures.useful (c.perform.ensures.mutators ∙ ap (λ (s : State). s.mutators) same) items (c.perform.ensures.certified (c.self.invariant).kept)
+    c.self.inside.history.items c.push_reserved.new.self.items (option_map pair_in c.self.inside.kept) (option_map pair_in c.perform.new.kept) c.self.invariant (useful_within c.self.inside.heap c.self.inside.heap.mutators c.next_useful_step-step.result c.next_useful_step-step.ensures.useful c.next_useful_step-step.ensures.step) made refl c.next_useful_step-step.ensures.useful (c.perform.ensures.mutators ∙ ap (λ (s : State). s.mutators) same) items (c.perform.ensures.certified (c.self.invariant).kept)
 
 pub returns-clause-step : goal.returns-clause-step
 returns-clause-step g c =
@@ -25,3 +28,7 @@ returns-clause-step g c =
     let later = invariant_of-self-2 g c in
     let state = later.state in
     ap (λ s. collect s c.next_useful_step-step.result) (sym before ∙ sym c.next_useful_step-step.ensures.same) ∙ c.in_ok-reply.ensures.step ∙ (λ i. (c.in_ok-reply.reply, state i))
+
+pub perform-requires-clause-small : goal.perform-requires-clause-small
+perform-requires-clause-small g c =
+    subst (HasSizesWithin most_words) (sym c.next_useful_step-step.ensures.same) (world_within _ _ c.self.invariant)
