@@ -40,7 +40,7 @@ impl Shared {
     ghost use Rattle.std.specs.Prelude.{IfOk, IfErr, OnErr, Err};
     ghost use Rattle.std.specs.List.{range_with_len};
     ghost use Rattle.gc_graph.specs.Limits.{most_words, most_mutators};
-    ghost use Rattle.gc_copy.specs.Runs.{IsStep};
+    ghost use Rattle.gc_copy.specs.Runs.{IsStepWithin};
     ghost use Rattle.gc_copy.specs.declared.event.Event.{Event};
     ghost use Rattle.gc_copy.specs.declared.event.Answer.{Answer};
     ghost use Rattle.gc_shared.specs.Seats.{opening, fresh, AddsReceipt, HasSize, IsApply};
@@ -136,7 +136,7 @@ impl Shared {
 
         // A wrong kind of seat is refused first, then a log that does not exist, both before anything is allocated.
         ensures mutator { (result ≡ Err CallFault.NotACollector) ↔ (seat.old.is_mutator ≡ true) }
-        ensures beyond { seat.old.is_mutator ≡ false → (IsStep self.now.mutators step → ⊥)
+        ensures beyond { seat.old.is_mutator ≡ false → (IsStepWithin most_words self.now.mutators step → ⊥)
             → result ≡ Err CallFault.NoSuchMutator }
         ensures log { result ≡ Err CallFault.NoSuchMutator → IsApply step }
         ensures faults { result ≢ Err CallFault.NotAMutator }
@@ -210,13 +210,14 @@ impl Shared {
 }
 
 ghost use Rattle.std.specs.Prelude.{◌≡◌, ◌↔◌, IsTrue};
-ghost use Rattle.gc_copy.specs.Runs.{IsStep};
+ghost use Rattle.gc_graph.specs.Limits.{most_words};
+ghost use Rattle.gc_copy.specs.Runs.{IsStepWithin};
 ghost use Rattle.gc_shared.specs.Seats.{HasSize};
 
 // Returns whether a world of this many mutators can perform the step: an `Apply` must name one of their logs.
 fn is_step(step: Step, mutators: u8) -> bool
     requires { HasSize step }
-    ensures { IsTrue result ↔ IsStep mutators step }
+    ensures { IsTrue result ↔ IsStepWithin most_words mutators step }
 {
     match step {
         Step::Apply(m) => m < mutators,

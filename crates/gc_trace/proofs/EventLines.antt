@@ -7,7 +7,8 @@ use Rattle.gc_graph.specs.Slots.{SlotName}
 use Rattle.gc_graph.specs.Range.{IsSlot, IsCommand}
 use Rattle.gc_graph.specs.declared.command.Op.{Op}
 use Rattle.gc_graph.specs.declared.command.Op.TheVariants as ops
-use Rattle.gc_copy.specs.Runs.{IsStep}
+use Rattle.gc_graph.specs.Limits.{most_words}
+use Rattle.gc_copy.specs.Runs.{IsStepWithin}
 use Rattle.gc_graph.proofs.LineLemmas.{HasNo-name, HasNo-decimal, AllHaveNo, HasNo-joined, tokens_of-joined}
 use Rattle.gc_copy.specs.declared.step.Step.{Step}
 use Rattle.gc_copy.specs.declared.step.Step.TheVariants as steps
@@ -31,7 +32,7 @@ AllHaveNo-op c (ops.Put s i t) low fits = (HasNo-name c (codes "put") low refl, 
 AllHaveNo-op c (ops.Same s t) low fits = (HasNo-name c (codes "same") low refl, (HasNo-slot c s low fits.0, (HasNo-slot c t low fits.1, tt)))
 AllHaveNo-op c (ops.Look s) low fits = (HasNo-name c (codes "look") low refl, (HasNo-slot c s low fits, tt))
 
-AllHaveNo-step : (c : ℕ) (step : Step) → c < 48 → IsStep 16 step → AllHaveNo c (step_tokens step)
+AllHaveNo-step : (c : ℕ) (step : Step) → c < 48 → IsStepWithin most_words 16 step → AllHaveNo c (step_tokens step)
 unfolding step_tokens
 AllHaveNo-step c steps.Begin low fits = (HasNo-name c (codes "begin") low refl, tt)
 AllHaveNo-step c (steps.BeginSized size) low fits = (HasNo-name c (codes "begin") low refl, (HasNo-decimal c size low (omega (arith, fits.1)), tt))

@@ -8,7 +8,8 @@ use Rattle.gc_graph.specs.Range.{IsSlot, IsCommand}
 use Rattle.gc_graph.specs.Tokens.{Tokens}
 use Rattle.gc_graph.specs.declared.command.Op.{Op}
 use Rattle.gc_graph.specs.declared.command.Op.TheVariants as ops
-use Rattle.gc_copy.specs.Runs.{IsStep}
+use Rattle.gc_graph.specs.Limits.{most_words}
+use Rattle.gc_copy.specs.Runs.{IsStepWithin}
 use Rattle.gc_graph.proofs.Decimals.{number_again}
 use Rattle.gc_graph.proofs.TokenParsers.{number_at_again, token_at_again, end_again}
 use Rattle.gc_copy.specs.declared.step.Step.{Step}
@@ -63,7 +64,7 @@ sized_again version size sized some few =
     let positive : eqb size 0 ≡ false = ne_eqb size 0 (omega (arith, some)) in
     rw (known, number_at_again 1048576 size [] few (omega (arith, few)), positive, end_again (steps.BeginSized size)) refl
 
-step_again : (version : ℕ) (step : Step) → IsStep 16 step → step_version step ≤ version → step_of version (step_tokens step) ≡ Some step
+step_again : (version : ℕ) (step : Step) → IsStepWithin most_words 16 step → step_version step ≤ version → step_of version (step_tokens step) ≡ Some step
 unfolding step_of step_tokens apply_of begin_of
 step_again version steps.Begin fits known = refl
 step_again version (steps.BeginSized size) fits known = sized_again version size known fits.0 fits.1

@@ -1,6 +1,7 @@
 -- The pairs of a run's flips.
 use Rattle.std.proofs.Common.{◌≡◌, ℕ, suc, ◌+◌, ◌<◌, ◌≤◌, List, ◌∷◌, drop, length, map, get_or, refl, sym, ap, ◌∙◌, arith, subst, Option, Some, None, inl, inr, ◌⊎◌}
 use Rattle.std.specs.Prelude.{slice_get, IfSome, IfOk, Result, Ok, Err}
+use Rattle.gc_graph.specs.Limits.{most_words}
 use Rattle.gc_graph.specs.declared.no_memory.NoMemory.{NoMemory}
 use Rattle.std.specs.Option.{option_map}
 use Rattle.std.proofs.lemmas.List.{drop_more, length-map}
@@ -11,7 +12,7 @@ use Rattle.gc_cert.specs.declared.image.PairFile.{PairFile}
 use Rattle.gc_words.specs.Word.{word_of}
 use Rattle.gc_copy.specs.State.{State, Collection, moved}
 use Rattle.gc_copy.specs.Steps.{collect}
-use Rattle.gc_copy.specs.Runs.{after}
+use Rattle.gc_copy.specs.Runs.{HasSizesWithin, after}
 use Rattle.gc_copy.specs.Belonging.{IsState}
 use Rattle.gc_copy.specs.Passing.{HasFewPairs}
 use Rattle.gc_copy.specs.declared.step.StepReply.{StepReply}
@@ -39,33 +40,35 @@ kept_by_reply s Refused pair is = absurd cc
 kept_by_reply s (Flipped pairs) pair is = is
 kept_by_reply s Dropped pair is = absurd cc
 
-counts_of : (s : State) (c : Collection) → IsState s → HasFewPairs s → s.mutators ≤ 16 → s.collection ≡ Some c → IsCertified (flip_pair s c) → HasCounts (flip_pair s c)
-counts_of s c ok small few is certified = record {
+counts_of : (s : State) (c : Collection) → IsState s → HasSizesWithin most_words s → c.size ≤ most_words → HasFewPairs s → s.mutators ≤ 16 → s.collection ≡ Some c → IsCertified (flip_pair s c) → HasCounts (flip_pair s c)
+counts_of s c ok sizes new small few is certified = record {
   old = certified.old_shaped;
   new = certified.new_shaped;
+  old_small = sizes.heap;
+  new_small = new;
   raws = refl;
   old_roots = omega (arith, length-map s.heap.graph.roots word_of, ok.roots, few);
   new_roots = omega (arith, length-map (map (moved c) s.heap.graph.roots) word_of, length-map s.heap.graph.roots (moved c), ok.roots, few);
-  pairs = small c is;
+  pairs = let fewer = small c is in omega (arith, new, fewer);
 }
 
-kept_counts : (s : State) (kept : Option Collection) (pair : CertifiedPair) → IsState s → HasFewPairs s → s.mutators ≤ 16 → s.collection ≡ kept → IsCertified pair → open_pair s kept ≡ Some pair → HasCounts pair
-kept_counts s None pair ok small few is certified same = absurd cc
-kept_counts s (Some c) pair ok small few is certified found =
+kept_counts : (s : State) (kept : Option Collection) (pair : CertifiedPair) → IsState s → HasSizesWithin most_words s → IfSome kept (λ c. c.size ≤ most_words) → HasFewPairs s → s.mutators ≤ 16 → s.collection ≡ kept → IsCertified pair → open_pair s kept ≡ Some pair → HasCounts pair
+kept_counts s None pair ok sizes new small few is certified same = absurd cc
+kept_counts s (Some c) pair ok sizes new small few is certified found =
     let same : flip_pair s c ≡ pair = cc in
-    subst HasCounts same (counts_of s c ok small few is (subst IsCertified (sym same) certified))
+    subst HasCounts same (counts_of s c ok sizes new small few is (subst IsCertified (sym same) certified))
 
--- a kept pair is within the limits on roots and pairs
-pub flip_counts : (s : State) (event : Event) (pair : CertifiedPair) → IsState s → HasFewPairs s → s.mutators ≤ 16 → IsCertified pair → flip_at s event ≡ Some pair → HasCounts pair
-flip_counts s (Mutate m op) pair ok small few certified is = absurd cc
-flip_counts s (Collect step) pair ok small few certified is = kept_counts s s.collection pair ok small few refl certified (kept_by_reply s (collect s step).0 pair is)
+-- a kept pair is within the limits on words, roots and pairs
+pub flip_counts : (s : State) (event : Event) (pair : CertifiedPair) → IsState s → HasSizesWithin most_words s → HasFewPairs s → s.mutators ≤ 16 → IsCertified pair → flip_at s event ≡ Some pair → HasCounts pair
+flip_counts s (Mutate m op) pair ok sizes small few certified is = absurd cc
+flip_counts s (Collect step) pair ok sizes small few certified is = kept_counts s s.collection pair ok sizes sizes.collection small few refl certified (kept_by_reply s (collect s step).0 pair is)
 
 -- so is the pair of a flip
-pub counts_of_result : (s : State) (event : Event) (result : Result (Option PairFile) NoMemory) → IsState s → HasFewPairs s → s.mutators ≤ 16 → IfOk result (λ kept. option_map pair_in kept ≡ flip_at s event)
+pub counts_of_result : (s : State) (event : Event) (result : Result (Option PairFile) NoMemory) → IsState s → HasSizesWithin most_words s → HasFewPairs s → s.mutators ≤ 16 → IfOk result (λ kept. option_map pair_in kept ≡ flip_at s event)
     → IfOk result (λ kept. IfSome kept (λ file. IsCertified (pair_in file))) → IfOk result (λ kept. IfSome kept (λ file. HasCounts (pair_in file)))
-counts_of_result s event (Ok None) ok small few is certified = tt
-counts_of_result s event (Ok (Some file)) ok small few is certified = flip_counts s event (pair_in file) ok small few certified (sym is)
-counts_of_result s event (Err fault) ok small few is certified = tt
+counts_of_result s event (Ok None) ok sizes small few is certified = tt
+counts_of_result s event (Ok (Some file)) ok sizes small few is certified = flip_counts s event (pair_in file) ok sizes small few certified (sym is)
+counts_of_result s event (Err fault) ok sizes small few is certified = tt
 
 -- ---- the n-th flip
 

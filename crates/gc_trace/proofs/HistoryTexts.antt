@@ -2,6 +2,7 @@
 use Rattle.std.proofs.Common.{◌≡◌, ℕ, ◌≤◌, List, [], ◌∷◌, refl, sym, ap, ◌∙◌, arith}
 use Rattle.std.specs.List.{AllByRecursion}
 use Rattle.gc_copy.specs.State.{State, opening_state}
+use Rattle.gc_graph.specs.Limits.{most_words}
 use Rattle.gc_copy.specs.Runs as runs
 use Rattle.gc_copy.specs.declared.step.Step.{Step}
 use Rattle.gc_copy.specs.declared.step.Step.TheVariants as steps
@@ -15,7 +16,7 @@ use Rattle.gc_trace.specs.Plays.{opening, answers, last_state}
 use Rattle.gc_trace.specs.WorldRuns.{HasRun}
 use Rattle.gc_trace.proofs.Versions.{least_range}
 
-wider_step : (mutators : ℕ) (step : Step) → mutators ≤ 16 → runs.IsStep mutators step → runs.IsStep 16 step
+wider_step : (mutators : ℕ) (step : Step) → mutators ≤ 16 → runs.IsStepWithin most_words mutators step → runs.IsStepWithin most_words 16 step
 wider_step mutators steps.Begin le fits = tt
 wider_step mutators (steps.BeginSized size) le fits = fits
 wider_step mutators steps.Roots le fits = tt
@@ -29,7 +30,7 @@ wider : (mutators : ℕ) (event : Event) → mutators ≤ 16 → IsOf mutators e
 wider mutators (Mutate m op) le of = (omega (arith, le, of.0), of.1)
 wider mutators (Collect step) le of = wider_step mutators step le of
 
-all_fit : (version mutators : ℕ) (entries : List Entry) → mutators ≤ 16 → least_version (events_of entries) ≤ version → runs.AreEvents mutators (events_of entries) → AllByRecursion (λ event. IsEvent version event × IsOf mutators event) (events_of entries)
+all_fit : (version mutators : ℕ) (entries : List Entry) → mutators ≤ 16 → least_version (events_of entries) ≤ version → runs.AreEventsWithin most_words mutators (events_of entries) → AllByRecursion (λ event. IsEvent version event × IsOf mutators event) (events_of entries)
 all_fit version mutators [] few known all = tt
 all_fit version mutators (e ∷ es) few known all =
     ((record { range = wider mutators e.event few all.0; known = omega (arith, known) }, all.0), all_fit version mutators es few (omega (arith, known)) all.1)

@@ -12,6 +12,7 @@ pub mod RowProofs
 pub mod PrintedLines
 pub mod Versions
 pub mod HistoryTexts
+pub mod Sizes
 pub mod FlipPairs
 pub mod PlayedEvents
 pub mod PairsPlaced

@@ -9,7 +9,8 @@ use Rattle.gc_graph.specs.Range.{IsSlot, IsCommand}
 use Rattle.gc_graph.specs.Tokens.{◌>>=◌, Tokens, number_of, number_at, token_at, if_all_taken}
 use Rattle.gc_graph.specs.declared.command.Op.{Op}
 use Rattle.gc_graph.specs.declared.command.Op.TheVariants as ops
-use Rattle.gc_copy.specs.Runs.{IsStep}
+use Rattle.gc_graph.specs.Limits.{most_words}
+use Rattle.gc_copy.specs.Runs.{IsStepWithin}
 use Rattle.gc_graph.proofs.Decimals.{number_found}
 use Rattle.gc_graph.proofs.TokenParsers.{bind_some, some, some_is, onto, number_at_found, token_at_found, end_found, name_case, positive}
 use Rattle.gc_copy.specs.declared.step.Step.{Step}
@@ -182,7 +183,7 @@ command_found version tokens event known e =
     subst (λ (x : Event). IsReadEvent version x (codes "m" ∷ tokens)) (some_is (Mutate a.0.0 b.0) event b.2) (onto (codes "m") (w.0 ∙ onto (decimal a.0.0) op.0), record { range = (omega (arith, w.1), op.1); known = op.2 })
 
 abbrev IsReadStep : ℕ → Step → Tokens → Type 0
-IsReadStep version step tokens = (tokens ≡ step_tokens step) × IsStep 16 step × (step_version step ≤ version)
+IsReadStep version step tokens = (tokens ≡ step_tokens step) × IsStepWithin most_words 16 step × (step_version step ≤ version)
 
 sized_found : (version : ℕ) (tokens : Tokens) (step : Step) → 2 ≤ version → (number_at 1048576 tokens >>= λ size. cond (eqb size.0 0) None (if_all_taken (steps.BeginSized size.0) size.1)) ≡ Some step → IsReadStep version step (codes "begin" ∷ tokens)
 unfolding step_tokens
@@ -211,7 +212,7 @@ apply_found version tokens step known e =
     subst (λ (s : Step). IsReadStep version s (codes "apply" ∷ tokens)) z.1 (onto (codes "apply") (w.0 ∙ onto (decimal a.0.0) z.0), omega (arith, w.1), known)
 
 -- a step of one token
-alone_found : (version : ℕ) (name : List ℕ) (tokens : Tokens) (wanted step : Step) → step_tokens wanted ≡ name ∷ [] → IsStep 16 wanted → step_version wanted ≤ version → if_all_taken wanted tokens ≡ Some step → IsReadStep version step (name ∷ tokens)
+alone_found : (version : ℕ) (name : List ℕ) (tokens : Tokens) (wanted step : Step) → step_tokens wanted ≡ name ∷ [] → IsStepWithin most_words 16 wanted → step_version wanted ≤ version → if_all_taken wanted tokens ≡ Some step → IsReadStep version step (name ∷ tokens)
 alone_found version name tokens wanted step alone fits known e =
     let z = end_found wanted tokens step e in
     subst (λ (s : Step). IsReadStep version s (name ∷ tokens)) z.1 (onto name z.0 ∙ sym alone, fits, known)

@@ -5,7 +5,8 @@ use Rattle.std.proofs.lemmas.Bool.{leb-true}
 use Rattle.std.proofs.lemmas.List.{append-nil, length-append}
 use Rattle.std.proofs.lemmas.List.Concat.{flat_map-append, flat_map-cons}
 use Rattle.gc_graph.specs.Lines.{newline, joined, tokens_of}
-use Rattle.gc_copy.specs.Runs.{IsStep}
+use Rattle.gc_graph.specs.Limits.{most_words}
+use Rattle.gc_copy.specs.Runs.{IsStepWithin}
 use Rattle.gc_graph.proofs.LineLemmas.{Cut, cut, joined-tokens_of}
 use Rattle.gc_copy.specs.declared.step.Step.{Step}
 use Rattle.gc_copy.specs.declared.step.Step.TheVariants as steps
@@ -28,7 +29,7 @@ dec_le m n = at (leb m n) refl
     at true e = inl (leb-true m n e)
     at false e = inr (λ le. grind (arith, e, le))
 
-dec_step : (mutators : ℕ) (step : Step) → IsStep 16 step → IsStep mutators step ⊎ (IsStep mutators step → ⊥)
+dec_step : (mutators : ℕ) (step : Step) → IsStepWithin most_words 16 step → IsStepWithin most_words mutators step ⊎ (IsStepWithin most_words mutators step → ⊥)
 dec_step mutators steps.Begin fits = inl tt
 dec_step mutators (steps.BeginSized size) fits = inl fits
 dec_step mutators steps.Roots fits = inl tt

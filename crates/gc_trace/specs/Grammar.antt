@@ -94,12 +94,12 @@ version_of (Collect step) = step_version step
 
 -- an event of this version's grammar, whatever the number of mutators
 pub record IsEvent (version : ℕ) (event : Event) : Type 0 where
-  pub range : runs.IsEvent most_mutators event
+  pub range : runs.IsEventWithin most_words most_mutators event
   pub known : version_of event ≤ version
 
 -- the event can happen if there are this many mutators: its mutator, or that of its log, is one of them
 abbrev pub IsOf : ℕ → Event → Type 0
-IsOf mutators event = runs.IsEvent mutators event
+IsOf mutators event = runs.IsEventWithin most_words mutators event
 
 pub record IsRecording (t : Recording) : Type 0 where
   pub heading : IsHeading t.version t.size t.mutators

@@ -1,10 +1,10 @@
 ghost use Rattle.std.specs.Prelude.{◌≡◌, ◌≤◌, ◌-◌, None, IfOk, OnOk, IfSome};
 ghost use Rattle.std.specs.Option.{option_map};
-ghost use Rattle.gc_graph.specs.Limits.{most_mutators};
+ghost use Rattle.gc_graph.specs.Limits.{most_words, most_mutators};
 ghost use Rattle.gc_cert.specs.Counts.{HasCounts};
 ghost use Rattle.gc_cert.specs.Views.{pair_in};
 ghost use Rattle.gc_copy.specs.Belonging.{IsState};
-ghost use Rattle.gc_copy.specs.Runs.{IsEvent, IsStep, after};
+ghost use Rattle.gc_copy.specs.Runs.{IsEventWithin, IsStep, HasSizesWithin, after};
 ghost use Rattle.gc_copy.specs.Steps.{collect};
 ghost use Rattle.gc_core.specs.Flip.{kept_after, IsCertified};
 ghost use Rattle.gc_trace.specs.Flips.{flip_at, nth_flip};
@@ -36,14 +36,17 @@ fn flip_of_step(heap: &mut CollectedHeap, step: Step) -> Result<Option<PairFile>
 }
 
 /// Performs the event. If it flips, returns the pair of the flip.
+#[tactic(auto, using(crate::proofs::Sizes::heap_step, crate::proofs::Sizes::event_within))]
 fn flip_in(heap: &mut CollectedHeap, event: &Event) -> Result<Option<PairFile>, NoMemory>
-    requires event { IsEvent heap.old.mutators event.now }
+    requires event { IsEventWithin most_words heap.old.mutators event.now }
     requires few { heap.old.mutators ≤ most_mutators }
     requires sound { IsState heap.old }
+    requires small { HasSizesWithin most_words heap.old }
     ensures flip { IfOk result (λ kept. option_map pair_in kept ≡ flip_at heap.old event.now) }
     ensures counts { IfOk result (λ kept. IfSome kept (λ file. HasCounts (pair_in file))) }
     ensures happened { OnOk result (heap.new ≡ after heap.old event.now) }
     ensures sound { OnOk result (IsState heap.new) }
+    ensures small { OnOk result (HasSizesWithin most_words heap.new) }
     ensures mutators { heap.new.mutators ≡ heap.old.mutators }
 {
     states_are_kept();

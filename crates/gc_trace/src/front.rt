@@ -1,7 +1,8 @@
 ghost use Rattle.std.specs.Prelude.{◌≡◌, ◌<◌, ◌≤◌, ◌∷◌, ◌++◌, [], take, decimal, codes, IfSome};
+ghost use Rattle.gc_graph.specs.Limits.{most_words};
 ghost use Rattle.gc_graph.specs.Lines.{space};
 ghost use Rattle.gc_graph.specs.Range.{IsCommand};
-ghost use Rattle.gc_copy.specs.Runs.{IsStep};
+ghost use Rattle.gc_copy.specs.Runs.{IsStepWithin};
 ghost use Rattle.gc_trace.specs.Grammar.{slot, op_tokens, step_tokens, op_version, step_version, event_tokens, event_line, IsEvent};
 ghost use Rattle.gc_trace.specs.Internal.Fronts.{spelled};
 
@@ -232,7 +233,7 @@ fn op(version: u8, front: &mut Front<'_>) -> Option<Op>
 #[tactic(auto, unfolding(crate::specs::Grammar::step_tokens))]
 fn begin(version: u8, front: &mut Front<'_>) -> Option<Step>
     requires { 1 ≤ version }
-    ensures { IfSome result (λ step. IsStep 16 step × (step_version step ≤ version)
+    ensures { IfSome result (λ step. IsStepWithin most_words 16 step × (step_version step ≤ version)
         × (codes "begin" ++ front.old ≡ spelled (step_tokens step) front.new)) }
 {
     if version < SIZED || front.rest().first() != Some(&b' ') {
@@ -249,7 +250,7 @@ fn begin(version: u8, front: &mut Front<'_>) -> Option<Step>
 #[inline(always)]
 #[tactic(auto, unfolding(crate::specs::Grammar::step_tokens))]
 fn apply(front: &mut Front<'_>) -> Option<Step>
-    ensures { IfSome result (λ step. IsStep 16 step × (step_version step ≡ 1)
+    ensures { IfSome result (λ step. IsStepWithin most_words 16 step × (step_version step ≡ 1)
         × (codes "apply" ++ front.old ≡ spelled (step_tokens step) front.new)) }
 {
     let k = next_small_number(front)?;
@@ -261,7 +262,7 @@ fn apply(front: &mut Front<'_>) -> Option<Step>
 #[tactic(auto, unfolding(crate::specs::Grammar::step_tokens))]
 fn step(version: u8, front: &mut Front<'_>) -> Option<Step>
     requires { 1 ≤ version }
-    ensures { IfSome result (λ step. IsStep 16 step × (step_version step ≤ version)
+    ensures { IfSome result (λ step. IsStepWithin most_words 16 step × (step_version step ≤ version)
         × (front.old ≡ spelled (step_tokens step) front.new)) }
 {
     match front.rest() {

@@ -3,7 +3,7 @@ ghost use Rattle.gc_graph.specs.Limits.{most_words, most_mutators};
 ghost use Rattle.gc_graph.specs.Streams.{bytes_left, source_failed};
 ghost use Rattle.gc_copy.specs.State.{State, opening_state};
 ghost use Rattle.gc_copy.specs.Belonging.{IsState};
-ghost use Rattle.gc_copy.specs.Runs.{IsEvent, after, answer, answers, state_after};
+ghost use Rattle.gc_copy.specs.Runs.{IsEvent, IsEventWithin, after, answer, answers, state_after};
 ghost use Rattle.gc_copy.specs.declared.event.Event.{Event};
 ghost use Rattle.gc_trace.specs.Faults.{IsReadAsTrace, MayFail};
 ghost use Rattle.gc_trace.specs.Grammar.{Recording};
@@ -101,8 +101,9 @@ impl Player {
     }
 
     /// Plays one more event.
+    #[tactic(auto, using(crate::proofs::Sizes::heap_event))]
     fn take(&mut self, event: &Event) -> Result<(), NoMemory>
-        requires event { IsEvent self.old.heap.mutators event.now }
+        requires event { IsEventWithin most_words self.old.heap.mutators event.now }
         requires sound { IsState self.old.heap }
         requires fits { FitsU64 (with_answer self.old.report (answer self.old.heap event.now)) }
         ensures played { OnOk result ((s : State) (events : List Event) → HasPlayed s events self.old

@@ -1,5 +1,6 @@
 ghost use Rattle.std.specs.Prelude.{◌≡◌, IfOk, OnOk, OnErr};
-ghost use Rattle.gc_copy.specs.Runs.{IsEvent};
+ghost use Rattle.gc_graph.specs.Limits.{most_words};
+ghost use Rattle.gc_copy.specs.Runs.{IsEventWithin};
 ghost use Rattle.gc_world.specs.History.{answers_of};
 ghost use Rattle.gc_world.specs.World.{present};
 ghost use Rattle.gc_trace.specs.Grammar.{IsInRange};
@@ -14,7 +15,7 @@ use std::alloc::Global;
 
 /// Performs the event in the world. On `NoMemory` the world is unchanged.
 pub fn happen(world: &mut World, event: &Event) -> Result<(), NoMemory>
-    requires { IsEvent world.old.mutators event.now }
+    requires { IsEventWithin most_words world.old.mutators event.now }
     ensures happened { OnOk result (Happens world.old event.now world.new) }
     ensures refused { OnErr result (world.new ≡ world.old) }
 {

@@ -1,7 +1,10 @@
 use Rattle.std.proofs.Common.{◌∙◌, ◌-◌, sym, ap, subst, arith, inl, inr, rules}
 use Rattle.std.specs.Prelude.{slice_get}
 use Rattle.gc_copy.specs.State.{State}
+use Rattle.gc_graph.specs.Limits.{most_words}
 use Rattle.gc_copy.specs.Belonging.{IsState}
+use Rattle.gc_copy.specs.Runs.{HasSizesWithin}
+use Rattle.gc_copy.proofs.Sizes.{opening_within}
 use Rattle.std.specs.Option.{option_map}
 use Rattle.gc_cert.specs.Views.{pair_in}
 use Rattle.gc_trace.specs.Flips.{nth_flip, flips}
@@ -24,6 +27,7 @@ loop-event-init c =
     record {
       mutators = ap (λ (s : State). s.mutators) opened;
       sound = subst IsState (sym opened) (c.states_are_kept.ensures.opening t.size t.mutators (search rules) (search rules));
+      small = subst (HasSizesWithin most_words) (sym opened) (opening_within most_words t.size t.mutators (search rules));
       flips = ap (λ (s : State). slice_get (flips s t.events.items) (c.args.n - 1)) opened;
     }
 
@@ -32,6 +36,7 @@ loop-event-preserved c =
     record {
       mutators = c.flip_in.ensures.mutators ∙ c.loop-event.invariant.mutators;
       sound = c.in_ok-kept.ensures.sound;
+      small = c.in_ok-kept.ensures.small;
       flips =
           next_flip c.loop-event.heap c.flip_in.new.heap c.args.trace.now.events.items c.loop-event.event-index c.loop-event.before c.match-kept.before c.event-item.result _ (nth_flip c.args.n (recording c.args.trace.now))
           (rw c.deref-event-items.ensures.value at c.loop-event-test.true) (rw c.deref-event-items.ensures.value at c.event-item.is) c.in_ok-kept.ensures.happened c.in_ok-kept.ensures.flip c.loop-event.invariant.flips (counted c);

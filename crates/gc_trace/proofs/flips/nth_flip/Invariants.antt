@@ -1,5 +1,7 @@
 use Rattle.std.proofs.Common.{◌≡◌}
+use Rattle.gc_graph.specs.Limits.{most_words}
 use Rattle.gc_copy.specs.Belonging.{IsState}
+use Rattle.gc_copy.specs.Runs.{HasSizesWithin}
 use Rattle.gc_trace.specs.Flips.{nth_flip}
 use Rattle.gc_trace.specs.Views.{recording}
 use Rattle.gc_trace.proofs.FlipPairs.{flips_from}
@@ -9,5 +11,6 @@ abbrev pub invariant-loop-event : goal.invariant-loop-event
 invariant-loop-event l = record {
   mutators : l.heap.mutators ≡ l.trace.mutators;
   sound : IsState l.heap;
+  small : HasSizesWithin most_words l.heap;
   flips : flips_from l.heap l.trace.events.items l.event-index l.before ≡ nth_flip l.n (recording l.trace);
 }
