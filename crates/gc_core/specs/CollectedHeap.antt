@@ -1,5 +1,5 @@
 -- The steps that allocate, the outcome of `fetch`, and commands that make an object and fill its fields.
-use Rattle.std.specs.Prelude.{◌≡◌, ℕ, suc, ⊤, List, [], ◌∷◌, length}
+use Rattle.std.specs.Prelude.{◌≡◌, ℕ, suc, List, [], ◌∷◌, length, None, IsSomeAnd, IsTrue}
 use Rattle.gc_graph.specs.Slots.{SlotName}
 use Rattle.gc_graph.specs.declared.command.Op.TheVariants.{New, Get, Put}
 use Rattle.gc_graph.specs.declared.reply.Reply.{Reply}
@@ -7,16 +7,16 @@ use Rattle.gc_graph.specs.declared.reply.Reply.TheVariants.{Full}
 use Rattle.gc_heap.specs.Commands.{fetched_of}
 use Rattle.gc_heap.specs.declared.taken.Fetched.{Fetched}
 use Rattle.gc_copy.specs.State.{State}
-use Rattle.gc_copy.specs.Steps.{mutate}
+use Rattle.gc_copy.specs.Steps.{mutate, is_ready}
 use Rattle.gc_copy.specs.declared.step.Step.{Step}
 use Rattle.gc_copy.specs.declared.step.Step.TheVariants.{Begin, BeginSized, Flip}
 
--- the steps that allocate
-abbrev pub Allocates : Step → Type 0
-Allocates Begin = ⊤
-Allocates (BeginSized size) = ⊤
-Allocates Flip = ⊤
-Allocates step = ⊥
+-- in this state the step allocates: it opens a collection and none is open, or it flips a ready collection
+abbrev pub Allocates : State → Step → Type 0
+Allocates s Begin = s.collection ≡ None
+Allocates s (BeginSized size) = s.collection ≡ None
+Allocates s Flip = IsSomeAnd s.collection (λ c. IsTrue (is_ready c s.heap.graph))
+Allocates s step = ⊥
 
 -- mutator m's `Get` leads from the old state to the new one, and `fetched` is what its reply shows without an
 -- object's kind and length

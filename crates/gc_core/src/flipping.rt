@@ -20,6 +20,7 @@ use gc_words::no_fault_where_certified;
 use std::alloc::Global;
 
 impl CollectedHeap {
+    ghost use Rattle.gc_core.specs.CollectedHeap.{Allocates};
     ghost use Rattle.gc_core.specs.Flip.{FlipsOnly, PassesIfReady, kept_after, replaced};
     ghost use Rattle.gc_cert.specs.Grammar.{CertifiedPair};
     ghost use Rattle.std.specs.Prelude.{Option};
@@ -37,6 +38,8 @@ impl CollectedHeap {
         ensures step { IfOk result (λ flip. collect self.old Step.Flip ≡ (flip.reply, self.new)) }
         // A flip happens only if this checker said yes.
         ensures asked { IfOk result (λ flip. FlipsOnly (C.says_yes checker.now) self.old flip.reply) }
+        // A flip happens only if the certificate holds, whether or not its pair is kept.
+        ensures sound { IfOk result (λ flip. FlipsOnly IsCertified self.old flip.reply) }
         // A ready collection passes, so no flip is refused.
         ensures passes { IfOk result (λ flip. PassesIfReady self.old flip.reply) }
         ensures never_refused { IfOk result (λ flip. flip.reply ≢ StepReply.Refused) }
@@ -45,6 +48,8 @@ impl CollectedHeap {
         ensures nothing { keep ≡ Keep.Nothing → IfOk result (λ flip. flip.pair ≡ None) }
         ensures certified { IfOk result (λ flip. IfSome flip.pair (λ file. IsCertified (pair_in file))) }
         ensures refused { OnErr result (self.new ≡ self.old) }
+        // Only the flip of a ready collection allocates.
+        ensures allocates { OnErr result (Allocates self.old Step.Flip) }
         ensures mutators { self.new.mutators ≡ self.old.mutators }
     {
         let Some(collection) = &self.collection else {
@@ -85,6 +90,9 @@ fn accepts<C: Checks>(
     requires few { length draft.now.pairs.items < 2 ^ 32 }
     ensures yes { IfOk result (λ yes. IsTrue yes) }
     ensures asked { IfOk result (λ yes. C.says_yes checker.now
+        (flip_pair (open_state heap.now collection.now) (collection_in collection.now))) }
+    // This follows from the checker's yes.
+    ensures certified { IfOk result (λ yes. IsCertified
         (flip_pair (open_state heap.now collection.now) (collection_in collection.now))) }
 {
     images_show_links();

@@ -10,11 +10,12 @@ impl CollectedHeap {
     ghost use Rattle.gc_copy.specs.Runs.{IsStep};
     ghost use Rattle.gc_copy.specs.declared.step.Step.{Step};
     ghost use Rattle.gc_copy.specs.declared.step.StepReply.{StepReply};
-    ghost use Rattle.gc_core.specs.Flip.{FlipsOnly, PassesIfReady, HasRoomIfLarge};
+    ghost use Rattle.gc_core.specs.Flip.{FlipsOnly, IsCertified, PassesIfReady, HasRoomIfLarge};
     ghost use Rattle.gc_core.specs.CollectedHeap.{Allocates};
 
     /// Performs one collector step. A flip happens only if the checker accepts the certificate; its pair is not
-    /// kept. On `NoMemory`, which only `Begin`, `BeginSized` and `Flip` return, the heap is unchanged.
+    /// kept. On `NoMemory` the heap is unchanged. Only a step that opens a collection and the flip of a ready one can
+    /// return it.
     #[inline(always)]
     pub fn collect<C: Checks>(&mut self, checker: &C, step: Step) -> Result<StepReply, NoMemory>
         requires can { C.can_check checker.now }
@@ -22,12 +23,14 @@ impl CollectedHeap {
         ensures step { IfOk result (λ reply. collect self.old step ≡ (reply, self.new)) }
         // A flip happens only if this checker said yes.
         ensures asked { IfOk result (FlipsOnly (C.says_yes checker.now) self.old) }
+        // A flip happens only if the certificate holds.
+        ensures sound { IfOk result (FlipsOnly IsCertified self.old) }
         // A ready collection passes, so no flip is refused.
         ensures passes { step ≡ Step.Flip → IfOk result (PassesIfReady self.old) }
         ensures never_refused { IfOk result (λ reply. reply ≢ StepReply.Refused) }
         ensures room { IfOk result (HasRoomIfLarge self.old) }
         ensures refused { OnErr result (self.new ≡ self.old) }
-        ensures allocates { OnErr result (Allocates step) }
+        ensures allocates { OnErr result (Allocates self.old step) }
         ensures mutators { self.new.mutators ≡ self.old.mutators }
     {
         match step {
@@ -42,11 +45,12 @@ impl CollectedHeap {
     }
 
     /// Opens a collection whose new space has `size` words, at least 1. Returns `Begun`, or `Busy` if one is already
-    /// open. On `NoMemory` nothing has changed.
+    /// open. On `NoMemory` nothing has changed, and none is open.
     pub fn begin_sized(&mut self, size: u32) -> Result<StepReply, NoMemory>
         requires low { 1 ≤ size }
         ensures step { IfOk result (λ reply. collect self.old (Step.BeginSized size) ≡ (reply, self.new)) }
         ensures refused { OnErr result (self.new ≡ self.old) }
+        ensures allocates { OnErr result (Allocates self.old (Step.BeginSized size)) }
         ensures mutators { self.new.mutators ≡ self.old.mutators }
     {
         if self.collection.is_some() {
@@ -58,10 +62,11 @@ impl CollectedHeap {
     }
 
     /// Opens a collection whose new space is as large as the heap. Returns `Begun`, or `Busy` if one is already open.
-    /// On `NoMemory` nothing has changed.
+    /// On `NoMemory` nothing has changed, and none is open.
     pub fn begin(&mut self) -> Result<StepReply, NoMemory>
         ensures step { IfOk result (λ reply. collect self.old Step.Begin ≡ (reply, self.new)) }
         ensures refused { OnErr result (self.new ≡ self.old) }
+        ensures allocates { OnErr result (Allocates self.old Step.Begin) }
         ensures mutators { self.new.mutators ≡ self.old.mutators }
     {
         let size = self.heap.space().size();

@@ -35,20 +35,22 @@ fresh mutators n = record { number = n; is_mutator = nat_lt n mutators; receipts
 abbrev pub receipt : ℕ → Event → Answer → Receipt
 receipt place event answer = record { place = place; event = event; answer = answer }
 
--- Some world can give this receipt. The world has a history whose length is the receipt's place, and in its state the
--- event gets this answer. So the history with both appended is a history too.
-pub record IsPossible (r : Receipt) : Type 0 where
-  pub size : ℕ
-  pub mutators : ℕ
+-- A world of this size and number of mutators can give this receipt. The world has a history whose length is the
+-- receipt's place, and in its state the event gets this answer. So the history with both appended is a history too.
+pub record IsPossibleIn (size mutators : ℕ) (r : Receipt) : Type 0 where
   pub earlier : List Entry
   pub place : length earlier ≡ r.place
   pub goes_on : IsHistory size mutators (earlier ++ entry_of r.event r.answer ∷ [])
 
--- the seat has one more receipt, with this event and answer, that some world can give
-pub record AddsReceipt (before after : SeatValue) (event : Event) (answer : Answer) : Type 0 where
+-- some world can give this receipt
+abbrev pub IsPossible : Receipt → Type 0
+IsPossible r = (size : ℕ) × (mutators : ℕ) × IsPossibleIn size mutators r
+
+-- the seat has one more receipt, with this event and answer, and it is one that `Can` admits
+pub record AddsReceipt (Can : Receipt → Type 0) (before after : SeatValue) (event : Event) (answer : Answer) : Type 0 where
   pub place : ℕ
   pub added : after ≡ record before { receipts = before.receipts ++ receipt place event answer ∷ [] }
-  pub possible : IsPossible (receipt place event answer)
+  pub possible : Can (receipt place event answer)
 
 -- ---- steps
 

@@ -1,4 +1,4 @@
-ghost use Rattle.std.specs.Prelude.{◌≡◌, ◌↔◌, ◌<◌, ◌≤◌, ◌+◌, ◌==◌, suc, length, IsTrue, MatchOption, count_by, []};
+ghost use Rattle.std.specs.Prelude.{◌≡◌, ◌↔◌, ◌<◌, ◌≤◌, ◌+◌, ◌==◌, suc, length, IfOk, IfErr, IsTrue, MatchOption, MatchResult, count_by, []};
 ghost use Rattle.std.specs.List.{find};
 ghost use Rattle.std.specs.Option.{option_copied};
 ghost use Rattle.gc_world.specs.World.{entry_of};
@@ -7,14 +7,36 @@ ghost use Rattle.gc_shared.specs.Receipts.{IsRecorded};
 ghost use Rattle.gc_shared.specs.Closing.{IsSeated, IsWhole, IsFirstFault, IsFirstTorn, AllStand, HasEachOnce, receipts_of, receipts_below};
 ghost use Rattle.gc_shared.specs.Internal.Marks.{IsMarked, IsFree, IsFault, AgreeByNumber};
 
-use crate::fault::CloseKind;
+use crate::fault::{CloseFault, CloseKind};
 use crate::seat::{Receipt, Seat};
 use gc_world::{Entry, World};
 use std::alloc::Global;
 
+/// Compares the world with the seats. Returns this world if they agree, otherwise the first fault together with this world.
+pub(crate) fn compare(
+    alloc: Global,
+    size: u32,
+    mutators: u8,
+    collectors: u8,
+    world: World,
+    seats: &[Seat],
+) -> Result<World, CloseFault>
+    requires { mutators + collectors ≤ 32 }
+    // The world that comes back is the one that was given.
+    ensures same { MatchResult result (λ given. given ≡ world) (λ fault. fault.world ≡ world) }
+    ensures ok { IfOk result (λ given. IsWhole (opening size mutators collectors) given seats.now) }
+    ensures err { IfErr result (λ fault.
+        IsFirstFault (opening size mutators collectors) fault.world seats.now fault.kind) }
+{
+    match fault(alloc, size, mutators, collectors, &world, seats) {
+        None => Ok(world),
+        Some(kind) => Err(CloseFault { world, kind }),
+    }
+}
+
 /// Returns the first fault that comparing the seats with the world finds. There is a mark for each place of the
 /// history; the marks are allocated before any receipt is read.
-pub(crate) fn fault(
+fn fault(
     alloc: Global,
     size: u32,
     mutators: u8,

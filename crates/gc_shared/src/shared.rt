@@ -43,7 +43,7 @@ impl Shared {
     ghost use Rattle.gc_copy.specs.Runs.{IsStepWithin};
     ghost use Rattle.gc_copy.specs.declared.event.Event.{Event};
     ghost use Rattle.gc_copy.specs.declared.event.Answer.{Answer};
-    ghost use Rattle.gc_shared.specs.Seats.{opening, fresh, AddsReceipt, HasSize, IsApply};
+    ghost use Rattle.gc_shared.specs.Seats.{opening, fresh, IsPossible, IsPossibleIn, AddsReceipt, HasSize, IsApply};
     ghost use Rattle.gc_shared.specs.Closing.{IsWhole, IsFirstFault};
 
     /// Opens a world of `size` words, 1 to 1048576, behind a lock. Returns it with the seats of its 1 to 16 mutators
@@ -93,8 +93,9 @@ impl Shared {
     /// lock. Returns `NotAMutator` for a collector's seat, or for a mutator that this world does not have, and
     /// `NoMemory` if an allocation fails. The seat is then unchanged.
     pub fn call<R: Wait>(&self, rt: &R, seat: &mut Seat, op: &Op) -> Result<Reply, CallFault>
-        ensures answered { IfOk result (λ reply.
-            AddsReceipt seat.old seat.new (Event.Mutate seat.old.number op.now) (Answer.Mutator reply)) }
+        // A world of the opening's size and number of mutators can give the reply at the receipt's place.
+        ensures answered { IfOk result (λ reply. AddsReceipt (IsPossibleIn self.now.size self.now.mutators)
+            seat.old seat.new (Event.Mutate seat.old.number op.now) (Answer.Mutator reply)) }
         ensures refused { OnErr result (seat.new ≡ seat.old) }
 
         // A wrong kind of seat is refused before anything is allocated.
@@ -109,7 +110,7 @@ impl Shared {
         seat.receipts.reserve(1)?;
         let m = seat.number;
         let mut world = self.world.lock(rt);
-        if m >= world.mutators() {
+        if world.size() != self.size || world.mutators() != self.mutators {
             return Err(CallFault::NotAMutator);
         }
         let reply = world.mutate(m, op)?;
@@ -131,7 +132,7 @@ impl Shared {
     ) -> Result<StepReply, CallFault>
         requires { HasSize step }
         ensures answered { IfOk result (λ reply.
-            AddsReceipt seat.old seat.new (Event.Collect step) (Answer.Collector reply)) }
+            AddsReceipt IsPossible seat.old seat.new (Event.Collect step) (Answer.Collector reply)) }
         ensures refused { OnErr result (seat.new ≡ seat.old) }
 
         // A wrong kind of seat is refused first, then a log that does not exist, both before anything is allocated.
@@ -169,7 +170,7 @@ impl Shared {
         seat: &mut Seat,
     ) -> Result<(Step, StepReply), CallFault>
         ensures answered { IfOk result (λ made.
-            AddsReceipt seat.old seat.new (Event.Collect made.0) (Answer.Useful made.1)) }
+            AddsReceipt IsPossible seat.old seat.new (Event.Collect made.0) (Answer.Useful made.1)) }
         ensures refused { OnErr result (seat.new ≡ seat.old) }
         ensures mutator { (result ≡ Err CallFault.NotACollector) ↔ (seat.old.is_mutator ≡ true) }
         ensures faults { IfErr result (λ fault.
@@ -201,11 +202,8 @@ impl Shared {
             collectors,
             world,
         } = self;
-        let world = world.into_inner();
-        match closing::fault(alloc, size, mutators, collectors, &world, seats.as_slice()) {
-            None => Ok(world),
-            Some(kind) => Err(CloseFault { world, kind }),
-        }
+        let seats = seats.as_slice();
+        closing::compare(alloc, size, mutators, collectors, world.into_inner(), seats)
     }
 }
 

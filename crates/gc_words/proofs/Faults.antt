@@ -22,7 +22,7 @@ pub or_none : {X : Type 0} (x y : Option X) → (x or_else y) ≡ None → (x �
 or_none None y e = (refl, e)
 or_none (Some x) y e = cc
 
-none_or : {X : Type 0} (x y : Option X) → x ≡ None → y ≡ None → (x or_else y) ≡ None
+pub none_or : {X : Type 0} (x y : Option X) → x ≡ None → y ≡ None → (x or_else y) ≡ None
 none_or None y e f = f
 none_or (Some x) y e f = cc
 
@@ -30,7 +30,7 @@ pub when_none : (b : Bool) (r : Refusal) → when b r ≡ None → b ≡ false
 when_none true r e = cc
 when_none false r e = refl
 
-none_when : (b : Bool) (r : Refusal) → b ≡ false → when b r ≡ None
+pub none_when : (b : Bool) (r : Refusal) → b ≡ false → when b r ≡ None
 none_when true r e = cc
 none_when false r e = refl
 
@@ -38,7 +38,7 @@ pub at_place_none : (o : Option ℕ) (r : ℕ → Refusal) → at_place o r ≡ 
 at_place_none None r e = refl
 at_place_none (Some k) r e = cc
 
-none_at_place : (o : Option ℕ) (r : ℕ → Refusal) → o ≡ None → at_place o r ≡ None
+pub none_at_place : (o : Option ℕ) (r : ℕ → Refusal) → o ≡ None → at_place o r ≡ None
 none_at_place None r e = refl
 none_at_place (Some k) r e = cc
 
@@ -140,7 +140,7 @@ no_place_faults old new all (p ∷ rest) before k whole count pairs highest e =
     (ih.0, All-cons (λ p. (is_start old.words p.0 ≡ true) × (is_start new.words p.1 ≡ true)) p rest (at.0, at.1) ih.1)
 
 -- each pair before p is related to it
-before_each : (before rest : List (ℕ × ℕ)) (p : ℕ × ℕ) → AllPairs Later (before ++ p ∷ rest) → All (λ q. Later q p) before
+pub before_each : (before rest : List (ℕ × ℕ)) (p : ℕ × ℕ) → AllPairs Later (before ++ p ∷ rest) → All (λ q. Later q p) before
 before_each before rest p pairs k d h =
     subst (λ (q : ℕ × ℕ). Later q p) (get_or_append_left before (p ∷ rest) d k h)
     (subst (λ (q : ℕ × ℕ). Later (get_or (before ++ p ∷ rest) k d) q) (get_or_at before p rest d (length before) refl)
@@ -155,18 +155,21 @@ above_all [] n h = refl
 above_all (p ∷ []) n h = lt-leb n p.1 h.0
 above_all (p ∷ q ∷ rest) n h = above_all (q ∷ rest) n h.1
 
-places_hold : (old new : Image) (all rest before : List (ℕ × ℕ)) (k : ℕ) → before ++ rest ≡ all → length before ≡ k → AllPairs Later all → All (λ p. (is_start old.words p.0 ≡ true) × (is_start new.words p.1 ≡ true)) rest
+-- the places of a pair are right, given the pairs before it
+pub place_holds : (old new : Image) (before : List (ℕ × ℕ)) (k : ℕ) (p : ℕ × ℕ) → All (λ q. Later q p) before → (is_start old.words p.0 ≡ true) × (is_start new.words p.1 ≡ true) → place_fault old new before k p ≡ None
+place_holds old new before k p each start =
+    let below : AllByRecursion (λ q. q.1 < p.1) before = recursion_from_All (λ q. q.1 < p.1) before (All-weaker (λ q. Later q p) (λ q. q.1 < p.1) (λ q h. h.1) before each) in
+    let once : list_any (λ q. q.0 == p.0) before ≡ false = list_any_none (λ q. q.0 == p.0) before (All-weaker (λ q. Later q p) (λ q. (q.0 == p.0) ≡ false) (λ q h. ne_eqb _ _ h.0) before each) in
+    none_or _ _ (none_or _ _ (none_or _ _ (none_when _ _ (ap not start.0)) (none_when _ _ (ap not start.1))) (none_when _ _ (above_all before p.1 below))) (none_when _ _ once)
+
+pub places_hold : (old new : Image) (all rest before : List (ℕ × ℕ)) (k : ℕ) → before ++ rest ≡ all → length before ≡ k → AllPairs Later all → All (λ p. (is_start old.words p.0 ≡ true) × (is_start new.words p.1 ≡ true)) rest
     → place_faults_from old new all k rest ≡ None
 places_hold old new all [] before k whole count pairs starts = refl
 places_hold old new all (p ∷ rest) before k whole count pairs starts =
     let each : All (λ q. Later q p) before = before_each before rest p (subst (AllPairs Later) (sym whole) pairs) in
     let start : (is_start old.words p.0 ≡ true) × (is_start new.words p.1 ≡ true) = All-head (λ p. (is_start old.words p.0 ≡ true) × (is_start new.words p.1 ≡ true)) p rest starts in
-    let below : AllByRecursion (λ q. q.1 < p.1) before = recursion_from_All (λ q. q.1 < p.1) before (All-weaker (λ q. Later q p) (λ q. q.1 < p.1) (λ q h. h.1) before each) in
-    let once : list_any (λ q. q.0 == p.0) before ≡ false = list_any_none (λ q. q.0 == p.0) before (All-weaker (λ q. Later q p) (λ q. (q.0 == p.0) ≡ false) (λ q h. ne_eqb _ _ h.0) before each) in
-    let here : place_fault old new before k p ≡ None
-    = none_or _ _ (none_or _ _ (none_or _ _ (none_when _ _ (ap not start.0)) (none_when _ _ (ap not start.1))) (none_when _ _ (above_all before p.1 below))) (none_when _ _ once) in
     none_or (place_fault old new (take k all) k p) (place_faults_from old new all (suc k) rest)
-    (subst (λ some. place_fault old new some k p ≡ None) (sym (first_taken all before (p ∷ rest) k whole count)) here)
+    (subst (λ some. place_fault old new some k p ≡ None) (sym (first_taken all before (p ∷ rest) k whole count)) (place_holds old new before k p each start))
     (places_hold old new all rest (before ++ p ∷ []) (suc k) (append_assoc before (p ∷ []) rest ∙ whole) (one_longer before p k count) pairs (All-tail (λ p. (is_start old.words p.0 ≡ true) × (is_start new.words p.1 ≡ true)) p rest starts))
 
 -- ---- pairs: their objects, and roots
@@ -213,7 +216,7 @@ no_block_fault pairs k (Some a) (Some b) s t e =
 no_block_fault pairs k (Some a) None s t e = absurd (let no : false ≡ true = t in cc)
 no_block_fault pairs k None q s t e = absurd (let no : false ≡ true = s in cc)
 
-block_fault_none : (pairs : List (ℕ × ℕ)) (k : ℕ) (o q : Option Block) → BlocksCorrespond pairs o q → block_fault pairs k o q ≡ None
+pub block_fault_none : (pairs : List (ℕ × ℕ)) (k : ℕ) (o q : Option Block) → BlocksCorrespond pairs o q → block_fault pairs k o q ≡ None
 block_fault_none pairs k (Some a) (Some b) c = none_if (same_header a.header b.header) _ (HeaderDiffers k) (same_header_of _ _ c.0) (none_at_place _ (λ i. FieldDiffers k i) (difference_none _ 0 a.fields b.fields c.1))
 block_fault_none pairs k (Some a) None c = absurd c
 block_fault_none pairs k None q c = absurd c
@@ -237,7 +240,7 @@ module _ (old new : Image) (pairs : List (ℕ × ℕ)) where
       let start : Start p = All-head Start p rest starts in
       All-cons Object p rest (no_block_fault pairs k _ _ start.0 start.1 both.0) (no_object_faults (suc k) rest (All-tail Start p rest starts) both.1)
 
-  object_faults_none : (k : ℕ) (rest : List (ℕ × ℕ)) → All Object rest → first_over_pairs (pair_fault old new pairs) k rest ≡ None
+  pub object_faults_none : (k : ℕ) (rest : List (ℕ × ℕ)) → All Object rest → first_over_pairs (pair_fault old new pairs) k rest ≡ None
   object_faults_none k [] objects = refl
   object_faults_none k (p ∷ rest) objects = none_or _ _ (block_fault_none pairs k _ _ (All-head Object p rest objects)) (object_faults_none (suc k) rest (All-tail Object p rest objects))
 

@@ -12,5 +12,6 @@ pub mod Graphs
 pub mod References
 pub mod Faults
 pub mod FirstFault
+pub mod FoundFault
 pub mod FaultPlace
 pub mod Certified

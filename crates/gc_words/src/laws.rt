@@ -35,10 +35,13 @@ pub fn no_fault_where_certified()
         → (first_fault old new pairs ≡ None) ↔ Certified old new pairs }
 {}
 
-/// The condition of the first fault fails at its place, and all conditions before it hold.
+/// A fault is the first if and only if its condition fails at its place and all conditions before it hold. This is so for
+/// one fault at most.
 pub fn first_fault_is_first()
-    ensures { (old new : Image) (pairs : List (ℕ × ℕ)) (refusal : Refusal)
-        → first_fault old new pairs ≡ Some refusal → IsFirstFault old new pairs refusal }
+    ensures exact { (old new : Image) (pairs : List (ℕ × ℕ)) (refusal : Refusal)
+        → (first_fault old new pairs ≡ Some refusal) ↔ IsFirstFault old new pairs refusal }
+    ensures one { (old new : Image) (pairs : List (ℕ × ℕ)) (refusal other : Refusal)
+        → IsFirstFault old new pairs refusal → IsFirstFault old new pairs other → refusal ≡ other }
 {}
 
 /// The first difference of two lists of words is the first place at which the two words do not correspond or only one list has a

@@ -28,7 +28,7 @@ pub record IsStepCall (step : Step) (shown : StepReply → Type 0) (old new : Op
   -- a refused call changes nothing
   pub refused : IsRefusal answer → new ≡ old
   pub answers : IsRefusal answer → answer ≤ 3
-  pub memory : answer ≡ 1 → Allocates step
+  pub memory : answer ≡ 1 → IsSomeAnd old (λ s. Allocates s step)
   pub outside : (answer ≡ 2) ↔ IsSomeAnd old (IsNoStep step)
   pub closed : (answer ≡ 3) ↔ (old ≡ None)
 

@@ -3,7 +3,7 @@
 ghost use Rattle.std.specs.Prelude.{◌≡◌, ◌<◌, ◌≤◌, Ok, IfOk, OnErr};
 ghost use Rattle.gc_copy.specs.Steps.{collect, useful_step};
 ghost use Rattle.gc_core.specs.CollectedHeap.{Allocates};
-ghost use Rattle.gcflip_heap_c.specs.Work.{IsRun, IsEnd, IsWork, IsWorkCall, goes_on, end_in, end_after};
+ghost use Rattle.gcflip_heap_c.specs.Work.{IsSoundReply, IsRun, IsEnd, IsWork, IsWorkCall, goes_on, end_in, end_after};
 
 use crate::answer::{CLOSED, DONE, NO_MEMORY, OUT_OF_RANGE};
 use crate::handle::GcflipHeap;
@@ -38,8 +38,9 @@ struct Run {
 #[inline(always)]
 fn one_step(heap: &mut CollectedHeap) -> Result<StepReply, NoMemory>
     ensures step { IfOk result (λ reply. collect heap.old (useful_step heap.old) ≡ (reply, heap.new)) }
+    ensures sound { IfOk result (IsSoundReply heap.old) }
     ensures refused { OnErr result (heap.new ≡ heap.old) }
-    ensures allocates { OnErr result (Allocates (useful_step heap.old)) }
+    ensures allocates { OnErr result (Allocates heap.old (useful_step heap.old)) }
 {
     let step = heap.next_useful_step();
     heap.collect(&Sequential, step)
@@ -60,7 +61,7 @@ fn useful_steps(heap: &mut CollectedHeap, most: u32) -> Result<Run, NoMemory>
     ensures within { IfOk result (λ run. run.steps ≤ most) }
     ensures ended { IfOk result (λ run. run.steps < most → IsEnd heap.new run.reply) }
     ensures refused { OnErr result (heap.new ≡ heap.old) }
-    ensures allocates { OnErr result (Allocates (useful_step heap.old)) }
+    ensures allocates { OnErr result (Allocates heap.old (useful_step heap.old)) }
 {
     let mut reply = one_step(heap)?;
     for steps in 1..most {
@@ -100,7 +101,7 @@ fn work_on(heap: &mut CollectedHeap, most: u32) -> Result<GcflipWork, NoMemory>
     requires { 1 ≤ most }
     ensures work { IfOk result (IsWork most heap.old heap.new) }
     ensures refused { OnErr result (heap.new ≡ heap.old) }
-    ensures allocates { OnErr result (Allocates (useful_step heap.old)) }
+    ensures allocates { OnErr result (Allocates heap.old (useful_step heap.old)) }
 {
     let start = end_of_new(heap);
     let Run { steps, reply } = useful_steps(heap, most)?;

@@ -1,10 +1,13 @@
 use Rattle.std.proofs.Common.{◌-◌, length, refl, rules}
-use Rattle.gc_shared.proofs.PossibleReceipts.{last_is_possible}
+use Rattle.gc_shared.proofs.PossibleReceipts.{last_is_possible, possible_along}
 use Rattle.gc_shared.proofs.shared.Shared.call.Goals as goal
 
 pub returns-clause-answered : goal.returns-clause-answered
 returns-clause-answered g c = record {
   place = length c.history.result.now - 1;
   added = rw (c.push_reserved.ensures.items, c.in_ok-reserve.ensures.items, c.command-entry.ensures, ← c.seat.view_is) refl;
-  possible = rw (← c.seat.view_is) (last_is_possible _ _ c.deref_mut.result.now.entries _ _ c.history.result.now c.in_ok-reply.ensures.answered refl (search rules) (search rules));
+  possible = possible_along c.mutate.new.self.size c.mutate.new.self.mutators _ _ _
+      (search rules)
+      (search rules)
+      (rw (← c.seat.view_is) (last_is_possible _ _ c.deref_mut.result.now.entries _ _ c.history.result.now c.in_ok-reply.ensures.answered refl (search rules) (search rules)));
 }
