@@ -1,5 +1,6 @@
 pub mod FaultTexts
 pub mod Headline
+pub mod Infer
 pub mod Internal
 pub mod Rows
 pub mod Tables
