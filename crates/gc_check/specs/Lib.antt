@@ -1,5 +1,6 @@
 pub mod FaultTexts
 pub mod Headline
+pub mod Infer
 pub mod Internal
 pub mod Profile
 pub mod Rows

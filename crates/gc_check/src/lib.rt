@@ -3,7 +3,9 @@
 
 mod checker;
 mod checks;
+mod inference;
 mod laws;
+mod meet;
 mod object;
 mod partners;
 mod starts;
@@ -15,6 +17,7 @@ mod verdict_text;
 pub use checker::{check, check_sizes, check_wide};
 pub use checks::{Checks, Sequential};
 pub use gc_words::Refusal;
+pub use inference::{Comparison, compare, infer};
 pub use laws::{certified_is_replicated, small_images_mean_the_same, worked_rows};
 pub use tables::Tables;
 pub use text::{check_text, check_text_by};

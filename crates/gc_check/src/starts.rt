@@ -23,8 +23,8 @@ impl<'a> Model for Starts<'a> {
 }
 
 impl<'a> Starts<'a> {
-    ghost use Rattle.std.specs.Prelude.{◌≡◌, ◌<◌, None, MatchResult, IsTrue, length};
-    ghost use Rattle.gc_words.specs.Image.{is_start};
+    ghost use Rattle.std.specs.Prelude.{◌≡◌, ◌<◌, None, MatchResult, IsOk, IsTrue, length};
+    ghost use Rattle.gc_words.specs.Image.{is_start, walk_words};
     ghost use Rattle.gc_words.specs.Fault.{shape_fault};
     ghost use Rattle.gc_words.specs.Views.{image_of};
     ghost use Rattle.gc_check.specs.Internal.Starts.{IsStartsFault};
@@ -53,6 +53,21 @@ impl<'a> Starts<'a> {
         ensures { result ≡ length self.now.words }
     {
         self.image.words.len()
+    }
+
+    /// Returns the words of the image.
+    pub(crate) fn words(&self) -> &[u64]
+        ensures value { result.now ≡ self.now.words }
+        ensures walked { IsOk (walk_words self.now.words) }
+    {
+        self.image.words
+    }
+
+    /// Returns the roots of the image.
+    pub(crate) fn roots(&self) -> &[u64]
+        ensures { result.now ≡ self.now.roots }
+    {
+        self.image.roots
     }
 
     /// Returns whether an object starts at this place.

@@ -3,9 +3,11 @@
 
 mod answer;
 mod check;
+mod inference;
 mod text;
 mod verdict;
 
 pub use check::gcflip_check;
+pub use inference::gcflip_infer;
 pub use text::gcflip_check_text;
 pub use verdict::GcflipVerdict;

@@ -1,0 +1,189 @@
+-- Two words meet, and perhaps they are one more pair.
+use Rattle.std.proofs.Common.{◌≡◌, ℕ, zero, suc, ◌<◌, ◌≤◌, Bool, true, false, cond, not, ◌&&◌, ◌||◌, ◌==◌, List, [], ◌∷◌, ◌++◌, length, replicate, get_or, set, refl, sym, ◌∙◌, ap, subst, arith, length-set}
+use Rattle.std.specs.Prelude.{slice_index, IsOk}
+use Rattle.std.specs.List.{list_any}
+use Rattle.std.proofs.lemmas.Bool.{eqb-true, eq-eqb, ne_eqb, and_parts}
+use Rattle.gc_graph.specs.Correspond.{paired}
+use Rattle.gc_words.specs.Image.{Image, walk_words, is_start}
+use Rattle.gc_words.specs.Views.{addresses}
+use Rattle.gc_words.specs.declared.image.Pair.{Pair}
+use Rattle.gc_check.specs.declared.meet.Found.{Found}
+use Rattle.gc_check.specs.Internal.Tables.{HoldsPartners}
+use Rattle.gc_check.specs.Internal.Meetings.{is_free, swapped, taken_in, HoldsFound}
+use Rattle.std.proofs.lemmas.List.{get_or-map, length-replicate, length-append}
+use Rattle.gc_check.specs.Tables.{pair_at}
+use Rattle.gc_check.specs.Verdict.{pairs_of}
+use Rattle.gc_check.proofs.StartMarks.{low_start, start_within}
+use Rattle.gc_check.proofs.PartnerRow.{holds_one}
+
+-- ---- swapped pairs
+
+pub any_swapped : (pairs : List (ℕ × ℕ)) (b : ℕ) → list_any (λ q. q.0 == b) (swapped pairs) ≡ list_any (λ q. q.1 == b) pairs
+any_swapped [] b = refl
+any_swapped (p ∷ pairs) b = ap (λ t. (p.1 == b) || t) (any_swapped pairs b)
+
+and_turned : (a b : Bool) → (a && b) ≡ (b && a)
+and_turned true true = refl
+and_turned true false = refl
+and_turned false true = refl
+and_turned false false = refl
+
+pub paired_swapped : (pairs : List (ℕ × ℕ)) (a b : ℕ) → paired (swapped pairs) b a ≡ paired pairs a b
+paired_swapped [] a b = refl
+paired_swapped (p ∷ pairs) a b = λ i. and_turned (p.1 == b) (p.0 == a) i || paired_swapped pairs a b i
+
+pub swapped_push : (pairs : List (ℕ × ℕ)) (p : ℕ × ℕ) → swapped (pairs ++ p ∷ []) ≡ swapped pairs ++ (p.1, p.0) ∷ []
+swapped_push [] p = refl
+swapped_push (q ∷ pairs) p = ap (λ rest. (q.1, q.0) ∷ rest) (swapped_push pairs p)
+
+pub pairs_push : (cert : List Pair) (x : Pair) → pairs_of (cert ++ x ∷ []) ≡ pairs_of cert ++ addresses x ∷ []
+pairs_push [] x = refl
+pairs_push (y ∷ cert) x = ap (λ rest. addresses y ∷ rest) (pairs_push cert x)
+
+-- ---- free addresses
+
+not_not : (b : Bool) → not (not b) ≡ b
+not_not true = refl
+not_not false = refl
+
+turned : (b c : Bool) → not b ≡ c → b ≡ not c
+turned true c e = ap not e
+turned false c e = ap not e
+
+pub old_entry : (old new : Image) (f : Found) (a : ℕ) → HoldsFound old new f → (slice_index f.partners.items a == 0) ≡ not (list_any (λ q. q.0 == a) (pairs_of f.pairs.items))
+old_entry old new f a held = turned _ _ (held.partners.taken a)
+
+pub new_entry : (old new : Image) (f : Found) (b : ℕ) → HoldsFound old new f → (slice_index f.originals.items b == 0) ≡ not (list_any (λ q. q.1 == b) (pairs_of f.pairs.items))
+new_entry old new f b held = turned _ _ (held.originals.taken b ∙ any_swapped (pairs_of f.pairs.items) b)
+
+pub record Free (old new : Image) (pairs : List (ℕ × ℕ)) (a b : ℕ) : Type 0 where
+  pub old_start : is_start old.words a ≡ true
+  pub new_start : is_start new.words b ≡ true
+  pub old_free : not (list_any (λ q. q.0 == a) pairs) ≡ true
+  pub new_free : not (list_any (λ q. q.1 == b) pairs) ≡ true
+
+pub free_parts : (old new : Image) (pairs : List (ℕ × ℕ)) (a b : ℕ) → is_free old new pairs a b ≡ true → Free old new pairs a b
+free_parts old new pairs a b e =
+    let s3 : ((is_start old.words a && is_start new.words b && not (list_any (λ q. q.0 == a) pairs)) ≡ true) × (not (list_any (λ q. q.1 == b) pairs) ≡ true) = and_parts _ _ e in
+    let s2 : ((is_start old.words a && is_start new.words b) ≡ true) × (not (list_any (λ q. q.0 == a) pairs) ≡ true) = and_parts _ _ s3.0 in
+    let s1 : (is_start old.words a ≡ true) × (is_start new.words b ≡ true) = and_parts _ _ s2.0 in
+    record { old_start = s1.0; new_start = s1.1; old_free = s2.1; new_free = s3.1 }
+
+false_and : (a b c d : Bool) → a ≡ false → (a && b && c && d) ≡ false
+false_and a b c d e = ap (λ a. a && b && c && d) e
+
+and_false : (a b c d : Bool) → a ≡ true → b ≡ false → (a && b && c && d) ≡ false
+and_false a b c d e f = (λ i. e i && f i && c && d)
+
+and_and_false : (a b c d : Bool) → a ≡ true → b ≡ true → c ≡ false → (a && b && c && d) ≡ false
+and_and_false a b c d e f g = (λ i. e i && f i && g i && d)
+
+and_and_and : (a b c d : Bool) → a ≡ true → b ≡ true → c ≡ true → (a && b && c && d) ≡ d
+and_and_and a b c d e f g = (λ i. e i && f i && g i && d)
+
+pub no_old_start : (old new : Image) (pairs : List (ℕ × ℕ)) (a b : ℕ) → is_start old.words a ≡ false → false ≡ is_free old new pairs a b
+no_old_start old new pairs a b e = sym (false_and _ _ _ _ e)
+
+pub no_new_start : (old new : Image) (pairs : List (ℕ × ℕ)) (a b : ℕ) → is_start old.words a ≡ true → is_start new.words b ≡ false → false ≡ is_free old new pairs a b
+no_new_start old new pairs a b e f = sym (and_false _ _ _ _ e f)
+
+pub has_partner : (old new : Image) (f : Found) (a b : ℕ) → HoldsFound old new f → is_start old.words a ≡ true → is_start new.words b ≡ true → (slice_index f.partners.items a == 0) ≡ false
+    → false ≡ is_free old new (pairs_of f.pairs.items) a b
+has_partner old new f a b held s t e = sym (and_and_false _ _ _ _ s t (sym (old_entry old new f a held) ∙ e))
+
+pub has_original : (old new : Image) (f : Found) (a b : ℕ) → HoldsFound old new f → is_start old.words a ≡ true → is_start new.words b ≡ true → (slice_index f.partners.items a == 0) ≡ true
+    → (slice_index f.originals.items b == 0) ≡ is_free old new (pairs_of f.pairs.items) a b
+has_original old new f a b held s t e = new_entry old new f b held ∙ sym (and_and_and _ _ _ _ s t (sym (old_entry old new f a held) ∙ e))
+
+-- ---- the number of pairs
+
+pub taken_few : (row : List ℕ) → taken_in row ≤ length row
+taken_few [] = omega arith
+taken_few (entry ∷ row) = from (entry == 0) (taken_few row)
+  where
+    from : (b : Bool) → taken_in row ≤ length row → cond b (taken_in row) (suc (taken_in row)) ≤ suc (length row)
+    from true h = omega arith
+    from false h = omega arith
+
+taken_one : (row : List ℕ) (k x : ℕ) → k < length row → slice_index row k ≡ 0 → 1 ≤ x → taken_in (set row k x) ≡ suc (taken_in row)
+taken_one [] k x inside free some = absurd (omega arith)
+taken_one (entry ∷ row) zero x inside free some =
+    ap (λ b. cond b (taken_in row) (suc (taken_in row))) (ne_eqb x 0 (λ e. omega arith))
+    ∙ ap suc (sym (ap (λ b. cond b (taken_in row) (suc (taken_in row))) (eq-eqb entry 0 free)))
+taken_one (entry ∷ row) (suc k) x inside free some = from (entry == 0) (taken_one row k x (omega arith) free some)
+  where
+    from : (b : Bool) → taken_in (set row k x) ≡ suc (taken_in row) → cond b (taken_in (set row k x)) (suc (taken_in (set row k x))) ≡ suc (cond b (taken_in row) (suc (taken_in row)))
+    from true e = e
+    from false e = ap suc e
+
+taken_none : (n : ℕ) → taken_in (replicate n 0) ≡ 0
+taken_none zero = refl
+taken_none (suc n) = taken_none n
+
+-- ---- one more pair
+
+pub held_one : (old new : Image) (f g : Found) (x : Pair) → HoldsFound old new f → is_free old new (pairs_of f.pairs.items) x.old.0 x.new.0 ≡ true
+    → g.partners.items ≡ set f.partners.items x.old.0 x.new.0 → g.originals.items ≡ set f.originals.items x.new.0 x.old.0 → g.pairs.items ≡ f.pairs.items ++ x ∷ []
+    → HoldsFound old new g
+held_one old new f g x held free e1 e2 e3 =
+    let pairs : List (ℕ × ℕ) = pairs_of f.pairs.items in
+    let parts : Free old new pairs x.old.0 x.new.0 = free_parts old new pairs x.old.0 x.new.0 free in
+    let old_low : 1 ≤ x.old.0 = low_start old.words x.old.0 held.old_walked parts.old_start in
+    let new_low : 1 ≤ x.new.0 = low_start new.words x.new.0 held.new_walked parts.new_start in
+    let old_within : x.old.0 < length old.words = start_within old.words x.old.0 held.old_walked parts.old_start in
+    let new_within : x.new.0 < length new.words = start_within new.words x.new.0 held.new_walked parts.new_start in
+    let now : pairs_of g.pairs.items ≡ pairs ++ (x.old.0, x.new.0) ∷ [] = ap pairs_of e3 ∙ pairs_push f.pairs.items x in
+    record {
+      old_walked = held.old_walked;
+      new_walked = held.new_walked;
+      old_len = ap length e1 ∙ length-set f.partners.items x.old.0 x.new.0 ∙ held.old_len;
+      new_len = ap length e2 ∙ length-set f.originals.items x.new.0 x.old.0 ∙ held.new_len;
+      partners = subst (λ row. HoldsPartners row (pairs_of g.pairs.items)) (sym e1) (subst (HoldsPartners (set f.partners.items x.old.0 x.new.0)) (sym now)
+          (holds_one f.partners.items pairs (x.old.0, x.new.0) (omega (arith, held.old_len)) new_low
+          (eqb-true _ _ (old_entry old new f x.old.0 held ∙ parts.old_free)) held.partners));
+      originals = subst (λ row. HoldsPartners row (swapped (pairs_of g.pairs.items))) (sym e2) (subst (HoldsPartners (set f.originals.items x.new.0 x.old.0)) (sym (ap swapped now ∙ swapped_push pairs (x.old.0, x.new.0)))
+          (holds_one f.originals.items (swapped pairs) (x.new.0, x.old.0) (omega (arith, held.new_len)) old_low
+          (eqb-true _ _ (new_entry old new f x.new.0 held ∙ parts.new_free)) held.originals));
+      count = ap length e3 ∙ one_more f.pairs.items held.count
+          ∙ sym (ap taken_in e1 ∙ taken_one f.partners.items x.old.0 x.new.0 (omega (arith, held.old_len)) (eqb-true _ _ (old_entry old new f x.old.0 held ∙ parts.old_free)) new_low);
+    }
+  where
+    one_more : (cert : List Pair) → length cert ≡ taken_in f.partners.items → length (cert ++ x ∷ []) ≡ suc (taken_in f.partners.items)
+    one_more cert e = omega (arith, length-append cert (x ∷ []), e)
+
+-- ---- no pairs
+
+nothing_at : (n a : ℕ) → slice_index (replicate n 0) a ≡ 0
+nothing_at zero a = refl
+nothing_at (suc n) zero = refl
+nothing_at (suc n) (suc a) = nothing_at n a
+
+holds_none : (row : List ℕ) (n : ℕ) → row ≡ replicate n 0 → HoldsPartners row []
+holds_none row n e = record {
+  pair = λ a b low. ap (λ m. m == b) (empty a) ∙ ne_eqb 0 b (λ e. omega arith);
+  taken = λ a. ap (λ m. not (m == 0)) (empty a);
+}
+  where
+    empty : (a : ℕ) → slice_index row a ≡ 0
+    empty a = ap (λ row. slice_index row a) e ∙ nothing_at n a
+
+pub held_none : (old new : Image) (f : Found) → IsOk (walk_words old.words) → IsOk (walk_words new.words) → f.partners.items ≡ replicate (length old.words) 0 → f.originals.items ≡ replicate (length new.words) 0 → f.pairs.items ≡ []
+    → HoldsFound old new f
+held_none old new f ok ok' e1 e2 e3 = record {
+  old_walked = ok;
+  new_walked = ok';
+  old_len = ap length e1 ∙ length-replicate (length old.words) 0;
+  new_len = ap length e2 ∙ length-replicate (length new.words) 0;
+  partners = subst (λ cert. HoldsPartners f.partners.items (pairs_of cert)) (sym e3) (holds_none f.partners.items (length old.words) e1);
+  originals = subst (λ cert. HoldsPartners f.originals.items (swapped (pairs_of cert))) (sym e3) (holds_none f.originals.items (length new.words) e2);
+  count = ap length e3 ∙ sym (ap taken_in e1 ∙ taken_none (length old.words));
+}
+
+-- no more pairs are found than the old image has words
+pub few_found : (old new : Image) (f : Found) → HoldsFound old new f → length f.pairs.items ≤ length old.words
+few_found old new f held = let most : taken_in f.partners.items ≤ length f.partners.items = taken_few f.partners.items in omega (arith, held.count, held.old_len, most)
+
+-- ---- pairs by their places
+
+pub pair_is : (cert : List Pair) (k : ℕ) (x : Pair) → k < length cert → x ≡ get_or cert k x → pair_at (pairs_of cert) k ≡ addresses x
+pair_is cert k x inside e = get_or-map addresses cert k x (0, 0) inside ∙ ap addresses (sym e)

@@ -1,0 +1,11 @@
+use Rattle.std.proofs.Common.{◌≡◌, drop}
+use Rattle.gc_check.specs.Internal.Meetings.{met_all, HoldsFound}
+use Rattle.gc_check.specs.Verdict.{pairs_of}
+use Rattle.gc_check.proofs.meet.meet_all.Given as goal
+
+-- the rest of the words are still to meet
+abbrev pub invariant-loop-i : goal.invariant-loop-i
+invariant-loop-i l = record {
+  held : HoldsFound l.old l.new l.found;
+  same : met_all l.old l.new (pairs_of l.initial.found.pairs.items) l.originals l.replicas ≡ met_all l.old l.new (pairs_of l.found.pairs.items) (drop l.i l.originals) (drop l.i l.replicas);
+}

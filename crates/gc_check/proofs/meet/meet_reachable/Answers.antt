@@ -1,0 +1,43 @@
+use Rattle.std.proofs.Common.{rules, ◌≡◌, ◌<◌, length, IsTrue, sym, ◌∙◌, ap, subst, ℕ, ◌+◌, ◌≤◌, arith}
+use Rattle.std.proofs.lemmas.List.{length-map}
+use Rattle.gc_words.specs.Image.{is_start}
+use Rattle.gc_words.specs.Views.{addresses}
+use Rattle.gc_check.specs.Tables.{pair_at}
+use Rattle.gc_check.specs.Internal.Meetings.{met_objects, MetTo}
+use Rattle.gc_check.specs.Verdict.{pairs_of}
+use Rattle.gc_check.proofs.Meetings.{pair_is, few_found}
+use Rattle.gc_check.proofs.Forced.{objects_met, all_done}
+use Rattle.gc_check.proofs.meet.meet_reachable.Goals as goal
+
+pub meet_objects-requires-clause-old_start : goal.meet_objects-requires-clause-old_start
+meet_objects-requires-clause-old_start c =
+    let inside : c.loop-done.done < length c.loop-done.found.pairs.items = search rules in
+    let is : pair_at (pairs_of c.loop-done.found.pairs.items) c.loop-done.done ≡ addresses c.index-pair.result.now = pair_is c.loop-done.found.pairs.items c.loop-done.done c.index-pair.result.now inside c.index-pair.ensures in
+    let within : c.loop-done.done < length (pairs_of c.loop-done.found.pairs.items) = omega (arith, inside, length-map c.loop-done.found.pairs.items addresses) in
+    subst (λ (p : ℕ × ℕ). IsTrue (is_start c.args.old.now.words p.0)) is (c.loop-done.invariant.met.starts c.loop-done.done (0, 0) within).0
+
+pub meet_objects-requires-clause-new_start : goal.meet_objects-requires-clause-new_start
+meet_objects-requires-clause-new_start c =
+    let inside : c.loop-done.done < length c.loop-done.found.pairs.items = search rules in
+    let is : pair_at (pairs_of c.loop-done.found.pairs.items) c.loop-done.done ≡ addresses c.index-pair.result.now = pair_is c.loop-done.found.pairs.items c.loop-done.done c.index-pair.result.now inside c.index-pair.ensures in
+    let within : c.loop-done.done < length (pairs_of c.loop-done.found.pairs.items) = omega (arith, inside, length-map c.loop-done.found.pairs.items addresses) in
+    subst (λ (p : ℕ × ℕ). IsTrue (is_start c.args.new.now.words p.1)) is (c.loop-done.invariant.met.starts c.loop-done.done (0, 0) within).1
+
+pub loop-done-preserved : goal.loop-done-preserved
+loop-done-preserved c =
+    let inside : c.loop-done.done < length c.loop-done.found.pairs.items = search rules in
+    let is : pair_at (pairs_of c.loop-done.found.pairs.items) c.loop-done.done ≡ addresses c.index-pair.result.now = pair_is c.loop-done.found.pairs.items c.loop-done.done c.index-pair.result.now inside c.index-pair.ensures in
+    let within : c.loop-done.done < length (pairs_of c.loop-done.found.pairs.items) = omega (arith, inside, length-map c.loop-done.found.pairs.items addresses) in
+    let now : pairs_of c.meet_objects.new.found.pairs.items ≡ met_objects c.args.old.now c.args.new.now (pairs_of c.loop-done.found.pairs.items) (addresses c.index-pair.result.now) = c.in_ok-meet_objects.ensures.pairs in
+    record {
+      held = c.in_ok-meet_objects.ensures.held;
+      met = subst (λ pairs. MetTo c.args.old.now c.args.new.now pairs (c.loop-done.done + 1)) (sym (now ∙ ap (met_objects c.args.old.now c.args.new.now (pairs_of c.loop-done.found.pairs.items)) (sym is)))
+          (objects_met c.args.old.now c.args.new.now (pairs_of c.loop-done.found.pairs.items) c.loop-done.done within c.loop-done.invariant.met);
+    }
+
+pub returns-clause-met : goal.returns-clause-met
+returns-clause-met c =
+    let pairs = c.loop-done.found.pairs.items in
+    let few : length pairs ≤ length c.args.old.now.words = few_found c.args.old.now c.args.new.now c.loop-done.found c.loop-done.invariant.held in
+    let past : length c.args.old.now.words ≤ c.loop-done.done = search rules in
+    all_done c.args.old.now c.args.new.now (pairs_of pairs) c.loop-done.done (length pairs) (omega (arith, few, past, length-map pairs addresses)) c.loop-done.invariant.met

@@ -1,0 +1,90 @@
+ghost use Rattle.std.specs.Prelude.{◌≡◌, ◌<◌, ◌≤◌, take};
+ghost use Rattle.gc_words.specs.Certificate.{Certified};
+ghost use Rattle.gc_check.specs.Headline.{Replicated};
+ghost use Rattle.gc_check.specs.Infer.{AreForced, Certifiable};
+ghost use Rattle.gc_check.specs.Verdict.{pairs_of, verdict_of};
+ghost use Rattle.gcflip_c.specs.Images.{image};
+ghost use Rattle.gcflip_c.specs.Verdicts.{IsReported};
+
+use crate::answer::{NO_MEMORY, REFUSED, TOO_MANY, YES};
+use crate::verdict::GcflipVerdict;
+use gc_check::{Verdict, compare};
+use gc_words::{ImageRef, Pair};
+use std::alloc::Global;
+
+/// Infers a certificate from two heap images, and checks it. Returns 0 (the pairs hold), 1 (no certificate holds), 2 (an allocation
+/// failed) or 3 (there is no room for the pairs). With 0 and 1 it writes the pairs and their number, and the verdict on them; with 2 and 3
+/// it writes nothing.
+#[unsafe(no_mangle)]
+pub extern "C" fn gcflip_infer(
+    alloc: Global,
+    old_size: u32,
+    old_end: u32,
+    old_raws: bool,
+    old_words: &[u64],
+    old_roots: &[u64],
+    new_size: u32,
+    new_end: u32,
+    new_raws: bool,
+    new_words: &[u64],
+    new_roots: &[u64],
+    pairs: &mut [Pair],
+    count: &mut usize,
+    verdict: &mut GcflipVerdict,
+) -> u32
+    ensures answers { result ≤ 3 }
+    ensures silent { 2 ≤ result → (pairs.new ≡ pairs.old) × (count.new ≡ count.old) × (verdict.new ≡ verdict.old) }
+    // The verdict is that of gcflip_check on the pairs that are written.
+    ensures verdict { result < 2 → IsReported (verdict_of
+        (image old_size old_end old_raws old_words.now old_roots.now)
+        (image new_size new_end new_raws new_words.now new_roots.now) (pairs_of (take count.new pairs.new)))
+        result verdict.new }
+    // Every certificate that holds has these pairs.
+    ensures forced { result < 2 → AreForced
+        (image old_size old_end old_raws old_words.now old_roots.now)
+        (image new_size new_end new_raws new_words.now new_roots.now) (pairs_of (take count.new pairs.new)) }
+    ensures yes { result ≡ 0 → Certified
+        (image old_size old_end old_raws old_words.now old_roots.now)
+        (image new_size new_end new_raws new_words.now new_roots.now) (pairs_of (take count.new pairs.new)) }
+    ensures replicated { result ≡ 0 → Replicated
+        (image old_size old_end old_raws old_words.now old_roots.now)
+        (image new_size new_end new_raws new_words.now new_roots.now) (pairs_of (take count.new pairs.new)) }
+    // No certificate holds.
+    ensures refused { result ≡ 1 → Certifiable
+        (image old_size old_end old_raws old_words.now old_roots.now)
+        (image new_size new_end new_raws new_words.now new_roots.now) → ⊥ }
+{
+    let old = ImageRef {
+        size: old_size,
+        end: old_end,
+        words: old_words,
+        roots: old_roots,
+        raws: old_raws,
+    };
+    let new = ImageRef {
+        size: new_size,
+        end: new_end,
+        words: new_words,
+        roots: new_roots,
+        raws: new_raws,
+    };
+    let Ok(comparison) = compare(alloc, old, new) else {
+        return NO_MEMORY;
+    };
+    let found = comparison.pairs.len();
+    if found > pairs.len() {
+        return TOO_MANY;
+    }
+    pairs[..found].copy_from_slice(comparison.pairs.as_slice());
+    *count = found;
+    match comparison.verdict {
+        Verdict::Yes { pairs: number } => {
+            *verdict = GcflipVerdict::of_yes(number);
+            YES
+        }
+        Verdict::Refused(refusal) => {
+            *verdict = GcflipVerdict::of_refusal(refusal);
+            REFUSED
+        }
+    }
+}
