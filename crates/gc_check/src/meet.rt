@@ -8,7 +8,7 @@ ghost use Rattle.gc_check.specs.Verdict.{pairs_of};
 use crate::object::{fields_at, header_word_at};
 use crate::starts::Starts;
 use gc_graph::NoMemory;
-use gc_words::{Addr, Header, NewAddr, OldAddr, Pair, Value, decode};
+use gc_words::{Addr, Header, NewAddr, OldAddr, Pair, Value, decode_wide};
 use std::alloc::Global;
 
 /// The pairs that a walk has found, in the order in which it found them.
@@ -127,10 +127,10 @@ fn meet(
     ensures pairs { OnOk result (pairs_of found.new.pairs.items
         ≡ met old.now new.now (pairs_of found.old.pairs.items) original replica) }
 {
-    let Some(Value::Ref(from)) = decode(original) else {
+    let Some(Value::Ref(from)) = decode_wide(original) else {
         return Ok(());
     };
-    let Some(Value::Ref(to)) = decode(replica) else {
+    let Some(Value::Ref(to)) = decode_wide(replica) else {
         return Ok(());
     };
     meet_refs(old, new, found, from, to)
