@@ -75,7 +75,7 @@ enum gcflip_answer {
 
 /* Checks the certificate `pairs` against two images.
  *
- * In a space of `size` words, 1 to 1048576, objects lie back to back from word 1 up to word `end`. `words` are
+ * In a space of `size` words, at least 1, objects lie back to back from word 1 up to word `end`. `words` are
  * its words 0 to end - 1. An object is a header word, a link word that the checker ignores, and its field words.
  * If `raws` is true, header words of raw objects are valid; the fields of these are plain numbers.
  * docs/FORMATS.md describes the words. */

@@ -81,7 +81,7 @@ enum gcflip_heap_answer {
 
 /* ---- Opening and closing */
 
-/* Opens an empty heap of `size` words, 1 to 1048576, for 1 to 16 mutators. All slots hold nil. */
+/* Opens an empty heap of `size` words, at least 1, for 1 to 16 mutators. All slots hold nil. */
 uint32_t gcflip_heap_open(gcflip_heap *heap, uint32_t size, uint8_t mutators);
 
 /* Frees the heap. The handle then has none. */
@@ -142,7 +142,7 @@ uint32_t gcflip_heap_look(gcflip_heap *heap, uint8_t m, uint8_t s, gcflip_view *
 
 /* ---- Collector steps */
 
-/* Opens a collection whose new space is as large as the heap, or has `size` words, 1 to 1048576: GCFLIP_BEGUN, or
+/* Opens a collection whose new space is as large as the heap, or has `size` words, at least 1: GCFLIP_BEGUN, or
  * GCFLIP_BUSY if one is open. */
 uint32_t gcflip_heap_begin(gcflip_heap *heap);
 uint32_t gcflip_heap_begin_sized(gcflip_heap *heap, uint32_t size);

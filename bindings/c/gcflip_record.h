@@ -9,6 +9,9 @@
  * gcflip_heap_work performs the same useful steps one by one, and each has its line. `look` and `same` have lines. Closing, and calls
  * that read counts, logs or images, have none. The program has to check the stream for errors (ferror). `gcflip` refuses a
  * trace of more than 16777216 bytes.
+ *
+ * No line of a trace has a size above 1048576 words. A recording that meets one ends there: it writes a line to stderr, and sets
+ * gcflip_trace_ended. The heap goes on, and the trace plays up to that call. If that call is gcflip_heap_open, there is no trace.
  */
 #ifndef GCFLIP_RECORD_H
 #define GCFLIP_RECORD_H
@@ -22,10 +25,31 @@ extern "C" {
 
 extern FILE *gcflip_trace;
 
+/* 1 if the recording ended before the run, else 0. It is weak, so that all files that include this header share it. */
+extern int gcflip_trace_ended;
+__attribute__((weak)) int gcflip_trace_ended = 0;
+
+enum { GCFLIP_MOST_TRACED_WORDS = 1048576 };
+
+static inline int gcflip_is_recording(void)
+{
+    return gcflip_trace != NULL && !gcflip_trace_ended;
+}
+
 /* Returns whether the call has a line. */
 static inline int gcflip_recorded(uint32_t answer)
 {
-    return !GCFLIP_IS_REFUSED(answer) && gcflip_trace != NULL;
+    return !GCFLIP_IS_REFUSED(answer) && gcflip_is_recording();
+}
+
+/* Returns whether a line can have this size. If not, ends the recording. */
+static inline int gcflip_trace_takes(uint32_t size)
+{
+    if (size <= GCFLIP_MOST_TRACED_WORDS)
+        return 1;
+    gcflip_trace_ended = 1;
+    fprintf(stderr, "gcflip_record.h: the recording ends here: a trace has no size of %lu words\n", (unsigned long)size);
+    return 0;
 }
 
 static inline void gcflip_trace_slot(uint8_t slot)
@@ -51,7 +75,10 @@ static inline void gcflip_trace_end(void)
 static inline uint32_t gcflip_record_open(gcflip_heap *heap, uint32_t size, uint8_t mutators)
 {
     uint32_t answer = gcflip_heap_open(heap, size, mutators);
-    if (gcflip_recorded(answer))
+    if (GCFLIP_IS_REFUSED(answer) || gcflip_trace == NULL)
+        return answer;
+    gcflip_trace_ended = 0;
+    if (gcflip_trace_takes(size))
         fprintf(gcflip_trace, "heaptrace 3\nspace %u mutators %u\n", size, mutators);
     return answer;
 }
@@ -254,7 +281,7 @@ static inline uint32_t gcflip_record_drop(gcflip_heap *heap)
 static inline uint32_t gcflip_record_begin_sized(gcflip_heap *heap, uint32_t size)
 {
     uint32_t answer = gcflip_heap_begin_sized(heap, size);
-    if (gcflip_recorded(answer))
+    if (gcflip_recorded(answer) && gcflip_trace_takes(size))
         fprintf(gcflip_trace, "c begin %u\n", size);
     return answer;
 }
@@ -276,13 +303,13 @@ static inline uint32_t gcflip_record_useful(gcflip_heap *heap, const gcflip_coun
         return gcflip_record_begin(heap);
     answer = gcflip_heap_roots(heap);
     if (answer != GCFLIP_CLEAN) {
-        if (gcflip_trace)
+        if (gcflip_is_recording())
             fprintf(gcflip_trace, "c roots\n");
         return answer;
     }
     answer = gcflip_heap_scan(heap);
     if (answer != GCFLIP_CLEAN) {
-        if (gcflip_trace)
+        if (gcflip_is_recording())
             fprintf(gcflip_trace, "c scan\n");
         return answer;
     }

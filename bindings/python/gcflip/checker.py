@@ -28,7 +28,7 @@ class Image:
     roots: Row
     """The root words."""
     size: int | None = None
-    """The words of the space, 1 to 1048576; by default the length of `words`."""
+    """The words of the space, 1 to 4294967295; by default the length of `words`."""
     raws: bool = True
     """Whether header words of raw objects are valid."""
 

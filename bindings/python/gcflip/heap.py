@@ -139,7 +139,7 @@ class Heap:
     """
 
     def __init__(self, size: int, mutators: int = 1) -> None:
-        """Opens an empty heap of `size` words, 1 to 1048576, for 1 to 16 mutators. All slots hold nil. Raises OutOfMemory."""
+        """Opens an empty heap of `size` words, 1 to 4294967295, for 1 to 16 mutators. All slots hold nil. Raises OutOfMemory."""
         self._lock = threading.Lock()
         self._handle = library.Handle()
         self._call("open", size, mutators)

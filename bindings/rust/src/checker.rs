@@ -6,7 +6,7 @@ use std::fmt;
 /// A heap image: the words of a space and its root words, as `docs/FORMATS.md` describes them.
 #[derive(Clone, Copy, Debug, PartialEq, Eq)]
 pub struct Image<'a> {
-    /// The words of the space, 1 to 1048576.
+    /// The words of the space, at least 1.
     pub size: u32,
     /// The words 0 to end - 1, where `end` is the first word that no object takes.
     pub words: &'a [u64],

@@ -222,7 +222,7 @@ impl fmt::Debug for Heap {
 }
 
 impl Heap {
-    /// Opens an empty heap of `size` words, 1 to 1048576, for 1 to 16 mutators. All slots hold nil.
+    /// Opens an empty heap of `size` words, at least 1, for 1 to 16 mutators. All slots hold nil.
     ///
     /// # Errors
     ///
@@ -256,7 +256,7 @@ impl Heap {
         replied(self.handle.begin()).map(drop)
     }
 
-    /// Opens a collection whose new space has `size` words, 1 to 1048576. If it is at least as large as the heap, no step lacks room.
+    /// Opens a collection whose new space has `size` words, at least 1. If it is at least as large as the heap, no step lacks room.
     ///
     /// # Errors
     ///

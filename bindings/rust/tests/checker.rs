@@ -46,8 +46,10 @@ fn wrong_shapes() {
     assert_eq!(check(&image(&OLD[..7], &[2, NIL]), &right, &PAIRS), Err(Refusal::OldShape { address: 5 }));
     assert_eq!(changed(with_word(4, header(3)), &PAIRS), Err(Refusal::NewShape { address: 4 }));
     assert_eq!(check(&image(&[], &[]), &right, &PAIRS), Err(Refusal::OldShape { address: 0 }));
+    let smaller = Image { size: 7, ..image(&OLD, &[2, NIL]) };
+    assert_eq!(check(&smaller, &right, &PAIRS), Err(Refusal::OldShape { address: 0 }));
     let larger = Image { size: 1_048_577, ..image(&OLD, &[2, NIL]) };
-    assert_eq!(check(&larger, &right, &PAIRS), Err(Refusal::OldShape { address: 0 }));
+    assert_eq!(check(&larger, &right, &PAIRS), Ok(Yes { pairs: 2 }));
 }
 
 #[test]

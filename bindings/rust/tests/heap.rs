@@ -19,10 +19,9 @@ fn prepared() -> Heap {
 #[test]
 fn opening() {
     assert_eq!(Heap::open(0, 1).unwrap_err(), Error::OutOfRange);
-    assert_eq!(Heap::open(1_048_577, 1).unwrap_err(), Error::OutOfRange);
     assert_eq!(Heap::open(16, 0).unwrap_err(), Error::OutOfRange);
     assert_eq!(Heap::open(16, 17).unwrap_err(), Error::OutOfRange);
-    assert!(Heap::open(1_048_576, 16).is_ok());
+    assert!(Heap::open(1_048_577, 16).is_ok());
     assert_eq!(prepared().mutator(2).unwrap_err(), Error::OutOfRange);
 }
 
@@ -99,7 +98,6 @@ fn steps() {
 fn sizes() {
     let heap = prepared();
     assert_eq!(heap.begin_sized(0), Err(Error::OutOfRange));
-    assert_eq!(heap.begin_sized(1_048_577), Err(Error::OutOfRange));
     heap.begin_sized(4).unwrap();
     assert_eq!(heap.roots(), Err(Error::NoRoom));
     assert_eq!(heap.work(5).unwrap().last, Step::NoRoom);

@@ -6,7 +6,7 @@ ghost use Rattle.gc_check.specs.Verdict.{pairs_of, verdict_of};
 ghost use Rattle.gcflip_c.specs.Verdicts.{IsReported};
 
 use crate::verdict::GcflipVerdict;
-use gc_check::{CheckFault, check};
+use gc_check::{CheckFault, check_wide};
 use gc_words::{ImageRef, Pair, no_fault_where_certified};
 use std::alloc::Global;
 
@@ -49,7 +49,7 @@ pub(crate) fn answer(
         → Replicated (image_of old.entry) (image_of new.entry) (pairs_of pairs.now) }
 {
     no_fault_where_certified();
-    match check(alloc, old, new, pairs) {
+    match check_wide(alloc, old, new, pairs) {
         Ok(yes) => {
             *verdict = GcflipVerdict::of_yes(yes.pairs);
             YES

@@ -1,6 +1,5 @@
 -- What a call of a collector step returns, and the state after it.
 use Rattle.std.specs.Prelude.{◌≡◌, ◌≢◌, ◌⊎◌, ℕ, ◌<◌, ◌≤◌, ◌↔◌, Option, Some, None, IsSomeAnd}
-use Rattle.gc_graph.specs.Limits.{most_words}
 use Rattle.gc_copy.specs.State.{State}
 use Rattle.gc_copy.specs.Steps.{collect}
 use Rattle.gc_copy.specs.declared.step.Step.{Step}
@@ -13,7 +12,7 @@ use Rattle.gcflip_heap_c.specs.Replies.{IsRefusal, step_reply_in_c}
 
 -- the step's size is out of range, or its log does not exist in this state
 abbrev pub IsNoStep : Step → State → Type 0
-IsNoStep (steps.BeginSized size) s = (size < 1) ⊎ (most_words < size)
+IsNoStep (steps.BeginSized size) s = size < 1
 IsNoStep (steps.Apply m) s = s.mutators ≤ m
 IsNoStep step s = ⊥
 

@@ -1,7 +1,7 @@
 //! The exports that open and close a heap.
 
 ghost use Rattle.std.specs.Prelude.{◌≡◌, ◌<◌, ◌≤◌, ◌⊎◌, ◌↔◌, None, Some, IsSome};
-ghost use Rattle.gc_graph.specs.Limits.{most_words, most_mutators};
+ghost use Rattle.gc_graph.specs.Limits.{most_mutators};
 ghost use Rattle.gc_copy.specs.State.{opening_state};
 ghost use Rattle.gcflip_heap_c.specs.Opening.{CanOpen};
 
@@ -9,10 +9,9 @@ use crate::answer::{CLOSED, DONE, NO_MEMORY, OPEN, OUT_OF_RANGE};
 use crate::handle::GcflipHeap;
 use gc_core::CollectedHeap;
 use gc_graph::MOST_MUTATORS;
-use gc_words::MOST_WORDS;
 use std::alloc::Global;
 
-/// Opens an empty heap of `size` words, 1 to 1048576, for 1 to 16 mutators. Returns 0, or 4 if the handle already has a
+/// Opens an empty heap of `size` words, at least 1, for 1 to 16 mutators. Returns 0, or 4 if the handle already has a
 /// heap, 2 if an argument is out of range, and 1 if an allocation fails. Then nothing has changed.
 #[unsafe(no_mangle)]
 pub extern "C" fn gcflip_heap_open(
@@ -30,7 +29,7 @@ pub extern "C" fn gcflip_heap_open(
     if !heap.is_empty() {
         return OPEN;
     }
-    if size < 1 || size > MOST_WORDS || mutators < 1 || mutators > MOST_MUTATORS {
+    if size < 1 || mutators < 1 || mutators > MOST_MUTATORS {
         return OUT_OF_RANGE;
     }
     let Ok(opened) = CollectedHeap::open(alloc, size, mutators) else {

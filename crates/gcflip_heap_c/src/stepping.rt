@@ -10,7 +10,6 @@ use crate::handle::GcflipHeap;
 use crate::reply::{of_step, pairs_of};
 use gc_check::Sequential;
 use gc_core::Keep;
-use gc_words::MOST_WORDS;
 use std::alloc::Global;
 
 /// Opens a collection whose new space is as large as the heap. Allocates the new space and the logs.
@@ -29,7 +28,7 @@ pub extern "C" fn gcflip_heap_begin(alloc: Global, heap: &mut GcflipHeap) -> u32
     of_step(begun)
 }
 
-/// Opens a collection whose new space has `size` words, 1 to 1048576. Allocates the new space and the logs.
+/// Opens a collection whose new space has `size` words, at least 1. Allocates the new space and the logs.
 #[unsafe(no_mangle)]
 pub extern "C" fn gcflip_heap_begin_sized(alloc: Global, heap: &mut GcflipHeap, size: u32) -> u32
     ensures { IsStepCall (Step.BeginSized size) (λ reply. result ≡ step_reply_in_c reply) heap.old.state heap.new.state result }
@@ -37,7 +36,7 @@ pub extern "C" fn gcflip_heap_begin_sized(alloc: Global, heap: &mut GcflipHeap, 
     let Some(mut opened) = heap.take(alloc) else {
         return CLOSED;
     };
-    if size < 1 || size > MOST_WORDS {
+    if size < 1 {
         *heap = GcflipHeap::full(opened);
         return OUT_OF_RANGE;
     }

@@ -3,7 +3,7 @@
 
 mod rows;
 
-use gc_check::{CheckFault, Refusal, Tables, Verdict, Yes, check, check_text};
+use gc_check::{CheckFault, Refusal, Tables, Verdict, Yes, check, check_text, check_wide};
 use gc_graph::{Sink, Source};
 use gc_words::{ImageRef, NewAddr, OldAddr, Pair};
 use rows::{few_pairs, many_pairs, raw_objects};
@@ -136,5 +136,70 @@ fn tables_of_what_passes_name_no_fault(rt: HostRuntime) -> Result<(), Fail> {
     let tables = Tables::new(alloc, old, new, cert.as_slice())?;
     assert_eq!(rt; tables.pair_fault(0), None);
     assert_eq!(rt; tables.root_fault(), None);
+    Ok(())
+}
+
+/// Images that are wrong in their sizes, or that no text holds, with the answers of `check` and of
+/// `check_wide`. The tables have the same answers.
+#[test]
+fn sizes_that_no_text_holds(rt: HostRuntime) -> Result<(), Fail> {
+    let alloc = rt.alloc();
+    let least = image(1048576, 1, &[0], &[0]);
+    let large = image(1048577, 1, &[0], &[0]);
+    let most = image(4294967295, 1, &[0], &[0]);
+    let wrong = image(8, 2, &[0, 7], &[0]);
+    let old = CheckFault::Refused(Refusal::OldShape { at: 0 });
+    let new = CheckFault::Refused(Refusal::NewShape { at: 0 });
+    let early = CheckFault::Refused(Refusal::OldShape { at: 1 });
+    for (one, other, small, wide) in [
+        (least, least, None, None),
+        (large, least, Some(old), None),
+        (least, large, Some(new), None),
+        (most, most, Some(old), None),
+        (wrong, large, Some(early), Some(early)),
+        (
+            large,
+            wrong,
+            Some(old),
+            Some(CheckFault::Refused(Refusal::NewShape { at: 1 })),
+        ),
+    ] {
+        assert_eq!(rt; check(alloc, one, other, &[]).err(), small);
+        assert_eq!(rt; check_wide(alloc, one, other, &[]).err(), wide);
+        assert_eq!(rt; Tables::new(alloc, one, other, &[]).err(), small);
+        assert_eq!(rt; Tables::new_wide(alloc, one, other, &[]).err(), wide);
+    }
+    Ok(())
+}
+
+/// References to an object behind the words of a text: the words before it are those of raw objects.
+#[test]
+fn references_that_no_text_holds(rt: HostRuntime) -> Result<(), Fail> {
+    let alloc = rt.alloc();
+    let mut words = Vec::new(alloc);
+    words.push(0)?;
+    for _ in 0..17 {
+        words.push(50331648 + 65535)?;
+        for _ in 0..65536 {
+            words.push(0)?;
+        }
+    }
+    let place = 1 + 17 * 65537;
+    words.push(16777216)?;
+    words.push(0)?;
+    let roots = [2 * u64::from(place)];
+    let old = with_raws(2097152, place + 2, words.as_slice(), &roots);
+    let new = image(8, 3, &[0, 16777216, 0], &[2]);
+    let cert = certificate(alloc, &[(place, 1)])?;
+    assert_eq!(rt; cert.len(), 1);
+    assert_eq!(rt; check_wide(alloc, old, new, cert.as_slice()), yes(1));
+    let back = certificate(alloc, &[(1, place)])?;
+    assert_eq!(rt; back.len(), 1);
+    assert_eq!(rt; check_wide(alloc, new, old, back.as_slice()), yes(1));
+    let other = image(8, 3, &[0, 16777216, 0], &[0]);
+    assert_eq!(rt;
+        check_wide(alloc, old, other, cert.as_slice()),
+        refused(Refusal::RootDiffers { slot: 0 })
+    );
     Ok(())
 }

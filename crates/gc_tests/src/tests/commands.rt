@@ -1,10 +1,10 @@
 //! Commands and replies in short, and which steps a world with so many mutators has.
 
 ghost use Rattle.std.specs.Prelude.{◌↔◌, IsTrue};
-ghost use Rattle.gc_copy.specs.Runs.{IsStep};
+ghost use Rattle.gc_copy.specs.Runs.{IsStepWithin};
 
 use gc_copy::Step;
-use gc_graph::{MOST_WORDS, Number, Op, Reply, Slot, View};
+use gc_graph::{Number, Op, Reply, Slot, View};
 use std::process::Abort;
 
 /// Returns slot r0, r1, .. of a mutator.
@@ -38,12 +38,13 @@ pub fn saw(rt: &impl Abort, number: u64) -> Reply {
     Reply::Saw(View::Num(Number::new(number).expect(rt, "a number")))
 }
 
-/// Returns whether the step's argument is in range, as the calls of a heap with this many mutators require.
-pub fn is_possible(mutators: u8, step: Step) -> bool
-    ensures { IsTrue result ↔ IsStep mutators step }
+/// Returns whether the step's argument is in range, as calls require that take sizes of at most `most` words and have
+/// this many mutators.
+pub fn is_possible(most: u32, mutators: u8, step: Step) -> bool
+    ensures { IsTrue result ↔ IsStepWithin most mutators step }
 {
     match step {
-        Step::BeginSized(size) => 1 <= size && size <= MOST_WORDS,
+        Step::BeginSized(size) => 1 <= size && size <= most,
         Step::Apply(m) => m < mutators,
         _ => true,
     }

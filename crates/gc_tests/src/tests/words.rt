@@ -1,5 +1,5 @@
 use gc_graph::Number;
-use gc_words::{Addr, Header, ShapeFault, Space, Value, decode, encode, walk};
+use gc_words::{Addr, Header, ShapeFault, Space, Value, decode, decode_wide, encode, walk};
 use std::test::Fail;
 
 fn num(n: u64) -> Option<Value> {
@@ -26,6 +26,27 @@ fn words_are_values(rt: HostRuntime) {
     ] {
         assert_eq!(rt; decode(word), value, "at {word}");
         if let Some(value) = decode(word) {
+            assert_eq!(rt; encode(value), word);
+        }
+    }
+}
+
+#[test]
+fn words_of_any_space_are_values(rt: HostRuntime) {
+    for (word, value) in [
+        (0, Some(Value::Nil)),
+        (1, num(0)),
+        (2097150, reference(1048575)),
+        (2097152, reference(1048576)),
+        (4294967296, reference(2147483648)),
+        (8589934588, reference(4294967294)),
+        (8589934590, None),
+        (8589934592, None),
+        (18446744073709551614, None),
+        (18446744073709551615, num(9223372036854775807)),
+    ] {
+        assert_eq!(rt; decode_wide(word), value, "at {word}");
+        if let Some(value) = decode_wide(word) {
             assert_eq!(rt; encode(value), word);
         }
     }

@@ -2,7 +2,8 @@
 //! the retry it has the event once.
 
 ghost use Rattle.std.specs.Prelude.{◌≡◌, ◌<◌, IsTrue};
-ghost use Rattle.gc_copy.specs.Runs.{IsStep};
+ghost use Rattle.gc_graph.specs.Limits.{most_words};
+ghost use Rattle.gc_copy.specs.Runs.{IsStepWithin};
 
 use super::marks::{fence, retried};
 use super::texts::{BEFORE_BEGIN, BEFORE_FLIP, LOG_ACROSS_TWO_MUTATORS, WRITE_WHILE_SCANNING};
@@ -51,7 +52,7 @@ fn collect(
     world: &mut World,
     step: Step,
 ) -> Result<StepReply, NoMemory>
-    requires { IsStep world.old.mutators step }
+    requires { IsStepWithin most_words world.old.mutators step }
     ensures { world.new.mutators ≡ world.old.mutators }
 {
     let count = world.history().len();
@@ -76,7 +77,7 @@ fn collect_par(
     world: &mut World,
     step: Step,
 ) -> Result<StepReply, NoMemory>
-    requires { IsStep world.old.mutators step }
+    requires { IsStepWithin most_words world.old.mutators step }
     ensures { world.new.mutators ≡ world.old.mutators }
 {
     let count = world.history().len();
@@ -119,7 +120,7 @@ fn collect_useful(
 }
 
 fn is_step(step: Step, mutators: u8) -> bool
-    ensures { IsTrue result → IsStep mutators step }
+    ensures { IsTrue result → IsStepWithin most_words mutators step }
 {
     match step {
         Step::Apply(m) => m < mutators,

@@ -50,11 +50,17 @@ fn perform(
     match row {
         Row::Command(op, reply) => expect(rt, place, heap.mutate(0, op)?, *reply),
         Row::Step(step, reply) => {
-            assert!(rt; is_possible(heap.mutators(), *step), "row {place}");
+            assert!(rt;
+                is_possible(u32::MAX, heap.mutators(), *step),
+                "row {place}"
+            );
             expect(rt, place, heap.collect(&Sequential, *step)?, *reply);
         }
         Row::Call(step, reply) => {
-            assert!(rt; is_possible(heap.mutators(), *step), "row {place}");
+            assert!(rt;
+                is_possible(u32::MAX, heap.mutators(), *step),
+                "row {place}"
+            );
             expect(rt, place, call(heap, *step)?, *reply);
         }
         Row::Useful(step) => expect(rt, place, heap.useful_step(), *step),

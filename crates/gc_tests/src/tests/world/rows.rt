@@ -1,11 +1,12 @@
 //! Rows: a test states the events of a world, and the answer to each, as one table. `play` performs the rows in order.
 
 ghost use Rattle.std.specs.Prelude.{◌≡◌, ◌<◌};
-ghost use Rattle.gc_copy.specs.Runs.{IsStep};
+ghost use Rattle.gc_graph.specs.Limits.{most_words};
+ghost use Rattle.gc_copy.specs.Runs.{IsStepWithin};
 
 use crate::tests::commands::is_possible;
 use gc_copy::{Step, StepReply};
-use gc_graph::{NoMemory, Op, Reply};
+use gc_graph::{MOST_WORDS, NoMemory, Op, Reply};
 use gc_world::World;
 use std::process::Abort;
 use std::thread::Threads;
@@ -57,7 +58,10 @@ fn perform(
             assert_eq!(rt; world.mutate(0, op)?, *reply, "row {place}");
         }
         Row::Step(step, reply) => {
-            assert!(rt; is_possible(world.mutators(), *step), "row {place}");
+            assert!(rt;
+                is_possible(MOST_WORDS, world.mutators(), *step),
+                "row {place}"
+            );
             let got = collect(rt, world, in_threads, *step)?;
             assert_eq!(rt; got, *reply, "row {place}");
         }
@@ -77,7 +81,7 @@ fn collect(
     in_threads: bool,
     step: Step,
 ) -> Result<StepReply, NoMemory>
-    requires { IsStep world.old.mutators step }
+    requires { IsStepWithin most_words world.old.mutators step }
     ensures { world.new.mutators ≡ world.old.mutators }
 {
     if in_threads {
