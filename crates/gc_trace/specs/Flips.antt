@@ -8,8 +8,7 @@ use Rattle.gc_copy.specs.State.{State}
 use Rattle.gc_copy.specs.Runs.{after}
 use Rattle.gc_copy.specs.declared.event.Event.{Event}
 use Rattle.gc_trace.specs.Grammar.{Recording}
-use Rattle.gc_trace.specs.Faults.{IsReadAsTrace}
-use Rattle.gc_trace.specs.Plays.{opening}
+use Rattle.gc_trace.specs.Plays.{IsTraceFrom, opening}
 use Rattle.gc_trace.specs.WorldRuns.{kept_with}
 
 -- the pair of the event's flip, if the event flips in this state
@@ -29,16 +28,16 @@ flips s (event ∷ events) = with_flip (flip_at s event) (flips (after s event) 
 abbrev pub nth_flip : ℕ → Recording → Option CertifiedPair
 nth_flip n t = slice_get (flips (opening t) t.events) (n - 1)
 
--- ---- what is written
+-- ---- what is written, whether or not the reader's text is known
 
--- the text spells a trace with an n-th flip, and the text of that flip's pair was written
-abbrev pub PlaysPair : ℕ → List ℕ → Option (List ℕ) → Option (List ℕ) → Type 0
-PlaysPair n text old new = (t : Recording) × (pair : CertifiedPair) × IsReadAsTrace t text × (nth_flip n t ≡ Some pair) × Appends old new (pairs.spelling pair)
+-- the reader's trace has an n-th flip, and the text of that flip's pair was written
+abbrev pub PlaysPair : ℕ → Option (List ℕ) → Option (List ℕ) → Option (List ℕ) → Type 0
+PlaysPair n text old new = (t : Recording) × (pair : CertifiedPair) × IsTraceFrom text t × (nth_flip n t ≡ Some pair) × Appends old new (pairs.spelling pair)
 
 -- the same, but a prefix of the pair's text was written
-abbrev pub PlaysPairFront : ℕ → List ℕ → Option (List ℕ) → Option (List ℕ) → Type 0
-PlaysPairFront n text old new = (t : Recording) × (pair : CertifiedPair) × IsReadAsTrace t text × (nth_flip n t ≡ Some pair) × SendsFront old new (pairs.spelling pair)
+abbrev pub PlaysPairFront : ℕ → Option (List ℕ) → Option (List ℕ) → Option (List ℕ) → Type 0
+PlaysPairFront n text old new = (t : Recording) × (pair : CertifiedPair) × IsTraceFrom text t × (nth_flip n t ≡ Some pair) × SendsFront old new (pairs.spelling pair)
 
--- the text spells a trace without an n-th flip
-abbrev pub HasNoFlip : ℕ → List ℕ → Type 0
-HasNoFlip n text = (t : Recording) × IsReadAsTrace t text × (nth_flip n t ≡ None)
+-- the reader's trace has no n-th flip
+abbrev pub HasNoFlip : ℕ → Option (List ℕ) → Type 0
+HasNoFlip n text = (t : Recording) × IsTraceFrom text t × (nth_flip n t ≡ None)

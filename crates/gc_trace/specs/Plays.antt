@@ -1,11 +1,11 @@
 -- What the player of a trace writes.
-use Rattle.std.specs.Prelude.{◌≡◌, ℕ, List, Option}
+use Rattle.std.specs.Prelude.{◌≡◌, ℕ, List, Option, IfSome}
 use Rattle.std.specs.Io.KnownBytes.{Appends}
 use Rattle.gc_graph.specs.Streams.{SendsFront}
 use Rattle.gc_copy.specs.State.{State, opening_state}
 use Rattle.gc_copy.specs.Runs as runs
 use Rattle.gc_copy.specs.declared.event.Answer.{Answer}
-use Rattle.gc_trace.specs.Grammar.{Recording}
+use Rattle.gc_trace.specs.Grammar.{Recording, IsRecording}
 use Rattle.gc_trace.specs.Faults.{IsReadAsTrace}
 use Rattle.gc_trace.specs.Replies.{reply_text}
 use Rattle.gc_trace.specs.Report.{report_of, report_text}
@@ -27,20 +27,25 @@ last_state t = runs.state_after (opening t) t.events
 abbrev pub report_in : Recording → Report
 report_in t = report_of (answers t) (last_state t)
 
--- ---- what is written
+-- ---- what is written, whether or not the reader's text is known
 
--- the text spells a trace, its reply lines were written, and this is its report
-abbrev pub Plays : List ℕ → Report → Option (List ℕ) → Option (List ℕ) → Type 0
-Plays text report old new = (t : Recording) × IsReadAsTrace t text × (report ≡ report_in t) × Appends old new (reply_text (answers t))
+-- a trace that has a text; if the reader's text is known, it spells this trace
+pub record IsTraceFrom (text : Option (List ℕ)) (t : Recording) : Type 0 where
+  pub recording : IsRecording t
+  pub read : IfSome text (IsReadAsTrace t)
 
--- the text spells a trace, and a prefix of its reply lines was written
-abbrev pub PlaysFront : List ℕ → Option (List ℕ) → Option (List ℕ) → Type 0
-PlaysFront text old new = (t : Recording) × IsReadAsTrace t text × SendsFront old new (reply_text (answers t))
+-- the reply lines of the reader's trace were written, and this is its report
+abbrev pub Plays : Option (List ℕ) → Report → Option (List ℕ) → Option (List ℕ) → Type 0
+Plays text report old new = (t : Recording) × IsTraceFrom text t × (report ≡ report_in t) × Appends old new (reply_text (answers t))
 
--- the text spells a trace, this is its report, and the report's text was written
-abbrev pub Reports : List ℕ → Report → Option (List ℕ) → Option (List ℕ) → Type 0
-Reports text report old new = (t : Recording) × IsReadAsTrace t text × (report ≡ report_in t) × Appends old new (report_text (report_in t))
+-- a prefix of the reply lines of the reader's trace was written
+abbrev pub PlaysFront : Option (List ℕ) → Option (List ℕ) → Option (List ℕ) → Type 0
+PlaysFront text old new = (t : Recording) × IsTraceFrom text t × SendsFront old new (reply_text (answers t))
 
--- the text spells a trace, and a prefix of its report's text was written
-abbrev pub ReportsFront : List ℕ → Option (List ℕ) → Option (List ℕ) → Type 0
-ReportsFront text old new = (t : Recording) × IsReadAsTrace t text × SendsFront old new (report_text (report_in t))
+-- this is the report of the reader's trace, and the report's text was written
+abbrev pub Reports : Option (List ℕ) → Report → Option (List ℕ) → Option (List ℕ) → Type 0
+Reports text report old new = (t : Recording) × IsTraceFrom text t × (report ≡ report_in t) × Appends old new (report_text (report_in t))
+
+-- a prefix of the text of the report of the reader's trace was written
+abbrev pub ReportsFront : Option (List ℕ) → Option (List ℕ) → Option (List ℕ) → Type 0
+ReportsFront text old new = (t : Recording) × IsTraceFrom text t × SendsFront old new (report_text (report_in t))

@@ -22,8 +22,8 @@ pub fn play<R: Read, W: Write>(
     writer: &mut Sink<W>,
 ) -> Result<Report, PlayFault>
     // All reply lines are written, and nothing else.
-    ensures played { IfOk result (λ report. IfSome (bytes_left R.remaining reader.old) (λ text.
-        Plays text report (bytes_written W.contents writer.old) (bytes_written W.contents writer.new))) }
+    ensures played { IfOk result (λ report. Plays (bytes_left R.remaining reader.old) report
+        (bytes_written W.contents writer.old) (bytes_written W.contents writer.new)) }
     // A bad text gives its first fault.
     ensures fault { (fault : TraceFault) → result ≡ Err (PlayFault.Trace fault) →
         IfSome (bytes_left R.remaining reader.old) (λ text. MayFail fault text) }
@@ -34,8 +34,8 @@ pub fn play<R: Read, W: Write>(
     // Nothing goes out before the last event has run.
     ensures silent { OnErr result (result ≢ Err PlayFault.Write → writer.new ≡ writer.old) }
     // A prefix of the reply lines went out.
-    ensures front { result ≡ Err PlayFault.Write → IfSome (bytes_left R.remaining reader.old) (λ text.
-        PlaysFront text (bytes_written W.contents writer.old) (bytes_written W.contents writer.new)) }
+    ensures front { result ≡ Err PlayFault.Write → PlaysFront (bytes_left R.remaining reader.old)
+        (bytes_written W.contents writer.old) (bytes_written W.contents writer.new) }
 {
     let played = play_all(alloc, reader, Gather::Replies)?;
     match writer.write_all(&played.replies) {
@@ -51,8 +51,8 @@ pub fn play_report<R: Read, W: Write>(
     writer: &mut Sink<W>,
 ) -> Result<Report, PlayFault>
     // The whole text of the report is written, and nothing else.
-    ensures played { IfOk result (λ report. IfSome (bytes_left R.remaining reader.old) (λ text.
-        Reports text report (bytes_written W.contents writer.old) (bytes_written W.contents writer.new))) }
+    ensures played { IfOk result (λ report. Reports (bytes_left R.remaining reader.old) report
+        (bytes_written W.contents writer.old) (bytes_written W.contents writer.new)) }
     // A bad text gives its first fault.
     ensures fault { (fault : TraceFault) → result ≡ Err (PlayFault.Trace fault) →
         IfSome (bytes_left R.remaining reader.old) (λ text. MayFail fault text) }
@@ -63,8 +63,8 @@ pub fn play_report<R: Read, W: Write>(
     // Nothing goes out before the last event has run.
     ensures silent { OnErr result (result ≢ Err PlayFault.Write → writer.new ≡ writer.old) }
     // A prefix of the report's text went out.
-    ensures front { result ≡ Err PlayFault.Write → IfSome (bytes_left R.remaining reader.old) (λ text.
-        ReportsFront text (bytes_written W.contents writer.old) (bytes_written W.contents writer.new)) }
+    ensures front { result ≡ Err PlayFault.Write → ReportsFront (bytes_left R.remaining reader.old)
+        (bytes_written W.contents writer.old) (bytes_written W.contents writer.new) }
 {
     let report = play_all(alloc, reader, Gather::Nothing)?.report;
     match write_report(writer, &report) {
@@ -83,11 +83,10 @@ pub fn play_pair<R: Read, W: Write>(
 ) -> Result<(), PlayFault>
     requires { 1 ≤ n }
     // The whole text of the pair is written, and nothing else.
-    ensures played { OnOk result (IfSome (bytes_left R.remaining reader.old) (λ text.
-        PlaysPair n text (bytes_written W.contents writer.old) (bytes_written W.contents writer.new))) }
+    ensures played { OnOk result (PlaysPair n (bytes_left R.remaining reader.old)
+        (bytes_written W.contents writer.old) (bytes_written W.contents writer.new)) }
     // The trace has fewer flips.
-    ensures none { result ≡ Err PlayFault.NoSuchFlip →
-        IfSome (bytes_left R.remaining reader.old) (λ text. HasNoFlip n text) }
+    ensures none { result ≡ Err PlayFault.NoSuchFlip → HasNoFlip n (bytes_left R.remaining reader.old) }
     // A bad text gives its first fault.
     ensures fault { (fault : TraceFault) → result ≡ Err (PlayFault.Trace fault) →
         IfSome (bytes_left R.remaining reader.old) (λ text. MayFail fault text) }
@@ -97,8 +96,8 @@ pub fn play_pair<R: Read, W: Write>(
     // Nothing goes out before the flip is found.
     ensures silent { OnErr result (result ≢ Err PlayFault.Write → writer.new ≡ writer.old) }
     // A prefix of the pair's text went out.
-    ensures front { result ≡ Err PlayFault.Write → IfSome (bytes_left R.remaining reader.old) (λ text.
-        PlaysPairFront n text (bytes_written W.contents writer.old) (bytes_written W.contents writer.new)) }
+    ensures front { result ≡ Err PlayFault.Write → PlaysPairFront n (bytes_left R.remaining reader.old)
+        (bytes_written W.contents writer.old) (bytes_written W.contents writer.new) }
 {
     let trace = read_trace(alloc, reader)?;
     let Some(file) = nth_flip(alloc, &trace, n)? else {

@@ -1,16 +1,15 @@
-ghost use Rattle.std.specs.Prelude.{◌≡◌, ◌≤◌, ◌∷◌, ◌++◌, ◌↔◌, [], List, ℕ, true, false, IfSome, IfOk, OnOk, OnErr, MatchResult, Err};
+ghost use Rattle.std.specs.Prelude.{◌≡◌, ◌≤◌, ◌∷◌, ◌++◌, ◌↔◌, [], List, ℕ, true, false, IfSome, IfOk, IfErr, OnOk, OnErr, Err};
 ghost use Rattle.gc_graph.specs.Limits.{most_words, most_mutators};
 ghost use Rattle.gc_graph.specs.Streams.{bytes_left, source_failed};
 ghost use Rattle.gc_copy.specs.State.{State, opening_state};
 ghost use Rattle.gc_copy.specs.Belonging.{IsState};
 ghost use Rattle.gc_copy.specs.Runs.{IsEvent, IsEventWithin, after, answer, answers, state_after};
 ghost use Rattle.gc_copy.specs.declared.event.Event.{Event};
-ghost use Rattle.gc_trace.specs.Faults.{IsReadAsTrace, MayFail};
-ghost use Rattle.gc_trace.specs.Grammar.{Recording};
-ghost use Rattle.gc_trace.specs.Internal.Playing.{HasPlayed};
+ghost use Rattle.gc_trace.specs.Faults.{MayFail};
+ghost use Rattle.gc_trace.specs.Internal.Playing.{HasPlayed, HasPlayedRest, HasResults};
 ghost use Rattle.gc_trace.specs.Internal.Reading.{IsReading, HasRead, read_so_far};
 ghost use Rattle.gc_trace.specs.Internal.Report.{with_answer, FitsU64};
-ghost use Rattle.gc_trace.specs.Plays.{opening, answers as answers_of_trace, report_in};
+ghost use Rattle.gc_trace.specs.Plays.{opening};
 ghost use Rattle.gc_trace.specs.Replies.{reply_text};
 ghost use Rattle.gc_trace.specs.Report.{report_of};
 
@@ -137,9 +136,9 @@ impl Player {
         requires opened { HasPlayed (opening (read_so_far lines.old [])) [] self.old }
         requires sound { IsState self.old.heap }
         requires mutators { self.old.heap.mutators ≡ lines.old.mutators }
-        ensures exact { (text : List ℕ) → HasRead text [] lines.old (bytes_left R.remaining reader.old) → MatchResult result
-            (λ _. (t : Recording) × IsReadAsTrace t text × HasPlayed (opening t) t.events self.new)
-            (λ fault. MayFail fault text) }
+        ensures played { OnOk result (HasPlayedRest lines.old (bytes_left R.remaining reader.old) self.new) }
+        ensures fault { IfErr result (λ fault. (text : List ℕ)
+            → HasRead text [] lines.old (bytes_left R.remaining reader.old) → MayFail fault text) }
         ensures sound { OnOk result (IsState self.new.heap) }
         ensures gather { self.new.gather ≡ self.old.gather }
         ensures read { (result ≡ Err TraceFault.Read) ↔ (source_failed reader.new ≡ true) }
@@ -186,10 +185,8 @@ pub fn play_all<R: Read>(
     reader: &mut Source<R>,
     gather: Gather,
 ) -> Result<Played, TraceFault>
-    ensures exact { IfSome (bytes_left R.remaining reader.old) (λ text. MatchResult result
-        (λ played. (t : Recording) × IsReadAsTrace t text × (played.report ≡ report_in t)
-        × (gather ≡ Gather.Replies → played.replies.items ≡ reply_text (answers_of_trace t)))
-        (λ fault. MayFail fault text)) }
+    ensures played { IfOk result (HasResults (bytes_left R.remaining reader.old) gather) }
+    ensures fault { IfErr result (λ fault. IfSome (bytes_left R.remaining reader.old) (λ text. MayFail fault text)) }
     ensures read { (result ≡ Err TraceFault.Read) ↔ (source_failed reader.new ≡ true) }
 {
     let mut lines = EventReader::open(alloc, reader)?;

@@ -1,22 +1,19 @@
 -- A run of a trace's scripts in threads, assembled from the contracts of its parts.
-use Rattle.std.proofs.Common.{◌≡◌, ℕ, List, [], length, map, ap, sym, ◌∙◌, subst, arith, Option, Some, None, IfSome}
+use Rattle.std.proofs.Common.{◌≡◌, ℕ, List, [], length, map, ap, sym, ◌∙◌, subst, arith}
 use Rattle.std.specs.declared.vec.Vec.{Vec}
 use Rattle.std.specs.declared.alloc.Global.{Global}
-use Rattle.std.specs.Io.KnownBytes.{Appends}
 use Rattle.std.proofs.lemmas.List.{length-map}
 use Rattle.std.proofs.lemmas.List.FromFn.{length-map-range_with_len, get_or-map-range_with_len}
 use Rattle.std.specs.Prelude.{slice_index_or}
-use Rattle.gc_graph.specs.Streams.{SendsFront}
 use Rattle.gc_graph.specs.declared.command.Op.{Op}
 use Rattle.gc_shared.specs.Scripts.{HasRun}
-use Rattle.gc_trace.specs.Faults.{IsReadAsTrace}
 use Rattle.gc_trace.specs.Grammar.{Recording}
 use Rattle.gc_copy.specs.Runs.{commands_of}
 use Rattle.gc_trace.specs.Scripts.{scripts}
 use Rattle.gc_world.specs.History.{IsHistory}
 use Rattle.gc_world.specs.World.{Past}
 use Rattle.gc_world.specs.declared.entry.Entry.{Entry}
-use Rattle.gcflip.specs.ThreadedRuns.{IsThreadedRun, WritesRun, WritesRunFront, recorded}
+use Rattle.gcflip.specs.ThreadedRuns.{IsThreadedRun}
 
 -- the scripts that are run are those of the trace
 abbrev pub AreScripts : Recording → List (Vec Op Global) → Type 0
@@ -34,15 +31,3 @@ threaded t turns given past are ran history =
       steps = ran.steps;
       useful = ran.useful;
     }
-
--- if the reader's text is known, it is the text of this trace
-abbrev Reads : Option (List ℕ) → Recording → Type 0
-Reads bytes t = IfSome bytes (λ text. IsReadAsTrace t text)
-
-pub writes_run : (bytes old new : Option (List ℕ)) (t : Recording) (turns : ℕ) (entries : List Entry) → Reads bytes t → IsThreadedRun t turns entries → Appends old new (recorded t entries) → IfSome bytes (λ text. WritesRun text turns old new)
-writes_run None old new t turns entries read ran out = tt
-writes_run (Some text) old new t turns entries read ran out = (t, entries, read, ran, out)
-
-pub writes_run_front : (bytes old new : Option (List ℕ)) (t : Recording) (turns : ℕ) (entries : List Entry) → Reads bytes t → IsThreadedRun t turns entries → SendsFront old new (recorded t entries) → IfSome bytes (λ text. WritesRunFront text turns old new)
-writes_run_front None old new t turns entries read ran out = tt
-writes_run_front (Some text) old new t turns entries read ran out = (t, entries, read, ran, out)

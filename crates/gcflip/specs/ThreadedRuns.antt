@@ -3,8 +3,8 @@ use Rattle.std.specs.Prelude.{◌≡◌, ℕ, ◌<◌, List, Option, length, All
 use Rattle.std.specs.Io.KnownBytes.{Appends}
 use Rattle.gc_graph.specs.Streams.{SendsFront}
 use Rattle.gc_shared.specs.Scripts.{IsUsefulStep, steps_of}
-use Rattle.gc_trace.specs.Faults.{IsReadAsTrace}
 use Rattle.gc_trace.specs.Grammar.{Recording, spelling, written}
+use Rattle.gc_trace.specs.Plays.{IsTraceFrom}
 use Rattle.gc_copy.specs.Runs.{commands_of}
 use Rattle.gc_world.specs.History.{events_of, IsHistory}
 use Rattle.gc_world.specs.declared.entry.Entry.{Entry}
@@ -21,10 +21,10 @@ pub record IsThreadedRun (t : Recording) (turns : ℕ) (entries : List Entry) : 
 abbrev pub recorded : Recording → List Entry → List ℕ
 recorded t entries = spelling (written t.size t.mutators (events_of entries))
 
--- the text spells a trace, and the trace text of a run of its scripts went out
-abbrev pub WritesRun : List ℕ → ℕ → Option (List ℕ) → Option (List ℕ) → Type 0
-WritesRun text turns old new = (t : Recording) × (entries : List Entry) × IsReadAsTrace t text × IsThreadedRun t turns entries × Appends old new (recorded t entries)
+-- the trace text of a run of the scripts of the reader's trace went out
+abbrev pub WritesRun : Option (List ℕ) → ℕ → Option (List ℕ) → Option (List ℕ) → Type 0
+WritesRun text turns old new = (t : Recording) × (entries : List Entry) × IsTraceFrom text t × IsThreadedRun t turns entries × Appends old new (recorded t entries)
 
--- the text spells a trace, and a prefix of the trace text of such a run went out
-abbrev pub WritesRunFront : List ℕ → ℕ → Option (List ℕ) → Option (List ℕ) → Type 0
-WritesRunFront text turns old new = (t : Recording) × (entries : List Entry) × IsReadAsTrace t text × IsThreadedRun t turns entries × SendsFront old new (recorded t entries)
+-- a prefix of the trace text of such a run went out
+abbrev pub WritesRunFront : Option (List ℕ) → ℕ → Option (List ℕ) → Option (List ℕ) → Type 0
+WritesRunFront text turns old new = (t : Recording) × (entries : List Entry) × IsTraceFrom text t × IsThreadedRun t turns entries × SendsFront old new (recorded t entries)

@@ -1,9 +1,10 @@
 //! Many useful steps in one call.
 
-ghost use Rattle.std.specs.Prelude.{◌≡◌, ◌<◌, ◌≤◌, Ok, IfOk, OnErr};
+ghost use Rattle.std.specs.Prelude.{◌≡◌, ◌⊎◌, ◌<◌, ◌≤◌, false, Ok, IfOk, OnErr};
+ghost use Rattle.gc_copy.specs.State.{State};
 ghost use Rattle.gc_copy.specs.Steps.{collect, useful_step};
 ghost use Rattle.gc_core.specs.CollectedHeap.{Allocates};
-ghost use Rattle.gcflip_heap_c.specs.Work.{IsSoundReply, IsRun, IsEnd, IsWork, IsWorkCall, goes_on, end_in, end_after};
+ghost use Rattle.gcflip_heap_c.specs.Work.{IsSoundReply, IsRun, IsWork, IsWorkCall, goes_on, end_in, end_after};
 
 use crate::answer::{CLOSED, DONE, NO_MEMORY, OUT_OF_RANGE};
 use crate::handle::GcflipHeap;
@@ -46,6 +47,31 @@ fn one_step(heap: &mut CollectedHeap) -> Result<StepReply, NoMemory>
     heap.collect(&Sequential, step)
 }
 
+/// Performs single steps for `useful_steps`. Generic code knows nothing of `failed`, and gets it only from a step that
+/// returned `NoMemory`.
+trait Performs {
+    // Holds of a state in which an allocation of the useful step failed.
+    ghost failed: { Self → State → Type 0 };
+
+    fn perform(&self, heap: &mut CollectedHeap) -> Result<StepReply, NoMemory>
+        ensures step { IfOk result (λ reply. collect heap.old (useful_step heap.old) ≡ (reply, heap.new)) }
+        ensures sound { IfOk result (IsSoundReply heap.old) }
+        ensures refused { OnErr result (heap.new ≡ heap.old) }
+        ensures failed { OnErr result (failed self.now heap.old) };
+}
+
+/// Performs the useful step.
+struct Useful;
+
+impl Performs for Useful {
+    ghost failed = { λ _ s. Allocates s (useful_step s) };
+
+    #[inline(always)]
+    fn perform(&self, heap: &mut CollectedHeap) -> Result<StepReply, NoMemory> {
+        one_step(heap)
+    }
+}
+
 /// Returns whether work continues after this reply.
 fn can_go_on(reply: StepReply) -> bool
     ensures { result ≡ goes_on reply }
@@ -55,20 +81,26 @@ fn can_go_on(reply: StepReply) -> bool
 
 /// Performs at most `most` useful steps, and stops after one that flips or finds no room. If an allocation fails, it
 /// stops before that step, and returns `NoMemory` only if that was the first step.
-fn useful_steps(heap: &mut CollectedHeap, most: u32) -> Result<Run, NoMemory>
+fn useful_steps<P: Performs>(
+    performs: &P,
+    heap: &mut CollectedHeap,
+    most: u32,
+) -> Result<Run, NoMemory>
     requires { 1 ≤ most }
     ensures run { IfOk result (λ run. IsRun run.steps heap.old heap.new run.reply) }
     ensures within { IfOk result (λ run. run.steps ≤ most) }
-    ensures ended { IfOk result (λ run. run.steps < most → IsEnd heap.new run.reply) }
+    // It stops early only after such a reply, or because a step failed for lack of memory.
+    ensures ended { IfOk result (λ run. run.steps < most
+        → (goes_on run.reply ≡ false) ⊎ P.failed performs.now heap.new) }
     ensures refused { OnErr result (heap.new ≡ heap.old) }
-    ensures allocates { OnErr result (Allocates heap.old (useful_step heap.old)) }
+    ensures failed { OnErr result (P.failed performs.now heap.old) }
 {
-    let mut reply = one_step(heap)?;
+    let mut reply = performs.perform(heap)?;
     for steps in 1..most {
         if !can_go_on(reply) {
             return Ok(Run { steps, reply });
         }
-        match one_step(heap) {
+        match performs.perform(heap) {
             Ok(next) => reply = next,
             Err(NoMemory) => return Ok(Run { steps, reply }),
         }
@@ -104,7 +136,7 @@ fn work_on(heap: &mut CollectedHeap, most: u32) -> Result<GcflipWork, NoMemory>
     ensures allocates { OnErr result (Allocates heap.old (useful_step heap.old)) }
 {
     let start = end_of_new(heap);
-    let Run { steps, reply } = useful_steps(heap, most)?;
+    let Run { steps, reply } = useful_steps(&Useful, heap, most)?;
     Ok(GcflipWork {
         steps,
         copied: end_behind(heap, reply).saturating_sub(start),

@@ -1,11 +1,18 @@
--- The contents of a player.
-use Rattle.std.specs.Prelude.{◌≡◌, ◌++◌, List}
+-- The contents of a player, and its results.
+use Rattle.std.specs.Prelude.{◌≡◌, ◌++◌, ℕ, List, [], Option}
 use Rattle.gc_copy.specs.State.{State}
 use Rattle.gc_copy.specs.Runs.{answers, state_after}
 use Rattle.gc_copy.specs.declared.event.Event.{Event}
+use Rattle.gc_trace.specs.Faults.{IsReadAsTrace}
+use Rattle.gc_trace.specs.Grammar.{Recording, IsRecording}
+use Rattle.gc_trace.specs.Internal.Reading.{HasRead, read_so_far}
+use Rattle.gc_trace.specs.Plays as plays
 use Rattle.gc_trace.specs.Replies.{reply_text}
 use Rattle.gc_trace.specs.Report.{report_of}
+use Rattle.gc_trace.specs.declared.event_reader.EventReader.{EventReader}
+use Rattle.gc_trace.specs.declared.playing.Gather.{Gather}
 use Rattle.gc_trace.specs.declared.playing.Gather.TheVariants.{Replies}
+use Rattle.gc_trace.specs.declared.playing.Played.{Played}
 use Rattle.gc_trace.specs.declared.playing.Player.{Player}
 
 -- the player has played these events, starting in state s: it has the last state, the counts and, if it gathers them,
@@ -14,3 +21,17 @@ pub record HasPlayed (s : State) (events : List Event) (player : Player) : Type 
   pub state : player.heap ≡ state_after s events
   pub counts : player.report ≡ report_of (answers s events) s
   pub lines : player.gather ≡ Replies → player.text.items ++ player.printer ≡ reply_text (answers s events)
+
+-- the player has played a trace with the reader's heading; each text whose heading was read spells this trace
+pub record HasPlayedRest (lines : EventReader) (left : Option (List ℕ)) (player : Player) : Type 0 where
+  pub events : List Event
+  pub recording : IsRecording (read_so_far lines events)
+  pub played : HasPlayed (plays.opening (read_so_far lines [])) events player
+  pub read : (text : List ℕ) → HasRead text [] lines left → IsReadAsTrace (read_so_far lines events) text
+
+-- the results of playing the reader's trace; the reply lines are there if they were gathered
+pub record HasResults (text : Option (List ℕ)) (gather : Gather) (played : Played) : Type 0 where
+  pub trace : Recording
+  pub from : plays.IsTraceFrom text trace
+  pub report : played.report ≡ plays.report_in trace
+  pub replies : gather ≡ Replies → played.replies.items ≡ reply_text (plays.answers trace)

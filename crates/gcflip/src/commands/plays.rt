@@ -1,4 +1,4 @@
-ghost use Rattle.std.specs.Prelude.{◌≡◌, ◌≤◌, IfSome, IfOk, IfErr, OnOk};
+ghost use Rattle.std.specs.Prelude.{◌≡◌, ◌≤◌, IfOk, IfErr, OnOk};
 ghost use Rattle.gc_graph.specs.Streams.{bytes_left, bytes_written};
 ghost use Rattle.gc_trace.specs.Flips.{PlaysPair};
 ghost use Rattle.gcflip.specs.Outcomes.{IsOfPlay};
@@ -16,8 +16,8 @@ pub fn play_from<R: Read, W: Write>(
     writer: &mut Sink<W>,
 ) -> Result<u8, Fault>
     // All reply lines are written, and nothing else.
-    ensures played { OnOk result (IfSome (bytes_left R.remaining reader.old) (λ text.
-        WritesReplies text (bytes_written W.contents writer.old) (bytes_written W.contents writer.new))) }
+    ensures played { OnOk result (WritesReplies (bytes_left R.remaining reader.old)
+        (bytes_written W.contents writer.old) (bytes_written W.contents writer.new)) }
     ensures statuses { IfOk result (λ status. status ≡ 0) }
     ensures player { IfErr result IsOfPlay }
 {
@@ -32,8 +32,8 @@ pub fn report_from<R: Read, W: Write>(
     writer: &mut Sink<W>,
 ) -> Result<u8, Fault>
     // The whole text of the report is written, and nothing else.
-    ensures reported { OnOk result (IfSome (bytes_left R.remaining reader.old) (λ text.
-        WritesReport text (bytes_written W.contents writer.old) (bytes_written W.contents writer.new))) }
+    ensures reported { OnOk result (WritesReport (bytes_left R.remaining reader.old)
+        (bytes_written W.contents writer.old) (bytes_written W.contents writer.new)) }
     ensures statuses { IfOk result (λ status. status ≡ 0) }
     ensures player { IfErr result IsOfPlay }
 {
@@ -50,8 +50,8 @@ pub fn pair_from<R: Read, W: Write>(
 ) -> Result<u8, Fault>
     requires { 1 ≤ n }
     // The whole text of the pair is written, and nothing else.
-    ensures written { OnOk result (IfSome (bytes_left R.remaining reader.old) (λ text.
-        PlaysPair n text (bytes_written W.contents writer.old) (bytes_written W.contents writer.new))) }
+    ensures written { OnOk result (PlaysPair n (bytes_left R.remaining reader.old)
+        (bytes_written W.contents writer.old) (bytes_written W.contents writer.new)) }
     ensures statuses { IfOk result (λ status. status ≡ 0) }
     ensures player { IfErr result IsOfPlay }
 {

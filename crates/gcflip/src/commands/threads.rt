@@ -113,8 +113,8 @@ pub fn threads_run<R: Read, W: Write>(
     writer: &mut Sink<W>,
 ) -> Result<(), ThreadsRunFault>
     // The whole recorded trace is written, and nothing else.
-    ensures ran { OnOk result (IfSome (bytes_left R.remaining reader.old) (λ text.
-        WritesRun text turns (bytes_written W.contents writer.old) (bytes_written W.contents writer.new))) }
+    ensures ran { OnOk result (WritesRun (bytes_left R.remaining reader.old) turns
+        (bytes_written W.contents writer.old) (bytes_written W.contents writer.new)) }
     // A bad text gives its first fault.
     ensures fault { (fault : TraceFault) → result ≡ Err (ThreadsRunFault.Trace fault) →
         IfSome (bytes_left R.remaining reader.old) (λ text. MayFail fault text) }
@@ -125,8 +125,8 @@ pub fn threads_run<R: Read, W: Write>(
     // Nothing goes out before the world is closed.
     ensures silent { OnErr result (result ≢ Err ThreadsRunFault.Write → writer.new ≡ writer.old) }
     // What went out is a prefix of the recorded trace.
-    ensures front { result ≡ Err ThreadsRunFault.Write → IfSome (bytes_left R.remaining reader.old) (λ text.
-        WritesRunFront text turns (bytes_written W.contents writer.old) (bytes_written W.contents writer.new)) }
+    ensures front { result ≡ Err ThreadsRunFault.Write → WritesRunFront (bytes_left R.remaining reader.old) turns
+        (bytes_written W.contents writer.old) (bytes_written W.contents writer.new) }
 {
     scripts_are_commands();
     let trace = read_trace(alloc, reader)?;
@@ -147,8 +147,8 @@ pub fn threads_from<R: Read, W: Write>(
     writer: &mut Sink<W>,
 ) -> Result<u8, Fault>
     // The whole recorded trace is written, and nothing else.
-    ensures ran { OnOk result (IfSome (bytes_left R.remaining reader.old) (λ text.
-        WritesRun text turns (bytes_written W.contents writer.old) (bytes_written W.contents writer.new))) }
+    ensures ran { OnOk result (WritesRun (bytes_left R.remaining reader.old) turns
+        (bytes_written W.contents writer.old) (bytes_written W.contents writer.new)) }
     ensures statuses { IfOk result (λ status. status ≡ 0) }
     ensures threads { IfErr result IsOfThreads }
     // A bad text gives its first fault.
@@ -161,8 +161,9 @@ pub fn threads_from<R: Read, W: Write>(
     ensures unwritten { result ≡ Err (Fault.Threads ThreadsRunFault.Write) → sink_failed writer.new ≡ true }
     ensures silent { OnErr result (result ≢ Err (Fault.Threads ThreadsRunFault.Write) → writer.new ≡ writer.old) }
     // What went out is a prefix of the recorded trace.
-    ensures front { result ≡ Err (Fault.Threads ThreadsRunFault.Write) → IfSome (bytes_left R.remaining reader.old) (λ text.
-        WritesRunFront text turns (bytes_written W.contents writer.old) (bytes_written W.contents writer.new)) }
+    ensures front { result ≡ Err (Fault.Threads ThreadsRunFault.Write) → WritesRunFront
+        (bytes_left R.remaining reader.old) turns
+        (bytes_written W.contents writer.old) (bytes_written W.contents writer.new) }
 {
     match threads_run(rt, alloc, turns, reader, writer) {
         Ok(()) => Ok(0),

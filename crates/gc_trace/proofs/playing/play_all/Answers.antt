@@ -1,21 +1,18 @@
-use Rattle.std.proofs.Common.{◌≡◌, ◌∙◌}
+use Rattle.std.proofs.Common.{◌∙◌}
 use Rattle.gc_trace.specs.Faults.{IsReadAsTrace}
-use Rattle.gc_trace.specs.Grammar.{Recording}
-use Rattle.gc_trace.specs.Plays.{opening, answers, report_in}
-use Rattle.gc_trace.specs.Replies.{reply_text}
-use Rattle.gc_trace.specs.declared.playing.Gather.TheVariants.{Replies}
+use Rattle.gc_trace.specs.Internal.Reading.{read_so_far}
+use Rattle.gc_trace.specs.Plays.{opening}
 use Rattle.gc_graph.proofs.PieceSteps.{if_known}
 use Rattle.gc_trace.proofs.playing.play_all.Goals as goal
 
-pub returns-in-Ok-finish-clause-exact : goal.returns-in-Ok-finish-clause-exact
-returns-in-Ok-finish-clause-exact g c = if_known
-    {P = λ text. (t : Recording) × IsReadAsTrace t text × (c.in-Ok-finish.played.report ≡ report_in t) × (c.args.gather ≡ Replies → c.in-Ok-finish.played.replies.items ≡ reply_text (answers t))}
-    _
-    (λ text is.
-    let read = c.in_ok-take_all.ensures.exact text (c.in_ok-lines.ensures.exact text is) in
-    let finished = c.in-Ok-finish.ensures in (
-      read.0,
-      read.1,
-      finished.report (opening read.0) read.0.events read.2,
-      λ gathered. finished.replies (opening read.0) read.0.events read.2 (c.take_all.ensures.gather ∙ c.in-Ok.ensures.gather ∙ gathered),
-    ))
+pub returns-in-Ok-finish-clause-played : goal.returns-in-Ok-finish-clause-played
+returns-in-Ok-finish-clause-played g c =
+    let rest = c.in_ok-take_all.ensures.played in
+    let trace = read_so_far c.in_ok-lines.lines rest.events in
+    let finished = c.in-Ok-finish.ensures in
+    record {
+      trace = trace;
+      from = record { recording = rest.recording; read = if_known {P = IsReadAsTrace trace} _ (λ text is. rest.read text (c.in_ok-lines.ensures.exact text is)) };
+      report = finished.report (opening trace) rest.events rest.played;
+      replies = λ gathered. finished.replies (opening trace) rest.events rest.played (c.take_all.ensures.gather ∙ c.in-Ok.ensures.gather ∙ gathered);
+    }

@@ -1,8 +1,10 @@
 use Rattle.std.proofs.Common.{◌≡◌, ◌+◌, ◌-◌, ℕ, List, [], length, false}
 use Rattle.gc_graph.specs.Streams.{bytes_left, source_failed}
+use Rattle.std.specs.List.{AllByRecursion}
 use Rattle.gc_copy.specs.Belonging.{IsState}
 use Rattle.gc_copy.specs.declared.event.Event.{Event}
 use Rattle.gc_trace.specs.Faults.{limit}
+use Rattle.gc_trace.specs.Grammar.{IsEvent, IsOf}
 use Rattle.gc_trace.specs.Internal.Playing.{HasPlayed}
 use Rattle.gc_trace.specs.Internal.Reading.{IsReading, HasRead, read_so_far}
 use Rattle.gc_trace.specs.Plays.{opening}
@@ -14,6 +16,7 @@ invariant-loop-event g l = (events : List Event) × record {
   number : l.lines.number ≡ 3 + length events;
   read : (text : List ℕ) → HasRead text [] l.initial.lines (bytes_left g.R.Read.remaining l.initial.reader) → HasRead text events l.lines (bytes_left g.R.Read.remaining l.reader);
   reading : IsReading l.lines;
+  all : AllByRecursion (λ event. IsEvent l.lines.version event × IsOf l.lines.mutators event) events;
   heading : read_so_far l.lines [] ≡ read_so_far l.initial.lines [];
   sound : IsState l.self.heap;
   mutators : l.self.heap.mutators ≡ l.lines.mutators;

@@ -1,13 +1,23 @@
 use Rattle.gc_trace.specs.Views.{recording}
-use Rattle.gcflip.proofs.ThreadedRuns.{threaded, writes_run, writes_run_front}
+use Rattle.gcflip.proofs.ThreadedRuns.{threaded}
 use Rattle.gcflip.proofs.commands.threads.threads_run.Goals as goal
 
 pub returns-in-Ok-clause-ran : goal.returns-in-Ok-clause-ran
 returns-in-Ok-clause-ran g c =
-    let t = recording c.in_ok-trace.trace in
-    writes_run _ _ _ t c.args.turns c.in_ok-world.world.entries c.in_ok-trace.ensures.exact (threaded t c.args.turns c.in_ok-scripts.scripts.items c.in_ok-world.world c.in_ok-scripts.ensures c.in_ok-world.ensures c.history.ensures.history) (rw c.history.ensures.entries at c.in-Ok.ensures.ok)
+    let t = recording c.in_ok-trace.trace in (
+      t,
+      c.in_ok-world.world.entries,
+      record { recording = c.in_ok-trace.ensures.sound; read = c.in_ok-trace.ensures.exact },
+      threaded t c.args.turns c.in_ok-scripts.scripts.items c.in_ok-world.world c.in_ok-scripts.ensures c.in_ok-world.ensures c.history.ensures.history,
+      rw c.history.ensures.entries at c.in-Ok.ensures.ok,
+    )
 
 pub returns-clause-front : goal.returns-clause-front
 returns-clause-front g c _ =
-    let t = recording c.in_ok-trace.trace in
-    writes_run_front _ _ _ t c.args.turns c.in_ok-world.world.entries c.in_ok-trace.ensures.exact (threaded t c.args.turns c.in_ok-scripts.scripts.items c.in_ok-world.world c.in_ok-scripts.ensures c.in_ok-world.ensures c.history.ensures.history) (rw c.history.ensures.entries at c.in-Err.ensures.err)
+    let t = recording c.in_ok-trace.trace in (
+      t,
+      c.in_ok-world.world.entries,
+      record { recording = c.in_ok-trace.ensures.sound; read = c.in_ok-trace.ensures.exact },
+      threaded t c.args.turns c.in_ok-scripts.scripts.items c.in_ok-world.world c.in_ok-scripts.ensures c.in_ok-world.ensures c.history.ensures.history,
+      rw c.history.ensures.entries at c.in-Err.ensures.err,
+    )
