@@ -75,7 +75,7 @@ int main(int count, char **words)
     const gcflip_image new_image = {new.size, new.count, version == 2, new.words, new.root_words, new.roots};
     double least = 1e9;
     for (int run = atoi(words[2]); run > 0; run--) {
-        gcflip_verdict verdict;
+        gcflip_verdict verdict = {0, 0, 0, 0};
         double start = milliseconds();
         if (gcflip_check_images(&old_image, &new_image, row, pairs, &verdict) != GCFLIP_YES)
             die("not a yes");

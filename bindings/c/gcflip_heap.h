@@ -8,13 +8,16 @@
  * The promise, proved of the code behind these calls:
  * - each reply and each new state is the one that the definitions of the collector give. So mutators get the
  *   replies of a heap without a collector, except that an allocation may find the heap full;
- * - a flip happens only if the checker accepts its certificate, and the flip of a ready collection passes;
+ * - a flip happens only if its certificate holds, and the flip of a ready collection passes. That each flip asks the checker is
+ *   proved one layer below, of CollectedHeap::flip in crates/gc_core;
  * - no step lacks room if the new space is at least as large as the heap;
  * - only open, begin, begin_sized, flip and work can return GCFLIP_HEAP_NO_MEMORY, and, while a collection is open,
  *   put, put_number, cons and new_from.
  *
  * What the caller owes, since nothing checks C code:
  * - no pointer is NULL, not even one to an empty array. Each is aligned, and no two pointers of a call overlap;
+ * - the memory behind a pointer is initialized, that of an output too, and an array has at least as many elements as its
+ *   count says. Nobody else writes this memory during the call;
  * - a handle is not copied, and only these calls write it. It may be moved in memory;
  * - one thread at a time uses a handle. A lock, or the start or join of a thread, orders the uses. Different handles
  *   are independent;

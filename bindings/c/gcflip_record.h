@@ -314,7 +314,7 @@ static inline uint32_t gcflip_record_useful(gcflip_heap *heap, const gcflip_coun
         return answer;
     }
     for (m = 0; m < counts->mutators; m++) {
-        size_t length;
+        size_t length = 0;
         gcflip_heap_log_length(heap, m, &length);
         if (length > 0)
             return gcflip_record_apply(heap, m);
@@ -324,7 +324,7 @@ static inline uint32_t gcflip_record_useful(gcflip_heap *heap, const gcflip_coun
 
 static inline uint32_t gcflip_record_work(gcflip_heap *heap, uint32_t most, gcflip_work *work)
 {
-    gcflip_counts counts;
+    gcflip_counts counts = {0, 0, 0, 0, 0, 0, 0, 0, 0};
     gcflip_work made = {0, 0, 0, 0};
     uint32_t start, answer = gcflip_heap_counts(heap, &counts);
     if (answer != GCFLIP_DONE)

@@ -49,7 +49,7 @@ static void write_pair(const struct certificate *certificate)
 /* Asks the checker whether the program can continue in the new heap. */
 static bool accepts(const struct heap *old, const struct heap *new)
 {
-    gcflip_verdict verdict;
+    gcflip_verdict verdict = {0, 0, 0, 0};
     times.copied = now();
     struct certificate certificate = new_certificate(old, new);
     times.written = now();

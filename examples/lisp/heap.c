@@ -108,7 +108,7 @@ static uint32_t look(enum slot slot, gcflip_view *view)
 
 enum type type_of(enum slot slot)
 {
-    gcflip_view view;
+    gcflip_view view = {0, 0, 0};
     uint32_t reply = look(slot, &view);
     return type_seen(reply, &view);
 }
@@ -138,7 +138,7 @@ void set_integer(enum slot slot, int64_t integer)
 
 int64_t integer_in(enum slot slot)
 {
-    gcflip_view view;
+    gcflip_view view = {0, 0, 0};
     check_reply(look(slot, &view) == GCFLIP_NUMBER, "integer_in");
     int64_t number = (int64_t)view.number;
     return number <= MOST_INTEGER ? number : number - INT64_MAX - 1;
@@ -148,7 +148,7 @@ int64_t integer_in(enum slot slot)
 
 uint32_t field_count(enum slot object)
 {
-    gcflip_view view;
+    gcflip_view view = {0, 0, 0};
     look(object, &view);
     return view.count;
 }
@@ -165,7 +165,7 @@ static uint32_t read_field(enum slot to, enum slot object, uint32_t field, uint6
 /* `get` does not read the object that it finds, so its type needs a `look`. */
 enum type get(enum slot to, enum slot object, uint32_t field)
 {
-    uint64_t number;
+    uint64_t number = 0;
     uint32_t reply = read_field(to, object, field, &number);
     if (reply == GCFLIP_OBJECT)
         return type_of(to);
@@ -195,7 +195,7 @@ void put_word(enum slot object, uint32_t field, uint64_t word)
 
 static gcflip_counts read_counts(void)
 {
-    gcflip_counts counts;
+    gcflip_counts counts = {0, 0, 0, 0, 0, 0, 0, 0, 0};
     EXPECT_REPLY(GCFLIP_DONE, counts, &counts);
     return counts;
 }

@@ -81,10 +81,10 @@ class Library:
         built = done([*words, "-o", program, os.path.join(SOURCES, source), *linked])
         return program, None if built.status == 0 else "not built: %s" % built.stderr.decode()
 
-    def build_example(self, name):
+    def build_example(self, name, sanitizers=SANITIZERS):
         """Returns the path of a program of bindings/c/examples, and why it was not built, or None."""
         program = os.path.join(self.folder, "example")
-        words = ["gcc", "-std=c99", *WARNINGS, *SANITIZERS, "-I" + os.path.join(self.prefix, "include"), "-o", program]
+        words = ["gcc", "-std=c99", *WARNINGS, *sanitizers, "-I" + os.path.join(self.prefix, "include"), "-o", program]
         built = done([*words, os.path.join(EXAMPLE_PROGRAMS, name), *self.archive()])
         return program, None if built.status == 0 else "not built: %s" % built.stderr.decode()
 
@@ -260,6 +260,12 @@ def example_programs(_program, folder):
     for name in sorted(os.listdir(EXAMPLE_PROGRAMS)):
         path, why = built.build_example(name)
         yield name, why or difference(done([path]), Outcome(EXAMPLE_OUTPUT[name]))
+        path, why = built.build_example(name, [])
+        if shutil.which("valgrind") is None:
+            skip("%s by valgrind" % name, "it is missing")
+            continue
+        words = ["valgrind", "-q", "--error-exitcode=99", "--leak-check=full", path]
+        yield "%s by valgrind" % name, why or difference(done(words), Outcome(EXAMPLE_OUTPUT[name]))
 
 
 GROUPS = [example_programs, programs, pkg_config, texts, plays, recorded_work, long_run]

@@ -264,6 +264,24 @@ def names_in_c(_program, _folder):
             yield "C of %s" % document, ", ".join(sorted(used - known)) or None
 
 
+# Variables that calls write to, declared without a value.
+UNINITIALIZED = re.compile(r"(?m)^ *(?:gcflip_(?:verdict|view|work|counts|log_entry)) \w+;")
+
+
+def outputs_in_c(_program, _folder):
+    """Checks that the examples and the documents initialize the structs that calls write to, as the headers require."""
+    shown = [(document, "\n".join(line for block in blocks(document, "c") for line in block)) for document in documents()]
+    files_of_c = [os.path.join("bindings", "c", "examples", "*.c"), os.path.join("bindings", "c", "*.h"), os.path.join("examples", "*", "*.c"),
+                  os.path.join("bench", "**", "*.c")]
+    for pattern in files_of_c:
+        for path in sorted(glob.glob(os.path.join(TOP, pattern), recursive=True)):
+            with open(path, encoding="utf-8") as file:
+                shown.append((os.path.relpath(path, TOP), file.read()))
+    found = ["%s: %s" % (path, line.strip()) for path, text in shown for line in UNINITIALIZED.findall(text)]
+    yield "structs of C are initialized", ", ".join(found) or None
+    yield "a struct without a value is found", None if UNINITIALIZED.search("    gcflip_view view;\n") else "it is not"
+
+
 def c_of_readme(_program, folder):
     """Compiles README's C as the body of a function."""
     if shutil.which("gcc") is None:
@@ -365,4 +383,4 @@ def applied_edits(_program, _folder):
             yield "edit %s/%s" % (crate, name), why_not_applied(crate, name)
 
 
-GROUPS = [names, words, files, clauses, crates, edits, applied_edits, quotes, names_in_c, c_of_readme, commands, commands_of_tables, definitions, counts]
+GROUPS = [names, words, files, clauses, crates, edits, applied_edits, quotes, names_in_c, outputs_in_c, c_of_readme, commands, commands_of_tables, definitions, counts]

@@ -47,11 +47,13 @@ def files(_program, folder):
             yield "the headers of %s" % name, None if right else str(headers)
         for name, (path, wanted) in REFUSED_PATHS.items():
             for method in ("GET", "POST"):
-                status, _, body = server.request(method, path.replace("T", server.token, 1), Content_Type="application/json")
+                status, headers, body = server.request(method, path.replace("T", server.token, 1), Content_Type="application/json")
                 # The last one is a request of the page, without the data that it needs.
                 expected = 400 if method == "POST" and path == "/T/play" else wanted
                 right = status == expected and len(body.split()) > 3
                 yield "%s, by %s" % (name, method), None if right else "status %d, said %r" % (status, body)
+                guarded = headers.get("X-Content-Type-Options") == "nosniff" and headers.get("Content-Security-Policy", "").startswith("default-src 'none';")
+                yield "the headers of %s, by %s" % (name, method), None if guarded else str(headers)
 
 
 HOSTS = {"another name": "example.org", "another name with the port": "example.org:P", "the right name without the port": "127.0.0.1",
@@ -95,6 +97,22 @@ def refusals(_program, folder):
         yield "it listens on loopback alone", wrong(bound, ["0100007F:%04X" % server.port])
         yield "it still answers", wrong(len(server.ask("start")["examples"]) > 10, True)
         yield "it ends without complaint", wrong(server.end(), "")
+
+
+def patience(_program, folder):
+    """Checks that the server closes a connection that is silent for 20 seconds, as its comment says, and not much earlier or later."""
+    with served(folder) as server:
+        if server is None:
+            return
+        started = time.monotonic()
+        with socket.create_connection(("127.0.0.1", server.port), timeout=40) as connection:
+            connection.sendall(b"GET ")
+            try:
+                closed = connection.recv(1) == b""
+            except OSError:
+                closed = False
+        waited = time.monotonic() - started
+        yield "a silent connection is closed", None if closed and 15 < waited < 35 else "closed: %s, after %.1f seconds" % (closed, waited)
 
 
 def is_closed(connection):

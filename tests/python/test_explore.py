@@ -1,6 +1,7 @@
 """Tests of the Python code of gcflip.explore: players, the useful step, certificates, spoiled pairs and requests."""
 import random
 import unittest
+from unittest import mock
 
 import gcflip
 from gcflip.explore import checking, playing, requests, state
@@ -269,6 +270,12 @@ class Requests(unittest.TestCase):
             self.ask("play", text=text + "m 0 nil r0\n")
         with self.assertRaises(requests.BadRequest):
             self.ask("insert", text=text, line="m 0 nil r0")
+
+    def test_a_request_without_memory_is_refused(self):
+        for fault in (MemoryError(), gcflip.OutOfMemory("play")):
+            with self.subTest(fault=type(fault)), mock.patch.dict(self.desk.answers, {"play": mock.Mock(side_effect=fault)}):
+                with self.assertRaisesRegex(requests.BadRequest, "Out of memory"):
+                    self.ask("play", text="heaptrace 1\nspace 8 mutators 1\n")
 
     def test_an_event_of_no_mutator_is_a_fault(self):
         found = self.ask("insert", text="heaptrace 1\nspace 8 mutators 1\n", line="m 1 nil r0")

@@ -1,0 +1,241 @@
+/* Performs the calls on standard input, a line each, and prints a line for each: random_calls [RECORD].
+   Compiled with -DRECORD, it records the run into RECORD. tests/program/random_calls.py makes the calls and knows the lines.
+
+   Outputs that a call must leave alone are compared with what they held before. */
+#ifdef RECORD
+#include "gcflip_record.h"
+FILE *gcflip_trace;
+#else
+#include "gcflip_heap.h"
+#endif
+#include "expect.h"
+#include <string.h>
+
+#define MOST 70000
+#define KEPT 0x5a5a5a5a5a5a5a5aull
+#define KEPT_32 0x5a5a5a5au
+
+static gcflip_heap heap = GCFLIP_NO_HEAP;
+static uint64_t a[MOST];
+
+static const char *const replies[] = {
+    [GCFLIP_DONE] = "done", [GCFLIP_HEAP_NO_MEMORY] = "no memory", [GCFLIP_HEAP_OUT_OF_RANGE] = "out of range",
+    [GCFLIP_HEAP_CLOSED] = "closed", [GCFLIP_HEAP_OPEN] = "open", [GCFLIP_MADE] = "made", [GCFLIP_FULL] = "full",
+    [GCFLIP_NO_OBJECT] = "no object", [GCFLIP_NO_FIELD] = "no field", [GCFLIP_NO_NUMBER] = "no number", [GCFLIP_SAME] = "yes",
+    [GCFLIP_NOT_SAME] = "no", [GCFLIP_NIL] = "saw nil", [GCFLIP_NUMBER] = "saw num", [GCFLIP_OBJECT] = "saw obj",
+    [GCFLIP_RAW_OBJECT] = "saw raw", [GCFLIP_BUSY] = "busy", [GCFLIP_BEGUN] = "begun", [GCFLIP_IDLE] = "idle", [GCFLIP_CLEAN] = "clean",
+    [GCFLIP_NO_ROOM] = "no room", [GCFLIP_COPIED] = "copied", [GCFLIP_PASSED] = "passed", [GCFLIP_SCANNED] = "scanned",
+    [GCFLIP_APPLIED] = "applied", [GCFLIP_NOT_READY] = "not ready", [GCFLIP_FLIP_REFUSED] = "refused", [GCFLIP_FLIPPED] = "flipped",
+    [GCFLIP_DROPPED] = "dropped",
+};
+
+static const char *reply(uint32_t answer)
+{
+    EXPECT(answer < sizeof replies / sizeof replies[0] && replies[answer]);
+    return replies[answer];
+}
+
+static void look(uint8_t m, uint8_t s)
+{
+    gcflip_view view = {KEPT_32, KEPT_32, KEPT};
+    uint32_t answer = gcflip_heap_look(&heap, m, s, &view);
+    printf("%s", reply(answer));
+    if (GCFLIP_IS_REFUSED(answer))
+        EXPECT(view.kind == KEPT_32 && view.count == KEPT_32 && view.number == KEPT);
+    else if (answer == GCFLIP_NUMBER)
+        EXPECT(view.kind == 0 && view.count == 0 && printf(" %llu", (unsigned long long)view.number) > 0);
+    else if (answer == GCFLIP_NIL)
+        EXPECT(view.kind == 0 && view.count == 0 && view.number == 0);
+    else
+        EXPECT(view.number == 0 && printf(" %u %u", view.kind, view.count) > 0);
+    printf("\n");
+}
+
+/* A reference that a get sees is printed without its object, since the call does not tell it. */
+static void get(uint8_t m, uint8_t d, uint8_t s, uint16_t i)
+{
+    uint64_t number = KEPT;
+    uint32_t answer = gcflip_heap_get(&heap, m, d, s, i, &number);
+    printf("%s", reply(answer));
+    if (answer == GCFLIP_NUMBER)
+        printf(" %llu", (unsigned long long)number);
+    else
+        EXPECT(number == KEPT);
+    printf("\n");
+}
+
+static void flip(void)
+{
+    uint32_t pairs = KEPT_32, answer = gcflip_heap_flip(&heap, &pairs);
+    printf("%s", reply(answer));
+    if (answer == GCFLIP_FLIPPED)
+        printf(" %u", pairs);
+    else
+        EXPECT(pairs == KEPT_32);
+    printf("\n");
+}
+
+static void work(uint32_t most)
+{
+    gcflip_work work = {KEPT_32, KEPT_32, KEPT_32, KEPT_32};
+    uint32_t answer = gcflip_heap_work(&heap, most, &work);
+    if (answer != GCFLIP_DONE) {
+        EXPECT(work.steps == KEPT_32 && work.copied == KEPT_32 && work.last == KEPT_32 && work.pairs == KEPT_32);
+        printf("%s\n", reply(answer));
+        return;
+    }
+    printf("worked %u %u %s", work.steps, work.copied, reply(work.last));
+    if (work.last == GCFLIP_FLIPPED)
+        printf(" %u", work.pairs);
+    else
+        EXPECT(work.pairs == 0);
+    printf("\n");
+}
+
+static void counts(void)
+{
+    gcflip_counts c;
+    memset(&c, 0x5a, sizeof c);
+    uint32_t answer = gcflip_heap_counts(&heap, &c);
+    if (answer != GCFLIP_DONE) {
+        EXPECT(c.size == KEPT_32 && c.scan_field == KEPT_32);
+        printf("%s\n", reply(answer));
+        return;
+    }
+    printf("counts %u %u %u %u %u %u %u %u %u\n", c.size, c.end, c.free, c.mutators, c.is_open, c.new_size, c.new_end, c.scan_place, c.scan_field);
+}
+
+static void print_log(uint8_t m)
+{
+    size_t length = KEPT_32;
+    uint32_t answer = gcflip_heap_log_length(&heap, m, &length);
+    gcflip_log_entry entry = {KEPT_32, KEPT_32};
+    if (answer != GCFLIP_DONE) {
+        EXPECT(length == KEPT_32);
+        printf("%s\n", reply(answer));
+        return;
+    }
+    EXPECT(gcflip_heap_log_entry(&heap, m, length, &entry) == GCFLIP_HEAP_OUT_OF_RANGE && entry.object == KEPT_32);
+    printf("log %zu", length);
+    for (size_t k = 0; k < length; k++) {
+        EXPECT(gcflip_heap_log_entry(&heap, m, k, &entry) == GCFLIP_DONE);
+        printf(" %u:%u", entry.object, entry.field);
+    }
+    printf("\n");
+}
+
+static void print_words(const char *name, const uint64_t *words, size_t count, const uint64_t *more, size_t others)
+{
+    printf("%s", name);
+    for (size_t i = 0; i < count; i++)
+        printf(" %llu", (unsigned long long)words[i]);
+    for (size_t i = 0; i < others; i++)
+        printf(" %llu", (unsigned long long)more[i]);
+    printf("\n");
+}
+
+/* Allocates exactly the words, so that a sanitizer sees one too many. Counts that are wrong by one are refused. */
+static void image(size_t count, size_t others)
+{
+    uint64_t *words = malloc(8 * count), *roots = malloc(8 * others);
+    gcflip_counts c;
+    EXPECT(words && roots && gcflip_heap_counts(&heap, &c) == GCFLIP_DONE);
+    EXPECT(c.end == count && gcflip_heap_root_count((uint8_t)c.mutators) == others);
+    EXPECT(gcflip_heap_image(&heap, words, count + 1, roots, others) == GCFLIP_HEAP_OUT_OF_RANGE);
+    EXPECT(gcflip_heap_image(&heap, words, count, roots, others - 1) == GCFLIP_HEAP_OUT_OF_RANGE);
+    uint32_t answer = gcflip_heap_image(&heap, words, count, roots, others);
+    if (answer == GCFLIP_DONE)
+        print_words("image", words, count, roots, others);
+    else
+        printf("%s\n", reply(answer));
+    free(words);
+    free(roots);
+}
+
+static void new_words(size_t count)
+{
+    uint64_t *words = malloc(8 * count);
+    EXPECT(words);
+    EXPECT(gcflip_heap_new_words(&heap, words, count + 1) == GCFLIP_HEAP_OUT_OF_RANGE);
+    uint32_t answer = gcflip_heap_new_words(&heap, words, count);
+    if (answer == GCFLIP_DONE)
+        print_words("words", words, count, words, 0);
+    else
+        printf("%s\n", reply(answer));
+    free(words);
+}
+
+static void new_from(void)
+{
+    uint8_t fields[MOST];
+    EXPECT(a[3] < MOST);
+    for (size_t i = 0; i < a[3]; i++)
+        fields[i] = (uint8_t)a[4 + i];
+    printf("%s\n", reply(gcflip_heap_new_from(&heap, (uint8_t)a[0], (uint8_t)a[1], (uint8_t)a[2], fields, a[3])));
+}
+
+#define IS(text) (strcmp(name, text) == 0)
+
+/* Performs a call that returns a reply and writes nothing. */
+static uint32_t plain(const char *name)
+{
+    const uint8_t m = (uint8_t)a[0], d = (uint8_t)a[1];
+    if (IS("open")) return gcflip_heap_open(&heap, (uint32_t)a[0], d);
+    if (IS("close")) return gcflip_heap_close(&heap);
+    if (IS("new")) return gcflip_heap_new(&heap, m, d, (uint8_t)a[2], (uint16_t)a[3]);
+    if (IS("raw")) return gcflip_heap_raw(&heap, m, d, (uint8_t)a[2], (uint16_t)a[3]);
+    if (IS("num")) return gcflip_heap_num(&heap, m, d, a[2]);
+    if (IS("nil")) return gcflip_heap_nil(&heap, m, d);
+    if (IS("move")) return gcflip_heap_move(&heap, m, d, (uint8_t)a[2]);
+    if (IS("put")) return gcflip_heap_put(&heap, m, d, (uint16_t)a[2], (uint8_t)a[3]);
+    if (IS("put_number")) return gcflip_heap_put_number(&heap, m, d, (uint16_t)a[2], (uint8_t)a[3], a[4]);
+    if (IS("cons")) return gcflip_heap_cons(&heap, m, d, (uint8_t)a[2], (uint8_t)a[3], (uint8_t)a[4]);
+    if (IS("same")) return gcflip_heap_same(&heap, m, d, (uint8_t)a[2]);
+    if (IS("begin")) return gcflip_heap_begin(&heap);
+    if (IS("begin_sized")) return gcflip_heap_begin_sized(&heap, (uint32_t)a[0]);
+    if (IS("roots")) return gcflip_heap_roots(&heap);
+    if (IS("scan")) return gcflip_heap_scan(&heap);
+    if (IS("apply")) return gcflip_heap_apply(&heap, m);
+    EXPECT(IS("drop"));
+    return gcflip_heap_drop(&heap);
+}
+
+static void perform(const char *name)
+{
+    const uint8_t m = (uint8_t)a[0], d = (uint8_t)a[1];
+    if (IS("look")) look(m, d);
+    else if (IS("get")) get(m, d, (uint8_t)a[2], (uint16_t)a[3]);
+    else if (IS("flip")) flip();
+    else if (IS("work")) work((uint32_t)a[0]);
+    else if (IS("counts")) counts();
+    else if (IS("log")) print_log(m);
+    else if (IS("image")) image(a[0], a[1]);
+    else if (IS("new_words")) new_words(a[0]);
+    else if (IS("new_from")) new_from();
+    else printf("%s\n", reply(plain(name)));
+}
+
+int main(int count, char **words)
+{
+    static char line[1 << 20];
+#ifdef RECORD
+    EXPECT(count == 2 && (gcflip_trace = fopen(words[1], "w")) != NULL);
+#else
+    (void)words;
+    EXPECT(count == 1);
+#endif
+    while (fgets(line, sizeof line, stdin)) {
+        const char *name = strtok(line, " \n"), *word;
+        size_t read = 0;
+        EXPECT(name);
+        while ((word = strtok(NULL, " \n"))) {
+            EXPECT(read < MOST);
+            a[read++] = strtoull(word, NULL, 10);
+        }
+        perform(name);
+    }
+#ifdef RECORD
+    EXPECT(!ferror(gcflip_trace) && fclose(gcflip_trace) == 0);
+#endif
+    return 0;
+}

@@ -1,0 +1,244 @@
+"""A model of the heap, its mutators and its collector, written from docs/FORMATS.md and the headers' comments alone.
+
+It keeps the words themselves: a list of words for each space, and a list of root words. It is slow, and says no more than the documents do.
+"""
+
+OWN = SHARED = 16
+FLAG, RAW_FLAG = 1 << 24, 3 << 24
+
+
+def header(is_raw, kind, length):
+    return (RAW_FLAG if is_raw else FLAG) + (kind << 16) + length
+
+
+class Space:
+    """Words from 0 on: word 0 is 0, and objects follow one another: a header, a link, and the fields."""
+
+    def __init__(self, size):
+        self.size = size
+        self.words = [0]
+
+    def has_room(self, length):
+        return len(self.words) + length + 2 <= self.size
+
+    def place(self, head, link, fields):
+        """Places an object at the end, and returns its address."""
+        at = len(self.words)
+        self.words += [head, link, *fields]
+        return at
+
+    def is_raw(self, at):
+        return self.words[at] >= RAW_FLAG
+
+    def kind(self, at):
+        return (self.words[at] >> 16) & 255
+
+    def length(self, at):
+        return self.words[at] & 65535
+
+    def fields(self, at):
+        return self.words[at + 2:at + 2 + self.length(at)]
+
+    def starts(self):
+        """Returns the addresses of all objects."""
+        found, at = [], 1
+        while at < len(self.words):
+            found.append(at)
+            at += self.length(at) + 2
+        return found
+
+
+class NoRoom(Exception):
+    """The new space has no room for a replica."""
+
+
+class Model:
+    """A heap. Commands and steps return their reply as a line of a trace's replies."""
+
+    def __init__(self, size, mutators):
+        self.space = Space(size)
+        self.mutators = mutators
+        self.roots = [0] * (SHARED + OWN * mutators)
+        self.new = None
+        self.logs = []
+        self.scan_place = self.scan_field = 0
+        self.flips = []
+
+    # ---- slots: a number below 16 is the mutator's own, and one from 16 to 31 is shared
+
+    def root(self, m, slot):
+        return SHARED + OWN * m + slot if slot < OWN else slot - OWN
+
+    def value(self, m, slot):
+        return self.roots[self.root(m, slot)]
+
+    def set(self, m, slot, word):
+        self.roots[self.root(m, slot)] = word
+
+    def target(self, m, slot):
+        """Returns the address that the slot refers to, or None."""
+        word = self.value(m, slot)
+        return word // 2 if word > 0 and word % 2 == 0 else None
+
+    def seen(self, word):
+        """Returns what a mutator sees of a value."""
+        if word == 0:
+            return "nil"
+        if word % 2 == 1:
+            return "num %d" % (word // 2)
+        at = word // 2
+        return "%s %d %d" % ("raw" if self.space.is_raw(at) else "obj", self.space.kind(at), self.space.length(at))
+
+    # ---- commands
+
+    def make(self, m, is_raw, d, kind, length):
+        if not self.space.has_room(length):
+            return "full"
+        self.set(m, d, 2 * self.space.place(header(is_raw, kind, length), 0, [0] * length))
+        return "made"
+
+    def num(self, m, d, n):
+        self.set(m, d, 2 * n + 1)
+        return "done"
+
+    def nil(self, m, d):
+        self.set(m, d, 0)
+        return "done"
+
+    def move(self, m, d, s):
+        self.set(m, d, self.value(m, s))
+        return "done"
+
+    def get(self, m, d, s, i):
+        at = self.target(m, s)
+        if at is None:
+            return "no object"
+        if i >= self.space.length(at):
+            return "no field"
+        word = self.space.words[at + 2 + i]
+        self.set(m, d, 2 * word + 1 if self.space.is_raw(at) else word)
+        return "saw " + self.seen(self.value(m, d))
+
+    def put(self, m, s, i, t):
+        at, word = self.target(m, s), self.value(m, t)
+        if at is None:
+            return "no object"
+        if i >= self.space.length(at):
+            return "no field"
+        if self.space.is_raw(at) and word % 2 == 0:
+            return "no number"
+        self.space.words[at + 2 + i] = word // 2 if self.space.is_raw(at) else word
+        if self.new:
+            self.logs[m].append((at, i))
+        return "done"
+
+    def same(self, m, s, t):
+        return "yes" if self.value(m, s) == self.value(m, t) else "no"
+
+    def look(self, m, s):
+        return "saw " + self.seen(self.value(m, s))
+
+    # ---- the collector
+
+    def begin(self, size=None):
+        if self.new:
+            return "busy"
+        self.new = Space(self.space.size if size is None else size)
+        self.logs = [[] for _ in range(self.mutators)]
+        self.scan_place, self.scan_field = 1, 0
+        return "begun"
+
+    def replica(self, at):
+        """Returns the replica of an original, which it places if there is none."""
+        if self.space.words[at + 1] == 0:
+            fields = self.space.fields(at)
+            if not self.new.has_room(len(fields)):
+                raise NoRoom
+            self.space.words[at + 1] = self.new.place(self.space.words[at], at, fields if self.space.is_raw(at) else [0] * len(fields))
+        return self.space.words[at + 1]
+
+    def bring_up_to_date(self, original, replica, field):
+        word = self.space.words[original + 2 + field]
+        if not self.space.is_raw(original) and word > 0 and word % 2 == 0:
+            word = 2 * self.replica(word // 2)
+        self.new.words[replica + 2 + field] = word
+
+    def copied(self, word):
+        """Returns whether a root word needs no replica."""
+        return word == 0 or word % 2 == 1 or self.space.words[word // 2 + 1] != 0
+
+    def step_roots(self):
+        for word in self.roots:
+            if not self.copied(word):
+                self.replica(word // 2)
+                return "copied"
+        return "clean"
+
+    def step_scan(self):
+        at, field = self.scan_place, self.scan_field
+        if at == len(self.new.words):
+            return "clean"
+        if self.new.is_raw(at) or field == self.new.length(at):
+            self.scan_place, self.scan_field = at + self.new.length(at) + 2, 0
+            return "passed"
+        self.bring_up_to_date(self.new.words[at + 1], at, field)
+        self.scan_field += 1
+        return "scanned"
+
+    def step_apply(self, m):
+        if not self.logs[m]:
+            return "clean"
+        at, field = self.logs[m][0]
+        if self.space.words[at + 1] != 0:
+            self.bring_up_to_date(at, self.space.words[at + 1], field)
+        self.logs[m].pop(0)
+        return "applied"
+
+    def step_flip(self):
+        if any(self.logs) or self.scan_place != len(self.new.words) or not all(map(self.copied, self.roots)):
+            return "not ready"
+        old = list(self.space.words), list(self.roots), self.space.size
+        pairs = [(self.new.words[at + 1], at) for at in self.new.starts()]
+        self.roots = [word if word == 0 or word % 2 == 1 else 2 * self.space.words[word // 2 + 1] for word in self.roots]
+        self.flips.append((old, (list(self.new.words), list(self.roots), self.new.size), pairs))
+        self.space, self.new, self.logs = self.new, None, []
+        self.unlink()
+        return "flipped %d" % len(pairs)
+
+    def step_drop(self):
+        self.new, self.logs = None, []
+        self.unlink()
+        return "dropped"
+
+    def unlink(self):
+        """Sets all links to 0. No collection is open."""
+        for at in self.space.starts():
+            self.space.words[at + 1] = 0
+
+    def step(self, name, *numbers):
+        """Performs a step other than begin."""
+        if not self.new:
+            return "idle"
+        try:
+            return getattr(self, "step_" + name)(*numbers)
+        except NoRoom:
+            return "no room"
+
+    def useful(self):
+        """Performs the useful step, and returns its line in a trace and its reply."""
+        if not self.new:
+            return "c begin", self.begin()
+        for line, name, numbers in [("c roots", "roots", ()), ("c scan", "scan", ())] + [("c apply %d" % m, "apply", (m,)) for m in range(self.mutators)]:
+            reply = self.step(name, *numbers)
+            if reply != "clean":
+                return line, reply
+        return "c flip", self.step("flip")
+
+    # ---- what the calls that read write
+
+    def scan_numbers(self):
+        return (self.new.size, len(self.new.words), self.scan_place, self.scan_field) if self.new else (0, 0, 0, 0)
+
+    def counts(self):
+        end, (new_size, new_end, place, field) = len(self.space.words), self.scan_numbers()
+        return [self.space.size, end, self.space.size - end, self.mutators, int(self.new is not None), new_size, new_end, place, field]

@@ -1,0 +1,167 @@
+"""Plays random commands, steps and calls by C, Rust, Python and the program, and compares all that they show with the model of heap_model.
+
+The seed is printed. `tests/run --only random --seed N` repeats a run. `tests/long` makes many rounds.
+"""
+import os
+import random
+import re
+import subprocess
+import sys
+import time
+
+from .c_library import SANITIZERS, SOURCES, WARNINGS, done, library
+from .harness import Outcome, difference, file_of, run
+from .python import TESTS, Python, content_of
+from .random_calls import random_calls, traces_of
+from .rust import prepared
+
+STARTED = int(time.time())
+# How many lists of calls each part plays in a round, and how long one is at least.
+LISTS, CALLS = 12, 1500
+SECONDS = 300
+
+
+def seed():
+    """Returns the seed of this run: the time at which it started, unless one is given."""
+    return int(os.environ.get("GCFLIP_SEED") or STARTED)
+
+
+def rounds():
+    return int(os.environ.get("GCFLIP_ROUNDS") or 1)
+
+
+def lists(part):
+    """Yields the lists of calls of a part, each with its name. Prints the seed and, at the end, how many calls there were."""
+    print("random: %s, seed %d" % (part, seed()), flush=True)
+    count = 0
+    for number in range(LISTS * rounds()):
+        calls = random_calls(random.Random("%d %s %d" % (seed(), part, number)), CALLS)
+        count += len(calls.calls)
+        yield "%s %d of seed %d" % (part, number, seed()), calls
+    print("random: %s, %d calls" % (part, count), flush=True)
+
+
+def first_difference(calls, printed, wanted):
+    """Returns the first call whose line differs, or None."""
+    for number, (call, line) in enumerate(zip(calls, wanted)):
+        found = printed[number] if number < len(printed) else None
+        if found != line:
+            return "call %d, %s: %.300r, wanted %.300r" % (number, call[:80], found, line)
+    return None if len(printed) == len(wanted) else "%d lines, wanted %d" % (len(printed), len(wanted))
+
+
+def wanted_by_c(calls):
+    """Returns the lines that the program in C prints: gcflip_heap_get says of an object only that it saw one."""
+    return ["saw obj" if call.startswith("get ") and re.match("saw (obj|raw) ", line) else line for call, line in zip(calls.calls, calls.printed)]
+
+
+def played(words, calls, wanted, **more):
+    """Runs a driver on the calls, and returns why it does not print what it should, or None."""
+    text = "".join(call + "\n" for call in calls.calls).encode()
+    found = subprocess.run(words, input=text, stdout=subprocess.PIPE, stderr=subprocess.PIPE, timeout=SECONDS, **more)
+    if found.returncode != 0:
+        return "status %d: %s" % (found.returncode, found.stderr.decode("utf-8", "replace")[-600:])
+    return first_difference(calls.calls, found.stdout.decode().splitlines(), wanted)
+
+
+def built_driver(built, name, flags):
+    """Builds tests/c/random_calls.c with sanitizers, and returns the program and why it was not built, or None."""
+    program = os.path.join(built.folder, name)
+    words = ["gcc", "-std=gnu11", "-O1", *WARNINGS, *SANITIZERS, *flags, "-I" + os.path.join(built.prefix, "include"), "-o", program]
+    made = done([*words, os.path.join(SOURCES, "random_calls.c"), *built.archive()])
+    return program, None if made.status == 0 else "not built: %s" % made.stderr.decode()
+
+
+def c_calls(_program, folder):
+    """The calls in C give the model's replies, counts, logs and images, and leave all other outputs alone."""
+    built = library(folder)
+    if built is None:
+        return
+    driver, why = built_driver(built, "plain", [])
+    for name, calls in lists("C"):
+        yield name, why or played([driver], calls, wanted_by_c(calls))
+
+
+def recordings(program, folder):
+    """A recording is the model's trace, and the program gives it the model's replies."""
+    built = library(folder)
+    if built is None:
+        return
+    driver, why = built_driver(built, "recording", ["-DRECORD"])
+    record = os.path.join(folder, "record")
+    for name, calls in lists("recorded"):
+        yield name, why or played([driver, record], calls, wanted_by_c(calls))
+        recorded = (content_of(record) or b"").decode().splitlines()
+        yield "the recording of %s" % name, first_difference(calls.trace, recorded, calls.trace)
+        for number, (lines, replies) in enumerate(traces_of(calls)):
+            text = "".join(line + "\n" for line in lines).encode()
+            found = run(program, ["play", file_of(folder, "trace", text)])
+            yield "%s, trace %d is played" % (name, number), difference(found, Outcome("".join(reply + "\n" for reply in replies).encode()))
+
+
+def python_calls(_program, folder):
+    """The calls in Python give the model's replies, counts, logs and images."""
+    built = library(folder)
+    if built is None:
+        return
+    python = Python(built, folder)
+    yield "the Python package is built", python.why
+    for name, calls in lists("Python"):
+        yield name, played([sys.executable, os.path.join("random_calls.py")], calls, calls.printed, env=python.environment)
+
+
+def rust_plays(_program, folder):
+    """The example program in Rust gives the model's replies to random traces."""
+    cargo = prepared(folder)
+    if cargo is None:
+        return
+    made = cargo.run("build", "--example", "play")
+    yield "play.rs is built", None if made.status == 0 else made.stderr.decode()
+    for name, calls in lists("Rust"):
+        for number, (lines, replies) in enumerate(traces_of(calls)):
+            source, target = file_of(folder, "trace", "".join(line + "\n" for line in lines).encode()), os.path.join(folder, "replies")
+            found = done([cargo.example("play"), source, target])
+            why = difference(found, Outcome()) or first_difference(lines[2:], (content_of(target) or b"").decode().splitlines(), replies)
+            yield "%s, trace %d" % (name, number), why
+
+
+# ---- the program
+
+def image_text(name, image):
+    words, roots, size = image
+    lines = ["%s %d %d" % (name, size, len(words)), *map(str, words), "roots %d" % len(roots), *map(str, roots)]
+    return "".join(line + "\n" for line in lines)
+
+
+def pair_text(flip):
+    """Returns the text of a flip's pair."""
+    old, new, pairs = flip
+    lines = ["pairs %d" % len(pairs)] + ["%d %d" % pair for pair in pairs] + ["end"]
+    return ("heappair 2\n" + image_text("old", old) + image_text("new", new) + "".join(line + "\n" for line in lines)).encode()
+
+
+def report_text(model, replies):
+    names = ["made", "full", "begun", "copied", "scanned", "applied"]
+    flips = [int(reply.split(" ")[1]) for reply in replies if reply.startswith("flipped ")]
+    counts = [("events", len(replies))] + [(name, replies.count(name)) for name in names]
+    counts += [("flips", len(flips)), ("pairs", sum(flips)), ("dropped", replies.count("dropped")), ("refused", 0)]
+    counts += [("end", len(model.space.words)), ("free", model.space.size - len(model.space.words))]
+    return "".join("%s %d\n" % count for count in counts).encode()
+
+
+def plays(program, folder):
+    """The program plays and reports random traces as the model does, writes the pairs of their flips, and accepts them."""
+    for name, calls in lists("program"):
+        for number, ((lines, replies), model) in enumerate(zip(traces_of(calls), calls.models)):
+            path = file_of(folder, "trace", "".join(line + "\n" for line in lines).encode())
+            case = "%s, trace %d" % (name, number)
+            yield "%s is played" % case, difference(run(program, ["play", path]), Outcome("".join(reply + "\n" for reply in replies).encode()))
+            yield "%s is reported" % case, difference(run(program, ["report", path]), Outcome(report_text(model, replies)))
+            for n, flip in enumerate(model.flips[:3], 1):
+                text = pair_text(flip)
+                yield "%s, pair %d" % (case, n), difference(run(program, ["pair", path, str(n)]), Outcome(text))
+                checked = run(program, ["check", file_of(folder, "pair", text)])
+                yield "%s, pair %d is accepted" % (case, n), difference(checked, Outcome(b"yes %d\n" % len(flip[2])))
+
+
+GROUPS = [c_calls, recordings, python_calls, rust_plays, plays]

@@ -1,0 +1,256 @@
+"""Makes random calls on a heap, with what each call has to print, and the trace that a recording has to be.
+
+The model of heap_model gives the replies. The driver programs, tests/c/random_calls.c and tests/python/random_calls.py, perform the same calls
+and print a line for each.
+"""
+from .heap_model import Model
+
+EDGES = [0, 1, 2, 1 << 31, (1 << 32) - 1, 1 << 62, (1 << 63) - 1]
+SIZES = [1, 2, 3, 8, 20, 40, 80, 120, 200, 400]
+OUT_OF_RANGE, CLOSED, OPEN = "out of range", "closed", "open"
+# Each call with how often it is made. `session` closes the heap and opens another.
+WEIGHTS = {"new": 8, "raw": 4, "num": 5, "nil": 2, "move": 6, "get": 9, "put": 10, "put_number": 5, "cons": 4, "new_from": 4, "same": 4, "look": 5,
+           "begin": 2, "begin_sized": 1, "roots": 7, "scan": 14, "apply": 5, "flip": 4, "drop": 0.4, "work": 4, "counts": 3, "log": 2,
+           "image": 2, "new_words": 2, "wrong": 4, "session": 0.7}
+COMMANDS = ("new", "raw", "num", "nil", "move", "get", "put", "same", "look")
+
+
+def slot_name(slot):
+    return "%s%d" % ("rg"[slot // 16], slot % 16)
+
+
+class Calls:
+    """A list of calls that grows, with the lines that they print and the lines that a recording writes."""
+
+    def __init__(self, chance):
+        self.chance = chance
+        self.model = None
+        # The model of each session.
+        self.models = []
+        self.calls = []
+        self.printed = []
+        self.trace = []
+        # The reply lines of the program for the recorded events.
+        self.replies = []
+
+    def call(self, words, printed, trace=(), replies=()):
+        self.calls.append(" ".join(str(word) for word in words))
+        self.printed.append(printed)
+        self.trace += trace
+        self.replies += replies
+
+    # ---- choices
+
+    def slot(self):
+        return self.chance.choice([0, 1, 2, 3, 15, 16, 17, 18, 31, self.chance.randrange(32)])
+
+    def mutator(self):
+        return self.chance.choice([0, self.model.mutators - 1, self.chance.randrange(self.model.mutators)])
+
+    def number(self):
+        return self.chance.choice(EDGES + [self.chance.randrange(1 << 63)])
+
+    def length(self):
+        return self.chance.choice([0, 1, 1, 2, 2, 3, 4, 5, self.chance.randrange(30), 300, 65535])
+
+    def field(self, m, slot):
+        """Returns a field's number, mostly one that the slot's object has."""
+        at = self.model.target(m, slot)
+        length = self.model.space.length(at) if at else 0
+        return self.chance.choice([0, max(0, length - 1), length, self.chance.randrange(max(1, length)), self.chance.randrange(max(1, length)), 65535])
+
+    def filled_slot(self, m):
+        """Returns a slot, mostly one with a reference."""
+        filled = [slot for slot in range(32) if self.model.target(m, slot)]
+        return self.chance.choice(filled) if filled and self.chance.random() < 0.9 else self.slot()
+
+    # ---- calls
+
+    def make(self):
+        """Adds one random call, or a new session."""
+        if self.model is None:
+            return self.add_session()
+        names = list(WEIGHTS)
+        name = self.chance.choices(names, [WEIGHTS[name] for name in names])[0]
+        return getattr(self, "add_" + name, lambda: self.add_plain_step(name))()
+
+    def add_session(self):
+        if self.model is not None:
+            self.call(["close"], "done")
+            self.model = None
+        for _ in range(self.chance.randrange(3)):
+            self.call(self.chance.choice([["num", 0, 0, 5], ["roots"], ["work", 3], ["close"], ["counts"]]), CLOSED)
+        if self.chance.random() < 0.3:
+            self.call(["open", *self.chance.choice([(0, 1), (1048577, 1), (4294967295, 1), (9, 0), (9, 17), (9, 255)])], OUT_OF_RANGE)
+        size = self.chance.choice(SIZES + [self.chance.randrange(1, 6000), 70000])
+        mutators = self.chance.choice([1, 1, 2, 3, 16])
+        self.model = Model(size, mutators)
+        self.models.append(self.model)
+        self.call(["open", size, mutators], "done", ["heaptrace 3", "space %d mutators %d" % (size, mutators)])
+
+    def add_command(self, name, m, *numbers):
+        """Adds a command that is a line of a trace."""
+        model = self.model
+        if name in ("new", "raw"):
+            reply = model.make(m, name == "raw", *numbers)
+            words = [slot_name(numbers[0]), *numbers[1:]]
+        else:
+            reply = getattr(model, name)(m, *numbers)
+            slots = {"num": 1, "nil": 1, "move": 2, "get": 2, "put": 1, "same": 2, "look": 1}[name]
+            words = [slot_name(number) for number in numbers[:slots]] + list(numbers[slots:])
+            if name == "put":
+                words[2] = slot_name(numbers[2])
+        line = "m %d %s %s" % (m, name, " ".join(str(word) for word in words))
+        return line, reply
+
+    def add_simple(self, name, m, *numbers):
+        line, reply = self.add_command(name, m, *numbers)
+        self.call([name, m, *numbers], reply, [line], [reply])
+
+    def add_new(self, name="new"):
+        self.add_simple(name, self.mutator(), self.slot(), self.chance.choice([0, 1, 7, 255]), self.length())
+
+    def add_raw(self):
+        self.add_new("raw")
+
+    def add_num(self):
+        self.add_simple("num", self.mutator(), self.slot(), self.number())
+
+    def add_nil(self):
+        self.add_simple("nil", self.mutator(), self.slot())
+
+    def add_move(self):
+        m = self.mutator()
+        self.add_simple("move", m, self.slot(), self.filled_slot(m))
+
+    def add_get(self):
+        m = self.mutator()
+        s = self.filled_slot(m)
+        self.add_simple("get", m, self.slot(), s, self.field(m, s))
+
+    def add_put(self):
+        m = self.mutator()
+        s = self.filled_slot(m)
+        self.add_simple("put", m, s, self.field(m, s), self.slot())
+
+    def add_same(self):
+        m = self.mutator()
+        self.add_simple("same", m, self.filled_slot(m), self.filled_slot(m))
+
+    def add_look(self):
+        m = self.mutator()
+        self.add_simple("look", m, self.filled_slot(m))
+
+    def add_put_number(self):
+        m = self.mutator()
+        s, t, n = self.filled_slot(m), self.slot(), self.number()
+        i = self.field(m, s)
+        made = [self.add_command("num", m, t, n), self.add_command("put", m, s, i, t)]
+        self.call(["put_number", m, s, i, t, n], made[1][1], [line for line, _ in made], [reply for _, reply in made])
+
+    def from_slots(self, m, d, kind, fields):
+        """Makes an object with fields from slots, and returns its lines with their replies."""
+        made = [self.add_command("new", m, d, kind, len(fields))]
+        if made[0][1] == "made":
+            made += [self.add_command("put", m, d, i, slot) for i, slot in enumerate(fields)]
+        return made
+
+    def add_cons(self):
+        m, d, kind, fields = self.mutator(), self.slot(), self.chance.randrange(256), [self.slot(), self.slot()]
+        made = self.from_slots(m, d, kind, fields)
+        self.call(["cons", m, d, kind, *fields], made[0][1], [line for line, _ in made], [reply for _, reply in made])
+
+    def add_new_from(self):
+        m, d, kind = self.mutator(), self.slot(), self.chance.randrange(256)
+        fields = [self.slot() for _ in range(self.chance.choice([0, 1, 2, 3, 7, 30, 260]))]
+        made = self.from_slots(m, d, kind, fields)
+        self.call(["new_from", m, d, kind, len(fields), *fields], made[0][1], [line for line, _ in made], [reply for _, reply in made])
+
+    def add_begin(self):
+        reply = self.model.begin()
+        self.call(["begin"], reply, ["c begin"], [reply])
+
+    def add_begin_sized(self):
+        size = self.chance.choice([1, 2, 3, 10, len(self.model.space.words), self.model.space.size, self.model.space.size + 7])
+        reply = self.model.begin(size)
+        self.call(["begin_sized", size], reply, ["c begin %d" % size], [reply])
+
+    def add_plain_step(self, name):
+        reply = self.model.step(name)
+        self.call([name], reply, ["c " + name], [reply])
+
+    def add_apply(self):
+        m = self.mutator()
+        reply = self.model.step("apply", m)
+        self.call(["apply", m], reply, ["c apply %d" % m], [reply])
+
+    def add_work(self):
+        most = self.chance.choice([1, 1, 2, 3, 5, 20, 100])
+        start = len(self.model.new.words) if self.model.new else 1
+        made = []
+        while len(made) < most and (not made or not (made[-1][1].startswith("flipped") or made[-1][1] == "no room")):
+            made.append(self.model.useful())
+        last = made[-1][1]
+        end = len(self.model.space.words) if last.startswith("flipped") else len(self.model.new.words)
+        self.call(["work", most], "worked %d %d %s" % (len(made), end - start, last), [line for line, _ in made], [reply for _, reply in made])
+
+    # ---- calls that read, and calls that are out of range
+
+    def add_counts(self):
+        self.call(["counts"], "counts " + " ".join(map(str, self.model.counts())))
+
+    def add_log(self):
+        m = self.mutator()
+        entries = self.model.logs[m] if self.model.new else []
+        self.call(["log", m], " ".join(["log %d" % len(entries)] + ["%d:%d" % entry for entry in entries]))
+
+    def add_image(self):
+        words, roots = self.model.space.words, self.model.roots
+        self.call(["image", len(words), len(roots)], "image " + " ".join(map(str, words + roots)))
+
+    def add_new_words(self):
+        if self.model.new is None:
+            return self.call(["new_words", 1], OUT_OF_RANGE)
+        return self.call(["new_words", len(self.model.new.words)], "words " + " ".join(map(str, self.model.new.words)))
+
+    def add_wrong(self):
+        """Adds a call with one argument out of range. Nothing changes, and a recording has no line for it."""
+        beyond, slot = self.chance.choice([self.model.mutators, 16, 255]), self.chance.choice([32, 33, 128, 255])
+        m = self.mutator()
+        self.call(self.chance.choice([
+            ["new", beyond, 0, 1, 1], ["new", m, slot, 1, 1], ["raw", beyond, 0, 1, 1], ["raw", m, slot, 1, 1], ["num", m, slot, 1], ["num", m, 0, 1 << 63],
+            ["num", m, 0, (1 << 64) - 1], ["num", beyond, 0, 1], ["nil", beyond, 0], ["nil", m, slot], ["move", m, 0, slot], ["move", m, slot, 0],
+            ["move", beyond, 0, 0], ["get", m, slot, 0, 0], ["get", m, 0, slot, 0], ["get", beyond, 0, 0, 0], ["put", m, slot, 0, 0],
+            ["put", m, 0, 0, slot], ["put", beyond, 0, 0, 0], ["put_number", m, slot, 0, 0, 1], ["put_number", m, 0, 0, slot, 1],
+            ["put_number", beyond, 0, 0, 0, 1], ["put_number", m, 0, 0, 0, 1 << 63], ["cons", m, slot, 0, 0, 0], ["cons", m, 0, 0, slot, 0],
+            ["cons", m, 0, 0, 0, slot], ["cons", beyond, 0, 0, 0, 0], ["new_from", m, 0, 0, 2, 0, slot], ["new_from", beyond, 0, 0, 1, 0],
+            ["new_from", m, slot, 0, 0], ["same", m, slot, 0], ["same", m, 0, slot], ["same", beyond, 0, 0], ["look", m, slot], ["look", beyond, 0],
+            ["begin_sized", 0], ["begin_sized", 1048577], ["begin_sized", 4294967295], ["apply", beyond], ["log", beyond], ["work", 0]]), OUT_OF_RANGE)
+
+    def finish(self):
+        if self.model is not None:
+            self.call(["image", len(self.model.space.words), len(self.model.roots)], "image " + " ".join(map(str, self.model.space.words + self.model.roots)))
+            self.call(["close"], "done")
+            self.model = None
+
+
+def random_calls(chance, count):
+    """Returns this many random calls and some more."""
+    calls = Calls(chance)
+    while len(calls.calls) < count:
+        calls.make()
+    calls.finish()
+    return calls
+
+
+def traces_of(calls):
+    """Yields each trace of the recording as a list of lines, with its replies."""
+    first, used = None, 0
+    lines = calls.trace + ["heaptrace"]
+    for at, line in enumerate(lines):
+        if line.startswith("heaptrace"):
+            if first is not None:
+                count = at - first - 2
+                yield lines[first:at], calls.replies[used:used + count]
+                used += count
+            first = at

@@ -1,0 +1,95 @@
+"""Performs the calls on standard input, a line each, and prints a line for each. tests/program/random_calls.py makes the calls and knows the lines."""
+import sys
+
+import gcflip
+from gcflip.heap import Mutator, Step
+
+REPLIES = {gcflip.Full: "full", gcflip.NoObject: "no object", gcflip.NoField: "no field", gcflip.NoNumber: "no number", gcflip.Busy: "busy",
+           gcflip.Idle: "idle", gcflip.NoRoom: "no room", gcflip.NotReady: "not ready", gcflip.OutOfRange: "out of range", gcflip.Closed: "closed",
+           gcflip.OutOfMemory: "no memory"}
+DONE = {"new": "made", "raw": "made", "cons": "made", "num": "done", "nil": "done", "move": "done", "put": "done", "put_number": "done"}
+
+
+def seen(value):
+    if value is None:
+        return "saw nil"
+    if isinstance(value, int):
+        return "saw num %d" % value
+    return "saw %s %d %d" % ("raw" if value.raw else "obj", value.kind, value.length)
+
+
+def worked(work):
+    flipped = " %d" % work.pairs if work.last is Step.FLIPPED else ""
+    assert flipped or work.pairs == 0
+    return "worked %d %d %s%s" % (work.steps, work.copied, work.last.value, flipped)
+
+
+def of_mutator(heap, name, numbers):
+    """Makes a mutator's call."""
+    mutator = Mutator(heap, numbers[0])
+    if name in ("get", "look"):
+        return seen(getattr(mutator, name)(*numbers[1:]))
+    if name == "same":
+        return "yes" if mutator.same(*numbers[1:]) else "no"
+    if name == "new_from":
+        mutator.new_from(*numbers[1:3], numbers[4:])
+        return "made"
+    assert getattr(mutator, name)(*numbers[1:]) is None
+    return DONE[name]
+
+
+def reading(heap, name, numbers):
+    """Makes a call that reads."""
+    if name == "counts":
+        counts = heap.counts()
+        assert counts.is_open is (counts.new_size > 0)
+        return "counts " + " ".join(str(int(number)) for number in counts)
+    if name == "log":
+        entries = [heap.log_entry(numbers[0], k) for k in range(heap.log_length(numbers[0]))]
+        return " ".join(["log %d" % len(entries)] + ["%d:%d" % entry for entry in entries])
+    if name == "image":
+        image = heap.image()
+        assert image.size == heap.counts().size and (len(image.words), len(image.roots)) == tuple(numbers) and image.raws
+        return "image " + " ".join(map(str, [*image.words, *image.roots]))
+    return "words " + " ".join(map(str, heap.new_words()))
+
+
+def performed(heap, name, numbers):
+    """Makes a call on a heap, and returns its line."""
+    if name == "close":
+        heap.close()
+        return "done"
+    if name in ("counts", "log", "image", "new_words"):
+        return reading(heap, name, numbers)
+    if name == "work":
+        return worked(heap.work(*numbers))
+    if name == "flip":
+        return "flipped %d" % heap.flip()
+    if name in ("begin", "begin_sized"):
+        return heap.begin(*numbers).value
+    if name in ("roots", "scan", "apply", "drop"):
+        return getattr(heap, name)(*numbers).value
+    return of_mutator(heap, name, numbers)
+
+
+def main():
+    heap, is_open = None, False
+    for line in sys.stdin:
+        name, *words = line.split()
+        numbers = [int(word) for word in words]
+        try:
+            if name == "open":
+                heap, is_open = gcflip.Heap(*numbers), True
+                reply = "done"
+            elif heap is None or (name == "close" and not is_open):
+                # Closing twice does nothing here, and the binding has no heap without words.
+                reply = "closed"
+            else:
+                is_open = is_open and name != "close"
+                reply = performed(heap, name, numbers)
+        except gcflip.GcflipError as error:
+            reply = REPLIES[type(error)]
+        print(reply)
+
+
+main()
