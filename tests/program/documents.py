@@ -216,6 +216,26 @@ def crates(_program, _folder):
 
 # ---- edits
 
+# A function and its clauses, as the rows of docs/TESTING.md name them.
+CLAUSES_OF = re.compile(r"((?:`[\w:]+`(?: and )?)+), clauses? ((?:`\w+`(?:, | and )?)+)")
+
+
+def undated(line):
+    """Returns whether a row says when it was last seen: by CI if it names an edit, else by hand."""
+    last = line.rstrip(" |").split(" | ")[-1]
+    return not (last == "each run of CI" if re.search(r"\bedits? `", line) else re.match(r"by hand, \d{4}-\d\d-\d\d", last))
+
+
+def unrefused(line, found):
+    """Yields the clauses and calls of a row at which the files of its edits, given with their crates, do not say that they are refused."""
+    refused = {(function.split("::")[-1], clause) for crate, edit in found for _, function, clause in Edit(crate, edit + ".edit").places}
+    for calls, clauses_named in CLAUSES_OF.findall(line):
+        functions = [name.split("::")[-1] for name in re.findall(r"`([\w:]+)`", calls)]
+        for clause in re.findall(r"`(\w+)`", clauses_named):
+            if not any((function, clause) in refused for function in functions):
+                yield clause, calls
+
+
 def unknown_edits(line):
     """Yields the edits and the clauses that a row of docs/TESTING.md names and that do not exist."""
     for quoted, listed in re.findall(r"edits? ((?:`\w+`(?:, )?)+) \(([\w, ]+)\)", line):
@@ -224,8 +244,9 @@ def unknown_edits(line):
                  if edit + ".edit" in edits_of(crate)}
         yield from ["edit %s" % edit for edit in edits if edit not in {name for _, name in found}]
         yield from ["an edit of %s" % crate for crate in crates_named if crate not in {name for name, _ in found}]
+        yield from ["%s of %s, since none of its edits is refused there" % place for place in unrefused(line, found)]
         contracts = [contracts_of(crate) for crate in crates_named]
-        for calls, clauses_named in re.findall(r"((?:`[\w:]+`(?: and )?)+), clauses? ((?:`\w+`(?:, | and )?)+)", line):
+        for calls, clauses_named in CLAUSES_OF.findall(line):
             known = set()
             for call in re.findall(r"`([\w:]+)`", calls):
                 known.update(*[contract.get(call.split("::")[-1], set()) for contract in contracts])
@@ -235,6 +256,9 @@ def unknown_edits(line):
 def edits(_program, _folder):
     unknown = [name for line in text_of("docs/TESTING.md").split("\n") for name in unknown_edits(line)]
     yield "edits of docs/TESTING.md", ", ".join(unknown) or None
+    rows = text_of("docs/TESTING.md").partition("## Which goal or test refuses")[2].split("\n")
+    wrong = [line[:60] for line in rows if line.startswith("| ") and not line.startswith("| wrong body |") and undated(line)]
+    yield "dates of docs/TESTING.md", ", ".join(wrong) or None
 
 
 # ---- quoted code

@@ -1,4 +1,4 @@
-"""Checks of some functions of a crate with wrong bodies in it, and the goals that stay open."""
+"""Checks of some functions of a crate with wrong bodies in it, and what they find."""
 import os
 import re
 import shutil
@@ -7,42 +7,64 @@ import tempfile
 
 from .crates import over_built
 from .edits import BadEdit
+from .evidence import Answer, FalseAnswer, Goal, clause_of
 from .functions import item_at
 
 PARTS = ("src", "specs", "proofs")
-GOAL = re.compile(r"note: (src/[\w/]+\.rt):(\d+):\d+: it is not proved")
-ERROR = re.compile(r"\./proofs/([\w+/]+)/\w+\.antt:\d+:\d+: error: (.*)")
+GOAL = re.compile(r"note: (src/[\w/]+\.rt):(\d+):\d+: it is not proved.*?\(`([^`]+)`\)")
+UNNAMED_GOAL = re.compile(r"note: (src/[\w/]+\.rt):(\d+):\d+: it is not proved")
+ERROR = re.compile(r"\./(proofs/([\w+/]+)/(\w+)\.antt):(\d+):\d+: error: (.*)")
 LOST = re.compile(r"has no field|can be named|is not in scope|has no `|is no name")
 # What rests on another error.
 FOLLOWS = re.compile(r"was not admitted|was rejected")
+DECLARED = re.compile(r"(?:pub )?([\w-]+) :")
+# The prover found values for which the goal does not hold, or for which what an answer cites holds and its goal does not.
+IS_FALSE = "allow values at which this goal is false"
+FAILS = "All of that holds, and the goal fails, at"
 
 
-class Goal:
-    """An open goal, or a proof file that lost a name, with the function that it belongs to, if that is known. A lost name refuses nothing."""
-
-    def __init__(self, key, line, is_lost_name=False):
-        self.key, self.line, self.is_lost_name = key, line, is_lost_name
-
-
-def owner_of_note(folder, path, line):
-    """Returns the function at a line of an edited source file."""
+def item_of_note(folder, path, line):
+    """Returns the item at a line of an edited source file, or None."""
     with open(os.path.join(folder, path), encoding="utf-8") as file:
         text = file.read()
-    item = item_at(path, text, len("".join(text.splitlines(True)[:line])) - 1)
-    return item.key if item else path
+    return item_at(path, text, len("".join(text.splitlines(True)[:line])) - 1)
 
 
-def goals_in(output, folder, items):
-    """Returns the open goals and the lost names that a check printed."""
-    goals = []
+def answered_at(folder, path, line):
+    """Returns the goal whose answer holds a line of a file of Answers, or None: the line is above all answers, or in another file."""
+    if not path.endswith("/Answers.antt"):
+        return None
+    with open(os.path.join(folder, path), encoding="utf-8") as file:
+        declared = [DECLARED.match(text) for text in file.read().split("\n")[:line]]
+    names = [found.group(1) for found in declared if found]
+    return names[-1] if names else None
+
+
+def answered_clauses(folder, item):
+    """Returns the clauses of a function for which its proof files have answers."""
+    found = set()
+    for path, _, names in os.walk(os.path.join(folder, "proofs")):
+        if item and item.name and "Answers.antt" in names and item.has_proofs_in(os.path.relpath(path, os.path.join(folder, "proofs"))):
+            with open(os.path.join(path, "Answers.antt"), encoding="utf-8") as file:
+                declared = [DECLARED.match(line) for line in file.read().split("\n")]
+            found |= {clause_of(each.group(1)) for each in declared if each}
+    return found
+
+
+def found_in(output, folder, items):
+    """Returns what a check printed: open goals, and answers that no longer fit, of these items or of others."""
+    found = []
     for line in output.split("\n"):
-        note, error = GOAL.match(line), ERROR.match(line)
+        note, error = GOAL.match(line) or UNNAMED_GOAL.match(line), ERROR.match(line)
         if note:
-            goals.append(Goal(owner_of_note(folder, note.group(1), int(note.group(2))), line))
-        elif error and not FOLLOWS.search(error.group(2)):
-            owners = [item.key for item in items if item.name and item.has_proofs_in(error.group(1))]
-            goals.append(Goal(owners[0] if owners else error.group(1), line, bool(LOST.search(error.group(2)))))
-    return goals
+            item = item_of_note(folder, note.group(1), int(note.group(2)))
+            found.append(Goal(item, line, note.group(3) if note.re is GOAL else "", IS_FALSE in line, answered_clauses(folder, item)))
+        elif error and not FOLLOWS.search(error.group(5)):
+            owners = [item for item in items if item.name and item.has_proofs_in(error.group(2))]
+            owner, answered = owners[0] if owners else None, answered_at(folder, error.group(1), int(error.group(4)))
+            is_false = FAILS in error.group(5) and owner and answered
+            found.append(FalseAnswer(owner, line, answered) if is_false else Answer(owner, line, answered, bool(LOST.search(error.group(5)))))
+    return found
 
 
 class Checks:
@@ -53,8 +75,8 @@ class Checks:
         self.words = over_built("check", crate, listed) + ["--incremental", kept]
 
     def run(self, edits, names):
-        """Returns the open goals and lost names with these edits, or None if all is proved. Checks the functions of these names, or all if
-        there are none."""
+        """Returns what a check finds with these edits, or None if all is proved. Checks the functions of these names, or all if there
+        are none."""
         with tempfile.TemporaryDirectory(prefix="edits-") as folder:
             for part in PARTS:
                 if os.path.isdir(os.path.join(self.crate.folder, part)):
@@ -70,4 +92,4 @@ class Checks:
             if ran.returncode != 1 or not last.startswith(("logic=not-proved", "only=")):
                 lines = [line for line in output.split("\n") if "error" in line] or [last]
                 raise BadEdit("it did not reach the prover: " + lines[0][:200])
-            return goals_in(output, folder, [item for edit in edits for item in edit.items if item])
+            return found_in(output, folder, [item for edit in edits for item in edit.items if item])

@@ -1,8 +1,15 @@
 """Must-fail edits: wrong bodies that the prover has to reject. CONTRIBUTING.md says how one is written."""
 import os
+import re
 
 from .crates import CRATES
-from .functions import item_at
+from .functions import contracts_of, item_at
+
+
+# Where an edit is refused, and in which way: a function, and clauses of it.
+REFUSED_AT = re.compile(r"# (refused(?: by values of an answer| by values| beside answers)?) at ([\w:]+): ([\w-]+(?:, [\w-]+)*)$")
+
+NOT_SHOWN = "# not shown yet: only answers break"
 
 
 class BadEdit(Exception):
@@ -29,6 +36,19 @@ def changes_of(path):
         raise BadEdit("the last old text has no new one")
 
 
+def places_of(path):
+    """Returns the ways, the functions and the clauses in which an edit's file says that it is refused."""
+    with open(path, encoding="utf-8") as lines:
+        told = [REFUSED_AT.match(line) for line in lines.read().split("\n")]
+    return {(found.group(1), found.group(2), clause) for found in told if found for clause in found.group(3).split(", ")}
+
+
+def says_not_shown(path):
+    """Returns whether an edit's file says that nothing shows yet that it is wrong."""
+    with open(path, encoding="utf-8") as lines:
+        return NOT_SHOWN in lines.read().split("\n")
+
+
 def place_of(text, old, path):
     """Returns where the only occurrence of an old text begins."""
     if text.count(old) != 1:
@@ -37,16 +57,30 @@ def place_of(text, old, path):
 
 
 class Edit:
-    """The changes of a file below must-fail/, and the items that it changes."""
+    """The changes of an edit's file, the items that it changes, and the places at which it has to be refused."""
 
-    def __init__(self, crate, name):
+    def __init__(self, crate, name, folder=None):
         self.crate, self.name = crate, name
-        self.changes = list(changes_of(os.path.join(CRATES, crate, "must-fail", name)))
+        path = os.path.join(folder or os.path.join(CRATES, crate, "must-fail"), name)
+        self.changes = list(changes_of(path))
+        self.places, self.is_shown = places_of(path), not says_not_shown(path)
         if not self.changes:
             raise BadEdit("it changes nothing")
         self.items = [self.item_of(path, old) for path, old, _ in self.changes]
         self.keys = {item.key for item in self.items if item}
         self.is_alone = any(not item or not item.name for item in self.items)
+        self.keep_contracts()
+
+    def keep_contracts(self):
+        """Refuses an edit that changes a contract or a ghost member of a type: the changed function then has to do something else."""
+        for path, text in self.texts_in(os.path.join(CRATES, self.crate)).items():
+            if not path.startswith("src/"):
+                raise BadEdit("it changes %s, which is no code" % path)
+            with open(os.path.join(CRATES, self.crate, path), encoding="utf-8") as file:
+                before = contracts_of(path, file.read())
+            after = contracts_of(path, text)
+            if any(after.get(name) != contract for name, contract in before.items()):
+                raise BadEdit("it changes a clause in %s" % path)
 
     def item_of(self, path, old):
         if not os.path.exists(os.path.join(CRATES, self.crate, path)):

@@ -1,8 +1,12 @@
-"""The functions of a source file, with their names as the prover has them."""
+"""The functions of a source file, with their names as the prover has them, and the clauses of their contracts."""
 import re
 
 HEAD = re.compile(r"""(?m)^(?: *(?://|#\[).*\n)* *(?:pub(?:\([^)]*\))? )?(?:(?:(?:const|unsafe|extern "C") )*fn (\w+)|(?:const|struct|enum|trait|impl)\b[^\n{]*)""")
 IMPL = re.compile(r"impl(?:<[^>]*>)? *(?:(\w+(?:<\w+>)?) for )?(\w+)")
+# In the layout of `rt fmt`, each clause begins a line, and so do the ghost members of a type.
+CLAUSE = re.compile(r" *(?:requires|ensures|ghost)\b(?! use\b)")
+# The end of a signature below which a body stands at once.
+BODY = re.compile(r"^(?! *(?://|#)).*\{$")
 
 
 class Item:
@@ -41,3 +45,24 @@ def item_at(path, text, at):
     """Returns the item that holds this place of the text, or None if it is above the first one."""
     holding = [item for item in items_of(path, text) if item.start <= at]
     return holding[-1] if holding else None
+
+
+def contract_of(text, item):
+    """Returns the lines of a function's contract, or the ghost members of a type. A body opens on the function's first line, or
+    below the clauses on a line of its own. A method of a trait may have no body."""
+    lines = text[item.start:item.end].split("\n")
+    if not item.name:
+        return [line for line in lines if CLAUSE.match(line)]
+    clauses = [number for number, line in enumerate(lines) if CLAUSE.match(line)]
+    openings = [number for number, line in enumerate(lines) if line.strip() in ("{", "{}")]
+    if not clauses or any(BODY.search(line) for line in lines[:clauses[0]]):
+        return []
+    return lines[clauses[0]:openings[0] if openings else len(lines)]
+
+
+def contracts_of(path, text):
+    """Returns the contract of each function of a source file by its owner and name, and the ghost members of the types."""
+    items = items_of(path, text)
+    found = {(item.owner, item.name): contract_of(text, item) for item in items if item.name}
+    found["types"] = [line for item in items if not item.name for line in contract_of(text, item)]
+    return found

@@ -71,7 +71,7 @@ fn bytes_wait_until_they_are_taken(rt: HostRuntime) -> Result<(), ReadFault> {
 
 #[test]
 fn numbers_up_to_the_greatest(rt: HostRuntime) {
-    let rows: [(&[u8], u64, Option<u64>); 10] = [
+    let rows: [(&[u8], u64, Option<u64>); 11] = [
         (b"0", 0, Some(0)),
         (b"7", 6, None),
         (b"", 9, None),
@@ -81,6 +81,11 @@ fn numbers_up_to_the_greatest(rt: HostRuntime) {
             b"9223372036854775807",
             9223372036854775807,
             Some(9223372036854775807),
+        ),
+        (
+            b"10000000000000000000",
+            u64::MAX,
+            Some(10000000000000000000),
         ),
         (b"18446744073709551615", u64::MAX, Some(u64::MAX)),
         (b"18446744073709551616", u64::MAX, None),

@@ -1,0 +1,74 @@
+"""What shows that a body is wrong, and what does not.
+
+A goal that stands open in a changed function shows it. An answer of a proof file that no longer fits does not: a right body that says
+the same in another way makes other goals, and the answers of the old ones no longer fit. So a goal does not count either if it
+may be an old one under a new name: if an answer to a goal of the same clause lost its goal.
+
+There are four ways, from the strongest to the weakest, and the file of an edit says which one holds it:
+
+- 'refused by values': the prover found values for which the goal is false;
+- 'refused': the goal is open, and no goal of this clause has an answer. So the prover finds the proofs of this clause by itself;
+- 'refused beside answers': the goal is open, and it needs no answer in the right body, but other goals of this clause do;
+- 'refused by values of an answer': the arithmetic of an answer fails, and the prover found values for which all that it cites holds.
+
+An edit for which only answers break is 'not shown yet'. It counts for nothing until it is written anew.
+"""
+import re
+
+CLAUSE = re.compile(r"-clause-(\w+)$")
+RETURNS = re.compile(r"returns\b")
+
+
+def clause_of(goal):
+    """Returns the clause that a goal belongs to: its name in the contract, `ensures` if the clause has none, or the goal's own name if it
+    belongs to a step of the body."""
+    named = CLAUSE.search(goal)
+    return named.group(1) if named else "ensures" if RETURNS.match(goal) else goal
+
+
+BY_VALUES, ALONE, BESIDE_ANSWERS, IN_AN_ANSWER = "refused by values", "refused", "refused beside answers", "refused by values of an answer"
+
+
+class Goal:
+    """An open goal: the function or other item that it belongs to, the line that tells it, its name, whether the prover found values for
+    which it does not hold, and whether other goals of its clause have answers."""
+
+    def __init__(self, item, line, name, is_false, answered):
+        self.item, self.line, self.name, self.is_false = item, line, name, is_false
+        self.key = item.key if item else None
+        self.clause = clause_of(name)
+        self.way = BY_VALUES if is_false else BESIDE_ANSWERS if self.clause in answered else ALONE
+
+    def place(self):
+        """Returns the way in which the goal shows it, the function and the clause, as the file of an edit has them."""
+        return (self.way, "::".join(self.item.tail()) if self.item and self.item.name else "", self.clause)
+
+
+class FalseAnswer(Goal):
+    """An answer whose arithmetic fails for values that the prover found. It counts as its goal."""
+
+    def __init__(self, item, line, name):
+        super().__init__(item, line, name, True, set())
+        self.way = IN_AN_ANSWER
+
+
+class Answer:
+    """An answer of a proof file that no longer fits: the function that it belongs to, the line that tells it, the name of its goal, and
+    whether the answer names something that is gone. The name is None if it is no single answer: an import, or an invariant of a loop."""
+
+    def __init__(self, item, line, goal, is_lost):
+        self.item, self.line, self.goal, self.is_lost = item, line, goal, is_lost
+        self.key = item.key if item else None
+
+
+def counted(found, keys):
+    """Returns the open goals of these functions that show that a body is wrong. A goal may be an old one under a new name if an answer to a
+    goal of its clause is lost, or if all answers may be."""
+    goals = []
+    for key in keys:
+        lost = [answer for answer in found if isinstance(answer, Answer) and answer.key == key and (answer.is_lost or answer.goal is None)]
+        if any(answer.goal is None for answer in lost):
+            continue
+        renamed = {clause_of(answer.goal) for answer in lost}
+        goals += [goal for goal in found if isinstance(goal, Goal) and goal.key == key and (goal.is_false or goal.clause not in renamed)]
+    return goals
