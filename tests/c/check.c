@@ -56,7 +56,7 @@ static void refusals(void)
     old_words[4] = HEADER;
     new_image.end = 6; /* the last field is cut off */
     expect_refusal(GCFLIP_NEW_SHAPE, 4, 0);
-    new_image.size = 1048577;
+    new_image.size = 4; /* the end is greater */
     expect_refusal(GCFLIP_NEW_SHAPE, 0, 0);
     new_image.root_count = 1;
     expect_refusal(GCFLIP_ROOT_COUNT, 0, 0);

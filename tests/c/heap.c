@@ -230,7 +230,6 @@ static void out_of_range(void)
 {
     const gcflip_view before = {77, 77, 77};
     EXPECT(gcflip_heap_open(&heap, 0, 1) == GCFLIP_HEAP_OUT_OF_RANGE);
-    EXPECT(gcflip_heap_open(&heap, 1048577, 1) == GCFLIP_HEAP_OUT_OF_RANGE);
     EXPECT(gcflip_heap_open(&heap, 8, 0) == GCFLIP_HEAP_OUT_OF_RANGE);
     EXPECT(gcflip_heap_open(&heap, 8, 17) == GCFLIP_HEAP_OUT_OF_RANGE && heap.at == NULL);
     open_heap(1048576, 16);
@@ -272,13 +271,85 @@ static void out_of_range(void)
     EXPECT(gcflip_heap_look(&heap, 0, 32, &view) == GCFLIP_HEAP_OUT_OF_RANGE);
     EXPECT(gcflip_heap_look(&heap, 2, 0, &view) == GCFLIP_HEAP_OUT_OF_RANGE);
     EXPECT(gcflip_heap_begin_sized(&heap, 0) == GCFLIP_HEAP_OUT_OF_RANGE);
-    EXPECT(gcflip_heap_begin_sized(&heap, 1048577) == GCFLIP_HEAP_OUT_OF_RANGE);
     EXPECT(gcflip_heap_apply(&heap, 2) == GCFLIP_HEAP_OUT_OF_RANGE);
     EXPECT(gcflip_heap_work(&heap, 0, &work) == GCFLIP_HEAP_OUT_OF_RANGE);
     EXPECT(gcflip_heap_log_length(&heap, 2, &length) == GCFLIP_HEAP_OUT_OF_RANGE);
     EXPECT(gcflip_heap_log_entry(&heap, 2, 0, &entry) == GCFLIP_HEAP_OUT_OF_RANGE);
     EXPECT(memcmp(&view, &before, sizeof view) == 0 && number == 77 && pairs == 77);
     LOOKS(gcflip_heap_look(&heap, 1, 0, &view), GCFLIP_NIL, 0, 0, 0);
+    close_heap();
+}
+
+/* Opens a heap of the most words, or is told that memory is out. */
+static void the_most_words(void)
+{
+    uint32_t answer = gcflip_heap_open(&heap, UINT32_MAX, 1);
+    if (answer == GCFLIP_HEAP_NO_MEMORY) {
+        EXPECT(heap.at == NULL);
+        open_heap(8, 1);
+        answer = gcflip_heap_begin_sized(&heap, UINT32_MAX);
+        EXPECT(answer == GCFLIP_BEGUN || answer == GCFLIP_HEAP_NO_MEMORY);
+    } else {
+        EXPECT(answer == GCFLIP_DONE && gcflip_heap_counts(&heap, &counts) == GCFLIP_DONE);
+        EXPECT(counts.size == UINT32_MAX && counts.free == UINT32_MAX - 1 && counts.end == 1);
+        REPLIES(gcflip_heap_new(&heap, 0, 0, KIND, 1), GCFLIP_MADE);
+        GETS(gcflip_heap_get(&heap, 0, 1, 0, 0, &number), GCFLIP_NIL, 77);
+    }
+    close_heap();
+}
+
+/* Makes a list in slot 0: 24 raw objects of 65535 fields, whose last fields are 1 to 24, and before them the numbers 1 to 3. */
+static void fill(void)
+{
+    uint32_t i;
+    REPLIES(gcflip_heap_nil(&heap, 0, 0), GCFLIP_DONE);
+    for (i = 1; i <= 24; i++) {
+        REPLIES(gcflip_heap_raw(&heap, 0, 1, KIND, 65535), GCFLIP_MADE);
+        REPLIES(gcflip_heap_put_number(&heap, 0, 1, 65534, 2, i), GCFLIP_DONE);
+        REPLIES(gcflip_heap_cons(&heap, 0, 5, KIND, 1, 0), GCFLIP_MADE);
+        REPLIES(gcflip_heap_move(&heap, 0, 0, 5), GCFLIP_DONE);
+    }
+    for (i = 1; i <= 3; i++) {
+        REPLIES(gcflip_heap_num(&heap, 0, 2, i), GCFLIP_DONE);
+        REPLIES(gcflip_heap_cons(&heap, 0, 5, KIND, 2, 0), GCFLIP_MADE);
+        REPLIES(gcflip_heap_move(&heap, 0, 0, 5), GCFLIP_DONE);
+    }
+    REPLIES(gcflip_heap_nil(&heap, 0, 1), GCFLIP_DONE);
+}
+
+/* Reads that list, from its head to its end. */
+static void expect_list(void)
+{
+    uint32_t i;
+    REPLIES(gcflip_heap_move(&heap, 0, 4, 0), GCFLIP_DONE);
+    for (i = 3; i >= 1; i--) {
+        GETS(gcflip_heap_get(&heap, 0, 3, 4, 0, &number), GCFLIP_NUMBER, i);
+        GETS(gcflip_heap_get(&heap, 0, 4, 4, 1, &number), GCFLIP_OBJECT, 77);
+    }
+    for (i = 24; i >= 1; i--) {
+        GETS(gcflip_heap_get(&heap, 0, 3, 4, 0, &number), GCFLIP_OBJECT, 77);
+        GETS(gcflip_heap_get(&heap, 0, 3, 3, 65534, &number), GCFLIP_NUMBER, i);
+        GETS(gcflip_heap_get(&heap, 0, 4, 4, 1, &number), i > 1 ? GCFLIP_OBJECT : GCFLIP_NIL, 77);
+    }
+}
+
+/* Flips twice between spaces in which references go beyond the 1048576 words of a text. */
+static void behind_the_words_of_a_text(void)
+{
+    static const uint32_t sizes[] = {2097152, 1600000};
+    uint32_t i, end = 1 + 24 * (65537 + 4) + 3 * 4;
+    open_heap(1048577, 1);
+    REPLIES(gcflip_heap_begin_sized(&heap, 2097152), GCFLIP_BEGUN);
+    EXPECT(gcflip_heap_work(&heap, UINT32_MAX, &work) == GCFLIP_DONE && work.last == GCFLIP_FLIPPED && work.pairs == 0);
+    fill();
+    EXPECT(gcflip_heap_counts(&heap, &counts) == GCFLIP_DONE && counts.size == 2097152 && counts.end == end);
+    for (i = 0; i < 2; i++) {
+        expect_list();
+        REPLIES(gcflip_heap_begin_sized(&heap, sizes[i]), GCFLIP_BEGUN);
+        EXPECT(gcflip_heap_work(&heap, UINT32_MAX, &work) == GCFLIP_DONE && work.last == GCFLIP_FLIPPED && work.pairs == 51);
+        EXPECT(gcflip_heap_counts(&heap, &counts) == GCFLIP_DONE && counts.size == sizes[i] && counts.end == end);
+    }
+    expect_list();
     close_heap();
 }
 
@@ -342,6 +413,8 @@ int main(void)
     readings();
     copied_images_are_certified();
     out_of_range();
+    the_most_words();
+    behind_the_words_of_a_text();
     closed();
     two_heaps();
     return 0;

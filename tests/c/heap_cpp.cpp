@@ -36,5 +36,15 @@ int main()
         lines += c == '\n';
     EXPECT(lines == 9);
     fclose(gcflip_trace);
+    // a heap of more words than a trace has, behind 17 raw objects
+    gcflip_trace = nullptr;
+    Heap large(2097152, 1);
+    gcflip_work work = {};
+    gcflip_counts counts = {};
+    for (int i = 0; i < 17; i++)
+        EXPECT(gcflip_heap_raw(&large.handle, 0, 0, 1, 65535) == GCFLIP_MADE);
+    EXPECT(gcflip_heap_new(&large.handle, 0, 1, 1, 1) == GCFLIP_MADE);
+    EXPECT(gcflip_heap_work(&large.handle, UINT32_MAX, &work) == GCFLIP_DONE && work.last == GCFLIP_FLIPPED && work.pairs == 2);
+    EXPECT(gcflip_heap_counts(&large.handle, &counts) == GCFLIP_DONE && counts.end == 1 + 65537 + 3);
     return 0;
 }
