@@ -30,15 +30,28 @@ EXACTLY = {
     "worlds::flip_of_1000_with_a_full_history": 8,
     "worlds::flip_of_1000_with_a_spare_place": 7,
 }
-AT_LEAST = {"worlds::flip_of_1000_in_threads": 7}
+# From 2,048 pairs on, a flip also asks for threads. A flip that asks the sequential checker makes seven requests.
+AT_LEAST = {
+    "worlds::flip_of_1000_in_threads": 7,
+    "worlds::flip_of_2500_in_threads": 8,
+    "worlds::useful_flip_of_2500_in_threads": 8,
+}
 
-# The requests that a call can do without.
+
+def is_for_threads(request, count):
+    """Returns whether a flip's request is one for threads: after the pairs, the new roots and the tables, before the kept pair."""
+    return 5 < request <= count - 2
+
+
+# The requests that a call can do without, given how many it makes.
 SPARED = {
     # After the checker's three tables, a check asks only for threads.
-    "checks::check_of_many_pairs_in_threads": lambda request: request > 3,
+    "checks::check_of_many_pairs_in_threads": lambda request, count: request > 3,
+    "worlds::flip_of_2500_in_threads": is_for_threads,
+    "worlds::useful_flip_of_2500_in_threads": is_for_threads,
     # Room for all seats at once: without it, each seat asks for its own.
-    "seats::shared_open": lambda request: request == 1,
-    "seats::threads_run_scripts": lambda request: request == 1,
+    "seats::shared_open": lambda request, count: request == 1,
+    "seats::threads_run_scripts": lambda request, count: request == 1,
 }
 
 
@@ -77,17 +90,27 @@ def wrong_count(name, refused):
     return None
 
 
+def wrong_retries(name, retried):
+    """Returns which refused request had the wrong answer, or None. `retried` says for each request whether it was NoMemory."""
+    is_spared = SPARED.get(name, lambda request, count: False)
+    for request, was_refused in enumerate(retried, 1):
+        if was_refused == is_spared(request, len(retried)):
+            return "request %d of %d refused: %s" % (request, len(retried), "NoMemory" if was_refused else "no NoMemory")
+    return None
+
+
 def wrong_refusals(folder, name):
     """Returns why the call went wrong with one of its requests refused, or None."""
-    is_spared = SPARED.get(name, lambda _: False)
+    retried = []
     for request in range(1, MOST_REQUESTS):
         run = Run(folder, name, request)
         if not run.passed:
             return "request %d refused: %s" % (request, run.said)
         if not run.refused:
-            return "NoMemory without a refusal" if run.retried else wrong_count(name, request - 1)
-        if run.retried == is_spared(request):
-            return "request %d refused: %s" % (request, "NoMemory" if run.retried else "no NoMemory")
+            if run.retried:
+                return "NoMemory without a refusal"
+            return wrong_count(name, len(retried)) or wrong_retries(name, retried)
+        retried.append(run.retried)
     return TOO_MANY
 
 

@@ -266,24 +266,29 @@ fn command(world: &mut World, op: &Op) -> Result<Reply, Fail> {
     Ok(world.mutate(0, op)?)
 }
 
-/// Returns a world with 1,000 chained objects that is ready to flip, after this many events.
-fn chain(rt: &(impl Threads + Sync), alloc: Global, events: usize) -> Result<World, Fail> {
+/// Returns a world with this many chained objects, 2,700 at most, that is ready to flip, after this many events.
+fn chain(
+    rt: &(impl Threads + Sync),
+    alloc: Global,
+    objects: u32,
+    events: usize,
+) -> Result<World, Fail> {
     let _named = View::Nil;
     let r0 = Slot::own(0).ok_or("slot")?;
     let r1 = Slot::own(1).ok_or("slot")?;
-    let mut world = World::open(alloc, 4096, 1)?;
+    let mut world = World::open(alloc, 8192, 1)?;
     let new = Op::New {
         d: r1,
         kind: 0,
         len: 1,
     };
     let put = Op::Put { s: r1, i: 0, t: r0 };
-    for _ in 0..1000 {
+    for _ in 0..objects {
         let _ = command(&mut world, &new)?;
         let _ = command(&mut world, &put)?;
         let _ = command(&mut world, &Op::Move { d: r0, s: r1 })?;
     }
-    for _ in 0..4000 {
+    for _ in 0..10000 {
         if world.useful_step() == Step::Flip {
             break;
         }
@@ -298,7 +303,7 @@ fn chain(rt: &(impl Threads + Sync), alloc: Global, events: usize) -> Result<Wor
 /// After 8,192 events the history has no room for one more.
 #[test]
 fn flip_of_1000_with_a_full_history(rt: HostRuntime) -> Result<(), Fail> {
-    let mut world = chain(&rt, rt.alloc(), 8192)?;
+    let mut world = chain(&rt, rt.alloc(), 1000, 8192)?;
     let flipped = collect(&rt, rt.alloc(), &mut world, Step::Flip)?;
     assert_eq!(rt; flipped, StepReply::Flipped { pairs: 1000 });
     assert_eq!(rt; world.history().len(), 8193);
@@ -307,7 +312,7 @@ fn flip_of_1000_with_a_full_history(rt: HostRuntime) -> Result<(), Fail> {
 
 #[test]
 fn flip_of_1000_with_a_spare_place(rt: HostRuntime) -> Result<(), Fail> {
-    let mut world = chain(&rt, rt.alloc(), 8191)?;
+    let mut world = chain(&rt, rt.alloc(), 1000, 8191)?;
     let flipped = collect(&rt, rt.alloc(), &mut world, Step::Flip)?;
     assert_eq!(rt; flipped, StepReply::Flipped { pairs: 1000 });
     assert_eq!(rt; world.history().len(), 8192);
@@ -316,9 +321,28 @@ fn flip_of_1000_with_a_spare_place(rt: HostRuntime) -> Result<(), Fail> {
 
 #[test]
 fn flip_of_1000_in_threads(rt: HostRuntime) -> Result<(), Fail> {
-    let mut world = chain(&rt, rt.alloc(), 8191)?;
+    let mut world = chain(&rt, rt.alloc(), 1000, 8191)?;
     let flipped = collect_par(&rt, rt.alloc(), &mut world, Step::Flip)?;
     assert_eq!(rt; flipped, StepReply::Flipped { pairs: 1000 });
     assert_eq!(rt; world.history().len(), 8192);
+    Ok(())
+}
+
+/// With 2,048 pairs or more, the check asks for threads.
+#[test]
+fn flip_of_2500_in_threads(rt: HostRuntime) -> Result<(), Fail> {
+    let mut world = chain(&rt, rt.alloc(), 2500, 16383)?;
+    let flipped = collect_par(&rt, rt.alloc(), &mut world, Step::Flip)?;
+    assert_eq!(rt; flipped, StepReply::Flipped { pairs: 2500 });
+    assert_eq!(rt; world.history().len(), 16384);
+    Ok(())
+}
+
+#[test]
+fn useful_flip_of_2500_in_threads(rt: HostRuntime) -> Result<(), Fail> {
+    let mut world = chain(&rt, rt.alloc(), 2500, 16383)?;
+    let flipped = collect_useful(&rt, rt.alloc(), &mut world)?;
+    assert!(rt; flipped == (Step::Flip, StepReply::Flipped { pairs: 2500 }));
+    assert_eq!(rt; world.history().len(), 16384);
     Ok(())
 }
