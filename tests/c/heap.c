@@ -280,9 +280,11 @@ static void out_of_range(void)
     close_heap();
 }
 
-/* Opens a heap of the most words, or is told that memory is out. */
+/* Opens a heap of the most words, or is told that memory is out. Where the address sanitizer replaces malloc, it ends the program
+ * instead, so this is not tested with it. */
 static void the_most_words(void)
 {
+#ifndef __SANITIZE_ADDRESS__
     uint32_t answer = gcflip_heap_open(&heap, UINT32_MAX, 1);
     if (answer == GCFLIP_HEAP_NO_MEMORY) {
         EXPECT(heap.at == NULL);
@@ -296,6 +298,7 @@ static void the_most_words(void)
         GETS(gcflip_heap_get(&heap, 0, 1, 0, 0, &number), GCFLIP_NIL, 77);
     }
     close_heap();
+#endif
 }
 
 /* Makes a list in slot 0: 24 raw objects of 65535 fields, whose last fields are 1 to 24, and before them the numbers 1 to 3. */

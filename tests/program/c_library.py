@@ -239,6 +239,18 @@ def recorded_work(program, folder):
     yield "recorded work is played", difference(run(program, ["play", record]), Outcome(REPLIES_OF_RECORDED_WORK))
 
 
+def recording_that_ends(program, folder):
+    """Checks that a recording ends at a size that no trace has, says so, and plays up to that place."""
+    built = library(folder)
+    if built is None:
+        return
+    record = os.path.join(folder, "record")
+    path, why = built.build(["gcc", *SANITIZERS], "record_ends.c", built.archive())
+    said = b"gcflip_record.h: the recording ends here: a trace has no size of 1048577 words\n"
+    yield "record_ends.c", why or difference(done([path, record]), Outcome(stderr=said + said))
+    yield "a recording that ended is played", difference(run(program, ["play", record]), Outcome(b"made\nbegun\ndropped\n"))
+
+
 def long_run(_program, folder):
     """Runs ten million operations in constant memory."""
     built = library(folder)
@@ -268,4 +280,4 @@ def example_programs(_program, folder):
         yield "%s by valgrind" % name, why or difference(done(words), Outcome(EXAMPLE_OUTPUT[name]))
 
 
-GROUPS = [example_programs, programs, pkg_config, texts, plays, recorded_work, long_run]
+GROUPS = [example_programs, programs, pkg_config, texts, plays, recorded_work, recording_that_ends, long_run]

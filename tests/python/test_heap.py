@@ -114,13 +114,13 @@ class Commands(unittest.TestCase):
 
     def test_arguments_out_of_range(self):
         calls = [
-            lambda: Heap(0), lambda: Heap(1048577), lambda: Heap(1 << 32), lambda: Heap(16, 0), lambda: Heap(16, 17), lambda: Heap(16, 257),
+            lambda: Heap(0), lambda: Heap(-1), lambda: Heap(1 << 32), lambda: Heap(16, 0), lambda: Heap(16, 17), lambda: Heap(16, 257),
             lambda: own(16), lambda: own(-1), lambda: shared(16), lambda: shared(-1),
             lambda: self.heap.mutator(2), lambda: self.heap.mutator(-1),
             lambda: self.mutator.new(32, 0, 0), lambda: self.mutator.new(256, 0, 0), lambda: self.mutator.new(0, 256, 0),
             lambda: self.mutator.new(0, 0, 65536), lambda: self.mutator.num(0, 1 << 63), lambda: self.mutator.num(0, 1 << 64),
             lambda: self.mutator.num(0, -1), lambda: self.mutator.get(0, 0, 65536), lambda: self.heap.begin(0),
-            lambda: self.heap.begin(1048577), lambda: self.heap.apply(2), lambda: self.heap.work(0), lambda: self.heap.log_length(2),
+            lambda: self.heap.begin(1 << 32), lambda: self.heap.apply(2), lambda: self.heap.work(0), lambda: self.heap.log_length(2),
             lambda: self.heap.log_entry(0, 0), lambda: self.heap.new_words(),
         ]
         for number, call in enumerate(calls):
@@ -192,6 +192,24 @@ class Readings(unittest.TestCase):
             finally:
                 done.set()
                 thread.join()
+
+
+class Large(unittest.TestCase):
+    """A heap of more words than a trace has."""
+
+    def test_objects_behind_the_words_of_a_trace(self):
+        with Heap(2097152) as heap:
+            mutator = heap.mutator(0)
+            for _ in range(17):
+                mutator.raw(own(1), 1, 65535)
+            mutator.new(own(0), 1, 1)
+            mutator.put(own(0), 0, own(1))
+            self.assertEqual(heap.counts().end, 1 + 17 * 65537 + 3)
+            self.assertEqual(heap.begin(1048577), Step.BEGUN)
+            work = heap.work(1 << 31)
+            self.assertEqual((work.last, work.pairs), (Step.FLIPPED, 2))
+            self.assertEqual((heap.counts().size, heap.counts().end), (1048577, 1 + 65537 + 3))
+            self.assertEqual(mutator.look(own(0)), Object(1, 1))
 
 
 class Lives(unittest.TestCase):
