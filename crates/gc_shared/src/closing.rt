@@ -10,7 +10,7 @@ ghost use Rattle.gc_shared.specs.Internal.Marks.{IsMarked, IsFree, IsFault, Agre
 use crate::fault::CloseKind;
 use crate::seat::{Receipt, Seat};
 use gc_world::{Entry, World};
-use std::alloc::Global;
+use std::alloc::{AllocError, Global};
 
 /// Returns the first fault that comparing the seats with the world finds. There is a mark for each place of the
 /// history; the marks are allocated before any receipt is read.
@@ -31,10 +31,12 @@ pub(crate) fn fault(
         return Some(CloseKind::Seats);
     }
     let history = world.history();
-    let Ok(mut marks) = vec![in alloc; false; history.len()] else {
-        return Some(CloseKind::NoMemory);
-    };
-    first_fault(history, seats, mutators + collectors, marks.as_mut_slice())
+    match vec![in alloc; false; history.len()] {
+        Ok(mut marks) => {
+            first_fault(history, seats, mutators + collectors, marks.as_mut_slice())
+        }
+        Err(AllocError) => Some(CloseKind::NoMemory),
+    }
 }
 
 // Returns whether each seat number of the opening occurs once, and the world has the opening's size and mutators.
