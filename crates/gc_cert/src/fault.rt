@@ -1,4 +1,5 @@
 use gc_graph::text::{Message, ReadFault};
+use std::alloc::AllocFailed;
 use thiserror::Error;
 
 /// The reason why a pair text could not be read. If the text is not too large, its fault is the first from the top. Lines are
@@ -47,6 +48,17 @@ impl From<ReadFault> for PairFault {
             ReadFault::TooLarge => PairFault::TooLarge,
             ReadFault::NoMemory => PairFault::NoMemory,
         }
+    }
+}
+
+impl<T: Drop> From<AllocFailed<T>> for PairFault {
+    ghost use Rattle.std.specs.Prelude.{◌≡◌};
+    ghost use Rattle.gc_cert.specs.declared.fault.PairFault.TheVariants as faults;
+
+    ghost from_gives = { λ _ made. made ≡ faults.NoMemory };
+
+    fn from(_refused: AllocFailed<T>) -> PairFault {
+        PairFault::NoMemory
     }
 }
 

@@ -37,9 +37,7 @@ fn take_words<R: Read>(
     let mut words = Vec::new(alloc);
     for _ in 0..count {
         let word = lines.take(&Word, reader)?;
-        if words.push(word).is_err() {
-            return Err(PairFault::NoMemory);
-        }
+        words.push(word)?;
     }
     Ok(words)
 }
@@ -62,9 +60,7 @@ fn take_pairs<R: Read>(
     let mut pairs = Vec::new(alloc);
     for _ in 0..count {
         let pair = lines.take(&Addresses, reader)?;
-        if pairs.push(pair).is_err() {
-            return Err(PairFault::NoMemory);
-        }
+        pairs.push(pair)?;
     }
     Ok(pairs)
 }

@@ -26,9 +26,7 @@ pub(crate) fn partners_of(
         × HoldsPartners partners.items (pairs_of cert.now))
         (IsRefusalOf (place_faults old.now new.now (pairs_of cert.now))) }
 {
-    let Ok(mut partners) = vec![in alloc; 0u32; old.places()] else {
-        return Err(CheckFault::NoMemory);
-    };
+    let mut partners = vec![in alloc; 0u32; old.places()]?;
     match enter_pairs(old, new, cert, partners.as_mut_slice()) {
         Ok(()) => Ok(partners),
         Err(refusal) => Err(CheckFault::Refused(refusal)),

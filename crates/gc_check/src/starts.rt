@@ -1,6 +1,6 @@
 use crate::verdict::CheckFault;
 use gc_words::{ImageRef, Refusal, ShapeFault, next_in};
-use std::alloc::Global;
+use std::alloc::{AllocError, Global};
 use std::marker::Model;
 
 /// The table of the places at which the objects of a shaped image start. Contracts see the image.
@@ -39,9 +39,7 @@ impl<'a> Starts<'a> {
         if !is_framed(image) {
             return Err(StartsFault::NotShaped(ShapeFault { at: 0 }));
         }
-        let Ok(mut marks) = vec![in alloc; false; image.words.len()] else {
-            return Err(StartsFault::NoMemory);
-        };
+        let mut marks = vec![in alloc; false; image.words.len()]?;
         match mark_starts(image.words, image.raws, marks.as_mut_slice()) {
             Ok(()) => Ok(Starts { image, marks }),
             Err(fault) => Err(StartsFault::NotShaped(fault)),
@@ -86,6 +84,17 @@ pub(crate) enum StartsFault {
     NotShaped(ShapeFault),
     /// An allocation failed.
     NoMemory,
+}
+
+impl From<AllocError> for StartsFault {
+    ghost use Rattle.std.specs.Prelude.{◌≡◌};
+    ghost use Rattle.gc_check.specs.declared.starts.StartsFault.TheVariants as faults;
+
+    ghost from_gives = { λ _ made. made ≡ faults.NoMemory };
+
+    fn from(_refused: AllocError) -> StartsFault {
+        StartsFault::NoMemory
+    }
 }
 
 impl StartsFault {

@@ -88,9 +88,7 @@ pub fn check_text_by<C: Checks, R: Read, W: Write>(
         Err(PairFault::NoMemory) => return Err(RunFault::NoMemory),
         Err(fault) => return Err(RunFault::Pair(fault)),
     };
-    let Ok(verdict) = verdict_of(checker, alloc, &file) else {
-        return Err(RunFault::NoMemory);
-    };
+    let verdict = verdict_of(checker, alloc, &file)?;
     match write_verdict(writer, &verdict) {
         Ok(()) => Ok(verdict),
         Err(_) => Err(RunFault::Write),

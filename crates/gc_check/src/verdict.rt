@@ -1,6 +1,8 @@
 use gc_cert::PairFault;
+use gc_graph::NoMemory;
 use gc_graph::text::Message;
 use gc_words::Refusal;
+use std::alloc::AllocError;
 use thiserror::Error;
 
 /// The certificate holds.
@@ -21,6 +23,17 @@ pub enum CheckFault {
     NoMemory,
 }
 
+impl From<AllocError> for CheckFault {
+    ghost use Rattle.std.specs.Prelude.{◌≡◌};
+    ghost use Rattle.gc_check.specs.declared.verdict.CheckFault.TheVariants as faults;
+
+    ghost from_gives = { λ _ made. made ≡ faults.NoMemory };
+
+    fn from(_refused: AllocError) -> CheckFault {
+        CheckFault::NoMemory
+    }
+}
+
 /// The answer of a checker that has enough memory.
 #[derive(Clone, Copy, Debug, PartialEq, Eq)]
 pub enum Verdict {
@@ -38,6 +51,17 @@ pub enum RunFault {
     NoMemory,
     /// The writer failed.
     Write,
+}
+
+impl From<NoMemory> for RunFault {
+    ghost use Rattle.std.specs.Prelude.{◌≡◌};
+    ghost use Rattle.gc_check.specs.declared.verdict.RunFault.TheVariants as faults;
+
+    ghost from_gives = { λ _ made. made ≡ faults.NoMemory };
+
+    fn from(_refused: NoMemory) -> RunFault {
+        RunFault::NoMemory
+    }
 }
 
 impl RunFault {

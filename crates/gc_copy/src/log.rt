@@ -74,10 +74,7 @@ impl MutationLog {
         ensures room { OnOk result (more ≤ self.new.spare) }
         ensures kept { self.old.spare ≤ self.new.spare }
     {
-        match self.entries.reserve(more) {
-            Ok(()) => Ok(()),
-            Err(_) => Err(NoMemory),
-        }
+        Ok(self.entries.reserve(more)?)
     }
 
     /// Appends an entry, for which `reserve` has made room.

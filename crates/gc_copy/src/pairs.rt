@@ -34,18 +34,14 @@ pub(crate) fn linked_pairs(alloc: Global, space: &Space) -> Result<Vec<Pair>, No
     ensures pairs { IfOk result (λ pairs. map addresses pairs.items
         ≡ map (λ r. (r.original, r.place)) (replicas_in space.now.words)) }
 {
-    let Ok(mut pairs) = Vec::with_capacity(alloc, count_objects(space)) else {
-        return Err(NoMemory);
-    };
+    let mut pairs = Vec::with_capacity(alloc, count_objects(space))?;
     let mut at = Addr(1);
     while at.0 < space.end() {
         let pair = Pair {
             old: OldAddr(space.link(at) as u32),
             new: NewAddr(at.0),
         };
-        if pairs.push(pair).is_err() {
-            return Err(NoMemory);
-        }
+        pairs.push(pair)?;
         at = space.next_start(at);
     }
     Ok(pairs)

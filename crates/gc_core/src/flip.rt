@@ -67,12 +67,8 @@ impl Copies {
     fn new(alloc: Global, collection: &Collection, roots: &[u64]) -> Result<Copies, NoMemory>
         ensures { IfOk result (AreCopies collection.now roots.now) }
     {
-        let Ok(words) = Vec::from_slice(alloc, collection.new_image(roots).words) else {
-            return Err(NoMemory);
-        };
-        let Ok(roots) = Vec::from_slice(alloc, roots) else {
-            return Err(NoMemory);
-        };
+        let words = Vec::from_slice(alloc, collection.new_image(roots).words)?;
+        let roots = Vec::from_slice(alloc, roots)?;
         Ok(Copies { words, roots })
     }
 

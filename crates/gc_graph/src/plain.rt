@@ -48,9 +48,7 @@ impl Plain {
         requires few { mutators ≤ most_mutators }
         ensures { IfOk result (λ plain. plain ≡ opening_roomy size mutators) }
     {
-        let Ok(roots) = vec![in alloc; PlainValue::Nil; root_count(mutators)] else {
-            return Err(NoMemory);
-        };
+        let roots = vec![in alloc; PlainValue::Nil; root_count(mutators)]?;
         Ok(Plain {
             objects: Objects {
                 records: BTreeMap::new(alloc),
@@ -118,9 +116,7 @@ impl Plain {
             return Ok(Reply::Full);
         }
         let name = self.next_name;
-        let Ok(()) = self.objects.add(self.alloc, name, raw, kind, len) else {
-            return Err(NoMemory);
-        };
+        self.objects.add(self.alloc, name, raw, kind, len)?;
         let _ = self.objects.set(place, PlainValue::Ref(name));
         self.free -= taken;
         self.next_name += 1;

@@ -70,9 +70,7 @@ impl Heap {
         ensures sound { IfOk result IsHeap }
     {
         let space = Space::new(alloc, size)?;
-        let Ok(roots) = vec![in alloc; 0u64; root_count(mutators)] else {
-            return Err(NoMemory);
-        };
+        let roots = vec![in alloc; 0u64; root_count(mutators)]?;
         Ok(Heap {
             space,
             roots,

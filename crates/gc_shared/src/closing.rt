@@ -10,7 +10,7 @@ ghost use Rattle.gc_shared.specs.Internal.Marks.{IsMarked, IsFree, IsFault, Agre
 use crate::fault::{CloseFault, CloseKind};
 use crate::seat::{Receipt, Seat};
 use gc_world::{Entry, World};
-use std::alloc::Global;
+use std::alloc::{AllocError, Global};
 
 /// Compares the world with the seats. Returns this world if they agree, otherwise the first fault together with this world.
 pub(crate) fn compare(
@@ -53,10 +53,12 @@ fn fault(
         return Some(CloseKind::Seats);
     }
     let history = world.history();
-    let Ok(mut marks) = vec![in alloc; false; history.len()] else {
-        return Some(CloseKind::NoMemory);
-    };
-    first_fault(history, seats, mutators + collectors, marks.as_mut_slice())
+    match vec![in alloc; false; history.len()] {
+        Ok(mut marks) => {
+            first_fault(history, seats, mutators + collectors, marks.as_mut_slice())
+        }
+        Err(AllocError) => Some(CloseKind::NoMemory),
+    }
 }
 
 // Returns whether each seat number of the opening occurs once, and the world has the opening's size and mutators.

@@ -2,6 +2,7 @@ use gc_graph::NoMemory;
 use gc_graph::text::Message;
 use gc_world::World;
 use std::alloc::AllocError;
+use std::thread::SpawnError;
 use thiserror::Error;
 
 /// Why a call was refused. No event happened, and the seat is unchanged.
@@ -120,6 +121,39 @@ impl ThreadsFault {
             ThreadsFault::NoMemory => Message::text("no memory"),
             ThreadsFault::Close(kind) => kind.message(),
         }
+    }
+}
+
+impl From<NoMemory> for ThreadsFault {
+    ghost use Rattle.std.specs.Prelude.{◌≡◌};
+    ghost use Rattle.gc_shared.specs.declared.fault.ThreadsFault.TheVariants as faults;
+
+    ghost from_gives = { λ _ made. made ≡ faults.NoMemory };
+
+    fn from(_refused: NoMemory) -> ThreadsFault {
+        ThreadsFault::NoMemory
+    }
+}
+
+impl From<AllocError> for ThreadsFault {
+    ghost use Rattle.std.specs.Prelude.{◌≡◌};
+    ghost use Rattle.gc_shared.specs.declared.fault.ThreadsFault.TheVariants as faults;
+
+    ghost from_gives = { λ _ made. made ≡ faults.NoMemory };
+
+    fn from(_refused: AllocError) -> ThreadsFault {
+        ThreadsFault::NoMemory
+    }
+}
+
+impl<F: Drop> From<SpawnError<F>> for ThreadsFault {
+    ghost use Rattle.std.specs.Prelude.{◌≡◌};
+    ghost use Rattle.gc_shared.specs.declared.fault.ThreadsFault.TheVariants as faults;
+
+    ghost from_gives = { λ _ made. made ≡ faults.NotStarted };
+
+    fn from(_refused: SpawnError<F>) -> ThreadsFault {
+        ThreadsFault::NotStarted
     }
 }
 

@@ -63,9 +63,7 @@ impl Shared {
         ensures seats { IfOk result (λ opened.
             opened.1.items ≡ map (fresh mutators) (range_with_len 0 (mutators + collectors))) }
     {
-        let Ok(seats) = seats_of(alloc, mutators, collectors) else {
-            return Err(NoMemory);
-        };
+        let seats = seats_of(alloc, mutators, collectors)?;
         let world = World::open(alloc, size, mutators)?;
         let shared = Shared {
             alloc,

@@ -60,9 +60,7 @@ pub fn run_threads<R: Threads + Wait + Sync, G: Gate + Sync>(
     ensures { IfOk result (HasRun size scripts.items turns) }
 {
     let mutators = scripts.len() as u8;
-    let Ok((shared, seats)) = Shared::open(alloc, size, mutators, 1) else {
-        return Err(ThreadsFault::NoMemory);
-    };
+    let (shared, seats) = Shared::open(alloc, size, mutators, 1)?;
     let ended = in_threads(rt, &shared, seats, scripts.as_slice(), turns, gate);
     match shared.close(ended?) {
         Ok(world) => Ok(world),
@@ -109,23 +107,24 @@ fn run_all<'s, 'e, R: Threads + Wait + Sync, G: Gate + Sync>(
     requires { seats.items ≡ map (fresh (length scripts.now)) (range_with_len 0 (length scripts.now + 1)) }
     ensures { IfOk result (λ ended. HaveEnded scripts.now turns ended.items) }
 {
-    let Ok(mut back) = Vec::with_capacity(shared.alloc(), scripts.len() + 1) else {
-        return Err(ThreadsFault::NoMemory);
-    };
-    let Ok(mut players) = Vec::with_capacity(shared.alloc(), scripts.len()) else {
-        return Err(ThreadsFault::NoMemory);
-    };
+    let mut back = Vec::with_capacity(shared.alloc(), scripts.len() + 1)?;
+    let mut players = Vec::with_capacity(shared.alloc(), scripts.len())?;
     let Some(last) = seats.pop() else {
         unreachable!()
     };
-    let all_started = start_players(scope, rt, shared, seats, scripts, gate, &mut players);
-    if !all_started {
-        let _ = join_players(rt, players, scripts, &mut back);
-        return Err(ThreadsFault::NotStarted);
+    match start_players(scope, rt, shared, seats, scripts, gate, &mut players) {
+        Ok(()) => (),
+        Err(fault) => {
+            let _ = join_players(rt, players, scripts, &mut back);
+            return Err(fault);
+        }
     }
-    let Some(collector) = start_collector(scope, rt, shared, last, turns, gate) else {
-        let _ = join_players(rt, players, scripts, &mut back);
-        return Err(ThreadsFault::NotStarted);
+    let collector = match start_collector(scope, rt, shared, last, turns, gate) {
+        Ok(collector) => collector,
+        Err(fault) => {
+            let _ = join_players(rt, players, scripts, &mut back);
+            return Err(fault);
+        }
     };
     let played = join_players(rt, players, scripts, &mut back);
     let turned = collector.join(rt);
@@ -134,7 +133,7 @@ fn run_all<'s, 'e, R: Threads + Wait + Sync, G: Gate + Sync>(
     Ok(back)
 }
 
-// Starts a thread for each script. Returns false if one could not be started.
+// Starts a thread for each script, until one cannot be started.
 fn start_players<'s, 'e, R: Threads + Wait + Sync, G: Gate + Sync>(
     scope: &'s Scope<'s, &'e ()>,
     rt: &'e R,
@@ -143,22 +142,20 @@ fn start_players<'s, 'e, R: Threads + Wait + Sync, G: Gate + Sync>(
     scripts: &'e [Vec<Op>],
     gate: &'e G,
     players: &mut Vec<Player<'e>>,
-) -> bool
+) -> Result<(), ThreadsFault>
     requires seats { seats.items ≡ map (fresh (length scripts.now)) (range_with_len 0 (length scripts.now)) }
     requires none { vec_len players.old ≡ 0 }
     requires room { length scripts.now ≤ vec_capacity players.old }
-    ensures all { result ≡ true → vec_len players.new ≡ length scripts.now }
+    ensures all { OnOk result (vec_len players.new ≡ length scripts.now) }
     ensures some { vec_len players.new ≤ length scripts.now }
     ensures each { AreToPlay scripts.now players.new.items }
 {
     for seat in seats {
         let script = scripts[players.len()].as_slice();
-        match start_player(scope, rt, shared, seat, script, gate) {
-            Some(player) => players.push_reserved(player),
-            None => return false,
-        }
+        let player = start_player(scope, rt, shared, seat, script, gate)?;
+        players.push_reserved(player);
     }
-    true
+    Ok(())
 }
 
 // Starts the thread that runs this script with this seat.
@@ -169,18 +166,16 @@ fn start_player<'s, 'e, R: Threads + Wait + Sync, G: Gate + Sync>(
     seat: Seat,
     script: &'e [Op],
     gate: &'e G,
-) -> Option<Player<'e>>
+) -> Result<Player<'e>, ThreadsFault>
     requires { seat.receipts ≡ [] }
-    ensures { IfSome result (λ player.
+    ensures { IfOk result (λ player.
         (player.promise.number ≡ seat.number) × (player.promise.script.now ≡ script.now)) }
 {
     let promised = Plays {
         number: seat.number(),
         script,
     };
-    scope
-        .spawn_with(promised, move || play(rt, shared, seat, script, gate))
-        .ok()
+    Ok(scope.spawn_with(promised, move || play(rt, shared, seat, script, gate))?)
 }
 
 // Starts the thread that performs this many useful steps with the collector's seat.
@@ -191,24 +186,23 @@ fn start_collector<'s, 'e, R: Threads + Wait + Sync, G: Gate + Sync>(
     seat: Seat,
     turns: u64,
     gate: &'e G,
-) -> Option<Turner>
+) -> Result<Turner, ThreadsFault>
     requires { seat.receipts ≡ [] }
-    ensures { IfSome result (λ turner.
+    ensures { IfOk result (λ turner.
         (turner.promise.number ≡ seat.number) × (turner.promise.turns ≡ turns)) }
 {
     let promised = Turns {
         number: seat.number(),
         turns,
     };
-    scope
-        .spawn_with(
-            promised,
-            move || -> Result<Seat, ThreadsFault>
-                requires { seat.receipts ≡ [] }
-                ensures { IfOk result (HasTurned seat.number turns) }
-            { turn(rt, shared, seat, turns, gate) },
-        )
-        .ok()
+    let turner = scope.spawn_with(
+        promised,
+        move || -> Result<Seat, ThreadsFault>
+            requires { seat.receipts ≡ [] }
+            ensures { IfOk result (HasTurned seat.number turns) }
+        { turn(rt, shared, seat, turns, gate) },
+    )?;
+    Ok(turner)
 }
 
 // Joins all threads and appends their seats to `back`. Returns the fault of the lowest seat, if any.

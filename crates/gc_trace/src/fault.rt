@@ -1,5 +1,6 @@
 use gc_graph::NoMemory;
 use gc_graph::text::{Message, ReadFault};
+use std::alloc::AllocFailed;
 use thiserror::Error;
 
 /// Why a trace cannot be read: the first fault of the text. Lines are counted from 1.
@@ -54,6 +55,28 @@ impl From<ReadFault> for TraceFault {
             ReadFault::TooLarge => TraceFault::TooLarge,
             ReadFault::NoMemory => TraceFault::NoMemory,
         }
+    }
+}
+
+impl From<NoMemory> for TraceFault {
+    ghost use Rattle.std.specs.Prelude.{◌≡◌};
+    ghost use Rattle.gc_trace.specs.declared.fault.TraceFault.TheVariants as faults;
+
+    ghost from_gives = { λ _ made. made ≡ faults.NoMemory };
+
+    fn from(_refused: NoMemory) -> TraceFault {
+        TraceFault::NoMemory
+    }
+}
+
+impl<T: Drop> From<AllocFailed<T>> for TraceFault {
+    ghost use Rattle.std.specs.Prelude.{◌≡◌};
+    ghost use Rattle.gc_trace.specs.declared.fault.TraceFault.TheVariants as faults;
+
+    ghost from_gives = { λ _ made. made ≡ faults.NoMemory };
+
+    fn from(_refused: AllocFailed<T>) -> TraceFault {
+        TraceFault::NoMemory
     }
 }
 

@@ -146,9 +146,7 @@ impl Player {
         // A body that holds an event must name the type of its command.
         let _named: Option<Op> = None;
         while let Some(event) = lines.next(reader)? {
-            let Ok(()) = self.take(&event) else {
-                return Err(TraceFault::NoMemory);
-            };
+            self.take(&event)?;
         }
         Ok(())
     }
@@ -190,12 +188,10 @@ pub fn play_all<R: Read>(
     ensures read { (result ≡ Err TraceFault.Read) ↔ (source_failed reader.new ≡ true) }
 {
     let mut lines = EventReader::open(alloc, reader)?;
-    let Ok(mut player) = Player::open(alloc, lines.size, lines.mutators, gather) else {
-        return Err(TraceFault::NoMemory);
-    };
+    let mut player = Player::open(alloc, lines.size, lines.mutators, gather)?;
     player.take_all(&mut lines, reader)?;
     match player.finish() {
         Ok(played) => Ok(played),
-        Err(_) => Err(TraceFault::NoMemory),
+        Err(NoMemory) => Err(TraceFault::NoMemory),
     }
 }

@@ -28,9 +28,7 @@ pub fn read_trace<R: Read>(alloc: Global, reader: &mut Source<R>) -> Result<Trac
     // A body that pushes an event must name the type of its command.
     let _named: Option<Op> = None;
     while let Some(event) = lines.next(reader)? {
-        if events.push(event).is_err() {
-            return Err(TraceFault::NoMemory);
-        }
+        events.push(event)?;
     }
     Ok(Trace {
         version: lines.version,

@@ -15,9 +15,7 @@ pub fn scripts_of(alloc: Global, trace: &Trace) -> Result<Vec<Vec<Op>>, NoMemory
     let mut scripts = Vec::new(alloc);
     for m in 0..trace.mutators {
         let script = script_of(alloc, m, &trace.events)?;
-        if scripts.push(script).is_err() {
-            return Err(NoMemory);
-        }
+        scripts.push(script)?;
     }
     Ok(scripts)
 }
@@ -30,8 +28,8 @@ fn script_of(alloc: Global, m: u8, events: &[Event]) -> Result<Vec<Op>, NoMemory
     let _named: Option<Op> = None;
     for event in events {
         if let Event::Mutate { m: other, op } = event {
-            if *other == m && script.push(*op).is_err() {
-                return Err(NoMemory);
+            if *other == m {
+                script.push(*op)?;
             }
         }
     }

@@ -44,9 +44,7 @@ impl Space {
         ensures empty { IfOk result (λ space. space ≡ empty_space size) }
         ensures shaped { IfOk result IsSpace }
     {
-        let Ok(mut words) = Vec::with_capacity(alloc, size as usize) else {
-            return Err(NoMemory);
-        };
+        let mut words = Vec::with_capacity(alloc, size as usize)?;
         words.push_reserved(0);
         Ok(Space { size, words })
     }

@@ -242,10 +242,7 @@ fn make_room(history: &mut Vec<Entry>) -> Result<(), NoMemory>
     ensures items { history.new.items ≡ history.old.items }
     ensures room { OnOk result (vec_len history.new < vec_capacity history.new) }
 {
-    match history.reserve(1) {
-        Ok(()) => Ok(()),
-        Err(_) => Err(NoMemory),
-    }
+    Ok(history.reserve(1)?)
 }
 
 // Appends a command to the history, which has room for it. The type `Op` ensures that the command is in range.

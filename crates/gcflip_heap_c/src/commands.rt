@@ -12,7 +12,7 @@ ghost use Rattle.gcflip_heap_c.specs.Replies.{IsRefusal, reply_in_c, fetched_in_
 use crate::answer::{NO_MEMORY, OUT_OF_RANGE};
 use crate::reply::{GcflipView, of_fetched, of_look, of_reply};
 use gc_core::{CollectedHeap, SLOT_NUMBERS, numbered_slot};
-use gc_graph::{Number, Slot};
+use gc_graph::{NoMemory, Number, Slot};
 
 /// Returns the slot with this number, or `None` if there is no such slot.
 fn slot(number: u8) -> Option<Slot>
@@ -147,7 +147,7 @@ pub(crate) fn put(heap: &mut CollectedHeap, m: u8, s: u8, i: u16, t: u8) -> u32
     };
     match heap.put(m, s, i, t) {
         Ok(reply) => of_reply(&reply),
-        Err(_) => NO_MEMORY,
+        Err(NoMemory) => NO_MEMORY,
     }
 }
 
@@ -169,7 +169,7 @@ pub(crate) fn put_number(heap: &mut CollectedHeap, m: u8, s: u8, i: u16, t: u8, 
     };
     match heap.put_number(m, s, i, t, n) {
         Ok(reply) => of_reply(&reply),
-        Err(_) => NO_MEMORY,
+        Err(NoMemory) => NO_MEMORY,
     }
 }
 
@@ -191,7 +191,7 @@ pub(crate) fn cons(heap: &mut CollectedHeap, m: u8, d: u8, kind: u8, s: u8, t: u
     };
     match heap.cons(m, d, kind, s, t) {
         Ok(reply) => of_reply(&reply),
-        Err(_) => NO_MEMORY,
+        Err(NoMemory) => NO_MEMORY,
     }
 }
 
@@ -210,7 +210,7 @@ pub(crate) fn new_from(heap: &mut CollectedHeap, m: u8, d: u8, kind: u8, fields:
     }
     match heap.new_from(m, d, kind, fields) {
         Ok(reply) => of_reply(&reply),
-        Err(_) => NO_MEMORY,
+        Err(NoMemory) => NO_MEMORY,
     }
 }
 

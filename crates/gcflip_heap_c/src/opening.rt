@@ -1,6 +1,6 @@
 //! The exports that open and close a heap.
 
-ghost use Rattle.std.specs.Prelude.{◌≡◌, ◌<◌, ◌≤◌, ◌⊎◌, ◌↔◌, None, Some, IsSome};
+ghost use Rattle.std.specs.Prelude.{◌≡◌, ◌<◌, ◌≤◌, ◌⊎◌, ◌↔◌, None, Some, IsSome, IfOk};
 ghost use Rattle.gc_graph.specs.Limits.{most_mutators};
 ghost use Rattle.gc_copy.specs.State.{opening_state};
 ghost use Rattle.gcflip_heap_c.specs.Opening.{CanOpen};
@@ -8,7 +8,7 @@ ghost use Rattle.gcflip_heap_c.specs.Opening.{CanOpen};
 use crate::answer::{CLOSED, DONE, NO_MEMORY, OPEN, OUT_OF_RANGE};
 use crate::handle::GcflipHeap;
 use gc_core::CollectedHeap;
-use gc_graph::MOST_MUTATORS;
+use gc_graph::{MOST_MUTATORS, NoMemory};
 use std::alloc::Global;
 
 /// Opens an empty heap of `size` words, at least 1, for 1 to 16 mutators. Returns 0, or 4 if the handle already has a
@@ -32,14 +32,22 @@ pub extern "C" fn gcflip_heap_open(
     if size < 1 || mutators < 1 || mutators > MOST_MUTATORS {
         return OUT_OF_RANGE;
     }
-    let Ok(opened) = CollectedHeap::open(alloc, size, mutators) else {
-        return NO_MEMORY;
-    };
-    let Ok(boxed) = Box::new(alloc, opened) else {
-        return NO_MEMORY;
-    };
-    *heap = GcflipHeap::full(boxed);
-    DONE
+    match boxed_heap(alloc, size, mutators) {
+        Ok(boxed) => {
+            *heap = GcflipHeap::full(boxed);
+            DONE
+        }
+        Err(NoMemory) => NO_MEMORY,
+    }
+}
+
+// Opens a heap in a box of its own. Allocates the words, the roots and the box.
+fn boxed_heap(alloc: Global, size: u32, mutators: u8) -> Result<Box<CollectedHeap>, NoMemory>
+    requires { CanOpen size mutators }
+    ensures { IfOk result (λ heap. heap.value ≡ opening_state size mutators) }
+{
+    let opened = CollectedHeap::open(alloc, size, mutators)?;
+    Ok(Box::new(alloc, opened)?)
 }
 
 /// Frees the heap, and leaves the handle without one. Returns 0, or 3 if the handle had no heap.

@@ -10,6 +10,7 @@ use crate::handle::GcflipHeap;
 use crate::reply::{of_step, pairs_of};
 use gc_check::Sequential;
 use gc_core::Keep;
+use gc_graph::NoMemory;
 use std::alloc::Global;
 
 /// Opens a collection whose new space is as large as the heap. Allocates the new space and the logs.
@@ -22,10 +23,10 @@ pub extern "C" fn gcflip_heap_begin(alloc: Global, heap: &mut GcflipHeap) -> u32
     };
     let begun = opened.begin();
     *heap = GcflipHeap::full(opened);
-    let Ok(begun) = begun else {
-        return NO_MEMORY;
-    };
-    of_step(begun)
+    match begun {
+        Ok(begun) => of_step(begun),
+        Err(NoMemory) => NO_MEMORY,
+    }
 }
 
 /// Opens a collection whose new space has `size` words, at least 1. Allocates the new space and the logs.
@@ -42,10 +43,10 @@ pub extern "C" fn gcflip_heap_begin_sized(alloc: Global, heap: &mut GcflipHeap, 
     }
     let begun = opened.begin_sized(size);
     *heap = GcflipHeap::full(opened);
-    let Ok(begun) = begun else {
-        return NO_MEMORY;
-    };
-    of_step(begun)
+    match begun {
+        Ok(begun) => of_step(begun),
+        Err(NoMemory) => NO_MEMORY,
+    }
 }
 
 /// Replicates the target of the first root whose target has no replica.
@@ -109,11 +110,13 @@ pub extern "C" fn gcflip_heap_flip(alloc: Global, heap: &mut GcflipHeap, pairs: 
     };
     let flip = opened.flip(&Sequential, Keep::Nothing);
     *heap = GcflipHeap::full(opened);
-    let Ok(flip) = flip else {
-        return NO_MEMORY;
-    };
-    *pairs = pairs_of(flip.reply, *pairs);
-    of_step(flip.reply)
+    match flip {
+        Ok(flip) => {
+            *pairs = pairs_of(flip.reply, *pairs);
+            of_step(flip.reply)
+        }
+        Err(NoMemory) => NO_MEMORY,
+    }
 }
 
 /// Frees the new space and the logs of the open collection.

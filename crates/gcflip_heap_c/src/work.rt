@@ -165,9 +165,11 @@ pub extern "C" fn gcflip_heap_work(
     }
     let made = work_on(&mut opened, most);
     *heap = GcflipHeap::full(opened);
-    let Ok(made) = made else {
-        return NO_MEMORY;
-    };
-    *work = made;
-    DONE
+    match made {
+        Ok(made) => {
+            *work = made;
+            DONE
+        }
+        Err(NoMemory) => NO_MEMORY,
+    }
 }

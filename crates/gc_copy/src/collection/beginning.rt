@@ -43,13 +43,9 @@ impl Collection {
 fn empty_logs(alloc: Global, mutators: u8) -> Result<Vec<MutationLog>, NoMemory>
     ensures { IfOk result (λ logs. map entries_of logs.items ≡ replicate mutators []) }
 {
-    let Ok(mut logs) = Vec::with_capacity(alloc, usize::from(mutators)) else {
-        return Err(NoMemory);
-    };
+    let mut logs = Vec::with_capacity(alloc, usize::from(mutators))?;
     for _ in 0..mutators {
-        if logs.push(MutationLog::new(alloc)).is_err() {
-            return Err(NoMemory);
-        }
+        logs.push(MutationLog::new(alloc))?;
     }
     Ok(logs)
 }

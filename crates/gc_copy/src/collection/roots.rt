@@ -58,13 +58,9 @@ impl Collection {
         requires done { IsTrue (roots_done_in (collection_in self.now) (graph_in heap.now)) }
         ensures { IfOk result (λ words. words.items ≡ new_root_words heap.now (collection_in self.now)) }
     {
-        let Ok(mut roots) = Vec::with_capacity(alloc, heap.roots().len()) else {
-            return Err(NoMemory);
-        };
+        let mut roots = Vec::with_capacity(alloc, heap.roots().len())?;
         for word in heap.roots() {
-            if roots.push(self.moved_word(heap, *word)).is_err() {
-                return Err(NoMemory);
-            }
+            roots.push(self.moved_word(heap, *word))?;
         }
         Ok(roots)
     }

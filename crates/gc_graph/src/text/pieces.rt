@@ -1,5 +1,5 @@
 use crate::text::source::Source;
-use std::alloc::Global;
+use std::alloc::{AllocError, Global};
 use std::io::Read;
 use std::marker::Model;
 use std::mem::swap;
@@ -18,6 +18,17 @@ pub enum ReadFault {
     TooLarge,
     #[error("no memory")]
     NoMemory,
+}
+
+impl From<AllocError> for ReadFault {
+    ghost use Rattle.std.specs.Prelude.{◌≡◌};
+    ghost use Rattle.gc_graph.specs.declared.text.pieces.ReadFault.TheVariants as faults;
+
+    ghost from_gives = { λ _ made. made ≡ faults.NoMemory };
+
+    fn from(_refused: AllocError) -> ReadFault {
+        ReadFault::NoMemory
+    }
 }
 
 /// A text that is read piece by piece. It keeps the bytes that were read and not yet taken.
@@ -89,13 +100,7 @@ impl Pieces {
             return Ok(());
         }
         self.spare.clear();
-        if self
-            .spare
-            .extend_from_slice(&self.bytes[self.at..])
-            .is_err()
-        {
-            return Err(ReadFault::NoMemory);
-        }
+        self.spare.extend_from_slice(&self.bytes[self.at..])?;
         swap(&mut self.bytes, &mut self.spare);
         self.at = 0;
         Ok(())
@@ -125,9 +130,7 @@ impl Pieces {
             return Err(ReadFault::TooLarge);
         }
         let fresh = &piece[..count];
-        if self.bytes.extend_from_slice(fresh).is_err() {
-            return Err(ReadFault::NoMemory);
-        }
+        self.bytes.extend_from_slice(fresh)?;
         self.read += count;
         self.ended = count == 0;
         Ok(count)

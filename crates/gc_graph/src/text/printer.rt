@@ -70,9 +70,7 @@ impl Printer {
         ensures moved { text.new.items ++ self.new ≡ text.old.items ++ self.old }
         ensures refused { OnErr result (self.new ≡ self.old) }
     {
-        if text.extend_from_slice(self.waiting.as_slice()).is_err() {
-            return Err(NoMemory);
-        }
+        text.extend_from_slice(self.waiting.as_slice())?;
         self.waiting.clear();
         Ok(())
     }

@@ -1,4 +1,4 @@
-use Rattle.std.proofs.Common.{rules, ◌≡◌, ◌<◌, ◌++◌, ◌∷◌, [], true, not, length, ap, sym, ◌∙◌, subst}
+use Rattle.std.proofs.Common.{rules, ◌≡◌, ◌<◌, ◌++◌, ◌∷◌, [], true, length, ap, sym, ◌∙◌, subst}
 use Rattle.std.specs.Prelude.{◌^◌}
 use Rattle.std.specs.Result.{is_ok}
 use Rattle.std.proofs.lemmas.Bool.{cond-true}
@@ -26,7 +26,7 @@ pub loop-at-preserved : goal.loop-at-preserved
 loop-at-preserved c =
     let less : c.loop-at.at.0 < length c.args.space.now.words = subst (λ n. c.loop-at.at.0 < n) c.end.ensures.value c.loop-at-test.true in
     let pair : Pair = record { old = record { 0 = c.link.result }; new = record { 0 = c.loop-at.at.0 } } in
-    let pushed : is_ok c.push.result ≡ true = c.is_err.ensures.negation ∙ ap not c.if-is_err.false in
+    let pushed : is_ok c.push.result ≡ true = search rules in
     let more : c.push.new.self.items ≡ c.loop-at.pairs.items ++ pair ∷ [] = c.push.ensures.items ∙ cond-true (is_ok c.push.result) _ _ pushed in
     lists_more c.args.space.now.words c.loop-at.at.0 c.next_start-at.result.0 c.loop-at.pairs.items c.push.new.self.items pair c.loop-at.invariant less c.next_start-at.ensures.next (ap (λ n. (n, c.loop-at.at.0)) c.link.ensures) more
 

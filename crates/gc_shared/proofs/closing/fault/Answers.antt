@@ -2,8 +2,8 @@ use Rattle.gc_shared.proofs.SeatNumbers.{first_fault_of}
 use Rattle.gc_shared.specs.Seats.{opening}
 use Rattle.gc_shared.proofs.closing.fault.Goals as goal
 
-pub returns : goal.returns
-returns c =
+pub returns-in-Ok : goal.returns-in-Ok
+returns-in-Ok c =
     let seats = c.args.seats.now in
     first_fault_of c.first_fault.result (opening c.args.size c.args.mutators c.args.collectors) c.args.world.now seats
     (c.is_seated.ensures.0 c.if-not-is_seated.false)

@@ -38,13 +38,13 @@ loop-seat-preserved g c =
     let here = turn g (goal.at.loop-seat-preserved g c).After-as_slice-script in
     let done = vec_len c.loop-seat.players in
     let len : length c.loop-seat.players.items ≡ done = sym c.loop-seat.players.ok.0 in
-    let started = c.in-Some-start_player.ensures in
+    let started = c.in_ok-player.ensures in
     let inside : c.len.result < length c.args.scripts.now = omega arith in
     record {
       count = omega arith;
       rest = rw c.push_reserved.ensures.len here.1;
       room = rw c.push_reserved.ensures.capacity was.room;
-      each = rw c.push_reserved.ensures.items (AreToPlay-more c.args.scripts.now c.loop-seat.players.items c.in-Some-start_player.player was.each (
+      each = rw c.push_reserved.ensures.items (AreToPlay-more c.args.scripts.now c.loop-seat.players.items c.in_ok-player.player was.each (
         started.0 ∙ ap (λ (h : SeatValue). h.number) here.0 ∙ sym len,
         started.1 ∙ c.as_slice-script.ensures.value ∙ rw (len, ← c.len.ensures) (script_here c.args.scripts.now c.len.result c.index-scripts-len.result inside c.index-scripts-len.is),
       ));

@@ -5,14 +5,14 @@ use Rattle.gc_trace.specs.Plays.{opening}
 use Rattle.gc_graph.proofs.PieceSteps.{if_known}
 use Rattle.gc_trace.proofs.playing.play_all.Goals as goal
 
-pub returns-in-Ok-finish-clause-played : goal.returns-in-Ok-finish-clause-played
-returns-in-Ok-finish-clause-played g c =
+pub returns-in-Ok-clause-played : goal.returns-in-Ok-clause-played
+returns-in-Ok-clause-played g c =
     let rest = c.in_ok-take_all.ensures.played in
     let trace = read_so_far c.in_ok-lines.lines rest.events in
-    let finished = c.in-Ok-finish.ensures in
+    let finished = c.in-Ok.ensures in
     record {
       trace = trace;
       from = record { recording = rest.recording; read = if_known {P = IsReadAsTrace trace} _ (λ text is. rest.read text (c.in_ok-lines.ensures.exact text is)) };
       report = finished.report (opening trace) rest.events rest.played;
-      replies = λ gathered. finished.replies (opening trace) rest.events rest.played (c.take_all.ensures.gather ∙ c.in-Ok.ensures.gather ∙ gathered);
+      replies = λ gathered. finished.replies (opening trace) rest.events rest.played (c.take_all.ensures.gather ∙ c.in_ok-player.ensures.gather ∙ gathered);
     }

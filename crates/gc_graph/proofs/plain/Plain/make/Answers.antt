@@ -16,7 +16,7 @@ invariant_of-self-2 c =
     let a = c.self.inside in
     let g : Graph = graph_of a.objects in
     let same : set_root (add_object g a.next_name (new_object c.args.raw c.args.kind c.args.len)) c.args.place (Ref a.next_name) ≡ graph_of c.set.new.self
-    = sym (c.set.ensures.graph ∙ ap (λ h. set_root h c.args.place (Ref a.next_name)) c.in-Ok.ensures.ok) in
+    = sym (c.set.ensures.graph ∙ ap (λ h. set_root h c.args.place (Ref a.next_name)) c.in_ok-add.ensures.ok) in
     let bound : a.next_name + a.free ≤ most_words = c.self.invariant.bound in
     record {
       below = subst (AreBelow (a.next_name + 1)) same (make_below a.next_name g c.args.raw c.args.place c.args.kind c.args.len c.self.invariant.below);
@@ -28,4 +28,4 @@ pub returns-clause-ok : goal.returns-clause-ok
 returns-clause-ok c =
     let a = c.self.inside in
     made a c.args.self.now _ c.args.place c.args.raw c.args.kind c.args.len c.self.view_is c.self.invariant (omega (arith, c.object_words-taken.ensures))
-    (λ i. (Made, record { graph = (c.set.ensures.graph ∙ ap (λ h. set_root h c.args.place (Ref a.next_name)) c.in-Ok.ensures.ok) i; free = ap (λ n. a.free - n) c.object_words-taken.ensures i }))
+    (λ i. (Made, record { graph = (c.set.ensures.graph ∙ ap (λ h. set_root h c.args.place (Ref a.next_name)) c.in_ok-add.ensures.ok) i; free = ap (λ n. a.free - n) c.object_words-taken.ensures i }))

@@ -9,18 +9,18 @@ use Rattle.gc_graph.proofs.Plains.{held_each}
 use Rattle.gc_graph.proofs.Bounds.{opening_below}
 use Rattle.gc_graph.proofs.plain.Plain.new.Goals as goal
 
-nil_roots : (c : goal.After-new) → map plain_value c.in-Ok.roots.items ≡ replicate (roots_of c.args.mutators) Nil
-nil_roots c = ap (map plain_value) (c.in-Ok.ensures.items_if_clones_equal (λ y e. e)) ∙ ap (λ n. map plain_value (replicate n held.Nil)) c.root_count.ensures ∙ held_each (roots_of c.args.mutators) held.Nil
+nil_roots : (c : goal.After-new) → map plain_value c.in_ok-roots.roots.items ≡ replicate (roots_of c.args.mutators) Nil
+nil_roots c = ap (map plain_value) (c.in_ok-roots.ensures.items_if_clones_equal (λ y e. e)) ∙ ap (λ n. map plain_value (replicate n held.Nil)) c.root_count.ensures ∙ held_each (roots_of c.args.mutators) held.Nil
 
 pub returns : goal.returns
 returns c =
-    let roots : map plain_value c.in-Ok.roots.items ≡ replicate (roots_of c.args.mutators) Nil = nil_roots c in
+    let roots : map plain_value c.in_ok-roots.roots.items ≡ replicate (roots_of c.args.mutators) Nil = nil_roots c in
     λ i. record { graph = record { objects = objects_of (c.new.ensures.empty i); roots = roots i }; free = c.args.size - 1 }
 
 pub invariant_of-result : goal.invariant_of-result
 invariant_of-result c =
-    let roots : map plain_value c.in-Ok.roots.items ≡ replicate (roots_of c.args.mutators) Nil = nil_roots c in
-    let graph : graph_of (record { records = c.new.result; roots = c.in-Ok.roots }) ≡ opening c.args.mutators = λ i. record { objects = objects_of (c.new.ensures.empty i); roots = roots i } in
+    let roots : map plain_value c.in_ok-roots.roots.items ≡ replicate (roots_of c.args.mutators) Nil = nil_roots c in
+    let graph : graph_of (record { records = c.new.result; roots = c.in_ok-roots.roots }) ≡ opening c.args.mutators = λ i. record { objects = objects_of (c.new.ensures.empty i); roots = roots i } in
     record {
       below = subst (AreBelow 0) (sym graph) (opening_below c.args.mutators);
       short = subst AreShort (sym graph) tt;

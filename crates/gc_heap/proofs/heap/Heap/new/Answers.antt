@@ -6,7 +6,7 @@ use Rattle.gc_heap.proofs.heap.Heap.new.Goals as goal
 
 pub returns-clause-empty : goal.returns-clause-empty
 returns-clause-empty c =
-    let roots : c.in-Ok.roots.items ≡ replicate (roots_of c.args.mutators) 0 = c.in-Ok.ensures.items_if_clones_equal (λ y e. e) ∙ ap (λ n. replicate n 0) c.root_count.ensures in
+    let roots : c.in_ok-roots.roots.items ≡ replicate (roots_of c.args.mutators) 0 = c.in_ok-roots.ensures.items_if_clones_equal (λ y e. e) ∙ ap (λ n. replicate n 0) c.root_count.ensures in
     λ i. record { space = c.in_ok-space.ensures.empty i; roots = roots i; mutators = c.args.mutators }
 
 pub returns-clause-opening : goal.returns-clause-opening

@@ -1,0 +1,6 @@
+// refused: a type is another name of a fault
+type Nothing = gc_graph::NoMemory;
+
+fn make() -> Result<(), Nothing> {
+    Err(Nothing)
+}

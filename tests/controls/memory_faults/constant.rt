@@ -1,0 +1,2 @@
+// refused: NoMemory of a constant is written by hand
+const LATE: CallFault = CallFault::NoMemory;

@@ -1,0 +1,7 @@
+// refused: a fault may be a default
+#[derive(Clone, Copy, Default)]
+pub enum CallFault {
+    #[default]
+    NoMemory,
+    NotAMutator,
+}

@@ -1,0 +1,6 @@
+// refused: NotStarted of from is written by hand
+impl From<NoMemory> for ThreadsFault {
+    fn from(_refused: NoMemory) -> ThreadsFault {
+        ThreadsFault::NotStarted
+    }
+}

@@ -1,0 +1,243 @@
+"""Tests that the code reports a failed allocation only where an allocation failed, and a thread that did not start only where one did not.
+
+No contract can say this. So outside tests, a fault of these kinds may be written in two ways only: by `impl From` of the fault of an
+allocation or of a thread, and as the right side of a match arm whose pattern is such a fault. `?` carries it from there. PLACES lists
+all places where one is written. docs/TESTING.md says what this does not find.
+"""
+import glob
+import os
+import re
+
+from prover.crates import TOP, crates_listed
+from prover.rattle_code import Code
+
+MEMORY, THREADS = "memory", "threads"
+# The names of faults, and what they tell of. Those of the second table are faults of the standard library, which patterns may have too.
+FAULTS = {"NoMemory": MEMORY, "NO_MEMORY": MEMORY, "OutOfMemory": MEMORY, "NotStarted": THREADS}
+CAUSES = {**FAULTS, "AllocError": MEMORY, "AllocFailed": MEMORY, "SpawnError": THREADS}
+WRITTEN = {**FAULTS, "AllocError": MEMORY}
+# What `impl From` may make a fault of.
+SOURCES = {"AllocError": MEMORY, "AllocFailed < T >": MEMORY, "NoMemory": MEMORY, "SpawnError < F >": THREADS}
+BY_FROM, BY_ARM, BY_HAND = "From", "arm", "by hand"
+
+# Numbers that calls of the libraries for C return if they did nothing.
+NAMED_ANSWERS = ("NO_MEMORY", "OUT_OF_RANGE", "CLOSED", "OPEN", "TOO_LARGE", "BAD_LINE", "ENDS_EARLY")
+# Crates of tests alone.
+TESTS = ("gc_tests", "growths")
+
+# Each place where such a fault is written: the file, the function, how, and how often. Those by hand have their reasons in BY_HAND_REASONS.
+PLACES = {
+    "gc_graph/src/no_memory.rt": {("from", BY_FROM): 2},
+    "gc_graph/src/text/pieces.rt": {("from", BY_FROM): 1},
+    "gc_cert/src/fault.rt": {("from", BY_ARM): 1, ("from", BY_FROM): 1},
+    "gc_check/src/starts.rt": {("from", BY_FROM): 1, ("of_old", BY_ARM): 1, ("of_new", BY_ARM): 1},
+    "gc_check/src/text.rt": {("check_text_by", BY_ARM): 1, ("verdict_of", BY_ARM): 1},
+    "gc_check/src/verdict.rt": {("from", BY_FROM): 2},
+    "gcflip_c/src/answer.rt": {("answer", BY_ARM): 1},
+    "gcflip_c/src/text.rt": {("gcflip_check_text", BY_HAND): 1},
+    "gcflip_heap_c/src/commands.rt": {("put", BY_ARM): 1, ("put_number", BY_ARM): 1, ("cons", BY_ARM): 1, ("new_from", BY_ARM): 1},
+    "gcflip_heap_c/src/opening.rt": {("gcflip_heap_open", BY_ARM): 1},
+    "gcflip_heap_c/src/stepping.rt": {("gcflip_heap_begin", BY_ARM): 1, ("gcflip_heap_begin_sized", BY_ARM): 1, ("gcflip_heap_flip", BY_ARM): 1},
+    "gcflip_heap_c/src/work.rt": {("gcflip_heap_work", BY_ARM): 1},
+    "gc_core/src/flipping.rt": {("accepts", BY_ARM): 1},
+    "gc_shared/src/closing.rt": {("fault", BY_ARM): 1},
+    "gc_shared/src/fault.rt": {("from", BY_FROM): 5, ("from", BY_ARM): 1},
+    "gc_trace/src/playing.rt": {("play_all", BY_ARM): 1},
+    "gc_trace/src/fault.rt": {("from", BY_ARM): 2, ("from", BY_FROM): 3},
+    "gcflip/src/commands/threads.rt": {("from", BY_ARM): 2, ("from", BY_FROM): 1},
+    "gcflip/src/program.rt": {("open", BY_HAND): 2, ("arguments", BY_HAND): 2, ("refuse", BY_HAND): 2},
+}
+
+# Why a place is not in one of the two ways.
+BY_HAND_REASONS = {
+    ("gcflip/src/program.rt", "open"): "a file's error tells that an allocation failed by its kind",
+    ("gcflip/src/program.rt", "arguments"): "the error of reading the arguments tells it by its kind",
+    ("gcflip/src/program.rt", "refuse"): "clap's error tells it by its kind",
+    ("gcflip_c/src/text.rt", "gcflip_check_text"): "the arm is also that of a failed read, and reading from memory does not fail",
+}
+
+
+class Place:
+    """A token that is a fault's name and makes a value: its line, its function, and how it is written. `why` says what is wrong."""
+
+    def __init__(self, line, function, way, why=None):
+        self.line = line
+        self.function = function
+        self.way = way
+        self.why = why
+
+
+def is_in(at, ranges):
+    return any(first <= at < end for first, end in ranges)
+
+
+def patterns_by_let(code):
+    """Returns the ranges of the patterns of `let`, and of `matches!`."""
+    tokens, found = code.tokens, []
+    for at, token in enumerate(tokens):
+        if token == "let":
+            found.append((at + 1, code.until(at + 1, len(tokens), ("=", ";"))))
+        elif token == "matches" and tokens[at + 1:at + 3] == ["!", "("]:
+            end = code.ends[at + 2]
+            found.append((code.until(at + 3, end, (",",)), end))
+    return found
+
+
+def declared(code, at):
+    """Returns whether the token is in a declaration or a type: outside every function's braces, and no constant's value."""
+    for keyword, first, opened, end in code.heads:
+        if keyword in ("const", "static") and first <= at < end:
+            return at == first + 1
+        if keyword in ("fn", "impl", "type", "use", "trait") and first <= at < opened:
+            return True
+    return code.around(at, "fn") is None
+
+
+def is_made_from(code, at, kind):
+    """Returns whether the token is the whole body of `from` in an `impl From` of a fault of this kind."""
+    function, item = code.around(at, "fn"), code.around(at, "impl")
+    if not item or code.tokens[function[1] + 1] != "from":
+        return False
+    header = re.search(r"From < (.*) > for", code.text(item[1], item[2]))
+    body = code.text(function[2] + 1, function[3])
+    return bool(header) and SOURCES.get(header.group(1)) == kind and re.fullmatch(r"(\w+ :: )?\w+", body) is not None
+
+
+def alternatives(code, pattern):
+    """Yields the tokens of each alternative of a pattern."""
+    at, end = pattern
+    while at < end:
+        bar = code.until(at, end, ("|",))
+        yield code.tokens[at:bar]
+        at = bar + 1
+
+
+def is_carried(code, at, kind):
+    """Returns whether the token is the right side of an arm whose pattern has a fault of this kind in each alternative."""
+    arms = [arm for arm in code.arms if is_in(at, [arm.body])]
+    if not arms:
+        return False
+    arm = max(arms, key=lambda arm: arm.body[0])
+    right = code.text(*arm.body)
+    is_alone = re.fullmatch(r"(return )?((Err|Some) \( )?(\w+ :: )*\w+( \))?", right) is not None
+    return is_alone and all(any(CAUSES.get(token) == kind for token in tokens) for tokens in alternatives(code, arm.pattern))
+
+
+def places_in(code):
+    """Yields the places of a file at which a fault is written."""
+    patterns = [arm.pattern for arm in code.arms] + patterns_by_let(code)
+    for at, token in enumerate(code.tokens):
+        if token not in WRITTEN or declared(code, at) or is_in(at, patterns):
+            continue
+        function, kind = code.around(at, "fn"), WRITTEN[token]
+        name = code.tokens[function[1] + 1] if function else "a constant"
+        if function and is_made_from(code, at, kind):
+            yield Place(code.lines[at], name, BY_FROM)
+        elif function and is_carried(code, at, kind):
+            yield Place(code.lines[at], name, BY_ARM)
+        else:
+            yield Place(code.lines[at], name, BY_HAND, "line %d: %s of %s is written by hand" % (code.lines[at], token, name))
+
+
+def disguises_in(code):
+    """Yields why the names of faults in a file may mean something else: another name, a default, or a pattern that binds."""
+    for keyword, first, opened, end in code.heads:
+        text = code.text(first, opened)
+        line = code.lines[first]
+        if keyword == "use" and re.search(r"\b(%s) as\b" % "|".join(CAUSES), text):
+            yield "line %d: a fault has another name" % line
+        if keyword == "use" and re.search(r":: \*", text) and not re.search(r":: prelude :: \*", text):
+            yield "line %d: all names of a module are used" % line
+        if keyword == "type" and re.search(r"= (\w+ :: )*(%s)\b" % "|".join(CAUSES), text):
+            yield "line %d: a type is another name of a fault" % line
+        has_fault = any(token in FAULTS for token in code.tokens[first:end])
+        if keyword == "impl" and re.search(r"\bDefault for\b", text) and has_fault:
+            yield "line %d: a fault is a default" % line
+        if keyword in ("enum", "struct") and has_fault and re.search(r"derive \([^)]*\bDefault\b", code.text(max(0, first - 40), first)):
+            yield "line %d: a fault may be a default" % line
+    uses = " ".join(code.text(head[1], head[2]) for head in code.heads if head[0] == "use")
+    bare = [at for at, token in enumerate(code.tokens) if token in ("NoMemory", "AllocError") and code.tokens[at - 1] != "::" and not declared(code, at)]
+    for name in sorted({code.tokens[at] for at in bare}):
+        if not re.search(r"\b%s\b" % name, uses) and not re.search(r"struct %s\b" % name, " ".join(code.tokens)):
+            yield "%s is not imported, so that a pattern of this name binds" % name
+
+
+def numbers_in(code):
+    """Yields the bare numbers that a call of the libraries for C returns: a call is a function that returns a number that has a name."""
+    for keyword, first, opened, end in code.heads:
+        if keyword == "fn" and any(token in NAMED_ANSWERS for token in code.tokens[opened:end]):
+            for at in range(opened, end):
+                if code.tokens[at].isdigit() and code.tokens[at - 1] in ("return", "=>", "{", ";") and code.tokens[at + 1] in (";", ",", "}"):
+                    yield "line %d: a number is returned that has no name" % code.lines[at]
+
+
+def sources():
+    """Returns the files of code that are not tests, by their crates."""
+    return {crate: [path for path in sorted(glob.glob(os.path.join(TOP, "crates", crate, "src", "**", "*.rt"), recursive=True))
+                    if not re.search(r"/src/tests(\.rt|/)", path)] for crate in crates_listed() if crate not in TESTS}
+
+
+def read(path):
+    with open(path, encoding="utf-8") as file:
+        return Code(file.read())
+
+
+def counted(places):
+    """Returns how often each function writes a fault in each way."""
+    found = {}
+    for place in places:
+        key = place.function, place.way
+        found[key] = found.get(key, 0) + 1
+    return found
+
+
+def differences(shown, found, listed):
+    """Yields how the places of a file differ from those of the list."""
+    for function, way in sorted(set(found) | set(listed)):
+        times, wanted = found.get((function, way), 0), listed.get((function, way), 0)
+        if times != wanted:
+            yield "%s of %s has %d by way of '%s', and the list has %d" % (function, shown, times, way, wanted)
+
+
+def places(_program, _folder):
+    """Each place where a fault is written is on the list, and the list has no others."""
+    seen = set()
+    for crate, paths in sources().items():
+        for path in paths:
+            shown = os.path.relpath(path, os.path.join(TOP, "crates"))
+            code = read(path)
+            found = list(places_in(code))
+            listed = PLACES.get(shown, {})
+            seen.add(shown)
+            wrong = [place.why for place in found if place.why and (shown, place.function) not in BY_HAND_REASONS]
+            wrong += list(differences(shown, counted(found), listed)) + list(disguises_in(code))
+            wrong += list(numbers_in(code)) if crate in ("gcflip_c", "gcflip_heap_c") else []
+            yield "faults of %s" % shown, ", ".join(wrong) or None
+    gone = sorted(set(PLACES) - seen)
+    yield "files of the list", "there is no %s" % ", ".join(gone) if gone else None
+    idle = [key for key in BY_HAND_REASONS if (key[1], BY_HAND) not in PLACES.get(key[0], {})]
+    yield "reasons of the list", "no place for %s" % idle if idle else None
+
+
+CONTROLS = os.path.join(TOP, "tests", "controls", "memory_faults")
+
+
+def faults_of(code):
+    """Returns all that is wrong in a file which has no places on the list by hand."""
+    return [place.why for place in places_in(code) if place.why] + list(disguises_in(code)) + list(numbers_in(code))
+
+
+def controls(_program, _folder):
+    """Each file of tests/controls/memory_faults breaks the rule that its first line names, and only that one, or none."""
+    paths = sorted(glob.glob(os.path.join(CONTROLS, "*.rt")))
+    for path in paths:
+        with open(path, encoding="utf-8") as file:
+            wanted = re.match(r"// (accepted|refused: (.*))\n", file.read())
+        found = faults_of(read(path))
+        refused = wanted.group(2)
+        is_right = not found if refused is None else found != [] and all(refused in why for why in found)
+        yield "control %s" % os.path.basename(path), None if is_right else "found %s" % found
+    yield "there are controls", None if len(paths) > 20 else "%d" % len(paths)
+
+
+GROUPS = [places, controls]
