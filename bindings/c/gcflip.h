@@ -67,7 +67,7 @@ enum gcflip_answer {
     GCFLIP_YES = 0,        /* the certificate holds */
     GCFLIP_REFUSED = 1,    /* a condition fails; the verdict says which */
     GCFLIP_NO_MEMORY = 2,  /* an allocation failed */
-    GCFLIP_TOO_MANY = 3,   /* gcflip_check only: 2^32 pairs or more */
+    GCFLIP_TOO_MANY = 3,   /* gcflip_check: 2^32 pairs or more; gcflip_infer: the array has no room for the pairs */
     GCFLIP_TOO_LARGE = 4,  /* gcflip_check_text only: more than 67108864 bytes */
     GCFLIP_BAD_LINE = 5,   /* gcflip_check_text only: the first bad line is line `place`, counted from 1 */
     GCFLIP_ENDS_EARLY = 6  /* gcflip_check_text only: the text ends before its last line does */
@@ -88,6 +88,17 @@ uint32_t gcflip_check(uint32_t old_size, uint32_t old_end, bool old_raws, const 
 /* Checks the pair of images in a text of the format `heappair 1` or `heappair 2`. The text needs no zero byte at
  * its end. */
 uint32_t gcflip_check_text(const uint8_t *text, size_t length, gcflip_verdict *verdict);
+
+/* Finds the pairs that every certificate of two images has, and checks them. So it needs no forwarding table: if its answer is
+ * GCFLIP_YES, the pairs are a certificate that holds; if it is GCFLIP_REFUSED, none holds, and the verdict is that of
+ * gcflip_check on the pairs. It writes the pairs, in the order of new addresses, and their number `count`. `room` pairs fit into the
+ * array; half as many as the new image has words always suffice. Answers GCFLIP_TOO_MANY if there are more, and
+ * GCFLIP_NO_MEMORY if an allocation fails; it then writes nothing. The array is initialized, as all memory that a call is given. */
+uint32_t gcflip_infer(uint32_t old_size, uint32_t old_end, bool old_raws, const uint64_t *old_words,
+                      size_t old_word_count, const uint64_t *old_roots, size_t old_root_count, uint32_t new_size,
+                      uint32_t new_end, bool new_raws, const uint64_t *new_words, size_t new_word_count,
+                      const uint64_t *new_roots, size_t new_root_count, gcflip_pair *pairs, size_t room,
+                      size_t *count, gcflip_verdict *verdict);
 
 /* ---- Conveniences over the calls above. Nothing is proved of them. */
 
@@ -111,6 +122,19 @@ static inline uint32_t gcflip_check_images(const gcflip_image *old_image, const 
                         new_image->size, new_image->end, new_image->raws, new_image->end ? new_image->words : no_words,
                         new_image->end, new_image->root_count ? new_image->roots : no_words, new_image->root_count,
                         pair_count ? pairs : no_pairs, pair_count, verdict);
+}
+
+/* Calls gcflip_infer with the members of the images. An empty array may be NULL. */
+static inline uint32_t gcflip_infer_images(const gcflip_image *old_image, const gcflip_image *new_image, gcflip_pair *pairs,
+                                           size_t room, size_t *count, gcflip_verdict *verdict)
+{
+    static const uint64_t no_words[1] = {0};
+    gcflip_pair no_pairs[1] = {{0, 0}};
+    return gcflip_infer(old_image->size, old_image->end, old_image->raws, old_image->end ? old_image->words : no_words,
+                        old_image->end, old_image->root_count ? old_image->roots : no_words, old_image->root_count,
+                        new_image->size, new_image->end, new_image->raws, new_image->end ? new_image->words : no_words,
+                        new_image->end, new_image->root_count ? new_image->roots : no_words, new_image->root_count,
+                        room ? pairs : no_pairs, room, count, verdict);
 }
 
 /* Returns the name of a refusal as the program `gcflip check` prints it, or "" for any other number. */

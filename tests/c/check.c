@@ -1,4 +1,4 @@
-/* Tests gcflip_check: each verdict, each answer except that of a failed allocation, and empty arrays. */
+/* Tests gcflip_check: each verdict, each answer except that of a failed allocation, and empty arrays. Tests gcflip_infer. */
 #include "expect.h"
 #include "gcflip.h"
 #include <string.h>
@@ -146,6 +146,52 @@ static void too_many_pairs(void)
     munmap((void *)many, count * sizeof *many);
 }
 
+/* Infers the pairs of the images. Returns whether the answer and the number of pairs are these. */
+static bool infers(uint32_t answer, size_t number)
+{
+    gcflip_pair found[4] = {{90, 91}, {92, 93}, {94, 95}, {96, 97}};
+    size_t count = 99;
+    bool is = gcflip_infer_images(&old_image, &new_image, found, COUNT(found), &count, &verdict) == answer && count == number;
+    for (size_t k = 0; k < COUNT(pairs); k++)
+        is = is && (k >= number || (found[k].old_address == pairs[k].old_address && found[k].new_address == pairs[k].new_address));
+    return is && found[number].old_address == 90 + 2 * number;
+}
+
+static void inferred(void)
+{
+    set_up();
+    EXPECT(infers(GCFLIP_YES, 2) && is_verdict(0, 2, 0, 0));
+    new_words[6] = 17; /* the number of the third object is 8 */
+    EXPECT(infers(GCFLIP_REFUSED, 2) && is_verdict(GCFLIP_FIELD_DIFFERS, 0, 1, 0));
+    new_words[6] = 15;
+    new_words[3] = 2; /* the first object refers to itself, and so the third has no replica */
+    EXPECT(infers(GCFLIP_REFUSED, 1) && is_verdict(GCFLIP_FIELD_DIFFERS, 0, 0, 0));
+    new_words[3] = 8;
+    old_roots[1] = new_roots[1] = 2; /* the same object twice is one pair */
+    EXPECT(infers(GCFLIP_YES, 2));
+    old_roots[1] = 8; /* garbage before: it shares the replica of the first object */
+    EXPECT(infers(GCFLIP_REFUSED, 2) && is_verdict(GCFLIP_ROOT_DIFFERS, 0, 1, 0));
+    old_roots[1] = new_roots[1] = 0;
+    new_image.end = 6; /* no pairs of an image without a shape */
+    EXPECT(infers(GCFLIP_REFUSED, 0) && is_verdict(GCFLIP_NEW_SHAPE, 0, 4, 0));
+    set_up();
+    new_image.root_count = 1;
+    EXPECT(infers(GCFLIP_REFUSED, 0) && is_verdict(GCFLIP_ROOT_COUNT, 0, 0, 0));
+}
+
+/* Without room for both pairs, nothing is written. */
+static void no_room_for_pairs(void)
+{
+    for (size_t room = 0; room < 2; room++) {
+        gcflip_pair found[1] = {{90, 91}};
+        size_t count = 99;
+        set_up();
+        EXPECT(gcflip_infer_images(&old_image, &new_image, found, room, &count, &verdict) == GCFLIP_TOO_MANY);
+        EXPECT(count == 99 && found[0].old_address == 90 && found[0].new_address == 91);
+        EXPECT(is_verdict(UINT32_MAX, UINT32_MAX, UINT64_MAX, UINT64_MAX));
+    }
+}
+
 static void names(void)
 {
     EXPECT(strcmp(gcflip_refusal_name(GCFLIP_OLD_SHAPE), "OldShape") == 0);
@@ -163,6 +209,8 @@ int main(void)
     empty_rows();
     other_counts_of_words();
     too_many_pairs();
+    inferred();
+    no_room_for_pairs();
     names();
     return 0;
 }

@@ -21,6 +21,18 @@ static uint32_t check_text(gcflip_verdict *verdict)
     return gcflip_check_text((const uint8_t *)text, strlen(text), verdict);
 }
 
+static uint32_t infer_images(gcflip_verdict *verdict)
+{
+    const gcflip_image image = {8, 3, false, words, roots, 1};
+    gcflip_pair found[1] = {{77, 77}};
+    size_t count = 77;
+    uint32_t answer = gcflip_infer_images(&image, &image, found, 1, &count, verdict);
+    bool is_written = answer == GCFLIP_YES;
+    EXPECT(count == (is_written ? 1 : 77));
+    EXPECT(found[0].old_address == (is_written ? 1 : 77) && found[0].new_address == (is_written ? 1 : 77));
+    return answer;
+}
+
 /* Returns the number of allocations that can fail. */
 static int failures(uint32_t (*check)(gcflip_verdict *verdict))
 {
@@ -43,5 +55,7 @@ int main(void)
     /* The partners by old address, and the starts of both images. A text also has the bytes that wait, two arrays for each image, and the pairs. */
     EXPECT(failures(check_images) == 3);
     EXPECT(failures(check_text) == 9);
+    /* The starts of both images, the partners by old and by new address, the pairs as found and in their order; then the check's. */
+    EXPECT(failures(infer_images) == 9);
     return 0;
 }

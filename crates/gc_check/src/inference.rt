@@ -92,9 +92,7 @@ fn rising_pairs(alloc: Global, found: &Found) -> Result<Vec<Pair>, NoMemory>
     ensures few { IfOk result (λ pairs. length pairs.items < 2 ^ 32) }
     ensures pairs { IfOk result (λ pairs. pairs_of pairs.items ≡ risen 0 found.now.originals.items) }
 {
-    let Ok(mut pairs) = Vec::with_capacity(alloc, found.pairs.len()) else {
-        return Err(NoMemory);
-    };
+    let mut pairs = Vec::with_capacity(alloc, found.pairs.len())?;
     for b in 0..found.originals.len() {
         let original = found.originals[b];
         if original != 0 {
@@ -102,9 +100,7 @@ fn rising_pairs(alloc: Global, found: &Found) -> Result<Vec<Pair>, NoMemory>
                 old: OldAddr(original),
                 new: NewAddr(b as u32),
             };
-            if pairs.push(pair).is_err() {
-                return Err(NoMemory);
-            }
+            pairs.push(pair)?;
         }
     }
     Ok(pairs)

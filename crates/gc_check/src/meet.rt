@@ -34,16 +34,10 @@ pub(crate) fn find(alloc: Global, old: &Starts, new: &Starts) -> Result<Found, N
     } else {
         new.places()
     };
-    let Ok(partners) = vec![in alloc; 0u32; old.places()] else {
-        return Err(NoMemory);
-    };
-    let Ok(originals) = vec![in alloc; 0u32; new.places()] else {
-        return Err(NoMemory);
-    };
+    let partners = vec![in alloc; 0u32; old.places()]?;
+    let originals = vec![in alloc; 0u32; new.places()]?;
     // Each object takes at least two words.
-    let Ok(pairs) = Vec::with_capacity(alloc, most / 2) else {
-        return Err(NoMemory);
-    };
+    let pairs = Vec::with_capacity(alloc, most / 2)?;
     let mut found = Found {
         partners,
         originals,
@@ -159,9 +153,7 @@ fn meet_refs(
         old: OldAddr(from.0),
         new: NewAddr(to.0),
     };
-    if found.pairs.push(pair).is_err() {
-        return Err(NoMemory);
-    }
+    found.pairs.push(pair)?;
     found.partners[from.0 as usize] = to.0;
     found.originals[to.0 as usize] = from.0;
     Ok(())

@@ -9,6 +9,7 @@ ghost use Rattle.gcflip_c.specs.Verdicts.{IsReported};
 use crate::answer::{NO_MEMORY, REFUSED, TOO_MANY, YES};
 use crate::verdict::GcflipVerdict;
 use gc_check::{Verdict, compare};
+use gc_graph::NoMemory;
 use gc_words::{ImageRef, Pair};
 use std::alloc::Global;
 
@@ -68,8 +69,9 @@ pub extern "C" fn gcflip_infer(
         roots: new_roots,
         raws: new_raws,
     };
-    let Ok(comparison) = compare(alloc, old, new) else {
-        return NO_MEMORY;
+    let comparison = match compare(alloc, old, new) {
+        Ok(comparison) => comparison,
+        Err(NoMemory) => return NO_MEMORY,
     };
     let found = comparison.pairs.len();
     if found > pairs.len() {

@@ -3,7 +3,9 @@
 
 mod rows;
 
-use gc_check::{CheckFault, Refusal, Tables, Verdict, Yes, check, check_text, check_wide};
+use gc_check::{
+    CheckFault, Refusal, Tables, Verdict, Yes, check, check_text, check_wide, compare, infer,
+};
 use gc_graph::{Sink, Source};
 use gc_words::{ImageRef, NewAddr, OldAddr, Pair};
 use rows::{few_pairs, many_pairs, raw_objects};
@@ -202,4 +204,111 @@ fn references_that_no_text_holds(rt: HostRuntime) -> Result<(), Fail> {
         refused(Refusal::RootDiffers { slot: 0 })
     );
     Ok(())
+}
+
+/// Expects that these pairs are inferred, in this order, and this verdict on them.
+fn expect_inferred(
+    rt: &impl Abort,
+    alloc: Global,
+    old: ImageRef,
+    new: ImageRef,
+    pairs: &[(u32, u32)],
+    verdict: Verdict,
+) -> Result<(), Fail> {
+    let want = certificate(alloc, pairs)?;
+    let inferred = infer(alloc, old, new)?;
+    assert_eq!(rt; inferred.as_slice(), want.as_slice());
+    let comparison = compare(alloc, old, new)?;
+    assert_eq!(rt; comparison.pairs.as_slice(), want.as_slice());
+    assert_eq!(rt; comparison.verdict, verdict);
+    Ok(())
+}
+
+/// Three objects with one field each: the first refers to the third, which has the number 7, and the second is garbage.
+const CHAIN: [u64; 10] = [0, 16842753, 0, 14, 16842753, 0, 15, 16842753, 0, 15];
+
+#[test]
+fn pairs_are_inferred_through_fields(rt: HostRuntime) -> Result<(), Fail> {
+    let alloc = rt.alloc();
+    let old = image(16, 10, &CHAIN, &[2, 0]);
+    // The third object stands first, so the pairs come in another order than they are found in.
+    let words = [0, 16842753, 0, 15, 16842753, 0, 2];
+    let new = image(16, 7, &words, &[8, 0]);
+    expect_inferred(
+        &rt,
+        alloc,
+        old,
+        new,
+        &[(7, 1), (1, 4)],
+        Verdict::Yes { pairs: 2 },
+    )?;
+    // The number of the third object is 8.
+    let words = [0, 16842753, 0, 17, 16842753, 0, 2];
+    let new = image(16, 7, &words, &[8, 0]);
+    let differs = Refusal::FieldDiffers { k: 0, i: 0 };
+    expect_inferred(
+        &rt,
+        alloc,
+        old,
+        new,
+        &[(7, 1), (1, 4)],
+        Verdict::Refused(differs),
+    )
+}
+
+#[test]
+fn no_replica_is_shared(rt: HostRuntime) -> Result<(), Fail> {
+    let alloc = rt.alloc();
+    let words = [0, 16777216, 0, 16777216, 0];
+    let new = image(8, 3, &words[..3], &[2, 2]);
+    let two_for_one = image(8, 5, &words, &[2, 6]);
+    let differs = Refusal::RootDiffers { slot: 1 };
+    expect_inferred(
+        &rt,
+        alloc,
+        two_for_one,
+        new,
+        &[(1, 1)],
+        Verdict::Refused(differs),
+    )?;
+    expect_inferred(
+        &rt,
+        alloc,
+        new,
+        two_for_one,
+        &[(1, 1)],
+        Verdict::Refused(differs),
+    )?;
+    let one_twice = image(8, 5, &words, &[6, 6]);
+    expect_inferred(
+        &rt,
+        alloc,
+        one_twice,
+        new,
+        &[(3, 1)],
+        Verdict::Yes { pairs: 1 },
+    )
+}
+
+#[test]
+fn images_without_shape_get_no_pairs(rt: HostRuntime) -> Result<(), Fail> {
+    let alloc = rt.alloc();
+    let old = image(16, 10, &CHAIN, &[2, 0]);
+    let cut = image(16, 9, &CHAIN[..9], &[2, 0]);
+    let refused = Verdict::Refused(Refusal::NewShape { at: 7 });
+    expect_inferred(&rt, alloc, old, cut, &[], refused)?;
+    let one_root = image(16, 10, &CHAIN, &[2]);
+    let refused = Verdict::Refused(Refusal::RootCount);
+    expect_inferred(&rt, alloc, old, one_root, &[], refused)
+}
+
+#[test]
+fn words_of_raw_objects_lead_nowhere(rt: HostRuntime) -> Result<(), Fail> {
+    let alloc = rt.alloc();
+    // A raw object whose word 8 would be a reference to 4, and an object that a root refers to only in the old image.
+    let words = [0, 50331649, 0, 8, 16777216, 0];
+    let old = with_raws(8, 6, &words, &[2, 8]);
+    let new = with_raws(8, 6, &words, &[2, 0]);
+    let differs = Refusal::RootDiffers { slot: 1 };
+    expect_inferred(&rt, alloc, old, new, &[(1, 1)], Verdict::Refused(differs))
 }

@@ -5,7 +5,9 @@ ghost use Rattle.std.specs.Prelude.{◌<◌, ◌^◌, length};
 use super::marks::{fence, retried};
 use super::texts::{Fixed, ONE_KEPT};
 use gc_cert::{PairFault, read_pair};
-use gc_check::{CheckFault, Refusal, RunFault, Tables, Verdict, Yes, check, check_text};
+use gc_check::{
+    CheckFault, Refusal, RunFault, Tables, Verdict, Yes, check, check_text, compare, infer,
+};
 use gc_graph::{Sink, Source};
 use gc_par::{check_par, check_text_par};
 use gc_words::{ImageRef, NewAddr, OldAddr, Pair};
@@ -68,6 +70,40 @@ fn check_of_a_yes(rt: HostRuntime) -> Result<(), Fail> {
         answer = check(alloc, old, new, &cert);
     }
     assert_eq!(rt; answer, Ok(Yes { pairs: 1 }));
+    Ok(())
+}
+
+#[test]
+fn pairs_inferred(rt: HostRuntime) -> Result<(), Fail> {
+    let alloc = rt.alloc();
+    let old = image(8, &OLD, &[6]);
+    let new = image(8, &NEW, &[2]);
+    fence(alloc)?;
+    let mut pairs = infer(alloc, old, new);
+    fence(alloc)?;
+    if pairs.is_err() {
+        retried(alloc)?;
+        pairs = infer(alloc, old, new);
+    }
+    assert_eq!(rt; pairs?.as_slice(), [pair(3, 1)].as_slice());
+    Ok(())
+}
+
+#[test]
+fn images_compared(rt: HostRuntime) -> Result<(), Fail> {
+    let alloc = rt.alloc();
+    let old = image(8, &OLD, &[6]);
+    let new = image(8, &NEW, &[2]);
+    fence(alloc)?;
+    let mut comparison = compare(alloc, old, new);
+    fence(alloc)?;
+    if comparison.is_err() {
+        retried(alloc)?;
+        comparison = compare(alloc, old, new);
+    }
+    let comparison = comparison?;
+    assert_eq!(rt; comparison.pairs.as_slice(), [pair(3, 1)].as_slice());
+    assert_eq!(rt; comparison.verdict, Verdict::Yes { pairs: 1 });
     Ok(())
 }
 

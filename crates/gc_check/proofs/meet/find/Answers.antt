@@ -8,10 +8,10 @@ use Rattle.gc_check.proofs.meet.find.Goals as goal
 
 pub meet_all-requires-clause-held : goal.meet_all-requires-clause-held
 meet_all-requires-clause-held c =
-    let empty : Found = record { partners = c.in-Ok.partners; originals = c.in-Ok-vec.originals; pairs = c.in-Ok-with_capacity.pairs } in
-    let partners : c.in-Ok.partners.items ≡ replicate (length c.args.old.now.words) 0 = search rules in
-    let originals : c.in-Ok-vec.originals.items ≡ replicate (length c.args.new.now.words) 0 = search rules in
-    held_none c.args.old.now c.args.new.now empty c.requires.old_walked c.requires.new_walked partners originals c.in-Ok-with_capacity.ensures.items
+    let empty : Found = record { partners = c.in_ok-partners.partners; originals = c.in_ok-originals.originals; pairs = c.in_ok-pairs.pairs } in
+    let partners : c.in_ok-partners.partners.items ≡ replicate (length c.args.old.now.words) 0 = search rules in
+    let originals : c.in_ok-originals.originals.items ≡ replicate (length c.args.new.now.words) 0 = search rules in
+    held_none c.args.old.now c.args.new.now empty c.requires.old_walked c.requires.new_walked partners originals c.in_ok-pairs.ensures.items
 
 pub meet_reachable-requires-clause-met : goal.meet_reachable-requires-clause-met
 meet_reachable-requires-clause-met c =
