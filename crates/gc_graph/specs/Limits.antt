@@ -2,7 +2,7 @@
 -- they are used.
 use Rattle.std.specs.Prelude.{ℕ, ◌+◌, ◌*◌}
 
--- the maximum number of words in a space of a text, of the plain machine, and of the images that `check` accepts
+-- the maximum number of words in a space of a text, a world or the plain machine, and of the images that `check` accepts
 abbrev pub most_words : ℕ
 most_words = 1048576
 
@@ -10,7 +10,7 @@ most_words = 1048576
 abbrev pub largest_space : ℕ
 largest_space = 4294967295
 
--- the maximum number of objects in a space, and so of pairs in a certificate: each object takes at least two words, and
+-- the maximum number of objects in such a space, and so of pairs in a text: each object takes at least two words, and
 -- the first word is reserved
 abbrev pub most_pairs : ℕ
 most_pairs = 524287
