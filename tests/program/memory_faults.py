@@ -231,7 +231,7 @@ def faults_of(code):
 
 def controls(_program, _folder):
     """Each file of tests/controls/memory_faults breaks the rule that its first line names, and only that one, or none."""
-    paths = sorted(glob.glob(os.path.join(CONTROLS, "*.rt")))
+    paths = sorted(glob.glob(os.path.join(CONTROLS, "*.txt")))
     for path in paths:
         with open(path, encoding="utf-8") as file:
             wanted = re.match(r"// (accepted|refused: (.*))\n", file.read())

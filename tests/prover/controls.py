@@ -2,10 +2,11 @@
 import os
 import re
 
+from .crates import TOP
 from .edits import BadEdit, Edit, names_of
 from .evidence import Answer, Goal, counted
 
-CONTROLS = os.path.join(os.path.dirname(os.path.abspath(__file__)), "controls")
+CONTROLS = os.path.join(TOP, "tests", "controls", "edits")
 KIND = re.compile(r"(?m)^# control: (answers|renamed|nothing|clause)$")
 
 
