@@ -223,12 +223,16 @@ CLAUSES_OF = re.compile(r"((?:`[\w:]+`(?: and )?)+), clauses? ((?:`\w+`(?:, | an
 def undated(line):
     """Returns whether a row says when it was last seen: by CI if it names an edit, else by hand."""
     last = line.rstrip(" |").split(" | ")[-1]
-    return not (last == "each run of CI" if re.search(r"\bedits? `", line) else re.match(r"by hand, \d{4}-\d\d-\d\d", last))
+    return not (last == "each run of CI" if re.search(r"\bedits? `", line) else re.match(r"by hand, \d{4}-\d\d-\d\d|not tried yet", last))
 
 
 def unrefused(line, found):
-    """Yields the clauses and calls of a row at which the files of its edits, given with their crates, do not say that they are refused."""
-    refused = {(function.split("::")[-1], clause) for crate, edit in found for _, function, clause in Edit(crate, edit + ".edit").places}
+    """Yields the clauses and calls of a row at which the files of its edits, given with their crates, do not say that they are refused. The
+    files of some edits say nothing, because their functions have no proof files; then nothing is compared."""
+    tried = [Edit(crate, edit + ".edit") for crate, edit in found]
+    if any(not edit.places for edit in tried):
+        return
+    refused = {(function.split("::")[-1], clause) for edit in tried for _, function, clause in edit.places}
     for calls, clauses_named in CLAUSES_OF.findall(line):
         functions = [name.split("::")[-1] for name in re.findall(r"`([\w:]+)`", calls)]
         for clause in re.findall(r"`(\w+)`", clauses_named):
@@ -238,19 +242,21 @@ def unrefused(line, found):
 
 def unknown_edits(line):
     """Yields the edits and the clauses that a row of docs/TESTING.md names and that do not exist."""
+    named = set()
     for quoted, listed in re.findall(r"edits? ((?:`\w+`(?:, )?)+) \(([\w, ]+)\)", line):
         crates_named, edits = listed.split(", "), re.findall(r"`(\w+)`", quoted)
         found = {(crate, edit) for crate in crates_named for edit in edits
                  if edit + ".edit" in edits_of(crate)}
         yield from ["edit %s" % edit for edit in edits if edit not in {name for _, name in found}]
         yield from ["an edit of %s" % crate for crate in crates_named if crate not in {name for name, _ in found}]
-        yield from ["%s of %s, since none of its edits is refused there" % place for place in unrefused(line, found)]
+        named |= found
         contracts = [contracts_of(crate) for crate in crates_named]
         for calls, clauses_named in CLAUSES_OF.findall(line):
             known = set()
             for call in re.findall(r"`([\w:]+)`", calls):
                 known.update(*[contract.get(call.split("::")[-1], set()) for contract in contracts])
             yield from ["clause %s of %s" % (name, calls) for name in re.findall(r"`(\w+)`", clauses_named) if name not in known]
+    yield from ["%s of %s, since none of its edits is refused there" % place for place in unrefused(line, named)]
 
 
 def edits(_program, _folder):
