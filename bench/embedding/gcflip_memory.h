@@ -55,19 +55,19 @@ static inline void pay(int fields)
 static inline void make(int d, int fields)
 {
     pay(fields);
-    MADE(gcflip_heap_new(&heap, 0, (uint8_t)d, KIND, (uint16_t)fields));
+    MADE(gcflip_heap_new_object(&heap, 0, (uint8_t)d, KIND, (uint16_t)fields));
 }
 
 static inline void make_numbers(int d, int fields)
 {
     pay(fields);
-    MADE(gcflip_heap_raw(&heap, 0, (uint8_t)d, KIND, (uint16_t)fields));
+    MADE(gcflip_heap_new_raw(&heap, 0, (uint8_t)d, KIND, (uint16_t)fields));
 }
 
 static inline void make_pair(int d, int s, int t)
 {
     pay(2);
-    MADE(gcflip_heap_cons(&heap, 0, (uint8_t)d, KIND, (uint8_t)s, (uint8_t)t));
+    MADE(gcflip_heap_new_pair(&heap, 0, (uint8_t)d, KIND, (uint8_t)s, (uint8_t)t));
 }
 
 static inline void new_object(int d, int fields) { TIMED(make(d, fields)); }
@@ -128,7 +128,8 @@ static void open_memory(void)
     /* Lets glibc keep freed blocks, as the Boehm collector does: a new space then costs no page faults. */
     mallopt(M_MMAP_THRESHOLD, 64 << 20);
     mallopt(M_TRIM_THRESHOLD, 128 << 20);
-    if (gcflip_heap_open(&heap, MOST_WORDS, 1) != GCFLIP_DONE)
+    const gcflip_options options = gcflip_options_default(MOST_WORDS, 1);
+    if (gcflip_heap_open(&heap, &options) != GCFLIP_DONE)
         give_up("open");
     make(STACK_SLOT, STACK);
 }

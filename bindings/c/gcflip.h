@@ -18,12 +18,14 @@
  * - no call is made from a signal handler, or in the forked child of a process with threads.
  *
  * Several threads may call at the same time. A call keeps no pointer when it returns, and frees all that it
- * allocated. It writes only the verdict. A check allocates 5 bytes for each word of the old image and 1 byte
+ * allocated. A check writes only the verdict. It allocates 5 bytes for each word of the old image and 1 byte
  * for each word of the new one; the check of a text also allocates the images, the pairs and a buffer for the
- * longest line.
+ * longest line. gcflip_infer and gcflip_path say what they allocate and write.
  */
 #ifndef GCFLIP_H
 #define GCFLIP_H
+
+#include "gcflip_answers.h"
 
 #include <stdbool.h>
 #include <stddef.h>
@@ -62,23 +64,17 @@ enum gcflip_refusal {
     GCFLIP_ROOT_DIFFERS = 10   /* place: the first root that does not correspond */
 };
 
-/* The answers of a check, which are other numbers than those of gcflip_heap_answer. It writes the verdict only with the answers 0, 1 and 5. */
-enum gcflip_answer {
-    GCFLIP_YES = 0,        /* the certificate holds */
-    GCFLIP_REFUSED = 1,    /* a condition fails; the verdict says which */
-    GCFLIP_NO_MEMORY = 2,  /* an allocation failed */
-    GCFLIP_TOO_MANY = 3,   /* gcflip_check: 2^32 pairs or more; gcflip_infer: the array has no room for the pairs */
-    GCFLIP_TOO_LARGE = 4,  /* gcflip_check_text only: more than 67108864 bytes */
-    GCFLIP_BAD_LINE = 5,   /* gcflip_check_text only: the first bad line is line `place`, counted from 1 */
-    GCFLIP_ENDS_EARLY = 6  /* gcflip_check_text only: the text ends before its last line does */
-};
+/* Returns the version of the library: GCFLIP_VERSION of the headers that it was built with. */
+uint32_t gcflip_version(void);
 
 /* Checks the certificate `pairs` against two images.
  *
  * In a space of `size` words, at least 1, objects lie back to back from word 1 up to word `end`. `words` are
  * its words 0 to end - 1. An object is a header word, a link word that the checker ignores, and its field words.
  * If `raws` is true, header words of raw objects are valid; the fields of these are plain numbers.
- * docs/FORMATS.md describes the words. */
+ * docs/FORMATS.md describes the words.
+ *
+ * Answers GCFLIP_YES, GCFLIP_REFUSED, GCFLIP_NO_MEMORY or GCFLIP_TOO_MANY. It writes the verdict only with the first two. */
 uint32_t gcflip_check(uint32_t old_size, uint32_t old_end, bool old_raws, const uint64_t *old_words,
                       size_t old_word_count, const uint64_t *old_roots, size_t old_root_count, uint32_t new_size,
                       uint32_t new_end, bool new_raws, const uint64_t *new_words, size_t new_word_count,
@@ -86,12 +82,13 @@ uint32_t gcflip_check(uint32_t old_size, uint32_t old_end, bool old_raws, const 
                       size_t pair_count, gcflip_verdict *verdict);
 
 /* Checks the pair of images in a text of the format `heappair 1` or `heappair 2`. The text needs no zero byte at
- * its end. */
+ * its end. Answers as gcflip_check does, GCFLIP_TOO_LARGE instead of GCFLIP_TOO_MANY, GCFLIP_BAD_LINE or GCFLIP_ENDS_EARLY. It writes the
+ * verdict only with GCFLIP_YES, GCFLIP_REFUSED and GCFLIP_BAD_LINE. */
 uint32_t gcflip_check_text(const uint8_t *text, size_t length, gcflip_verdict *verdict);
 
 /* Finds the pairs that every certificate of two images has, and checks them. So it needs no forwarding table: if its answer is
  * GCFLIP_YES, the pairs are a certificate that holds; if it is GCFLIP_REFUSED, none holds, and the verdict is that of
- * gcflip_check on the pairs. It writes the pairs, in the order of new addresses, and their number `count`. `room` pairs fit into the
+ * gcflip_check on the pairs. The same path from a root finds both objects of a pair. It writes the pairs, in the order of new addresses, and their number `count`. `room` pairs fit into the
  * array; half as many as the new image has words always suffice. Answers GCFLIP_TOO_MANY if there are more, and
  * GCFLIP_NO_MEMORY if an allocation fails; it then writes nothing. The array is initialized, as all memory that a call is given. */
 uint32_t gcflip_infer(uint32_t old_size, uint32_t old_end, bool old_raws, const uint64_t *old_words,
@@ -99,6 +96,15 @@ uint32_t gcflip_infer(uint32_t old_size, uint32_t old_end, bool old_raws, const 
                       uint32_t new_end, bool new_raws, const uint64_t *new_words, size_t new_word_count,
                       const uint64_t *new_roots, size_t new_root_count, gcflip_pair *pairs, size_t room,
                       size_t *count, gcflip_verdict *verdict);
+
+/* Finds a shortest path from a root to a reference to this address, so that a program can say where a verdict's place is: no path that
+ * leads there has fewer fields. The address need not be that of an object. With GCFLIP_YES it writes the place of the root in the list of
+ * roots, the fields that lead on from it, and their number `count`; an empty path means that the root itself refers to the address.
+ * `room` fields fit into the array. Answers GCFLIP_LONG_PATH if the path has more, and then writes their number alone. Otherwise it writes
+ * nothing: with GCFLIP_NO_PATH if no path leads to the address or the image is not shaped, and with GCFLIP_NO_MEMORY. The array is initialized. A search visits each reachable object once; it allocates 5 bytes for each word of the image, and 32
+ * bytes for each object. */
+uint32_t gcflip_path(uint32_t size, uint32_t end, bool raws, const uint64_t *words, size_t word_count, const uint64_t *roots,
+                     size_t root_count, uint32_t address, uint64_t *place, uint64_t *fields, size_t room, size_t *count);
 
 /* ---- Conveniences over the calls above. Nothing is proved of them. */
 
@@ -135,6 +141,17 @@ static inline uint32_t gcflip_infer_images(const gcflip_image *old_image, const 
                         new_image->size, new_image->end, new_image->raws, new_image->end ? new_image->words : no_words,
                         new_image->end, new_image->root_count ? new_image->roots : no_words, new_image->root_count,
                         room ? pairs : no_pairs, room, count, verdict);
+}
+
+/* Calls gcflip_path with the members of the image. An empty array may be NULL. */
+static inline uint32_t gcflip_path_in(const gcflip_image *image, uint32_t address, uint64_t *place, uint64_t *fields, size_t room,
+                                      size_t *count)
+{
+    static const uint64_t no_words[1] = {0};
+    uint64_t no_fields[1] = {0};
+    return gcflip_path(image->size, image->end, image->raws, image->end ? image->words : no_words, image->end,
+                       image->root_count ? image->roots : no_words, image->root_count, address, place, room ? fields : no_fields, room,
+                       count);
 }
 
 /* Returns the name of a refusal as the program `gcflip check` prints it, or "" for any other number. */

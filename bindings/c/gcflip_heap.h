@@ -2,7 +2,7 @@
  * every flip has to pass the certificate checker.
  *
  * A handle is a gcflip_heap that has no heap before its first use: it is initialized with GCFLIP_NO_HEAP, or its `at` is set to NULL. gcflip_heap_open gives it a heap and
- * gcflip_heap_close frees the heap. Every call takes the handle and returns one number of gcflip_heap_answer: the reply, or
+ * gcflip_heap_close frees the heap. Every call takes the handle and returns a number of gcflip_answers.h: the reply, or
  * the reason why the call was refused. A refused call changes nothing, neither the heap nor its output arguments.
  *
  * The promise, proved of the code behind these calls:
@@ -11,8 +11,8 @@
  * - a flip happens only if its certificate holds, and the flip of a ready collection passes. That each flip asks the checker is
  *   proved one layer below, of CollectedHeap::flip in crates/gc_core;
  * - no step lacks room if the new space is at least as large as the heap;
- * - only open, begin, begin_sized, flip and work can return GCFLIP_HEAP_NO_MEMORY, and, while a collection is open,
- *   put, put_number, cons and new_from.
+ * - only open, step_begin, step_begin_sized, step_flip, work, work_sized and work_paced can return GCFLIP_NO_MEMORY, and, while
+ *   a collection is open, put, put_number, new_pair and new_from.
  *
  * What the caller owes, since nothing checks C code:
  * - no pointer is NULL, not even one to an empty array. Each is aligned, and no two pointers of a call overlap;
@@ -25,6 +25,8 @@
  */
 #ifndef GCFLIP_HEAP_H
 #define GCFLIP_HEAP_H
+
+#include "gcflip_answers.h"
 
 #include <stddef.h>
 #include <stdint.h>
@@ -39,53 +41,39 @@ typedef struct gcflip_heap {
 
 #define GCFLIP_NO_HEAP {NULL}
 
-/* What calls return. The numbers 1 to 15 give the reason why a call was refused and did nothing; GCFLIP_IS_REFUSED is true of them.
- * All others are replies: the call was performed. */
-enum gcflip_heap_answer {
-    GCFLIP_DONE = 0, /* the value was written; from a call without other replies: it was performed */
+/* What gcflip_heap_open takes. `bytes` is the size of this record, so that a later library can tell which members the program
+ * knows. gcflip_options_default sets it. */
+typedef struct gcflip_options {
+    uint32_t bytes;       /* sizeof(gcflip_options) */
+    uint32_t size;        /* the words of the heap, at least 1 */
+    uint32_t extra_roots; /* the number of roots beside the slots, at most 1048576 */
+    uint8_t mutators;     /* 1 to 16 */
+} gcflip_options;
 
-    GCFLIP_HEAP_NO_MEMORY = 1,    /* an allocation failed */
-    GCFLIP_HEAP_OUT_OF_RANGE = 2, /* an argument is out of its range */
-    GCFLIP_HEAP_CLOSED = 3,       /* the handle has no heap */
-    GCFLIP_HEAP_OPEN = 4,         /* gcflip_heap_open only: the handle has a heap */
-
-    /* replies to commands */
-    GCFLIP_MADE = 16,      /* the object was made */
-    GCFLIP_FULL = 17,      /* the heap has no room for the object; nothing changed */
-    GCFLIP_NO_OBJECT = 18, /* the slot does not refer to an object; nothing changed, except slot t of put_number */
-    GCFLIP_NO_FIELD = 19,  /* the object has no such field; nothing changed, except slot t of put_number */
-    GCFLIP_NO_NUMBER = 20, /* the object is raw and the value is not a number; nothing changed */
-    GCFLIP_SAME = 21,      /* both slots hold nil, equal numbers, or references to one object */
-    GCFLIP_NOT_SAME = 22,
-
-    /* replies to get and look: what they saw */
-    GCFLIP_NIL = 24,
-    GCFLIP_NUMBER = 25,
-    GCFLIP_OBJECT = 26,     /* a reference to an object, which for get may be raw */
-    GCFLIP_RAW_OBJECT = 27, /* look only: a reference to a raw object */
-
-    /* replies to steps */
-    GCFLIP_BUSY = 32,         /* a collection is open already */
-    GCFLIP_BEGUN = 33,        /* a collection is open now */
-    GCFLIP_IDLE = 34,         /* no collection is open */
-    GCFLIP_CLEAN = 35,        /* nothing is left for this step */
-    GCFLIP_NO_ROOM = 36,      /* the new space has no room for a replica; nothing changed */
-    GCFLIP_COPIED = 37,       /* a root's target has a replica now */
-    GCFLIP_PASSED = 38,       /* the scan pointer moved on to the next replica */
-    GCFLIP_SCANNED = 39,      /* one field was scanned */
-    GCFLIP_APPLIED = 40,      /* one log entry was applied */
-    GCFLIP_NOT_READY = 41,    /* the collection is not ready for its flip */
-    GCFLIP_FLIP_REFUSED = 42, /* the checker refused the certificate; proved never to occur */
-    GCFLIP_FLIPPED = 43,      /* mutators continue in the new space */
-    GCFLIP_DROPPED = 44       /* the collection was given up */
-};
-
-#define GCFLIP_IS_REFUSED(answer) ((answer) - 1u < 15u)
+/* A stack of extra roots: those from `first` on and below `end`. Those below `top` hold its values. An empty frame has `top` equal to
+ * `first`. Several frames may lie in one heap, as one for each mutator, if no root is in two of them. */
+typedef struct gcflip_frame {
+    uint32_t first; /* its first root */
+    uint32_t end;   /* the root behind its last one */
+    uint32_t top;   /* the root that the next push sets */
+} gcflip_frame;
 
 /* ---- Opening and closing */
 
-/* Opens an empty heap of `size` words, at least 1, for 1 to 16 mutators. All slots hold nil. */
-uint32_t gcflip_heap_open(gcflip_heap *heap, uint32_t size, uint8_t mutators);
+/* Returns the options for a heap of `size` words, at least 1, for 1 to 16 mutators, without extra roots. */
+static inline gcflip_options gcflip_options_default(uint32_t size, uint8_t mutators)
+{
+    gcflip_options options;
+
+    options.bytes = (uint32_t)sizeof options;
+    options.size = size;
+    options.extra_roots = 0;
+    options.mutators = mutators;
+    return options;
+}
+
+/* Opens an empty heap with these options. All slots and all extra roots hold nil. A record of another size is out of range. */
+uint32_t gcflip_heap_open(gcflip_heap *heap, const gcflip_options *options);
 
 /* Frees the heap. The handle then has none. */
 uint32_t gcflip_heap_close(gcflip_heap *heap);
@@ -97,16 +85,16 @@ uint32_t gcflip_heap_close(gcflip_heap *heap);
 
 /* Makes an object with `count` fields, all nil, and puts a reference to it into slot d: GCFLIP_MADE or GCFLIP_FULL. The
  * object takes count + 2 words. */
-uint32_t gcflip_heap_new(gcflip_heap *heap, uint8_t m, uint8_t d, uint8_t kind, uint16_t count);
+uint32_t gcflip_heap_new_object(gcflip_heap *heap, uint8_t m, uint8_t d, uint8_t kind, uint16_t count);
 
 /* The same for a raw object: its fields are plain numbers, all 0, and are never scanned. */
-uint32_t gcflip_heap_raw(gcflip_heap *heap, uint8_t m, uint8_t d, uint8_t kind, uint16_t count);
+uint32_t gcflip_heap_new_raw(gcflip_heap *heap, uint8_t m, uint8_t d, uint8_t kind, uint16_t count);
 
 /* Puts the number n into slot d: GCFLIP_DONE. */
-uint32_t gcflip_heap_num(gcflip_heap *heap, uint8_t m, uint8_t d, uint64_t n);
+uint32_t gcflip_heap_set_number(gcflip_heap *heap, uint8_t m, uint8_t d, uint64_t n);
 
 /* Puts nil into slot d: GCFLIP_DONE. */
-uint32_t gcflip_heap_nil(gcflip_heap *heap, uint8_t m, uint8_t d);
+uint32_t gcflip_heap_set_nil(gcflip_heap *heap, uint8_t m, uint8_t d);
 
 /* Copies the value of slot s into slot d: GCFLIP_DONE. */
 uint32_t gcflip_heap_move(gcflip_heap *heap, uint8_t m, uint8_t d, uint8_t s);
@@ -126,7 +114,7 @@ uint32_t gcflip_heap_put_number(gcflip_heap *heap, uint8_t m, uint8_t s, uint16_
 /* Makes an object with two fields, which take the values of slots s and t, and puts a reference to it into slot d: a new and two puts.
  * Returns GCFLIP_MADE, or GCFLIP_FULL if nothing changed. Slot d is set first: if s or t is d, that field refers to the object itself.
  * While a collection is open, the call allocates room in the mutator's log. */
-uint32_t gcflip_heap_cons(gcflip_heap *heap, uint8_t m, uint8_t d, uint8_t kind, uint8_t s, uint8_t t);
+uint32_t gcflip_heap_new_pair(gcflip_heap *heap, uint8_t m, uint8_t d, uint8_t kind, uint8_t s, uint8_t t);
 
 /* The same with `count` fields, at most 65535, which take the values of the slots fields[0] to fields[count - 1]. */
 uint32_t gcflip_heap_new_from(gcflip_heap *heap, uint8_t m, uint8_t d, uint8_t kind, const uint8_t *fields, size_t count);
@@ -143,30 +131,54 @@ typedef struct gcflip_view {
 /* Looks at the value of slot s: GCFLIP_NIL, GCFLIP_NUMBER, GCFLIP_OBJECT or GCFLIP_RAW_OBJECT. Writes what it saw to `view`. */
 uint32_t gcflip_heap_look(gcflip_heap *heap, uint8_t m, uint8_t s, gcflip_view *view);
 
+/* ---- Extra roots, which a heap has if gcflip_heap_open asked for them
+ *
+ * They are roots like the slots, numbered from 0, and only these calls name them. Extra root k is root
+ * gcflip_heap_root_count(mutators) + k of an image. To load or store one is a move between a slot and that place: it allocates
+ * nothing and logs nothing. All mutators share them. A collection reads each extra root in use once or twice, and again if a program
+ * stores to it or below it meanwhile. The roots in use end with the last one that was stored to and not cleared since. */
+
+/* Copies the value of extra root k into slot d: GCFLIP_DONE. */
+uint32_t gcflip_heap_root_load(gcflip_heap *heap, uint8_t m, uint8_t d, uint32_t k);
+
+/* Copies the value of slot s into extra root k: GCFLIP_DONE. */
+uint32_t gcflip_heap_root_store(gcflip_heap *heap, uint8_t m, uint32_t k, uint8_t s);
+
+/* Puts nil into the extra roots from `from` on, and below `to`: GCFLIP_DONE. */
+uint32_t gcflip_heap_root_clear(gcflip_heap *heap, uint32_t from, uint32_t to);
+
+/* Copies the value of slot s to the top of the frame, and moves its top up: GCFLIP_DONE, or GCFLIP_FRAME_FULL if nothing changed. The
+ * numbers of the frame have to be in order, first <= top <= end, and `end` is at most the number of extra roots. */
+uint32_t gcflip_heap_frame_push(gcflip_heap *heap, uint8_t m, uint8_t s, gcflip_frame *frame);
+
+/* Moves the top of the frame down, copies the value there into slot d, and puts nil into that root: GCFLIP_DONE, or GCFLIP_FRAME_EMPTY
+ * if nothing changed. */
+uint32_t gcflip_heap_frame_pop(gcflip_heap *heap, uint8_t m, uint8_t d, gcflip_frame *frame);
+
 /* ---- Collector steps */
 
 /* Opens a collection whose new space is as large as the heap, or has `size` words, at least 1: GCFLIP_BEGUN, or
  * GCFLIP_BUSY if one is open. */
-uint32_t gcflip_heap_begin(gcflip_heap *heap);
-uint32_t gcflip_heap_begin_sized(gcflip_heap *heap, uint32_t size);
+uint32_t gcflip_heap_step_begin(gcflip_heap *heap);
+uint32_t gcflip_heap_step_begin_sized(gcflip_heap *heap, uint32_t size);
 
 /* Replicates the target of the first root whose target has no replica: GCFLIP_COPIED, GCFLIP_CLEAN, GCFLIP_NO_ROOM or
  * GCFLIP_IDLE. */
-uint32_t gcflip_heap_roots(gcflip_heap *heap);
+uint32_t gcflip_heap_step_roots(gcflip_heap *heap);
 
 /* Brings the field at the scan pointer up to date, or moves on to the next replica: GCFLIP_SCANNED, GCFLIP_PASSED,
  * GCFLIP_CLEAN, GCFLIP_NO_ROOM or GCFLIP_IDLE. */
-uint32_t gcflip_heap_scan(gcflip_heap *heap);
+uint32_t gcflip_heap_step_scan(gcflip_heap *heap);
 
 /* Applies the oldest entry of mutator m's log: GCFLIP_APPLIED, GCFLIP_CLEAN, GCFLIP_NO_ROOM or GCFLIP_IDLE. */
-uint32_t gcflip_heap_apply(gcflip_heap *heap, uint8_t m);
+uint32_t gcflip_heap_step_apply(gcflip_heap *heap, uint8_t m);
 
 /* Flips if the collection is ready and the checker accepts its certificate: GCFLIP_FLIPPED, GCFLIP_NOT_READY or
  * GCFLIP_IDLE. If it flipped, it writes the number of pairs of the certificate. The checker passes over both spaces. */
-uint32_t gcflip_heap_flip(gcflip_heap *heap, uint32_t *pairs);
+uint32_t gcflip_heap_step_flip(gcflip_heap *heap, uint32_t *pairs);
 
 /* Frees the new space and the logs: GCFLIP_DROPPED or GCFLIP_IDLE. */
-uint32_t gcflip_heap_drop(gcflip_heap *heap);
+uint32_t gcflip_heap_step_give_up(gcflip_heap *heap);
 
 typedef struct gcflip_work {
     uint32_t steps;  /* the number of steps performed, at least 1 */
@@ -178,8 +190,12 @@ typedef struct gcflip_work {
 /* Performs at most `most` useful steps; `most` is not 0. The useful step begins a collection if none is open. Otherwise it
  * is the first of roots, scan and apply with something left to do, and the flip if none of them has. The call ends after
  * a flip, and after a step that finds no room. If an allocation fails, it ends before that step; it returns
- * GCFLIP_HEAP_NO_MEMORY if that was the first step. Otherwise it writes its report to `work` and returns GCFLIP_DONE. */
+ * GCFLIP_NO_MEMORY if that was the first step. Otherwise it writes its report to `work` and returns GCFLIP_DONE. */
 uint32_t gcflip_heap_work(gcflip_heap *heap, uint32_t most, gcflip_work *work);
+
+/* Does the same, but if a step is a begin, the new space gets `size` words, at least 1. It is for a system that refuses a block of memory
+ * as large as the heap where less would do. */
+uint32_t gcflip_heap_work_sized(gcflip_heap *heap, uint32_t most, uint32_t size, gcflip_work *work);
 
 /* ---- Reading, for a runtime's own decisions */
 
@@ -188,14 +204,61 @@ typedef struct gcflip_counts {
     uint32_t end;      /* the first word that no object takes */
     uint32_t free;     /* the words that no object takes */
     uint32_t mutators;
+    uint32_t extra_roots; /* how many the heap was opened with */
     uint32_t is_open;  /* 1 while a collection is open; else 0, and all members below are 0 */
     uint32_t new_size; /* the words of the new space */
     uint32_t new_end;  /* its first word that no replica takes */
     uint32_t scan_place; /* the replica at the scan pointer, or new_end */
     uint32_t scan_field; /* the number of its fields that are scanned */
+    uint32_t logged;     /* the entries in all logs, or UINT32_MAX if there are more */
 } gcflip_counts;
 
 uint32_t gcflip_heap_counts(gcflip_heap *heap, gcflip_counts *counts);
+
+/* ---- Pace: as many useful steps as keep a collection ahead of the program
+ *
+ * A program keeps one gcflip_pace for a heap. Its first three members say what the program wants; the calls write the others. */
+
+typedef struct gcflip_pace {
+    uint32_t factor; /* a collection begins where the heap's end is this many hundredths of `left`: 100 to 10000 */
+    uint32_t rate;   /* the steps for each word allocated and each entry logged; 0: the counts decide */
+    uint32_t least;  /* no collection begins while the heap's end is below this, unless half of the room that the last flip left is used up */
+    uint32_t left;   /* the heap's end after the last flip */
+    uint32_t end;    /* the heap's end after the last call */
+    uint32_t logged; /* the log entries after the last call */
+} gcflip_pace;
+
+/* Returns the pace for a heap that was just opened. It begins a collection where the heap has twice the words that the last flip left,
+ * but at least 65536, or where half of the room that the flip left is used up. */
+static inline gcflip_pace gcflip_pace_default(void)
+{
+    gcflip_pace pace = {200, 0, 65536, 1, 1, 0};
+
+    return pace;
+}
+
+/* Makes the pace remember the heap as it is, as if it had just flipped. A program calls it before the first paced work on a heap that is
+ * in use, and after a flip by another call. If the factor is out of range, it returns GCFLIP_OUT_OF_RANGE. */
+uint32_t gcflip_heap_pace(gcflip_heap *heap, gcflip_pace *pace);
+
+/* Returns the number of steps that are due before the program allocates `wanted` words. It is a function of its arguments alone, and
+ * takes any counts:
+ *
+ *     steps left = end - scan_place + logged + 1
+ *     room       = free - wanted                                 if that is above 0
+ *     spent      = (end - pace->end) + (logged - pace->logged)   each if it is above 0
+ *
+ *     no room:              steps left, which is enough for the flip, also with the begin
+ *     no collection open:   1, a begin, if end >= min(max(pace->least, pace->factor * pace->left / 100), (pace->left + size) / 2); else 0
+ *     a collection open:    min(steps left, spent * rate), where rate is pace->rate or else 2 + steps left / room
+ *
+ * Quotients are rounded down. It returns at most UINT32_MAX. */
+uint32_t gcflip_pace_due(const gcflip_pace *pace, const gcflip_counts *counts, uint32_t wanted);
+
+/* Performs the useful steps that are due before the program allocates `wanted` words, as gcflip_heap_work does, and writes its report to
+ * `work`. If none is due, all members of the report are 0. `wanted` may be 0. It returns GCFLIP_DONE, GCFLIP_OUT_OF_RANGE if the factor
+ * is out of range, or GCFLIP_NO_MEMORY if an allocation of the first step fails; then nothing has changed, nor has the pace. */
+uint32_t gcflip_heap_work_paced(gcflip_heap *heap, gcflip_pace *pace, uint32_t wanted, gcflip_work *work);
 
 /* Reads the length of mutator m's log, which is 0 while no collection is open. */
 uint32_t gcflip_heap_log_length(gcflip_heap *heap, uint8_t m, size_t *length);
@@ -210,19 +273,19 @@ typedef struct gcflip_log_entry {
 /* Reads entry k of mutator m's log. Entry 0 is the oldest. */
 uint32_t gcflip_heap_log_entry(gcflip_heap *heap, uint8_t m, size_t k, gcflip_log_entry *entry);
 
-/* Returns the number of root words: the shared slots, and then those of each mutator. Shared slot s is root s - 16, and slot s of mutator
- * m's own is root 16 + 16 * m + s. */
+/* Returns the number of root words of the slots: the shared ones, and then those of each mutator. Shared slot s is root s - 16, and slot s
+ * of mutator m's own is root 16 + 16 * m + s. Extra roots follow. */
 static inline size_t gcflip_heap_root_count(uint8_t mutators)
 {
     return 16 + 16 * (size_t)mutators;
 }
 
-/* Copies the heap's words, links included, and the root words. The counts must be exactly `end` of gcflip_counts
- * and gcflip_heap_root_count. An original's link is its replica's address; all other links are 0. */
+/* Copies the heap's words, links included, and the root words. The counts must be exactly `end` of gcflip_counts, and
+ * gcflip_heap_root_count plus the number of extra roots. An original's link is its replica's address; all other links are 0. */
 uint32_t gcflip_heap_image(gcflip_heap *heap, uint64_t *words, size_t word_count, uint64_t *roots, size_t root_count);
 
 /* Copies the words of the open collection's new space. The count must be exactly `new_end` of gcflip_counts. A
- * replica's link is its original's address. If no collection is open, no count is right: GCFLIP_HEAP_OUT_OF_RANGE. */
+ * replica's link is its original's address. If no collection is open, no count is right: GCFLIP_OUT_OF_RANGE. */
 uint32_t gcflip_heap_new_words(gcflip_heap *heap, uint64_t *words, size_t word_count);
 
 #ifdef __cplusplus

@@ -10,8 +10,9 @@
  * that read counts, logs or images, have none. The program has to check the stream for errors (ferror). `gcflip` refuses a
  * trace of more than 16777216 bytes.
  *
- * No line of a trace has a size above 1048576 words. A recording that meets one ends there: it writes a line to stderr, and sets
- * gcflip_trace_ended. The heap goes on, and the trace plays up to that call. If that call is gcflip_heap_open, there is no trace.
+ * No line of a trace has a size above 1048576 words, or names an extra root. A recording that meets one ends there: it writes a line to
+ * stderr, and sets gcflip_trace_ended. The heap goes on, and the trace plays up to that call. If that call opens the heap, there is no
+ * trace. A heap with extra roots is recorded until a call first names one.
  */
 #ifndef GCFLIP_RECORD_H
 #define GCFLIP_RECORD_H
@@ -52,6 +53,16 @@ static inline int gcflip_trace_takes(uint32_t size)
     return 0;
 }
 
+/* Ends the recording at a call that names an extra root, if the call was performed. */
+static inline uint32_t gcflip_trace_meets_root(uint32_t answer, uint32_t k)
+{
+    if (gcflip_recorded(answer)) {
+        gcflip_trace_ended = 1;
+        fprintf(stderr, "gcflip_record.h: the recording ends here: a trace has no extra root %lu\n", (unsigned long)k);
+    }
+    return answer;
+}
+
 static inline void gcflip_trace_slot(uint8_t slot)
 {
     fprintf(gcflip_trace, " %c%u", slot < 16 ? 'r' : 'g', slot % 16u);
@@ -72,9 +83,9 @@ static inline void gcflip_trace_end(void)
     fputc('\n', gcflip_trace);
 }
 
-static inline uint32_t gcflip_record_open(gcflip_heap *heap, uint32_t size, uint8_t mutators)
+/* Begins a trace, if the heap was opened. */
+static inline uint32_t gcflip_trace_opening(uint32_t answer, uint32_t size, uint8_t mutators)
 {
-    uint32_t answer = gcflip_heap_open(heap, size, mutators);
     if (GCFLIP_IS_REFUSED(answer) || gcflip_trace == NULL)
         return answer;
     gcflip_trace_ended = 0;
@@ -83,9 +94,41 @@ static inline uint32_t gcflip_record_open(gcflip_heap *heap, uint32_t size, uint
     return answer;
 }
 
-static inline uint32_t gcflip_record_new(gcflip_heap *heap, uint8_t m, uint8_t d, uint8_t kind, uint16_t count)
+static inline uint32_t gcflip_record_open(gcflip_heap *heap, const gcflip_options *options)
 {
-    uint32_t answer = gcflip_heap_new(heap, m, d, kind, count);
+    return gcflip_trace_opening(gcflip_heap_open(heap, options), options->size, options->mutators);
+}
+
+static inline uint32_t gcflip_record_root_load(gcflip_heap *heap, uint8_t m, uint8_t d, uint32_t k)
+{
+    return gcflip_trace_meets_root(gcflip_heap_root_load(heap, m, d, k), k);
+}
+
+static inline uint32_t gcflip_record_root_store(gcflip_heap *heap, uint8_t m, uint32_t k, uint8_t s)
+{
+    return gcflip_trace_meets_root(gcflip_heap_root_store(heap, m, k, s), k);
+}
+
+static inline uint32_t gcflip_record_root_clear(gcflip_heap *heap, uint32_t from, uint32_t to)
+{
+    return gcflip_trace_meets_root(gcflip_heap_root_clear(heap, from, to), from);
+}
+
+static inline uint32_t gcflip_record_frame_push(gcflip_heap *heap, uint8_t m, uint8_t s, gcflip_frame *frame)
+{
+    uint32_t k = frame->top;
+    return gcflip_trace_meets_root(gcflip_heap_frame_push(heap, m, s, frame), k);
+}
+
+static inline uint32_t gcflip_record_frame_pop(gcflip_heap *heap, uint8_t m, uint8_t d, gcflip_frame *frame)
+{
+    uint32_t answer = gcflip_heap_frame_pop(heap, m, d, frame);
+    return gcflip_trace_meets_root(answer, frame->top);
+}
+
+static inline uint32_t gcflip_record_new_object(gcflip_heap *heap, uint8_t m, uint8_t d, uint8_t kind, uint16_t count)
+{
+    uint32_t answer = gcflip_heap_new_object(heap, m, d, kind, count);
     if (gcflip_recorded(answer)) {
         gcflip_trace_command(m, "new");
         gcflip_trace_slot(d);
@@ -96,9 +139,9 @@ static inline uint32_t gcflip_record_new(gcflip_heap *heap, uint8_t m, uint8_t d
     return answer;
 }
 
-static inline uint32_t gcflip_record_raw(gcflip_heap *heap, uint8_t m, uint8_t d, uint8_t kind, uint16_t count)
+static inline uint32_t gcflip_record_new_raw(gcflip_heap *heap, uint8_t m, uint8_t d, uint8_t kind, uint16_t count)
 {
-    uint32_t answer = gcflip_heap_raw(heap, m, d, kind, count);
+    uint32_t answer = gcflip_heap_new_raw(heap, m, d, kind, count);
     if (gcflip_recorded(answer)) {
         gcflip_trace_command(m, "raw");
         gcflip_trace_slot(d);
@@ -109,9 +152,9 @@ static inline uint32_t gcflip_record_raw(gcflip_heap *heap, uint8_t m, uint8_t d
     return answer;
 }
 
-static inline uint32_t gcflip_record_num(gcflip_heap *heap, uint8_t m, uint8_t d, uint64_t n)
+static inline uint32_t gcflip_record_set_number(gcflip_heap *heap, uint8_t m, uint8_t d, uint64_t n)
 {
-    uint32_t answer = gcflip_heap_num(heap, m, d, n);
+    uint32_t answer = gcflip_heap_set_number(heap, m, d, n);
     if (gcflip_recorded(answer)) {
         gcflip_trace_command(m, "num");
         gcflip_trace_slot(d);
@@ -121,9 +164,9 @@ static inline uint32_t gcflip_record_num(gcflip_heap *heap, uint8_t m, uint8_t d
     return answer;
 }
 
-static inline uint32_t gcflip_record_nil(gcflip_heap *heap, uint8_t m, uint8_t d)
+static inline uint32_t gcflip_record_set_nil(gcflip_heap *heap, uint8_t m, uint8_t d)
 {
-    uint32_t answer = gcflip_heap_nil(heap, m, d);
+    uint32_t answer = gcflip_heap_set_nil(heap, m, d);
     if (gcflip_recorded(answer)) {
         gcflip_trace_command(m, "nil");
         gcflip_trace_slot(d);
@@ -204,10 +247,10 @@ static inline uint32_t gcflip_trace_new_from(uint32_t answer, uint8_t m, uint8_t
     return answer;
 }
 
-static inline uint32_t gcflip_record_cons(gcflip_heap *heap, uint8_t m, uint8_t d, uint8_t kind, uint8_t s, uint8_t t)
+static inline uint32_t gcflip_record_new_pair(gcflip_heap *heap, uint8_t m, uint8_t d, uint8_t kind, uint8_t s, uint8_t t)
 {
     const uint8_t fields[] = {s, t};
-    return gcflip_trace_new_from(gcflip_heap_cons(heap, m, d, kind, s, t), m, d, kind, fields, 2);
+    return gcflip_trace_new_from(gcflip_heap_new_pair(heap, m, d, kind, s, t), m, d, kind, fields, 2);
 }
 
 static inline uint32_t gcflip_record_new_from(gcflip_heap *heap, uint8_t m, uint8_t d, uint8_t kind, const uint8_t *fields, size_t count)
@@ -238,76 +281,77 @@ static inline uint32_t gcflip_record_look(gcflip_heap *heap, uint8_t m, uint8_t 
     return answer;
 }
 
-static inline uint32_t gcflip_record_begin(gcflip_heap *heap)
+static inline uint32_t gcflip_record_step_begin(gcflip_heap *heap)
 {
-    uint32_t answer = gcflip_heap_begin(heap);
+    uint32_t answer = gcflip_heap_step_begin(heap);
     if (gcflip_recorded(answer))
         fprintf(gcflip_trace, "c begin\n");
     return answer;
 }
 
-static inline uint32_t gcflip_record_roots(gcflip_heap *heap)
+static inline uint32_t gcflip_record_step_roots(gcflip_heap *heap)
 {
-    uint32_t answer = gcflip_heap_roots(heap);
+    uint32_t answer = gcflip_heap_step_roots(heap);
     if (gcflip_recorded(answer))
         fprintf(gcflip_trace, "c roots\n");
     return answer;
 }
 
-static inline uint32_t gcflip_record_scan(gcflip_heap *heap)
+static inline uint32_t gcflip_record_step_scan(gcflip_heap *heap)
 {
-    uint32_t answer = gcflip_heap_scan(heap);
+    uint32_t answer = gcflip_heap_step_scan(heap);
     if (gcflip_recorded(answer))
         fprintf(gcflip_trace, "c scan\n");
     return answer;
 }
 
-static inline uint32_t gcflip_record_flip(gcflip_heap *heap, uint32_t *pairs)
+static inline uint32_t gcflip_record_step_flip(gcflip_heap *heap, uint32_t *pairs)
 {
-    uint32_t answer = gcflip_heap_flip(heap, pairs);
+    uint32_t answer = gcflip_heap_step_flip(heap, pairs);
     if (gcflip_recorded(answer))
         fprintf(gcflip_trace, "c flip\n");
     return answer;
 }
 
-static inline uint32_t gcflip_record_drop(gcflip_heap *heap)
+static inline uint32_t gcflip_record_step_give_up(gcflip_heap *heap)
 {
-    uint32_t answer = gcflip_heap_drop(heap);
+    uint32_t answer = gcflip_heap_step_give_up(heap);
     if (gcflip_recorded(answer))
         fprintf(gcflip_trace, "c drop\n");
     return answer;
 }
 
-static inline uint32_t gcflip_record_begin_sized(gcflip_heap *heap, uint32_t size)
+static inline uint32_t gcflip_record_step_begin_sized(gcflip_heap *heap, uint32_t size)
 {
-    uint32_t answer = gcflip_heap_begin_sized(heap, size);
+    uint32_t answer = gcflip_heap_step_begin_sized(heap, size);
     if (gcflip_recorded(answer) && gcflip_trace_takes(size))
         fprintf(gcflip_trace, "c begin %u\n", size);
     return answer;
 }
 
-static inline uint32_t gcflip_record_apply(gcflip_heap *heap, uint8_t m)
+static inline uint32_t gcflip_record_step_apply(gcflip_heap *heap, uint8_t m)
 {
-    uint32_t answer = gcflip_heap_apply(heap, m);
+    uint32_t answer = gcflip_heap_step_apply(heap, m);
     if (gcflip_recorded(answer))
         fprintf(gcflip_trace, "c apply %u\n", m);
     return answer;
 }
 
-/* Performs the useful step and records it, but not the steps that were clean. */
-static inline uint32_t gcflip_record_useful(gcflip_heap *heap, const gcflip_counts *counts, uint32_t *pairs)
+/* Performs the useful step and records it, but not the steps that were clean. A begin takes `size` words, or as many as the heap has if
+ * `size` is 0. */
+static inline uint32_t gcflip_record_useful(gcflip_heap *heap, const gcflip_counts *counts, uint32_t size, uint32_t *pairs)
 {
     uint8_t m;
     uint32_t answer;
     if (!counts->is_open)
-        return gcflip_record_begin(heap);
-    answer = gcflip_heap_roots(heap);
+        return size ? gcflip_record_step_begin_sized(heap, size) : gcflip_record_step_begin(heap);
+    answer = gcflip_heap_step_roots(heap);
     if (answer != GCFLIP_CLEAN) {
         if (gcflip_is_recording())
             fprintf(gcflip_trace, "c roots\n");
         return answer;
     }
-    answer = gcflip_heap_scan(heap);
+    answer = gcflip_heap_step_scan(heap);
     if (answer != GCFLIP_CLEAN) {
         if (gcflip_is_recording())
             fprintf(gcflip_trace, "c scan\n");
@@ -317,23 +361,22 @@ static inline uint32_t gcflip_record_useful(gcflip_heap *heap, const gcflip_coun
         size_t length = 0;
         gcflip_heap_log_length(heap, m, &length);
         if (length > 0)
-            return gcflip_record_apply(heap, m);
+            return gcflip_record_step_apply(heap, m);
     }
-    return gcflip_record_flip(heap, pairs);
+    return gcflip_record_step_flip(heap, pairs);
 }
 
-static inline uint32_t gcflip_record_work(gcflip_heap *heap, uint32_t most, gcflip_work *work)
+/* Performs at most `most` useful steps, at least 1, and records them. */
+static inline uint32_t gcflip_record_steps(gcflip_heap *heap, uint32_t most, uint32_t size, gcflip_work *work)
 {
-    gcflip_counts counts = {0, 0, 0, 0, 0, 0, 0, 0, 0};
+    gcflip_counts counts = {0, 0, 0, 0, 0, 0, 0, 0, 0, 0, 0};
     gcflip_work made = {0, 0, 0, 0};
     uint32_t start, answer = gcflip_heap_counts(heap, &counts);
     if (answer != GCFLIP_DONE)
         return answer;
-    if (most == 0)
-        return GCFLIP_HEAP_OUT_OF_RANGE;
     start = counts.is_open ? counts.new_end : 1;
     while (made.steps < most) {
-        answer = gcflip_record_useful(heap, &counts, &made.pairs);
+        answer = gcflip_record_useful(heap, &counts, size, &made.pairs);
         if (GCFLIP_IS_REFUSED(answer))
             break;
         made.steps++;
@@ -349,30 +392,69 @@ static inline uint32_t gcflip_record_work(gcflip_heap *heap, uint32_t most, gcfl
     return GCFLIP_DONE;
 }
 
+static inline uint32_t gcflip_record_work(gcflip_heap *heap, uint32_t most, gcflip_work *work)
+{
+    if (most == 0)
+        return gcflip_heap_work(heap, most, work);
+    return gcflip_record_steps(heap, most, 0, work);
+}
+
+static inline uint32_t gcflip_record_work_sized(gcflip_heap *heap, uint32_t most, uint32_t size, gcflip_work *work)
+{
+    if (most == 0 || size == 0)
+        return gcflip_heap_work_sized(heap, most, size, work);
+    return gcflip_record_steps(heap, most, size, work);
+}
+
+static inline uint32_t gcflip_record_work_paced(gcflip_heap *heap, gcflip_pace *pace, uint32_t wanted, gcflip_work *work)
+{
+    gcflip_counts counts = {0, 0, 0, 0, 0, 0, 0, 0, 0, 0, 0};
+    uint32_t answer = gcflip_heap_counts(heap, &counts);
+    uint32_t due = answer == GCFLIP_DONE ? gcflip_pace_due(pace, &counts, wanted) : 0;
+    if (due == 0 || pace->factor < 100 || pace->factor > 10000)
+        return gcflip_heap_work_paced(heap, pace, wanted, work);
+    answer = gcflip_record_steps(heap, due, 0, work);
+    if (answer != GCFLIP_DONE)
+        return answer;
+    gcflip_heap_counts(heap, &counts);
+    pace->end = counts.end;
+    pace->logged = counts.logged;
+    if (work->last == GCFLIP_FLIPPED)
+        pace->left = counts.end;
+    return GCFLIP_DONE;
+}
+
 #ifdef __cplusplus
 }
 #endif
 
 #define gcflip_heap_open gcflip_record_open
-#define gcflip_heap_new gcflip_record_new
-#define gcflip_heap_raw gcflip_record_raw
-#define gcflip_heap_num gcflip_record_num
-#define gcflip_heap_nil gcflip_record_nil
+#define gcflip_heap_root_load gcflip_record_root_load
+#define gcflip_heap_root_store gcflip_record_root_store
+#define gcflip_heap_root_clear gcflip_record_root_clear
+#define gcflip_heap_frame_push gcflip_record_frame_push
+#define gcflip_heap_frame_pop gcflip_record_frame_pop
+#define gcflip_heap_new_object gcflip_record_new_object
+#define gcflip_heap_new_raw gcflip_record_new_raw
+#define gcflip_heap_set_number gcflip_record_set_number
+#define gcflip_heap_set_nil gcflip_record_set_nil
 #define gcflip_heap_move gcflip_record_move
 #define gcflip_heap_get gcflip_record_get
 #define gcflip_heap_put gcflip_record_put
 #define gcflip_heap_put_number gcflip_record_put_number
-#define gcflip_heap_cons gcflip_record_cons
+#define gcflip_heap_new_pair gcflip_record_new_pair
 #define gcflip_heap_new_from gcflip_record_new_from
 #define gcflip_heap_same gcflip_record_same
 #define gcflip_heap_look gcflip_record_look
-#define gcflip_heap_begin gcflip_record_begin
-#define gcflip_heap_begin_sized gcflip_record_begin_sized
-#define gcflip_heap_roots gcflip_record_roots
-#define gcflip_heap_scan gcflip_record_scan
-#define gcflip_heap_apply gcflip_record_apply
-#define gcflip_heap_flip gcflip_record_flip
-#define gcflip_heap_drop gcflip_record_drop
+#define gcflip_heap_step_begin gcflip_record_step_begin
+#define gcflip_heap_step_begin_sized gcflip_record_step_begin_sized
+#define gcflip_heap_step_roots gcflip_record_step_roots
+#define gcflip_heap_step_scan gcflip_record_step_scan
+#define gcflip_heap_step_apply gcflip_record_step_apply
+#define gcflip_heap_step_flip gcflip_record_step_flip
+#define gcflip_heap_step_give_up gcflip_record_step_give_up
 #define gcflip_heap_work gcflip_record_work
+#define gcflip_heap_work_sized gcflip_record_work_sized
+#define gcflip_heap_work_paced gcflip_record_work_paced
 
 #endif

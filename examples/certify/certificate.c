@@ -4,7 +4,7 @@
 #include <string.h>
 
 /* An even word above all references. It is not a value, so it corresponds to no word. */
-#define STRAY ((uint64_t)2 << 20)
+#define STRAY ((uint64_t)2 << 32)
 
 /* Returns the place of an object in the words of its space. It is the object's address in the image. */
 static uint32_t address_in(const struct space *space, const struct object *object)
@@ -88,22 +88,65 @@ static void write_words(FILE *file, const uint64_t *words, size_t count)
         fprintf(file, "%" PRIu64 "\n", words[i]);
 }
 
-static void write_image(FILE *file, const char *name, const gcflip_image *image)
+/* The most roots of a pair text, and the most fields of an object. */
+enum { MOST_ROOTS = 272, MOST_FIELDS = 65535 };
+
+/* Returns the number of objects that have to take roots as their fields, so that the other roots and one for each of these objects are few
+ * enough for a text. */
+static size_t packs_for(size_t roots)
 {
-    fprintf(file, "%s %" PRIu32 " %" PRIu32 "\n", name, image->size, image->end);
+    size_t packs = 0;
+    while (roots > MOST_ROOTS - packs + packs * MOST_FIELDS)
+        packs++;
+    return packs;
+}
+
+/* Returns the place of the root that is field 0 of object i, if there are `packs` objects, or the number of roots. */
+static size_t first_root(const gcflip_image *image, size_t packs, size_t i)
+{
+    size_t place = MOST_ROOTS - packs + i * MOST_FIELDS;
+    return place < image->root_count ? place : image->root_count;
+}
+
+/* Returns the address of object i of those that take roots. They stand behind the image's own objects. */
+static uint32_t pack_address(const gcflip_image *image, size_t packs, size_t i)
+{
+    return image->end + (uint32_t)(2 * i + first_root(image, packs, i) - first_root(image, packs, 0));
+}
+
+static void write_pack(FILE *file, const gcflip_image *image, size_t packs, size_t i)
+{
+    size_t place = first_root(image, packs, i), count = first_root(image, packs, i + 1) - place;
+    fprintf(file, "%zu\n0\n", 16777216 + count);
+    write_words(file, image->roots + place, count);
+}
+
+static void write_image(FILE *file, const char *name, const gcflip_image *image, size_t packs)
+{
+    uint32_t end = pack_address(image, packs, packs);
+    size_t kept = first_root(image, packs, 0);
+    fprintf(file, "%s %" PRIu32 " %" PRIu32 "\n", name, image->size < end ? end : image->size, end);
     write_words(file, image->words, image->end);
-    fprintf(file, "roots %zu\n", image->root_count);
-    write_words(file, image->roots, image->root_count);
+    for (size_t i = 0; i < packs; i++)
+        write_pack(file, image, packs, i);
+    fprintf(file, "roots %zu\n", kept + packs);
+    write_words(file, image->roots, kept);
+    for (size_t i = 0; i < packs; i++)
+        fprintf(file, "%" PRIu64 "\n", 2 * (uint64_t)pack_address(image, packs, i));
 }
 
 void write_certificate(FILE *file, const struct certificate *certificate)
 {
+    const gcflip_image *old = &certificate->old, *new = &certificate->new;
+    size_t packs = packs_for(old->root_count > new->root_count ? old->root_count : new->root_count);
     fprintf(file, "heappair 2\n");
-    write_image(file, "old", &certificate->old);
-    write_image(file, "new", &certificate->new);
-    fprintf(file, "pairs %" PRIu32 "\n", certificate->pair_count);
+    write_image(file, "old", old, packs);
+    write_image(file, "new", new, packs);
+    fprintf(file, "pairs %zu\n", certificate->pair_count + packs);
     for (uint32_t i = 0; i < certificate->pair_count; i++)
         fprintf(file, "%" PRIu32 " %" PRIu32 "\n", certificate->pairs[i].old_address, certificate->pairs[i].new_address);
+    for (size_t i = 0; i < packs; i++)
+        fprintf(file, "%" PRIu32 " %" PRIu32 "\n", pack_address(old, packs, i), pack_address(new, packs, i));
     fprintf(file, "end\n");
 }
 

@@ -18,7 +18,8 @@ struct certificate new_certificate(const struct heap *old, const struct heap *ne
 
 void free_certificate(const struct certificate *certificate);
 
-/* Writes the certificate as a `heappair` text, which `gcflip check` reads. */
+/* Writes the certificate as a `heappair` text, which `gcflip check` reads. The text has at most 272 roots. If there are more, the last ones
+ * become the fields of an object, or of several, behind the other objects. A root refers to each of these objects, and the last pairs are theirs. */
 void write_certificate(FILE *file, const struct certificate *certificate);
 
 /* Prints the verdict, as `gcflip check` does, and its meaning for the program's own objects. */

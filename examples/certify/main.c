@@ -1,6 +1,7 @@
-/* Builds a list of entries. Then, twice, makes every second entry garbage and collects: certify [-b BUG] [-p FILE] [-t] ENTRIES.
+/* Builds a list of entries. Then, twice, makes every second entry garbage and collects: certify [-b BUG] [-i] [-p FILE] [-t] ENTRIES.
  *
- * -b plants a bug in the collector: field, twice, root or length. -p writes the certificate of the last collection as a
+ * -b plants a bug in the collector: field, twice, root or length. -i asks the checker once more, without the pairs, as a collector would that
+ * keeps no forwarding addresses. -p writes the certificate of the last collection as a
  * text that `gcflip check` reads. -t prints the time that a collection takes for each object. */
 #define _POSIX_C_SOURCE 200809L
 #include "certificate.h"
@@ -17,6 +18,7 @@ struct times {
 };
 
 static const char *pair_file;
+static bool infers;
 static bool prints_times;
 static struct times times;
 
@@ -46,6 +48,27 @@ static void write_pair(const struct certificate *certificate)
     }
 }
 
+/* Has the pairs found from the two images alone, and prints the verdict on them. */
+static void print_inferred(const struct heap *old, const struct certificate *certificate)
+{
+    gcflip_verdict verdict = {0, 0, 0, 0};
+    size_t room = certificate->pair_count + 1, count = 0;
+    gcflip_pair *found = calloc(room, sizeof *found);
+    if (found == NULL)
+        exit(2);
+    uint32_t answer = gcflip_infer_images(&certificate->old, &certificate->new, found, room, &count, &verdict);
+    printf("without the pairs: ");
+    if (answer == GCFLIP_YES || answer == GCFLIP_REFUSED) {
+        struct certificate inferred = *certificate;
+        inferred.pairs = found;
+        inferred.pair_count = count;
+        print_verdict(old, &inferred, &verdict);
+    } else {
+        puts("no verdict: an allocation failed");
+    }
+    free(found);
+}
+
 /* Asks the checker whether the program can continue in the new heap. */
 static bool accepts(const struct heap *old, const struct heap *new)
 {
@@ -59,6 +82,8 @@ static bool accepts(const struct heap *old, const struct heap *new)
         print_verdict(old, &certificate, &verdict);
     else
         puts("no verdict: an allocation failed");
+    if (infers)
+        print_inferred(old, &certificate);
     if (prints_times)
         print_times(certificate.pair_count);
     if (pair_file != NULL)
@@ -90,9 +115,11 @@ static enum bug bug_named(const char *name)
 static enum bug read_options(int count, char **words)
 {
     enum bug bug = NO_BUG;
-    for (int option = getopt(count, words, "b:p:t"); option != -1; option = getopt(count, words, "b:p:t")) {
+    for (int option = getopt(count, words, "b:ip:t"); option != -1; option = getopt(count, words, "b:ip:t")) {
         if (option == 'b')
             bug = bug_named(optarg);
+        else if (option == 'i')
+            infers = true;
         else if (option == 'p')
             pair_file = optarg;
         else if (option == 't')
@@ -107,7 +134,7 @@ static uint32_t read_entries(const char *word)
 {
     unsigned long entries = word == NULL ? 0 : strtoul(word, NULL, 10);
     if (entries < 1 || entries > MOST_ENTRIES) {
-        fprintf(stderr, "certify [-b BUG] [-p FILE] [-t] ENTRIES, which are 1 to %d\n", MOST_ENTRIES);
+        fprintf(stderr, "certify [-b BUG] [-i] [-p FILE] [-t] ENTRIES, which are 1 to %d\n", MOST_ENTRIES);
         exit(2);
     }
     return (uint32_t)entries;

@@ -1,13 +1,14 @@
-/* The evaluator: a machine whose registers are slots and whose stack is a chain of frames in the heap.
+/* The evaluator: a machine whose registers are slots. Its stack is in stack.c.
  *
  * It evaluates the first element of the pair in PLACE. If it has to evaluate something else first, it pushes a frame that says what to
  * do with the value. An expression in tail position pushes no frame. So a loop by tail calls takes constant room, and only the heap
- * bounds the depth of all other calls: nothing here calls itself. */
+ * and its extra roots bound the depth of all other calls: nothing here calls itself. */
 #include "evaluate.h"
 #include "errors.h"
 #include "heap.h"
 #include "objects.h"
 #include "primitives.h"
+#include "stack.h"
 #include "syntax.h"
 
 volatile sig_atomic_t is_interrupted;
@@ -16,27 +17,6 @@ static enum next return_value(enum slot slot)
 {
     move(VALUE, slot);
     return RETURN;
-}
-
-/* ---- Frames */
-
-/* Pushes a frame that continues in this environment after PLACE. */
-static void push(enum type type, uint32_t fields)
-{
-    make(FRAME, type, fields);
-    put(FRAME, BELOW, STACK);
-    put(FRAME, FRAME_ENVIRONMENT, ENVIRONMENT);
-    put(FRAME, FRAME_PLACE, PLACE);
-    move(STACK, FRAME);
-}
-
-/* Pops the top frame into FRAME, with its environment and its place. */
-static void pop(void)
-{
-    move(FRAME, STACK);
-    get(STACK, FRAME, BELOW);
-    get(ENVIRONMENT, FRAME, FRAME_ENVIRONMENT);
-    get(PLACE, FRAME, FRAME_PLACE);
 }
 
 /* ---- Variables */
@@ -110,7 +90,7 @@ static void name_function(enum slot name)
 static enum next go_through(void)
 {
     if (get(A, PLACE, REST) == PAIR)
-        push(SEQUENCE_FRAME, FRAME_FIELDS);
+        push_frame(SEQUENCE_FRAME, 0);
     return EVALUATE;
 }
 
@@ -130,7 +110,7 @@ static enum next start_if(void)
 {
     check_form(IF, 2, 3);
     get(PLACE, EXPRESSION, REST);
-    push(IF_FRAME, FRAME_FIELDS);
+    push_frame(IF_FRAME, 0);
     return EVALUATE;
 }
 
@@ -156,7 +136,7 @@ static enum next try_clauses(void)
         move(PLACE, B);
         return go_through();
     }
-    push(COND_FRAME, FRAME_FIELDS);
+    push_frame(COND_FRAME, 0);
     move(PLACE, A);
     return EVALUATE;
 }
@@ -182,7 +162,7 @@ static enum next start_cond(void)
 static enum next go_through_until(enum type frame)
 {
     if (get(A, PLACE, REST) == PAIR)
-        push(frame, FRAME_FIELDS);
+        push_frame(frame, 0);
     return EVALUATE;
 }
 
@@ -213,7 +193,7 @@ static enum next start_define(void)
     get(A, PLACE, FIRST);
     if (keyword_of(A) != NO_KEYWORD)
         fail_about(A, "expected the name of a variable, but found the keyword");
-    push(DEFINE_FRAME, FRAME_FIELDS);
+    push_frame(DEFINE_FRAME, 0);
     get(PLACE, PLACE, REST);
     return EVALUATE;
 }
@@ -232,7 +212,7 @@ static enum next start_set(void)
     get(PLACE, EXPRESSION, REST);
     if (get(A, PLACE, FIRST) != SYMBOL)
         fail_in(SET);
-    push(ASSIGN_FRAME, FRAME_FIELDS);
+    push_frame(ASSIGN_FRAME, 0);
     get(PLACE, PLACE, REST);
     return EVALUATE;
 }
@@ -360,10 +340,7 @@ static enum next evaluate_elements(uint32_t field)
     for (enum type rest = type_of(PLACE); rest == PAIR; rest = get(PLACE, PLACE, REST)) {
         enum type type = get(EXPRESSION, PLACE, FIRST);
         if (type == PAIR) {
-            push(CALL_FRAME, CALL_FRAME_FIELDS);
-            put(FRAME, FRAME_ARGUMENTS, ARGUMENTS);
-            put_word(FRAME, FRAME_FIELD, field);
-            put(FRAME, FRAME_CALL, CALL);
+            push_frame(CALL_FRAME, field);
             return EVALUATE;
         }
         evaluate_atom(type);
@@ -373,11 +350,8 @@ static enum next evaluate_elements(uint32_t field)
     return APPLY;
 }
 
-static enum next resume_call(void)
+static enum next resume_call(uint32_t field)
 {
-    uint32_t field = (uint32_t)get_word(FRAME, FRAME_FIELD);
-    get(ARGUMENTS, FRAME, FRAME_ARGUMENTS);
-    get(CALL, FRAME, FRAME_CALL);
     put(ARGUMENTS, field, VALUE);
     get(PLACE, PLACE, REST);
     return evaluate_elements(field + 1);
@@ -451,11 +425,11 @@ static enum next start_expression(void)
 
 static enum next resume(void)
 {
-    enum type frame = type_of(STACK);
-    if (frame == EMPTY)
-        return FINISHED;
-    pop();
+    uint32_t field = 0;
+    enum type frame = pop_frame(&field);
     switch (frame) {
+    case EMPTY:
+        return FINISHED;
     case IF_FRAME:
         return resume_if();
     case COND_FRAME:
@@ -470,7 +444,7 @@ static enum next resume(void)
     case ASSIGN_FRAME:
         return resume_set();
     default:
-        return resume_call();
+        return resume_call(field);
     }
 }
 
@@ -480,13 +454,14 @@ void clear_registers(void)
         clear(slot);
     for (enum slot slot = BINDINGS; slot < SLOTS; slot++)
         clear(slot);
+    clear_stack();
     set_error_place(PLACE);
 }
 
 void evaluate(void)
 {
     enum next next = EVALUATE;
-    clear(STACK);
+    clear_stack();
     clear(ENVIRONMENT);
     is_interrupted = 0;
     while (next != FINISHED) {

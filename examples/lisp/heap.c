@@ -9,7 +9,7 @@
 /* The recorder performs `work` by single steps. If nothing is recorded, one call does it. */
 #undef gcflip_heap_work
 
-enum { MUTATOR = 0, STEPS_PER_WORD = 5 };
+enum { MUTATOR = 0, STEPS_PER_WORD = 5, WORDS_PER_ROOT = 2, MOST_ROOTS = 1048576 };
 
 _Static_assert(WORD < SYMBOLS && SLOTS <= 32, "a mutator has 16 slots of its own and 16 shared ones");
 
@@ -22,6 +22,8 @@ static uint32_t room;   /* words that stay free for the REPL */
 static uint32_t runway; /* a collection begins when fewer words are left */
 static uint32_t writes; /* writes since the last payment */
 static bool was_full;   /* an allocation ended in an error */
+
+static gcflip_frame stack; /* all extra roots */
 
 /* Ends the program after a call that the Lisp must not make. */
 static void stop(const char *call)
@@ -37,7 +39,7 @@ static _Noreturn void fail_without_memory(void)
 
 static void check_answer(uint32_t answer, const char *call)
 {
-    if (answer == GCFLIP_HEAP_NO_MEMORY)
+    if (answer == GCFLIP_NO_MEMORY)
         fail_without_memory();
     if (GCFLIP_IS_REFUSED(answer))
         stop(call);
@@ -78,15 +80,25 @@ static void set_room(uint32_t words)
 
 bool open_heap(uint32_t words, FILE *trace)
 {
+    gcflip_options options = gcflip_options_default(words, MUTATOR + 1);
+    uint32_t roots = words / WORDS_PER_ROOT;
     gcflip_trace = trace;
     size = words;
     set_room(0);
-    return gcflip_heap_open(&heap, words, MUTATOR + 1) == GCFLIP_DONE;
+    if (trace == NULL)
+        options.extra_roots = roots < MOST_ROOTS ? roots : MOST_ROOTS;
+    stack.end = options.extra_roots;
+    return gcflip_heap_open(&heap, &options) == GCFLIP_DONE;
 }
 
 void close_heap(void)
 {
     gcflip_heap_close(&heap);
+}
+
+uint32_t heap_size(void)
+{
+    return size;
 }
 
 /* ---- Values in slots */
@@ -120,7 +132,7 @@ void move(enum slot to, enum slot from)
 
 void clear(enum slot slot)
 {
-    EXPECT_REPLY(GCFLIP_DONE, nil, MUTATOR, (uint8_t)slot);
+    EXPECT_REPLY(GCFLIP_DONE, set_nil, MUTATOR, (uint8_t)slot);
 }
 
 bool same(enum slot first, enum slot second)
@@ -133,7 +145,7 @@ bool same(enum slot first, enum slot second)
 /* An integer is a number modulo 2^63. */
 void set_integer(enum slot slot, int64_t integer)
 {
-    EXPECT_REPLY(GCFLIP_DONE, num, MUTATOR, (uint8_t)slot, (uint64_t)integer & INT64_MAX);
+    EXPECT_REPLY(GCFLIP_DONE, set_number, MUTATOR, (uint8_t)slot, (uint64_t)integer & INT64_MAX);
 }
 
 int64_t integer_in(enum slot slot)
@@ -142,6 +154,46 @@ int64_t integer_in(enum slot slot)
     check_reply(look(slot, &view) == GCFLIP_NUMBER, "integer_in");
     int64_t number = (int64_t)view.number;
     return number <= MOST_INTEGER ? number : number - INT64_MAX - 1;
+}
+
+/* ---- Extra roots */
+
+bool has_extra_roots(void)
+{
+    return gcflip_trace == NULL;
+}
+
+static uint32_t push_value(enum slot value)
+{
+    static struct call_times times = {"gcflip_heap_frame_push", 0, 0, 0, NULL};
+    begin_pause();
+    uint32_t answer = gcflip_heap_frame_push(&heap, MUTATOR, (uint8_t)value, &stack);
+    end_pause(&times, 0);
+    return answer;
+}
+
+void push_root(enum slot value)
+{
+    uint32_t answer = push_value(value);
+    if (answer == GCFLIP_FRAME_FULL)
+        fail("the stack is full: it has %u values (--heap WORDS makes it larger)", stack.end);
+    check_reply(answer == GCFLIP_DONE, "frame_push");
+}
+
+bool pop_root(enum slot to)
+{
+    static struct call_times times = {"gcflip_heap_frame_pop", 0, 0, 0, NULL};
+    begin_pause();
+    uint32_t answer = gcflip_heap_frame_pop(&heap, MUTATOR, (uint8_t)to, &stack);
+    end_pause(&times, 0);
+    check_reply(answer == GCFLIP_DONE || answer == GCFLIP_FRAME_EMPTY, "frame_pop");
+    return answer == GCFLIP_DONE;
+}
+
+void clear_roots(void)
+{
+    EXPECT_REPLY(GCFLIP_DONE, root_clear, 0, stack.top);
+    stack.top = 0;
 }
 
 /* ---- Fields */
@@ -195,7 +247,7 @@ void put_word(enum slot object, uint32_t field, uint64_t word)
 
 static gcflip_counts read_counts(void)
 {
-    gcflip_counts counts = {0, 0, 0, 0, 0, 0, 0, 0, 0};
+    gcflip_counts counts = {0, 0, 0, 0, 0, 0, 0, 0, 0, 0, 0};
     EXPECT_REPLY(GCFLIP_DONE, counts, &counts);
     return counts;
 }
@@ -211,7 +263,7 @@ static enum progress work(uint32_t most)
     uint32_t answer = gcflip_trace ? gcflip_record_work(&heap, most, &made) : gcflip_heap_work(&heap, most, &made);
     bool flipped = made.last == GCFLIP_FLIPPED;
     end_pause(&times, flipped ? made.pairs : 0);
-    if (answer == GCFLIP_HEAP_NO_MEMORY)
+    if (answer == GCFLIP_NO_MEMORY)
         return NO_MEMORY;
     check_answer(answer, "work");
     check_reply(made.last != GCFLIP_NO_ROOM && made.last != GCFLIP_FLIP_REFUSED, "work");
@@ -273,13 +325,13 @@ static void find_room(uint32_t words)
 void make(enum slot to, enum type type, uint32_t fields)
 {
     find_room(fields + 2);
-    EXPECT_REPLY(GCFLIP_MADE, new, MUTATOR, (uint8_t)to, (uint8_t)type, (uint16_t)fields);
+    EXPECT_REPLY(GCFLIP_MADE, new_object, MUTATOR, (uint8_t)to, (uint8_t)type, (uint16_t)fields);
 }
 
 void make_raw(enum slot to, enum type type, uint32_t fields)
 {
     find_room(fields + 2);
-    EXPECT_REPLY(GCFLIP_MADE, raw, MUTATOR, (uint8_t)to, (uint8_t)type, (uint16_t)fields);
+    EXPECT_REPLY(GCFLIP_MADE, new_raw, MUTATOR, (uint8_t)to, (uint8_t)type, (uint16_t)fields);
 }
 
 /* ---- Room */

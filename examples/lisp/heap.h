@@ -17,12 +17,18 @@
 #define LEAST_INTEGER (-MOST_INTEGER - 1)
 #define MOST_INTEGER INT64_C(0x3fffffffffffffff)
 
-enum { LEAST_HEAP = 1, MOST_HEAP = 1048576, MOST_FIELDS = 65535 };
+enum { LEAST_HEAP = 1, MOST_FIELDS = 65535, MOST_RECORDED_HEAP = 1048576 };
 
-/* Opens the heap. Writes a trace of all that happens on it, unless `trace` is NULL. Returns whether there is memory for it. */
+#define MOST_HEAP UINT32_MAX
+
+/* Opens the heap. Writes a trace of all that happens on it, unless `trace` is NULL; the heap has then at most MOST_RECORDED_HEAP words.
+ * Returns whether there is memory for it. */
 bool open_heap(uint32_t words, FILE *trace);
 
 void close_heap(void);
+
+/* Returns the number of words of the heap. No list without a circle has that many pairs. */
+uint32_t heap_size(void);
 
 /* ---- Values in slots */
 
@@ -38,6 +44,18 @@ bool same(enum slot first, enum slot second);
 void set_integer(enum slot slot, int64_t integer);
 
 int64_t integer_in(enum slot slot);
+
+/* ---- Extra roots, as a stack of values. A heap has one extra root for each two words, at most 1048576 */
+
+/* Returns whether the heap has extra roots: it has none if its run is recorded. */
+bool has_extra_roots(void);
+
+void push_root(enum slot value);
+
+/* Returns false if there is no value left. */
+bool pop_root(enum slot to);
+
+void clear_roots(void);
 
 /* ---- Objects */
 

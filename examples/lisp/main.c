@@ -44,7 +44,7 @@ static uint32_t read_words(const char *word)
     char *behind = NULL;
     unsigned long words = word == NULL ? 0 : strtoul(word, &behind, 10);
     if (words < LEAST_HEAP || words > MOST_HEAP || *behind != 0 || *word == '-')
-        end("--heap takes a number of words, 1 to 1048576", "");
+        end("--heap takes a number of words, 1 to 4294967295", "");
     return (uint32_t)words;
 }
 
@@ -61,6 +61,8 @@ static struct options read_options(char **words)
         else
             end("lisp [--heap WORDS] [--record FILE] [--pauses] [FILE ...], and not ", *words);
     }
+    if (options.trace != NULL && options.words > MOST_RECORDED_HEAP)
+        end("--record takes a heap of at most 1048576 words", "");
     options.files = words;
     return options;
 }

@@ -58,7 +58,7 @@ int64_t list_length(enum slot list)
     int64_t length = 0;
     move(D, list);
     enum type type = type_of(D);
-    for (; type == PAIR && length < MOST_HEAP; type = get(D, D, REST))
+    for (; type == PAIR && length < heap_size(); type = get(D, D, REST))
         length++;
     return type == EMPTY ? length : -1;
 }

@@ -104,7 +104,7 @@ static bool go_on(FILE *file, bool quoted)
 /* Writes the value in ITEM. A value with more elements than the heap has words contains itself. */
 static void print_item(FILE *file, bool quoted)
 {
-    for (uint32_t elements = 0; elements < MOST_HEAP; elements++) {
+    for (uint32_t elements = 0; elements < heap_size(); elements++) {
         if (type_of(ITEM) == PAIR) {
             fputc('(', file);
             make_pair(PENDING, ITEM, PENDING);

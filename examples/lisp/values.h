@@ -9,8 +9,8 @@ enum slot {
     EXPRESSION,  /* that element */
     VALUE,       /* the value of the expression before it */
     ENVIRONMENT, /* the innermost scope, or nil */
-    STACK,       /* the top frame, or nil */
-    FRAME,       /* the last frame that was pushed or popped */
+    STACK,       /* the top frame, or nil, if frames are objects */
+    FRAME,       /* the last of these frames that was pushed or popped */
     ARGUMENTS,   /* the scope that is filled for a call */
     CALL,        /* the place of that call */
     FUNCTION,    /* the called function */
@@ -92,8 +92,5 @@ enum { VARIABLE_NAME, GLOBAL_FIELDS, ADDRESS = GLOBAL_FIELDS, LOCAL_FIELDS, ONE_
 
 /* While a call's arguments are evaluated, the operator is in the place of the names. */
 enum { ENCLOSING, VARIABLES, OPERATOR = VARIABLES, FIRST_VALUE };
-
-/* All frames have the first three fields; a CALL_FRAME has all of them. */
-enum { BELOW, FRAME_ENVIRONMENT, FRAME_PLACE, FRAME_FIELDS, FRAME_ARGUMENTS = FRAME_FIELDS, FRAME_FIELD, FRAME_CALL, CALL_FRAME_FIELDS };
 
 #endif

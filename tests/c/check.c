@@ -1,10 +1,9 @@
-/* Tests gcflip_check: each verdict, each answer except that of a failed allocation, and empty arrays. Tests gcflip_infer. */
+/* Tests gcflip_check: each verdict, each answer except that of a failed allocation, and empty arrays. Tests gcflip_infer
+   and gcflip_path. */
 #include "expect.h"
 #include "gcflip.h"
 #include <string.h>
 #include <sys/mman.h>
-
-#define COUNT(row) (sizeof(row) / sizeof((row)[0]))
 
 enum { HEADER = 16842753, TWO_FIELDS = 16842754, OTHER_KIND = 16908289, RAW_HEADER = 50331649 };
 
@@ -192,6 +191,61 @@ static void no_room_for_pairs(void)
     }
 }
 
+/* Returns whether the shortest path to the address begins at this root and has these fields. */
+static bool leads(uint32_t address, uint64_t root, const uint64_t *wanted, size_t length)
+{
+    uint64_t place = 99, fields[4] = {90, 91, 92, 93};
+    size_t count = 99;
+    bool is = gcflip_path_in(&old_image, address, &place, fields, COUNT(fields), &count) == GCFLIP_YES && place == root && count == length;
+    for (size_t i = 0; i < COUNT(fields); i++)
+        is = is && fields[i] == (i < length ? wanted[i] : 90 + i);
+    return is;
+}
+
+static bool leads_nowhere(uint32_t address)
+{
+    uint64_t place = 99, fields[4] = {90, 91, 92, 93};
+    size_t count = 99;
+    bool is = gcflip_path_in(&old_image, address, &place, fields, COUNT(fields), &count) == GCFLIP_NO_PATH;
+    return is && place == 99 && count == 99 && fields[0] == 90;
+}
+
+/* A space of four objects: 1 refers to 5 and to 13, 5 refers to 9, 9 refers to 13, and the raw object at 13 has a word that would be a
+   reference to 1. Root 1 refers to 1. */
+static void paths(void)
+{
+    static uint64_t words[17] = {0, 16777218, 0, 10, 26, 16777218, 0, 18, 0, 16777218, 0, 26, 0, 50331650, 0, 2, 18};
+    static uint64_t roots[2] = {7, 2};
+    old_image = (gcflip_image){20, 17, true, words, roots, 2};
+    EXPECT(leads(1, 1, NULL, 0));
+    EXPECT(leads(5, 1, (const uint64_t[]){0}, 1));
+    EXPECT(leads(9, 1, (const uint64_t[]){0, 0}, 2));
+    EXPECT(leads(13, 1, (const uint64_t[]){1}, 1)); /* shorter than 0, 0, 0 */
+    EXPECT(leads_nowhere(2) && leads_nowhere(0) && leads_nowhere(UINT32_MAX));
+    words[4] = 2; /* now only the long path leads to 13, and 1 refers to itself */
+    EXPECT(leads(13, 1, (const uint64_t[]){0, 0, 0}, 3) && leads(1, 1, NULL, 0));
+    words[12] = 200; /* no object starts at 100, but a path finds a reference to it */
+    EXPECT(leads(100, 1, (const uint64_t[]){0, 0, 1}, 3));
+    roots[1] = 18; /* 1 and 5 are garbage, although the raw object has a word like a reference to 1 */
+    EXPECT(leads(9, 1, NULL, 0) && leads_nowhere(1) && leads_nowhere(5));
+    roots[0] = 18; /* the first of two roots */
+    EXPECT(leads(9, 0, NULL, 0));
+    words[9] = 0; /* no header: the image is not shaped */
+    EXPECT(leads_nowhere(9));
+}
+
+/* Without room for the fields, only their number is written. */
+static void no_room_for_fields(void)
+{
+    static const uint64_t words[8] = {0, 16777217, 0, 8, 16777217, 0, 2, 0};
+    static const uint64_t roots[1] = {2};
+    const gcflip_image image = {8, 7, false, words, roots, 1};
+    uint64_t place = 99;
+    size_t count = 99;
+    EXPECT(gcflip_path_in(&image, 4, &place, NULL, 0, &count) == GCFLIP_LONG_PATH);
+    EXPECT(count == 1 && place == 99);
+}
+
 static void names(void)
 {
     EXPECT(strcmp(gcflip_refusal_name(GCFLIP_OLD_SHAPE), "OldShape") == 0);
@@ -211,6 +265,8 @@ int main(void)
     too_many_pairs();
     inferred();
     no_room_for_pairs();
+    paths();
+    no_room_for_fields();
     names();
     return 0;
 }

@@ -4,6 +4,7 @@
 #include "expect.h"
 #include "gcflip_heap.h"
 #include "own_allocator.h"
+#include "open_heap.h"
 
 enum { LIST = 16, DEPTH = 200, WORDS = 4096 };
 
@@ -21,9 +22,9 @@ static void collect(uint32_t most)
 /* Pushes a new cell with the number n to the front of the list. */
 static void push(uint64_t n)
 {
-    EXPECT(gcflip_heap_num(&heap, 0, 1, n) == GCFLIP_DONE);
+    EXPECT(gcflip_heap_set_number(&heap, 0, 1, n) == GCFLIP_DONE);
     for (;;) {
-        uint32_t answer = gcflip_heap_cons(&heap, 0, 0, 1, 1, LIST);
+        uint32_t answer = gcflip_heap_new_pair(&heap, 0, 0, 1, 1, LIST);
         if (answer == GCFLIP_MADE)
             break;
         EXPECT(answer == GCFLIP_FULL);
@@ -47,7 +48,7 @@ int main(int count, char **arguments)
     unsigned long depth = 0;
     size_t in_use = 0;
     unsigned random = 1;
-    EXPECT(gcflip_heap_open(&heap, WORDS, 2) == GCFLIP_DONE);
+    EXPECT(open_plain_heap(&heap, WORDS, 2) == GCFLIP_DONE);
     for (unsigned long n = 0; n < operations; n++) {
         random = random * 1103515245u + 12345u;
         if (depth == 0 || (depth < DEPTH && random >> 16 & 1)) {

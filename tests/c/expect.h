@@ -13,4 +13,7 @@
         }                                                                   \
     } while (0)
 
+/* The number of elements of an array. */
+#define COUNT(row) (sizeof(row) / sizeof((row)[0]))
+
 #endif

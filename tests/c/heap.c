@@ -1,17 +1,12 @@
 /* Tests all calls of gcflip_heap.h, with each answer but those of a failed allocation and of a refused flip. */
-#include "expect.h"
 #include "gcflip.h"
-#include "gcflip_heap.h"
+#include "one_heap.h"
+#include "open_heap.h"
 #include <string.h>
 
 enum { KIND = 7, G0 = 16, G1 = 17 };
 
-static gcflip_heap heap = GCFLIP_NO_HEAP;
-static gcflip_view view;
-static uint64_t number;
 static uint32_t pairs;
-static gcflip_work work;
-static gcflip_counts counts;
 static gcflip_log_entry entry;
 static size_t length;
 static uint64_t words[64], roots[48];
@@ -33,12 +28,7 @@ static uint8_t slots[65536];
 
 static void open_heap(uint32_t size, uint8_t mutators)
 {
-    EXPECT(gcflip_heap_open(&heap, size, mutators) == GCFLIP_DONE && heap.at != NULL);
-}
-
-static void close_heap(void)
-{
-    EXPECT(gcflip_heap_close(&heap) == GCFLIP_DONE && heap.at == NULL);
+    EXPECT(open_plain_heap(&heap, size, mutators) == GCFLIP_DONE && heap.at != NULL);
 }
 
 static void commands(void)
@@ -46,10 +36,10 @@ static void commands(void)
     static const uint8_t from[] = {9, G1, 7};
     open_heap(32, 2);
     LOOKS(gcflip_heap_look(&heap, 0, 31, &view), GCFLIP_NIL, 0, 0, 0);
-    REPLIES(gcflip_heap_new(&heap, 0, G0, KIND, 2), GCFLIP_MADE);
+    REPLIES(gcflip_heap_new_object(&heap, 0, G0, KIND, 2), GCFLIP_MADE);
     LOOKS(gcflip_heap_look(&heap, 1, G0, &view), GCFLIP_OBJECT, KIND, 2, 0);
     LOOKS(gcflip_heap_look(&heap, 0, 0, &view), GCFLIP_NIL, 0, 0, 0); /* slot 16 is shared; it is not the first own slot */
-    REPLIES(gcflip_heap_num(&heap, 1, 15, 9223372036854775807u), GCFLIP_DONE);
+    REPLIES(gcflip_heap_set_number(&heap, 1, 15, 9223372036854775807u), GCFLIP_DONE);
     REPLIES(gcflip_heap_put(&heap, 1, G0, 1, 15), GCFLIP_DONE);
     GETS(gcflip_heap_get(&heap, 0, 3, G0, 1, &number), GCFLIP_NUMBER, 9223372036854775807u);
     LOOKS(gcflip_heap_look(&heap, 0, 15, &view), GCFLIP_NIL, 0, 0, 0);
@@ -61,9 +51,9 @@ static void commands(void)
     REPLIES(gcflip_heap_move(&heap, 0, G1, G0), GCFLIP_DONE);
     REPLIES(gcflip_heap_same(&heap, 1, G0, G1), GCFLIP_SAME);
     REPLIES(gcflip_heap_same(&heap, 1, G0, 15), GCFLIP_NOT_SAME);
-    REPLIES(gcflip_heap_nil(&heap, 1, G1), GCFLIP_DONE);
+    REPLIES(gcflip_heap_set_nil(&heap, 1, G1), GCFLIP_DONE);
     REPLIES(gcflip_heap_same(&heap, 0, G0, G1), GCFLIP_NOT_SAME);
-    REPLIES(gcflip_heap_raw(&heap, 0, G1, 255, 3), GCFLIP_MADE);
+    REPLIES(gcflip_heap_new_raw(&heap, 0, G1, 255, 3), GCFLIP_MADE);
     LOOKS(gcflip_heap_look(&heap, 0, G1, &view), GCFLIP_RAW_OBJECT, 255, 3, 0);
     GETS(gcflip_heap_get(&heap, 0, 2, G1, 2, &number), GCFLIP_NUMBER, 0);
     REPLIES(gcflip_heap_put(&heap, 0, G1, 0, G0), GCFLIP_NO_NUMBER);
@@ -77,14 +67,14 @@ static void commands(void)
     LOOKS(gcflip_heap_look(&heap, 0, 5, &view), GCFLIP_NUMBER, 0, 0, 7);
     REPLIES(gcflip_heap_put_number(&heap, 0, 5, 0, 5, 8), GCFLIP_NO_OBJECT);
     REPLIES(gcflip_heap_put(&heap, 0, G1, 0, 3), GCFLIP_DONE);
-    REPLIES(gcflip_heap_new(&heap, 0, 0, KIND, 21), GCFLIP_FULL); /* 23 words, but 22 are free */
+    REPLIES(gcflip_heap_new_object(&heap, 0, 0, KIND, 21), GCFLIP_FULL); /* 23 words, but 22 are free */
     REPLIES(gcflip_heap_put_number(&heap, 0, G1, 0, 5, 11), GCFLIP_DONE);
-    REPLIES(gcflip_heap_cons(&heap, 1, 7, 8, G1, 9), GCFLIP_MADE);
+    REPLIES(gcflip_heap_new_pair(&heap, 1, 7, 8, G1, 9), GCFLIP_MADE);
     LOOKS(gcflip_heap_look(&heap, 1, 7, &view), GCFLIP_OBJECT, 8, 2, 0);
     GETS(gcflip_heap_get(&heap, 1, 9, 7, 1, &number), GCFLIP_NIL, 77);
     GETS(gcflip_heap_get(&heap, 1, 9, 7, 0, &number), GCFLIP_OBJECT, 77);
     GETS(gcflip_heap_get(&heap, 1, 9, 9, 0, &number), GCFLIP_NUMBER, 11);
-    REPLIES(gcflip_heap_cons(&heap, 1, 7, 8, 7, 9), GCFLIP_MADE); /* the first field refers to the object itself */
+    REPLIES(gcflip_heap_new_pair(&heap, 1, 7, 8, 7, 9), GCFLIP_MADE); /* the first field refers to the object itself */
     GETS(gcflip_heap_get(&heap, 1, 10, 7, 0, &number), GCFLIP_OBJECT, 77);
     REPLIES(gcflip_heap_same(&heap, 1, 7, 10), GCFLIP_SAME);
     GETS(gcflip_heap_get(&heap, 1, 10, 7, 1, &number), GCFLIP_NUMBER, 11);
@@ -95,10 +85,10 @@ static void commands(void)
     REPLIES(gcflip_heap_same(&heap, 1, G1, 10), GCFLIP_SAME);
     GETS(gcflip_heap_get(&heap, 1, 10, 7, 2, &number), GCFLIP_OBJECT, 77);
     REPLIES(gcflip_heap_same(&heap, 1, 7, 10), GCFLIP_SAME);
-    REPLIES(gcflip_heap_raw(&heap, 0, 0, KIND, 65535), GCFLIP_FULL);
-    REPLIES(gcflip_heap_new(&heap, 0, 0, KIND, 7), GCFLIP_MADE);
-    REPLIES(gcflip_heap_new(&heap, 0, 0, KIND, 0), GCFLIP_FULL);
-    REPLIES(gcflip_heap_cons(&heap, 1, 12, 8, 9, 9), GCFLIP_FULL);
+    REPLIES(gcflip_heap_new_raw(&heap, 0, 0, KIND, 65535), GCFLIP_FULL);
+    REPLIES(gcflip_heap_new_object(&heap, 0, 0, KIND, 7), GCFLIP_MADE);
+    REPLIES(gcflip_heap_new_object(&heap, 0, 0, KIND, 0), GCFLIP_FULL);
+    REPLIES(gcflip_heap_new_pair(&heap, 1, 12, 8, 9, 9), GCFLIP_FULL);
     REPLIES(gcflip_heap_new_from(&heap, 1, 12, 8, from, 0), GCFLIP_FULL);
     LOOKS(gcflip_heap_look(&heap, 1, 12, &view), GCFLIP_NIL, 0, 0, 0);
     close_heap();
@@ -108,34 +98,34 @@ static void commands(void)
 static void steps(void)
 {
     open_heap(32, 2);
-    REPLIES(gcflip_heap_roots(&heap), GCFLIP_IDLE);
-    REPLIES(gcflip_heap_scan(&heap), GCFLIP_IDLE);
-    REPLIES(gcflip_heap_apply(&heap, 1), GCFLIP_IDLE);
-    REPLIES(gcflip_heap_flip(&heap, &pairs), GCFLIP_IDLE);
-    REPLIES(gcflip_heap_drop(&heap), GCFLIP_IDLE);
-    REPLIES(gcflip_heap_new(&heap, 0, G0, KIND, 1), GCFLIP_MADE);
-    REPLIES(gcflip_heap_num(&heap, 0, 0, 8), GCFLIP_DONE);
-    REPLIES(gcflip_heap_begin(&heap), GCFLIP_BEGUN);
-    REPLIES(gcflip_heap_begin(&heap), GCFLIP_BUSY);
-    REPLIES(gcflip_heap_begin_sized(&heap, 8), GCFLIP_BUSY);
-    REPLIES(gcflip_heap_flip(&heap, &pairs), GCFLIP_NOT_READY);
-    REPLIES(gcflip_heap_roots(&heap), GCFLIP_COPIED);
-    REPLIES(gcflip_heap_roots(&heap), GCFLIP_CLEAN);
-    REPLIES(gcflip_heap_scan(&heap), GCFLIP_SCANNED);
+    REPLIES(gcflip_heap_step_roots(&heap), GCFLIP_IDLE);
+    REPLIES(gcflip_heap_step_scan(&heap), GCFLIP_IDLE);
+    REPLIES(gcflip_heap_step_apply(&heap, 1), GCFLIP_IDLE);
+    REPLIES(gcflip_heap_step_flip(&heap, &pairs), GCFLIP_IDLE);
+    REPLIES(gcflip_heap_step_give_up(&heap), GCFLIP_IDLE);
+    REPLIES(gcflip_heap_new_object(&heap, 0, G0, KIND, 1), GCFLIP_MADE);
+    REPLIES(gcflip_heap_set_number(&heap, 0, 0, 8), GCFLIP_DONE);
+    REPLIES(gcflip_heap_step_begin(&heap), GCFLIP_BEGUN);
+    REPLIES(gcflip_heap_step_begin(&heap), GCFLIP_BUSY);
+    REPLIES(gcflip_heap_step_begin_sized(&heap, 8), GCFLIP_BUSY);
+    REPLIES(gcflip_heap_step_flip(&heap, &pairs), GCFLIP_NOT_READY);
+    REPLIES(gcflip_heap_step_roots(&heap), GCFLIP_COPIED);
+    REPLIES(gcflip_heap_step_roots(&heap), GCFLIP_CLEAN);
+    REPLIES(gcflip_heap_step_scan(&heap), GCFLIP_SCANNED);
     REPLIES(gcflip_heap_put(&heap, 1, G0, 0, 0), GCFLIP_DONE); /* nil: mutator 1 has a slot 0 of its own */
     REPLIES(gcflip_heap_put(&heap, 0, G0, 0, 0), GCFLIP_DONE);
-    REPLIES(gcflip_heap_scan(&heap), GCFLIP_PASSED);
-    REPLIES(gcflip_heap_scan(&heap), GCFLIP_CLEAN);
-    REPLIES(gcflip_heap_flip(&heap, &pairs), GCFLIP_NOT_READY);
-    REPLIES(gcflip_heap_apply(&heap, 0), GCFLIP_APPLIED);
-    REPLIES(gcflip_heap_apply(&heap, 0), GCFLIP_CLEAN);
-    REPLIES(gcflip_heap_apply(&heap, 1), GCFLIP_APPLIED);
-    FLIPS(gcflip_heap_flip(&heap, &pairs), 1);
+    REPLIES(gcflip_heap_step_scan(&heap), GCFLIP_PASSED);
+    REPLIES(gcflip_heap_step_scan(&heap), GCFLIP_CLEAN);
+    REPLIES(gcflip_heap_step_flip(&heap, &pairs), GCFLIP_NOT_READY);
+    REPLIES(gcflip_heap_step_apply(&heap, 0), GCFLIP_APPLIED);
+    REPLIES(gcflip_heap_step_apply(&heap, 0), GCFLIP_CLEAN);
+    REPLIES(gcflip_heap_step_apply(&heap, 1), GCFLIP_APPLIED);
+    FLIPS(gcflip_heap_step_flip(&heap, &pairs), 1);
     GETS(gcflip_heap_get(&heap, 1, 1, G0, 0, &number), GCFLIP_NUMBER, 8);
-    REPLIES(gcflip_heap_begin_sized(&heap, 3), GCFLIP_BEGUN);
-    REPLIES(gcflip_heap_roots(&heap), GCFLIP_NO_ROOM);
-    REPLIES(gcflip_heap_drop(&heap), GCFLIP_DROPPED);
-    REPLIES(gcflip_heap_begin_sized(&heap, 1048576), GCFLIP_BEGUN);
+    REPLIES(gcflip_heap_step_begin_sized(&heap, 3), GCFLIP_BEGUN);
+    REPLIES(gcflip_heap_step_roots(&heap), GCFLIP_NO_ROOM);
+    REPLIES(gcflip_heap_step_give_up(&heap), GCFLIP_DROPPED);
+    REPLIES(gcflip_heap_step_begin_sized(&heap, 1048576), GCFLIP_BEGUN);
     close_heap();
 }
 
@@ -143,9 +133,9 @@ static void steps(void)
 static void useful_steps(void)
 {
     open_heap(32, 1);
-    REPLIES(gcflip_heap_new(&heap, 0, 0, KIND, 1), GCFLIP_MADE);
-    REPLIES(gcflip_heap_new(&heap, 0, 1, KIND, 4), GCFLIP_MADE);
-    REPLIES(gcflip_heap_nil(&heap, 0, 1), GCFLIP_DONE);
+    REPLIES(gcflip_heap_new_object(&heap, 0, 0, KIND, 1), GCFLIP_MADE);
+    REPLIES(gcflip_heap_new_object(&heap, 0, 1, KIND, 4), GCFLIP_MADE);
+    REPLIES(gcflip_heap_set_nil(&heap, 0, 1), GCFLIP_DONE);
     EXPECT(gcflip_heap_work(&heap, 1, &work) == GCFLIP_DONE);
     EXPECT(work.steps == 1 && work.copied == 0 && work.last == GCFLIP_BEGUN);
     EXPECT(gcflip_heap_work(&heap, 2, &work) == GCFLIP_DONE);
@@ -156,9 +146,32 @@ static void useful_steps(void)
     EXPECT(gcflip_heap_work(&heap, UINT32_MAX, &work) == GCFLIP_DONE);
     EXPECT(work.steps == 5 && work.copied == 3 && work.last == GCFLIP_FLIPPED && work.pairs == 1);
     /* no room for the object */
-    REPLIES(gcflip_heap_begin_sized(&heap, 3), GCFLIP_BEGUN);
+    REPLIES(gcflip_heap_step_begin_sized(&heap, 3), GCFLIP_BEGUN);
     EXPECT(gcflip_heap_work(&heap, 1000, &work) == GCFLIP_DONE);
     EXPECT(work.steps == 1 && work.copied == 0 && work.last == GCFLIP_NO_ROOM);
+    close_heap();
+}
+
+/* Tests work whose begin takes another size, on a heap with one object of three words. An open collection keeps its size. */
+static void sized_work(void)
+{
+    open_heap(32, 1);
+    REPLIES(gcflip_heap_new_object(&heap, 0, 0, KIND, 1), GCFLIP_MADE);
+    work.steps = 77;
+    EXPECT(gcflip_heap_work_sized(&heap, 0, 8, &work) == GCFLIP_OUT_OF_RANGE);
+    EXPECT(gcflip_heap_work_sized(&heap, 5, 0, &work) == GCFLIP_OUT_OF_RANGE && work.steps == 77);
+    REPLIES(gcflip_heap_step_give_up(&heap), GCFLIP_IDLE);
+    EXPECT(gcflip_heap_work_sized(&heap, 1, 4, &work) == GCFLIP_DONE && work.steps == 1 && work.last == GCFLIP_BEGUN);
+    EXPECT(gcflip_heap_counts(&heap, &counts) == GCFLIP_DONE && counts.is_open == 1 && counts.new_size == 4);
+    EXPECT(gcflip_heap_work_sized(&heap, 1000, 40, &work) == GCFLIP_DONE);
+    EXPECT(work.steps == 4 && work.copied == 3 && work.last == GCFLIP_FLIPPED && work.pairs == 1);
+    EXPECT(gcflip_heap_counts(&heap, &counts) == GCFLIP_DONE && counts.size == 4 && counts.free == 0);
+    /* a whole collection in one call; after the flip no second one begins */
+    EXPECT(gcflip_heap_work_sized(&heap, UINT32_MAX, 40, &work) == GCFLIP_DONE);
+    EXPECT(work.steps == 5 && work.copied == 3 && work.last == GCFLIP_FLIPPED && work.pairs == 1);
+    EXPECT(gcflip_heap_counts(&heap, &counts) == GCFLIP_DONE && counts.size == 40 && counts.is_open == 0);
+    EXPECT(gcflip_heap_work_sized(&heap, 1000, 3, &work) == GCFLIP_DONE);
+    EXPECT(work.steps == 2 && work.copied == 0 && work.last == GCFLIP_NO_ROOM);
     close_heap();
 }
 
@@ -166,7 +179,8 @@ static bool are_counts(uint32_t size, uint32_t end, uint32_t is_open, uint32_t n
 {
     EXPECT(gcflip_heap_counts(&heap, &counts) == GCFLIP_DONE);
     return counts.size == size && counts.end == end && counts.free == size - end && counts.mutators == 2 && counts.is_open == is_open &&
-           counts.new_size == new_size && counts.new_end == new_end && counts.scan_place == place && counts.scan_field == field;
+           counts.extra_roots == 0 && counts.new_size == new_size && counts.new_end == new_end && counts.scan_place == place &&
+           counts.scan_field == field;
 }
 
 /* Garbage of two words at 1, and an object with one field at 3, whose replica is at 1. */
@@ -175,24 +189,28 @@ static void readings(void)
     static const uint64_t old_words[] = {0, 16777216, 0, 17235969, 1, 9}, replica[] = {0, 17235969, 3, 9};
     open_heap(32, 2);
     EXPECT(are_counts(32, 1, 0, 0, 0, 0, 0));
-    REPLIES(gcflip_heap_new(&heap, 0, G0, 0, 0), GCFLIP_MADE);
-    REPLIES(gcflip_heap_new(&heap, 0, G0, KIND, 1), GCFLIP_MADE);
-    REPLIES(gcflip_heap_num(&heap, 1, 2, 4), GCFLIP_DONE);
+    REPLIES(gcflip_heap_new_object(&heap, 0, G0, 0, 0), GCFLIP_MADE);
+    REPLIES(gcflip_heap_new_object(&heap, 0, G0, KIND, 1), GCFLIP_MADE);
+    REPLIES(gcflip_heap_set_number(&heap, 1, 2, 4), GCFLIP_DONE);
     REPLIES(gcflip_heap_put(&heap, 1, G0, 0, 2), GCFLIP_DONE);
     EXPECT(gcflip_heap_log_length(&heap, 1, &length) == GCFLIP_DONE && length == 0);
-    EXPECT(gcflip_heap_log_entry(&heap, 1, 0, &entry) == GCFLIP_HEAP_OUT_OF_RANGE);
-    EXPECT(gcflip_heap_new_words(&heap, words, 1) == GCFLIP_HEAP_OUT_OF_RANGE);
-    REPLIES(gcflip_heap_begin_sized(&heap, 40), GCFLIP_BEGUN);
-    EXPECT(are_counts(32, 6, 1, 40, 1, 1, 0));
-    REPLIES(gcflip_heap_roots(&heap), GCFLIP_COPIED);
-    REPLIES(gcflip_heap_scan(&heap), GCFLIP_SCANNED);
+    EXPECT(gcflip_heap_log_entry(&heap, 1, 0, &entry) == GCFLIP_OUT_OF_RANGE);
+    EXPECT(gcflip_heap_new_words(&heap, words, 1) == GCFLIP_OUT_OF_RANGE);
+    REPLIES(gcflip_heap_step_begin_sized(&heap, 40), GCFLIP_BEGUN);
+    EXPECT(are_counts(32, 6, 1, 40, 1, 1, 0) && counts.logged == 0);
+    REPLIES(gcflip_heap_step_roots(&heap), GCFLIP_COPIED);
+    REPLIES(gcflip_heap_step_scan(&heap), GCFLIP_SCANNED);
     EXPECT(are_counts(32, 6, 1, 40, 4, 1, 1));
     REPLIES(gcflip_heap_put(&heap, 1, G0, 0, 2), GCFLIP_DONE);
     EXPECT(gcflip_heap_log_length(&heap, 0, &length) == GCFLIP_DONE && length == 0);
     EXPECT(gcflip_heap_log_length(&heap, 1, &length) == GCFLIP_DONE && length == 1);
     EXPECT(gcflip_heap_log_entry(&heap, 1, 0, &entry) == GCFLIP_DONE && entry.object == 3 && entry.field == 0);
-    EXPECT(gcflip_heap_log_entry(&heap, 1, 1, &entry) == GCFLIP_HEAP_OUT_OF_RANGE);
-    EXPECT(gcflip_heap_log_entry(&heap, 0, 0, &entry) == GCFLIP_HEAP_OUT_OF_RANGE);
+    EXPECT(gcflip_heap_log_entry(&heap, 1, 1, &entry) == GCFLIP_OUT_OF_RANGE);
+    EXPECT(gcflip_heap_log_entry(&heap, 0, 0, &entry) == GCFLIP_OUT_OF_RANGE);
+    EXPECT(gcflip_heap_counts(&heap, &counts) == GCFLIP_DONE && counts.logged == 1);
+    REPLIES(gcflip_heap_put(&heap, 0, G0, 0, 2), GCFLIP_DONE);
+    REPLIES(gcflip_heap_put(&heap, 1, G0, 0, 2), GCFLIP_DONE);
+    EXPECT(gcflip_heap_counts(&heap, &counts) == GCFLIP_DONE && counts.logged == 3); /* one of mutator 0, and two of mutator 1 */
     EXPECT(gcflip_heap_root_count(2) == 48);
     EXPECT(gcflip_heap_image(&heap, words, 6, roots, 48) == GCFLIP_DONE);
     EXPECT(memcmp(words, old_words, sizeof old_words) == 0);
@@ -200,9 +218,9 @@ static void readings(void)
     EXPECT(gcflip_heap_new_words(&heap, words, 4) == GCFLIP_DONE);
     EXPECT(memcmp(words, replica, sizeof replica) == 0);
     memset(words, 255, sizeof words);
-    EXPECT(gcflip_heap_image(&heap, words, 5, roots, 48) == GCFLIP_HEAP_OUT_OF_RANGE);
-    EXPECT(gcflip_heap_image(&heap, words, 6, roots, 47) == GCFLIP_HEAP_OUT_OF_RANGE);
-    EXPECT(gcflip_heap_new_words(&heap, words, 5) == GCFLIP_HEAP_OUT_OF_RANGE);
+    EXPECT(gcflip_heap_image(&heap, words, 5, roots, 48) == GCFLIP_OUT_OF_RANGE);
+    EXPECT(gcflip_heap_image(&heap, words, 6, roots, 47) == GCFLIP_OUT_OF_RANGE);
+    EXPECT(gcflip_heap_new_words(&heap, words, 5) == GCFLIP_OUT_OF_RANGE);
     EXPECT(words[0] == UINT64_MAX);
     close_heap();
 }
@@ -214,8 +232,8 @@ static void copied_images_are_certified(void)
     const gcflip_pair pair = {3, 1};
     gcflip_verdict verdict;
     open_heap(16, 1);
-    REPLIES(gcflip_heap_new(&heap, 0, 0, 0, 0), GCFLIP_MADE);
-    REPLIES(gcflip_heap_raw(&heap, 0, 0, KIND, 1), GCFLIP_MADE);
+    REPLIES(gcflip_heap_new_object(&heap, 0, 0, 0, 0), GCFLIP_MADE);
+    REPLIES(gcflip_heap_new_raw(&heap, 0, 0, KIND, 1), GCFLIP_MADE);
     EXPECT(gcflip_heap_work(&heap, 3, &work) == GCFLIP_DONE && work.last == GCFLIP_PASSED);
     EXPECT(gcflip_heap_image(&heap, words, 6, roots, 32) == GCFLIP_DONE);
     EXPECT(gcflip_heap_new_words(&heap, new_words, 4) == GCFLIP_DONE);
@@ -229,52 +247,52 @@ static void copied_images_are_certified(void)
 static void out_of_range(void)
 {
     const gcflip_view before = {77, 77, 77};
-    EXPECT(gcflip_heap_open(&heap, 0, 1) == GCFLIP_HEAP_OUT_OF_RANGE);
-    EXPECT(gcflip_heap_open(&heap, 8, 0) == GCFLIP_HEAP_OUT_OF_RANGE);
-    EXPECT(gcflip_heap_open(&heap, 8, 17) == GCFLIP_HEAP_OUT_OF_RANGE && heap.at == NULL);
+    EXPECT(open_plain_heap(&heap, 0, 1) == GCFLIP_OUT_OF_RANGE);
+    EXPECT(open_plain_heap(&heap, 8, 0) == GCFLIP_OUT_OF_RANGE);
+    EXPECT(open_plain_heap(&heap, 8, 17) == GCFLIP_OUT_OF_RANGE && heap.at == NULL);
     open_heap(1048576, 16);
     close_heap();
     open_heap(1, 1);
     close_heap();
     open_heap(8, 2);
-    EXPECT(gcflip_heap_open(&heap, 8, 2) == GCFLIP_HEAP_OPEN);
+    EXPECT(open_plain_heap(&heap, 8, 2) == GCFLIP_OPEN);
     view = before;
     number = pairs = 77;
-    EXPECT(gcflip_heap_new(&heap, 2, 0, 0, 0) == GCFLIP_HEAP_OUT_OF_RANGE);
-    EXPECT(gcflip_heap_new(&heap, 0, 32, 0, 0) == GCFLIP_HEAP_OUT_OF_RANGE);
-    EXPECT(gcflip_heap_raw(&heap, 255, 0, 0, 0) == GCFLIP_HEAP_OUT_OF_RANGE);
-    EXPECT(gcflip_heap_raw(&heap, 0, 255, 0, 0) == GCFLIP_HEAP_OUT_OF_RANGE);
-    EXPECT(gcflip_heap_num(&heap, 0, 32, 0) == GCFLIP_HEAP_OUT_OF_RANGE);
-    EXPECT(gcflip_heap_num(&heap, 0, 0, 9223372036854775808u) == GCFLIP_HEAP_OUT_OF_RANGE);
-    EXPECT(gcflip_heap_nil(&heap, 0, 32) == GCFLIP_HEAP_OUT_OF_RANGE);
-    EXPECT(gcflip_heap_move(&heap, 0, 32, 0) == GCFLIP_HEAP_OUT_OF_RANGE);
-    EXPECT(gcflip_heap_move(&heap, 0, 0, 32) == GCFLIP_HEAP_OUT_OF_RANGE);
-    EXPECT(gcflip_heap_get(&heap, 0, 32, 0, 0, &number) == GCFLIP_HEAP_OUT_OF_RANGE);
-    EXPECT(gcflip_heap_get(&heap, 0, 0, 32, 0, &number) == GCFLIP_HEAP_OUT_OF_RANGE);
-    EXPECT(gcflip_heap_put(&heap, 0, 32, 0, 0) == GCFLIP_HEAP_OUT_OF_RANGE);
-    EXPECT(gcflip_heap_put(&heap, 0, 0, 0, 32) == GCFLIP_HEAP_OUT_OF_RANGE);
-    EXPECT(gcflip_heap_cons(&heap, 0, 32, 0, 0, 0) == GCFLIP_HEAP_OUT_OF_RANGE);
-    EXPECT(gcflip_heap_cons(&heap, 0, 0, 0, 32, 0) == GCFLIP_HEAP_OUT_OF_RANGE);
-    EXPECT(gcflip_heap_cons(&heap, 0, 0, 0, 0, 32) == GCFLIP_HEAP_OUT_OF_RANGE);
-    EXPECT(gcflip_heap_cons(&heap, 2, 0, 0, 0, 0) == GCFLIP_HEAP_OUT_OF_RANGE);
-    EXPECT(gcflip_heap_new_from(&heap, 0, 32, 0, slots, 1) == GCFLIP_HEAP_OUT_OF_RANGE);
-    EXPECT(gcflip_heap_new_from(&heap, 2, 0, 0, slots, 1) == GCFLIP_HEAP_OUT_OF_RANGE);
-    EXPECT(gcflip_heap_new_from(&heap, 0, 0, 0, slots, 65536) == GCFLIP_HEAP_OUT_OF_RANGE);
+    EXPECT(gcflip_heap_new_object(&heap, 2, 0, 0, 0) == GCFLIP_OUT_OF_RANGE);
+    EXPECT(gcflip_heap_new_object(&heap, 0, 32, 0, 0) == GCFLIP_OUT_OF_RANGE);
+    EXPECT(gcflip_heap_new_raw(&heap, 255, 0, 0, 0) == GCFLIP_OUT_OF_RANGE);
+    EXPECT(gcflip_heap_new_raw(&heap, 0, 255, 0, 0) == GCFLIP_OUT_OF_RANGE);
+    EXPECT(gcflip_heap_set_number(&heap, 0, 32, 0) == GCFLIP_OUT_OF_RANGE);
+    EXPECT(gcflip_heap_set_number(&heap, 0, 0, 9223372036854775808u) == GCFLIP_OUT_OF_RANGE);
+    EXPECT(gcflip_heap_set_nil(&heap, 0, 32) == GCFLIP_OUT_OF_RANGE);
+    EXPECT(gcflip_heap_move(&heap, 0, 32, 0) == GCFLIP_OUT_OF_RANGE);
+    EXPECT(gcflip_heap_move(&heap, 0, 0, 32) == GCFLIP_OUT_OF_RANGE);
+    EXPECT(gcflip_heap_get(&heap, 0, 32, 0, 0, &number) == GCFLIP_OUT_OF_RANGE);
+    EXPECT(gcflip_heap_get(&heap, 0, 0, 32, 0, &number) == GCFLIP_OUT_OF_RANGE);
+    EXPECT(gcflip_heap_put(&heap, 0, 32, 0, 0) == GCFLIP_OUT_OF_RANGE);
+    EXPECT(gcflip_heap_put(&heap, 0, 0, 0, 32) == GCFLIP_OUT_OF_RANGE);
+    EXPECT(gcflip_heap_new_pair(&heap, 0, 32, 0, 0, 0) == GCFLIP_OUT_OF_RANGE);
+    EXPECT(gcflip_heap_new_pair(&heap, 0, 0, 0, 32, 0) == GCFLIP_OUT_OF_RANGE);
+    EXPECT(gcflip_heap_new_pair(&heap, 0, 0, 0, 0, 32) == GCFLIP_OUT_OF_RANGE);
+    EXPECT(gcflip_heap_new_pair(&heap, 2, 0, 0, 0, 0) == GCFLIP_OUT_OF_RANGE);
+    EXPECT(gcflip_heap_new_from(&heap, 0, 32, 0, slots, 1) == GCFLIP_OUT_OF_RANGE);
+    EXPECT(gcflip_heap_new_from(&heap, 2, 0, 0, slots, 1) == GCFLIP_OUT_OF_RANGE);
+    EXPECT(gcflip_heap_new_from(&heap, 0, 0, 0, slots, 65536) == GCFLIP_OUT_OF_RANGE);
     slots[65534] = 32;
-    EXPECT(gcflip_heap_new_from(&heap, 0, 0, 0, slots, 65535) == GCFLIP_HEAP_OUT_OF_RANGE);
+    EXPECT(gcflip_heap_new_from(&heap, 0, 0, 0, slots, 65535) == GCFLIP_OUT_OF_RANGE);
     REPLIES(gcflip_heap_new_from(&heap, 0, 0, 0, slots, 65534), GCFLIP_FULL);
-    EXPECT(gcflip_heap_put_number(&heap, 0, 32, 0, 0, 0) == GCFLIP_HEAP_OUT_OF_RANGE);
-    EXPECT(gcflip_heap_put_number(&heap, 0, 0, 0, 32, 0) == GCFLIP_HEAP_OUT_OF_RANGE);
-    EXPECT(gcflip_heap_put_number(&heap, 0, 0, 0, 0, 9223372036854775808u) == GCFLIP_HEAP_OUT_OF_RANGE);
-    EXPECT(gcflip_heap_same(&heap, 0, 32, 0) == GCFLIP_HEAP_OUT_OF_RANGE);
-    EXPECT(gcflip_heap_same(&heap, 0, 0, 32) == GCFLIP_HEAP_OUT_OF_RANGE);
-    EXPECT(gcflip_heap_look(&heap, 0, 32, &view) == GCFLIP_HEAP_OUT_OF_RANGE);
-    EXPECT(gcflip_heap_look(&heap, 2, 0, &view) == GCFLIP_HEAP_OUT_OF_RANGE);
-    EXPECT(gcflip_heap_begin_sized(&heap, 0) == GCFLIP_HEAP_OUT_OF_RANGE);
-    EXPECT(gcflip_heap_apply(&heap, 2) == GCFLIP_HEAP_OUT_OF_RANGE);
-    EXPECT(gcflip_heap_work(&heap, 0, &work) == GCFLIP_HEAP_OUT_OF_RANGE);
-    EXPECT(gcflip_heap_log_length(&heap, 2, &length) == GCFLIP_HEAP_OUT_OF_RANGE);
-    EXPECT(gcflip_heap_log_entry(&heap, 2, 0, &entry) == GCFLIP_HEAP_OUT_OF_RANGE);
+    EXPECT(gcflip_heap_put_number(&heap, 0, 32, 0, 0, 0) == GCFLIP_OUT_OF_RANGE);
+    EXPECT(gcflip_heap_put_number(&heap, 0, 0, 0, 32, 0) == GCFLIP_OUT_OF_RANGE);
+    EXPECT(gcflip_heap_put_number(&heap, 0, 0, 0, 0, 9223372036854775808u) == GCFLIP_OUT_OF_RANGE);
+    EXPECT(gcflip_heap_same(&heap, 0, 32, 0) == GCFLIP_OUT_OF_RANGE);
+    EXPECT(gcflip_heap_same(&heap, 0, 0, 32) == GCFLIP_OUT_OF_RANGE);
+    EXPECT(gcflip_heap_look(&heap, 0, 32, &view) == GCFLIP_OUT_OF_RANGE);
+    EXPECT(gcflip_heap_look(&heap, 2, 0, &view) == GCFLIP_OUT_OF_RANGE);
+    EXPECT(gcflip_heap_step_begin_sized(&heap, 0) == GCFLIP_OUT_OF_RANGE);
+    EXPECT(gcflip_heap_step_apply(&heap, 2) == GCFLIP_OUT_OF_RANGE);
+    EXPECT(gcflip_heap_work(&heap, 0, &work) == GCFLIP_OUT_OF_RANGE);
+    EXPECT(gcflip_heap_log_length(&heap, 2, &length) == GCFLIP_OUT_OF_RANGE);
+    EXPECT(gcflip_heap_log_entry(&heap, 2, 0, &entry) == GCFLIP_OUT_OF_RANGE);
     EXPECT(memcmp(&view, &before, sizeof view) == 0 && number == 77 && pairs == 77);
     LOOKS(gcflip_heap_look(&heap, 1, 0, &view), GCFLIP_NIL, 0, 0, 0);
     close_heap();
@@ -285,16 +303,16 @@ static void out_of_range(void)
 static void the_most_words(void)
 {
 #ifndef __SANITIZE_ADDRESS__
-    uint32_t answer = gcflip_heap_open(&heap, UINT32_MAX, 1);
-    if (answer == GCFLIP_HEAP_NO_MEMORY) {
+    uint32_t answer = open_plain_heap(&heap, UINT32_MAX, 1);
+    if (answer == GCFLIP_NO_MEMORY) {
         EXPECT(heap.at == NULL);
         open_heap(8, 1);
-        answer = gcflip_heap_begin_sized(&heap, UINT32_MAX);
-        EXPECT(answer == GCFLIP_BEGUN || answer == GCFLIP_HEAP_NO_MEMORY);
+        answer = gcflip_heap_step_begin_sized(&heap, UINT32_MAX);
+        EXPECT(answer == GCFLIP_BEGUN || answer == GCFLIP_NO_MEMORY);
     } else {
         EXPECT(answer == GCFLIP_DONE && gcflip_heap_counts(&heap, &counts) == GCFLIP_DONE);
         EXPECT(counts.size == UINT32_MAX && counts.free == UINT32_MAX - 1 && counts.end == 1);
-        REPLIES(gcflip_heap_new(&heap, 0, 0, KIND, 1), GCFLIP_MADE);
+        REPLIES(gcflip_heap_new_object(&heap, 0, 0, KIND, 1), GCFLIP_MADE);
         GETS(gcflip_heap_get(&heap, 0, 1, 0, 0, &number), GCFLIP_NIL, 77);
     }
     close_heap();
@@ -305,19 +323,19 @@ static void the_most_words(void)
 static void fill(void)
 {
     uint32_t i;
-    REPLIES(gcflip_heap_nil(&heap, 0, 0), GCFLIP_DONE);
+    REPLIES(gcflip_heap_set_nil(&heap, 0, 0), GCFLIP_DONE);
     for (i = 1; i <= 24; i++) {
-        REPLIES(gcflip_heap_raw(&heap, 0, 1, KIND, 65535), GCFLIP_MADE);
+        REPLIES(gcflip_heap_new_raw(&heap, 0, 1, KIND, 65535), GCFLIP_MADE);
         REPLIES(gcflip_heap_put_number(&heap, 0, 1, 65534, 2, i), GCFLIP_DONE);
-        REPLIES(gcflip_heap_cons(&heap, 0, 5, KIND, 1, 0), GCFLIP_MADE);
+        REPLIES(gcflip_heap_new_pair(&heap, 0, 5, KIND, 1, 0), GCFLIP_MADE);
         REPLIES(gcflip_heap_move(&heap, 0, 0, 5), GCFLIP_DONE);
     }
     for (i = 1; i <= 3; i++) {
-        REPLIES(gcflip_heap_num(&heap, 0, 2, i), GCFLIP_DONE);
-        REPLIES(gcflip_heap_cons(&heap, 0, 5, KIND, 2, 0), GCFLIP_MADE);
+        REPLIES(gcflip_heap_set_number(&heap, 0, 2, i), GCFLIP_DONE);
+        REPLIES(gcflip_heap_new_pair(&heap, 0, 5, KIND, 2, 0), GCFLIP_MADE);
         REPLIES(gcflip_heap_move(&heap, 0, 0, 5), GCFLIP_DONE);
     }
-    REPLIES(gcflip_heap_nil(&heap, 0, 1), GCFLIP_DONE);
+    REPLIES(gcflip_heap_set_nil(&heap, 0, 1), GCFLIP_DONE);
 }
 
 /* Reads that list, from its head to its end. */
@@ -342,13 +360,13 @@ static void behind_the_words_of_a_text(void)
     static const uint32_t sizes[] = {2097152, 1600000};
     uint32_t i, end = 1 + 24 * (65537 + 4) + 3 * 4;
     open_heap(1048577, 1);
-    REPLIES(gcflip_heap_begin_sized(&heap, 2097152), GCFLIP_BEGUN);
+    REPLIES(gcflip_heap_step_begin_sized(&heap, 2097152), GCFLIP_BEGUN);
     EXPECT(gcflip_heap_work(&heap, UINT32_MAX, &work) == GCFLIP_DONE && work.last == GCFLIP_FLIPPED && work.pairs == 0);
     fill();
     EXPECT(gcflip_heap_counts(&heap, &counts) == GCFLIP_DONE && counts.size == 2097152 && counts.end == end);
     for (i = 0; i < 2; i++) {
         expect_list();
-        REPLIES(gcflip_heap_begin_sized(&heap, sizes[i]), GCFLIP_BEGUN);
+        REPLIES(gcflip_heap_step_begin_sized(&heap, sizes[i]), GCFLIP_BEGUN);
         EXPECT(gcflip_heap_work(&heap, UINT32_MAX, &work) == GCFLIP_DONE && work.last == GCFLIP_FLIPPED && work.pairs == 51);
         EXPECT(gcflip_heap_counts(&heap, &counts) == GCFLIP_DONE && counts.size == sizes[i] && counts.end == end);
     }
@@ -362,33 +380,35 @@ static void closed(void)
     const gcflip_view before = {77, 77, 77};
     view = before;
     number = pairs = 77;
-    EXPECT(gcflip_heap_close(&heap) == GCFLIP_HEAP_CLOSED);
-    EXPECT(gcflip_heap_new(&heap, 0, 0, 0, 0) == GCFLIP_HEAP_CLOSED);
-    EXPECT(gcflip_heap_new(&heap, 0, 32, 0, 0) == GCFLIP_HEAP_CLOSED);
-    EXPECT(gcflip_heap_raw(&heap, 0, 0, 0, 0) == GCFLIP_HEAP_CLOSED);
-    EXPECT(gcflip_heap_num(&heap, 0, 0, 0) == GCFLIP_HEAP_CLOSED);
-    EXPECT(gcflip_heap_nil(&heap, 0, 0) == GCFLIP_HEAP_CLOSED);
-    EXPECT(gcflip_heap_move(&heap, 0, 0, 0) == GCFLIP_HEAP_CLOSED);
-    EXPECT(gcflip_heap_get(&heap, 0, 0, 0, 0, &number) == GCFLIP_HEAP_CLOSED);
-    EXPECT(gcflip_heap_put(&heap, 0, 0, 0, 0) == GCFLIP_HEAP_CLOSED);
-    EXPECT(gcflip_heap_cons(&heap, 0, 0, 0, 0, 0) == GCFLIP_HEAP_CLOSED);
-    EXPECT(gcflip_heap_new_from(&heap, 0, 0, 0, slots, 1) == GCFLIP_HEAP_CLOSED);
-    EXPECT(gcflip_heap_put_number(&heap, 0, 0, 0, 0, 0) == GCFLIP_HEAP_CLOSED);
-    EXPECT(gcflip_heap_same(&heap, 0, 0, 0) == GCFLIP_HEAP_CLOSED);
-    EXPECT(gcflip_heap_look(&heap, 0, 0, &view) == GCFLIP_HEAP_CLOSED);
-    EXPECT(gcflip_heap_begin(&heap) == GCFLIP_HEAP_CLOSED);
-    EXPECT(gcflip_heap_begin_sized(&heap, 8) == GCFLIP_HEAP_CLOSED);
-    EXPECT(gcflip_heap_roots(&heap) == GCFLIP_HEAP_CLOSED);
-    EXPECT(gcflip_heap_scan(&heap) == GCFLIP_HEAP_CLOSED);
-    EXPECT(gcflip_heap_apply(&heap, 0) == GCFLIP_HEAP_CLOSED);
-    EXPECT(gcflip_heap_flip(&heap, &pairs) == GCFLIP_HEAP_CLOSED);
-    EXPECT(gcflip_heap_drop(&heap) == GCFLIP_HEAP_CLOSED);
-    EXPECT(gcflip_heap_work(&heap, 1, &work) == GCFLIP_HEAP_CLOSED);
-    EXPECT(gcflip_heap_counts(&heap, &counts) == GCFLIP_HEAP_CLOSED);
-    EXPECT(gcflip_heap_log_length(&heap, 0, &length) == GCFLIP_HEAP_CLOSED);
-    EXPECT(gcflip_heap_log_entry(&heap, 0, 0, &entry) == GCFLIP_HEAP_CLOSED);
-    EXPECT(gcflip_heap_image(&heap, words, 1, roots, 32) == GCFLIP_HEAP_CLOSED);
-    EXPECT(gcflip_heap_new_words(&heap, words, 1) == GCFLIP_HEAP_CLOSED);
+    EXPECT(gcflip_heap_close(&heap) == GCFLIP_CLOSED);
+    EXPECT(gcflip_heap_new_object(&heap, 0, 0, 0, 0) == GCFLIP_CLOSED);
+    EXPECT(gcflip_heap_new_object(&heap, 0, 32, 0, 0) == GCFLIP_CLOSED);
+    EXPECT(gcflip_heap_new_raw(&heap, 0, 0, 0, 0) == GCFLIP_CLOSED);
+    EXPECT(gcflip_heap_set_number(&heap, 0, 0, 0) == GCFLIP_CLOSED);
+    EXPECT(gcflip_heap_set_nil(&heap, 0, 0) == GCFLIP_CLOSED);
+    EXPECT(gcflip_heap_move(&heap, 0, 0, 0) == GCFLIP_CLOSED);
+    EXPECT(gcflip_heap_get(&heap, 0, 0, 0, 0, &number) == GCFLIP_CLOSED);
+    EXPECT(gcflip_heap_put(&heap, 0, 0, 0, 0) == GCFLIP_CLOSED);
+    EXPECT(gcflip_heap_new_pair(&heap, 0, 0, 0, 0, 0) == GCFLIP_CLOSED);
+    EXPECT(gcflip_heap_new_from(&heap, 0, 0, 0, slots, 1) == GCFLIP_CLOSED);
+    EXPECT(gcflip_heap_put_number(&heap, 0, 0, 0, 0, 0) == GCFLIP_CLOSED);
+    EXPECT(gcflip_heap_same(&heap, 0, 0, 0) == GCFLIP_CLOSED);
+    EXPECT(gcflip_heap_look(&heap, 0, 0, &view) == GCFLIP_CLOSED);
+    EXPECT(gcflip_heap_step_begin(&heap) == GCFLIP_CLOSED);
+    EXPECT(gcflip_heap_step_begin_sized(&heap, 8) == GCFLIP_CLOSED);
+    EXPECT(gcflip_heap_step_roots(&heap) == GCFLIP_CLOSED);
+    EXPECT(gcflip_heap_step_scan(&heap) == GCFLIP_CLOSED);
+    EXPECT(gcflip_heap_step_apply(&heap, 0) == GCFLIP_CLOSED);
+    EXPECT(gcflip_heap_step_flip(&heap, &pairs) == GCFLIP_CLOSED);
+    EXPECT(gcflip_heap_step_give_up(&heap) == GCFLIP_CLOSED);
+    EXPECT(gcflip_heap_work(&heap, 1, &work) == GCFLIP_CLOSED);
+    EXPECT(gcflip_heap_work_sized(&heap, 1, 8, &work) == GCFLIP_CLOSED);
+    EXPECT(gcflip_heap_work_sized(&heap, 0, 0, &work) == GCFLIP_CLOSED);
+    EXPECT(gcflip_heap_counts(&heap, &counts) == GCFLIP_CLOSED);
+    EXPECT(gcflip_heap_log_length(&heap, 0, &length) == GCFLIP_CLOSED);
+    EXPECT(gcflip_heap_log_entry(&heap, 0, 0, &entry) == GCFLIP_CLOSED);
+    EXPECT(gcflip_heap_image(&heap, words, 1, roots, 32) == GCFLIP_CLOSED);
+    EXPECT(gcflip_heap_new_words(&heap, words, 1) == GCFLIP_CLOSED);
     EXPECT(memcmp(&view, &before, sizeof view) == 0 && number == 77 && pairs == 77);
 }
 
@@ -397,9 +417,9 @@ static void two_heaps(void)
 {
     gcflip_heap other = GCFLIP_NO_HEAP, moved;
     open_heap(8, 1);
-    EXPECT(gcflip_heap_open(&other, 8, 1) == GCFLIP_DONE);
-    REPLIES(gcflip_heap_num(&heap, 0, 0, 1), GCFLIP_DONE);
-    REPLIES(gcflip_heap_num(&other, 0, 0, 2), GCFLIP_DONE);
+    EXPECT(open_plain_heap(&other, 8, 1) == GCFLIP_DONE);
+    REPLIES(gcflip_heap_set_number(&heap, 0, 0, 1), GCFLIP_DONE);
+    REPLIES(gcflip_heap_set_number(&other, 0, 0, 2), GCFLIP_DONE);
     memcpy(&moved, &other, sizeof moved);
     LOOKS(gcflip_heap_look(&heap, 0, 0, &view), GCFLIP_NUMBER, 0, 0, 1);
     LOOKS(gcflip_heap_look(&moved, 0, 0, &view), GCFLIP_NUMBER, 0, 0, 2);
@@ -413,6 +433,7 @@ int main(void)
     commands();
     steps();
     useful_steps();
+    sized_work();
     readings();
     copied_images_are_certified();
     out_of_range();

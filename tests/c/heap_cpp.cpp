@@ -2,6 +2,7 @@
 #include "expect.h"
 #include "gcflip_heap.h"
 #include "gcflip_record.h"
+#include "open_heap.h"
 
 FILE *gcflip_trace;
 
@@ -9,7 +10,7 @@ namespace {
 
 class Heap {
 public:
-    Heap(uint32_t size, uint8_t mutators) { EXPECT(gcflip_heap_open(&handle, size, mutators) == GCFLIP_DONE); }
+    Heap(uint32_t size, uint8_t mutators) { EXPECT(open_plain_heap(&handle, size, mutators) == GCFLIP_DONE); }
     ~Heap() { EXPECT(gcflip_heap_close(&handle) == GCFLIP_DONE); }
     Heap(const Heap &) = delete;
     Heap &operator=(const Heap &) = delete;
@@ -25,7 +26,7 @@ int main()
         Heap heap(32, 1);
         gcflip_view view = {};
         gcflip_work work = {};
-        EXPECT(gcflip_heap_new(&heap.handle, 0, 0, 1, 1) == GCFLIP_MADE);
+        EXPECT(gcflip_heap_new_object(&heap.handle, 0, 0, 1, 1) == GCFLIP_MADE);
         EXPECT(gcflip_heap_work(&heap.handle, 100, &work) == GCFLIP_DONE && work.last == GCFLIP_FLIPPED);
         EXPECT(gcflip_heap_look(&heap.handle, 0, 0, &view) == GCFLIP_OBJECT && view.kind == 1 && view.count == 1);
     }
@@ -42,8 +43,8 @@ int main()
     gcflip_work work = {};
     gcflip_counts counts = {};
     for (int i = 0; i < 17; i++)
-        EXPECT(gcflip_heap_raw(&large.handle, 0, 0, 1, 65535) == GCFLIP_MADE);
-    EXPECT(gcflip_heap_new(&large.handle, 0, 1, 1, 1) == GCFLIP_MADE);
+        EXPECT(gcflip_heap_new_raw(&large.handle, 0, 0, 1, 65535) == GCFLIP_MADE);
+    EXPECT(gcflip_heap_new_object(&large.handle, 0, 1, 1, 1) == GCFLIP_MADE);
     EXPECT(gcflip_heap_work(&large.handle, UINT32_MAX, &work) == GCFLIP_DONE && work.last == GCFLIP_FLIPPED && work.pairs == 2);
     EXPECT(gcflip_heap_counts(&large.handle, &counts) == GCFLIP_DONE && counts.end == 1 + 65537 + 3);
     return 0;

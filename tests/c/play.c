@@ -10,6 +10,7 @@ static uint32_t look_unrecorded(gcflip_heap *heap, uint8_t m, uint8_t s, gcflip_
 }
 
 #include "gcflip_record.h"
+#include "open_heap.h"
 #include <string.h>
 
 FILE *gcflip_trace;
@@ -72,13 +73,13 @@ static unsigned long long number(const char *word)
 static uint32_t command(uint8_t m, const char *name, char *const word[])
 {
     if (strcmp(name, "new") == 0)
-        return gcflip_heap_new(&heap, m, slot(word[0]), (uint8_t)number(word[1]), (uint16_t)number(word[2]));
+        return gcflip_heap_new_object(&heap, m, slot(word[0]), (uint8_t)number(word[1]), (uint16_t)number(word[2]));
     if (strcmp(name, "raw") == 0)
-        return gcflip_heap_raw(&heap, m, slot(word[0]), (uint8_t)number(word[1]), (uint16_t)number(word[2]));
+        return gcflip_heap_new_raw(&heap, m, slot(word[0]), (uint8_t)number(word[1]), (uint16_t)number(word[2]));
     if (strcmp(name, "num") == 0)
-        return gcflip_heap_num(&heap, m, slot(word[0]), number(word[1]));
+        return gcflip_heap_set_number(&heap, m, slot(word[0]), number(word[1]));
     if (strcmp(name, "nil") == 0)
-        return gcflip_heap_nil(&heap, m, slot(word[0]));
+        return gcflip_heap_set_nil(&heap, m, slot(word[0]));
     if (strcmp(name, "move") == 0)
         return gcflip_heap_move(&heap, m, slot(word[0]), slot(word[1]));
     if (strcmp(name, "get") == 0)
@@ -94,17 +95,17 @@ static uint32_t command(uint8_t m, const char *name, char *const word[])
 static uint32_t step(const char *name, char *const word[])
 {
     if (strcmp(name, "begin") == 0)
-        return word[0] ? gcflip_heap_begin_sized(&heap, (uint32_t)number(word[0])) : gcflip_heap_begin(&heap);
+        return word[0] ? gcflip_heap_step_begin_sized(&heap, (uint32_t)number(word[0])) : gcflip_heap_step_begin(&heap);
     if (strcmp(name, "roots") == 0)
-        return gcflip_heap_roots(&heap);
+        return gcflip_heap_step_roots(&heap);
     if (strcmp(name, "scan") == 0)
-        return gcflip_heap_scan(&heap);
+        return gcflip_heap_step_scan(&heap);
     if (strcmp(name, "apply") == 0)
-        return gcflip_heap_apply(&heap, (uint8_t)number(word[0]));
+        return gcflip_heap_step_apply(&heap, (uint8_t)number(word[0]));
     if (strcmp(name, "flip") == 0)
-        return gcflip_heap_flip(&heap, &pairs);
+        return gcflip_heap_step_flip(&heap, &pairs);
     EXPECT(strcmp(name, "drop") == 0);
-    return gcflip_heap_drop(&heap);
+    return gcflip_heap_step_give_up(&heap);
 }
 
 static void play_line(char *line)
@@ -128,7 +129,7 @@ int main(int count, char **names)
     EXPECT(count >= 2 && trace);
     gcflip_trace = count > 2 ? fopen(names[2], "w") : NULL;
     EXPECT(fscanf(trace, "heaptrace %u\nspace %u mutators %u\n", &version, &size, &mutators) == 3);
-    EXPECT(gcflip_heap_open(&heap, size, (uint8_t)mutators) == GCFLIP_DONE);
+    EXPECT(open_plain_heap(&heap, size, (uint8_t)mutators) == GCFLIP_DONE);
     while (fgets(line, sizeof line, trace))
         play_line(line);
     EXPECT(gcflip_heap_close(&heap) == GCFLIP_DONE);

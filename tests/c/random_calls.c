@@ -9,6 +9,7 @@ FILE *gcflip_trace;
 #include "gcflip_heap.h"
 #endif
 #include "expect.h"
+#include "open_heap.h"
 #include <string.h>
 
 #define MOST 70000
@@ -19,8 +20,8 @@ static gcflip_heap heap = GCFLIP_NO_HEAP;
 static uint64_t a[MOST];
 
 static const char *const replies[] = {
-    [GCFLIP_DONE] = "done", [GCFLIP_HEAP_NO_MEMORY] = "no memory", [GCFLIP_HEAP_OUT_OF_RANGE] = "out of range",
-    [GCFLIP_HEAP_CLOSED] = "closed", [GCFLIP_HEAP_OPEN] = "open", [GCFLIP_MADE] = "made", [GCFLIP_FULL] = "full",
+    [GCFLIP_DONE] = "done", [GCFLIP_NO_MEMORY] = "no memory", [GCFLIP_OUT_OF_RANGE] = "out of range",
+    [GCFLIP_CLOSED] = "closed", [GCFLIP_OPEN] = "open", [GCFLIP_MADE] = "made", [GCFLIP_FULL] = "full",
     [GCFLIP_NO_OBJECT] = "no object", [GCFLIP_NO_FIELD] = "no field", [GCFLIP_NO_NUMBER] = "no number", [GCFLIP_SAME] = "yes",
     [GCFLIP_NOT_SAME] = "no", [GCFLIP_NIL] = "saw nil", [GCFLIP_NUMBER] = "saw num", [GCFLIP_OBJECT] = "saw obj",
     [GCFLIP_RAW_OBJECT] = "saw raw", [GCFLIP_BUSY] = "busy", [GCFLIP_BEGUN] = "begun", [GCFLIP_IDLE] = "idle", [GCFLIP_CLEAN] = "clean",
@@ -66,7 +67,7 @@ static void get(uint8_t m, uint8_t d, uint8_t s, uint16_t i)
 
 static void flip(void)
 {
-    uint32_t pairs = KEPT_32, answer = gcflip_heap_flip(&heap, &pairs);
+    uint32_t pairs = KEPT_32, answer = gcflip_heap_step_flip(&heap, &pairs);
     printf("%s", reply(answer));
     if (answer == GCFLIP_FLIPPED)
         printf(" %u", pairs);
@@ -98,11 +99,12 @@ static void counts(void)
     memset(&c, 0x5a, sizeof c);
     uint32_t answer = gcflip_heap_counts(&heap, &c);
     if (answer != GCFLIP_DONE) {
-        EXPECT(c.size == KEPT_32 && c.scan_field == KEPT_32);
+        EXPECT(c.size == KEPT_32 && c.logged == KEPT_32);
         printf("%s\n", reply(answer));
         return;
     }
-    printf("counts %u %u %u %u %u %u %u %u %u\n", c.size, c.end, c.free, c.mutators, c.is_open, c.new_size, c.new_end, c.scan_place, c.scan_field);
+    printf("counts %u %u %u %u %u %u %u %u %u %u %u\n", c.size, c.end, c.free, c.mutators, c.extra_roots, c.is_open, c.new_size, c.new_end,
+           c.scan_place, c.scan_field, c.logged);
 }
 
 static void print_log(uint8_t m)
@@ -115,7 +117,7 @@ static void print_log(uint8_t m)
         printf("%s\n", reply(answer));
         return;
     }
-    EXPECT(gcflip_heap_log_entry(&heap, m, length, &entry) == GCFLIP_HEAP_OUT_OF_RANGE && entry.object == KEPT_32);
+    EXPECT(gcflip_heap_log_entry(&heap, m, length, &entry) == GCFLIP_OUT_OF_RANGE && entry.object == KEPT_32);
     printf("log %zu", length);
     for (size_t k = 0; k < length; k++) {
         EXPECT(gcflip_heap_log_entry(&heap, m, k, &entry) == GCFLIP_DONE);
@@ -141,8 +143,8 @@ static void image(size_t count, size_t others)
     gcflip_counts c;
     EXPECT(words && roots && gcflip_heap_counts(&heap, &c) == GCFLIP_DONE);
     EXPECT(c.end == count && gcflip_heap_root_count((uint8_t)c.mutators) == others);
-    EXPECT(gcflip_heap_image(&heap, words, count + 1, roots, others) == GCFLIP_HEAP_OUT_OF_RANGE);
-    EXPECT(gcflip_heap_image(&heap, words, count, roots, others - 1) == GCFLIP_HEAP_OUT_OF_RANGE);
+    EXPECT(gcflip_heap_image(&heap, words, count + 1, roots, others) == GCFLIP_OUT_OF_RANGE);
+    EXPECT(gcflip_heap_image(&heap, words, count, roots, others - 1) == GCFLIP_OUT_OF_RANGE);
     uint32_t answer = gcflip_heap_image(&heap, words, count, roots, others);
     if (answer == GCFLIP_DONE)
         print_words("image", words, count, roots, others);
@@ -156,7 +158,7 @@ static void new_words(size_t count)
 {
     uint64_t *words = malloc(8 * count);
     EXPECT(words);
-    EXPECT(gcflip_heap_new_words(&heap, words, count + 1) == GCFLIP_HEAP_OUT_OF_RANGE);
+    EXPECT(gcflip_heap_new_words(&heap, words, count + 1) == GCFLIP_OUT_OF_RANGE);
     uint32_t answer = gcflip_heap_new_words(&heap, words, count);
     if (answer == GCFLIP_DONE)
         print_words("words", words, count, words, 0);
@@ -180,24 +182,24 @@ static void new_from(void)
 static uint32_t plain(const char *name)
 {
     const uint8_t m = (uint8_t)a[0], d = (uint8_t)a[1];
-    if (IS("open")) return gcflip_heap_open(&heap, (uint32_t)a[0], d);
+    if (IS("open")) return open_plain_heap(&heap, (uint32_t)a[0], d);
     if (IS("close")) return gcflip_heap_close(&heap);
-    if (IS("new")) return gcflip_heap_new(&heap, m, d, (uint8_t)a[2], (uint16_t)a[3]);
-    if (IS("raw")) return gcflip_heap_raw(&heap, m, d, (uint8_t)a[2], (uint16_t)a[3]);
-    if (IS("num")) return gcflip_heap_num(&heap, m, d, a[2]);
-    if (IS("nil")) return gcflip_heap_nil(&heap, m, d);
+    if (IS("new")) return gcflip_heap_new_object(&heap, m, d, (uint8_t)a[2], (uint16_t)a[3]);
+    if (IS("raw")) return gcflip_heap_new_raw(&heap, m, d, (uint8_t)a[2], (uint16_t)a[3]);
+    if (IS("num")) return gcflip_heap_set_number(&heap, m, d, a[2]);
+    if (IS("nil")) return gcflip_heap_set_nil(&heap, m, d);
     if (IS("move")) return gcflip_heap_move(&heap, m, d, (uint8_t)a[2]);
     if (IS("put")) return gcflip_heap_put(&heap, m, d, (uint16_t)a[2], (uint8_t)a[3]);
     if (IS("put_number")) return gcflip_heap_put_number(&heap, m, d, (uint16_t)a[2], (uint8_t)a[3], a[4]);
-    if (IS("cons")) return gcflip_heap_cons(&heap, m, d, (uint8_t)a[2], (uint8_t)a[3], (uint8_t)a[4]);
+    if (IS("cons")) return gcflip_heap_new_pair(&heap, m, d, (uint8_t)a[2], (uint8_t)a[3], (uint8_t)a[4]);
     if (IS("same")) return gcflip_heap_same(&heap, m, d, (uint8_t)a[2]);
-    if (IS("begin")) return gcflip_heap_begin(&heap);
-    if (IS("begin_sized")) return gcflip_heap_begin_sized(&heap, (uint32_t)a[0]);
-    if (IS("roots")) return gcflip_heap_roots(&heap);
-    if (IS("scan")) return gcflip_heap_scan(&heap);
-    if (IS("apply")) return gcflip_heap_apply(&heap, m);
+    if (IS("begin")) return gcflip_heap_step_begin(&heap);
+    if (IS("begin_sized")) return gcflip_heap_step_begin_sized(&heap, (uint32_t)a[0]);
+    if (IS("roots")) return gcflip_heap_step_roots(&heap);
+    if (IS("scan")) return gcflip_heap_step_scan(&heap);
+    if (IS("apply")) return gcflip_heap_step_apply(&heap, m);
     EXPECT(IS("drop"));
-    return gcflip_heap_drop(&heap);
+    return gcflip_heap_step_give_up(&heap);
 }
 
 static void perform(const char *name)

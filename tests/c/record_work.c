@@ -15,9 +15,10 @@ static uint32_t work_at_once(uint32_t most, gcflip_work *work)
 
 static void open_at_once(void)
 {
-    EXPECT(gcflip_heap_open(&at_once, 64, 2) == GCFLIP_DONE);
-    EXPECT(gcflip_heap_new(&at_once, 0, 16, 1, 2) == GCFLIP_MADE);
-    EXPECT(gcflip_heap_new(&at_once, 1, 0, 2, 1) == GCFLIP_MADE);
+    const gcflip_options options = gcflip_options_default(64, 2);
+    EXPECT(gcflip_heap_open(&at_once, &options) == GCFLIP_DONE);
+    EXPECT(gcflip_heap_new_object(&at_once, 0, 16, 1, 2) == GCFLIP_MADE);
+    EXPECT(gcflip_heap_new_object(&at_once, 1, 0, 2, 1) == GCFLIP_MADE);
     EXPECT(gcflip_heap_put(&at_once, 1, 16, 1, 0) == GCFLIP_DONE);
 }
 
@@ -32,6 +33,7 @@ static void close_at_once(void)
 }
 
 #include "gcflip_record.h"
+#include "open_heap.h"
 
 FILE *gcflip_trace;
 
@@ -55,30 +57,33 @@ int main(int count, char **names)
     gcflip_work none;
     EXPECT(count == 2);
     gcflip_trace = fopen(names[1], "w");
-    EXPECT(gcflip_heap_work(&heap, 1, &none) == GCFLIP_HEAP_CLOSED);
-    EXPECT(gcflip_heap_open(&heap, 64, 2) == GCFLIP_DONE);
-    EXPECT(gcflip_heap_work(&heap, 0, &none) == GCFLIP_HEAP_OUT_OF_RANGE);
+    EXPECT(gcflip_heap_work(&heap, 1, &none) == GCFLIP_CLOSED);
+    EXPECT(open_plain_heap(&heap, 64, 2) == GCFLIP_DONE);
+    EXPECT(gcflip_heap_work(&heap, 0, &none) == GCFLIP_OUT_OF_RANGE);
     open_at_once();
-    gcflip_heap_new(&heap, 0, 16, 1, 2);
-    gcflip_heap_new(&heap, 1, 0, 2, 1);
+    gcflip_heap_new_object(&heap, 0, 16, 1, 2);
+    gcflip_heap_new_object(&heap, 1, 0, 2, 1);
     gcflip_heap_put(&heap, 1, 16, 1, 0);
     fail_allocation(1);
-    EXPECT(gcflip_heap_work(&heap, 1, &none) == GCFLIP_HEAP_NO_MEMORY);
+    EXPECT(gcflip_heap_work(&heap, 1, &none) == GCFLIP_NO_MEMORY);
     work(1, GCFLIP_BEGUN, 0);
     work(3, GCFLIP_SCANNED, 0); /* both roots, and a field */
     EXPECT(gcflip_heap_put(&heap, 1, 16, 0, 0) == GCFLIP_DONE && write_at_once(0) == GCFLIP_DONE);
     work(100, GCFLIP_APPLIED, 1); /* all but the flip, whose first allocation fails */
     work(100, GCFLIP_FLIPPED, 0);
     work(100, GCFLIP_FLIPPED, 0);
-    gcflip_heap_begin_sized(&heap, 3);
+    gcflip_heap_step_begin_sized(&heap, 3);
     EXPECT(gcflip_heap_work(&heap, 100, &none) == GCFLIP_DONE && none.steps == 1 && none.last == GCFLIP_NO_ROOM);
-    gcflip_heap_drop(&heap);
+    gcflip_heap_step_give_up(&heap);
+    EXPECT(gcflip_heap_work_sized(&heap, 100, 0, &none) == GCFLIP_OUT_OF_RANGE);
+    EXPECT(gcflip_heap_work_sized(&heap, 100, 3, &none) == GCFLIP_DONE && none.steps == 2 && none.last == GCFLIP_NO_ROOM);
+    gcflip_heap_step_give_up(&heap);
     /* calls that are several commands; the last finds no room, and is then one command */
     EXPECT(gcflip_heap_put_number(&heap, 1, 16, 0, 5, 9) == GCFLIP_DONE);
-    EXPECT(gcflip_heap_cons(&heap, 1, 6, 3, 16, 5) == GCFLIP_MADE);
+    EXPECT(gcflip_heap_new_pair(&heap, 1, 6, 3, 16, 5) == GCFLIP_MADE);
     EXPECT(gcflip_heap_new_from(&heap, 1, 7, 3, fields, 3) == GCFLIP_MADE);
-    EXPECT(gcflip_heap_raw(&heap, 1, 7, 4, 45) == GCFLIP_MADE);
-    EXPECT(gcflip_heap_cons(&heap, 1, 7, 3, 16, 5) == GCFLIP_FULL);
+    EXPECT(gcflip_heap_new_raw(&heap, 1, 7, 4, 45) == GCFLIP_MADE);
+    EXPECT(gcflip_heap_new_pair(&heap, 1, 7, 3, 16, 5) == GCFLIP_FULL);
     EXPECT(gcflip_heap_new_from(&heap, 1, 7, 3, fields, 3) == GCFLIP_FULL);
     EXPECT(fclose(gcflip_trace) == 0);
     gcflip_trace = NULL;

@@ -33,6 +33,21 @@ static uint32_t infer_images(gcflip_verdict *verdict)
     return answer;
 }
 
+/* Finds the path to the second of two objects. Writes a verdict with one pair if it is found, as a check of one pair would. */
+static uint32_t path_in_image(gcflip_verdict *verdict)
+{
+    static const uint64_t two[] = {0, 16777217, 0, 8, 16777216, 0};
+    const gcflip_image image = {8, 6, false, two, roots, 1};
+    uint64_t place = 77, fields[1] = {77};
+    size_t count = 77;
+    uint32_t answer = gcflip_path_in(&image, 4, &place, fields, 1, &count);
+    bool is_found = answer == GCFLIP_YES;
+    EXPECT(place == (is_found ? 0 : 77) && fields[0] == (is_found ? 0 : 77) && count == (is_found ? 1 : 77));
+    if (is_found)
+        *verdict = (gcflip_verdict){0, 1, 0, 0};
+    return answer;
+}
+
 /* Returns the number of allocations that can fail. */
 static int failures(uint32_t (*check)(gcflip_verdict *verdict))
 {
@@ -55,7 +70,9 @@ int main(void)
     /* The partners by old address, and the starts of both images. A text also has the bytes that wait, two arrays for each image, and the pairs. */
     EXPECT(failures(check_images) == 3);
     EXPECT(failures(check_text) == 9);
-    /* The starts of both images, the partners by old and by new address, the pairs as found and in their order; then the check's. */
-    EXPECT(failures(infer_images) == 9);
+    /* The starts of both images, the partners by old and by new address, the pairs as found and in their order. */
+    EXPECT(failures(infer_images) == 6);
+    /* The starts, the visits, their numbers by address, and the fields. */
+    EXPECT(failures(path_in_image) == 4);
     return 0;
 }

@@ -3,6 +3,7 @@
 #include "expect.h"
 #include "gcflip_heap.h"
 #include "own_allocator.h"
+#include "open_heap.h"
 #include <string.h>
 
 enum { WORDS = 4096, ROOTS = 32 };
@@ -32,7 +33,7 @@ static void draw(struct picture *picture)
 
 static uint32_t open_heap(void)
 {
-    return gcflip_heap_open(&heap, WORDS, 1);
+    return open_plain_heap(&heap, WORDS, 1);
 }
 
 /* A heap with one object, whose field holds nil. */
@@ -40,13 +41,13 @@ static void set_up(void)
 {
     fail_allocation(0);
     EXPECT(open_heap() == GCFLIP_DONE);
-    EXPECT(gcflip_heap_new(&heap, 0, 0, 1, 1) == GCFLIP_MADE);
+    EXPECT(gcflip_heap_new_object(&heap, 0, 0, 1, 1) == GCFLIP_MADE);
 }
 
 static void set_up_open(void)
 {
     set_up();
-    EXPECT(gcflip_heap_begin(&heap) == GCFLIP_BEGUN);
+    EXPECT(gcflip_heap_step_begin(&heap) == GCFLIP_BEGUN);
 }
 
 static void set_up_ready(void)
@@ -55,18 +56,26 @@ static void set_up_ready(void)
     EXPECT(gcflip_heap_work(&heap, 3, &work) == GCFLIP_DONE && work.last == GCFLIP_PASSED);
 }
 
-static uint32_t begin(void) { return gcflip_heap_begin(&heap); }
-static uint32_t begin_sized(void) { return gcflip_heap_begin_sized(&heap, 64); }
+static uint32_t begin(void) { return gcflip_heap_step_begin(&heap); }
+static uint32_t begin_sized(void) { return gcflip_heap_step_begin_sized(&heap, 64); }
 static uint32_t put(void) { return gcflip_heap_put(&heap, 0, 0, 0, 0); }
 static uint32_t put_number(void) { return gcflip_heap_put_number(&heap, 0, 0, 0, 1, 5); }
-static uint32_t cons(void) { return gcflip_heap_cons(&heap, 0, 1, 1, 0, 0); }
+static uint32_t cons(void) { return gcflip_heap_new_pair(&heap, 0, 1, 1, 0, 0); }
 static uint32_t new_from(void)
 {
     static const uint8_t fields[40] = {0};
     return gcflip_heap_new_from(&heap, 0, 1, 1, fields, 40);
 }
-static uint32_t flip(void) { return gcflip_heap_flip(&heap, &pairs); }
+static uint32_t flip(void) { return gcflip_heap_step_flip(&heap, &pairs); }
 static uint32_t work_1(void) { return gcflip_heap_work(&heap, 1, &work); }
+static uint32_t paced_work(void)
+{
+    gcflip_pace pace = gcflip_pace_default(), before = pace;
+    uint32_t answer = gcflip_heap_work_paced(&heap, &pace, UINT32_MAX, &work);
+    EXPECT(!GCFLIP_IS_REFUSED(answer) || memcmp(&pace, &before, sizeof pace) == 0);
+    return answer;
+}
+static uint32_t sized_work(void) { return gcflip_heap_work_sized(&heap, 1, 64, &work); }
 
 static void free_all(void)
 {
@@ -90,7 +99,7 @@ static int failures(void (*prepare)(void), uint32_t (*call)(void))
             free_all();
             return n - 1;
         }
-        EXPECT(answer == GCFLIP_HEAP_NO_MEMORY && has_failed());
+        EXPECT(answer == GCFLIP_NO_MEMORY && has_failed());
         EXPECT(pairs == 77 && memcmp(&work, &report, sizeof work) == 0);
         draw(&after);
         EXPECT(memcmp(&before, &after, sizeof before) == 0);
@@ -109,7 +118,7 @@ static void opening(void)
         uint32_t answer = open_heap();
         if (answer == GCFLIP_DONE)
             break;
-        EXPECT(answer == GCFLIP_HEAP_NO_MEMORY && has_failed() && heap.at == NULL && blocks_in_use() == 0);
+        EXPECT(answer == GCFLIP_NO_MEMORY && has_failed() && heap.at == NULL && blocks_in_use() == 0);
     }
     EXPECT(n - 1 == 3); /* the words, the roots, and the heap itself */
     free_all();
@@ -124,7 +133,7 @@ static void work_before_a_failure(void)
     EXPECT(gcflip_heap_work(&heap, 1000, &work) == GCFLIP_DONE);
     EXPECT(work.steps == 3 && work.copied == 3 && work.last == GCFLIP_PASSED && has_failed());
     fail_allocation(1);
-    EXPECT(gcflip_heap_work(&heap, 1000, &work) == GCFLIP_HEAP_NO_MEMORY);
+    EXPECT(gcflip_heap_work(&heap, 1000, &work) == GCFLIP_NO_MEMORY);
     fail_allocation(0);
     EXPECT(gcflip_heap_work(&heap, 1000, &work) == GCFLIP_DONE && work.steps == 1 && work.last == GCFLIP_FLIPPED);
     free_all();
@@ -135,23 +144,23 @@ static void calls_that_do_not_allocate(void)
 {
     set_up();
     fail_allocation(1);
-    EXPECT(gcflip_heap_new(&heap, 0, 1, 1, 4) == GCFLIP_MADE);
-    EXPECT(gcflip_heap_raw(&heap, 0, 2, 1, 4) == GCFLIP_MADE);
+    EXPECT(gcflip_heap_new_object(&heap, 0, 1, 1, 4) == GCFLIP_MADE);
+    EXPECT(gcflip_heap_new_raw(&heap, 0, 2, 1, 4) == GCFLIP_MADE);
     EXPECT(gcflip_heap_put(&heap, 0, 1, 0, 2) == GCFLIP_DONE);
     EXPECT(gcflip_heap_get(&heap, 0, 3, 1, 0, &number) == GCFLIP_OBJECT);
     fail_allocation(0);
-    EXPECT(gcflip_heap_begin(&heap) == GCFLIP_BEGUN);
+    EXPECT(gcflip_heap_step_begin(&heap) == GCFLIP_BEGUN);
     EXPECT(gcflip_heap_put(&heap, 0, 1, 1, 2) == GCFLIP_DONE);
     fail_allocation(1);
-    EXPECT(gcflip_heap_num(&heap, 0, 3, 5) == GCFLIP_DONE);
+    EXPECT(gcflip_heap_set_number(&heap, 0, 3, 5) == GCFLIP_DONE);
     EXPECT(gcflip_heap_move(&heap, 0, 4, 3) == GCFLIP_DONE);
-    EXPECT(gcflip_heap_nil(&heap, 0, 4) == GCFLIP_DONE);
+    EXPECT(gcflip_heap_set_nil(&heap, 0, 4) == GCFLIP_DONE);
     EXPECT(gcflip_heap_same(&heap, 0, 3, 4) == GCFLIP_NOT_SAME);
     EXPECT(gcflip_heap_look(&heap, 0, 3, &view) == GCFLIP_NUMBER);
-    EXPECT(gcflip_heap_roots(&heap) == GCFLIP_COPIED);
-    EXPECT(gcflip_heap_scan(&heap) == GCFLIP_SCANNED);
-    EXPECT(gcflip_heap_apply(&heap, 0) == GCFLIP_APPLIED);
-    EXPECT(gcflip_heap_drop(&heap) == GCFLIP_DROPPED);
+    EXPECT(gcflip_heap_step_roots(&heap) == GCFLIP_COPIED);
+    EXPECT(gcflip_heap_step_scan(&heap) == GCFLIP_SCANNED);
+    EXPECT(gcflip_heap_step_apply(&heap, 0) == GCFLIP_APPLIED);
+    EXPECT(gcflip_heap_step_give_up(&heap) == GCFLIP_DROPPED);
     EXPECT(!has_failed());
     free_all();
 }
@@ -172,6 +181,9 @@ int main(void)
     EXPECT(failures(set_up_ready, flip) == 5); /* the certificate, the moved roots, the checker's three tables */
     EXPECT(failures(set_up, work_1) == 2);
     EXPECT(failures(set_up_ready, work_1) == 5);
+    EXPECT(failures(set_up, sized_work) == 2);
+    EXPECT(failures(set_up_ready, sized_work) == 5);
+    EXPECT(failures(set_up_ready, paced_work) == 5);
     work_before_a_failure();
     calls_that_do_not_allocate();
     return 0;

@@ -3,6 +3,7 @@
 #include "expect.h"
 #include "gcflip.h"
 #include "gcflip_heap.h"
+#include "open_heap.h"
 #include <pthread.h>
 
 enum { THREADS = 4, ROUNDS = 2000 };
@@ -20,7 +21,7 @@ static void check(void)
 
 static void make(gcflip_heap *heap, uint8_t slot, uint64_t n)
 {
-    EXPECT(gcflip_heap_raw(heap, 0, slot, 1, 1) == GCFLIP_MADE);
+    EXPECT(gcflip_heap_new_raw(heap, 0, slot, 1, 1) == GCFLIP_MADE);
     EXPECT(gcflip_heap_put_number(heap, 0, slot, 0, 15, n) == GCFLIP_DONE);
 }
 
@@ -34,7 +35,7 @@ static void expect_number(gcflip_heap *heap, uint8_t slot, uint64_t n)
 static void *fill(void *argument)
 {
     gcflip_heap *heap = argument;
-    EXPECT(gcflip_heap_open(heap, 256, 1) == GCFLIP_DONE);
+    EXPECT(open_plain_heap(heap, 256, 1) == GCFLIP_DONE);
     for (uint64_t n = 0; n < ROUNDS; n++) {
         gcflip_work work;
         make(heap, (uint8_t)(n % 8), n);

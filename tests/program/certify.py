@@ -3,7 +3,7 @@ import glob
 import os
 import re
 
-from .c_library import SANITIZERS, TOP, WARNINGS, done, library, usable
+from .c_library import SANITIZERS, TOP, VALGRIND, WARNINGS, done, has_valgrind, library, usable
 from .harness import Outcome, difference, run
 from .pairs import status_of
 
@@ -56,6 +56,34 @@ def refused(verdict, place):
     return Outcome(("%s\n%s\nthe list in the old space is whole\n" % (verdict, place)).encode(), b"", 1)
 
 
+# A bug, and what is printed about five entries without the pairs. The walk meets objects on common paths, so with `twice` it pairs entry 4 with
+# the replica that the root `last` refers to, and then `next` of entry 2 refers to the other one. The other bugs lose no object.
+INFERRED = [
+    ("field", "refused 9 FieldDiffers 1 3", 'the entry of "entry 4" has a replica with another previous'),
+    ("twice", "refused 9 FieldDiffers 3 2", 'the entry of "entry 2" has a replica with another next'),
+    ("root", "refused 10 RootDiffers 2", "the root last differs"),
+    ("length", "refused 8 HeaderDiffers 2", 'the text "entry 0" has a replica of another kind or length'),
+]
+
+
+def inferred(program, folder):
+    """Runs with -i: without the pairs, the checker finds as many, and refuses the same collections."""
+    built = library(folder)
+    if built is None:
+        return
+    path, why = build(built, ["gcc"])
+    yield "examples/certify for inferred pairs", why
+    if why:
+        return
+    for entries in SIZES:
+        wanted = re.sub(rb"(?m)^(yes \d+)$", rb"\1\nwithout the pairs: \1", accepted(entries).stdout)
+        yield "%d entries without the pairs" % entries, difference(done([path, "-i", str(entries)]), Outcome(wanted))
+    given = {bug: (verdict, place) for bug, entries, verdict, place in REFUSED if entries == 5}
+    for bug, verdict, place in INFERRED:
+        lines = [*given[bug], "without the pairs: " + verdict, place, "the list in the old space is whole"]
+        yield "%s without the pairs" % bug, difference(done([path, "-i", "-b", bug, "5"]), Outcome(("\n".join(lines) + "\n").encode(), b"", 1))
+
+
 def build(built, compiler):
     """Returns the path of the program, and why it was not built, or None."""
     path = os.path.join(built.folder, "certify")
@@ -102,6 +130,63 @@ def cases(program, folder, name, path):
         yield "status of %s, %s" % (words, name), None if status == 2 else "status %d, wanted 2" % status
 
 
+# The number of roots, the root that is wrong or that number, the roots that the new image lacks, the verdict of the call (its refusal, its
+# pairs, its place), and the verdict on the text.
+#
+# A text keeps 272 roots. Of more, it keeps 271, and root k becomes field k - 271 of an object whose pair is the last one. Two objects leave 270
+# roots; the first takes the roots 270 to 65804.
+MANY_ROOTS = [
+    (272, 272, 0, "0 272 0", "yes 272"),
+    (272, 271, 0, "10 0 271", "refused 10 RootDiffers 271"),
+    (273, 273, 0, "0 273 0", "yes 274"),
+    (273, 271, 0, "10 0 271", "refused 9 FieldDiffers 273 0"),
+    (300, 300, 0, "0 300 0", "yes 301"),
+    (300, 270, 0, "10 0 270", "refused 10 RootDiffers 270"),
+    (300, 298, 0, "10 0 298", "refused 9 FieldDiffers 300 27"),
+    (300, 300, 1, "3 0 0", "refused 8 HeaderDiffers 300"),
+    (300, 300, 28, "3 0 0", "refused 8 HeaderDiffers 300"),
+    (300, 300, 100, "3 0 0", "refused 3 RootCount"),
+    (5000, 5000, 0, "0 5000 0", "yes 5001"),
+    (5000, 4998, 0, "10 0 4998", "refused 9 FieldDiffers 5000 4727"),
+    (65806, 65806, 0, "0 65806 0", "yes 65807"),
+    (65807, 65807, 0, "0 65807 0", "yes 65809"),
+    (65807, 65804, 0, "10 0 65804", "refused 9 FieldDiffers 65807 65534"),
+    (65807, 65805, 0, "10 0 65805", "refused 9 FieldDiffers 65808 0"),
+]
+
+
+def many_roots(program, folder):
+    """Checks that the text of images with more roots than a text has gets the verdict that is derived by hand."""
+    built = library(folder)
+    if built is None:
+        return
+    path = os.path.join(folder, "many_roots")
+    sources = [os.path.join(TOP, "tests", "c", "many_roots.c"), *[os.path.join(FOLDER, name) for name in ("certificate.c", "collector.c")]]
+    words = ["gcc", "-std=c11", "-O2", *WARNINGS, *SANITIZERS, "-I" + FOLDER, "-I" + os.path.join(built.prefix, "include")]
+    made = done([*words, "-o", path, *sources, *built.archive()])
+    yield "many_roots.c", None if made.status == 0 else "not built: %s" % made.stderr.decode()
+    if made.status != 0:
+        return
+    text = os.path.join(folder, "many_roots.pair")
+    for roots, wrong, fewer, called, verdict in MANY_ROOTS:
+        case = "%d roots, %d wrong, %d fewer" % (roots, wrong, fewer)
+        yield case, difference(done([path, str(roots), str(wrong), str(fewer), text]), Outcome(called.encode() + b"\n"))
+        found = run(program, ["check", text])
+        yield "text of " + case, difference(found, Outcome(verdict.encode() + b"\n", b"", status_of(verdict)))
+
+
+def by_valgrind(_program, folder):
+    """Checks that runs with five entries, with and without bugs, read nothing that was never written, and lose no block."""
+    built = library(folder)
+    if built is None or not has_valgrind("examples/certify"):
+        return
+    path, why = build(built, ["gcc"])
+    yield "5 entries, by valgrind", why or difference(done([*VALGRIND, path, "5"]), accepted(5))
+    for bug, entries, verdict, place in REFUSED:
+        if entries == 5 and why is None:
+            yield "%s in 5 entries, by valgrind" % bug, difference(done([*VALGRIND, path, "-b", bug, "5"]), refused(verdict, place))
+
+
 def table_of_readme(_program, _folder):
     """Checks that the table of bugs shows the output of runs with five entries."""
     with open(os.path.join(FOLDER, "README.md"), encoding="utf-8") as file:
@@ -112,4 +197,4 @@ def table_of_readme(_program, _folder):
             yield "bug %s in the table" % bug, "not there: %s" % missing if missing else None
 
 
-GROUPS = [runs, table_of_readme]
+GROUPS = [runs, inferred, many_roots, by_valgrind, table_of_readme]

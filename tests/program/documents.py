@@ -7,6 +7,7 @@ import shutil
 import subprocess
 import sys
 
+from prover.axioms import PRODUCTS, counts_in, lines_to_keep, row_of, verdict_of
 from prover.crates import CRATES, TOP, crates_listed
 from prover.edits import BadEdit, Edit, edits_of
 
@@ -169,51 +170,6 @@ def add_contracts(text, found):
             clauses.add(clause.group(1) or "ensures")
 
 
-def rows_of_clauses(document):
-    """Yields the rows of the tables with clauses: the calls of a row, its clauses, and the last cell. A row without calls
-    continues those of the row before."""
-    calls, inside = [], False
-    for line in text_of(document).split("\n"):
-        cells = [cell.strip() for cell in line.split("|")[1:-1]]
-        if len(cells) != 3:
-            inside = False
-        elif cells[2] == "clause":
-            inside = True
-        elif inside and cells[0].strip("-"):
-            calls = [name.split("::")[-1] for name in re.findall(r"`([^`]+)`", cells[0])]
-        if inside and len(cells) == 3 and cells[2] != "clause" and cells[2].strip("-"):
-            yield calls, re.findall(r"`(\w+)`", cells[2]), cells[2]
-
-
-def unknown_clauses(document, contracts):
-    for calls, clauses, cell in rows_of_clauses(document):
-        if cell.startswith("the invariant") or cell.startswith("those of"):
-            continue
-        known = set().union(*[contracts.get(call, set()) for call in calls])
-        if not clauses and not known:
-            yield "%s has no clause" % ", ".join(calls)
-        for call in calls:
-            if call not in contracts:
-                yield "no function %s" % call
-        for clause in clauses:
-            if clause not in known:
-                yield "clause %s of %s" % (clause, ", ".join(calls))
-
-
-def clauses(_program, _folder):
-    for document in documents():
-        crate = re.fullmatch(r"crates/(\w+)/README.md", document)
-        if crate:
-            unknown = list(unknown_clauses(document, contracts_of(crate.group(1))))
-            yield "clauses of %s" % document, ", ".join(unknown) or None
-
-
-def crates(_program, _folder):
-    for crate in crates_listed():
-        path = "crates/%s/README.md" % crate
-        yield "%s exists" % path, None if os.path.exists(os.path.join(TOP, path)) else "there is no such file"
-
-
 # ---- edits
 
 # A function and its clauses, as the rows of docs/TESTING.md name them.
@@ -223,7 +179,7 @@ CLAUSES_OF = re.compile(r"((?:`[\w:]+`(?: and )?)+), clauses? ((?:`\w+`(?:, | an
 def undated(line):
     """Returns whether a row says when it was last seen: by CI if it names an edit, else by hand."""
     last = line.rstrip(" |").split(" | ")[-1]
-    return not (last == "each run of CI" if re.search(r"\bedits? `", line) else re.match(r"by hand, \d{4}-\d\d-\d\d|not tried yet", last))
+    return not (last == "each run of CI" if re.search(r"\bedits? `", line) else re.fullmatch(r"by hand, \d{4}-\d\d-\d\d(?:, .*)?", last))
 
 
 def unrefused(line, found):
@@ -257,6 +213,57 @@ def unknown_edits(line):
                 known.update(*[contract.get(call.split("::")[-1], set()) for contract in contracts])
             yield from ["clause %s of %s" % (name, calls) for name in re.findall(r"`(\w+)`", clauses_named) if name not in known]
     yield from ["%s of %s, since none of its edits is refused there" % place for place in unrefused(line, named)]
+
+
+def known_tests():
+    """Returns the names of all tests: of Rattle, of Python, and the groups of tests/run with their modules."""
+    folders = [("crates/*/src/tests.rt", r"#\[test\]\n\s*fn (\w+)"), ("crates/*/src/tests/**/*.rt", r"#\[test\]\n\s*fn (\w+)"),
+               ("tests/python/*.py", r"def (test_\w+)")]
+    found = set()
+    for pattern, name in folders:
+        for path in glob.glob(os.path.join(TOP, pattern), recursive=True):
+            found.update(re.findall(name, text_of(path)))
+    for path in glob.glob(os.path.join(TOP, "tests", "program", "*.py")):
+        groups = re.search(r"(?m)^GROUPS = \[([^\]]*)\]", text_of(path))
+        module = os.path.basename(path)[:-len(".py")]
+        found.update("%s.%s" % (module, group.strip()) for group in (groups.group(1).split(",") if groups else []))
+    return found
+
+
+# A name in a row that was tried by hand: of a test, or of a file of tests.
+TEST_NAME = re.compile(r"(?:\w+::)*([a-z]\w*_\w+)|(\w+\.(?!c$|rs$|py$)\w+)")
+TEST_FILE = re.compile(r"(?:[\w/]+/)?\w+\.(?:c|rs|py)")
+
+
+def wrong_tests(line, known):
+    """Yields the tests that a row names and that do not exist, and whether it names none. What the types refuse needs no test."""
+    cell = line.split(" | ")[1]
+    quoted = re.findall(r"`([^`]+)`", cell)
+    named = [found.group(1) or found.group(2) for found in map(TEST_NAME.fullmatch, quoted) if found]
+    files_named = [name for name in quoted if TEST_FILE.fullmatch(name)]
+    yield from ["there is no test %s" % name for name in named if name not in known]
+    yield from ["there is no file %s" % name for name in files_named if not is_file(name) and not is_file(os.path.join("tests", "c", name))]
+    if not named and not files_named and not cell.startswith("the types:"):
+        yield "no test is named by '%s'" % line[:60]
+
+
+# Rows, and what is wrong with each.
+ROWS = [("| a mistake | test `graph::one_word_is_reserved` (gc_tests) | by hand, 2026-11-24 |", []),
+        ("| a mistake | test `graph::one_word_is_gone` (gc_tests) | by hand, 2026-11-24 |", ["there is no test one_word_is_gone"]),
+        ("| a mistake | `random.nothing` | by hand, 2026-11-24 |", ["there is no test random.nothing"]),
+        ("| a mistake | `heap.c` and `heaps.c` | by hand, 2026-11-24 |", ["there is no file heaps.c"]),
+        ("| a mistake | some test | by hand, 2026-11-24 |", ["no test is named by '| a mistake | some test | by hand, 2026-11-24 |'"])]
+
+
+def hand_tried(_program, _folder):
+    """Checks that the tests exist which docs/TESTING.md names for wrong bodies that were tried by hand."""
+    rows = text_of("docs/TESTING.md").partition("## Which goal or test refuses")[2].split("\n")
+    known = known_tests()
+    wrong = [why for line in rows if line.startswith("| ") and "| by hand, " in line for why in wrong_tests(line, known)]
+    yield "tests of docs/TESTING.md", ", ".join(wrong) or None
+    for line, wanted in ROWS:
+        found = list(wrong_tests(line, known))
+        yield "the row %s" % line, None if found == wanted else "found %s" % found
 
 
 def edits(_program, _folder):
@@ -398,6 +405,35 @@ def counts(_program, _folder):
         yield "lines of %s" % (name or "all definitions"), None if found and found.group(1) == wanted else "they are %s" % wanted
 
 
+# ---- axioms
+
+# What a prover prints of a program: its tests' verdict comes first.
+PRINTED = """axioms libc: libc::a, libc::b, libc::c, ... (9 of the 40 declared)
+logic=proved functions=3 axioms=9 tests=2 sum=0
+fn low: proved
+axioms libc: libc::a, libc::b, libc::c, ... (4 of the 40 declared)
+axioms os: os::a (1 of the 20 declared)
+axioms std: none reached of the 2 declared
+logic=proved functions=7 axioms=5 target=x86-64 sum=0
+"""
+
+
+def axioms(_program, _folder):
+    """Compares the table of docs/TRUST.md with what the verdicts of the products rest on."""
+    shown = text_of("docs/TRUST.md")
+    for name in PRODUCTS:
+        counts, why = verdict_of(name)
+        yield "axioms of %s" % name, why or (None if row_of(name, counts) in shown else "docs/TRUST.md has no row %s" % row_of(name, counts))
+    rows = re.findall(r"(?m)^\| `(\w+)`, [^|]* \| \d+ \| [^|]* \|$", shown)
+    yield "products of docs/TRUST.md", None if rows == list(PRODUCTS) else "they are %s" % rows
+    lines = "\n".join(lines_to_keep(PRINTED)) + "\n"
+    for old, new, wanted in [("", "", ({"libc": 4, "os": 1}, None)), ("(4 of", "(3 of", "its axioms are"), ("logic=proved", "logic=not-proved", "it has no verdict"),
+                             ("axioms os", "axiom os", "its axioms are"), ("logic=", "logics=", "it has no verdict")]:
+        found = counts_in(lines.replace(old, new))
+        is_right = found == wanted if old == "" else found[1] is not None and found[1].startswith(wanted)
+        yield "a verdict with %r" % new, None if is_right else "found %s" % (found,)
+
+
 def why_not_applied(crate, name):
     """Returns why a must-fail edit cannot be applied, or None."""
     try:
@@ -413,4 +449,4 @@ def applied_edits(_program, _folder):
             yield "edit %s/%s" % (crate, name), why_not_applied(crate, name)
 
 
-GROUPS = [names, words, files, clauses, crates, edits, applied_edits, quotes, names_in_c, outputs_in_c, c_of_readme, commands, commands_of_tables, definitions, counts]
+GROUPS = [names, words, files, edits, hand_tried, applied_edits, quotes, names_in_c, outputs_in_c, c_of_readme, commands, commands_of_tables, definitions, counts, axioms]

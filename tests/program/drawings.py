@@ -8,6 +8,7 @@ import sys
 import xml.etree.ElementTree as ElementTree
 
 from . import pairs
+from .c_library import library
 from .harness import file_of, run
 from .traces import PLAYED, refused_texts, trace_and_replies
 
@@ -25,10 +26,17 @@ from gcflip_drawing.trace_text import BadTrace, read_trace  # noqa: E402
 from gcflip_drawing.verdicts import MEANINGS, Verdict  # noqa: E402
 
 
-def draw(*words):
-    """Runs tools/draw, and returns its status, its standard output and its standard error."""
-    done = subprocess.run([sys.executable, TOOL, *words], stdout=subprocess.PIPE, stderr=subprocess.PIPE, timeout=120)
+def draw(*words, shared="no library"):
+    """Runs tools/draw with this shared library, and returns its status, its standard output and its standard error."""
+    environment = dict(os.environ, GCFLIP_LIBRARY=shared, PYTHONDONTWRITEBYTECODE="1")
+    done = subprocess.run([sys.executable, TOOL, *words], stdout=subprocess.PIPE, stderr=subprocess.PIPE, timeout=120, env=environment)
     return done.returncode, done.stdout.decode(), done.stderr.decode()
+
+
+def shared_library(folder):
+    """Returns the path of the shared library, or None, with a line that says so, if it cannot be built."""
+    built = library(folder)
+    return built and os.path.join(built.lib, "libgcflip.so")
 
 
 # ---- the parts of a picture
@@ -278,12 +286,65 @@ def messages(program, folder):
     yield "a pair without a program is drawn and not checked", None if right else "status %d, said %r" % (status, said)
 
 
+# For each example that is refused: where, as docs/FORMATS.md reads its words. The pictures of two of them are kept.
+REFUSED_AT = {
+    "replica_out_of_date": "r0 of mutator 0 . field 1: old 9, new nil",
+    "number_moved_as_a_reference": "root 0 . field 0: old 8, new 2",
+    "one_replica_for_two": "the new address 1 of pair 1 is not above that of the pair before it",
+}
+
+
+def joined_texts(picture, role):
+    """Returns the texts of a role, which may go on in the next line, as one."""
+    return " ".join(shape["text"] for shape in picture["shapes"] if shape["kind"] == "text" and shape["role"] == role)
+
+
+def paths(program, folder):
+    """Checks that the picture of a refused pair names the path from a root, and what stands there in both heaps."""
+    shared = shared_library(folder)
+    if shared is None:
+        return
+    for name, wanted in REFUSED_AT.items():
+        status, drawn, said = draw(os.path.join(TOP, "examples", name + ".pair"), "--json", "--program", program, shared=shared)
+        right = status == 0 and said == "" and wanted in joined_texts(json.loads(drawn), "label")
+        yield "path in %s" % name, None if right else "status %d, said %r, drew %s" % (status, said, drawn)
+    for name, text, verdict in pairs.texts_and_verdicts():
+        status, drawn, said = draw(file_of(folder, "pair", text), "--program", program, shared=shared)
+        right = status == 0 and said == "" and verdict in drawn
+        yield "refusal or yes of %s" % name, None if right else "status %d, said %r" % (status, said)
+    pair = os.path.join(TOP, "examples", "replica_out_of_date.pair")
+    status, drawn, said = draw(pair, "--program", program)
+    right = status == 0 and "refused 9 FieldDiffers 0 1" in drawn and "field 1: old" not in drawn and said.startswith("draw: no path to the fault: ")
+    yield "a refused pair without the library", None if right else "status %d, said %r" % (status, said)
+    status, drawn, said = draw(os.path.join(TOP, "examples", "garbage_left_behind.pair"), "--program", program)
+    yield "a yes without the library", None if status == 0 and said == "" else "status %d, said %r" % (status, said)
+
+
+def long_paths(_program, _folder):
+    """Checks that a path of many steps leaves out those in the middle, and stays inside the frame."""
+    steps = ["root 0"] + ["field %d" % number for number in range(5000)]
+    where = " . ".join(steps) + ": old 7, new 39"
+    shown = pair_picture.shortened(where)
+    # Six steps at each end; the root is one, and so is the last field with what stands there.
+    wanted = "root 0 . field 0 . field 1 . field 2 . field 3 . field 4 . \u2026 4989 fields \u2026 . field 4994"
+    right = shown.startswith(wanted) and shown.endswith(" . field 4998 . field 4999: old 7, new 39")
+    yield "a long path", None if right else shown
+    for count in (12, 13):
+        short = " . ".join(steps[:count])
+        yield "a path of %d steps" % count, None if pair_picture.shortened(short) == short else pair_picture.shortened(short)
+    for name, text in [("words", example("replica_out_of_date.pair")), ("blocks", pairs.all_paired(5000, 1)[0].decode())]:
+        drawn = pair_picture.drawn(read_pair(text), name, Verdict("refused 9 FieldDiffers 0 0"), where)
+        yield "drawing of a long path in %s" % name, wrong_drawing(drawn)
+        yield "a long path in %s" % name, None if shown in joined_texts(drawn.described(), "label") else "it is not shown"
+
+
 def tool(program, folder):
     """Runs the tool, which asks the checker and writes the picture or its description."""
     pair = os.path.join(TOP, "examples", "one_replica_for_two.pair")
     out = os.path.join(folder, "out.svg")
     status, written, said = draw(pair, "-o", out, "--program", program)
-    yield "a file is written", None if (status, written, said) == (0, "", "") else "status %d, said %r" % (status, said)
+    right = (status, written) == (0, "") and said.startswith("draw: no path to the fault: ") and said.count("\n") == 1
+    yield "a file is written", None if right else "status %d, said %r" % (status, said)
     with open(out, encoding="utf-8") as file:
         yield "the verdict is shown", None if "refused 6 NotRising 1" in file.read() else "there is no verdict in the picture"
     status, written, _ = draw(pair, "--json", "--program", program)
@@ -301,10 +362,13 @@ def kept_pictures():
     yield os.path.join(TOP, "docs", "pictures", "crates.svg"), os.path.join(TOP, "crates.txt")
 
 
-def kept(program, _folder):
+def kept(program, folder):
     """Compares each picture in the repository with the tool's current output."""
+    shared = shared_library(folder)
+    if shared is None:
+        return
     for picture, source in kept_pictures():
-        _, written, _ = draw(source, "--program", program)
+        _, written, _ = draw(source, "--program", program, shared=shared)
         name = os.path.relpath(picture, TOP)
         with open(picture, encoding="utf-8") as file:
             same = file.read() == written
@@ -322,4 +386,5 @@ def drawn_by_hand(_program, _folder):
         yield "docs/pictures/%s.svg" % name, None if boxes and inside else "a box is outside of the frame"
 
 
-GROUPS = [examples, small_pairs, faults, large_pairs, written_pairs, faults_of_traces, replies, timelines, crates, messages, tool, kept, drawn_by_hand]
+GROUPS = [examples, small_pairs, faults, large_pairs, written_pairs, faults_of_traces, replies, timelines, crates, messages, tool, paths, long_paths, kept,
+          drawn_by_hand]

@@ -241,4 +241,5 @@ class Model:
 
     def counts(self):
         end, (new_size, new_end, place, field) = len(self.space.words), self.scan_numbers()
-        return [self.space.size, end, self.space.size - end, self.mutators, int(self.new is not None), new_size, new_end, place, field]
+        logged = sum(map(len, self.logs)) if self.new else 0
+        return [self.space.size, end, self.space.size - end, self.mutators, 0, int(self.new is not None), new_size, new_end, place, field, logged]

@@ -11,7 +11,7 @@ import subprocess
 import tempfile
 import time
 
-from .c_library import SANITIZERS, SOURCES as C_SOURCES, TOP, WARNINGS, done, library, usable
+from .c_library import SANITIZERS, SOURCES as C_SOURCES, TOP, VALGRIND, WARNINGS, done, has_valgrind, library, usable
 from .documents import blocks
 from .harness import Outcome, difference, file_of, run
 
@@ -125,7 +125,7 @@ WRONG = [
 ]
 
 # Wrong options.
-WRONG_OPTIONS = [["--heap"], ["--heap", "0"], ["--heap", "1048577"], ["--heap", "12x"], ["--heap", "-1"], ["--heep", "5"], ["--record"],
+WRONG_OPTIONS = [["--heap"], ["--heap", "0"], ["--heap", "4294967296"], ["--heap", "1048577", "--record", "/dev/null"], ["--heap", "12x"], ["--heap", "-1"], ["--heep", "5"], ["--record"],
                  ["--record", "/"]]
 
 TOTALS = re.compile(rb"(\d+) words were allocated, [\d.]+ times the heap\n(\d+) collections copied (\d+) objects\n"
@@ -182,6 +182,19 @@ def programs(_program, _folder):
             for heap in heaps:
                 found = lisp.run_program(name, "--heap", str(heap))
                 yield "%s in %d words, %s" % (name, heap, way), difference(found, Outcome(content(name + ".output")))
+
+
+def by_valgrind(_program, _folder):
+    """Checks that values, errors and a whole collection read nothing that was never written, and lose no block."""
+    if not built_lisps() or not has_valgrind("examples/lisp"):
+        return
+    _, lisp = built_lisps()[0]
+    yield "examples/lisp, for valgrind", lisp.why
+    texts = {name: (text, "".join(line + "\n" for line in values.split("|" if "|" in values else " "))) for name, (text, values) in EVALUATED.items()}
+    texts["a loop"] = ("(define (spin n) (if (= n 0) 'done (spin (- n 1)))) (spin 2000)", "done\n")
+    for name, (text, printed) in texts.items() if lisp.why is None else []:
+        found = done([*VALGRIND, lisp.path, "--heap", "20000"], input=(text + "\n").encode())
+        yield "%s, by valgrind" % name, difference(found, Outcome(printed.encode()))
 
 
 def evaluating(_program, _folder):
@@ -294,6 +307,10 @@ FILLING = """(define big '())
 """
 
 
+# Each call waits for the next one, and makes a list that is garbage at once.
+DEEP = "(define (deep n) (if (= n 0) 0 (+ 1 (begin (iota 4) (deep (- n 1)))))) (deep 100000)"
+
+
 def limits(_program, _folder):
     """Tests heaps that are too small or full, and deep data and calls."""
     for way, lisp in built_lisps():
@@ -312,6 +329,14 @@ def limits(_program, _folder):
             yield "behind full heaps of %d, %s" % (heap, way), None if found.stdout == b"100\n" else "printed %r" % found.stdout
         deep = "(define (deep n) (if (= n 0) 0 (+ 1 (deep (- n 1))))) (deep 30000)"
         yield "30000 calls deep, %s" % way, difference(lisp.run(deep, "--heap", "1048576"), Outcome(b"30000\n"))
+        found = lisp.run(DEEP, "--heap", "2000000", "--pauses")
+        _, collections, copied, waits = totals(found)
+        yield "100000 calls deep, %s" % way, difference(found, Outcome(b"100000\n", found.stderr))
+        yield "collections meanwhile, %s" % way, None if collections > 5 and copied > 100000 * collections // 4 and waits == 0 else found.stderr[-200:]
+        overflow = lisp.run("(define (deep n) (if (= n 0) 0 (+ 1 (deep (- n 1))))) (deep 300000) (deep 100)", "--heap", "8000000")
+        # 209715 waiting calls take five values each, which leaves one; the next frame is that of (- n 1).
+        full = b"error: input, line 1, column 43: the stack is full: it has 1048576 values (--heap WORDS makes it larger)\n"
+        yield "a full stack, %s" % way, difference(overflow, Outcome(b"100\n", full))
         nested = "(" * 30000 + ")" * 30000
         yield "30000 lists deep, %s" % way, difference(lisp.run("'" + nested, "--heap", "1048576"), Outcome(nested.encode() + b"\n"))
         equal = "(define (nest n x) (if (= n 0) x (nest (- n 1) (list x)))) (equal? (nest 10000 1) (nest 10000 1))"
@@ -324,9 +349,11 @@ REFUSED_TEXT = """(define (build n) (if (= n 0) '() (cons n (build (- n 1)))))
 (length (build 200))
 (length (build 300))
 (length (build 100))
+(length (build 250))
+(length (build 150))
 (+ 1 2)
 """
-REFUSED_VALUES = [b"200", b"300", b"100", b"3"]
+REFUSED_VALUES = [b"200", b"300", b"100", b"250", b"150", b"3"]
 
 
 def wrong_refusal(found):
@@ -427,4 +454,4 @@ def sessions(_program, _folder):
             yield "session %d of %s" % (number, DOCUMENT), None if is_shown else "printed %s" % printed
 
 
-GROUPS = [programs, evaluating, command_line, interrupting, pace, limits, refused_allocations, no_collector, traces, histogram, sessions]
+GROUPS = [programs, by_valgrind, evaluating, command_line, interrupting, pace, limits, refused_allocations, no_collector, traces, histogram, sessions]

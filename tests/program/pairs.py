@@ -4,9 +4,9 @@ Verdicts and faults follow from the formats and the checker's rules (docs/FORMAT
 """
 
 
-def text_of(lines, version=1):
-    """Returns the text of a pair. `lines` are those between the first and the last, separated by slashes."""
-    return ("heappair %d/%s/end/" % (version, lines)).replace("/", "\n").encode()
+def text_of(lines, version=1, form="heappair"):
+    """Returns a text of this form, that of a pair by default. `lines` are those between the first and the last, separated by slashes."""
+    return ("%s %d/%s/end/" % (form, version, lines)).replace("/", "\n").encode()
 
 
 # The name, the lines between the first and the last, and the verdict.

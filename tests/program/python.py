@@ -64,7 +64,7 @@ def suites(_program, folder):
     if python is None:
         return
     yield "the package is built", python.why
-    for name in ("test_checker.py", "test_heap.py", "test_explore.py"):
+    for name in ("test_checker.py", "test_inference.py", "test_heap.py", "test_explore.py"):
         found = python.run(os.path.join(TESTS, name))
         yield name, None if found.status == 0 and found.stderr.endswith(b"\nOK\n") else found.stderr.decode()
     shown = python.run("-m", "doctest", "-v", README)

@@ -51,6 +51,7 @@ SPARED = {
     "worlds::useful_flip_of_2500_in_threads": is_for_threads,
     # Room for all seats at once: without it, each seat asks for its own.
     "seats::shared_open": lambda request, count: request == 1,
+    "seats::shared_open_of_16_collectors": lambda request, count: request == 1,
     "seats::threads_run_scripts": lambda request, count: request == 1,
 }
 

@@ -11,7 +11,8 @@ CRATE = os.path.join(TOP, "bindings", "rust")
 SECONDS = 600
 
 # The output of the example programs, as their comments derive it.
-EXAMPLE_OUTPUT = {"first_check": b"flip: 1 pairs\n", "first_heap": b"Number(42)\n", "two_threads": b"50005000\n"}
+EXAMPLE_OUTPUT = {"first_check": b"flip: 1 pairs\n", "first_heap": b"Number(42)\n", "two_threads": b"50005000\n",
+                  "extra_roots": b"pushed 1000\nflipped 1001\nthe last one popped is Object { kind: 0, fields: 0 }\n"}
 
 
 class Cargo:

@@ -6,8 +6,8 @@ import subprocess
 import tempfile
 
 from .crates import over_built
-from .edits import BadEdit
-from .evidence import Answer, FalseAnswer, Goal, clause_of
+from .edits import BadEdit, changed_texts
+from .evidence import Answer, FalseAnswer, Goal, kind_of
 from .functions import item_at
 
 PARTS = ("src", "specs", "proofs")
@@ -40,30 +40,40 @@ def answered_at(folder, path, line):
     return names[-1] if names else None
 
 
-def answered_clauses(folder, item):
-    """Returns the clauses of a function for which its proof files have answers."""
+def answered_kinds(folder, item):
+    """Returns the kinds of goals of a function for which its proof files have answers."""
     found = set()
     for path, _, names in os.walk(os.path.join(folder, "proofs")):
         if item and item.name and "Answers.antt" in names and item.has_proofs_in(os.path.relpath(path, os.path.join(folder, "proofs"))):
             with open(os.path.join(path, "Answers.antt"), encoding="utf-8") as file:
                 declared = [DECLARED.match(line) for line in file.read().split("\n")]
-            found |= {clause_of(each.group(1)) for each in declared if each}
+            found |= {kind_of(each.group(1)) for each in declared if each}
     return found
+
+
+def messages_in(output):
+    """Yields each line of what a check printed that is not indented, with the indented lines below it, which go on with it."""
+    lines = []
+    for line in output.split("\n") + [""]:
+        if lines and not line.startswith(" "):
+            yield lines[0], " ".join(lines)
+            lines = []
+        lines.append(line)
 
 
 def found_in(output, folder, items):
     """Returns what a check printed: open goals, and answers that no longer fit, of these items or of others."""
     found = []
-    for line in output.split("\n"):
+    for line, message in messages_in(output):
         note, error = GOAL.match(line) or UNNAMED_GOAL.match(line), ERROR.match(line)
         if note:
             item = item_of_note(folder, note.group(1), int(note.group(2)))
-            found.append(Goal(item, line, note.group(3) if note.re is GOAL else "", IS_FALSE in line, answered_clauses(folder, item)))
+            found.append(Goal(item, line, note.group(3) if note.re is GOAL else "", IS_FALSE in line, answered_kinds(folder, item)))
         elif error and not FOLLOWS.search(error.group(5)):
             owners = [item for item in items if item.name and item.has_proofs_in(error.group(2))]
             owner, answered = owners[0] if owners else None, answered_at(folder, error.group(1), int(error.group(4)))
             is_false = FAILS in error.group(5) and owner and answered
-            found.append(FalseAnswer(owner, line, answered) if is_false else Answer(owner, line, answered, bool(LOST.search(error.group(5)))))
+            found.append(FalseAnswer(owner, line, answered) if is_false else Answer(owner, line, answered, bool(LOST.search(message))))
     return found
 
 
@@ -72,7 +82,18 @@ class Checks:
 
     def __init__(self, crate, listed, kept):
         self.crate, self.kept = crate, kept
+        # The number of checks so far, and their processor time.
+        self.count, self.seconds = 0, 0.0
         self.words = over_built("check", crate, listed) + ["--incremental", kept]
+
+    def call(self, words, folder):
+        """Returns the status and the output of a call of the prover, and adds its processor time."""
+        with subprocess.Popen(words, cwd=folder, stdin=subprocess.DEVNULL, stdout=subprocess.PIPE, stderr=subprocess.STDOUT) as ran:
+            output = ran.stdout.read().decode("utf-8", "replace")
+            _, status, used = os.wait4(ran.pid, 0)
+            ran.returncode = os.WEXITSTATUS(status) if os.WIFEXITED(status) else -1
+        self.count, self.seconds = self.count + 1, self.seconds + used.ru_utime + used.ru_stime
+        return ran.returncode, output
 
     def run(self, edits, names):
         """Returns what a check finds with these edits, or None if all is proved. Checks the functions of these names, or all if there
@@ -81,15 +102,18 @@ class Checks:
             for part in PARTS:
                 if os.path.isdir(os.path.join(self.crate.folder, part)):
                     shutil.copytree(os.path.join(self.crate.folder, part), os.path.join(folder, part))
-            for edit in edits:
-                edit.apply(folder)
+            for path, text in changed_texts(edits, folder).items():
+                with open(os.path.join(folder, path), "w", encoding="utf-8") as file:
+                    file.write(text)
             words = self.words + [word for name in sorted(names) for word in ("--only", name)]
-            ran = subprocess.run(words, cwd=folder, stdin=subprocess.DEVNULL, stdout=subprocess.PIPE, stderr=subprocess.STDOUT)
-            output = ran.stdout.decode("utf-8", "replace")
+            status, output = self.call(words, folder)
             last = output.rstrip("\n").split("\n")[-1]
-            if ran.returncode == 0:
+            if status == 0:
                 return None
-            if ran.returncode != 1 or not last.startswith(("logic=not-proved", "only=")):
-                lines = [line for line in output.split("\n") if "error" in line] or [last]
-                raise BadEdit("it did not reach the prover: " + lines[0][:200])
-            return found_in(output, folder, [item for edit in edits for item in edit.items if item])
+            first_error = ([line for line in output.split("\n") if "error" in line] or [last])[0][:200]
+            if status != 1 or not last.startswith(("logic=not-proved", "only=")):
+                raise BadEdit("it did not reach the prover: " + first_error)
+            found = found_in(output, folder, [item for edit in edits for item in edit.items if item])
+            if not found:
+                raise BadEdit("the prover refused it, but at no goal: " + first_error)
+            return found

@@ -3,11 +3,11 @@ import os
 import re
 
 from .crates import TOP
-from .edits import BadEdit, Edit, names_of
+from .edits import BadEdit, Edit
 from .evidence import Answer, Goal, counted
 
 CONTROLS = os.path.join(TOP, "tests", "controls", "edits")
-KIND = re.compile(r"(?m)^# control: (answers|renamed|nothing|clause)$")
+KIND = re.compile(r"(?m)^# control: (answers|lost|renamed|nothing|clause)$")
 
 
 class Control:
@@ -21,6 +21,12 @@ class Control:
             self.edit, self.why_none = Edit(crate, name, os.path.join(CONTROLS, crate)), None
         except BadEdit as why:
             self.edit, self.why_none = None, str(why)
+
+    def why_settled(self):
+        """Returns why a control that needs no check fails as a test, or None: one that changes a clause, or that is no edit."""
+        if self.kind != "clause":
+            return self.why_none
+        return None if "changes a clause" in (self.why_none or "") else "it is an edit like any other"
 
 
 def controls_of(crate):
@@ -39,20 +45,8 @@ def why_wrong(control, found):
         return "a goal counts, so it is refused"
     if control.kind == "answers" and not any(isinstance(each, Answer) and not each.is_lost for each in found):
         return "no answer stays behind that does not fit"
+    if control.kind == "lost" and not any(isinstance(each, Answer) and each.is_lost for each in found):
+        return "no answer loses a name"
     if control.kind == "renamed" and not any(isinstance(each, Goal) for each in found):
         return "no goal stands open under a new name"
     return None
-
-
-def tried_controls(controls, checks):
-    """Yields each control with why it fails as a test, or None."""
-    for control in controls:
-        if control.kind == "clause":
-            yield control, None if "changes a clause" in (control.why_none or "") else "it is an edit like any other"
-        elif control.why_none:
-            yield control, control.why_none
-        else:
-            try:
-                yield control, why_wrong(control, checks.run([control.edit], names_of([control.edit])))
-            except BadEdit as why:
-                yield control, str(why)

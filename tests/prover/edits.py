@@ -9,8 +9,6 @@ from .functions import contracts_of, item_at
 # Where an edit is refused, and in which way: a function, and clauses of it.
 REFUSED_AT = re.compile(r"# (refused(?: by values of an answer| by values| beside answers)?) at ([\w:]+): ([\w-]+(?:, [\w-]+)*)$")
 
-NOT_SHOWN = "# not shown yet: only answers break"
-
 
 class BadEdit(Exception):
     """An edit that cannot be applied, or that does not reach the prover."""
@@ -43,12 +41,6 @@ def places_of(path):
     return {(found.group(1), found.group(2), clause) for found in told if found for clause in found.group(3).split(", ")}
 
 
-def says_not_shown(path):
-    """Returns whether an edit's file says that nothing shows yet that it is wrong."""
-    with open(path, encoding="utf-8") as lines:
-        return NOT_SHOWN in lines.read().split("\n")
-
-
 def place_of(text, old, path):
     """Returns where the only occurrence of an old text begins."""
     if text.count(old) != 1:
@@ -69,7 +61,7 @@ class Edit:
         self.crate, self.name = crate, name
         path = os.path.join(folder or os.path.join(CRATES, crate, "must-fail"), name)
         self.changes = list(changes_of(path))
-        self.places, self.is_shown = places_of(path), not says_not_shown(path)
+        self.places = places_of(path)
         if not self.changes:
             raise BadEdit("it changes nothing")
         self.items = [self.item_of(path, old) for path, old, _ in self.changes]
@@ -98,20 +90,29 @@ class Edit:
 
     def texts_in(self, folder):
         """Returns the changed files by their paths, as the edit makes them from those of the folder, which is the crate's or a copy."""
-        texts = {}
-        for path, old, new in self.changes:
+        return changed_texts([self], folder)
+
+
+def changed_texts(edits, folder):
+    """Returns the changed files by their paths, as these edits together make them from those of the folder."""
+    texts = {}
+    for edit in edits:
+        for path, old, new in edit.changes:
             if path not in texts:
                 with open(os.path.join(folder, path), encoding="utf-8") as file:
                     texts[path] = file.read()
             place_of(texts[path], old, path)
             texts[path] = texts[path].replace(old, new)
-        return texts
+    return texts
 
-    def apply(self, folder):
-        """Changes the files of a copy of the crate. In a group, no other edit has changed the same function."""
-        for path, text in self.texts_in(folder).items():
-            with open(os.path.join(folder, path), "w", encoding="utf-8") as file:
-                file.write(text)
+
+def can_join(edits):
+    """Returns whether these edits of a crate can be made together: none makes a text that another one looks for."""
+    try:
+        changed_texts(edits, os.path.join(CRATES, edits[0].crate))
+    except BadEdit:
+        return False
+    return True
 
 
 def edits_of(crate):

@@ -7,16 +7,19 @@ may be an old one under a new name: if an answer to a goal of the same clause lo
 There are four ways, from the strongest to the weakest, and the file of an edit says which one holds it:
 
 - 'refused by values': the prover found values for which the goal is false;
-- 'refused': the goal is open, and no goal of this clause has an answer. So the prover finds the proofs of this clause by itself;
-- 'refused beside answers': the goal is open, and it needs no answer in the right body, but other goals of this clause do;
+- 'refused': the goal is open, and no goal of this kind has an answer. So the prover finds the proofs of this clause by itself;
+- 'refused beside answers': the goal is open and has no answer, but other goals of this kind have. The prover finds its proof in the right
+  body, or the wrong body has a return or step of its own;
 - 'refused by values of an answer': the arithmetic of an answer fails, and the prover found values for which all that it cites holds.
 
-An edit for which only answers break is 'not shown yet'. It counts for nothing until it is written anew.
+An edit for which only answers break is not refused.
 """
 import re
 
 CLAUSE = re.compile(r"-clause-(\w+)$")
 RETURNS = re.compile(r"returns\b")
+# What the name of a goal adds if the step stands in a branch, or is not the first of its kind.
+WHERE = re.compile(r"-(?:then|else|in|in_\w+|\d+)(?=-|$)")
 
 
 def clause_of(goal):
@@ -29,15 +32,21 @@ def clause_of(goal):
 BY_VALUES, ALONE, BESIDE_ANSWERS, IN_AN_ANSWER = "refused by values", "refused", "refused beside answers", "refused by values of an answer"
 
 
+def kind_of(goal):
+    """Returns the clause of a goal. Goals of one kind of step are of one kind, wherever these steps stand: a new branch renames them."""
+    clause = clause_of(goal)
+    return WHERE.split(clause)[0] if clause == goal else clause
+
+
 class Goal:
     """An open goal: the function or other item that it belongs to, the line that tells it, its name, whether the prover found values for
-    which it does not hold, and whether other goals of its clause have answers."""
+    which it does not hold, and whether goals of its kind have answers."""
 
     def __init__(self, item, line, name, is_false, answered):
         self.item, self.line, self.name, self.is_false = item, line, name, is_false
         self.key = item.key if item else None
         self.clause = clause_of(name)
-        self.way = BY_VALUES if is_false else BESIDE_ANSWERS if self.clause in answered else ALONE
+        self.way = BY_VALUES if is_false else BESIDE_ANSWERS if kind_of(name) in answered else ALONE
 
     def place(self):
         """Returns the way in which the goal shows it, the function and the clause, as the file of an edit has them."""
@@ -63,12 +72,12 @@ class Answer:
 
 def counted(found, keys):
     """Returns the open goals of these functions that show that a body is wrong. A goal may be an old one under a new name if an answer to a
-    goal of its clause is lost, or if all answers may be."""
+    goal of its kind is lost, or if all answers may be."""
     goals = []
     for key in keys:
         lost = [answer for answer in found if isinstance(answer, Answer) and answer.key == key and (answer.is_lost or answer.goal is None)]
         if any(answer.goal is None for answer in lost):
             continue
-        renamed = {clause_of(answer.goal) for answer in lost}
-        goals += [goal for goal in found if isinstance(goal, Goal) and goal.key == key and (goal.is_false or goal.clause not in renamed)]
+        renamed = {kind_of(answer.goal) for answer in lost}
+        goals += [goal for goal in found if isinstance(goal, Goal) and goal.key == key and (goal.is_false or kind_of(goal.name) not in renamed)]
     return goals

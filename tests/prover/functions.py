@@ -2,9 +2,11 @@
 import re
 
 HEAD = re.compile(r"""(?m)^(?: *(?://|#\[).*\n)* *(?:pub(?:\([^)]*\))? )?(?:(?:(?:const|unsafe|extern "C") )*fn (\w+)|(?:const|struct|enum|trait|impl)\b[^\n{]*)""")
-IMPL = re.compile(r"impl(?:<[^>]*>)? *(?:(\w+(?:<\w+>)?) for )?(\w+)")
+IMPL = re.compile(r"impl(?:<[^>]*>)? *(?:(?:\w+::)*(\w+(?:<\w+>)?) for )?(\w+)")
 # In the layout of `rt fmt`, each clause begins a line, and so do the ghost members of a type.
 CLAUSE = re.compile(r" *(?:requires|ensures|ghost)\b(?! use\b)")
+# What the words of clauses mean.
+IMPORT = re.compile(r"(?m)^ *ghost use\b.*$")
 # The end of a signature below which a body stands at once.
 BODY = re.compile(r"^(?! *(?://|#)).*\{$")
 
@@ -61,8 +63,10 @@ def contract_of(text, item):
 
 
 def contracts_of(path, text):
-    """Returns the contract of each function of a source file by its owner and name, and the ghost members of the types."""
+    """Returns the contract of each function of a source file by its owner and name, the ghost members of the types, and the imports of
+    definitions, which say what the words of clauses mean."""
     items = items_of(path, text)
     found = {(item.owner, item.name): contract_of(text, item) for item in items if item.name}
     found["types"] = [line for item in items if not item.name for line in contract_of(text, item)]
+    found["imports"] = IMPORT.findall(text)
     return found

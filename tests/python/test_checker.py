@@ -5,7 +5,7 @@ import unittest
 
 import gcflip
 from gcflip import Image, Refusal, check, check_text
-from gcflip.checker import _Block
+from gcflip.checker import Block
 from limits import at_most
 
 # Of <sys/mman.h>; the module mmap has it from Python 3.13 on.
@@ -72,6 +72,10 @@ class Refusals(unittest.TestCase):
         self.assertEqual(line, "refused 9 FieldDiffers 0 0")
 
 
+# How many objects without fields the large images and texts have.
+MANY = 30000
+
+
 class Rows(unittest.TestCase):
     def test_kinds_of_rows(self):
         words, roots = array.array("Q", OLD.words), array.array("Q", OLD.roots)
@@ -82,13 +86,22 @@ class Rows(unittest.TestCase):
         for pairs in (flat, memoryview(flat), table, iter(PAIRS), ((5, 1),)):
             self.assertEqual(check(OLD, NEW, pairs), 1)
 
+    def test_large_rows(self):
+        """Checks images of 60001 words in each kind of row. The last object has to be a start, so no row may be cut."""
+        words = array.array("Q", [0] + [16777216, 0] * MANY)
+        pairs = array.array("I", [address for number in range(MANY) for address in (1 + 2 * number, 1 + 2 * number)])
+        for row in (words, memoryview(words), memoryview(words).toreadonly(), words.tolist()):
+            for given in (pairs, memoryview(pairs).toreadonly(), list(zip(pairs[::2], pairs[1::2]))):
+                image = Image(row, [])
+                self.assertEqual(check(image, image, given), MANY)
+
     def test_rows_are_read_in_place(self):
         words = array.array("Q", OLD.words)
         address = words.buffer_info()[0]
-        self.assertEqual(_Block(words, "Q").address, address)
-        self.assertEqual(_Block(memoryview(words), "Q").address, address)
-        self.assertEqual(_Block(memoryview(words)[2:], "Q").address, address + 16)
-        self.assertNotEqual(_Block(memoryview(words).toreadonly(), "Q").address, address)
+        self.assertEqual(Block(words, "Q").address, address)
+        self.assertEqual(Block(memoryview(words), "Q").address, address)
+        self.assertEqual(Block(memoryview(words)[2:], "Q").address, address + 16)
+        self.assertNotEqual(Block(memoryview(words).toreadonly(), "Q").address, address)
 
     def test_rows_are_left_as_they_are(self):
         words = array.array("Q", OLD.words)
@@ -151,6 +164,15 @@ class Texts(unittest.TestCase):
         for text in (TEXT, bytearray(TEXT), memoryview(TEXT), memoryview(bytearray(TEXT))):
             self.assertEqual(check_text(text), 0)
 
+    def test_large_buffers(self):
+        """Checks a text of more than 1000000 bytes in each kind of buffer."""
+        image = "%d %d\n0\n" % (1 + 2 * MANY, 1 + 2 * MANY) + "16777216\n0\n" * MANY + "roots 0\n"
+        pairs = "".join("%d %d\n" % (1 + 2 * number, 1 + 2 * number) for number in range(MANY))
+        text = ("heappair 1\nold %snew %spairs %d\n%send\n" % (image, image, MANY, pairs)).encode()
+        self.assertGreater(len(text), 1000000)
+        for given in (text, bytearray(text), memoryview(text), memoryview(bytearray(text)), array.array("B", text)):
+            self.assertEqual(check_text(given), MANY)
+
     def test_faults(self):
         with self.assertRaises(gcflip.BadLine) as caught:
             check_text(TEXT.replace(b"roots 0", b"roots", 1))
@@ -166,6 +188,11 @@ class Texts(unittest.TestCase):
         with self.assertRaises(gcflip.Refused) as caught:
             check_text(TEXT.replace(b"old 1 1\n0", b"old 1 1\n7"))
         self.assertEqual(str(caught.exception), "refused 1 OldShape 0")
+
+
+class Library(unittest.TestCase):
+    def test_version(self):
+        self.assertEqual(gcflip.library_version(), "0.1.0")
 
 
 if __name__ == "__main__":

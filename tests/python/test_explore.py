@@ -177,7 +177,14 @@ class Certificates(unittest.TestCase):
             words = played(trace, position).words()
             if words.new is not None:
                 certificate = state.Certificate(words)
-                self.assertEqual(checking.checked(certificate.text().encode(), 900)["line"], certificate.verdict().line)
+                told = checking.checked(certificate.text().encode(), 900)
+                self.assertEqual((told["line"], told["where"]), (certificate.verdict().line, certificate.where()))
+
+    def test_where_a_flip_would_lose_a_write(self):
+        """The replica has nil where the write of 9 is still in the log."""
+        trace = read_trace(b"heaptrace 1\nspace 32 mutators 1\nm 0 new r0 1 1\nm 0 num r1 9\nc begin\nc roots\nc scan\nm 0 put r0 0 r1\n")
+        words = played(trace, 6).words()
+        self.assertEqual(state.Certificate(words).where(), "r0 of mutator 0 . field 0: old 9, new nil")
 
 
     def test_a_root_without_a_replica_becomes_nil(self):
@@ -216,6 +223,23 @@ class Checking(unittest.TestCase):
         pair = read_pair(good.decode())
         self.assertIn("link", checking.why_accepted(pair, checking.Place("old", "words", 6)))
         self.assertIn("garbage", checking.why_accepted(pair, checking.Place("old", "words", 3)))
+
+    def test_a_refusal_says_where(self):
+        bad = next(example["text"] for example in PAIRS if example["name"] == "replica_out_of_date").encode()
+        self.assertEqual(checking.checked(bad, 900)["where"], "r0 of mutator 0 . field 1: old 9, new nil")
+        good = next(example["text"] for example in PAIRS if example["name"] == "garbage_left_behind").encode()
+        self.assertEqual(checking.checked(good, 900)["where"], "")
+
+    def test_pairs_of_images_are_inferred(self):
+        old, new = "old 9 7/0/16777217/0/8/16777217/0/15/roots 1/2", "new 9 7/0/16777217/0/8/16777217/0/%s/roots 1/2"
+        for last, line, where in (("15", "yes 2", ""), ("79", "refused 9 FieldDiffers 1 0", " root 0 . field 0 . field 0: old 7, new 39")):
+            text = ("heapimages 1/%s/%s/end/" % (old, new % last)).replace("/", "\n").encode()
+            found = checking.checked(text, 900)
+            self.assertEqual((found["line"], found["where"]), (line, checking.INFERRED + where))
+            self.assertIn("picture", found)
+        for text, fault in ((b"heapimages 1\nend\n", "images: line 2 is not the size and the end of an image"),
+                            (b"heapimages 1\nold 1 1\n0\nroots 0\nend\n", "images: there is no new image")):
+            self.assertEqual(checking.checked(text, 900), {"line": fault, "fault": True, "bad_line": None})
 
     def test_texts_that_cannot_be_spoiled(self):
         for text in (b"", b"heappair 1\n", b"\xff"):

@@ -112,6 +112,30 @@ class Commands(unittest.TestCase):
             self.assertIsInstance(caught.exception, gcflip.HeapRefused)
         self.assertIsNone(self.mutator.look(own(0)))
 
+    def test_extra_roots(self):
+        with Heap(32, 2, extra_roots=3) as heap:
+            first, second = heap.mutator(0), heap.mutator(1)
+            first.new(own(0), 7, 0)
+            first.store(2, own(0))
+            first.nil(own(0))
+            first.num(own(1), 5)
+            first.store(0, own(1))
+            self.assertEqual(heap.work(100).pairs, 1)
+            second.load(own(3), 2)
+            self.assertEqual(second.look(own(3)), gcflip.Object(7, 0))
+            second.load(shared(0), 0)
+            self.assertEqual(first.look(shared(0)), 5)
+            image = heap.image()
+            self.assertEqual((len(image.roots), list(image.roots[48:])), (51, [2 * 5 + 1, 0, 2]))
+            self.assertEqual(heap.counts(), (32, 3, 29, 2, 3, False, 0, 0, 0, 0, 0))
+            heap.clear_roots(0, 3)
+            second.load(own(3), 2)
+            self.assertIsNone(second.look(own(3)))
+            for call in (lambda: first.load(0, 3), lambda: first.load(32, 0), lambda: first.store(3, 0), lambda: first.store(-1, 0),
+                         lambda: heap.clear_roots(0, 4), lambda: heap.clear_roots(2, 1), lambda: Heap(32, 1, 1048577), lambda: Heap(32, 1, -1)):
+                with self.assertRaises(gcflip.OutOfRange):
+                    call()
+
     def test_arguments_out_of_range(self):
         calls = [
             lambda: Heap(0), lambda: Heap(-1), lambda: Heap(1 << 32), lambda: Heap(16, 0), lambda: Heap(16, 17), lambda: Heap(16, 257),
@@ -120,7 +144,8 @@ class Commands(unittest.TestCase):
             lambda: self.mutator.new(32, 0, 0), lambda: self.mutator.new(256, 0, 0), lambda: self.mutator.new(0, 256, 0),
             lambda: self.mutator.new(0, 0, 65536), lambda: self.mutator.num(0, 1 << 63), lambda: self.mutator.num(0, 1 << 64),
             lambda: self.mutator.num(0, -1), lambda: self.mutator.get(0, 0, 65536), lambda: self.heap.begin(0),
-            lambda: self.heap.begin(1 << 32), lambda: self.heap.apply(2), lambda: self.heap.work(0), lambda: self.heap.log_length(2),
+            lambda: self.heap.begin(1 << 32), lambda: self.heap.apply(2), lambda: self.heap.work(0), lambda: self.heap.work(0, size=8),
+            lambda: self.heap.work(1, size=0), lambda: self.heap.log_length(2),
             lambda: self.heap.log_entry(0, 0), lambda: self.heap.new_words(),
         ]
         for number, call in enumerate(calls):
@@ -150,6 +175,9 @@ class Steps(unittest.TestCase):
             self.assertEqual(heap.work(1), (1, 0, Step.BEGUN, 0))
             self.assertEqual(heap.work(2), (2, 3, Step.SCANNED, 0))
             self.assertEqual(heap.work(9), (2, 0, Step.FLIPPED, 1))
+            self.assertEqual(heap.work(9, size=20), (5, 3, Step.FLIPPED, 1))
+            self.assertEqual(heap.counts().size, 20)
+            self.assertEqual(heap.work(9, 3), (2, 0, Step.NO_ROOM, 0))
 
 
 class Readings(unittest.TestCase):
@@ -157,11 +185,11 @@ class Readings(unittest.TestCase):
         with Heap(16, 2) as heap:
             mutator = heap.mutator(1)
             mutator.new(shared(0), 3, 1)
-            self.assertEqual(heap.counts(), (16, 4, 12, 2, False, 0, 0, 0, 0))
+            self.assertEqual(heap.counts(), (16, 4, 12, 2, 0, False, 0, 0, 0, 0, 0))
             heap.begin(20)
             heap.roots()
             mutator.put(shared(0), 0, own(0))
-            self.assertEqual(heap.counts(), (16, 4, 12, 2, True, 20, 4, 1, 0))
+            self.assertEqual(heap.counts(), (16, 4, 12, 2, 0, True, 20, 4, 1, 0, 1))
             self.assertIs(heap.counts().is_open, True)
             self.assertEqual((heap.log_length(0), heap.log_length(1)), (0, 1))
             self.assertEqual(heap.log_entry(1, 0), LogEntry(1, 0))
@@ -175,6 +203,21 @@ class Readings(unittest.TestCase):
             heap.mutator(0).new(own(0), 1, 0)
             image = heap.image()
             self.assertEqual((image.size, gcflip.check(image, image, [(1, 1)])), (16, 1))
+
+    def test_images_are_freed(self):
+        """Copies 200 images and 200 new spaces of 8 MiB each within 128 MiB, so each copy has to be freed."""
+        with Heap(1 << 20) as heap:
+            mutator, end = heap.mutator(0), 1 + 15 * (65537 + 4)
+            for _ in range(15):
+                mutator.raw(own(0), 1, 65535)
+                mutator.cons(own(2), 1, own(0), own(1))
+                mutator.move(own(1), own(2))
+            heap.begin()
+            while heap.counts().new_end < end:
+                heap.work(1)
+            with at_most(128 << 20):
+                for _ in range(200):
+                    self.assertEqual((len(heap.image().words), len(heap.new_words())), (end, end))
 
     def test_images_while_a_thread_allocates(self):
         """Each image is that of one moment: its objects end where its words do, while another thread makes objects and collects."""
@@ -244,14 +287,32 @@ class Lives(unittest.TestCase):
         self.assertIsNone(gone())
 
     def test_out_of_memory(self):
-        heap = Heap(1048576)
+        """The spaces have 64 MiB. The C library keeps smaller blocks after they were freed, and would give them again."""
+        heap = Heap(1 << 23)
         heap.mutator(0).new(own(0), 1, 1)
         with at_most(1 << 20):
-            for call in (lambda: Heap(1048576), heap.begin, lambda: heap.work(1)):
+            for call in (lambda: Heap(1 << 23), heap.begin, lambda: heap.work(1)):
                 with self.assertRaises(gcflip.OutOfMemory):
                     call()
         self.assertEqual(heap.begin(), Step.BEGUN)
         heap.close()
+
+    def test_a_get_returns_what_it_read(self):
+        """Reads a field into a shared slot, to which another thread writes numbers. The field always refers to an object."""
+        before = sys.getswitchinterval()
+        sys.setswitchinterval(1e-6)
+        self.addCleanup(sys.setswitchinterval, before)
+        with Heap(64, 2) as heap:
+            mutator, done = heap.mutator(0), threading.Event()
+            mutator.new(own(1), 7, 2)
+            mutator.cons(own(0), 1, own(1), own(1))
+            thread = threading.Thread(target=disturb, args=(heap.mutator(1), done))
+            thread.start()
+            try:
+                self.assertEqual({mutator.get(shared(0), own(0), number % 2) for number in range(20000)}, {Object(7, 2)})
+            finally:
+                done.set()
+                thread.join()
 
     def test_threads_take_turns(self):
         """Lets each of four threads count to 2000 in an object that a collector copies meanwhile."""
@@ -274,6 +335,12 @@ def allocate(heap, done):
                 pass
 
 
+def disturb(mutator, done):
+    """Puts numbers into the first shared slot until it is told to stop."""
+    while not done.is_set():
+        mutator.num(shared(0), 5)
+
+
 def starts(words):
     """Returns the addresses of the objects of an image in which no object has fields."""
     return range(1, len(words), 2)
@@ -285,6 +352,37 @@ def count(mutator):
         mutator.num(own(1), number)
         mutator.put(own(0), 0, own(1))
         assert mutator.get(own(2), own(0), 0) == number
+
+
+class Paced(unittest.TestCase):
+    """Paced work by hand: a heap of 100 words, whose collection begins at 8."""
+
+    def test_one_collection(self):
+        with gcflip.Heap(100, 1) as heap:
+            pace = gcflip.Pace(least=8)
+            self.assertIsNone(heap.work_paced(pace))
+            heap.mutator(0).new(gcflip.own(0), 1, 5)
+            self.assertEqual(heap.steps_due(pace), 1)
+            self.assertEqual(heap.work_paced(pace), (1, 0, Step.BEGUN, 0))
+            self.assertIsNone(heap.work_paced(pace))
+            # A program that wants all 92 free words waits for the flip: 7 steps for the words of the object, and the flip.
+            self.assertEqual(heap.steps_due(pace, 92), 8)
+            self.assertEqual(heap.work_paced(pace, 92), (8, 7, Step.FLIPPED, 1))
+            heap.remember(pace)
+            self.assertIsNone(heap.work_paced(pace))
+
+    def test_refusals(self):
+        with gcflip.Heap(100, 1) as heap:
+            for pace in (gcflip.Pace(factor=99), gcflip.Pace(factor=10001)):
+                for call in (lambda: heap.work_paced(pace), lambda: heap.remember(pace)):
+                    with self.assertRaises(gcflip.OutOfRange):
+                        call()
+            for call in (lambda: gcflip.Pace(factor=-1), lambda: heap.work_paced(gcflip.Pace(), -1), lambda: heap.steps_due(gcflip.Pace(), 1 << 32)):
+                with self.assertRaises(gcflip.OutOfRange):
+                    call()
+            heap.close()
+            with self.assertRaises(gcflip.Closed):
+                heap.work_paced(gcflip.Pace())
 
 
 if __name__ == "__main__":

@@ -1,15 +1,19 @@
 """Herbpond's certificate checker and its collected heap.
 
-`check` decides whether one heap image may replace another, and `check_text` does so for a pair text. `Heap` is a heap of
-objects with an incremental, replicating collector. The proofs are about the library, not about this package.
+`check` decides whether one heap image may replace another, `compare` does so without a certificate, and `check_text` for a pair
+text. `Heap` is a heap of objects with an incremental, replicating collector. The proofs are about the library, not about this
+package.
 """
 from .checker import Image, Pairs, Row, check, check_text
 from .errors import (BadLine, BadText, Busy, Closed, EndsEarly, FlipRefused, Full, GcflipError, HeapRefused, Idle, NoField, NoNumber,
                      NoObject, NoRoom, NotReady, OutOfMemory, OutOfRange, Refusal, Refused, TextTooLarge, TooManyPairs)
-from .heap import Counts, Heap, LogEntry, Mutator, Object, Step, Value, Work, own, shared
+from .heap import Counts, Heap, LogEntry, Mutator, Object, Pace, Step, Value, Work, own, shared
+from .inference import Comparison, Path, compare, explained, path_to
+from .library import library_version
 
 __all__ = [
-    "BadLine", "BadText", "Busy", "Closed", "Counts", "EndsEarly", "FlipRefused", "Full", "GcflipError", "Heap", "HeapRefused", "Idle",
-    "Image", "LogEntry", "Mutator", "NoField", "NoNumber", "NoObject", "NoRoom", "NotReady", "Object", "OutOfMemory", "OutOfRange",
-    "Pairs", "Refusal", "Refused", "Row", "Step", "TextTooLarge", "TooManyPairs", "Value", "Work", "check", "check_text", "own", "shared",
+    "BadLine", "BadText", "Busy", "Closed", "Comparison", "Counts", "EndsEarly", "FlipRefused", "Full", "GcflipError", "Heap",
+    "HeapRefused", "Idle", "Image", "LogEntry", "Mutator", "NoField", "NoNumber", "NoObject", "NoRoom", "NotReady", "Object", "OutOfMemory", "OutOfRange",
+    "Pace", "Pairs", "Path", "Refusal", "Refused", "Row", "Step", "TextTooLarge", "TooManyPairs",
+    "Value", "Work", "check", "check_text", "compare", "explained", "library_version", "own", "path_to", "shared",
 ]

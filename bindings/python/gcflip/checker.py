@@ -8,15 +8,13 @@ from dataclasses import dataclass
 from typing import Any, Iterable, Sequence, Tuple, Union
 
 from .errors import BadLine, EndsEarly, OutOfMemory, Refusal, Refused, TextTooLarge, TooManyPairs
-from .library import LIBRARY, Verdict, check_ranges
+from .library import LIBRARY, Answer, Verdict, check_ranges
 
 Row = Union[Sequence[int], array.array, memoryview]
 """Words. An `array` of type 'Q', or another writable and contiguous buffer of 64-bit words, is read in place. Others are copied."""
 
 Pairs = Union[Iterable[Tuple[int, int]], array.array, memoryview]
 """Pairs of an old address and a new one. A writable buffer of 32-bit words, two for each pair, is read in place."""
-
-YES, REFUSED, NO_MEMORY, TOO_MANY, TOO_LARGE, BAD_LINE, ENDS_EARLY = range(7)
 
 
 @dataclass(frozen=True)
@@ -33,7 +31,7 @@ class Image:
     """Whether header words of raw objects are valid."""
 
 
-class _Block:
+class Block:
     """Numbers in memory that does not move while the block lives."""
 
     def __init__(self, numbers: Any, code: str) -> None:
@@ -81,17 +79,18 @@ def check(old: Image, new: Image, pairs: Pairs) -> int:
     Raises Refused if a condition fails, OutOfMemory, TooManyPairs for 2^32 pairs or more, OutOfRange for a size of more than 32
     bits, and OverflowError for a word or an address that is too large.
     """
-    addresses = _Block(_flat(pairs), "I")
+    addresses = Block(_flat(pairs), "I")
     if addresses.count % 2 == 1:
         raise TypeError("a pair has two addresses")
     verdict = Verdict()
-    blocks = [_Block(row, "Q") for image in (old, new) for row in (image.words, image.roots)]
-    answer = LIBRARY.gcflip_check(*_arguments(old, *blocks[:2]), *_arguments(new, *blocks[2:]), addresses.address,
+    blocks = [Block(row, "Q") for image in (old, new) for row in (image.words, image.roots)]
+    answer = LIBRARY.gcflip_check(*arguments_of(old, *blocks[:2]), *arguments_of(new, *blocks[2:]), addresses.address,
                                   addresses.count // 2, verdict)
     return _pairs_of(answer, verdict)
 
 
-def _arguments(image: Image, words: _Block, roots: _Block) -> tuple[Any, ...]:
+def arguments_of(image: Image, words: Block, roots: Block) -> tuple[Any, ...]:
+    """Returns an image's arguments of a call."""
     size = words.count if image.size is None else image.size
     check_ranges((size, words.count), [c_uint32, c_uint32])
     return size, words.count, image.raws, words.address, words.count, roots.address, roots.count
@@ -107,18 +106,18 @@ def check_text(text: bytes | bytearray | memoryview) -> int:
     if isinstance(text, bytes):
         answer = LIBRARY.gcflip_check_text(ctypes.cast(text, ctypes.c_void_p), len(text), verdict)
     else:
-        block = _Block(memoryview(text).cast("B"), "B")
+        block = Block(memoryview(text).cast("B"), "B")
         answer = LIBRARY.gcflip_check_text(block.address, block.count, verdict)
     return _pairs_of(answer, verdict)
 
 
 def _pairs_of(answer: int, verdict: Verdict) -> int:
     """Returns the number of pairs of a yes. Raises the exception for any other answer."""
-    if answer == REFUSED:
+    if answer == Answer.REFUSED:
         raise Refused(Refusal(verdict.refusal), verdict.place, verdict.field)
-    if answer == BAD_LINE:
+    if answer == Answer.BAD_LINE:
         raise BadLine(verdict.place)
-    errors = {NO_MEMORY: OutOfMemory, TOO_MANY: TooManyPairs, TOO_LARGE: TextTooLarge, ENDS_EARLY: EndsEarly}
+    errors = {Answer.NO_MEMORY: OutOfMemory, Answer.TOO_MANY: TooManyPairs, Answer.TOO_LARGE: TextTooLarge, Answer.ENDS_EARLY: EndsEarly}
     if answer in errors:
         raise errors[answer]()
     return verdict.pairs

@@ -102,6 +102,23 @@ class Work(NamedTuple):
     """The number of pairs, if the last step was a flip; else 0."""
 
 
+def _work_of(work: library.Work) -> Work:
+    return Work(work.steps, work.copied, _step_of(work.last), work.pairs)
+
+
+class Pace:
+    """When a collection begins and how fast it goes on, and what paced work remembers of the call before. A pace belongs to one heap.
+
+    A collection begins where the heap has `factor` hundredths, 100 to 10000, of the words that the last flip left, but at least `least` words,
+    or where half of the room that the flip left is used up. `rate` steps are due for each word allocated and each entry logged; with 0
+    the counts decide.
+    """
+
+    def __init__(self, factor: int = 200, rate: int = 0, least: int = 65536) -> None:
+        check_ranges((factor, rate, least), [ctypes.c_uint32] * 3)
+        self._raw = library.RawPace(factor, rate, least, 1, 1, 0)
+
+
 class Counts(NamedTuple):
     """How full the heap is, and how far an open collection has come."""
 
@@ -112,6 +129,8 @@ class Counts(NamedTuple):
     free: int
     """The words that no object takes."""
     mutators: int
+    extra_roots: int
+    """How many the heap was opened with."""
     is_open: bool
     """Whether a collection is open. All numbers below are 0 if none is."""
     new_size: int
@@ -122,6 +141,8 @@ class Counts(NamedTuple):
     """The address of the replica at the scan pointer, or `new_end`."""
     scan_field: int
     """The number of its fields that are scanned."""
+    logged: int
+    """The entries in all logs."""
 
 
 class LogEntry(NamedTuple):
@@ -138,11 +159,14 @@ class Heap:
     All calls raise Closed after `close`, and OutOfRange if an argument is out of its range.
     """
 
-    def __init__(self, size: int, mutators: int = 1) -> None:
-        """Opens an empty heap of `size` words, 1 to 4294967295, for 1 to 16 mutators. All slots hold nil. Raises OutOfMemory."""
+    def __init__(self, size: int, mutators: int = 1, extra_roots: int = 0) -> None:
+        """Opens an empty heap of `size` words, 1 to 4294967295, for 1 to 16 mutators, with up to 1048576 extra roots. All roots hold
+        nil. Raises OutOfMemory."""
+        check_ranges((size, extra_roots, mutators), [kind for _, kind in library.Options._fields_[1:]])
         self._lock = threading.Lock()
         self._handle = library.Handle()
-        self._call("open", size, mutators)
+        self._extra_roots = extra_roots
+        self._call("open", library.Options(ctypes.sizeof(library.Options), size, extra_roots, mutators))
         self._close = weakref.finalize(self, LIBRARY.gcflip_heap_close, self._handle)
 
     def __enter__(self) -> Heap:
@@ -161,6 +185,10 @@ class Heap:
         if not 0 <= number < self.counts().mutators:
             raise OutOfRange("there is no mutator %d" % number)
         return Mutator(self, number)
+
+    def clear_roots(self, first: int, end: int) -> None:
+        """Puts nil into the extra roots from `first` on, and below `end`."""
+        self._call("root_clear", first, end)
 
     # ---- Collector steps
 
@@ -185,23 +213,47 @@ class Heap:
         """Flips if the collection is ready and the checker accepts its certificate, and returns the number of pairs. Raises
         NotReady, Idle and OutOfMemory."""
         pairs = ctypes.c_uint32()
-        self._call("flip", pairs)
+        self._call("step_flip", pairs)
         return pairs.value
 
     def drop(self) -> Step:
         """Frees the new space and the logs: DROPPED. Raises Idle."""
-        return self._step("drop")
+        return self._step("give_up")
 
-    def work(self, most: int) -> Work:
-        """Performs at most `most` useful steps; `most` is not 0.
+    def work(self, most: int, size: int | None = None) -> Work:
+        """Performs at most `most` useful steps; `most` is not 0. If one of them begins a collection, the new space is as large as the
+        heap, or has `size` words, at least 1.
 
         The useful step begins a collection if none is open. Otherwise it is the first of roots, scan and apply with something
         left to do, and the flip if none of them has. The call ends after a flip, and after a step that finds no room. If an
         allocation fails, it ends before that step; it raises OutOfMemory only if that was the first step.
         """
         work = library.Work()
-        self._call("work", most, work)
-        return Work(work.steps, work.copied, _step_of(work.last), work.pairs)
+        if size is None:
+            self._call("work", most, work)
+        else:
+            self._call("work_sized", most, size, work)
+        return _work_of(work)
+
+    def work_paced(self, pace: Pace, wanted: int = 0) -> Work | None:
+        """Performs the useful steps that are due before the program allocates `wanted` words, and remembers the heap in the pace. Returns None
+        if none is due. Ends early for the reasons of `work`. Raises OutOfRange if the pace's factor is out of range, and OutOfMemory if an
+        allocation of the first step fails; then nothing has changed."""
+        work = library.Work()
+        self._call("work_paced", pace._raw, wanted, work)
+        return _work_of(work) if work.steps else None
+
+    def steps_due(self, pace: Pace, wanted: int = 0) -> int:
+        """Returns the number of steps that `work_paced` would perform, if none of them ends it early."""
+        check_ranges((wanted,), [ctypes.c_uint32])
+        with self._lock:
+            counts = self._counts()
+        return int(LIBRARY.gcflip_pace_due(pace._raw, counts, wanted))
+
+    def remember(self, pace: Pace) -> None:
+        """Makes the pace remember the heap as it is, as if it had just flipped: before the first paced work on a heap in use, and after a flip
+        by another call."""
+        self._call("pace", pace._raw)
 
     # ---- Reading
 
@@ -224,10 +276,10 @@ class Heap:
         return LogEntry(entry.object, entry.field)
 
     def image(self) -> Image:
-        """Copies the heap's words, links included, and the root words: the 16 shared slots, and then the 16 of each mutator."""
+        """Copies the heap's words, links included, and the root words: the 16 shared slots, the 16 of each mutator, and the extra roots."""
         with self._lock:
             counts = self._counts()
-            words, roots = _zeros(counts.end), _zeros(SLOTS + SLOTS * counts.mutators)
+            words, roots = _zeros(counts.end), _zeros(SLOTS + SLOTS * counts.mutators + self._extra_roots)
             self._made("image", words.buffer_info()[0], len(words), roots.buffer_info()[0], len(roots))
         return Image(words, roots, counts.size)
 
@@ -248,7 +300,7 @@ class Heap:
     # ---- Calls
 
     def _step(self, name: str, *numbers: int) -> Step:
-        return _step_of(self._call(name, *numbers))
+        return _step_of(self._call("step_" + name, *numbers))
 
     def _call(self, name: str, *arguments: Any) -> Answer:
         """Makes a call and returns its reply. Raises the exception for a refusal."""
@@ -289,7 +341,8 @@ def _zeros(count: int) -> array.array:
 
 
 class Mutator:
-    """A client of a heap, with sixteen slots of its own (`own`) in addition to the shared ones (`shared`). Slots are the roots."""
+    """A client of a heap, with sixteen slots of its own (`own`) in addition to the shared ones (`shared`). Slots are roots. All mutators
+    share the extra roots, which a heap has if it was opened with them; they are numbered from 0."""
 
     def __init__(self, heap: Heap, number: int) -> None:
         self.heap = heap
@@ -298,23 +351,31 @@ class Mutator:
     def new(self, slot: int, kind: int, length: int) -> None:
         """Makes an object of a kind, 0 to 255, with `length` fields, at most 65535, all nil, and puts a reference to it into the
         slot. The object takes length + 2 words. Raises Full."""
-        self._call("new", slot, kind, length)
+        self._call("new_object", slot, kind, length)
 
     def raw(self, slot: int, kind: int, length: int) -> None:
         """Makes a raw object, whose fields are plain numbers, all 0. Otherwise like `new`."""
-        self._call("raw", slot, kind, length)
+        self._call("new_raw", slot, kind, length)
 
     def num(self, slot: int, number: int) -> None:
         """Puts a number below 2^63 into the slot."""
-        self._call("num", slot, number)
+        self._call("set_number", slot, number)
 
     def nil(self, slot: int) -> None:
         """Puts nil into the slot."""
-        self._call("nil", slot)
+        self._call("set_nil", slot)
 
     def move(self, slot: int, source: int) -> None:
         """Copies the value of slot `source` into the slot."""
         self._call("move", slot, source)
+
+    def load(self, slot: int, root: int) -> None:
+        """Copies the value of an extra root into the slot."""
+        self._call("root_load", slot, root)
+
+    def store(self, root: int, source: int) -> None:
+        """Copies the value of slot `source` into an extra root."""
+        self._call("root_store", root, source)
 
     def get(self, slot: int, source: int, field: int) -> Value:
         """Reads a field of the object that slot `source` refers to into the slot, and returns its value. Raises NoObject and NoField."""
@@ -334,7 +395,7 @@ class Mutator:
         """Makes an object with two fields, which take the values of two slots, and puts a reference to it into the slot: a `new` and two
         `put`. If `first` or `second` is the slot itself, that field refers to the new object. Raises Full, and OutOfMemory while a
         collection is open; then nothing changed."""
-        self._call("cons", slot, kind, first, second)
+        self._call("new_pair", slot, kind, first, second)
 
     def new_from(self, slot: int, kind: int, sources: Sequence[int]) -> None:
         """Makes an object with a field for each of these slots, at most 65535, as `cons` does for two. Each field takes its slot's value."""

@@ -27,12 +27,18 @@ class Work(ctypes.Structure):
 
 
 class Answer(enum.IntEnum):
-    """The numbers that calls on a heap return, as in gcflip_heap.h. With 1 to 15 the call did nothing."""
+    """The numbers that calls return, as in gcflip_answers.h. With 1 to 15 the call did nothing."""
 
     DONE = 0
+    YES = 0
     NO_MEMORY = 1
     OUT_OF_RANGE = 2
     CLOSED = 3
+    OPEN = 4
+    FRAME_FULL = 5
+    FRAME_EMPTY = 6
+    TOO_MANY = 7
+    TOO_LARGE = 8
     MADE = 16
     FULL = 17
     NO_OBJECT = 18
@@ -57,9 +63,14 @@ class Answer(enum.IntEnum):
     FLIP_REFUSED = 42
     FLIPPED = 43
     DROPPED = 44
+    REFUSED = 48
+    BAD_LINE = 49
+    ENDS_EARLY = 50
+    NO_PATH = 51
+    LONG_PATH = 52
 
 
-COUNTS = ("size", "end", "free", "mutators", "is_open", "new_size", "new_end", "scan_place", "scan_field")
+COUNTS = ("size", "end", "free", "mutators", "extra_roots", "is_open", "new_size", "new_end", "scan_place", "scan_field", "logged")
 
 
 class Counts(ctypes.Structure):
@@ -70,38 +81,58 @@ class LogEntry(ctypes.Structure):
     _fields_ = [("object", c_uint32), ("field", c_uint32)]
 
 
+class RawPace(ctypes.Structure):
+    _fields_ = [(name, c_uint32) for name in ("factor", "rate", "least", "left", "end", "logged")]
+
+
+class Options(ctypes.Structure):
+    """What a heap is opened with. `bytes` is the size of this record."""
+
+    _fields_ = [("bytes", c_uint32), ("size", c_uint32), ("extra_roots", c_uint32), ("mutators", c_uint8)]
+
+
 IMAGE = [c_uint32, c_uint32, c_bool, c_void_p, c_size_t, c_void_p, c_size_t]
 SLOT = c_uint8
 MUTATOR = c_uint8
 
 # The calls by their names without `gcflip_`. Those on a heap take a handle first.
 CHECKS = {
+    "version": [],
+    "pace_due": [POINTER(RawPace), POINTER(Counts), c_uint32],
     "check": [*IMAGE, *IMAGE, c_void_p, c_size_t, POINTER(Verdict)],
     "check_text": [c_void_p, c_size_t, POINTER(Verdict)],
+    "infer": [*IMAGE, *IMAGE, c_void_p, c_size_t, POINTER(c_size_t), POINTER(Verdict)],
+    "path": [*IMAGE, c_uint32, POINTER(c_uint64), c_void_p, c_size_t, POINTER(c_size_t)],
 }
 HEAP = {
-    "open": [c_uint32, c_uint8],
+    "open": [POINTER(Options)],
     "close": [],
-    "new": [MUTATOR, SLOT, c_uint8, c_uint16],
-    "raw": [MUTATOR, SLOT, c_uint8, c_uint16],
-    "num": [MUTATOR, SLOT, c_uint64],
-    "nil": [MUTATOR, SLOT],
+    "new_object": [MUTATOR, SLOT, c_uint8, c_uint16],
+    "new_raw": [MUTATOR, SLOT, c_uint8, c_uint16],
+    "set_number": [MUTATOR, SLOT, c_uint64],
+    "set_nil": [MUTATOR, SLOT],
     "move": [MUTATOR, SLOT, SLOT],
     "get": [MUTATOR, SLOT, SLOT, c_uint16, POINTER(c_uint64)],
     "put": [MUTATOR, SLOT, c_uint16, SLOT],
     "put_number": [MUTATOR, SLOT, c_uint16, SLOT, c_uint64],
-    "cons": [MUTATOR, SLOT, c_uint8, SLOT, SLOT],
+    "new_pair": [MUTATOR, SLOT, c_uint8, SLOT, SLOT],
     "new_from": [MUTATOR, SLOT, c_uint8, c_void_p, c_size_t],
     "same": [MUTATOR, SLOT, SLOT],
     "look": [MUTATOR, SLOT, POINTER(View)],
-    "begin": [],
-    "begin_sized": [c_uint32],
-    "roots": [],
-    "scan": [],
-    "apply": [MUTATOR],
-    "flip": [POINTER(c_uint32)],
-    "drop": [],
+    "root_load": [MUTATOR, SLOT, c_uint32],
+    "root_store": [MUTATOR, c_uint32, SLOT],
+    "root_clear": [c_uint32, c_uint32],
+    "step_begin": [],
+    "step_begin_sized": [c_uint32],
+    "step_roots": [],
+    "step_scan": [],
+    "step_apply": [MUTATOR],
+    "step_flip": [POINTER(c_uint32)],
+    "step_give_up": [],
     "work": [c_uint32, POINTER(Work)],
+    "pace": [POINTER(RawPace)],
+    "work_paced": [POINTER(RawPace), c_uint32, POINTER(Work)],
+    "work_sized": [c_uint32, c_uint32, POINTER(Work)],
     "counts": [POINTER(Counts)],
     "log_length": [MUTATOR, POINTER(c_size_t)],
     "log_entry": [MUTATOR, c_size_t, POINTER(LogEntry)],
@@ -130,6 +161,12 @@ def opened() -> ctypes.CDLL:
 
 
 LIBRARY = opened()
+
+
+def library_version() -> str:
+    """Returns the version of the shared library."""
+    number = LIBRARY.gcflip_version()
+    return "%d.%d.%d" % (number // 10000, number // 100 % 100, number % 100)
 
 
 def check_ranges(values: tuple[int, ...], types: list[Any]) -> None:

@@ -145,7 +145,7 @@ def drawn_in_blocks(scene, blocks=Blocks()):
     picture, width = Picture(scene.title), ROOT_X * 2 + blocks.width()
     words = [space.size if blocks.is_whole else len(space.words) for space, _ in scene.spaces()]
     scale = max(1, -(-max(words) // (blocks.columns * blocks.rows)))
-    heading_y = picture.paragraph(ROOT_X, draw_caption(picture, scene), heading(scene.old), "label", width)
+    heading_y = picture.paragraph(ROOT_X, draw_caption(picture, scene, width), heading(scene.old), "label", width)
     sides = [Side(scene.old, True, heading_y + 10, blocks, scale)]
     bottom = sides[0].top + sides[0].height()
     if scene.new:

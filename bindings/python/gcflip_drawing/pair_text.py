@@ -41,6 +41,10 @@ class Lines:
             raise Unreadable("the text ends before %s" % wanted)
         return self.lines[self.at - 1]
 
+    def peeks(self, start):
+        """Returns whether the next line begins so."""
+        return self.at < len(self.lines) and self.lines[self.at].startswith(start)
+
     def numbers(self, form, wanted):
         """Returns the numbers of the next line, which has to match the form, with a '#' for each number."""
         words, forms = self.next(wanted).split(" "), form.split(" ")
@@ -52,10 +56,10 @@ class Lines:
         return [self.numbers("#", wanted)[0] for _ in range(count)]
 
 
-def read_image(lines, name):
+def read_image(lines, name, most=MOST_WORDS):
     size, end = lines.numbers("%s # #" % name, "the size and the end of the %s heap" % name)
-    if max(size, end) > MOST_WORDS:
-        lines.fail("a space of at most %d words" % MOST_WORDS)
+    if max(size, end) > most:
+        lines.fail("a space of at most %d words" % most)
     words = lines.words(end, "a word of the %s heap" % name)
     count, = lines.numbers("roots #", "the number of roots")
     return Image(size, words, lines.words(count, "a root word of the %s heap" % name))

@@ -52,7 +52,8 @@ class Scene:
 
     def __init__(self, title, old, new=None, joined=(), joined_as="pair"):
         self.title, self.old, self.new, self.joined, self.joined_as = title, old, new, joined, joined_as
-        self.caption, self.legend = None, []
+        # A text and its role, and a second text for the lines below it.
+        self.caption, self.explanation, self.legend = None, "", []
         self.marks, self.scan = [], None
         # For each root: whether it belongs to the old space, and its place.
         self.changed_roots = set()

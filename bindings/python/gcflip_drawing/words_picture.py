@@ -284,7 +284,7 @@ def width_of(scene, grid):
 def drawn_word_by_word(scene, grid=Grid()):
     """Returns the picture of a scene."""
     picture, width = Picture(scene.title), width_of(scene, grid)
-    heading_y = picture.paragraph(ROOT_X, draw_caption(picture, scene), heading(scene.old), "label", width)
+    heading_y = picture.paragraph(ROOT_X, draw_caption(picture, scene, width), heading(scene.old), "label", width)
     old, old_height = side_of(scene, scene.old, True, heading_y + 2, grid)
     sides, bottom = [old], old.top + old_height
     if scene.new:
@@ -302,10 +302,12 @@ def drawn_word_by_word(scene, grid=Grid()):
     return picture.sized(width, bottom + 26)
 
 
-def draw_caption(picture, scene):
-    """Draws the title and the caption, if there is one. Returns the base line of the heading below."""
+def draw_caption(picture, scene, width):
+    """Draws the title, the caption and its explanation, if there are any. Returns the base line of the heading below."""
     if not scene.caption:
         return 20
     picture.text(ROOT_X, 26, scene.title, "title")
     picture.text(ROOT_X, 48, *scene.caption)
-    return 72
+    if not scene.explanation:
+        return 72
+    return picture.paragraph(ROOT_X, 66, scene.explanation, "label", width) + 24

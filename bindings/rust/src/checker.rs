@@ -17,7 +17,7 @@ pub struct Image<'a> {
 }
 
 impl Image<'_> {
-    fn raw(&self) -> RawImage<'_> {
+    pub(crate) fn raw(&self) -> RawImage<'_> {
         // No space has u32::MAX words, so the check refuses an image with that many or more.
         let end = u32::try_from(self.words.len()).unwrap_or(u32::MAX);
         RawImage { size: self.size, end, raws: self.raws, words: self.words, roots: self.roots }
@@ -204,7 +204,7 @@ fn verdict_of(answer: u32, verdict: &RawVerdict) -> Result<Yes, Refusal> {
     }
 }
 
-fn refusal_of(verdict: &RawVerdict) -> Refusal {
+pub(crate) fn refusal_of(verdict: &RawVerdict) -> Refusal {
     let place = verdict.place;
     match verdict.refusal {
         sys::GCFLIP_OLD_SHAPE => Refusal::OldShape { address: place },

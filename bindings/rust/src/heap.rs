@@ -1,8 +1,9 @@
 //! The collected heap: objects of words for 1 to 16 mutators, with an incremental, replicating collector.
 
 use crate::checker::Image;
-use crate::sys::{self, Handle, LogEntry};
+use crate::sys::{self, Frame, Handle, LogEntry, Pace, RawOptions, RawWork};
 use std::fmt;
+use std::ops::Range;
 
 const SLOTS: u8 = 16;
 
@@ -24,6 +25,10 @@ pub enum Error {
     NoField,
     /// The object is raw and the value is not a number.
     NoNumber,
+    /// The frame has no root left.
+    FrameFull,
+    /// The frame holds no value.
+    FrameEmpty,
     /// A collection is open already.
     Busy,
     /// No collection is open.
@@ -45,6 +50,8 @@ impl fmt::Display for Error {
             Error::NoObject => "no object",
             Error::NoField => "no field",
             Error::NoNumber => "no number",
+            Error::FrameFull => "the frame is full",
+            Error::FrameEmpty => "the frame is empty",
             Error::Busy => "busy",
             Error::Idle => "idle",
             Error::NoRoom => "no room",
@@ -95,6 +102,28 @@ impl Slot {
 impl fmt::Display for Slot {
     fn fmt(&self, formatter: &mut fmt::Formatter) -> fmt::Result {
         write!(formatter, "{}{}", if self.0 < SLOTS { 'r' } else { 'g' }, self.0 % SLOTS)
+    }
+}
+
+impl Frame {
+    /// Returns an empty frame over these extra roots. The heap that it is used with has to have all of them.
+    pub const fn new(roots: Range<u32>) -> Frame {
+        Frame { first: roots.start, end: roots.end, top: roots.start }
+    }
+
+    /// Returns the number of values that the frame holds.
+    pub const fn len(&self) -> u32 {
+        self.top - self.first
+    }
+
+    /// Returns whether the frame holds no value.
+    pub const fn is_empty(&self) -> bool {
+        self.top == self.first
+    }
+
+    /// Returns the extra roots that hold the values, the oldest one first.
+    pub const fn roots(&self) -> Range<u32> {
+        self.first..self.top
     }
 }
 
@@ -156,6 +185,31 @@ pub struct Work {
     pub last: Step,
 }
 
+/// How to open a heap: [`Heap::open_with`] takes it.
+#[derive(Clone, Copy, Debug, PartialEq, Eq, Hash)]
+#[non_exhaustive]
+pub struct Options {
+    /// The words of the heap, at least 1.
+    pub size: u32,
+    /// The number of mutators, 1 to 16.
+    pub mutators: u8,
+    /// The number of roots beside the slots, at most 1048576.
+    pub extra_roots: u32,
+}
+
+impl Options {
+    /// Returns the options of a heap of `size` words for this number of mutators, without extra roots.
+    pub const fn new(size: u32, mutators: u8) -> Options {
+        Options { size, mutators, extra_roots: 0 }
+    }
+
+    /// Returns the same options with this number of extra roots.
+    pub const fn extra_roots(mut self, count: u32) -> Options {
+        self.extra_roots = count;
+        self
+    }
+}
+
 /// How full a heap is, and how far an open collection has come.
 #[derive(Clone, Copy, Debug, PartialEq, Eq, Hash)]
 pub struct Counts {
@@ -167,6 +221,8 @@ pub struct Counts {
     pub free: u32,
     /// The number of mutators.
     pub mutators: u8,
+    /// The number of extra roots.
+    pub extra_roots: u32,
     /// Whether a collection is open. All numbers below are 0 if none is.
     pub is_open: bool,
     /// The words of the new space.
@@ -177,9 +233,11 @@ pub struct Counts {
     pub scan_place: u32,
     /// The number of its fields that are scanned.
     pub scan_field: u32,
+    /// The entries in all logs.
+    pub logged: u32,
 }
 
-/// The words of a heap, links included, and its root words, the shared slots first.
+/// The words of a heap, links included, and its root words: the shared slots, those of each mutator, and the extra roots.
 #[derive(Clone, Debug, PartialEq, Eq, Hash)]
 pub struct OwnedImage {
     /// The words of the heap.
@@ -213,6 +271,32 @@ impl OwnedImage {
 pub struct Heap {
     handle: Handle,
     mutators: u8,
+    extra_roots: u32,
+}
+
+impl Default for Pace {
+    /// Returns the pace of a heap that was just opened: a collection begins where the heap has twice the words that the last flip left, but at
+    /// least 65,536, or where half of the room that the flip left is used up.
+    fn default() -> Pace {
+        Pace { factor: 200, rate: 0, least: 65536, left: 1, end: 1, logged: 0 }
+    }
+}
+
+impl Pace {
+    /// A collection begins where the heap has this many hundredths of the words that the last flip left: 100 to 10,000.
+    pub fn factor(self, factor: u32) -> Pace {
+        Pace { factor, ..self }
+    }
+
+    /// Performs this many steps for each word allocated and each entry logged; with 0 as many as the counts ask for.
+    pub fn rate(self, rate: u32) -> Pace {
+        Pace { rate, ..self }
+    }
+
+    /// No collection begins below this many words, unless half of the room that the last flip left is used up.
+    pub fn least(self, least: u32) -> Pace {
+        Pace { least, ..self }
+    }
 }
 
 impl fmt::Debug for Heap {
@@ -228,8 +312,18 @@ impl Heap {
     ///
     /// Returns `OutOfRange`, or `NoMemory`.
     pub fn open(size: u32, mutators: u8) -> Result<Heap> {
-        let (answer, handle) = Handle::open(size, mutators);
-        done(answer, Heap { handle, mutators })
+        Heap::open_with(Options::new(size, mutators))
+    }
+
+    /// Opens an empty heap with these options. All slots and all extra roots hold nil.
+    ///
+    /// # Errors
+    ///
+    /// Returns `OutOfRange`, or `NoMemory`.
+    pub fn open_with(options: Options) -> Result<Heap> {
+        let Options { size, mutators, extra_roots } = options;
+        let handle = Handle::new();
+        done(handle.open(&RawOptions::new(size, mutators, extra_roots)), Heap { handle, mutators, extra_roots })
     }
 
     /// Returns the mutator with this number, counted from 0.
@@ -243,6 +337,16 @@ impl Heap {
         } else {
             Err(Error::OutOfRange)
         }
+    }
+
+    /// Puts nil into these extra roots. A collection reads the extra roots up to the last one that was stored to and not cleared, so clear those
+    /// at the end that are no longer in use.
+    ///
+    /// # Errors
+    ///
+    /// Returns `OutOfRange` if the heap does not have all of them, or if the range ends before it starts.
+    pub fn clear_roots(&self, roots: Range<u32>) -> Result<()> {
+        replied(self.handle.clear(roots.start, roots.end)).map(drop)
     }
 
     // ---- Collector steps
@@ -322,7 +426,47 @@ impl Heap {
     pub fn work(&self, most: u32) -> Result<Work> {
         let (answer, work) = self.handle.work(most);
         done(answer, ())?;
-        Ok(Work { steps: work.steps, copied: work.copied, last: step_of(work.last, work.pairs) })
+        Ok(work_of(&work))
+    }
+
+    /// Does the same as [`Heap::work`], but if a step begins a collection, the new space gets `size` words.
+    ///
+    /// # Errors
+    ///
+    /// Returns `OutOfRange` if `most` or `size` is 0, or `NoMemory` if an allocation of the first step fails.
+    pub fn work_sized(&self, most: u32, size: u32) -> Result<Work> {
+        let (answer, work) = self.handle.work_sized(most, size);
+        done(answer, ())?;
+        Ok(work_of(&work))
+    }
+
+    /// Performs the useful steps that are due before the program allocates `wanted` words, which may be 0, and remembers the heap in the pace.
+    /// Returns `None` if no step is due. Ends early for the reasons of [`Heap::work`].
+    ///
+    /// # Errors
+    ///
+    /// Returns `OutOfRange` if the pace's factor is, or `NoMemory` if an allocation of the first step fails. Then nothing has changed, nor has
+    /// the pace.
+    pub fn work_paced(&self, pace: &mut Pace, wanted: u32) -> Result<Option<Work>> {
+        let (answer, work) = self.handle.work_paced(pace, wanted);
+        done(answer, ())?;
+        Ok((work.steps > 0).then(|| work_of(&work)))
+    }
+
+    /// Returns the number of steps that `work_paced` would perform now, if none of them ends it early.
+    pub fn steps_due(&self, pace: &Pace, wanted: u32) -> u32 {
+        let (_, counts) = self.handle.counts();
+        sys::pace_due(pace, &counts, wanted)
+    }
+
+    /// Makes the pace remember the heap as it is, as if it had just flipped: before the first paced work on a heap in use, and after a flip by
+    /// another call.
+    ///
+    /// # Errors
+    ///
+    /// Returns `OutOfRange` if the pace's factor is.
+    pub fn remember(&self, pace: &mut Pace) -> Result<()> {
+        done(self.handle.pace(pace), ())
     }
 
     /// Collects garbage: finishes the open collection, or performs a whole one, and returns the number of pairs of its flip.
@@ -350,11 +494,13 @@ impl Heap {
             end: counts.end,
             free: counts.free,
             mutators: self.mutators,
+            extra_roots: counts.extra_roots,
             is_open: counts.is_open != 0,
             new_size: counts.new_size,
             new_end: counts.new_end,
             scan_place: counts.scan_place,
             scan_field: counts.scan_field,
+            logged: counts.logged,
         }
     }
 
@@ -385,7 +531,7 @@ impl Heap {
         let mut image = OwnedImage {
             size: counts.size,
             words: vec![0; counts.end as usize],
-            roots: vec![0; slots + slots * usize::from(self.mutators)],
+            roots: vec![0; slots + slots * usize::from(self.mutators) + self.extra_roots as usize],
         };
         let answer = self.handle.image(&mut image.words, &mut image.roots);
         assert_eq!(answer, sys::GCFLIP_DONE, "the lengths are those of the heap");
@@ -409,7 +555,8 @@ impl Heap {
     }
 }
 
-/// A client of a heap, with sixteen slots of its own in addition to the shared ones. Slots are the roots.
+/// A client of a heap, with sixteen slots of its own in addition to the shared ones. Slots are roots. All mutators share the extra roots, which a
+/// heap has if [`Heap::open_with`] opened it with them; they are numbered from 0.
 #[derive(Clone, Copy, Debug)]
 pub struct Mutator<'a> {
     heap: &'a Heap,
@@ -453,6 +600,42 @@ impl Mutator<'_> {
     /// Copies the value of slot `source` into the slot.
     pub fn copy(&self, slot: Slot, source: Slot) {
         always(self.heap.handle.copy(self.number, slot.0, source.0));
+    }
+
+    /// Copies the value of an extra root into the slot.
+    ///
+    /// # Errors
+    ///
+    /// Returns `OutOfRange` if the heap has no such root.
+    pub fn load(&self, slot: Slot, root: u32) -> Result<()> {
+        replied(self.heap.handle.load(self.number, slot.0, root)).map(drop)
+    }
+
+    /// Copies the value of slot `source` into an extra root. This allocates nothing and logs nothing.
+    ///
+    /// # Errors
+    ///
+    /// Returns `OutOfRange` if the heap has no such root.
+    pub fn store(&self, root: u32, source: Slot) -> Result<()> {
+        replied(self.heap.handle.store(self.number, root, source.0)).map(drop)
+    }
+
+    /// Copies the value of slot `source` to the top of the frame, and moves its top up.
+    ///
+    /// # Errors
+    ///
+    /// Returns `FrameFull`, or `OutOfRange` if the heap does not have all roots of the frame.
+    pub fn push(&self, frame: &mut Frame, source: Slot) -> Result<()> {
+        replied(self.heap.handle.push(self.number, source.0, frame)).map(drop)
+    }
+
+    /// Moves the top of the frame down, copies the value there into the slot, and puts nil into that root.
+    ///
+    /// # Errors
+    ///
+    /// Returns `FrameEmpty`, or `OutOfRange` if the heap does not have all roots of the frame.
+    pub fn pop(&self, frame: &mut Frame, slot: Slot) -> Result<()> {
+        replied(self.heap.handle.pop(self.number, slot.0, frame)).map(drop)
     }
 
     /// Reads a field of the object that slot `source` refers to into the slot, and returns its value.
@@ -533,17 +716,24 @@ impl Mutator<'_> {
 fn done<T>(answer: u32, result: T) -> Result<T> {
     match answer {
         sys::GCFLIP_DONE => Ok(result),
-        sys::GCFLIP_HEAP_NO_MEMORY => Err(Error::NoMemory),
-        sys::GCFLIP_HEAP_OUT_OF_RANGE => Err(Error::OutOfRange),
+        sys::GCFLIP_NO_MEMORY => Err(Error::NoMemory),
+        sys::GCFLIP_OUT_OF_RANGE => Err(Error::OutOfRange),
         _ => unreachable!("an open handle gives no answer {answer}"),
     }
+}
+
+/// Returns a report of at least one step.
+fn work_of(work: &RawWork) -> Work {
+    Work { steps: work.steps, copied: work.copied, last: step_of(work.last, work.pairs) }
 }
 
 /// Returns the answer, or the error that it stands for.
 fn replied(answer: u32) -> Result<u32> {
     match answer {
-        sys::GCFLIP_HEAP_NO_MEMORY => Err(Error::NoMemory),
-        sys::GCFLIP_HEAP_OUT_OF_RANGE => Err(Error::OutOfRange),
+        sys::GCFLIP_NO_MEMORY => Err(Error::NoMemory),
+        sys::GCFLIP_OUT_OF_RANGE => Err(Error::OutOfRange),
+        sys::GCFLIP_FRAME_FULL => Err(Error::FrameFull),
+        sys::GCFLIP_FRAME_EMPTY => Err(Error::FrameEmpty),
         sys::GCFLIP_FULL => Err(Error::Full),
         sys::GCFLIP_NO_OBJECT => Err(Error::NoObject),
         sys::GCFLIP_NO_FIELD => Err(Error::NoField),

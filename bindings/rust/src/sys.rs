@@ -31,6 +31,36 @@ pub struct LogEntry {
     pub field: u32,
 }
 
+/// A stack of extra roots, which [`Mutator::push`](crate::Mutator::push) and [`Mutator::pop`](crate::Mutator::pop) use. Several
+/// frames may lie in one heap, as one for each mutator, if no root is in two of them.
+///
+/// ```
+/// use gcflip::{Error, Frame, Heap, Options, Slot, Value};
+///
+/// const VALUE: Slot = Slot::own(0);
+///
+/// # fn main() -> gcflip::Result<()> {
+/// let heap = Heap::open_with(Options::new(64, 1).extra_roots(8))?;
+/// let mutator = heap.mutator(0)?;
+/// let mut stack = Frame::new(0..8);
+/// for number in 1..=3 {
+///     mutator.num(VALUE, number)?;
+///     mutator.push(&mut stack, VALUE)?;
+/// }
+/// heap.collect()?;
+/// mutator.pop(&mut stack, VALUE)?;
+/// assert_eq!((mutator.look(VALUE), stack.len()), (Value::Number(3), 2));
+/// # Ok(())
+/// # }
+/// ```
+#[repr(C)]
+#[derive(Clone, Debug, PartialEq, Eq)]
+pub struct Frame {
+    pub(crate) first: u32,
+    pub(crate) end: u32,
+    pub(crate) top: u32,
+}
+
 #[repr(C)]
 #[derive(Default)]
 pub struct RawVerdict {
@@ -64,11 +94,41 @@ pub struct RawCounts {
     pub end: u32,
     pub free: u32,
     pub mutators: u32,
+    pub extra_roots: u32,
     pub is_open: u32,
     pub new_size: u32,
     pub new_end: u32,
     pub scan_place: u32,
     pub scan_field: u32,
+    pub logged: u32,
+}
+
+/// The options of a heap, with the size of this struct.
+#[repr(C)]
+pub struct RawOptions {
+    bytes: u32,
+    size: u32,
+    extra_roots: u32,
+    mutators: u8,
+}
+
+impl RawOptions {
+    pub fn new(size: u32, mutators: u8, extra_roots: u32) -> RawOptions {
+        RawOptions { bytes: std::mem::size_of::<RawOptions>() as u32, size, extra_roots, mutators }
+    }
+}
+
+/// When a collection begins and how fast it goes on, and what paced work remembers of the call before: [`Heap::work_paced`](crate::Heap::work_paced)
+/// takes it. A pace belongs to one heap.
+#[repr(C)]
+#[derive(Clone, Debug, PartialEq, Eq)]
+pub struct Pace {
+    pub(crate) factor: u32,
+    pub(crate) rate: u32,
+    pub(crate) least: u32,
+    pub(crate) left: u32,
+    pub(crate) end: u32,
+    pub(crate) logged: u32,
 }
 
 /// A handle of C: the address of the heap.
@@ -99,16 +159,14 @@ numbers! {
     GCFLIP_HEADER_DIFFERS = 8,
     GCFLIP_FIELD_DIFFERS = 9,
     GCFLIP_ROOT_DIFFERS = 10,
-    GCFLIP_YES = 0,
-    GCFLIP_REFUSED = 1,
-    GCFLIP_NO_MEMORY = 2,
-    GCFLIP_TOO_MANY = 3,
-    GCFLIP_TOO_LARGE = 4,
-    GCFLIP_BAD_LINE = 5,
-    GCFLIP_ENDS_EARLY = 6,
     GCFLIP_DONE = 0,
-    GCFLIP_HEAP_NO_MEMORY = 1,
-    GCFLIP_HEAP_OUT_OF_RANGE = 2,
+    GCFLIP_YES = 0,
+    GCFLIP_NO_MEMORY = 1,
+    GCFLIP_OUT_OF_RANGE = 2,
+    GCFLIP_FRAME_FULL = 5,
+    GCFLIP_FRAME_EMPTY = 6,
+    GCFLIP_TOO_MANY = 7,
+    GCFLIP_TOO_LARGE = 8,
     GCFLIP_MADE = 16,
     GCFLIP_FULL = 17,
     GCFLIP_NO_OBJECT = 18,
@@ -133,6 +191,12 @@ numbers! {
     GCFLIP_FLIP_REFUSED = 42,
     GCFLIP_FLIPPED = 43,
     GCFLIP_DROPPED = 44,
+    GCFLIP_REFUSED = 48,
+    GCFLIP_BAD_LINE = 49,
+    GCFLIP_ENDS_EARLY = 50,
+    GCFLIP_NO_PATH = 51,
+    GCFLIP_LONG_PATH = 52,
+    GCFLIP_VERSION = 100,
 }
 
 /// Declares calls, and lists them as C declarations for the test that compares them with the headers.
@@ -143,37 +207,50 @@ macro_rules! calls {
         }
         #[cfg(test)]
         fn declarations() -> Vec<String> {
-            vec![$(format!("uint32_t {}({});", stringify!($name), [$(<$type as layout::CType>::NAME),*].join(", ")),)*]
+            vec![$(format!("uint32_t {}({});", stringify!($name), <[&str]>::join(&[$(<$type as layout::CType>::NAME),*], ", ")),)*]
         }
     };
 }
 
 calls! {
+    gcflip_version();
     gcflip_check(u32, u32, bool, *const u64, usize, *const u64, usize, u32, u32, bool, *const u64, usize, *const u64, usize,
                  *const Pair, usize, *mut RawVerdict);
     gcflip_check_text(*const u8, usize, *mut RawVerdict);
-    gcflip_heap_open(*mut RawHeap, u32, u8);
+    gcflip_infer(u32, u32, bool, *const u64, usize, *const u64, usize, u32, u32, bool, *const u64, usize, *const u64, usize,
+        *mut Pair, usize, *mut usize, *mut RawVerdict);
+    gcflip_path(u32, u32, bool, *const u64, usize, *const u64, usize, u32, *mut u64, *mut u64, usize, *mut usize);
+    gcflip_heap_open(*mut RawHeap, *const RawOptions);
     gcflip_heap_close(*mut RawHeap);
-    gcflip_heap_new(*mut RawHeap, u8, u8, u8, u16);
-    gcflip_heap_raw(*mut RawHeap, u8, u8, u8, u16);
-    gcflip_heap_num(*mut RawHeap, u8, u8, u64);
-    gcflip_heap_nil(*mut RawHeap, u8, u8);
+    gcflip_heap_new_object(*mut RawHeap, u8, u8, u8, u16);
+    gcflip_heap_new_raw(*mut RawHeap, u8, u8, u8, u16);
+    gcflip_heap_set_number(*mut RawHeap, u8, u8, u64);
+    gcflip_heap_set_nil(*mut RawHeap, u8, u8);
     gcflip_heap_move(*mut RawHeap, u8, u8, u8);
     gcflip_heap_get(*mut RawHeap, u8, u8, u8, u16, *mut u64);
     gcflip_heap_put(*mut RawHeap, u8, u8, u16, u8);
     gcflip_heap_put_number(*mut RawHeap, u8, u8, u16, u8, u64);
-    gcflip_heap_cons(*mut RawHeap, u8, u8, u8, u8, u8);
+    gcflip_heap_new_pair(*mut RawHeap, u8, u8, u8, u8, u8);
     gcflip_heap_new_from(*mut RawHeap, u8, u8, u8, *const u8, usize);
     gcflip_heap_same(*mut RawHeap, u8, u8, u8);
     gcflip_heap_look(*mut RawHeap, u8, u8, *mut RawView);
-    gcflip_heap_begin(*mut RawHeap);
-    gcflip_heap_begin_sized(*mut RawHeap, u32);
-    gcflip_heap_roots(*mut RawHeap);
-    gcflip_heap_scan(*mut RawHeap);
-    gcflip_heap_apply(*mut RawHeap, u8);
-    gcflip_heap_flip(*mut RawHeap, *mut u32);
-    gcflip_heap_drop(*mut RawHeap);
+    gcflip_heap_root_load(*mut RawHeap, u8, u8, u32);
+    gcflip_heap_root_store(*mut RawHeap, u8, u32, u8);
+    gcflip_heap_root_clear(*mut RawHeap, u32, u32);
+    gcflip_heap_frame_push(*mut RawHeap, u8, u8, *mut Frame);
+    gcflip_heap_frame_pop(*mut RawHeap, u8, u8, *mut Frame);
+    gcflip_heap_step_begin(*mut RawHeap);
+    gcflip_heap_step_begin_sized(*mut RawHeap, u32);
+    gcflip_heap_step_roots(*mut RawHeap);
+    gcflip_heap_step_scan(*mut RawHeap);
+    gcflip_heap_step_apply(*mut RawHeap, u8);
+    gcflip_heap_step_flip(*mut RawHeap, *mut u32);
+    gcflip_heap_step_give_up(*mut RawHeap);
     gcflip_heap_work(*mut RawHeap, u32, *mut RawWork);
+    gcflip_heap_work_sized(*mut RawHeap, u32, u32, *mut RawWork);
+    gcflip_heap_pace(*mut RawHeap, *mut Pace);
+    gcflip_pace_due(*const Pace, *const RawCounts, u32);
+    gcflip_heap_work_paced(*mut RawHeap, *mut Pace, u32, *mut RawWork);
     gcflip_heap_counts(*mut RawHeap, *mut RawCounts);
     gcflip_heap_log_length(*mut RawHeap, u8, *mut usize);
     gcflip_heap_log_entry(*mut RawHeap, u8, usize, *mut LogEntry);
@@ -192,31 +269,34 @@ pub struct RawImage<'a> {
     pub roots: &'a [u64],
 }
 
+/// Calls a function of C with the seven arguments of each image, and then with the other arguments. Each pointer to words or roots and the
+/// count after it are those of one slice.
+macro_rules! with_images {
+    ($call:ident($($image:expr),+; $($argument:expr),+)) => {
+        $call(
+            $($image.size, $image.end, $image.raws, $image.words.as_ptr(), $image.words.len(), $image.roots.as_ptr(), $image.roots.len(),)+
+            $($argument),+
+        )
+    };
+}
+
 pub fn check(old: &RawImage, new: &RawImage, pairs: &[Pair]) -> (u32, RawVerdict) {
     let mut verdict = RawVerdict::default();
     // SAFETY: each pointer and the count after it are those of one slice, and the verdict is a local variable that nothing overlaps.
-    let answer = unsafe {
-        gcflip_check(
-            old.size,
-            old.end,
-            old.raws,
-            old.words.as_ptr(),
-            old.words.len(),
-            old.roots.as_ptr(),
-            old.roots.len(),
-            new.size,
-            new.end,
-            new.raws,
-            new.words.as_ptr(),
-            new.words.len(),
-            new.roots.as_ptr(),
-            new.roots.len(),
-            pairs.as_ptr(),
-            pairs.len(),
-            &mut verdict,
-        )
-    };
+    let answer = unsafe { with_images!(gcflip_check(old, new; pairs.as_ptr(), pairs.len(), &mut verdict)) };
     (answer, verdict)
+}
+
+/// Returns the number of steps that are due.
+pub fn pace_due(pace: &Pace, counts: &RawCounts, wanted: u32) -> u32 {
+    // SAFETY: both pointers are those of references, and the call writes nothing.
+    unsafe { gcflip_pace_due(pace, counts, wanted) }
+}
+
+/// Returns the version of the library: 10000 times the major number, 100 times the minor one, and the patch.
+pub fn version() -> u32 {
+    // SAFETY: the call takes nothing and touches no memory.
+    unsafe { gcflip_version() }
 }
 
 pub fn check_text(text: &[u8]) -> (u32, RawVerdict) {
@@ -224,6 +304,24 @@ pub fn check_text(text: &[u8]) -> (u32, RawVerdict) {
     // SAFETY: the pointer and the length are those of one slice, and the verdict is a local variable that nothing overlaps.
     let answer = unsafe { gcflip_check_text(text.as_ptr(), text.len(), &mut verdict) };
     (answer, verdict)
+}
+
+/// Writes the inferred pairs into `pairs`, and returns the answer, their number and the verdict.
+pub fn infer(old: &RawImage, new: &RawImage, pairs: &mut [Pair]) -> (u32, usize, RawVerdict) {
+    let mut count = 0;
+    let mut verdict = RawVerdict::default();
+    // SAFETY: each pointer and the count after it are those of one slice, and the outputs are local variables that nothing overlaps.
+    let answer = unsafe { with_images!(gcflip_infer(old, new; pairs.as_mut_ptr(), pairs.len(), &mut count, &mut verdict)) };
+    (answer, count, verdict)
+}
+
+/// Writes the fields of a path into `fields`, and returns the answer, the place of the root and the number of fields.
+pub fn path(image: &RawImage, address: u32, fields: &mut [u64]) -> (u32, u64, usize) {
+    let mut place = 0;
+    let mut count = 0;
+    // SAFETY: each pointer and the count after it are those of one slice, and the outputs are local variables that nothing overlaps.
+    let answer = unsafe { with_images!(gcflip_path(image; address, &mut place, fields.as_mut_ptr(), fields.len(), &mut count)) };
+    (answer, place, count)
 }
 
 // ---- The heap
@@ -238,12 +336,9 @@ pub struct Handle {
 unsafe impl Send for Handle {}
 
 impl Handle {
-    /// Opens a heap. Returns the answer and the handle, which has a heap only if the answer is `GCFLIP_DONE`.
-    pub fn open(size: u32, mutators: u8) -> (u32, Handle) {
-        let handle = Handle { heap: UnsafeCell::new(RawHeap { at: std::ptr::null_mut() }) };
-        // SAFETY: the pointer is to the handle's own cell, which holds a handle without a heap. A handle may be moved in memory afterwards.
-        let answer = unsafe { gcflip_heap_open(handle.heap.get(), size, mutators) };
-        (answer, handle)
+    /// Returns a handle without a heap. It has one after a call to open that returns `GCFLIP_DONE`.
+    pub fn new() -> Handle {
+        Handle { heap: UnsafeCell::new(RawHeap { at: std::ptr::null_mut() }) }
     }
 }
 
@@ -259,8 +354,8 @@ macro_rules! answers {
     ($($method:ident: $call:ident($($argument:ident: $type:ty),*);)*) => {
         impl Handle {
             $(pub fn $method(&self, $($argument: $type),*) -> u32 {
-                // SAFETY: the pointer is to the handle's own cell. No other call on this handle is running: `Handle` is not `Sync`, and
-                // the library makes no callbacks.
+                // SAFETY: the first pointer is to the handle's own cell, and any other is a reference. No other call on this handle is
+                // running: `Handle` is not `Sync`, and the library makes no callbacks.
                 unsafe { $call(self.heap.get(), $($argument),*) }
             })*
         }
@@ -283,28 +378,37 @@ macro_rules! results {
 }
 
 answers! {
-    make: gcflip_heap_new(m: u8, d: u8, kind: u8, count: u16);
-    make_raw: gcflip_heap_raw(m: u8, d: u8, kind: u8, count: u16);
-    num: gcflip_heap_num(m: u8, d: u8, n: u64);
-    nil: gcflip_heap_nil(m: u8, d: u8);
+    open: gcflip_heap_open(options: &RawOptions);
+    make: gcflip_heap_new_object(m: u8, d: u8, kind: u8, count: u16);
+    make_raw: gcflip_heap_new_raw(m: u8, d: u8, kind: u8, count: u16);
+    num: gcflip_heap_set_number(m: u8, d: u8, n: u64);
+    nil: gcflip_heap_set_nil(m: u8, d: u8);
     copy: gcflip_heap_move(m: u8, d: u8, s: u8);
     put: gcflip_heap_put(m: u8, s: u8, i: u16, t: u8);
     put_number: gcflip_heap_put_number(m: u8, s: u8, i: u16, t: u8, n: u64);
-    cons: gcflip_heap_cons(m: u8, d: u8, kind: u8, s: u8, t: u8);
+    cons: gcflip_heap_new_pair(m: u8, d: u8, kind: u8, s: u8, t: u8);
     same: gcflip_heap_same(m: u8, s: u8, t: u8);
-    begin: gcflip_heap_begin();
-    begin_sized: gcflip_heap_begin_sized(size: u32);
-    roots: gcflip_heap_roots();
-    scan: gcflip_heap_scan();
-    apply: gcflip_heap_apply(m: u8);
-    give_up: gcflip_heap_drop();
+    load: gcflip_heap_root_load(m: u8, d: u8, k: u32);
+    store: gcflip_heap_root_store(m: u8, k: u32, s: u8);
+    clear: gcflip_heap_root_clear(from: u32, to: u32);
+    push: gcflip_heap_frame_push(m: u8, s: u8, frame: &mut Frame);
+    pop: gcflip_heap_frame_pop(m: u8, d: u8, frame: &mut Frame);
+    begin: gcflip_heap_step_begin();
+    begin_sized: gcflip_heap_step_begin_sized(size: u32);
+    roots: gcflip_heap_step_roots();
+    scan: gcflip_heap_step_scan();
+    apply: gcflip_heap_step_apply(m: u8);
+    give_up: gcflip_heap_step_give_up();
+    pace: gcflip_heap_pace(pace: &mut Pace);
 }
 
 results! {
     get: gcflip_heap_get(m: u8, d: u8, s: u8, i: u16) -> u64;
     look: gcflip_heap_look(m: u8, s: u8) -> RawView;
-    flip: gcflip_heap_flip() -> u32;
+    flip: gcflip_heap_step_flip() -> u32;
     work: gcflip_heap_work(most: u32) -> RawWork;
+    work_sized: gcflip_heap_work_sized(most: u32, size: u32) -> RawWork;
+    work_paced: gcflip_heap_work_paced(pace: &mut Pace, wanted: u32) -> RawWork;
     counts: gcflip_heap_counts() -> RawCounts;
     log_length: gcflip_heap_log_length(m: u8) -> usize;
     log_entry: gcflip_heap_log_entry(m: u8, k: usize) -> LogEntry;

@@ -1,6 +1,6 @@
 //! Tests each call on a heap, and each error but `FlipRefused`, which is proved never to occur, and `NoMemory` (out_of_memory.rs).
 
-use gcflip::{check, Error, Heap, LogEntry, Pair, Slot, Step, Value};
+use gcflip::{check, Error, Frame, Heap, LogEntry, Options, Pace, Pair, Slot, Step, Value};
 
 const A: Slot = Slot::own(0);
 const B: Slot = Slot::own(1);
@@ -23,6 +23,13 @@ fn opening() {
     assert_eq!(Heap::open(16, 17).unwrap_err(), Error::OutOfRange);
     assert!(Heap::open(1_048_577, 16).is_ok());
     assert_eq!(prepared().mutator(2).unwrap_err(), Error::OutOfRange);
+    assert_eq!(Heap::open_with(Options::new(0, 1)).unwrap_err(), Error::OutOfRange);
+    assert_eq!(Heap::open_with(Options::new(16, 17)).unwrap_err(), Error::OutOfRange);
+    assert_eq!(Heap::open_with(Options::new(16, 1).extra_roots(1_048_577)).unwrap_err(), Error::OutOfRange);
+    let most = Heap::open_with(Options::new(16, 1).extra_roots(1_048_576)).unwrap();
+    let mutator = most.mutator(0).unwrap();
+    assert_eq!(mutator.store(1_048_575, A), Ok(()));
+    assert_eq!(mutator.store(1_048_576, A), Err(Error::OutOfRange));
 }
 
 #[test]
@@ -119,6 +126,11 @@ fn work() {
     assert_eq!((worked.steps, worked.copied, worked.last), (4, 4, Step::Passed));
     let flipped = heap.work(9).unwrap();
     assert_eq!((flipped.steps, flipped.copied, flipped.last), (1, 0, Step::Flipped { pairs: 1 }));
+    // the same steps, to a space of nine words
+    assert_eq!((heap.work_sized(0, 9), heap.work_sized(9, 0)), (Err(Error::OutOfRange), Err(Error::OutOfRange)));
+    let sized = heap.work_sized(9, 9).unwrap();
+    assert_eq!((sized.steps, sized.copied, sized.last, heap.counts().size), (6, 4, Step::Flipped { pairs: 1 }, 9));
+    assert_eq!(heap.work_sized(9, 4).unwrap().last, Step::NoRoom);
 }
 
 #[test]
@@ -196,4 +208,130 @@ fn fields_from_slots() {
     assert_eq!(mutator.look(row), Value::Object { kind: 4, fields: 0 });
     assert_eq!(mutator.make_from(row, 4, &[number; 60]), Err(Error::Full));
     assert_eq!(mutator.make_from(row, 4, &[number; 65536]), Err(Error::OutOfRange));
+}
+
+#[test]
+fn extra_roots() {
+    let heap = Heap::open_with(Options::new(64, 2).extra_roots(3)).unwrap();
+    let (first, second) = (heap.mutator(0).unwrap(), heap.mutator(1).unwrap());
+    for root in 0..3 {
+        first.make(A, 10 + root as u8, 0).unwrap();
+        first.store(root, A).unwrap();
+    }
+    first.nil(A);
+    // No slot is an extra root: all slots are set, and the roots keep their objects.
+    for number in 0..16 {
+        first.num(Slot::own(number), 1).unwrap();
+        second.num(Slot::own(number), 2).unwrap();
+        first.num(Slot::shared(number), 3).unwrap();
+    }
+    heap.begin().unwrap();
+    second.store(0, B).unwrap();
+    assert_eq!((heap.log_length(0), heap.log_length(1)), (Ok(0), Ok(0)));
+    // The object that root 0 referred to is garbage before any step copies it.
+    assert_eq!(heap.collect(), Ok(2));
+    for (root, value) in [(0, Value::Number(2)), (1, Value::Object { kind: 11, fields: 0 }), (2, Value::Object { kind: 12, fields: 0 })] {
+        second.load(B, root).unwrap();
+        assert_eq!(second.look(B), value);
+    }
+    // Root 1 refers to the first replica, and root 2 to the second one. 16 shared slots and 16 of each mutator stand before them.
+    assert_eq!(heap.image().roots[48..], [5, 2, 6]);
+    assert_eq!(first.load(A, 3), Err(Error::OutOfRange));
+    assert_eq!(first.store(3, A), Err(Error::OutOfRange));
+    assert_eq!(first.look(A), Value::Number(1));
+    assert_eq!(heap.clear_roots(1..4), Err(Error::OutOfRange));
+    let (to, from) = (1, 2);
+    assert_eq!(heap.clear_roots(from..to), Err(Error::OutOfRange));
+    assert_eq!(heap.image().roots[48..], [5, 2, 6]);
+    heap.clear_roots(1..2).unwrap();
+    assert_eq!(heap.image().roots[48..], [5, 0, 6]);
+    assert_eq!(prepared().mutator(0).unwrap().load(A, 0), Err(Error::OutOfRange));
+    assert_eq!(prepared().clear_roots(0..1), Err(Error::OutOfRange));
+}
+
+#[test]
+fn frames() {
+    let heap = Heap::open_with(Options::new(64, 1).extra_roots(8)).unwrap();
+    let mutator = heap.mutator(0).unwrap();
+    let (mut low, mut high) = (Frame::new(0..3), Frame::new(3..8));
+    assert_eq!(mutator.pop(&mut low, A), Err(Error::FrameEmpty));
+    for number in 0..3 {
+        mutator.num(A, number).unwrap();
+        mutator.push(&mut low, A).unwrap();
+        mutator.make(A, number as u8, 0).unwrap();
+        mutator.push(&mut high, A).unwrap();
+    }
+    mutator.nil(A);
+    assert_eq!((low.len(), low.roots(), high.len(), high.roots()), (3, 0..3, 3, 3..6));
+    assert_eq!(mutator.push(&mut low, A), Err(Error::FrameFull));
+    assert_eq!(low.len(), 3);
+    assert_eq!(heap.collect(), Ok(3));
+    for number in (0..3).rev() {
+        mutator.pop(&mut low, A).unwrap();
+        assert_eq!(mutator.look(A), Value::Number(number));
+        mutator.pop(&mut high, A).unwrap();
+        assert_eq!(mutator.look(A), Value::Object { kind: number as u8, fields: 0 });
+    }
+    mutator.nil(A);
+    assert_eq!(mutator.pop(&mut high, A), Err(Error::FrameEmpty));
+    assert!(low.is_empty() && high.is_empty());
+    // No root kept its value.
+    assert_eq!(heap.collect(), Ok(0));
+    let mut beyond = Frame::new(7..9);
+    assert_eq!(mutator.push(&mut beyond, A), Err(Error::OutOfRange));
+    assert_eq!(beyond.len(), 0);
+}
+
+#[test]
+fn more_than_8_mib() {
+    const OBJECTS: u64 = 20;
+    let heap = Heap::open(2_000_000, 1).unwrap();
+    let mutator = heap.mutator(0).unwrap();
+    let (list, raw, number, entry) = (Slot::own(0), Slot::own(1), Slot::own(2), Slot::own(3));
+    for object in 0..OBJECTS {
+        mutator.make_raw(raw, 0, 65535).unwrap();
+        mutator.put_number(raw, 65534, number, object).unwrap();
+        mutator.cons(entry, 1, raw, list).unwrap();
+        mutator.copy(list, entry);
+    }
+    mutator.nil(entry);
+    // The word 0, and then a raw object and a list entry of two fields for each: more than the 1048576 words of 8 MiB.
+    let words = 1 + OBJECTS as u32 * (65537 + 4);
+    assert_eq!(heap.counts().end, words);
+    mutator.make(raw, 0, 1000).unwrap();
+    assert_eq!(heap.collect(), Ok(2 * OBJECTS as u32 + 1));
+    mutator.nil(raw);
+    assert_eq!(heap.collect(), Ok(2 * OBJECTS as u32));
+    assert_eq!(heap.counts().end, words);
+    for object in (0..OBJECTS).rev() {
+        assert_eq!(mutator.get(raw, list, 0), Ok(Value::RawObject { kind: 0, fields: 65535 }));
+        assert_eq!(mutator.get(number, raw, 65534), Ok(Value::Number(object)));
+        mutator.get(list, list, 1).unwrap();
+    }
+    assert_eq!(mutator.look(list), Value::Nil);
+}
+
+#[test]
+fn paced_work_begins_at_twice_what_was_left() {
+    let heap = Heap::open(100, 1).unwrap();
+    let mutator = heap.mutator(0).unwrap();
+    let mut pace = Pace::default().least(8);
+    assert_eq!(heap.work_paced(&mut pace, 0).unwrap(), None);
+    // An object of 7 words: the heap's end is 8.
+    mutator.make(Slot::own(0), 1, 5).unwrap();
+    assert_eq!(heap.steps_due(&pace, 0), 1);
+    let begun = heap.work_paced(&mut pace, 0).unwrap().unwrap();
+    assert_eq!((begun.steps, begun.last), (1, Step::Begun));
+    assert_eq!(heap.work_paced(&mut pace, 0).unwrap(), None);
+    // 92 words are free, and a program that wants them all waits for the flip: 7 steps and the log are left, and the flip itself.
+    assert_eq!(heap.steps_due(&pace, 92), 8);
+    let last = heap.work_paced(&mut pace, 92).unwrap().unwrap();
+    assert_eq!((last.steps, last.last), (8, Step::Flipped { pairs: 1 }));
+    let mut wrong = Pace::default().factor(99);
+    let before = wrong.clone();
+    assert_eq!(heap.work_paced(&mut wrong, 0).unwrap_err(), Error::OutOfRange);
+    assert_eq!(heap.remember(&mut wrong).unwrap_err(), Error::OutOfRange);
+    assert_eq!(wrong, before);
+    heap.remember(&mut pace).unwrap();
+    assert_eq!(heap.work_paced(&mut pace, 0).unwrap(), None);
 }

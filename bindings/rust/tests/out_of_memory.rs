@@ -1,7 +1,7 @@
 //! Tests calls whose allocations fail. This program defines the three functions from which the archive gets memory, and makes one allocation
 //! fail. `docs/EMBEDDING.md` says what the three functions owe.
 
-use gcflip::{check, Error, Heap, Image, Pair, Refusal, Slot, Step, Value};
+use gcflip::{check, Error, Frame, Heap, Image, Options, Pair, Refusal, Slot, Step, Value};
 use std::alloc::{alloc, dealloc, realloc, Layout};
 use std::cell::Cell;
 
@@ -84,6 +84,26 @@ fn prepared() -> Heap {
 #[test]
 fn opening() {
     assert!(refused(Error::NoMemory, || Heap::open(64, 1)) > 0);
+    let options = Options::new(64, 1).extra_roots(100);
+    assert!(refused(Error::NoMemory, || Heap::open_with(options)) > 0);
+}
+
+#[test]
+fn extra_roots_allocate_nothing() {
+    let heap = Heap::open_with(Options::new(64, 1).extra_roots(100)).unwrap();
+    let mutator = heap.mutator(0).unwrap();
+    let mut frame = Frame::new(0..100);
+    mutator.make(SLOT, 1, 1).unwrap();
+    heap.begin().unwrap();
+    let calls: [&mut dyn FnMut() -> gcflip::Result<()>; 4] = [
+        &mut || mutator.store(99, SLOT),
+        &mut || mutator.load(SLOT, 99),
+        &mut || mutator.push(&mut frame, SLOT).and_then(|()| mutator.pop(&mut frame, SLOT)),
+        &mut || heap.clear_roots(0..100),
+    ];
+    for call in calls {
+        assert_eq!(refused(Error::NoMemory, call), 0);
+    }
 }
 
 #[test]

@@ -211,7 +211,7 @@ met_blocks_met old new pairs None q = tt
 
 -- ---- the same path finds both
 
-follow_nil : (objects : List (ℕ × Object)) (o : Option Value) → follow objects o [] ≡ o
+pub follow_nil : (objects : List (ℕ × Object)) (o : Option Value) → follow objects o [] ≡ o
 follow_nil objects None = refl
 follow_nil objects (Some v) = refl
 

@@ -1,6 +1,6 @@
 -- If some certificate holds of two images, the pairs that a walk finds are one that holds.
 use Rattle.std.proofs.Common.{◌≡◌, ◌≢◌, ℕ, zero, suc, ◌+◌, ◌<◌, ◌≤◌, Bool, true, false, cond, not, ◌&&◌, ◌||◌, ◌==◌, List, [], ◌∷◌, length, get_or, Option, Some, None, refl, sym, ◌∙◌, ap, subst, inl, inr, arith}
-use Rattle.std.specs.Prelude.{slice_index, slice_index_or, IsTrue}
+use Rattle.std.specs.Prelude.{slice_index, slice_index_or}
 use Rattle.std.specs.List.{AllPairs, AllZip, list_any, Any}
 use Rattle.std.proofs.lemmas.Bool.{eqb-true, eq-eqb, ne_eqb, cases_Bool, and_from}
 use Rattle.std.specs.Prelude.{is_some}
@@ -13,12 +13,11 @@ use Rattle.gc_words.specs.Certificate.{BlocksCorrespond, Certified}
 use Rattle.gc_words.specs.declared.header.Header.{Header}
 use Rattle.gc_words.proofs.Certified.{corresponding}
 use Rattle.std.proofs.lemmas.List.{length-map}
-use Rattle.std.proofs.lemmas.List.Elements.{length_all_zip}
 use Rattle.gc_words.specs.Views.{addresses}
-use Rattle.gc_words.specs.Fault.{first_fault, shape_fault}
+use Rattle.gc_words.specs.Fault.{first_fault}
 use Rattle.gc_words.specs.declared.image.Pair.{Pair}
 use Rattle.gc_words.specs.declared.refusal.Refusal.{Refusal}
-use Rattle.gc_words.proofs.Faults.{no_shape_fault, no_fault_of_certified}
+use Rattle.gc_words.proofs.Faults.{no_fault_of_certified}
 use Rattle.gc_check.specs.Infer.{Certifiable, AreForced, Together, AreTogether}
 use Rattle.gc_check.specs.Verdict.{pairs_of}
 use Rattle.gc_check.specs.declared.meet.Found.{Found}
@@ -220,16 +219,16 @@ module _ (old new : Image) (pairs : List (ℕ × ℕ)) (row : List ℕ) (held : 
 
 module _ (old new old_seen new_seen : Image) (found : Found) (cert : List Pair) (old_is : old_seen ≡ old) (new_is : new_seen ≡ new)
     (held : HoldsFound old_seen new_seen found) (met : MetTo old_seen new_seen (pairs_of found.pairs.items) (length found.pairs.items)) (rise : pairs_of cert ≡ risen 0 found.originals.items) where
-  held_here : HoldsFound old new found
+  pub held_here : HoldsFound old new found
   held_here = subst (λ image. HoldsFound image new found) old_is (subst (λ image. HoldsFound old_seen image found) new_is held)
 
-  met_here : MetTo old new (pairs_of found.pairs.items) (length (pairs_of found.pairs.items))
+  pub met_here : MetTo old new (pairs_of found.pairs.items) (length (pairs_of found.pairs.items))
   met_here =
       subst (λ n. MetTo old new (pairs_of found.pairs.items) n) (sym (length-map found.pairs.items addresses))
       (subst (λ image. MetTo image new (pairs_of found.pairs.items) (length found.pairs.items)) old_is
       (subst (λ image. MetTo old_seen image (pairs_of found.pairs.items) (length found.pairs.items)) new_is met))
 
-  low_here : (a : ℕ) → is_start old.words a ≡ true → 1 ≤ a
+  pub low_here : (a : ℕ) → is_start old.words a ≡ true → 1 ≤ a
   low_here a start = low_start old.words a held_here.old_walked start
 
   pub pairs_are_forced : AreForced old new (pairs_of cert)
@@ -249,15 +248,6 @@ module _ (old new old_seen new_seen : Image) (found : Found) (cert : List Pair) 
   pub pairs_hold : Certifiable old new → Certified old new (pairs_of cert)
   pairs_hold some =
       subst (Certified old new) (sym rise) (certified_now old new (pairs_of found.pairs.items) found.originals.items held_here.originals met_here some.0 some.1 low_here)
-
-pub roots_refused : (old new : Image) → length old.roots ≢ length new.roots → Certifiable old new → ⊥
-roots_refused old new differ some = differ (length_all_zip (λ v w. IsTrue (words_correspond some.0 v w)) old.roots new.roots some.1.roots)
-
-pub old_shape_refused : (old new : Image) (at : ℕ) → shape_fault old ≡ Some at → Certifiable old new → ⊥
-old_shape_refused old new at e some = let no : None ≡ Some at = sym (no_shape_fault old some.1.old_shaped) ∙ e in cc
-
-pub new_shape_refused : (old new : Image) (at : ℕ) → shape_fault new ≡ Some at → Certifiable old new → ⊥
-new_shape_refused old new at e some = let no : None ≡ Some at = sym (no_shape_fault new some.1.new_shaped) ∙ e in cc
 
 -- if no certificate holds, any pairs will do
 pub forced_by_none : (old new : Image) (pairs : List (ℕ × ℕ)) → (Certifiable old new → ⊥) → AreForced old new pairs

@@ -1,13 +1,14 @@
 -- Two words meet, and perhaps they are one more pair.
-use Rattle.std.proofs.Common.{◌≡◌, ℕ, zero, suc, ◌<◌, ◌≤◌, Bool, true, false, cond, not, ◌&&◌, ◌||◌, ◌==◌, List, [], ◌∷◌, ◌++◌, length, replicate, get_or, set, refl, sym, ◌∙◌, ap, subst, arith, length-set}
-use Rattle.std.specs.Prelude.{slice_index, IsOk}
+use Rattle.std.proofs.Common.{◌≡◌, ℕ, zero, suc, ◌<◌, ◌≤◌, ◌+◌, Bool, true, false, cond, not, ◌&&◌, ◌||◌, ◌==◌, List, [], ◌∷◌, ◌++◌, length, replicate, get_or, set, refl, sym, ◌∙◌, ap, subst, inl, inr, arith, length-set, get_or-set_other}
+use Rattle.std.specs.Prelude.{slice_index, vec_capacity, IsOk}
 use Rattle.std.specs.List.{list_any}
-use Rattle.std.proofs.lemmas.Bool.{eqb-true, eq-eqb, ne_eqb, and_parts}
+use Rattle.std.proofs.lemmas.Bool.{eqb-true, eq-eqb, ne_eqb, and_parts, cases_Bool, both_ways}
 use Rattle.gc_graph.specs.Correspond.{paired}
 use Rattle.gc_words.specs.Image.{Image, walk_words, is_start}
 use Rattle.gc_words.specs.Views.{addresses}
 use Rattle.gc_words.specs.declared.image.Pair.{Pair}
 use Rattle.gc_check.specs.declared.meet.Found.{Found}
+use Rattle.gc_check.specs.Internal.Starts.{starts_from}
 use Rattle.gc_check.specs.Internal.Tables.{HoldsPartners}
 use Rattle.gc_check.specs.Internal.Meetings.{is_free, swapped, taken_in, HoldsFound}
 use Rattle.std.proofs.lemmas.List.{get_or-map, length-replicate, length-append}
@@ -105,7 +106,7 @@ taken_few (entry ∷ row) = from (entry == 0) (taken_few row)
     from true h = omega arith
     from false h = omega arith
 
-taken_one : (row : List ℕ) (k x : ℕ) → k < length row → slice_index row k ≡ 0 → 1 ≤ x → taken_in (set row k x) ≡ suc (taken_in row)
+pub taken_one : (row : List ℕ) (k x : ℕ) → k < length row → slice_index row k ≡ 0 → 1 ≤ x → taken_in (set row k x) ≡ suc (taken_in row)
 taken_one [] k x inside free some = absurd (omega arith)
 taken_one (entry ∷ row) zero x inside free some =
     ap (λ b. cond b (taken_in row) (suc (taken_in row))) (ne_eqb x 0 (λ e. omega arith))
@@ -116,16 +117,64 @@ taken_one (entry ∷ row) (suc k) x inside free some = from (entry == 0) (taken_
     from true e = e
     from false e = ap suc e
 
-taken_none : (n : ℕ) → taken_in (replicate n 0) ≡ 0
+pub taken_none : (n : ℕ) → taken_in (replicate n 0) ≡ 0
 taken_none zero = refl
 taken_none (suc n) = taken_none n
+
+-- ---- room for a pair of each old object
+
+-- each entry that is not 0 stands at a start, from address `at` on
+abbrev pub StandAtStarts : List ℕ → ℕ → List ℕ → Type 0
+StandAtStarts words at row = (k : ℕ) → not (slice_index row k == 0) ≡ true → is_start words (at + k) ≡ true
+
+pub few_taken : (words : List ℕ) (at : ℕ) (row : List ℕ) → StandAtStarts words at row → taken_in row ≤ starts_from words at (length row)
+few_taken words at [] h = omega arith
+few_taken words at (entry ∷ row) h =
+    one (entry == 0) (is_start words at) (λ some. subst (λ place. is_start words place ≡ true) here (h 0 some)) (few_taken words (suc at) row (λ k some. subst (λ place. is_start words place ≡ true) (after k) (h (suc k) some)))
+  where
+    here : at + 0 ≡ at
+    here = omega arith
+
+    after : (k : ℕ) → at + suc k ≡ suc at + k
+    after k = omega arith
+
+    one : (b start : Bool) → (not b ≡ true → start ≡ true) → taken_in row ≤ starts_from words (suc at) (length row)
+        → cond b (taken_in row) (suc (taken_in row)) ≤ cond start (suc (starts_from words (suc at) (length row))) (starts_from words (suc at) (length row))
+    one true true e few = omega arith
+    one true false e few = few
+    one false true e few = omega arith
+    one false false e few = absurd (let no : false ≡ true = e refl in cc)
+
+-- the entries after one more, at a start
+pub starts_one : (words row : List ℕ) (a x : ℕ) → is_start words a ≡ true → ((k : ℕ) → not (slice_index row k == 0) ≡ true → is_start words k ≡ true)
+    → (k : ℕ) → not (slice_index (set row a x) k == 0) ≡ true → is_start words k ≡ true
+starts_one words row a x start h k some =
+    elim (cases_Bool (a == k)) [
+      | inl same ↦ subst (λ place. is_start words place ≡ true) (eqb-true a k same) start
+      | inr other ↦ h k (subst (λ entry. not (entry == 0) ≡ true) (get_or-set_other row a k x 0 (λ same. both_ways (a == k) other (eq-eqb a k (sym same)))) some)
+    ]
+
+-- a free pair has room
+pub has_room : (old new : Image) (f : Found) (a b : ℕ) → HoldsFound old new f → is_free old new (pairs_of f.pairs.items) a b ≡ true → length f.pairs.items < vec_capacity f.pairs
+has_room old new f a b held free =
+    let parts : Free old new (pairs_of f.pairs.items) a b = free_parts old new (pairs_of f.pairs.items) a b free in
+    let within : a < length old.words = start_within old.words a held.old_walked parts.old_start in
+    let row : List ℕ = set f.partners.items a 1 in
+    let more : taken_in row ≡ suc (taken_in f.partners.items) = taken_one f.partners.items a 1 (omega (arith, held.old_len)) (eqb-true _ _ (old_entry old new f a held ∙ parts.old_free)) (omega arith) in
+    let few : taken_in row ≤ starts_from old.words 0 (length row) = few_taken old.words 0 row (λ k some. subst (λ place. is_start old.words place ≡ true) (from_0 k) (starts_one old.words f.partners.items a 1 parts.old_start held.starts k some)) in
+    let long : length row ≡ length old.words = length-set f.partners.items a 1 ∙ held.old_len in
+    let few' : taken_in row ≤ starts_from old.words 0 (length old.words) = subst (λ n. taken_in row ≤ starts_from old.words 0 n) long few in
+    omega (arith, held.count, held.room, more, few')
+  where
+    from_0 : (k : ℕ) → k ≡ 0 + k
+    from_0 k = omega arith
 
 -- ---- one more pair
 
 pub held_one : (old new : Image) (f g : Found) (x : Pair) → HoldsFound old new f → is_free old new (pairs_of f.pairs.items) x.old.0 x.new.0 ≡ true
-    → g.partners.items ≡ set f.partners.items x.old.0 x.new.0 → g.originals.items ≡ set f.originals.items x.new.0 x.old.0 → g.pairs.items ≡ f.pairs.items ++ x ∷ []
+    → g.partners.items ≡ set f.partners.items x.old.0 x.new.0 → g.originals.items ≡ set f.originals.items x.new.0 x.old.0 → g.pairs.items ≡ f.pairs.items ++ x ∷ [] → vec_capacity g.pairs ≡ vec_capacity f.pairs
     → HoldsFound old new g
-held_one old new f g x held free e1 e2 e3 =
+held_one old new f g x held free e1 e2 e3 e4 =
     let pairs : List (ℕ × ℕ) = pairs_of f.pairs.items in
     let parts : Free old new pairs x.old.0 x.new.0 = free_parts old new pairs x.old.0 x.new.0 free in
     let old_low : 1 ≤ x.old.0 = low_start old.words x.old.0 held.old_walked parts.old_start in
@@ -146,14 +195,21 @@ held_one old new f g x held free e1 e2 e3 =
           (eqb-true _ _ (new_entry old new f x.new.0 held ∙ parts.new_free)) held.originals));
       count = ap length e3 ∙ one_more f.pairs.items held.count
           ∙ sym (ap taken_in e1 ∙ taken_one f.partners.items x.old.0 x.new.0 (omega (arith, held.old_len)) (eqb-true _ _ (old_entry old new f x.old.0 held ∙ parts.old_free)) new_low);
+      new_count = ap length e3 ∙ one_more_new f.pairs.items held.new_count
+          ∙ sym (ap taken_in e2 ∙ taken_one f.originals.items x.new.0 x.old.0 (omega (arith, held.new_len)) (eqb-true _ _ (new_entry old new f x.new.0 held ∙ parts.new_free)) old_low);
+      starts = subst (λ row. (a : ℕ) → not (slice_index row a == 0) ≡ true → is_start old.words a ≡ true) (sym e1) (starts_one old.words f.partners.items x.old.0 x.new.0 parts.old_start held.starts);
+      room = subst (λ n. starts_from old.words 0 (length old.words) ≤ n) (sym e4) held.room;
     }
   where
+    one_more_new : (cert : List Pair) → length cert ≡ taken_in f.originals.items → length (cert ++ x ∷ []) ≡ suc (taken_in f.originals.items)
+    one_more_new cert e = omega (arith, length-append cert (x ∷ []), e)
+
     one_more : (cert : List Pair) → length cert ≡ taken_in f.partners.items → length (cert ++ x ∷ []) ≡ suc (taken_in f.partners.items)
     one_more cert e = omega (arith, length-append cert (x ∷ []), e)
 
 -- ---- no pairs
 
-nothing_at : (n a : ℕ) → slice_index (replicate n 0) a ≡ 0
+pub nothing_at : (n a : ℕ) → slice_index (replicate n 0) a ≡ 0
 nothing_at zero a = refl
 nothing_at (suc n) zero = refl
 nothing_at (suc n) (suc a) = nothing_at n a
@@ -167,9 +223,9 @@ holds_none row n e = record {
     empty : (a : ℕ) → slice_index row a ≡ 0
     empty a = ap (λ row. slice_index row a) e ∙ nothing_at n a
 
-pub held_none : (old new : Image) (f : Found) → IsOk (walk_words old.words) → IsOk (walk_words new.words) → f.partners.items ≡ replicate (length old.words) 0 → f.originals.items ≡ replicate (length new.words) 0 → f.pairs.items ≡ []
+pub held_none : (old new : Image) (f : Found) → IsOk (walk_words old.words) → IsOk (walk_words new.words) → f.partners.items ≡ replicate (length old.words) 0 → f.originals.items ≡ replicate (length new.words) 0 → f.pairs.items ≡ [] → vec_capacity f.pairs ≡ starts_from old.words 0 (length old.words)
     → HoldsFound old new f
-held_none old new f ok ok' e1 e2 e3 = record {
+held_none old new f ok ok' e1 e2 e3 e4 = record {
   old_walked = ok;
   new_walked = ok';
   old_len = ap length e1 ∙ length-replicate (length old.words) 0;
@@ -177,6 +233,9 @@ held_none old new f ok ok' e1 e2 e3 = record {
   partners = subst (λ cert. HoldsPartners f.partners.items (pairs_of cert)) (sym e3) (holds_none f.partners.items (length old.words) e1);
   originals = subst (λ cert. HoldsPartners f.originals.items (swapped (pairs_of cert))) (sym e3) (holds_none f.originals.items (length new.words) e2);
   count = ap length e3 ∙ sym (ap taken_in e1 ∙ taken_none (length old.words));
+  new_count = ap length e3 ∙ sym (ap taken_in e2 ∙ taken_none (length new.words));
+  starts = λ a some. absurd (let no : false ≡ true = sym (ap (λ row. not (slice_index row a == 0)) e1 ∙ ap (λ entry. not (entry == 0)) (nothing_at (length old.words) a)) ∙ some in cc);
+  room = subst (λ n. starts_from old.words 0 (length old.words) ≤ n) (sym e4) (omega arith);
 }
 
 -- no more pairs are found than the old image has words

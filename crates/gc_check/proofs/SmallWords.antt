@@ -1,15 +1,14 @@
 -- In small images the same words correspond if only words of small spaces are values.
-use Rattle.std.proofs.Common.{◌≡◌, ◌⊎◌, inl, inr, ℕ, ◌+◌, ◌*◌, ◌/◌, ◌%◌, ◌<◌, ◌≤◌, ◌==◌, nat_lt, Bool, true, false, ◌||◌, ◌&&◌, cond, List, [], ◌∷◌, length, Option, Some, None, refl, sym, ap, ◌∙◌, subst, arith}
+use Rattle.std.proofs.Common.{◌≡◌, ◌⊎◌, inl, inr, ℕ, ◌/◌, ◌%◌, ◌<◌, ◌≤◌, ◌==◌, nat_lt, true, false, cond, List, [], ◌∷◌, Option, Some, None, refl, sym, ap, ◌∙◌, subst, arith}
 use Rattle.std.specs.List.{All}
 use Rattle.std.specs.Prelude.{IsTrue, IsOk}
-use Rattle.std.proofs.lemmas.Bool.{cases_Bool, cond-true, cond-false, or_cases, or_left, or_right, or_parts, ltb-true, lt-ltb, ltb-false, eqb-false, ne_eqb, false_from_ne_true}
+use Rattle.std.proofs.lemmas.Bool.{cases_Bool, cond-true, cond-false, or_cases, or_left, or_right, or_parts, ltb-true, lt-ltb, ltb-false, ne_eqb, false_from_ne_true}
 use Rattle.std.proofs.lemmas.List.Elements.{All-head, All-tail}
 use Rattle.gc_graph.specs.Graph.{Value, Nil, Num, Ref}
 use Rattle.gc_graph.specs.Correspond.{paired}
 use Rattle.gc_graph.proofs.Lookups.{paired_cases}
 use Rattle.gc_words.specs.Word.{value_of, is_value_within, is_value, read_value_within, read_value, read_correspond, words_correspond}
-use Rattle.gc_words.specs.Image.{Image, Block, IsShaped, walk_all, walk_words, block_at, is_start}
-use Rattle.gc_words.specs.Fault.{ArePlaced}
+use Rattle.gc_words.specs.Image.{Image, Block, IsShaped, walk_words, block_at, is_start}
 use Rattle.gc_words.specs.Walking.{StandsIn}
 use Rattle.gc_words.proofs.Starts.{stands_in}
 use Rattle.gc_words.proofs.Walks.{same_walk}

@@ -11,6 +11,7 @@ use Rattle.gc_words.specs.declared.header.Header.{Header}
 use Rattle.gc_words.proofs.Steps.{step, at_end, Behind, behind, has_start_from}
 use Rattle.gc_words.proofs.Starts.{stands_in}
 use Rattle.gc_words.proofs.Walks.{header_counted, same_walk}
+use Rattle.gc_check.specs.Internal.Starts.{starts_from}
 use Rattle.gc_check.specs.Internal.Tables.{MarksStarts}
 
 -- if the walk reaches the end, the starts are the marked places and those still to come from `at` on
@@ -138,3 +139,32 @@ header_stands words place h ok e = from (block_at words place) refl e
           subst (λ (h : Header). place + (h.len + 2) ≤ length words) same s.fits,
           is ∙ (λ i. Some (record { header = same i; fields = (s.fields ∙ ap (λ (h : Header). take h.len (drop (place + 2) words)) same) i })),
         )
+
+-- ---- the number of starts
+
+-- the places from one on, and those behind it
+starts_step : (words : List ℕ) (place len : ℕ) → place < len
+    → starts_from words place (len - place) ≡ cond (is_start words place) (suc (starts_from words (place + 1) (len - (place + 1)))) (starts_from words (place + 1) (len - (place + 1)))
+starts_step words place len inside =
+    ap (starts_from words place) more
+    ∙ ap (λ next. cond (is_start words place) (suc (starts_from words next (len - (place + 1)))) (starts_from words next (len - (place + 1)))) next
+  where
+    more : len - place ≡ suc (len - (place + 1))
+    more = omega arith
+
+    next : suc place ≡ place + 1
+    next = omega arith
+
+pub start_counted : (words : List ℕ) (count place len whole : ℕ) → place < len → is_start words place ≡ true → count + starts_from words place (len - place) ≡ whole
+    → count + 1 + starts_from words (place + 1) (len - (place + 1)) ≡ whole
+start_counted words count place len whole inside start e =
+    let step : starts_from words place (len - place) ≡ suc (starts_from words (place + 1) (len - (place + 1)))
+    = starts_step words place len inside ∙ ap (λ b. cond b (suc (starts_from words (place + 1) (len - (place + 1)))) (starts_from words (place + 1) (len - (place + 1)))) start in
+    omega (arith, e, step)
+
+pub none_counted : (words : List ℕ) (count place len whole : ℕ) → place < len → is_start words place ≡ false → count + starts_from words place (len - place) ≡ whole
+    → count + starts_from words (place + 1) (len - (place + 1)) ≡ whole
+none_counted words count place len whole inside none e =
+    let step : starts_from words place (len - place) ≡ starts_from words (place + 1) (len - (place + 1))
+    = starts_step words place len inside ∙ ap (λ b. cond b (suc (starts_from words (place + 1) (len - (place + 1)))) (starts_from words (place + 1) (len - (place + 1)))) none in
+    omega (arith, e, step)

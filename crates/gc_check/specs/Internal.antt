@@ -2,3 +2,4 @@
 pub mod Meetings
 pub mod Starts
 pub mod Tables
+pub mod Visits

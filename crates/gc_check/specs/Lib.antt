@@ -2,6 +2,7 @@ pub mod FaultTexts
 pub mod Headline
 pub mod Infer
 pub mod Internal
+pub mod Paths
 pub mod Profile
 pub mod Rows
 pub mod Tables

@@ -101,8 +101,8 @@ pub fn check_wide(
     Ok(Yes { pairs })
 }
 
-// Returns the first fault of the objects of a pair, going through the pairs in order.
-fn first_pair_fault(tables: &Tables, count: u32) -> Option<Refusal>
+/// Returns the first fault of the objects of a pair, going through the pairs in order.
+pub(crate) fn first_pair_fault(tables: &Tables, count: u32) -> Option<Refusal>
     requires { count ≡ length tables.now.pairs }
     ensures { result ≡ object_faults tables.now.old tables.now.new tables.now.pairs }
 {

@@ -2,14 +2,15 @@ ghost use Rattle.std.specs.Prelude.{◌≡◌, ◌<◌, ◌^◌, ⊤, length, If
 ghost use Rattle.gc_cert.specs.Grammar.{CertifiedPair};
 ghost use Rattle.gc_cert.specs.Views.{pair_of};
 ghost use Rattle.gc_words.specs.Certificate.{Certified};
-ghost use Rattle.gc_words.specs.Fault.{first_fault};
+ghost use Rattle.gc_words.specs.Fault.{first_fault, object_faults};
 ghost use Rattle.gc_words.specs.Views.{image_of};
 ghost use Rattle.gc_check.specs.Headline.{Replicated};
 ghost use Rattle.gc_check.specs.Verdict.{pairs_of, IsRefusalOf};
 
-use crate::checker::check_wide;
+use crate::checker::{check_wide, first_pair_fault};
+use crate::tables::Tables;
 use crate::verdict::{CheckFault, Yes};
-use gc_words::{ImageRef, Pair};
+use gc_words::{ImageRef, Pair, Refusal};
 use std::alloc::Global;
 
 /// A checker: decides whether a certificate holds of two heap images.
@@ -46,9 +47,27 @@ pub trait Checks {
             (Replicated (image_of old.entry) (image_of new.entry) (pairs_of cert.now)) };
 }
 
+/// Compares the objects of pairs whose addresses are right, in the calling thread or in several. The other half of a check when the
+/// walk that inferred the pairs has filled the tables.
+pub trait ComparesObjects {
+    // What a caller must establish before it asks, as for `Checks`.
+    ghost can_compare: { Self → Type 0 } = { λ _. ⊤ };
+
+    /// Returns the first fault of the objects of a pair, going through the pairs in order.
+    fn object_fault(&self, tables: &Tables) -> Option<Refusal>
+        requires can { can_compare self.now }
+        ensures fault { result ≡ object_faults tables.now.old tables.now.new tables.now.pairs };
+}
+
 /// Checks in the calling thread, by `check_wide`.
 #[derive(Debug, Drop)]
 pub struct Sequential;
+
+impl ComparesObjects for Sequential {
+    fn object_fault(&self, tables: &Tables) -> Option<Refusal> {
+        first_pair_fault(tables, tables.count())
+    }
+}
 
 impl Checks for Sequential {
     ghost says_yes = { λ _ pair. Certified pair.old pair.new pair.pairs };

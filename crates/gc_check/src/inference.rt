@@ -1,19 +1,24 @@
 //! Infers a certificate from two images alone.
 
-ghost use Rattle.std.specs.Prelude.{◌≡◌, ◌<◌, ◌^◌, length, IfOk};
+ghost use Rattle.std.specs.Prelude.{◌≡◌, ◌<◌, ◌≤◌, ◌^◌, [], length, vec_capacity, Err, IfOk, IfErr};
 ghost use Rattle.gc_words.specs.Certificate.{Certified};
+ghost use Rattle.gc_words.specs.Fault.{AreComparable, table_fault, object_faults, root_fault, ◌or_else◌};
 ghost use Rattle.gc_words.specs.Views.{image_of};
-ghost use Rattle.gc_check.specs.Infer.{AreForced, AreTogether, Certifiable, Decides};
-ghost use Rattle.gc_check.specs.Internal.Meetings.{risen};
-ghost use Rattle.gc_check.specs.Verdict.{pairs_of, verdict_of};
+ghost use Rattle.gc_words.specs.declared.refusal.Refusal.{Refusal};
+ghost use Rattle.gc_check.specs.Infer.{AreClosed, AreForced, AreTogether, Certifiable, Decides};
+ghost use Rattle.gc_check.specs.Internal.Meetings.{risen, taken_in};
+ghost use Rattle.gc_check.specs.Internal.Tables.{HasTables};
+ghost use Rattle.gc_check.specs.Verdict.{pairs_of, verdict_of, verdict_by, IsRefusalOf};
+ghost use Rattle.gc_check.specs.declared.verdict.CheckFault.{CheckFault};
 
-use crate::checker::check_wide;
+use crate::checks::{ComparesObjects, Sequential};
 use crate::laws::certified_is_replicated;
-use crate::meet::{Found, find};
-use crate::starts::{Starts, StartsFault};
+use crate::meet::find;
+use crate::starts::Starts;
+use crate::tables::Tables;
 use crate::verdict::{CheckFault, Verdict};
 use gc_graph::NoMemory;
-use gc_words::{ImageRef, NewAddr, OldAddr, Pair, no_fault_where_certified};
+use gc_words::{ImageRef, NewAddr, OldAddr, Pair, Refusal, no_fault_where_certified};
 use std::alloc::Global;
 
 /// What two heap images say without a certificate.
@@ -25,32 +30,75 @@ pub struct Comparison {
     pub verdict: Verdict,
 }
 
-/// Decides whether any certificate holds of two heap images. Makes no assumption about the images or who produced them.
-/// Returns `NoMemory` if an allocation fails.
+/// Decides whether any certificate holds of two heap images, in the calling thread. Makes no assumption about the images or who
+/// produced them. Returns `NoMemory` if an allocation fails.
 pub fn compare(alloc: Global, old: ImageRef, new: ImageRef) -> Result<Comparison, NoMemory>
     ensures forced { IfOk result (λ comparison.
         AreForced (image_of old.entry) (image_of new.entry) (pairs_of comparison.pairs.items)) }
     ensures together { IfOk result (λ comparison.
         AreTogether (image_of old.entry) (image_of new.entry) (pairs_of comparison.pairs.items)) }
+    ensures closed { IfOk result (λ comparison. AreComparable (image_of old.entry) (image_of new.entry)
+        → AreClosed (image_of old.entry) (image_of new.entry) (pairs_of comparison.pairs.items)) }
     ensures verdict { IfOk result (λ comparison. comparison.verdict
         ≡ verdict_of (image_of old.entry) (image_of new.entry) (pairs_of comparison.pairs.items)) }
     // After a yes the certificate holds, and with it the soundness theorem; after a refusal none holds.
     ensures decides { IfOk result (λ comparison.
         Decides comparison.verdict (image_of old.entry) (image_of new.entry) (pairs_of comparison.pairs.items)) }
 {
-    let pairs = infer(alloc, old, new)?;
-    no_fault_where_certified();
-    certified_is_replicated();
-    match check_wide(alloc, old, new, pairs.as_slice()) {
-        Ok(yes) => Ok(Comparison {
-            pairs,
-            verdict: Verdict::Yes { pairs: yes.pairs },
-        }),
-        Err(CheckFault::Refused(refusal)) => Ok(Comparison {
-            pairs,
+    compare_by(&Sequential, alloc, old, new)
+}
+
+/// Decides the same with this comparison of objects, which may use several threads.
+pub fn compare_by<C: ComparesObjects>(
+    comparer: &C,
+    alloc: Global,
+    old: ImageRef,
+    new: ImageRef,
+) -> Result<Comparison, NoMemory>
+    requires can { C.can_compare comparer.now }
+    ensures forced { IfOk result (λ comparison.
+        AreForced (image_of old.entry) (image_of new.entry) (pairs_of comparison.pairs.items)) }
+    ensures together { IfOk result (λ comparison.
+        AreTogether (image_of old.entry) (image_of new.entry) (pairs_of comparison.pairs.items)) }
+    ensures closed { IfOk result (λ comparison. AreComparable (image_of old.entry) (image_of new.entry)
+        → AreClosed (image_of old.entry) (image_of new.entry) (pairs_of comparison.pairs.items)) }
+    ensures verdict { IfOk result (λ comparison. comparison.verdict
+        ≡ verdict_of (image_of old.entry) (image_of new.entry) (pairs_of comparison.pairs.items)) }
+    ensures decides { IfOk result (λ comparison.
+        Decides comparison.verdict (image_of old.entry) (image_of new.entry) (pairs_of comparison.pairs.items)) }
+{
+    let Inferred { pairs, partners } = match infer_with_table(alloc, old, new) {
+        Ok(inferred) => inferred,
+        Err(CheckFault::Refused(refusal)) => return Ok(Comparison {
+            pairs: Vec::new(alloc),
             verdict: Verdict::Refused(refusal),
         }),
-        Err(CheckFault::NoMemory) => Err(NoMemory),
+        Err(CheckFault::NoMemory) => return Err(NoMemory),
+    };
+    no_fault_where_certified();
+    certified_is_replicated();
+    let verdict = verdict_on(
+        comparer,
+        &Tables::of_partners(old, new, pairs.as_slice(), partners),
+    );
+    Ok(Comparison { pairs, verdict })
+}
+
+// Returns the verdict on pairs whose addresses are right.
+fn verdict_on<C: ComparesObjects>(comparer: &C, tables: &Tables) -> Verdict
+    requires can { C.can_compare comparer.now }
+    ensures { result ≡ verdict_by (length tables.now.pairs)
+        (object_faults tables.now.old tables.now.new tables.now.pairs
+        or_else root_fault tables.now.old tables.now.new tables.now.pairs) }
+{
+    if let Some(refusal) = comparer.object_fault(tables) {
+        return Verdict::Refused(refusal);
+    }
+    if let Some(refusal) = tables.root_fault() {
+        return Verdict::Refused(refusal);
+    }
+    Verdict::Yes {
+        pairs: tables.count(),
     }
 }
 
@@ -65,43 +113,82 @@ pub fn infer(alloc: Global, old: ImageRef, new: ImageRef) -> Result<Vec<Pair>, N
     // The same path finds the two objects of each pair.
     ensures together { IfOk result (λ pairs.
         AreTogether (image_of old.entry) (image_of new.entry) (pairs_of pairs.items)) }
+    // The roots and the fields of the pairs lead to no further pair, also if no certificate holds.
+    ensures closed { IfOk result (λ pairs. AreComparable (image_of old.entry) (image_of new.entry)
+        → AreClosed (image_of old.entry) (image_of new.entry) (pairs_of pairs.items)) }
     // If any certificate holds, this one does.
     ensures complete { IfOk result (λ pairs. Certifiable (image_of old.entry) (image_of new.entry)
         → Certified (image_of old.entry) (image_of new.entry) (pairs_of pairs.items)) }
 {
+    match infer_with_table(alloc, old, new) {
+        Ok(inferred) => Ok(inferred.pairs),
+        Err(CheckFault::Refused(_)) => Ok(Vec::new(alloc)),
+        Err(CheckFault::NoMemory) => Err(NoMemory),
+    }
+}
+
+/// Pairs that were inferred, in the order of new addresses, and the table of their partners.
+#[derive(Drop)]
+struct Inferred {
+    pairs: Vec<Pair>,
+    /// At each old address: the new address that is paired with it, or 0.
+    partners: Vec<u32>,
+}
+
+// Infers pairs as `infer` does. Returns the first fault of shapes or root counts, or `NoMemory`.
+fn infer_with_table(alloc: Global, old: ImageRef, new: ImageRef) -> Result<Inferred, CheckFault>
+    ensures forced { IfOk result (λ inferred.
+        AreForced (image_of old.entry) (image_of new.entry) (pairs_of inferred.pairs.items)) }
+    ensures together { IfOk result (λ inferred.
+        AreTogether (image_of old.entry) (image_of new.entry) (pairs_of inferred.pairs.items)) }
+    ensures closed { IfOk result (λ inferred.
+        AreClosed (image_of old.entry) (image_of new.entry) (pairs_of inferred.pairs.items)) }
+    ensures complete { IfOk result (λ inferred. Certifiable (image_of old.entry) (image_of new.entry)
+        → Certified (image_of old.entry) (image_of new.entry) (pairs_of inferred.pairs.items)) }
+    ensures table { IfOk result (λ inferred. HasTables (record {
+      old = image_of old.entry;
+      new = image_of new.entry;
+      pairs = pairs_of inferred.pairs.items;
+    }) inferred.partners.items) }
+    ensures refused { IfErr result
+        (IsRefusalOf (table_fault (image_of old.entry) (image_of new.entry) [])) }
+    ensures impossible { (refusal : Refusal) → result ≡ Err (CheckFault.Refused refusal)
+        → AreComparable (image_of old.entry) (image_of new.entry) → ⊥ }
+{
     let old_starts = match Starts::new(alloc, old) {
         Ok(starts) => starts,
-        Err(StartsFault::NotShaped(_)) => return Ok(Vec::new(alloc)),
-        Err(StartsFault::NoMemory) => return Err(NoMemory),
+        Err(fault) => return Err(fault.of_old()),
     };
     let new_starts = match Starts::new(alloc, new) {
         Ok(starts) => starts,
-        Err(StartsFault::NotShaped(_)) => return Ok(Vec::new(alloc)),
-        Err(StartsFault::NoMemory) => return Err(NoMemory),
+        Err(fault) => return Err(fault.of_new()),
     };
     if old.roots.len() != new.roots.len() {
-        return Ok(Vec::new(alloc));
+        return Err(CheckFault::Refused(Refusal::RootCount));
     }
     let found = find(alloc, &old_starts, &new_starts)?;
-    rising_pairs(alloc, &found)
+    let mut pairs = Vec::with_capacity(alloc, found.pairs.len())?;
+    enter_rising(found.originals.as_slice(), &mut pairs);
+    Ok(Inferred {
+        pairs,
+        partners: found.partners,
+    })
 }
 
-// Returns the pairs found in the order of their new addresses. Allocates once.
-fn rising_pairs(alloc: Global, found: &Found) -> Result<Vec<Pair>, NoMemory>
-    requires few { length found.now.originals.items < 2 ^ 32 }
-    ensures few { IfOk result (λ pairs. length pairs.items < 2 ^ 32) }
-    ensures pairs { IfOk result (λ pairs. pairs_of pairs.items ≡ risen 0 found.now.originals.items) }
+// Appends a pair for each new address that has an original, in the order of new addresses.
+fn enter_rising(originals: &[u32], pairs: &mut Vec<Pair>)
+    requires none { pairs.old.items ≡ [] }
+    requires few { length originals.now < 2 ^ 32 }
+    requires room { taken_in originals.now ≤ vec_capacity pairs.old }
+    ensures pairs { pairs_of pairs.new.items ≡ risen 0 originals.now }
 {
-    let mut pairs = Vec::with_capacity(alloc, found.pairs.len())?;
-    for b in 0..found.originals.len() {
-        let original = found.originals[b];
+    for b in 0..originals.len() {
+        let original = originals[b];
         if original != 0 {
-            let pair = Pair {
+            pairs.push_reserved(Pair {
                 old: OldAddr(original),
                 new: NewAddr(b as u32),
-            };
-            pairs.push(pair)?;
+            });
         }
     }
-    Ok(pairs)
 }

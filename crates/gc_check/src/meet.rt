@@ -1,6 +1,6 @@
 //! A walk over two images at once, from their roots, that finds which objects must be pairs.
 
-ghost use Rattle.std.specs.Prelude.{◌≡◌, IfOk, IsOk, IsTrue, OnOk, length};
+ghost use Rattle.std.specs.Prelude.{◌≡◌, IfOk, IsOk, IsTrue, length};
 ghost use Rattle.gc_words.specs.Image.{is_start, walk_words};
 ghost use Rattle.gc_check.specs.Internal.Meetings.{met, met_all, met_objects, MetTo, HoldsFound};
 ghost use Rattle.gc_check.specs.Verdict.{pairs_of};
@@ -29,59 +29,52 @@ pub(crate) fn find(alloc: Global, old: &Starts, new: &Starts) -> Result<Found, N
     ensures held { IfOk result (λ found. HoldsFound old.now new.now found) }
     ensures met { IfOk result (λ found. MetTo old.now new.now (pairs_of found.pairs.items) (length found.pairs.items)) }
 {
-    let most = if old.places() < new.places() {
-        old.places()
-    } else {
-        new.places()
-    };
     let partners = vec![in alloc; 0u32; old.places()]?;
     let originals = vec![in alloc; 0u32; new.places()]?;
-    // Each object takes at least two words.
-    let pairs = Vec::with_capacity(alloc, most / 2)?;
+    let pairs = Vec::with_capacity(alloc, old.count())?;
     let mut found = Found {
         partners,
         originals,
         pairs,
     };
-    meet_all(old, new, &mut found, old.roots(), new.roots())?;
-    meet_reachable(old, new, &mut found)?;
+    meet_all(old, new, &mut found, old.roots(), new.roots());
+    meet_reachable(old, new, &mut found);
     Ok(found)
 }
 
 // Meets the objects of all pairs, also of those that this finds.
-fn meet_reachable(old: &Starts, new: &Starts, found: &mut Found) -> Result<(), NoMemory>
+fn meet_reachable(old: &Starts, new: &Starts, found: &mut Found)
     requires held { HoldsFound old.now new.now found.old }
     requires met { MetTo old.now new.now (pairs_of found.old.pairs.items) 0 }
-    ensures held { OnOk result (HoldsFound old.now new.now found.new) }
-    ensures met { OnOk result (MetTo old.now new.now (pairs_of found.new.pairs.items) (length found.new.pairs.items)) }
+    ensures held { HoldsFound old.now new.now found.new }
+    ensures met { MetTo old.now new.now (pairs_of found.new.pairs.items) (length found.new.pairs.items) }
 {
     for done in 0..old.places() {
         if done >= found.pairs.len() {
-            return Ok(());
+            return;
         }
         let pair = found.pairs[done];
-        meet_objects(old, new, found, pair)?;
+        meet_objects(old, new, found, pair);
     }
     // No more pairs are found than the old image has words.
-    Ok(())
 }
 
 // Meets the fields of the objects of a pair, if their headers are equal and they are not raw.
-fn meet_objects(old: &Starts, new: &Starts, found: &mut Found, pair: Pair) -> Result<(), NoMemory>
+fn meet_objects(old: &Starts, new: &Starts, found: &mut Found, pair: Pair)
     requires old_start { IsTrue (is_start old.now.words pair.old.0) }
     requires new_start { IsTrue (is_start new.now.words pair.new.0) }
     requires held { HoldsFound old.now new.now found.old }
-    ensures held { OnOk result (HoldsFound old.now new.now found.new) }
-    ensures pairs { OnOk result (pairs_of found.new.pairs.items
-        ≡ met_objects old.now new.now (pairs_of found.old.pairs.items) (pair.old.0, pair.new.0)) }
+    ensures held { HoldsFound old.now new.now found.new }
+    ensures pairs { pairs_of found.new.pairs.items
+        ≡ met_objects old.now new.now (pairs_of found.old.pairs.items) (pair.old.0, pair.new.0) }
 {
     let word = header_word_at(old.words(), pair.old.0);
     if word != header_word_at(new.words(), pair.new.0) {
-        return Ok(());
+        return;
     }
     let header = Header::read(word).unwrap();
     if header.is_raw() {
-        return Ok(());
+        return;
     }
     let originals = fields_at(old.words(), pair.old.0, header);
     let replicas = fields_at(new.words(), pair.new.0, header);
@@ -89,74 +82,54 @@ fn meet_objects(old: &Starts, new: &Starts, found: &mut Found, pair: Pair) -> Re
 }
 
 // Meets words at the same places of two lists.
-fn meet_all(
-    old: &Starts,
-    new: &Starts,
-    found: &mut Found,
-    originals: &[u64],
-    replicas: &[u64],
-) -> Result<(), NoMemory>
+fn meet_all(old: &Starts, new: &Starts, found: &mut Found, originals: &[u64], replicas: &[u64])
     requires count { length originals.now ≡ length replicas.now }
     requires held { HoldsFound old.now new.now found.old }
-    ensures held { OnOk result (HoldsFound old.now new.now found.new) }
-    ensures pairs { OnOk result (pairs_of found.new.pairs.items
-        ≡ met_all old.now new.now (pairs_of found.old.pairs.items) originals.now replicas.now) }
+    ensures held { HoldsFound old.now new.now found.new }
+    ensures pairs { pairs_of found.new.pairs.items
+        ≡ met_all old.now new.now (pairs_of found.old.pairs.items) originals.now replicas.now }
 {
     for i in 0..originals.len() {
-        meet(old, new, found, originals[i], replicas[i])?;
+        meet(old, new, found, originals[i], replicas[i]);
     }
-    Ok(())
 }
 
 // Meets two words: if both refer to objects that have no partner yet, these are a pair.
-fn meet(
-    old: &Starts,
-    new: &Starts,
-    found: &mut Found,
-    original: u64,
-    replica: u64,
-) -> Result<(), NoMemory>
+fn meet(old: &Starts, new: &Starts, found: &mut Found, original: u64, replica: u64)
     requires held { HoldsFound old.now new.now found.old }
-    ensures held { OnOk result (HoldsFound old.now new.now found.new) }
-    ensures pairs { OnOk result (pairs_of found.new.pairs.items
-        ≡ met old.now new.now (pairs_of found.old.pairs.items) original replica) }
+    ensures held { HoldsFound old.now new.now found.new }
+    ensures pairs { pairs_of found.new.pairs.items
+        ≡ met old.now new.now (pairs_of found.old.pairs.items) original replica }
 {
     let Some(Value::Ref(from)) = decode_wide(original) else {
-        return Ok(());
+        return;
     };
     let Some(Value::Ref(to)) = decode_wide(replica) else {
-        return Ok(());
+        return;
     };
-    meet_refs(old, new, found, from, to)
+    meet_refs(old, new, found, from, to);
 }
 
 ghost use Rattle.std.specs.Prelude.{◌<◌};
 ghost use Rattle.gc_check.specs.Internal.Meetings.{met_refs, is_free};
 
 // Enters two addresses as a pair, if objects start there that have no partner yet.
-fn meet_refs(
-    old: &Starts,
-    new: &Starts,
-    found: &mut Found,
-    from: Addr,
-    to: Addr,
-) -> Result<(), NoMemory>
+fn meet_refs(old: &Starts, new: &Starts, found: &mut Found, from: Addr, to: Addr)
     requires held { HoldsFound old.now new.now found.old }
-    ensures held { OnOk result (HoldsFound old.now new.now found.new) }
-    ensures pairs { OnOk result (pairs_of found.new.pairs.items
-        ≡ met_refs old.now new.now (pairs_of found.old.pairs.items) from.0 to.0) }
+    ensures held { HoldsFound old.now new.now found.new }
+    ensures pairs { pairs_of found.new.pairs.items
+        ≡ met_refs old.now new.now (pairs_of found.old.pairs.items) from.0 to.0 }
 {
     if !is_free(old, new, found, from, to) {
-        return Ok(());
+        return;
     }
     let pair = Pair {
         old: OldAddr(from.0),
         new: NewAddr(to.0),
     };
-    found.pairs.push(pair)?;
+    found.pairs.push_reserved(pair);
     found.partners[from.0 as usize] = to.0;
     found.originals[to.0 as usize] = from.0;
-    Ok(())
 }
 
 // Returns whether objects start at both addresses and neither has a partner.

@@ -27,7 +27,7 @@ impl<'a> Starts<'a> {
     ghost use Rattle.gc_words.specs.Image.{is_start, walk_words};
     ghost use Rattle.gc_words.specs.Fault.{shape_fault};
     ghost use Rattle.gc_words.specs.Views.{image_of};
-    ghost use Rattle.gc_check.specs.Internal.Starts.{IsStartsFault};
+    ghost use Rattle.gc_check.specs.Internal.Starts.{IsStartsFault, starts_from};
 
     /// Builds the table by one walk over the image's words. Returns `NotShaped` with the first place at which the image
     /// is not shaped. Allocates once, or not at all if the size, the end, the number of words or word 0 is wrong.
@@ -53,6 +53,19 @@ impl<'a> Starts<'a> {
         self.image.words.len()
     }
 
+    /// Returns the number of objects.
+    pub(crate) fn count(&self) -> usize
+        ensures { result ≡ starts_from self.now.words 0 (length self.now.words) }
+    {
+        let mut count = 0;
+        for place in 0..self.places() {
+            if self.is_marked(place) {
+                count += 1;
+            }
+        }
+        count
+    }
+
     /// Returns the words of the image.
     pub(crate) fn words(&self) -> &[u64]
         ensures value { result.now ≡ self.now.words }
@@ -74,7 +87,15 @@ impl<'a> Starts<'a> {
         ensures within { IsTrue result → place < length self.now.words }
     {
         let place = place as usize;
-        place < self.marks.len() && self.marks[place]
+        place < self.marks.len() && self.is_marked(place)
+    }
+
+    // Returns whether an object starts at this place of the image.
+    fn is_marked(&self, place: usize) -> bool
+        requires { place < length self.now.words }
+        ensures { result ≡ is_start self.now.words place }
+    {
+        self.marks[place]
     }
 }
 

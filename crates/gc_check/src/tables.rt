@@ -47,6 +47,7 @@ impl<'a> Tables<'a> {
     ghost use Rattle.gc_words.specs.Fault.{table_fault, pair_fault, root_fault, first_difference};
     ghost use Rattle.gc_words.specs.Views.{image_of};
     ghost use Rattle.gc_check.specs.Profile.{small_table_fault};
+    ghost use Rattle.gc_check.specs.Internal.Tables.{HasTables};
     ghost use Rattle.gc_check.specs.Tables.{pair_at};
     ghost use Rattle.gc_check.specs.Verdict.{pairs_of, IsRefusalOf};
 
@@ -111,6 +112,39 @@ impl<'a> Tables<'a> {
             cert,
             partners,
         })
+    }
+
+    /// Returns the tables of pairs that were found together with their table of partners.
+    pub(crate) fn of_partners(
+        old: ImageRef<'a>,
+        new: ImageRef<'a>,
+        cert: &'a [Pair],
+        partners: Vec<u32>,
+    ) -> Tables<'a>
+        requires { HasTables (record {
+          old = image_of old;
+          new = image_of new;
+          pairs = pairs_of cert.now;
+        }) partners.items }
+        ensures { result ≡ record {
+          old = image_of old.entry;
+          new = image_of new.entry;
+          pairs = pairs_of cert.now;
+        } }
+    {
+        Tables {
+            old,
+            new,
+            cert,
+            partners,
+        }
+    }
+
+    /// Returns the number of pairs.
+    pub fn count(&self) -> u32
+        ensures { result ≡ length self.now.pairs }
+    {
+        self.cert.len() as u32
     }
 
     /// Returns the first fault of the header and the fields of the objects that pair `k` joins. Does not allocate.

@@ -6,7 +6,7 @@ use Rattle.std.proofs.lemmas.List.{length-replicate}
 use Rattle.gc_graph.specs.Slots.{place}
 use Rattle.gc_graph.specs.Graph.{Value, Nil, Num, Ref, Object, Graph, lookup, object_of, field_of, root, value_or_nil, set_root, add_object, first_value, new_object, set_field, names_of}
 use Rattle.gc_graph.specs.Machine.{words_taken, step, get_field, is_number, put_field}
-use Rattle.gc_graph.specs.Range.{IsCommand}
+use Rattle.gc_copy.specs.Runs.{HasRange}
 use Rattle.gc_copy.specs.Steps.{written}
 use Rattle.gc_copy.specs.Members.{In}
 use Rattle.gc_copy.specs.Belonging.{IsNamed, RefersTo, IsObject, HasRawNumbers, IsSpaceGraph, HasField}
@@ -204,10 +204,10 @@ at_free : (size free : ℕ) (next : Graph) → IsSpaceGraph size free next → I
 at_free size free next k = let e : free ≡ free - 0 = omega arith in subst (λ f. IsSpaceGraph size f next) e k
 
 -- a command for which there is room keeps the heap well formed
-pub step_keeps : (size free : ℕ) (g : Graph) (m : ℕ) (op : Op) (name : ℕ) → IsSpaceGraph size free g → IsCommand op → words_taken op ≤ free → name ≡ size - free
+pub step_keeps : (size free : ℕ) (g : Graph) (m : ℕ) (op : Op) (name : ℕ) → IsSpaceGraph size free g → HasRange op → words_taken op ≤ free → name ≡ size - free
     → IsSpaceGraph size (free - words_taken op) (step g m op name).1
-step_keeps size free g m (ops.New d kind len) name h r fits is = keeps_new size free g false (place d m) kind len name h r.1 r.2 fits is
-step_keeps size free g m (ops.NewRaw d kind len) name h r fits is = keeps_new size free g true (place d m) kind len name h r.1 r.2 fits is
+step_keeps size free g m (ops.New d kind len) name h r fits is = keeps_new size free g false (place d m) kind len name h r.0 r.1 fits is
+step_keeps size free g m (ops.NewRaw d kind len) name h r fits is = keeps_new size free g true (place d m) kind len name h r.0 r.1 fits is
 step_keeps size free g m (ops.Num d n) name h r fits is = at_free size free _ (keeps_root size free g (place d m) (Num n) h tt)
 step_keeps size free g m (ops.Nil d) name h r fits is = at_free size free _ (keeps_root size free g (place d m) Nil h tt)
 step_keeps size free g m (ops.Move d s) name h r fits is = at_free size free _ (keeps_root size free g (place d m) (root g (place s m)) h (root_fine size free g (place s m) h))

@@ -152,6 +152,12 @@ module _ (heap : HeapWords) (x : CollectionWords) (heap_is : IsHeap heap) (is : 
       let back : value_of w ≡ v.0 = ap value_of (sym v.2) ∙ (meaning_back v.0 (has_address v.0 refers)).1 in
       word_fine x.space.words w address (subst (RefersTo (IsNamed (objects_of x.space.words))) (sym back) refers)
 
+  moved_count : length (new_root_words heap (collection_in x)) ≡ length heap.roots
+  moved_count =
+      length-map (new_graph (collection_in x) (graph_in heap).roots).roots word_of
+      ∙ length-map (graph_in heap).roots (moved (collection_in x))
+      ∙ length-map heap.roots value_of
+
   pub flipped_sound : IsHeap (record heap { space = without_links x.space; roots = new_root_words heap (collection_in x) })
   flipped_sound = record {
     space = (cleared x.space is.space).0;
@@ -159,11 +165,8 @@ module _ (heap : HeapWords) (x : CollectionWords) (heap_is : IsHeap heap) (is : 
       fields = all_from_in (λ (e : ℕ × Block). HasFieldWords x.space.words e.1) (blocks x.space.words) field_words;
       roots = all_from_in (IsRootWord x.space.words) (new_root_words heap (collection_in x)) root_words;
     });
-    roots =
-        length-map (new_graph (collection_in x) (graph_in heap).roots).roots word_of
-        ∙ length-map (graph_in heap).roots (moved (collection_in x))
-        ∙ length-map heap.roots value_of
-        ∙ heap_is.roots;
+    roots = omega (arith, moved_count, heap_is.roots);
+    few = omega (arith, moved_count, heap_is.few);
   }
 
   graph_after : graph_in (record heap { space = without_links x.space; roots = new_root_words heap (collection_in x) }) ≡ new_graph (collection_in x) (graph_in heap).roots

@@ -6,7 +6,6 @@ pub mod Numbers
 pub mod Replicas
 pub mod Steps
 pub mod Runs
-pub mod Sizes
 pub mod Images
 pub mod Flips
 pub mod Room
@@ -29,3 +28,4 @@ pub mod LinkedImages
 pub mod Dropping
 pub mod Mutating
 pub mod RootsStay
+pub mod Sizes

@@ -6,7 +6,7 @@ use Rattle.gc_graph.specs.Slots.{place}
 use Rattle.gc_graph.specs.Graph.{Value, Nil, Num, Ref, Object, Graph, lookup, object_of, field_of, root, value_or_nil, set_root, add_object, first_value, new_object}
 use Rattle.gc_graph.specs.Correspond.{correspond}
 use Rattle.gc_graph.specs.Machine.{step, get_field, is_number, put_field}
-use Rattle.gc_graph.specs.Range.{IsCommand}
+use Rattle.gc_copy.specs.Runs.{HasRange}
 use Rattle.gc_graph.specs.declared.reply.Reply.{Reply}
 use Rattle.gc_graph.specs.declared.command.Op.{Op}
 use Rattle.gc_graph.specs.declared.command.Op.TheVariants as ops
@@ -66,10 +66,10 @@ small_new g raw d kind len name h = record {
     first_small true = omega arith
     first_small false = tt
 
-pub step_small : (g : Graph) (m : ℕ) (op : Op) (name : ℕ) → HasSmallNumbers g → IsCommand op → HasSmallNumbers (step g m op name).1
+pub step_small : (g : Graph) (m : ℕ) (op : Op) (name : ℕ) → HasSmallNumbers g → HasRange op → HasSmallNumbers (step g m op name).1
 step_small g m (ops.New d kind len) name h r = small_new g false (place d m) kind len name h
 step_small g m (ops.NewRaw d kind len) name h r = small_new g true (place d m) kind len name h
-step_small g m (ops.Num d n) name h r = small_root g (place d m) (Num n) h r.1
+step_small g m (ops.Num d n) name h r = small_root g (place d m) (Num n) h r
 step_small g m (ops.Nil d) name h r = small_root g (place d m) Nil h tt
 step_small g m (ops.Move d s) name h r = small_root g (place d m) (root g (place s m)) h (root_small g (place s m) h)
 step_small g m (ops.Get d s i) name h r = small_get g (place d m) _ _ h (λ v e. field_small g (root g (place s m)) i v h e)

@@ -35,7 +35,8 @@ use Rattle.gc_copy.proofs.Heap.{laid_range, lookup_laid}
 use Rattle.gc_copy.specs.Belonging.{IsDue, Belongs, IsOpen, IsOpened}
 use Rattle.gc_copy.proofs.Replicas.{placed, with_written_pair, replica_in}
 use Rattle.gc_copy.specs.Words.{CollectionWords, IsCollection, entries_of, replicas_in, collection_in, state_of, open_state, LinksReplicas, BelongsTo}
-use Rattle.gc_copy.specs.Internal.Words.{replica_block, HasReplicaOf, KeepsGraph, KeepsRest}
+use Rattle.gc_copy.specs.Staying.{HasReplicaOf}
+use Rattle.gc_copy.specs.Internal.Words.{replica_block, KeepsGraph, KeepsRest}
 use Rattle.gc_copy.specs.declared.step.Step.{Step}
 use Rattle.gc_copy.specs.declared.step.Step.TheVariants as steps
 use Rattle.gc_copy.specs.declared.step.StepReply.{StepReply}

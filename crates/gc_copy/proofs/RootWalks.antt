@@ -1,21 +1,26 @@
 -- Walks over the root words.
-use Rattle.std.proofs.Common.{◌≡◌, ℕ, suc, zero, ◌<◌, ◌≤◌, true, List, [], ◌∷◌, ◌++◌, map, drop, flat_map, length, get_or, Option, is_some, refl, ap, sym, ◌∙◌, subst, arith, append-nil, inl, inr}
+use Rattle.std.proofs.Common.{◌≡◌, ℕ, suc, zero, ◌<◌, ◌≤◌, true, List, [], ◌∷◌, ◌++◌, map, drop, length, get_or, slice_get, is_some, refl, ap, sym, ◌∙◌, subst, arith, append-nil, inl, inr}
 use Rattle.std.proofs.lemmas.List.{drop_all}
-use Rattle.gc_graph.specs.Graph.{Value, Nil, Num, Ref, names_of}
+use Rattle.gc_graph.specs.Graph.{Value, Nil, Num, Ref, root, value_or_nil}
 use Rattle.gc_words.specs.Word.{value_of, word_of}
 use Rattle.gc_heap.specs.Heap.{HeapWords, graph_in}
 use Rattle.gc_copy.specs.State.{Collection, moved}
-use Rattle.gc_copy.specs.Steps.{first_unreplicated, roots_done}
+use Rattle.gc_copy.specs.Steps.{roots_done}
 use Rattle.gc_copy.specs.Members.{In}
 use Rattle.gc_copy.proofs.Replicas.{HasReplica}
 use Rattle.gc_copy.specs.Words.{new_root_words}
-use Rattle.gc_copy.specs.Internal.Words.{HasReplicaOf}
+use Rattle.gc_copy.specs.Staying.{HasReplicaOf}
 use Rattle.gc_copy.proofs.Lists.{in_map}
 use Rattle.gc_copy.proofs.Steps.{roots_replicated}
 
--- the first target without a replica, from root i on
-abbrev pub found_from : Collection → List ℕ → ℕ → Option ℕ
-found_from c words i = first_unreplicated c (flat_map names_of (map value_of (drop i words)))
+-- the value of a root, read from its word
+pub value_at : (words : List ℕ) (i : ℕ) → i < length words → value_or_nil (slice_get (map value_of words) i) ≡ value_of (get_or words i 0)
+value_at [] i h = absurd (omega arith)
+value_at (w ∷ ws) zero h = refl
+value_at (w ∷ ws) (suc i) h = value_at ws i (omega arith)
+
+pub root_at : (heap : HeapWords) (words : List ℕ) (i : ℕ) → words ≡ heap.roots → i < length heap.roots → root (graph_in heap) i ≡ value_of (get_or words i 0)
+root_at heap words i same h = value_at heap.roots i h ∙ ap (λ (ws : List ℕ). value_of (get_or ws i 0)) (sym same)
 
 -- ---- moving them
 

@@ -1,12 +1,13 @@
 -- Every state that a run reaches is well formed.
-use Rattle.std.proofs.Common.{◌||◌, ◌≡◌, ℕ, ◌≤◌, ◌==◌, List, [], ◌∷◌, Option, Some, None, refl, sym, ◌∙◌, subst, arith}
+use Rattle.std.proofs.Common.{◌||◌, ◌≡◌, ℕ, ◌+◌, ◌≤◌, ◌==◌, List, [], ◌∷◌, Option, Some, None, refl, sym, ◌∙◌, subst, arith}
 use Rattle.std.proofs.lemmas.Bool.{cond_both}
 use Rattle.std.proofs.lemmas.List.{length-replicate}
 use Rattle.gc_graph.specs.Slots.{roots_of}
 use Rattle.gc_graph.specs.Graph.{Nil}
-use Rattle.gc_copy.specs.State.{Replica, Collection, State, opening_state, replica_at}
+use Rattle.gc_heap.specs.declared.options.HeapOptions.{HeapOptions}
+use Rattle.gc_copy.specs.State.{Replica, Collection, State, opening_state, opening_state_with, replica_at}
 use Rattle.gc_copy.specs.Steps.{if_room, root_target, copy_root, scan_done, scan_replica, log_at, apply_log, is_ready, passes_check, flip, collect_with, collect}
-use Rattle.gc_copy.specs.Runs.{IsStep, IsEvent, AreEvents, after, state_after}
+use Rattle.gc_copy.specs.Runs.{IsStep, IsEvent, AreEvents, IsRootEvent, AreRootEvents, after, state_after}
 use Rattle.gc_copy.specs.declared.event.Event.{Event}
 use Rattle.gc_copy.specs.declared.event.Event.TheVariants.{Mutate, Collect}
 use Rattle.gc_copy.specs.Belonging.{IsNamed, RefersTo, IsSmall, IsState}
@@ -15,7 +16,7 @@ use Rattle.gc_copy.specs.declared.step.Step.TheVariants as steps
 use Rattle.gc_copy.specs.declared.step.StepReply.{StepReply}
 use Rattle.gc_copy.specs.declared.step.StepReply.TheVariants.{Copied, Scanned, Applied}
 use Rattle.gc_copy.proofs.Lists.{in_replicate}
-use Rattle.gc_copy.proofs.Steps.{collect_keeps, mutate_keeps}
+use Rattle.gc_copy.proofs.Steps.{collect_keeps, mutate_keeps, ranged}
 
 -- a state that a run with this many mutators reaches
 pub record Reached (mutators : ℕ) (s : State) : Type 0 where
@@ -33,7 +34,22 @@ opening_ok size mutators low high = record {
     numbers = λ a o found. absurd (let no : None ≡ Some o = found in cc);
   };
   numbers = record { fields = λ a o k. absurd k; roots = λ v k. subst IsSmall (in_replicate v Nil (roots_of mutators) k) tt };
-  roots = length-replicate (roots_of mutators) Nil;
+  roots = omega (arith, length-replicate (roots_of mutators) Nil);
+  collection = tt;
+}
+
+pub opening_with_ok : (options : HeapOptions) → 1 ≤ options.size → options.size ≤ 4294967295 → IsState (opening_state_with options)
+opening_with_ok options low high = record {
+  heap = record {
+    high = high;
+    room = omega arith;
+    laid = omega arith;
+    objects = λ a o k. absurd k;
+    roots = λ v k. subst (RefersTo (IsNamed [])) (in_replicate v Nil (roots_of options.mutators + options.extra_roots) k) tt;
+    numbers = λ a o found. absurd (let no : None ≡ Some o = found in cc);
+  };
+  numbers = record { fields = λ a o k. absurd k; roots = λ v k. subst IsSmall (in_replicate v Nil (roots_of options.mutators + options.extra_roots) k) tt };
+  roots = omega (arith, length-replicate (roots_of options.mutators + options.extra_roots) Nil);
   collection = tt;
 }
 
@@ -77,9 +93,28 @@ collect_count s step = go s.collection step
     go (Some c) steps.Flip = flip_count s c
     go (Some c) steps.Drop = refl
 
+-- an event of a heap without extra roots is one of a heap with them
+pub root_event : (mutators : ℕ) (event : Event) → IsEvent mutators event → IsRootEvent mutators event
+root_event mutators (Mutate m op) r = (r.0, ranged op r.1)
+root_event mutators (Collect step) r = r
+
+pub root_events : (mutators : ℕ) (events : List Event) → AreEvents mutators events → AreRootEvents mutators events
+root_events mutators [] r = tt
+root_events mutators (event ∷ events) r = (root_event mutators event r.0, root_events mutators events r.1)
+
+pub root_event_keeps : (mutators : ℕ) (s : State) (event : Event) → Reached mutators s → IsRootEvent mutators event → Reached mutators (after s event)
+root_event_keeps mutators s (Mutate m op) h r = record { ok = mutate_keeps s m op h.ok (let e = h.count in let l = r.0 in omega arith) r.1; count = h.count }
+root_event_keeps mutators s (Collect step) h r = record { ok = collect_keeps s step h.ok (subst (λ n. IsStep n step) (sym h.count) r); count = collect_count s step ∙ h.count }
+
 pub event_keeps : (mutators : ℕ) (s : State) (event : Event) → Reached mutators s → IsEvent mutators event → Reached mutators (after s event)
-event_keeps mutators s (Mutate m op) h r = record { ok = mutate_keeps s m op h.ok (let e = h.count in let l = r.0 in omega arith) r.1; count = h.count }
-event_keeps mutators s (Collect step) h r = record { ok = collect_keeps s step h.ok (subst (λ n. IsStep n step) (sym h.count) r); count = collect_count s step ∙ h.count }
+event_keeps mutators s event h r = root_event_keeps mutators s event h (root_event mutators event r)
+
+pub root_events_keep : (mutators : ℕ) (events : List Event) (s : State) → Reached mutators s → AreRootEvents mutators events → Reached mutators (state_after s events)
+root_events_keep mutators [] s h r = h
+root_events_keep mutators (event ∷ events) s h r = root_events_keep mutators events (after s event) (root_event_keeps mutators s event h r.0) r.1
+
+pub root_run_ok : (options : HeapOptions) (events : List Event) → 1 ≤ options.size → options.size ≤ 4294967295 → AreRootEvents options.mutators events → IsState (state_after (opening_state_with options) events)
+root_run_ok options events low high r = (root_events_keep options.mutators events (opening_state_with options) (record { ok = opening_with_ok options low high; count = refl }) r).ok
 
 pub run_keeps : (mutators : ℕ) (events : List Event) (s : State) → Reached mutators s → AreEvents mutators events → Reached mutators (state_after s events)
 run_keeps mutators [] s h r = h

@@ -2,10 +2,13 @@
 use Rattle.std.proofs.Common.{◌||◌, ℕ, ◌≤◌, ◌==◌, nat_lt, List, [], ◌∷◌, length, Option, Some, None, is_some, arith}
 use Rattle.std.specs.Prelude.{IfSome}
 use Rattle.std.proofs.lemmas.Bool.{cond_both}
+use Rattle.std.proofs.lemmas.List.{length-map, length-replicate}
 use Rattle.gc_graph.specs.Graph.{Value, Nil, Num, Ref, Object, Graph, lookup, field_of}
 use Rattle.gc_graph.specs.Machine.{object_words}
-use Rattle.gc_copy.specs.State.{Replica, Collection, State, opening_state, new_free, replica_of, replica_at}
-use Rattle.gc_copy.specs.Steps.{logged, log_at, with_log, place_replica, with_replica, copy_value, bring_value, bring_up_to_date, if_room, root_target, copy_root, next_field, scan_done, scan_replica, apply_entry, apply_log, is_ready, passes_check, flip, collect_with, collect}
+use Rattle.gc_graph.specs.Slots.{roots_of}
+use Rattle.gc_copy.specs.State.{Replica, Collection, State, opening_state, new_free, replica_of, replica_at, moved}
+use Rattle.gc_copy.proofs.RootsStay.{roots_counted}
+use Rattle.gc_copy.specs.Steps.{logged, log_at, with_log, place_replica, with_replica, copy_value, bring_value, if_room, root_target, copy_root, next_field, scan_done, scan_replica, apply_entry, apply_log, is_ready, passes_check, flip, collect_with}
 use Rattle.gc_copy.specs.Runs.{IsStepWithin, IsEventWithin, AreEventsWithin, IsStep, IsEvent, AreEvents, HasSizesWithin, after, state_after}
 use Rattle.gc_copy.specs.declared.event.Event.{Event}
 use Rattle.gc_copy.specs.declared.event.Event.TheVariants.{Mutate, Collect}
@@ -49,7 +52,7 @@ module _ (most : ℕ) where
 
   room_within : (s : State) (reply : StepReply) (o : Option Collection) → HasSizesWithin most s → IsWithin o → AreWithin (if_room s reply o)
   room_within s reply None h new = h
-  room_within s reply (Some c) h new = record { heap = h.heap; collection = new }
+  room_within s reply (Some c) h new = record { heap = h.heap; roots = h.roots; collection = new }
 
   root_within : (s : State) (c : Collection) (t : Option ℕ) → HasSizesWithin most s → c.size ≤ most → AreWithin (copy_root s c t)
   root_within s c None h new = h
@@ -59,7 +62,7 @@ module _ (most : ℕ) where
   scan_within s c None h new = h
   scan_within s c (Some r) h new =
       cond_both (r.object.raw || (c.scan_field == length r.object.fields)) _ _ AreWithin
-      (λ passed. record { heap = h.heap; collection = new })
+      (λ passed. record { heap = h.heap; roots = h.roots; collection = new })
       (λ more. room_within s Scanned _ h (next_within _ (bring_within c s.heap.graph r.original c.scan_field (field_of (lookup s.heap.graph.objects r.original) c.scan_field) new)))
 
   log_within : (s : State) (c : Collection) (m : ℕ) (l : List (ℕ × ℕ)) → HasSizesWithin most s → c.size ≤ most → AreWithin (apply_log s c m l)
@@ -69,12 +72,12 @@ module _ (most : ℕ) where
   flip_within : (s : State) (c : Collection) → HasSizesWithin most s → c.size ≤ most → AreWithin (flip s c)
   flip_within s c h new =
       cond_both (is_ready c s.heap.graph) _ _ AreWithin
-      (λ ready. cond_both (passes_check s c) _ _ AreWithin (λ passes. record { heap = new; collection = tt }) (λ fails. h))
+      (λ ready. cond_both (passes_check s c) _ _ AreWithin (λ passes. record { heap = new; roots = omega (arith, length-map s.heap.graph.roots (moved c), h.roots); collection = tt }) (λ fails. h))
       (λ early. h)
 
   step_within : (mutators : ℕ) (s : State) (o : Option Collection) (step : Step) → HasSizesWithin most s → IsWithin o → IsStepWithin most mutators step → AreWithin (collect_with s o step)
-  step_within mutators s None steps.Begin h new r = record { heap = h.heap; collection = h.heap }
-  step_within mutators s None (steps.BeginSized size) h new r = record { heap = h.heap; collection = r.1 }
+  step_within mutators s None steps.Begin h new r = record { heap = h.heap; roots = h.roots; collection = h.heap }
+  step_within mutators s None (steps.BeginSized size) h new r = record { heap = h.heap; roots = h.roots; collection = r.1 }
   step_within mutators s None steps.Roots h new r = h
   step_within mutators s None steps.Scan h new r = h
   step_within mutators s None (steps.Apply m) h new r = h
@@ -86,7 +89,7 @@ module _ (most : ℕ) where
   step_within mutators s (Some c) steps.Scan h new r = cond_both (scan_done c) _ _ AreWithin (λ done. h) (λ more. scan_within s c (replica_at c c.scan_place) h new)
   step_within mutators s (Some c) (steps.Apply m) h new r = log_within s c m (log_at c m) h new
   step_within mutators s (Some c) steps.Flip h new r = flip_within s c h new
-  step_within mutators s (Some c) steps.Drop h new r = record { heap = h.heap; collection = tt }
+  step_within mutators s (Some c) steps.Drop h new r = record { heap = h.heap; roots = h.roots; collection = tt }
 
   logged_within : (o : Option Collection) (m : ℕ) (entries : List (ℕ × ℕ)) → IsWithin o → IsWithin (logged o m entries)
   logged_within None m entries h = tt
@@ -95,10 +98,10 @@ module _ (most : ℕ) where
   -- ---- runs
 
   pub opening_within : (size mutators : ℕ) → size ≤ most → HasSizesWithin most (opening_state size mutators)
-  opening_within size mutators h = record { heap = h; collection = tt }
+  opening_within size mutators h = record { heap = h; roots = omega (arith, length-replicate (roots_of mutators) Nil); collection = tt }
 
   pub event_within : (mutators : ℕ) (s : State) (event : Event) → HasSizesWithin most s → IsEventWithin most mutators event → HasSizesWithin most (after s event)
-  event_within mutators s (Mutate m op) h r = record { heap = h.heap; collection = logged_within s.collection m _ h.collection }
+  event_within mutators s (Mutate m op) h r = record { heap = h.heap; roots = omega (arith, roots_counted s m op, h.roots); collection = logged_within s.collection m _ h.collection }
   event_within mutators s (Collect step) h r = step_within mutators s s.collection step h h.collection r
 
   pub events_within : (mutators : ℕ) (events : List Event) (s : State) → HasSizesWithin most s → AreEventsWithin most mutators events → HasSizesWithin most (state_after s events)

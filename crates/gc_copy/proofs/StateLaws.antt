@@ -23,7 +23,7 @@ use Rattle.gc_copy.specs.declared.step.StepReply.{StepReply}
 use Rattle.gc_copy.specs.declared.step.StepReply.TheVariants.{Clean, Scanned}
 use Rattle.gc_copy.proofs.Commands.{step_numbers, unchanged, step_keeps, step_evolves, field_stays, written_there, full_writes_nothing}
 use Rattle.gc_copy.proofs.Replicas.{pair, placed, replicas_end, replicas_due}
-use Rattle.gc_copy.proofs.Steps.{open_keeps, ready_parts, its_replicas, belongs_from, belongs_but, belongs_noted}
+use Rattle.gc_copy.proofs.Steps.{open_keeps, ready_parts, its_replicas, belongs_from, belongs_but, belongs_noted, ranged}
 use Rattle.gc_copy.proofs.Links.{found_by_place}
 use Rattle.gc_copy.proofs.Runs.{run_ok}
 use Rattle.gc_copy.proofs.Images.{image_shaped, end_is, graph_back}
@@ -99,7 +99,7 @@ pub heap_kept : (size : ℕ) (h : Roomy) (m : ℕ) (op : Op) → IsSpaceGraph si
 heap_kept size h m op heap range =
     cond_both (nat_lt h.free (words_taken op)) _ _ (λ (next : Reply × Roomy). IsSpaceGraph size next.1.free next.1.graph)
     (λ full. heap)
-    (λ fits. step_keeps size h.free h.graph m op (size - h.free) heap range (ltb-false h.free (words_taken op) fits) refl)
+    (λ fits. step_keeps size h.free h.graph m op (size - h.free) heap (ranged op range) (ltb-false h.free (words_taken op) fits) refl)
 
 pub command_kept : (h : Roomy) (c : Collection) (m : ℕ) (op : Op) (name : ℕ) → Belongs h.graph.objects c
     → (let next = roomy_step h m op name in BelongsBut (λ a i. In (a, i) (written h.graph m op next.0)) next.1.graph.objects c)

@@ -6,6 +6,7 @@ use Rattle.std.proofs.lemmas.List.{length-replicate, length-map, map-append}
 use Rattle.gc_graph.specs.Graph.{Value, Nil, Num, Ref, Object, Graph, lookup, field_of, names_of}
 use Rattle.gc_graph.specs.Machine.{Roomy, words_taken, is_number, step}
 use Rattle.gc_graph.specs.Range.{IsCommand}
+use Rattle.gc_copy.specs.Runs.{HasRange}
 use Rattle.gc_graph.specs.Correspond.{correspond}
 use Rattle.gc_copy.specs.State.{Replica, Collection, State, heap_end, new_end, new_free, replica_of, replica_at, pairs_of, moved, new_graph}
 use Rattle.gc_copy.specs.Steps.{written, log_or_nil, log_at, with_log, logged, mutate, fresh_replica, place_replica, with_replica, with_written, write_replica, copy_value, bring_value, bring_up_to_date, with_collection, if_room, fresh_collection, first_unreplicated, root_target, copy_root, scan, next_object, next_field, scan_replica, apply_entry, apply_log, is_empty, roots_done, scan_done, is_ready, passes_check, flip, step_in, collect_with, collect}
@@ -13,6 +14,7 @@ use Rattle.gc_copy.specs.Runs.{IsStep}
 use Rattle.gc_copy.specs.Members.{In}
 use Rattle.gc_copy.specs.Belonging.{Laid, IsNamed, RefersTo, IsObject, IsSpaceGraph, IsSmall, HasSmallNumbers, HasRawNumbers, IsUnscanned, IsLogged, IsDue, IsScanPlace, HasField, IsOpened, BelongsBy, Belongs, BelongsBut, IsOpen, IsState}
 use Rattle.gc_graph.specs.declared.command.Op.{Op}
+use Rattle.gc_graph.specs.declared.command.Op.TheVariants as ops
 use Rattle.gc_graph.specs.declared.reply.Reply.{Reply}
 use Rattle.gc_graph.specs.declared.reply.Reply.TheVariants.{Full}
 use Rattle.gc_copy.specs.declared.step.Step.{Step}
@@ -522,7 +524,7 @@ flip_keeps : (s : State) (c : Collection) → IsState s → IsOpened s c → IsS
 flip_keeps s c h k =
     cond_both (is_ready c s.heap.graph) _ _ (λ (next : StepReply × State). IsState next.1)
     (λ t. cond_both (passes_check s c) _ _ (λ (next : StepReply × State). IsState next.1)
-    (λ u. record { heap = new_heap s.size s.heap.free s.heap.graph c h.heap k.belongs k.size (ready_parts c s.heap.graph t); numbers = new_small s.heap.graph c h.numbers k.belongs (ready_parts c s.heap.graph t); roots = length-map s.heap.graph.roots (moved c) ∙ h.roots; collection = tt })
+    (λ u. record { heap = new_heap s.size s.heap.free s.heap.graph c h.heap k.belongs k.size (ready_parts c s.heap.graph t); numbers = new_small s.heap.graph c h.numbers k.belongs (ready_parts c s.heap.graph t); roots = omega (arith, length-map s.heap.graph.roots (moved c), h.roots); collection = tt })
     (λ u. h))
     (λ t. h)
 
@@ -677,14 +679,26 @@ logged_open s t (Some c) m entries size count l k numbers evolves there = record
   logs = length-set c.logs m (log_at c m ++ entries) ∙ (k.logs ∙ sym count);
 }
 
-pub mutate_keeps : (s : State) (m : ℕ) (op : Op) → IsState s → m < s.mutators → IsCommand op → IsState (mutate s m op).1
+-- a command of the texts is one
+pub ranged : (op : Op) → IsCommand op → HasRange op
+ranged (ops.New d kind len) r = (r.1, r.2)
+ranged (ops.NewRaw d kind len) r = (r.1, r.2)
+ranged (ops.Num d n) r = r.1
+ranged (ops.Nil d) r = tt
+ranged (ops.Move d s) r = tt
+ranged (ops.Get d s i) r = tt
+ranged (ops.Put s i t) r = tt
+ranged (ops.Same s t) r = tt
+ranged (ops.Look s) r = tt
+
+pub mutate_keeps : (s : State) (m : ℕ) (op : Op) → IsState s → m < s.mutators → HasRange op → IsState (mutate s m op).1
 mutate_keeps s m op h l r =
     cond_both (nat_lt s.heap.free (words_taken op)) _ _ P
     (λ full. record { heap = h.heap; numbers = h.numbers; roots = h.roots; collection = logged_open s (at (Full, s.heap)) s.collection m (written s.heap.graph m op Full) refl refl l h.collection (h.heap).numbers (unchanged s.heap.graph.objects _) (λ a j x. absurd (full_writes_nothing s.heap.graph m op a j x)) })
     (λ fits.
     let next = step s.heap.graph m op (heap_end s) in
     let heap = step_keeps s.size s.heap.free s.heap.graph m op (heap_end s) h.heap r (ltb-false s.heap.free (words_taken op) fits) refl in
-    record { heap = heap; numbers = step_small s.heap.graph m op (heap_end s) h.numbers r; roots = step_roots s.heap.graph m op (heap_end s) ∙ h.roots; collection = logged_open s (at (next.0, record { graph = next.1; free = s.heap.free - words_taken op })) s.collection m (written s.heap.graph m op next.0) refl refl l h.collection heap.numbers (step_evolves s.heap.graph m op (heap_end s)) (λ a j x. written_there s.heap.graph m op (heap_end s) a j x) })
+    record { heap = heap; numbers = step_small s.heap.graph m op (heap_end s) h.numbers r; roots = omega (arith, step_roots s.heap.graph m op (heap_end s), h.roots); collection = logged_open s (at (next.0, record { graph = next.1; free = s.heap.free - words_taken op })) s.collection m (written s.heap.graph m op next.0) refl refl l h.collection heap.numbers (step_evolves s.heap.graph m op (heap_end s)) (λ a j x. written_there s.heap.graph m op (heap_end s) a j x) })
   where
     at : Reply × Roomy → State
     at next = record s { heap = next.1; collection = logged s.collection m (written s.heap.graph m op next.0) }

@@ -118,8 +118,9 @@ abbrev pub IsOpen : State → Option Collection → Type 0
 IsOpen s None = ⊤
 IsOpen s (Some c) = IsOpened s c
 
+-- the heap is sound, each mutator has its slots, which extra roots may follow, and the open collection belongs to the heap
 pub record IsState (s : State) : Type 0 where
   pub heap : IsSpaceGraph s.size s.heap.free s.heap.graph
   pub numbers : HasSmallNumbers s.heap.graph
-  pub roots : length s.heap.graph.roots ≡ roots_of s.mutators
+  pub roots : roots_of s.mutators ≤ length s.heap.graph.roots
   pub collection : IsOpen s s.collection

@@ -1,9 +1,11 @@
 -- Runs of a heap with its collector: the states and answers that lists of events lead to.
-use Rattle.std.specs.Prelude.{ℕ, ◌<◌, ◌≤◌, ◌==◌, if◌then◌else◌, List, [], ◌∷◌, ⊤, IfSome}
+use Rattle.std.specs.Prelude.{ℕ, ◌<◌, ◌≤◌, ◌==◌, ◌^◌, if◌then◌else◌, List, [], ◌∷◌, length, ⊤, IfSome}
 use Rattle.std.specs.List.{flat_map}
-use Rattle.gc_graph.specs.Limits.{largest_space}
+use Rattle.gc_graph.specs.Limits.{largest_space, kinds, lengths}
+use Rattle.gc_graph.specs.Slots.{roots_of}
 use Rattle.gc_graph.specs.Range.{IsCommand}
 use Rattle.gc_graph.specs.declared.command.Op.{Op}
+use Rattle.gc_graph.specs.declared.command.Op.TheVariants as ops
 use Rattle.gc_copy.specs.State.{State, opening_state}
 use Rattle.gc_copy.specs.Steps.{mutate, collect}
 use Rattle.gc_copy.specs.declared.event.Event.{Event}
@@ -41,6 +43,22 @@ IsEvent mutators event = IsEventWithin largest_space mutators event
 abbrev pub AreEvents : ℕ → List Event → Type 0
 AreEvents mutators events = AreEventsWithin largest_space mutators events
 
+-- the command's kind, length and number are in range, whichever roots it names
+abbrev pub HasRange : Op → Type 0
+HasRange (ops.New d kind len) = (kind < kinds) × (len < lengths)
+HasRange (ops.NewRaw d kind len) = (kind < kinds) × (len < lengths)
+HasRange (ops.Num d n) = n < 2 ^ 63
+HasRange op = ⊤
+
+-- an event of a heap with extra roots, which a command may name
+abbrev pub IsRootEvent : ℕ → Event → Type 0
+IsRootEvent mutators (Mutate m op) = (m < mutators) × HasRange op
+IsRootEvent mutators (Collect step) = IsStep mutators step
+
+abbrev pub AreRootEvents : ℕ → List Event → Type 0
+AreRootEvents mutators [] = ⊤
+AreRootEvents mutators (event ∷ events) = IsRootEvent mutators event × AreRootEvents mutators events
+
 abbrev pub after : State → Event → State
 after s (Mutate m op) = (mutate s m op).1
 after s (Collect step) = (collect s step).1
@@ -55,9 +73,10 @@ InEveryRun P = (size mutators : ℕ) (events : List Event) → 1 ≤ size → si
 
 -- ---- sizes
 
--- the heap's space has at most `most` words, and so has the new space of an open collection
+-- the heap's space has at most `most` words, and so has the new space of an open collection; there are no extra roots
 pub record HasSizesWithin (most : ℕ) (s : State) : Type 0 where
   pub heap : s.size ≤ most
+  pub roots : length s.heap.graph.roots ≤ roots_of s.mutators
   pub collection : IfSome s.collection (λ c. c.size ≤ most)
 
 -- ---- answers

@@ -4,6 +4,9 @@ use Rattle.std.specs.List.{find}
 use Rattle.gc_words.specs.Layout.{next_place}
 use Rattle.gc_graph.specs.Graph.{Value, Nil, Num, Ref, Object, Graph, new_object}
 use Rattle.gc_graph.specs.Machine.{Roomy, opening_roomy}
+use Rattle.gc_graph.specs.Slots.{roots_of}
+use Rattle.gc_heap.specs.ExtraRoots.{opening_with}
+use Rattle.gc_heap.specs.declared.options.HeapOptions.{HeapOptions}
 
 -- an object in the new space (to-space), with its place and the name of its original
 pub record Replica : Type 0 where
@@ -29,6 +32,14 @@ pub record State : Type 0 where
 
 abbrev pub opening_state : ℕ → ℕ → State
 opening_state size mutators = record { mutators = mutators; size = size; heap = opening_roomy size mutators; collection = None }
+
+-- the same, with the extra roots that the options ask for
+abbrev pub opening_state_with : HeapOptions → State
+opening_state_with options = record { mutators = options.mutators; size = options.size; heap = opening_with options; collection = None }
+
+-- the number of roots that follow those of the slots
+abbrev pub extra_roots_of : State → ℕ
+extra_roots_of s = length s.heap.graph.roots - roots_of s.mutators
 
 -- the address of the first free word in the mutators' space
 abbrev pub heap_end : State → ℕ

@@ -9,6 +9,7 @@ mod stepping;
 
 use crate::log::MutationLog;
 use gc_words::{Addr, Space};
+pub use roots::MissingRoot;
 use std::marker::Model;
 
 /// An open collection: the new space (to-space) with its replicas, a mutation log for each mutator, and the scan pointer.

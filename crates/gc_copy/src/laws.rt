@@ -2,7 +2,7 @@
 
 ghost use Rattle.std.specs.Prelude.{◌≡◌, ◌≢◌, ◌++◌, ◌∷◌, [], ℕ, List, ◌-◌, ◌<◌, ◌≤◌, ◌==◌, length, Some, is_none, ◌⊎◌, IsTrue, IsFalse};
 ghost use Rattle.gc_graph.specs.Limits.{largest_space};
-ghost use Rattle.gc_graph.specs.Graph.{Value, Ref, Object, Graph, IsUnused, set_field};
+ghost use Rattle.gc_graph.specs.Graph.{Value, Ref, Object, Graph, IsUnused, root, set_field};
 ghost use Rattle.gc_graph.specs.Correspond.{Corresponding};
 ghost use Rattle.gc_graph.specs.Machine.{Roomy, roomy_step};
 ghost use Rattle.gc_graph.specs.Range.{IsCommand};
@@ -13,18 +13,19 @@ ghost use Rattle.gc_words.specs.Space.{free_in, end_of, image_with};
 ghost use Rattle.gc_words.specs.Certificate.{Certified};
 ghost use Rattle.gc_heap.specs.Heap.{HeapWords, IsHeap, KeepsLinks, image_of, graph_in, roomy_in};
 ghost use Rattle.gc_heap.specs.Commands.{Performs};
+ghost use Rattle.gc_heap.specs.declared.options.HeapOptions.{HeapOptions};
 ghost use Rattle.gc_copy.specs.Words.{CollectionWords, IsCollection, BelongsTo, BelongsToBut, HasNoLinks, collection_in, idle_state, open_state, new_root_words};
 ghost use Rattle.gc_graph.specs.declared.reply.Reply.{Reply};
-ghost use Rattle.gc_copy.specs.State.{Replica, Collection, State, opening_state, new_objects, new_free, pairs_of, replica_of, replica_at, moved, new_graph};
+ghost use Rattle.gc_copy.specs.State.{Replica, Collection, State, opening_state, opening_state_with, new_objects, new_free, pairs_of, replica_of, replica_at, moved, new_graph};
 ghost use Rattle.gc_copy.specs.Linked.{image_of_graph, linked_image, old_links, new_links, old_image, new_image};
-ghost use Rattle.gc_copy.specs.Steps.{roots_done, written, log_at, with_log, WritesField, with_collection, write_replica, fresh_collection, mutate, collect, is_change, is_ready, useful_step};
+ghost use Rattle.gc_copy.specs.Steps.{written, log_at, with_log, WritesField, with_collection, write_replica, fresh_collection, mutate, collect, is_change, is_ready, useful_step};
 ghost use Rattle.gc_copy.specs.Members.{In};
 ghost use Rattle.gc_copy.specs.Belonging.{HasRawNumbers, IsSpaceGraph, HasField, Belongs, BelongsBut, IsOpened, IsOpen, IsState};
-ghost use Rattle.gc_copy.specs.Runs.{IsStepWithin, IsEventWithin, AreEventsWithin, IsStep, AreEvents, InEveryRun, HasSizesWithin, after, state_after};
+ghost use Rattle.gc_copy.specs.Runs.{HasRange, AreRootEvents, IsStepWithin, IsEventWithin, AreEventsWithin, IsStep, AreEvents, InEveryRun, HasSizesWithin, after, state_after};
 ghost use Rattle.gc_copy.specs.declared.event.Event.{Event};
 ghost use Rattle.gc_copy.specs.Passing.{HasImage, PassesWhereReady, NeverRefused, AlwaysHasRoom, ScansToTheEnd, HasFewPairs};
 ghost use Rattle.gc_copy.specs.Carried.{CarriesOnlyKept, NamesOnlyKept};
-ghost use Rattle.gc_copy.specs.Staying.{StaysDone};
+ghost use Rattle.gc_copy.specs.Staying.{KnowsRoot, root_written};
 ghost use Rattle.gc_copy.specs.Rows.{Rows, SizedRows, FlipPairRows};
 ghost use Rattle.gc_copy.specs.declared.step.Step.{Step};
 ghost use Rattle.gc_copy.specs.declared.step.StepReply.TheVariants.{NoRoom};
@@ -70,11 +71,19 @@ pub fn steps_keep_belonging()
 pub fn states_are_kept()
     ensures opening { (size mutators : ℕ)
         → 1 ≤ size → size ≤ largest_space → IsState (opening_state size mutators) }
+    ensures opening_with { (options : HeapOptions)
+        → 1 ≤ options.size → options.size ≤ largest_space → IsState (opening_state_with options) }
     ensures commands { (s : State) (m : ℕ) (op : Op)
         → IsState s → m < s.mutators → IsCommand op → IsState (mutate s m op).1 }
     ensures steps { (s : State) (step : Step)
         → IsState s → IsStep s.mutators step → IsState (collect s step).1 }
     ensures runs { InEveryRun IsState }
+    // A command may name any root, and so an extra one.
+    ensures root_commands { (s : State) (m : ℕ) (op : Op)
+        → IsState s → m < s.mutators → HasRange op → IsState (mutate s m op).1 }
+    ensures root_runs { (options : HeapOptions) (events : List Event)
+        → 1 ≤ options.size → options.size ≤ largest_space → AreRootEvents options.mutators events
+        → IsState (state_after (opening_state_with options) events) }
 {}
 
 /// In a run whose opening and begins are within a limit, so are the sizes of all spaces. A step or an event that is within a limit
@@ -228,10 +237,13 @@ pub fn commands_leave_collections()
         → (mutate (idle_state heap) m op ≡ (reply, idle_state new)) × HasNoLinks new }
 {}
 
-/// Once the target of each root has a replica, scanning and applying logs keep it so: they remove no replica.
-pub fn roots_stay_done()
-    ensures scan { (s : State) (c : Collection) → s.collection ≡ Some c → IsTrue (roots_done c s.heap.graph)
-        → StaysDone (collect s Step.Scan) }
-    ensures apply { (s : State) (c : Collection) (m : ℕ) → s.collection ≡ Some c → IsTrue (roots_done c s.heap.graph)
-        → StaysDone (collect s (Step.Apply m)) }
+/// Once the target of a root has a replica, it keeps it: no step removes a replica. A command changes no root but the one that it
+/// writes.
+pub fn root_replicas_stay()
+    ensures steps { (s : State) (c : Collection) (step : Step) (p : ℕ)
+        → s.collection ≡ Some c → KnowsRoot s p → KnowsRoot (collect s step).1 p }
+    ensures commands { (s : State) (m : ℕ) (op : Op) (p : ℕ)
+        → root_written m op ≢ Some p → KnowsRoot s p → KnowsRoot (mutate s m op).1 p }
+    ensures values { (s : State) (m : ℕ) (op : Op) (p : ℕ)
+        → root_written m op ≢ Some p → root (mutate s m op).1.heap.graph p ≡ root s.heap.graph p }
 {}

@@ -5,6 +5,8 @@ use Rattle.gc_words.specs.Image.{Image}
 use Rattle.gc_words.specs.Certificate.{Certified}
 use Rattle.gc_heap.specs.Heap.{HeapWords}
 use Rattle.gc_cert.specs.Grammar.{CertifiedPair}
+use Rattle.std.specs.Prelude.{IfSome}
+use Rattle.gc_copy.specs.State.{State}
 use Rattle.gc_copy.specs.Words.{CollectionWords, collection_in, state_of, open_state}
 use Rattle.gc_copy.specs.declared.step.StepReply.{StepReply}
 use Rattle.gc_copy.specs.declared.step.StepReply.TheVariants.{Flipped}
@@ -26,3 +28,10 @@ kept_open heap was c reply n pair kept is told e =
     let here : kept_after kept (open_state heap c) (Flipped n) ≡ replaced kept pair = subst (λ p. kept_after kept (open_state heap c) (Flipped n) ≡ replaced kept p) (sym e) refl in
     subst (λ r. kept_after kept (state_of heap (option_map collection_in was)) r ≡ replaced kept pair) (sym told)
     (subst (λ o. kept_after kept (state_of heap (option_map collection_in o)) (Flipped n) ≡ replaced kept pair) (sym is) here)
+
+-- what holds of the pair of the collection that is open holds of the pair of this state
+pub pair_now : (says : CertifiedPair → Type 0) (heap : HeapWords) (was : Option CollectionWords) (c : CollectionWords) (now : State) → was ≡ Some c → state_of heap (option_map collection_in was) ≡ now
+    → says (flip_pair (open_state heap c) (collection_in c)) → IfSome now.collection (λ d. says (flip_pair now d))
+pair_now says heap was c now is view h =
+    subst (λ (s : State). IfSome s.collection (λ d. says (flip_pair s d))) view
+    (subst (λ o. IfSome (option_map collection_in o) (λ d. says (flip_pair (state_of heap (option_map collection_in o)) d))) (sym is) h)

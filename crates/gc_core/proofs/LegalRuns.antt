@@ -13,10 +13,12 @@ use Rattle.gc_graph.proofs.Matching.{Matched}
 use Rattle.gc_graph.proofs.Matched.{AlikeAfter, step_alike, matched_of}
 use Rattle.gc_graph.proofs.Replies.{own_pairs, matched_itself, fresh_unused}
 use Rattle.gc_graph.proofs.Compose.{joined, composed}
-use Rattle.gc_copy.specs.State.{Collection, State, opening_state, heap_end, pairs_of, new_graph}
+use Rattle.gc_copy.specs.State.{Collection, State, opening_state, opening_state_with, heap_end, pairs_of, new_graph}
 use Rattle.gc_copy.specs.Steps.{is_ready, passes_check, flip, collect_with, collect}
 use Rattle.gc_copy.specs.Belonging.{IsOpened, IsOpen, IsState}
-use Rattle.gc_copy.specs.Runs.{AreEvents, after}
+use Rattle.gc_heap.specs.ExtraRoots.{opening_with}
+use Rattle.gc_heap.specs.declared.options.HeapOptions.{HeapOptions}
+use Rattle.gc_copy.specs.Runs.{AreEvents, AreRootEvents, after}
 use Rattle.gc_copy.specs.declared.event.Event.{Event}
 use Rattle.gc_copy.specs.declared.event.Event.TheVariants.{Mutate, Collect}
 use Rattle.gc_copy.specs.declared.step.Step.{Step}
@@ -25,7 +27,7 @@ use Rattle.gc_copy.specs.declared.step.StepReply.{StepReply}
 use Rattle.gc_copy.proofs.Steps.{steps_stay, ready_parts}
 use Rattle.gc_copy.proofs.Flips.{corresponding_graphs}
 use Rattle.gc_copy.proofs.Unused.{end_unused}
-use Rattle.gc_copy.proofs.Runs.{Reached, opening_ok, event_keeps}
+use Rattle.gc_copy.proofs.Runs.{Reached, opening_ok, opening_with_ok, root_events, root_event_keeps}
 use Rattle.gc_core.specs.Replies.{told_in}
 
 -- ---- after a step, no command can tell the graph from the one before
@@ -108,14 +110,20 @@ legal_event mutators events (Collect st) s g pairs ok matched rest =
     rest g (joined pairs follows.0) (composed pairs follows.0 g s.heap.graph (collect s st).1.heap.graph matched follows.1)
 
 legal_from : (mutators : ℕ) (events : List Event) (s : State) (g : Graph) (pairs : List (ℕ × ℕ)) → Reached mutators s → Matched pairs g s.heap.graph
-    → AreEvents mutators events → IsLegalFrom g (told_in s events)
+    → AreRootEvents mutators events → IsLegalFrom g (told_in s events)
 legal_from mutators [] s g pairs h matched r = tt
 legal_from mutators (event ∷ events) s g pairs h matched r =
-    let next : Reached mutators (after s event) = event_keeps mutators s event h r.0 in
+    let next : Reached mutators (after s event) = root_event_keeps mutators s event h r.0 in
     legal_event mutators events event s g pairs h.ok matched
     (λ later others matched. legal_from mutators events (after s event) later others next matched r.1)
 
 pub run_is_legal : (size mutators : ℕ) (events : List Event) → 1 ≤ size → size ≤ largest_space → AreEvents mutators events → IsLegal mutators (told_in (opening_state size mutators) events)
 run_is_legal size mutators events low high are =
     legal_from mutators events (opening_state size mutators) (opening mutators) (own_pairs (opening mutators).objects)
-    (record { ok = opening_ok size mutators low high; count = refl }) (matched_itself (opening mutators)) are
+    (record { ok = opening_ok size mutators low high; count = refl }) (matched_itself (opening mutators)) (root_events mutators events are)
+
+pub root_run_is_legal : (options : HeapOptions) (events : List Event) → 1 ≤ options.size → options.size ≤ largest_space → AreRootEvents options.mutators events
+    → IsLegalFrom (opening_with options).graph (told_in (opening_state_with options) events)
+root_run_is_legal options events low high are =
+    legal_from options.mutators events (opening_state_with options) (opening_with options).graph (own_pairs (opening_with options).graph.objects)
+    (record { ok = opening_with_ok options low high; count = refl }) (matched_itself (opening_with options).graph) are

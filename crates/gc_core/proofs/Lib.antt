@@ -1,5 +1,6 @@
 mod FirstLog
 mod KeptPair
 pub mod LegalRuns
+mod Marks
 mod NewFrom
 mod OtherCommands

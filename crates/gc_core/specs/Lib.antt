@@ -1,4 +1,5 @@
 pub mod CollectedHeap
+pub mod ExtraRoots
 pub mod Flip
 pub mod Internal
 pub mod Readings

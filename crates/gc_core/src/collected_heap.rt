@@ -1,6 +1,7 @@
+use crate::known::KnownRoots;
 use gc_copy::Collection;
 use gc_graph::NoMemory;
-use gc_heap::Heap;
+use gc_heap::{Heap, HeapOptions};
 use std::alloc::Global;
 use std::marker::Model;
 
@@ -15,28 +16,28 @@ pub struct CollectedHeap {
     pub(crate) alloc: Global,
     pub(crate) heap: Heap,
     pub(crate) collection: Option<Collection>,
-    // Whether the target of every root is known to have a replica: a test said so, and no command came since. It saves
-    // the useful step a walk over all roots.
-    pub(crate) roots_done: bool,
+    pub(crate) known: KnownRoots,
 }
 
 impl Model for CollectedHeap {
     ghost use Rattle.std.specs.Option.{option_map};
     ghost use Rattle.gc_copy.specs.State.{State};
     ghost use Rattle.gc_copy.specs.Words.{collection_in, state_of};
-    ghost use Rattle.gc_core.specs.Internal.CollectedHeap.{Fits, KnowsRoots};
+    ghost use Rattle.gc_core.specs.Internal.CollectedHeap.{Fits};
+    ghost use Rattle.gc_core.specs.Internal.KnownRoots.{KnowsRoots};
 
     ghost Value = { State };
 
     ghost view = { λ h. state_of h.heap (option_map collection_in h.collection) };
 
-    ghost invariant = { λ h. Fits h.heap h.collection × KnowsRoots h.roots_done h.heap h.collection };
+    ghost invariant = { λ h. Fits h.heap h.collection × KnowsRoots h.known (state_of h.heap (option_map collection_in h.collection)) };
 }
 
 impl CollectedHeap {
     ghost use Rattle.std.specs.Prelude.{◌≡◌, ◌≤◌, IfOk, is_some};
     ghost use Rattle.gc_graph.specs.Limits.{most_mutators};
-    ghost use Rattle.gc_copy.specs.State.{opening_state};
+    ghost use Rattle.gc_copy.specs.State.{opening_state, opening_state_with};
+    ghost use Rattle.gc_heap.specs.ExtraRoots.{CanOpen};
     ghost use Rattle.gc_copy.specs.Steps.{useful_step};
     ghost use Rattle.gc_copy.specs.Runs.{IsStep};
     ghost use Rattle.gc_heap.specs.Heap.{roomy_in};
@@ -48,12 +49,20 @@ impl CollectedHeap {
         requires few { mutators ≤ most_mutators }
         ensures { IfOk result (λ heap. heap ≡ opening_state size mutators) }
     {
-        let heap = Heap::new(alloc, size, mutators)?;
+        CollectedHeap::open_with(alloc, &HeapOptions::new(size, mutators))
+    }
+
+    /// Returns an empty heap with these options, which may ask for extra roots. All roots are nil.
+    pub fn open_with(alloc: Global, options: &HeapOptions) -> Result<CollectedHeap, NoMemory>
+        requires { CanOpen options.now }
+        ensures { IfOk result (λ heap. heap ≡ opening_state_with options.now) }
+    {
+        let heap = Heap::open_with(alloc, options)?;
         Ok(CollectedHeap {
             alloc,
             heap,
             collection: None,
-            roots_done: false,
+            known: KnownRoots::new(),
         })
     }
 

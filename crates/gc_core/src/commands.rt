@@ -43,9 +43,10 @@ impl CollectedHeap {
         ensures step { mutate self.old m (Op.New d kind len) ≡ (result, self.new) }
         ensures mutators { self.new.mutators ≡ self.old.mutators }
     {
-        // Here the prover learns that the heap is sound.
+        // Here the prover learns that the heap is sound, and the slot in range.
         let _ = self.heap.space();
-        self.roots_done = false;
+        let _ = d.index();
+        self.known.slots = 0;
         self.heap.new_object(m, d, kind, len)
     }
 
@@ -55,9 +56,10 @@ impl CollectedHeap {
         ensures step { mutate self.old m (Op.NewRaw d kind len) ≡ (result, self.new) }
         ensures mutators { self.new.mutators ≡ self.old.mutators }
     {
-        // Here the prover learns that the heap is sound.
+        // Here the prover learns that the heap is sound, and the slot in range.
         let _ = self.heap.space();
-        self.roots_done = false;
+        let _ = d.index();
+        self.known.slots = 0;
         self.heap.new_raw(m, d, kind, len)
     }
 
@@ -67,9 +69,10 @@ impl CollectedHeap {
         ensures step { mutate self.old m (Op.Num d n) ≡ (result, self.new) }
         ensures mutators { self.new.mutators ≡ self.old.mutators }
     {
-        // Here the prover learns that the heap is sound.
+        // Here the prover learns that the heap is sound, and the slot in range.
         let _ = self.heap.space();
-        self.roots_done = false;
+        let _ = d.index();
+        self.known.slots = 0;
         self.heap.num(m, d, n)
     }
 
@@ -79,9 +82,10 @@ impl CollectedHeap {
         ensures step { mutate self.old m (Op.Nil d) ≡ (result, self.new) }
         ensures mutators { self.new.mutators ≡ self.old.mutators }
     {
-        // Here the prover learns that the heap is sound.
+        // Here the prover learns that the heap is sound, and the slot in range.
         let _ = self.heap.space();
-        self.roots_done = false;
+        let _ = d.index();
+        self.known.slots = 0;
         self.heap.nil(m, d)
     }
 
@@ -91,9 +95,10 @@ impl CollectedHeap {
         ensures step { mutate self.old m (Op.Move d s) ≡ (result, self.new) }
         ensures mutators { self.new.mutators ≡ self.old.mutators }
     {
-        // Here the prover learns that the heap is sound.
+        // Here the prover learns that the heap is sound, and the slot in range.
         let _ = self.heap.space();
-        self.roots_done = false;
+        let _ = d.index();
+        self.known.slots = 0;
         self.heap.move_slot(m, d, s)
     }
 
@@ -104,9 +109,10 @@ impl CollectedHeap {
         ensures step { mutate self.old m (Op.Get d s i) ≡ (result, self.new) }
         ensures mutators { self.new.mutators ≡ self.old.mutators }
     {
-        // Here the prover learns that the heap is sound.
+        // Here the prover learns that the heap is sound, and the slot in range.
         let _ = self.heap.space();
-        self.roots_done = false;
+        let _ = d.index();
+        self.known.slots = 0;
         self.heap.get(m, d, s, i)
     }
 
@@ -117,9 +123,10 @@ impl CollectedHeap {
         ensures fetches { Fetches self.old m d s i result self.new }
         ensures mutators { self.new.mutators ≡ self.old.mutators }
     {
-        // Here the prover learns that the heap is sound.
+        // Here the prover learns that the heap is sound, and the slot in range.
         let _ = self.heap.space();
-        self.roots_done = false;
+        let _ = d.index();
+        self.known.slots = 0;
         self.heap.fetch(m, d, s, i)
     }
 
@@ -140,7 +147,6 @@ impl CollectedHeap {
             return Ok(self.heap.put(m, s, i, t));
         };
         collection.reserve(m)?;
-        self.roots_done = false;
         Ok(collection.put(&mut self.heap, m, s, i, t))
     }
 
@@ -162,14 +168,16 @@ impl CollectedHeap {
         ensures mutators { self.new.mutators ≡ self.old.mutators }
     {
         commands_leave_collections();
-        // Here the prover learns that the heap is sound.
+        // Here the prover learns that the heap is sound, and the slot in range.
         let _ = self.heap.space();
+        let _ = t.index();
         let Some(collection) = &mut self.collection else {
+            self.known.slots = 0;
             let _done = self.heap.num(m, t, n);
             return Ok(self.heap.put(m, s, i, t));
         };
         collection.reserve(m)?;
-        self.roots_done = false;
+        self.known.slots = 0;
         let _done = self.heap.num(m, t, n);
         Ok(collection.put(&mut self.heap, m, s, i, t))
     }
@@ -186,9 +194,11 @@ impl CollectedHeap {
         ensures mutators { self.new.mutators ≡ self.old.mutators }
     {
         commands_leave_collections();
-        // Here the prover learns that the heap is sound.
+        // Here the prover learns that the heap is sound, and the slot in range.
         let _ = self.heap.space();
+        let _ = d.index();
         let Some(collection) = &mut self.collection else {
+            self.known.slots = 0;
             let made = self.heap.new_object(m, d, kind, 2);
             if let Reply::Full = made {
                 return Ok(made);
@@ -198,7 +208,7 @@ impl CollectedHeap {
             return Ok(made);
         };
         collection.reserve_more(m, 2)?;
-        self.roots_done = false;
+        self.known.slots = 0;
         let made = self.heap.new_object(m, d, kind, 2);
         if let Reply::Full = made {
             return Ok(made);
@@ -223,10 +233,12 @@ impl CollectedHeap {
         ensures mutators { self.new.mutators ≡ self.old.mutators }
     {
         commands_leave_collections();
-        // Here the prover learns that the heap is sound.
+        // Here the prover learns that the heap is sound, and the slot in range.
         let _ = self.heap.space();
+        let _ = d.index();
         let count = fields.len() as u16;
         let Some(collection) = &mut self.collection else {
+            self.known.slots = 0;
             let made = self.heap.new_object(m, d, kind, count);
             if let Reply::Full = made {
                 return Ok(made);
@@ -235,7 +247,7 @@ impl CollectedHeap {
             return Ok(made);
         };
         collection.reserve_more(m, fields.len())?;
-        self.roots_done = false;
+        self.known.slots = 0;
         let made = self.heap.new_object(m, d, kind, count);
         if let Reply::Full = made {
             return Ok(made);

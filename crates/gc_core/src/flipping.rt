@@ -11,6 +11,7 @@ ghost use Rattle.gc_core.specs.Internal.Flip.{IsDraft, AreCopies};
 
 use crate::collected_heap::CollectedHeap;
 use crate::flip::{Copies, Draft, Flip, Keep};
+use crate::known::search;
 use gc_cert::{Image, PairFile};
 use gc_check::{CheckFault, Checks};
 use gc_copy::{Collection, StepReply, images_show_links};
@@ -55,7 +56,8 @@ impl CollectedHeap {
         let Some(collection) = &self.collection else {
             return Ok(without_pair(StepReply::Idle));
         };
-        if !collection.ready(&self.heap) {
+        let roots_done = search(collection, &self.heap, self.known).missing.is_none();
+        if !collection.ready_with(&self.heap, roots_done) {
             return Ok(without_pair(StepReply::NotReady));
         }
         let draft = Draft::new(self.alloc, &self.heap, collection)?;

@@ -1,17 +1,23 @@
 //! A law: a consequence of the definitions. It speaks of runs, and needs no history.
 
 ghost use Rattle.std.specs.Prelude.{ℕ, List, ◌≤◌};
-ghost use Rattle.gc_graph.specs.Legal.{IsLegal};
+ghost use Rattle.gc_graph.specs.Legal.{IsLegal, IsLegalFrom};
 ghost use Rattle.gc_graph.specs.Limits.{largest_space};
-ghost use Rattle.gc_copy.specs.State.{opening_state};
-ghost use Rattle.gc_copy.specs.Runs.{AreEvents};
+ghost use Rattle.gc_heap.specs.ExtraRoots.{opening_with};
+ghost use Rattle.gc_heap.specs.declared.options.HeapOptions.{HeapOptions};
+ghost use Rattle.gc_copy.specs.State.{opening_state, opening_state_with};
+ghost use Rattle.gc_copy.specs.Runs.{AreEvents, AreRootEvents};
 ghost use Rattle.gc_copy.specs.declared.event.Event.{Event};
 ghost use Rattle.gc_core.specs.Replies.{told_in};
 
 /// In every run, with commands and steps in any interleaving, mutators get replies that are possible without a
 /// collector. The one exception is that an allocation may find the heap full.
 pub fn runs_are_legal()
-    ensures { (size mutators : ℕ) (events : List Event)
+    ensures slots { (size mutators : ℕ) (events : List Event)
         → 1 ≤ size → size ≤ largest_space → AreEvents mutators events
         → IsLegal mutators (told_in (opening_state size mutators) events) }
+    // The same for a heap with extra roots, whose commands may name them.
+    ensures extra_roots { (options : HeapOptions) (events : List Event)
+        → 1 ≤ options.size → options.size ≤ largest_space → AreRootEvents options.mutators events
+        → IsLegalFrom (opening_with options).graph (told_in (opening_state_with options) events) }
 {}

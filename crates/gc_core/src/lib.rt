@@ -3,9 +3,11 @@
 
 mod collected_heap;
 mod commands;
+mod extra_roots;
 mod fields;
 mod flip;
 mod flipping;
+mod known;
 mod laws;
 mod reading;
 mod slots;

@@ -1,14 +1,19 @@
+ghost use Rattle.std.specs.Prelude.{◌≡◌, not, if◌then◌else◌};
+ghost use Rattle.gc_copy.specs.Steps.{scan_done, apply_or_flip, first_log};
+ghost use Rattle.gc_copy.specs.Words.{collection_in};
+ghost use Rattle.gc_copy.specs.declared.step.Step.{Step};
+
 use crate::collected_heap::CollectedHeap;
 use crate::flip::Keep;
+use crate::known::{Searched, search};
 use gc_check::Checks;
-use gc_copy::{Collection, Step, StepReply, roots_stay_done};
-use gc_graph::NoMemory;
+use gc_copy::{Collection, Step, StepReply, root_replicas_stay};
+use gc_graph::{NoMemory, root_count};
 
 impl CollectedHeap {
-    ghost use Rattle.std.specs.Prelude.{◌≡◌, ◌≢◌, ◌<◌, ◌≤◌, IfOk, OnErr};
+    ghost use Rattle.std.specs.Prelude.{◌≢◌, ◌<◌, ◌≤◌, IfOk, OnErr};
     ghost use Rattle.gc_copy.specs.Steps.{collect, useful_step};
     ghost use Rattle.gc_copy.specs.Runs.{IsStep};
-    ghost use Rattle.gc_copy.specs.declared.step.Step.{Step};
     ghost use Rattle.gc_copy.specs.declared.step.StepReply.{StepReply};
     ghost use Rattle.gc_core.specs.Flip.{FlipsOnly, IsCertified, PassesIfReady, HasRoomIfLarge};
     ghost use Rattle.gc_core.specs.CollectedHeap.{Allocates};
@@ -57,7 +62,8 @@ impl CollectedHeap {
             return Ok(StepReply::Busy);
         }
         self.collection = Some(Collection::begin_sized(self.alloc, &self.heap, size)?);
-        self.roots_done = false;
+        self.known.slots = 0;
+        self.known.extra = 0;
         Ok(StepReply::Begun)
     }
 
@@ -80,11 +86,16 @@ impl CollectedHeap {
         ensures room { HasRoomIfLarge self.old result }
         ensures mutators { self.new.mutators ≡ self.old.mutators }
     {
-        self.roots_done = false;
-        match &mut self.collection {
-            None => StepReply::Idle,
-            Some(collection) => collection.roots(&mut self.heap),
-        }
+        let Some(collection) = &mut self.collection else {
+            return StepReply::Idle;
+        };
+        let Searched { known, missing } = search(collection, &self.heap, self.known);
+        let reply = collection.replicate_root(&mut self.heap, missing);
+        self.known = match reply {
+            StepReply::Copied => known.advanced(root_count(self.heap.mutators())),
+            _ => known,
+        };
+        reply
     }
 
     /// Brings the field at the scan pointer up to date (`Scanned` or `NoRoom`), or moves on to the next replica
@@ -95,7 +106,7 @@ impl CollectedHeap {
         ensures room { HasRoomIfLarge self.old result }
         ensures mutators { self.new.mutators ≡ self.old.mutators }
     {
-        roots_stay_done();
+        root_replicas_stay();
         match &mut self.collection {
             None => StepReply::Idle,
             Some(collection) => collection.scan(&mut self.heap),
@@ -110,7 +121,7 @@ impl CollectedHeap {
         ensures room { HasRoomIfLarge self.old result }
         ensures mutators { self.new.mutators ≡ self.old.mutators }
     {
-        roots_stay_done();
+        root_replicas_stay();
         match &mut self.collection {
             None => StepReply::Idle,
             Some(collection) => collection.apply_log(m, &mut self.heap),
@@ -139,31 +150,43 @@ impl CollectedHeap {
         let Some(collection) = &self.collection else {
             return Step::Begin;
         };
-        if !self.roots_done && !collection.roots_done(&self.heap) {
+        if search(collection, &self.heap, self.known).missing.is_some() {
             return Step::Roots;
         }
-        if !collection.scan_done() {
-            return Step::Scan;
-        }
-        match collection.next_log() {
-            Some(m) => Step::Apply(m),
-            None => Step::Flip,
-        }
+        step_after_roots(collection)
     }
 
-    /// Returns the useful step. If it finds that every root's target has a replica, it remembers that. The next calls
-    /// then look at no root until a command comes.
+    /// Returns the useful step, and leaves the heap as it is. Remembers how far it searched the roots, so that the next call reads
+    /// only those that a command wrote since, and those that the search did not reach.
     #[inline(always)]
     pub fn next_useful_step(&mut self) -> Step
         ensures useful { result ≡ useful_step self.old }
         ensures step { IsStep self.old.mutators result }
         ensures same { self.new ≡ self.old }
     {
-        let step = self.useful_step();
-        self.roots_done = match step {
-            Step::Begin | Step::Roots => false,
-            _ => true,
+        let Some(collection) = &self.collection else {
+            return Step::Begin;
         };
-        step
+        let Searched { known, missing } = search(collection, &self.heap, self.known);
+        self.known = known;
+        if missing.is_some() {
+            return Step::Roots;
+        }
+        step_after_roots(collection)
+    }
+}
+
+/// Returns the useful step of a collection that has a replica of each root's target.
+#[inline(always)]
+fn step_after_roots(collection: &Collection) -> Step
+    ensures { result ≡ (if not (scan_done (collection_in collection.now)) then Step.Scan
+        else apply_or_flip (first_log 0 (collection_in collection.now).logs)) }
+{
+    if !collection.scan_done() {
+        return Step::Scan;
+    }
+    match collection.next_log() {
+        Some(m) => Step::Apply(m),
+        None => Step::Flip,
     }
 }

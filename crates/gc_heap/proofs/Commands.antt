@@ -136,13 +136,14 @@ put_done h s a i w v p heap some taken value =
 -- ---- the heap stays well formed
 
 pub taken_heap : (h : HeapWords) (p w : ℕ) → IsHeap h → IsRootWord h.space.words w → IsHeap (record h { roots = slice_set h.roots p w })
-taken_heap h p w heap is = record { space = heap.space; closed = closed_root h.space.words h.roots p w is heap.closed; roots = length-set h.roots p w ∙ heap.roots }
+taken_heap h p w heap is = record { space = heap.space; closed = closed_root h.space.words h.roots p w is heap.closed; roots = omega (arith, length-set h.roots p w, heap.roots); few = omega (arith, length-set h.roots p w, heap.few) }
 
 pub written_heap : (h : HeapWords) (a i w : ℕ) (b : Block) → IsHeap h → block_at h.space.words a ≡ Some b → is_some (field_at h.space.words a i) ≡ true → IsFieldWord h.space.words b.header w → IsHeap (record h { space = with_word h.space (field_place a i) w })
 written_heap h a i w b heap found some is = record {
   space = (field_written h.space a i w heap.space some).0;
   closed = closed_field h.space a i w b h.roots heap.space some found is heap.closed;
   roots = heap.roots;
+  few = heap.few;
 }
 
 -- ---- tests
@@ -194,5 +195,6 @@ pub made_heap : (h : HeapWords) (p : ℕ) (header : Header) → IsHeap h → Can
 made_heap h p header heap can = record {
   space = (placed h.space header can).0;
   closed = closed_root (with_object h.space header).words h.roots p (word_of (Ref (end_of h.space))) (placed_reference h.space header can) (closed_placed h.space header can h.roots heap.closed);
-  roots = length-set h.roots p (word_of (Ref (end_of h.space))) ∙ heap.roots;
+  roots = omega (arith, length-set h.roots p (word_of (Ref (end_of h.space))), heap.roots);
+  few = omega (arith, length-set h.roots p (word_of (Ref (end_of h.space))), heap.few);
 }

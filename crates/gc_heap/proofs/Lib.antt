@@ -1,4 +1,5 @@
-pub mod Views
 pub mod Commands
+pub mod ExtraRoots
 pub mod Links
 pub mod Steps
+pub mod Views

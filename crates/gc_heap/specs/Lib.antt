@@ -1,3 +1,4 @@
 pub mod Commands
+pub mod ExtraRoots
 pub mod Heap
 mod Internal

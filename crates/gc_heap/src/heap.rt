@@ -2,6 +2,7 @@ ghost use Rattle.std.specs.Prelude.{◌≡◌};
 
 mod commands;
 
+use crate::options::HeapOptions;
 use crate::reading::{field_word, has_field, root_word};
 use crate::taken::Taken;
 use gc_graph::{NoMemory, Op, Reply, Slot, root_count};
@@ -21,8 +22,8 @@ fn header_of(raw: bool, kind: u8, len: u16) -> Header
     }
 }
 
-/// The mutators' heap: objects in a space, and the roots of 1 to 16 mutators. `new` allocates the space and the roots; no
-/// command allocates.
+/// The mutators' heap: objects in a space, and the roots of 1 to 16 mutators, which extra roots may follow. `new` and `open_with`
+/// allocate the space and the roots; no command allocates.
 ///
 /// Each object has a link word in addition to its fields. A collector stores the replica's address there, so it needs no table. No
 /// command reads a link, and none writes one except that a new object's link is 0.
@@ -57,24 +58,36 @@ impl Heap {
     ghost use Rattle.gc_words.specs.Closed.{IsRootWord};
     ghost use Rattle.gc_words.specs.Views as views;
     ghost use Rattle.gc_heap.specs.Internal.Taken.{taken_reply, IsTakenWord};
-    ghost use Rattle.gc_heap.specs.Heap.{IsHeap, KeepsLinks, empty_heap, image_of, graph_in, roomy_in};
+    ghost use Rattle.gc_heap.specs.Heap.{IsHeap, KeepsLinks, empty_heap, image_of, graph_in, roomy_in, extra_roots_in};
+    ghost use Rattle.gc_heap.specs.ExtraRoots.{CanOpen, opening_with};
 
     /// Returns a heap without objects whose roots are all nil. It has `size` words, at least 1, and 1 to
-    /// `MOST_MUTATORS` mutators.
+    /// `MOST_MUTATORS` mutators. It has no extra roots.
     pub fn new(alloc: Global, size: u32, mutators: u8) -> Result<Heap, NoMemory>
         requires low { 1 ≤ size }
         requires some { 1 ≤ mutators }
         requires few { mutators ≤ most_mutators }
-        ensures empty { IfOk result (λ heap. heap ≡ empty_heap size mutators) }
+        ensures empty { IfOk result (λ heap. heap ≡ empty_heap (record { size = size; mutators = mutators; extra_roots = 0 })) }
         ensures opening { IfOk result (λ heap. roomy_in heap ≡ opening_roomy size mutators) }
         ensures sound { IfOk result IsHeap }
     {
-        let space = Space::new(alloc, size)?;
-        let roots = vec![in alloc; 0u64; root_count(mutators)]?;
+        Heap::open_with(alloc, &HeapOptions::new(size, mutators))
+    }
+
+    /// Returns a heap with these options. It has no objects, and all its roots are nil.
+    pub fn open_with(alloc: Global, options: &HeapOptions) -> Result<Heap, NoMemory>
+        requires { CanOpen options.now }
+        ensures empty { IfOk result (λ heap. heap ≡ empty_heap options.now) }
+        ensures opening { IfOk result (λ heap. roomy_in heap ≡ opening_with options.now) }
+        ensures sound { IfOk result IsHeap }
+    {
+        let space = Space::new(alloc, options.size)?;
+        let count = root_count(options.mutators) + options.extra_roots as usize;
+        let roots = vec![in alloc; 0u64; count]?;
         Ok(Heap {
             space,
             roots,
-            mutators,
+            mutators: options.mutators,
         })
     }
 
@@ -102,12 +115,20 @@ impl Heap {
         &self.space
     }
 
-    /// Returns the root words: those of the shared slots first, then those of each mutator.
+    /// Returns the root words: those of the shared slots first, then those of each mutator, and then the extra ones.
     pub fn roots(&self) -> &[u64]
         ensures value { result.now ≡ self.now.roots }
         ensures sound { IsHeap self.now }
     {
         &self.roots
+    }
+
+    /// Returns the number of extra roots.
+    pub fn extra_roots(&self) -> u32
+        ensures value { result ≡ extra_roots_in self.now }
+        ensures sound { IsHeap self.now }
+    {
+        (self.roots.len() - root_count(self.mutators)) as u32
     }
 
     /// Returns the object that a slot of mutator `m` refers to.

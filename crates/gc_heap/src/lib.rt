@@ -2,8 +2,10 @@
 #![tactic(auto)]
 
 mod heap;
+mod options;
 mod reading;
 mod taken;
 
 pub use heap::Heap;
+pub use options::{HeapOptions, MOST_EXTRA_ROOTS};
 pub use taken::Fetched;

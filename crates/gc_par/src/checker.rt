@@ -73,9 +73,13 @@ pub fn check_par_wide(
     Ok(Yes { pairs })
 }
 
-// Returns the first fault of the objects of a pair, going through the pairs in order.
+/// Returns the first fault of the objects of a pair, going through the pairs in order.
 #[tactic(auto, using(crate::proofs::Least::first_has_first_fault))]
-fn first_pair_fault(rt: &(impl Threads + Sync), tables: &Tables, count: u32) -> Option<Refusal>
+pub(crate) fn first_pair_fault(
+    rt: &(impl Threads + Sync),
+    tables: &Tables,
+    count: u32,
+) -> Option<Refusal>
     requires { count ≡ length tables.now.pairs }
     ensures { result ≡ object_faults tables.now.old tables.now.new tables.now.pairs }
 {

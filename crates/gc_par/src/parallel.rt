@@ -1,9 +1,9 @@
 ghost use Rattle.std.specs.Thread.{IsSync};
 ghost use Rattle.gc_words.specs.Certificate.{Certified};
 
-use crate::checker::check_par_wide;
-use gc_check::{CheckFault, Checks, Yes};
-use gc_words::{ImageRef, Pair};
+use crate::checker::{check_par_wide, first_pair_fault};
+use gc_check::{CheckFault, Checks, ComparesObjects, Tables, Yes};
+use gc_words::{ImageRef, Pair, Refusal};
 use std::alloc::Global;
 use std::thread::Threads;
 
@@ -34,5 +34,13 @@ impl<R: Threads + Sync> Checks for Parallel<'_, R> {
         cert: &[Pair],
     ) -> Result<Yes, CheckFault> {
         check_par_wide(self.rt, alloc, old, new, cert)
+    }
+}
+
+impl<R: Threads + Sync> ComparesObjects for Parallel<'_, R> {
+    ghost can_compare = { λ _. IsSync R.row };
+
+    fn object_fault(&self, tables: &Tables) -> Option<Refusal> {
+        first_pair_fault(self.rt, tables, tables.count())
     }
 }

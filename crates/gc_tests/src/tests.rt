@@ -3,6 +3,7 @@ mod check;
 mod collected;
 mod commands;
 mod copy;
+mod extra_roots;
 mod graph;
 mod heap;
 mod par;

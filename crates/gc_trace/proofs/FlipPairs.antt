@@ -47,8 +47,8 @@ counts_of s c ok sizes new small few is certified = record {
   old_small = sizes.heap;
   new_small = new;
   raws = refl;
-  old_roots = omega (arith, length-map s.heap.graph.roots word_of, ok.roots, few);
-  new_roots = omega (arith, length-map (map (moved c) s.heap.graph.roots) word_of, length-map s.heap.graph.roots (moved c), ok.roots, few);
+  old_roots = omega (arith, length-map s.heap.graph.roots word_of, sizes.roots, few);
+  new_roots = omega (arith, length-map (map (moved c) s.heap.graph.roots) word_of, length-map s.heap.graph.roots (moved c), sizes.roots, few);
   pairs = let fewer = small c is in omega (arith, new, fewer);
 }
 

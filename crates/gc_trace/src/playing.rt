@@ -152,7 +152,7 @@ impl Player {
     }
 
     /// Returns the results after the last event.
-    fn finish(self) -> Result<Played, NoMemory>
+    fn finish(mut self) -> Result<Played, NoMemory>
         requires sound { IsState self.heap }
         ensures report { (s : State) (events : List Event) → HasPlayed s events self
             → IfOk result (λ played. played.report ≡ report_of (answers s events) (state_after s events)) }
@@ -160,14 +160,15 @@ impl Player {
             → IfOk result (λ played. played.replies.items ≡ reply_text (answers s events)) }
     {
         heaps_have_addresses_as_names();
+        // The printer stays where it is: a copy would take 16 KiB of stack.
+        self.printer.gather_all(&mut self.text)?;
         let Player {
             heap: collected,
             report,
             gather: _,
-            mut text,
-            mut printer,
+            text,
+            printer: _,
         } = self;
-        printer.gather_all(&mut text)?;
         Ok(Played {
             replies: text,
             report: report.with_space(collected.heap().space()),

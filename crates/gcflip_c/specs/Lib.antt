@@ -1,2 +1,4 @@
+pub mod Answers
 pub mod Images
 pub mod Verdicts
+pub mod Version

@@ -5,6 +5,7 @@ use Rattle.gc_words.specs.declared.refusal.Refusal.TheVariants.{OldShape, NewSha
 use Rattle.gc_check.specs.Texts.{IsVerdictOn}
 use Rattle.gc_check.specs.declared.verdict.Verdict.{Verdict}
 use Rattle.gc_check.specs.declared.verdict.Verdict.TheVariants as verdict
+use Rattle.gcflip_c.specs.Answers.{yes, refused}
 use Rattle.gcflip_c.specs.declared.verdict.GcflipVerdict.{GcflipVerdict}
 
 abbrev pub yes_in_c : ℕ → GcflipVerdict
@@ -30,10 +31,9 @@ abbrev pub verdict_in_c : Verdict → GcflipVerdict
 verdict_in_c (verdict.Yes pairs) = yes_in_c pairs
 verdict_in_c (verdict.Refused refusal) = refusal_in_c refusal
 
--- 0 for a yes, 1 for a refusal
 abbrev pub answer_to : Verdict → ℕ
-answer_to (verdict.Yes pairs) = 0
-answer_to (verdict.Refused refusal) = 1
+answer_to (verdict.Yes pairs) = yes
+answer_to (verdict.Refused refusal) = refused
 
 -- a call returned this answer and wrote this verdict
 pub record IsReported (verdict : Verdict) (answer : ℕ) (written : GcflipVerdict) : Type 0 where

@@ -1,8 +1,9 @@
-ghost use Rattle.std.specs.Prelude.{◌≡◌, ◌<◌, ◌≤◌, ◌^◌, length};
+ghost use Rattle.std.specs.Prelude.{◌≡◌, ◌⊎◌, ◌<◌, ◌^◌, length};
 ghost use Rattle.gc_words.specs.Certificate.{Certified};
 ghost use Rattle.gc_words.specs.Views.{image_of};
 ghost use Rattle.gc_check.specs.Headline.{Replicated};
 ghost use Rattle.gc_check.specs.Verdict.{pairs_of, verdict_of};
+ghost use Rattle.gcflip_c.specs.Answers.{yes, no_memory, IsVerdict};
 ghost use Rattle.gcflip_c.specs.Verdicts.{IsReported};
 
 use crate::verdict::GcflipVerdict;
@@ -14,22 +15,28 @@ use std::alloc::Global;
 pub(crate) const YES: u32 = 0;
 
 /// The certificate does not hold.
-pub(crate) const REFUSED: u32 = 1;
+pub(crate) const REFUSED: u32 = 48;
 
 /// An allocation failed.
-pub(crate) const NO_MEMORY: u32 = 2;
+pub(crate) const NO_MEMORY: u32 = 1;
 
-/// There are 2^32 pairs or more.
-pub(crate) const TOO_MANY: u32 = 3;
+/// There are 2^32 pairs or more, or more than have room.
+pub(crate) const TOO_MANY: u32 = 7;
 
 /// The text has more than 67108864 bytes.
-pub(crate) const TOO_LARGE: u32 = 4;
+pub(crate) const TOO_LARGE: u32 = 8;
 
 /// A line of the text is bad.
-pub(crate) const BAD_LINE: u32 = 5;
+pub(crate) const BAD_LINE: u32 = 49;
 
 /// The text ends before its last line is complete.
-pub(crate) const ENDS_EARLY: u32 = 6;
+pub(crate) const ENDS_EARLY: u32 = 50;
+
+/// No path leads to the address.
+pub(crate) const NO_PATH: u32 = 51;
+
+/// The path has more fields than have room.
+pub(crate) const LONG_PATH: u32 = 52;
 
 /// Checks the certificate, writes the verdict, and returns `YES` or `REFUSED`. On `NO_MEMORY` the verdict is unchanged.
 pub(crate) fn answer(
@@ -40,12 +47,12 @@ pub(crate) fn answer(
     verdict: &mut GcflipVerdict,
 ) -> u32
     requires { length pairs.now < 2 ^ 32 }
-    ensures answers { result ≤ 2 }
-    ensures silent { result ≡ 2 → verdict.new ≡ verdict.old }
-    ensures verdict { result < 2 → IsReported
+    ensures answers { IsVerdict result ⊎ (result ≡ no_memory) }
+    ensures silent { result ≡ no_memory → verdict.new ≡ verdict.old }
+    ensures verdict { IsVerdict result → IsReported
         (verdict_of (image_of old.entry) (image_of new.entry) (pairs_of pairs.now)) result verdict.new }
-    ensures yes { result ≡ 0 → Certified (image_of old.entry) (image_of new.entry) (pairs_of pairs.now) }
-    ensures replicated { result ≡ 0
+    ensures yes { result ≡ yes → Certified (image_of old.entry) (image_of new.entry) (pairs_of pairs.now) }
+    ensures replicated { result ≡ yes
         → Replicated (image_of old.entry) (image_of new.entry) (pairs_of pairs.now) }
 {
     no_fault_where_certified();

@@ -1,7 +1,8 @@
-ghost use Rattle.std.specs.Prelude.{◌≡◌, ◌<◌, ◌≤◌, ◌^◌, ◌↔◌, length};
+ghost use Rattle.std.specs.Prelude.{◌≡◌, ◌⊎◌, ◌≤◌, ◌^◌, ◌↔◌, length};
 ghost use Rattle.gc_words.specs.Certificate.{Certified};
 ghost use Rattle.gc_check.specs.Headline.{Replicated};
 ghost use Rattle.gc_check.specs.Verdict.{pairs_of, verdict_of};
+ghost use Rattle.gcflip_c.specs.Answers.{yes, no_memory, too_many, IsRefusal, IsVerdict};
 ghost use Rattle.gcflip_c.specs.Images.{image};
 ghost use Rattle.gcflip_c.specs.Verdicts.{IsReported};
 
@@ -10,8 +11,8 @@ use crate::verdict::GcflipVerdict;
 use gc_words::{ImageRef, Pair};
 use std::alloc::Global;
 
-/// Checks a certificate against two heap images. Returns 0 (yes), 1 (refused), 2 (an allocation failed) or 3
-/// (2^32 pairs or more). Writes nothing but the verdict, and that only for a yes or a refusal.
+/// Checks a certificate against two heap images. Returns 0 (yes), 48 (refused), 1 (an allocation failed) or 7
+/// (2^32 pairs or more). Writes nothing but the verdict, and that only if it returns 0 or 48.
 #[unsafe(no_mangle)]
 pub extern "C" fn gcflip_check(
     alloc: Global,
@@ -28,19 +29,19 @@ pub extern "C" fn gcflip_check(
     pairs: &[Pair],
     verdict: &mut GcflipVerdict,
 ) -> u32
-    ensures answers { result ≤ 3 }
-    ensures many { (result ≡ 3) ↔ (2 ^ 32 ≤ length pairs.now) }
-    ensures silent { 2 ≤ result → verdict.new ≡ verdict.old }
+    ensures answers { IsVerdict result ⊎ ((result ≡ no_memory) ⊎ (result ≡ too_many)) }
+    ensures many { (result ≡ too_many) ↔ (2 ^ 32 ≤ length pairs.now) }
+    ensures silent { IsRefusal result → verdict.new ≡ verdict.old }
     // The verdict is yes with the number of pairs, or the first refusal.
-    ensures verdict { result < 2 → IsReported (verdict_of
+    ensures verdict { IsVerdict result → IsReported (verdict_of
         (image old_size old_end old_raws old_words.now old_roots.now)
         (image new_size new_end new_raws new_words.now new_roots.now) (pairs_of pairs.now))
         result verdict.new }
-    ensures yes { result ≡ 0 → Certified
+    ensures yes { result ≡ yes → Certified
         (image old_size old_end old_raws old_words.now old_roots.now)
         (image new_size new_end new_raws new_words.now new_roots.now) (pairs_of pairs.now) }
     // The soundness theorem, for mutators that continue in the new heap.
-    ensures replicated { result ≡ 0 → Replicated
+    ensures replicated { result ≡ yes → Replicated
         (image old_size old_end old_raws old_words.now old_roots.now)
         (image new_size new_end new_raws new_words.now new_roots.now) (pairs_of pairs.now) }
 {

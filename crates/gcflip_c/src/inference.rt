@@ -1,8 +1,10 @@
-ghost use Rattle.std.specs.Prelude.{◌≡◌, ◌<◌, ◌≤◌, take};
+ghost use Rattle.std.specs.Prelude.{◌≡◌, ◌⊎◌, take};
 ghost use Rattle.gc_words.specs.Certificate.{Certified};
 ghost use Rattle.gc_check.specs.Headline.{Replicated};
-ghost use Rattle.gc_check.specs.Infer.{AreForced, Certifiable};
+ghost use Rattle.gc_words.specs.Fault.{AreComparable};
+ghost use Rattle.gc_check.specs.Infer.{AreClosed, AreForced, AreTogether, Certifiable};
 ghost use Rattle.gc_check.specs.Verdict.{pairs_of, verdict_of};
+ghost use Rattle.gcflip_c.specs.Answers.{yes, no_memory, too_many, refused, IsRefusal, IsVerdict};
 ghost use Rattle.gcflip_c.specs.Images.{image};
 ghost use Rattle.gcflip_c.specs.Verdicts.{IsReported};
 
@@ -13,8 +15,8 @@ use gc_graph::NoMemory;
 use gc_words::{ImageRef, Pair};
 use std::alloc::Global;
 
-/// Infers a certificate from two heap images, and checks it. Returns 0 (the pairs hold), 1 (no certificate holds), 2 (an allocation
-/// failed) or 3 (there is no room for the pairs). With 0 and 1 it writes the pairs and their number, and the verdict on them; with 2 and 3
+/// Infers a certificate from two heap images, and checks it. Returns 0 (the pairs hold), 48 (no certificate holds), 1 (an allocation
+/// failed) or 7 (there is no room for the pairs). With 0 and 48 it writes the pairs and their number, and the verdict on them; with 1 and 7
 /// it writes nothing.
 #[unsafe(no_mangle)]
 pub extern "C" fn gcflip_infer(
@@ -33,25 +35,35 @@ pub extern "C" fn gcflip_infer(
     count: &mut usize,
     verdict: &mut GcflipVerdict,
 ) -> u32
-    ensures answers { result ≤ 3 }
-    ensures silent { 2 ≤ result → (pairs.new ≡ pairs.old) × (count.new ≡ count.old) × (verdict.new ≡ verdict.old) }
+    ensures answers { IsVerdict result ⊎ ((result ≡ no_memory) ⊎ (result ≡ too_many)) }
+    ensures silent { IsRefusal result → (pairs.new ≡ pairs.old) × (count.new ≡ count.old) × (verdict.new ≡ verdict.old) }
     // The verdict is that of gcflip_check on the pairs that are written.
-    ensures verdict { result < 2 → IsReported (verdict_of
+    ensures verdict { IsVerdict result → IsReported (verdict_of
         (image old_size old_end old_raws old_words.now old_roots.now)
         (image new_size new_end new_raws new_words.now new_roots.now) (pairs_of (take count.new pairs.new)))
         result verdict.new }
     // Every certificate that holds has these pairs.
-    ensures forced { result < 2 → AreForced
+    ensures forced { IsVerdict result → AreForced
         (image old_size old_end old_raws old_words.now old_roots.now)
         (image new_size new_end new_raws new_words.now new_roots.now) (pairs_of (take count.new pairs.new)) }
-    ensures yes { result ≡ 0 → Certified
+    // The same path finds the two objects of each pair.
+    ensures together { IsVerdict result → AreTogether
         (image old_size old_end old_raws old_words.now old_roots.now)
         (image new_size new_end new_raws new_words.now new_roots.now) (pairs_of (take count.new pairs.new)) }
-    ensures replicated { result ≡ 0 → Replicated
+    // The roots and the fields of the pairs lead to no further pair.
+    ensures closed { IsVerdict result → AreComparable
+        (image old_size old_end old_raws old_words.now old_roots.now)
+        (image new_size new_end new_raws new_words.now new_roots.now)
+        → AreClosed (image old_size old_end old_raws old_words.now old_roots.now)
+        (image new_size new_end new_raws new_words.now new_roots.now) (pairs_of (take count.new pairs.new)) }
+    ensures yes { result ≡ yes → Certified
+        (image old_size old_end old_raws old_words.now old_roots.now)
+        (image new_size new_end new_raws new_words.now new_roots.now) (pairs_of (take count.new pairs.new)) }
+    ensures replicated { result ≡ yes → Replicated
         (image old_size old_end old_raws old_words.now old_roots.now)
         (image new_size new_end new_raws new_words.now new_roots.now) (pairs_of (take count.new pairs.new)) }
     // No certificate holds.
-    ensures refused { result ≡ 1 → Certifiable
+    ensures refused { result ≡ refused → Certifiable
         (image old_size old_end old_raws old_words.now old_roots.now)
         (image new_size new_end new_raws new_words.now new_roots.now) → ⊥ }
 {

@@ -1,6 +1,18 @@
--- The sizes and numbers of mutators with which a heap can be opened.
-use Rattle.std.specs.Prelude.{ℕ, ◌≤◌}
+-- The options with which a heap can be opened.
+use Rattle.std.specs.Prelude.{◌≡◌, ℕ, ◌≤◌}
 use Rattle.gc_graph.specs.Limits.{most_mutators}
+use Rattle.gc_heap.specs.ExtraRoots.{most_extra_roots}
+use Rattle.gc_heap.specs.declared.options.HeapOptions.{HeapOptions}
+use Rattle.gcflip_heap_c.specs.declared.opening.GcflipOptions.{GcflipOptions}
 
-abbrev pub CanOpen : ℕ → ℕ → Type 0
-CanOpen size mutators = (1 ≤ size) × (1 ≤ mutators) × (mutators ≤ most_mutators)
+-- the number of bytes of the record of options
+abbrev pub options_bytes : ℕ
+options_bytes = 16
+
+-- the record is this library's, and its members are in range
+abbrev pub CanOpenWith : GcflipOptions → Type 0
+CanOpenWith options = (options.bytes ≡ options_bytes) × (1 ≤ options.size) × (1 ≤ options.mutators) × (options.mutators ≤ most_mutators)
+    × (options.extra_roots ≤ most_extra_roots)
+
+abbrev pub options_in : GcflipOptions → HeapOptions
+options_in options = record { size = options.size; mutators = options.mutators; extra_roots = options.extra_roots }

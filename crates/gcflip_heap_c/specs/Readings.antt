@@ -1,14 +1,35 @@
 -- What C can read of a heap.
-use Rattle.std.specs.Prelude.{◌≡◌, ℕ, nat_lt, if◌then◌else◌, List, length, slice_get, Option, Some, None}
+use Rattle.std.specs.Prelude.{◌≡◌, ℕ, zero, suc, ◌+◌, min, nat_lt, if◌then◌else◌, List, length, slice_get, Option, Some, None}
 use Rattle.std.specs.Option.{option_map}
-use Rattle.gc_copy.specs.State.{State, Collection, new_end, heap_end}
+use Rattle.gc_copy.specs.State.{State, Collection, new_end, heap_end, extra_roots_of}
 use Rattle.gc_core.specs.Readings.{heap_image, log_of}
 use Rattle.gcflip_heap_c.specs.declared.reading.GcflipCounts.{GcflipCounts}
 use Rattle.gcflip_heap_c.specs.declared.reading.GcflipLogEntry.{GcflipLogEntry}
 
+-- the entries in the logs of the first mutators, this many of them
+abbrev pub entries_of : State → ℕ → ℕ
+entries_of s zero = 0
+entries_of s (suc m) = entries_of s m + length (log_of s m)
+
+-- the entries in all logs, up to the largest number that C's member takes
+abbrev pub logged_in : State → ℕ
+logged_in s = min (entries_of s s.mutators) 4294967295
+
 -- the counts of a heap without an open collection
 abbrev pub idle_counts : State → GcflipCounts
-idle_counts s = record { size = s.size; end = heap_end s; free = s.heap.free; mutators = s.mutators; is_open = 0; new_size = 0; new_end = 0; scan_place = 0; scan_field = 0 }
+idle_counts s = record {
+  size = s.size;
+  end = heap_end s;
+  free = s.heap.free;
+  mutators = s.mutators;
+  extra_roots = extra_roots_of s;
+  is_open = 0;
+  new_size = 0;
+  new_end = 0;
+  scan_place = 0;
+  scan_field = 0;
+  logged = logged_in s;
+}
 
 abbrev pub counts_with : State → Option Collection → GcflipCounts
 counts_with s None = idle_counts s

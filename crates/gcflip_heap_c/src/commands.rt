@@ -15,7 +15,7 @@ use gc_core::{CollectedHeap, SLOT_NUMBERS, numbered_slot};
 use gc_graph::{NoMemory, Number, Slot};
 
 /// Returns the slot with this number, or `None` if there is no such slot.
-fn slot(number: u8) -> Option<Slot>
+pub(crate) fn slot(number: u8) -> Option<Slot>
     ensures { result ≡ slot_at number }
 {
     if number < SLOT_NUMBERS {

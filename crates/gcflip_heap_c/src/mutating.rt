@@ -16,7 +16,7 @@ use std::alloc::Global;
 
 /// Makes an object of this kind with `count` fields, all nil, and puts a reference to it into slot `d`.
 #[unsafe(no_mangle)]
-pub extern "C" fn gcflip_heap_new(
+pub extern "C" fn gcflip_heap_new_object(
     alloc: Global,
     heap: &mut GcflipHeap,
     m: u8,
@@ -38,7 +38,7 @@ pub extern "C" fn gcflip_heap_new(
 
 /// Makes a raw object of this kind, with `count` fields that are numbers, all 0. Puts a reference to it into slot `d`.
 #[unsafe(no_mangle)]
-pub extern "C" fn gcflip_heap_raw(
+pub extern "C" fn gcflip_heap_new_raw(
     alloc: Global,
     heap: &mut GcflipHeap,
     m: u8,
@@ -60,7 +60,13 @@ pub extern "C" fn gcflip_heap_raw(
 
 /// Puts the number `n`, which must be below 2^63, into slot `d`.
 #[unsafe(no_mangle)]
-pub extern "C" fn gcflip_heap_num(alloc: Global, heap: &mut GcflipHeap, m: u8, d: u8, n: u64) -> u32
+pub extern "C" fn gcflip_heap_set_number(
+    alloc: Global,
+    heap: &mut GcflipHeap,
+    m: u8,
+    d: u8,
+    n: u64,
+) -> u32
     ensures call { IsCommandCall m (with_both (slot_at d) (number_in n) Op.Num)
         (λ reply. result ≡ reply_in_c reply) heap.old.state heap.new.state result }
     ensures memory { result ≢ 1 }
@@ -75,7 +81,7 @@ pub extern "C" fn gcflip_heap_num(alloc: Global, heap: &mut GcflipHeap, m: u8, d
 
 /// Puts nil into slot `d`.
 #[unsafe(no_mangle)]
-pub extern "C" fn gcflip_heap_nil(alloc: Global, heap: &mut GcflipHeap, m: u8, d: u8) -> u32
+pub extern "C" fn gcflip_heap_set_nil(alloc: Global, heap: &mut GcflipHeap, m: u8, d: u8) -> u32
     ensures call { IsCommandCall m (option_map Op.Nil (slot_at d))
         (λ reply. result ≡ reply_in_c reply) heap.old.state heap.new.state result }
     ensures memory { result ≢ 1 }
@@ -152,7 +158,7 @@ pub extern "C" fn gcflip_heap_put(
 }
 
 /// Puts the number `n` into slot `t`, and then writes it to field `i` of the object that slot `s` refers to. This is a
-/// `gcflip_heap_num` followed by a `gcflip_heap_put`, in one call. Allocates only while a collection is open.
+/// `gcflip_heap_set_number` followed by a `gcflip_heap_put`, in one call. Allocates only while a collection is open.
 #[unsafe(no_mangle)]
 pub extern "C" fn gcflip_heap_put_number(
     alloc: Global,
@@ -175,10 +181,10 @@ pub extern "C" fn gcflip_heap_put_number(
 }
 
 /// Makes an object of this kind with two fields, which take the values of slots `s` and `t`, and puts a reference to
-/// it into slot `d`. This is a `gcflip_heap_new` followed by two `gcflip_heap_put`, in one call. Slot `d` is set
+/// it into slot `d`. This is a `gcflip_heap_new_object` followed by two `gcflip_heap_put`, in one call. Slot `d` is set
 /// first, so a field filled from slot `d` refers to the object itself. Allocates only while a collection is open.
 #[unsafe(no_mangle)]
-pub extern "C" fn gcflip_heap_cons(
+pub extern "C" fn gcflip_heap_new_pair(
     alloc: Global,
     heap: &mut GcflipHeap,
     m: u8,
@@ -199,7 +205,7 @@ pub extern "C" fn gcflip_heap_cons(
 }
 
 /// Makes an object of this kind, and puts a reference to it into slot `d`. `fields` has a slot number for each field,
-/// which takes the value of that slot. This is a `gcflip_heap_new` followed by a `gcflip_heap_put` for each field, in
+/// which takes the value of that slot. This is a `gcflip_heap_new_object` followed by a `gcflip_heap_put` for each field, in
 /// one call. Slot `d` is set first, so a field filled from slot `d` refers to the object itself. Allocates only while
 /// a collection is open.
 #[unsafe(no_mangle)]

@@ -1,38 +1,61 @@
 //! The exports that open and close a heap.
 
-ghost use Rattle.std.specs.Prelude.{◌≡◌, ◌<◌, ◌≤◌, ◌⊎◌, ◌↔◌, None, Some, IsSome, IfOk};
+ghost use Rattle.std.specs.Prelude.{◌≡◌, ◌<◌, ◌≤◌, ◌⊎◌, ◌↔◌, None, Some, IsSome, IsTrue, IfOk};
 ghost use Rattle.gc_graph.specs.Limits.{most_mutators};
-ghost use Rattle.gc_copy.specs.State.{opening_state};
-ghost use Rattle.gcflip_heap_c.specs.Opening.{CanOpen};
+ghost use Rattle.gc_heap.specs.ExtraRoots as heaps;
+ghost use Rattle.gc_copy.specs.State.{opening_state_with};
+ghost use Rattle.gcflip_heap_c.specs.Opening.{CanOpenWith, options_in};
 
 use crate::answer::{CLOSED, DONE, NO_MEMORY, OPEN, OUT_OF_RANGE};
 use crate::handle::GcflipHeap;
 use gc_core::CollectedHeap;
 use gc_graph::{MOST_MUTATORS, NoMemory};
+use gc_heap::{HeapOptions, MOST_EXTRA_ROOTS};
 use std::alloc::Global;
 
-/// Opens an empty heap of `size` words, at least 1, for 1 to 16 mutators. Returns 0, or 4 if the handle already has a
-/// heap, 2 if an argument is out of range, and 1 if an allocation fails. Then nothing has changed.
+/// The number of bytes of `GcflipOptions`.
+const OPTIONS_BYTES: u32 = 16;
+
+/// What a heap is opened with, as C sees it.
+#[repr(C)]
+#[derive(Clone, Copy, Debug, Drop, PartialEq, Eq)]
+pub struct GcflipOptions {
+    /// The number of bytes of this record. A library with more options can tell by it which ones the caller knows.
+    pub bytes: u32,
+    /// The number of words, at least 1.
+    pub size: u32,
+    /// The number of roots beside the slots, at most 1,048,576.
+    pub extra_roots: u32,
+    /// The number of mutators, 1 to 16.
+    pub mutators: u8,
+}
+
+/// Opens an empty heap with these options. Returns 0, or 4 if the handle already has a heap, 2 if an option is out of range,
+/// and 1 if an allocation fails. Then nothing has changed.
 #[unsafe(no_mangle)]
 pub extern "C" fn gcflip_heap_open(
     alloc: Global,
     heap: &mut GcflipHeap,
-    size: u32,
-    mutators: u8,
+    options: &GcflipOptions,
 ) -> u32
     ensures answers { (result ≤ 2) ⊎ (result ≡ 4) }
-    ensures done { result ≡ 0 → heap.new.state ≡ Some (opening_state size mutators) }
+    ensures done { result ≡ 0 → heap.new.state ≡ Some (opening_state_with (options_in options.now)) }
     ensures refused { 1 ≤ result → heap.new.state ≡ heap.old.state }
     ensures open { (result ≡ 4) ↔ IsSome heap.old.state }
-    ensures outside { (result ≡ 2) ↔ ((heap.old.state ≡ None) × (¬ CanOpen size mutators)) }
+    ensures outside { (result ≡ 2) ↔ ((heap.old.state ≡ None) × (¬ CanOpenWith options.now)) }
 {
     if !heap.is_empty() {
         return OPEN;
     }
-    if size < 1 || mutators < 1 || mutators > MOST_MUTATORS {
+    if !is_fit(options) {
         return OUT_OF_RANGE;
     }
-    match boxed_heap(alloc, size, mutators) {
+    let options = HeapOptions {
+        size: options.size,
+        mutators: options.mutators,
+        extra_roots: options.extra_roots,
+    };
+    match boxed_heap(alloc, &options) {
         Ok(boxed) => {
             *heap = GcflipHeap::full(boxed);
             DONE
@@ -41,12 +64,23 @@ pub extern "C" fn gcflip_heap_open(
     }
 }
 
-// Opens a heap in a box of its own. Allocates the words, the roots and the box.
-fn boxed_heap(alloc: Global, size: u32, mutators: u8) -> Result<Box<CollectedHeap>, NoMemory>
-    requires { CanOpen size mutators }
-    ensures { IfOk result (λ heap. heap.value ≡ opening_state size mutators) }
+// Returns whether a heap can be opened with these options.
+fn is_fit(options: &GcflipOptions) -> bool
+    ensures { IsTrue result ↔ CanOpenWith options.now }
 {
-    let opened = CollectedHeap::open(alloc, size, mutators)?;
+    options.bytes == OPTIONS_BYTES
+        && options.size >= 1
+        && options.mutators >= 1
+        && options.mutators <= MOST_MUTATORS
+        && options.extra_roots <= MOST_EXTRA_ROOTS
+}
+
+// Opens a heap in a box of its own. Allocates the words, the roots and the box.
+fn boxed_heap(alloc: Global, options: &HeapOptions) -> Result<Box<CollectedHeap>, NoMemory>
+    requires { heaps.CanOpen options.now }
+    ensures { IfOk result (λ heap. heap.value ≡ opening_state_with options.now) }
+{
+    let opened = CollectedHeap::open_with(alloc, options)?;
     Ok(Box::new(alloc, opened)?)
 }
 

@@ -2,7 +2,7 @@
 
 ghost use Rattle.std.specs.Prelude.{◌≡◌, ◌≤◌, ◌⊎◌, ◌↔◌, None, Some, IfSome, IsSomeAnd, IsTrue, IsFalse, length};
 ghost use Rattle.gc_core.specs.Readings.{heap_image, new_words, log_of};
-ghost use Rattle.gcflip_heap_c.specs.Readings.{counts_of, entry_at, FitsImage, FitsNew};
+ghost use Rattle.gcflip_heap_c.specs.Readings.{counts_of, logged_in, entries_of, entry_at, FitsImage, FitsNew};
 
 use crate::answer::{CLOSED, DONE, OUT_OF_RANGE};
 use crate::handle::GcflipHeap;
@@ -21,6 +21,8 @@ pub struct GcflipCounts {
     pub free: u32,
     /// The number of mutators.
     pub mutators: u32,
+    /// The number of extra roots.
+    pub extra_roots: u32,
     /// 1 if a collection is open, otherwise 0. If it is 0, so are all members after it.
     pub is_open: u32,
     /// The size of the new space (to-space).
@@ -31,6 +33,8 @@ pub struct GcflipCounts {
     pub scan_place: u32,
     /// The number of fields of that replica that are already scanned.
     pub scan_field: u32,
+    /// The number of entries in all logs, or 4,294,967,295 if there are more.
+    pub logged: u32,
 }
 
 /// A log entry as C sees it: the field that a mutator wrote.
@@ -43,7 +47,19 @@ pub struct GcflipLogEntry {
     pub field: u32,
 }
 
-fn counts_of(heap: &CollectedHeap) -> GcflipCounts
+/// Returns the number of entries in all logs, up to the largest `u32`.
+fn logged_in(heap: &CollectedHeap) -> u32
+    ensures { result ≡ logged_in heap.now }
+{
+    let mut total: u128 = 0;
+    for m in 0..heap.mutators() {
+        total += heap.log_len(m) as u128;
+    }
+    total.min(u128::from(u32::MAX)) as u32
+}
+
+/// Reads the counts.
+pub(crate) fn counts_of(heap: &CollectedHeap) -> GcflipCounts
     ensures { result ≡ counts_of heap.now }
 {
     let mut counts = GcflipCounts {
@@ -51,11 +67,13 @@ fn counts_of(heap: &CollectedHeap) -> GcflipCounts
         end: heap.end(),
         free: heap.free(),
         mutators: u32::from(heap.mutators()),
+        extra_roots: heap.extra_roots(),
         is_open: 0,
         new_size: 0,
         new_end: 0,
         scan_place: 0,
         scan_field: 0,
+        logged: logged_in(heap),
     };
     if let Some(space) = heap.new_space() {
         counts.is_open = 1;

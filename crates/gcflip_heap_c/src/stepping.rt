@@ -15,7 +15,7 @@ use std::alloc::Global;
 
 /// Opens a collection whose new space is as large as the heap. Allocates the new space and the logs.
 #[unsafe(no_mangle)]
-pub extern "C" fn gcflip_heap_begin(alloc: Global, heap: &mut GcflipHeap) -> u32
+pub extern "C" fn gcflip_heap_step_begin(alloc: Global, heap: &mut GcflipHeap) -> u32
     ensures { IsStepCall Step.Begin (λ reply. result ≡ step_reply_in_c reply) heap.old.state heap.new.state result }
 {
     let Some(mut opened) = heap.take(alloc) else {
@@ -31,7 +31,11 @@ pub extern "C" fn gcflip_heap_begin(alloc: Global, heap: &mut GcflipHeap) -> u32
 
 /// Opens a collection whose new space has `size` words, at least 1. Allocates the new space and the logs.
 #[unsafe(no_mangle)]
-pub extern "C" fn gcflip_heap_begin_sized(alloc: Global, heap: &mut GcflipHeap, size: u32) -> u32
+pub extern "C" fn gcflip_heap_step_begin_sized(
+    alloc: Global,
+    heap: &mut GcflipHeap,
+    size: u32,
+) -> u32
     ensures { IsStepCall (Step.BeginSized size) (λ reply. result ≡ step_reply_in_c reply) heap.old.state heap.new.state result }
 {
     let Some(mut opened) = heap.take(alloc) else {
@@ -51,7 +55,7 @@ pub extern "C" fn gcflip_heap_begin_sized(alloc: Global, heap: &mut GcflipHeap, 
 
 /// Replicates the target of the first root whose target has no replica.
 #[unsafe(no_mangle)]
-pub extern "C" fn gcflip_heap_roots(alloc: Global, heap: &mut GcflipHeap) -> u32
+pub extern "C" fn gcflip_heap_step_roots(alloc: Global, heap: &mut GcflipHeap) -> u32
     ensures call { IsStepCall Step.Roots (λ reply. result ≡ step_reply_in_c reply) heap.old.state heap.new.state result }
     ensures room { ¬ IsRefusal result → LacksNoRoom heap.old.state result }
 {
@@ -65,7 +69,7 @@ pub extern "C" fn gcflip_heap_roots(alloc: Global, heap: &mut GcflipHeap) -> u32
 
 /// Brings the field at the scan pointer up to date, or moves on to the next replica.
 #[unsafe(no_mangle)]
-pub extern "C" fn gcflip_heap_scan(alloc: Global, heap: &mut GcflipHeap) -> u32
+pub extern "C" fn gcflip_heap_step_scan(alloc: Global, heap: &mut GcflipHeap) -> u32
     ensures call { IsStepCall Step.Scan (λ reply. result ≡ step_reply_in_c reply) heap.old.state heap.new.state result }
     ensures room { ¬ IsRefusal result → LacksNoRoom heap.old.state result }
 {
@@ -79,7 +83,7 @@ pub extern "C" fn gcflip_heap_scan(alloc: Global, heap: &mut GcflipHeap) -> u32
 
 /// Applies the oldest entry of mutator `m`'s log.
 #[unsafe(no_mangle)]
-pub extern "C" fn gcflip_heap_apply(alloc: Global, heap: &mut GcflipHeap, m: u8) -> u32
+pub extern "C" fn gcflip_heap_step_apply(alloc: Global, heap: &mut GcflipHeap, m: u8) -> u32
     ensures call { IsStepCall (Step.Apply m) (λ reply. result ≡ step_reply_in_c reply) heap.old.state heap.new.state result }
     ensures room { ¬ IsRefusal result → LacksNoRoom heap.old.state result }
 {
@@ -98,7 +102,11 @@ pub extern "C" fn gcflip_heap_apply(alloc: Global, heap: &mut GcflipHeap, m: u8)
 /// Flips if the open collection is ready and the checker accepts its certificate. Then writes the number of pairs to
 /// `pairs`. Allocates the certificate, the moved roots and the checker's tables, and frees them before it returns.
 #[unsafe(no_mangle)]
-pub extern "C" fn gcflip_heap_flip(alloc: Global, heap: &mut GcflipHeap, pairs: &mut u32) -> u32
+pub extern "C" fn gcflip_heap_step_flip(
+    alloc: Global,
+    heap: &mut GcflipHeap,
+    pairs: &mut u32,
+) -> u32
     ensures call { IsStepCall Step.Flip
         (λ reply. (result ≡ step_reply_in_c reply) × (pairs.new ≡ pairs_after pairs.old reply)) heap.old.state heap.new.state result }
     // It flips only if the certificate holds. It is not refused, and a ready collection flips.
@@ -121,7 +129,7 @@ pub extern "C" fn gcflip_heap_flip(alloc: Global, heap: &mut GcflipHeap, pairs: 
 
 /// Frees the new space and the logs of the open collection.
 #[unsafe(no_mangle)]
-pub extern "C" fn gcflip_heap_drop(alloc: Global, heap: &mut GcflipHeap) -> u32
+pub extern "C" fn gcflip_heap_step_give_up(alloc: Global, heap: &mut GcflipHeap) -> u32
     ensures { IsStepCall Step.Drop (λ reply. result ≡ step_reply_in_c reply) heap.old.state heap.new.state result }
 {
     let Some(mut opened) = heap.take(alloc) else {

@@ -1,21 +1,22 @@
 //! Many useful steps in one call.
 
-ghost use Rattle.std.specs.Prelude.{◌≡◌, ◌⊎◌, ◌<◌, ◌≤◌, false, Ok, IfOk, OnErr};
+ghost use Rattle.std.specs.Prelude.{◌≡◌, ◌⊎◌, ◌<◌, ◌≤◌, ℕ, false, Option, Some, None, IfSome, IsTrue, ◌↔◌, Ok, IfOk, OnErr};
 ghost use Rattle.gc_copy.specs.State.{State};
-ghost use Rattle.gc_copy.specs.Steps.{collect, useful_step};
+ghost use Rattle.gc_copy.specs.Steps.{collect};
+ghost use Rattle.gc_copy.specs.Runs.{IsStep};
 ghost use Rattle.gc_core.specs.CollectedHeap.{Allocates};
-ghost use Rattle.gcflip_heap_c.specs.Work.{IsSoundReply, IsRun, IsWork, IsWorkCall, goes_on, end_in, end_after};
+ghost use Rattle.gcflip_heap_c.specs.Work.{IsSoundReply, IsRun, IsWork, IsWorkCall, with_size, sized_step, goes_on, end_in, end_after};
 
 use crate::answer::{CLOSED, DONE, NO_MEMORY, OUT_OF_RANGE};
 use crate::handle::GcflipHeap;
 use crate::reply::{of_step, pairs_of};
 use gc_check::Sequential;
-use gc_copy::StepReply;
+use gc_copy::{Step, StepReply};
 use gc_core::CollectedHeap;
 use gc_graph::NoMemory;
 use std::alloc::Global;
 
-/// What a call of `gcflip_heap_work` did, as C sees it.
+/// What a call of work did, as C sees it.
 #[repr(C)]
 #[derive(Clone, Copy, Debug, Drop, PartialEq, Eq)]
 pub struct GcflipWork {
@@ -35,15 +36,29 @@ struct Run {
     reply: StepReply,
 }
 
-/// Performs the useful step.
+/// Returns the step, but with `size` words for the new space if it is a begin and a size is given.
 #[inline(always)]
-fn one_step(heap: &mut CollectedHeap) -> Result<StepReply, NoMemory>
-    ensures step { IfOk result (λ reply. collect heap.old (useful_step heap.old) ≡ (reply, heap.new)) }
+fn sized(step: Step, size: Option<u32>) -> Step
+    requires { IfSome size (λ words. 1 ≤ words) }
+    ensures step { result ≡ with_size size step }
+    ensures range { (mutators : ℕ) → IsStep mutators step → IsStep mutators result }
+{
+    match (step, size) {
+        (Step::Begin, Some(words)) => Step::BeginSized(words),
+        (step, _) => step,
+    }
+}
+
+/// Performs the useful step. If that is a begin, the new space gets `size` words, or as many as the heap has.
+#[inline(always)]
+fn one_step(heap: &mut CollectedHeap, size: Option<u32>) -> Result<StepReply, NoMemory>
+    requires { IfSome size (λ words. 1 ≤ words) }
+    ensures step { IfOk result (λ reply. collect heap.old (sized_step size heap.old) ≡ (reply, heap.new)) }
     ensures sound { IfOk result (IsSoundReply heap.old) }
     ensures refused { OnErr result (heap.new ≡ heap.old) }
-    ensures allocates { OnErr result (Allocates heap.old (useful_step heap.old)) }
+    ensures allocates { OnErr result (Allocates heap.old (sized_step size heap.old)) }
 {
-    let step = heap.next_useful_step();
+    let step = sized(heap.next_useful_step(), size);
     heap.collect(&Sequential, step)
 }
 
@@ -51,24 +66,25 @@ fn one_step(heap: &mut CollectedHeap) -> Result<StepReply, NoMemory>
 /// returned `NoMemory`.
 trait Performs {
     // Holds of a state in which an allocation of the useful step failed.
-    ghost failed: { Self → State → Type 0 };
+    ghost failed: { Self → Option ℕ → State → Type 0 };
 
-    fn perform(&self, heap: &mut CollectedHeap) -> Result<StepReply, NoMemory>
-        ensures step { IfOk result (λ reply. collect heap.old (useful_step heap.old) ≡ (reply, heap.new)) }
+    fn perform(&self, heap: &mut CollectedHeap, size: Option<u32>) -> Result<StepReply, NoMemory>
+        requires { IfSome size (λ words. 1 ≤ words) }
+        ensures step { IfOk result (λ reply. collect heap.old (sized_step size heap.old) ≡ (reply, heap.new)) }
         ensures sound { IfOk result (IsSoundReply heap.old) }
         ensures refused { OnErr result (heap.new ≡ heap.old) }
-        ensures failed { OnErr result (failed self.now heap.old) };
+        ensures failed { OnErr result (failed self.now size heap.old) };
 }
 
 /// Performs the useful step.
 struct Useful;
 
 impl Performs for Useful {
-    ghost failed = { λ _ s. Allocates s (useful_step s) };
+    ghost failed = { λ _ size s. Allocates s (sized_step size s) };
 
     #[inline(always)]
-    fn perform(&self, heap: &mut CollectedHeap) -> Result<StepReply, NoMemory> {
-        one_step(heap)
+    fn perform(&self, heap: &mut CollectedHeap, size: Option<u32>) -> Result<StepReply, NoMemory> {
+        one_step(heap, size)
     }
 }
 
@@ -84,23 +100,25 @@ fn can_go_on(reply: StepReply) -> bool
 fn useful_steps<P: Performs>(
     performs: &P,
     heap: &mut CollectedHeap,
+    size: Option<u32>,
     most: u32,
 ) -> Result<Run, NoMemory>
-    requires { 1 ≤ most }
-    ensures run { IfOk result (λ run. IsRun run.steps heap.old heap.new run.reply) }
+    requires size { IfSome size (λ words. 1 ≤ words) }
+    requires some { 1 ≤ most }
+    ensures run { IfOk result (λ run. IsRun size run.steps heap.old heap.new run.reply) }
     ensures within { IfOk result (λ run. run.steps ≤ most) }
     // It stops early only after such a reply, or because a step failed for lack of memory.
     ensures ended { IfOk result (λ run. run.steps < most
-        → (goes_on run.reply ≡ false) ⊎ P.failed performs.now heap.new) }
+        → (goes_on run.reply ≡ false) ⊎ P.failed performs.now size heap.new) }
     ensures refused { OnErr result (heap.new ≡ heap.old) }
-    ensures failed { OnErr result (P.failed performs.now heap.old) }
+    ensures failed { OnErr result (P.failed performs.now size heap.old) }
 {
-    let mut reply = performs.perform(heap)?;
+    let mut reply = performs.perform(heap, size)?;
     for steps in 1..most {
         if !can_go_on(reply) {
             return Ok(Run { steps, reply });
         }
-        match performs.perform(heap) {
+        match performs.perform(heap, size) {
             Ok(next) => reply = next,
             Err(NoMemory) => return Ok(Run { steps, reply }),
         }
@@ -129,20 +147,60 @@ fn end_behind(heap: &CollectedHeap, reply: StepReply) -> u32
 }
 
 /// Performs useful steps and reports them.
-fn work_on(heap: &mut CollectedHeap, most: u32) -> Result<GcflipWork, NoMemory>
-    requires { 1 ≤ most }
-    ensures work { IfOk result (IsWork most heap.old heap.new) }
+pub(crate) fn work_on(
+    heap: &mut CollectedHeap,
+    size: Option<u32>,
+    most: u32,
+) -> Result<GcflipWork, NoMemory>
+    requires size { IfSome size (λ words. 1 ≤ words) }
+    requires some { 1 ≤ most }
+    ensures work { IfOk result (IsWork size most heap.old heap.new) }
     ensures refused { OnErr result (heap.new ≡ heap.old) }
-    ensures allocates { OnErr result (Allocates heap.old (useful_step heap.old)) }
+    ensures allocates { OnErr result (Allocates heap.old (sized_step size heap.old)) }
 {
     let start = end_of_new(heap);
-    let Run { steps, reply } = useful_steps(&Useful, heap, most)?;
+    let Run { steps, reply } = useful_steps(&Useful, heap, size, most)?;
     Ok(GcflipWork {
         steps,
         copied: end_behind(heap, reply).saturating_sub(start),
         last: of_step(reply),
         pairs: pairs_of(reply, 0),
     })
+}
+
+// Returns whether work can perform this many steps with a begin of this size.
+fn is_fit(size: Option<u32>, most: u32) -> bool
+    ensures { IsTrue result ↔ ((1 ≤ most) × IfSome size (λ words. 1 ≤ words)) }
+{
+    most >= 1 && !matches!(size, Some(0))
+}
+
+// Performs at most `most` useful steps, unless an argument is out of range.
+fn work_sized(
+    alloc: Global,
+    heap: &mut GcflipHeap,
+    size: Option<u32>,
+    most: u32,
+    work: &mut GcflipWork,
+) -> u32
+    ensures { IsWorkCall size most heap.old.state heap.new.state work.old work.new result }
+{
+    let Some(mut opened) = heap.take(alloc) else {
+        return CLOSED;
+    };
+    if !is_fit(size, most) {
+        *heap = GcflipHeap::full(opened);
+        return OUT_OF_RANGE;
+    }
+    let made = work_on(&mut opened, size, most);
+    *heap = GcflipHeap::full(opened);
+    match made {
+        Ok(made) => {
+            *work = made;
+            DONE
+        }
+        Err(NoMemory) => NO_MEMORY,
+    }
 }
 
 /// Performs at most `most` useful steps, and writes a report of them to `work`. Stops after a flip, and after a step
@@ -154,22 +212,21 @@ pub extern "C" fn gcflip_heap_work(
     most: u32,
     work: &mut GcflipWork,
 ) -> u32
-    ensures { IsWorkCall most heap.old.state heap.new.state work.old work.new result }
+    ensures { IsWorkCall None most heap.old.state heap.new.state work.old work.new result }
 {
-    let Some(mut opened) = heap.take(alloc) else {
-        return CLOSED;
-    };
-    if most == 0 {
-        *heap = GcflipHeap::full(opened);
-        return OUT_OF_RANGE;
-    }
-    let made = work_on(&mut opened, most);
-    *heap = GcflipHeap::full(opened);
-    match made {
-        Ok(made) => {
-            *work = made;
-            DONE
-        }
-        Err(NoMemory) => NO_MEMORY,
-    }
+    work_sized(alloc, heap, None, most, work)
+}
+
+/// Does the same, but if a step is a begin, the new space gets `size` words, at least 1.
+#[unsafe(no_mangle)]
+pub extern "C" fn gcflip_heap_work_sized(
+    alloc: Global,
+    heap: &mut GcflipHeap,
+    most: u32,
+    size: u32,
+    work: &mut GcflipWork,
+) -> u32
+    ensures { IsWorkCall (Some size) most heap.old.state heap.new.state work.old work.new result }
+{
+    work_sized(alloc, heap, Some(size), most, work)
 }

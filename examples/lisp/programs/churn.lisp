@@ -1,5 +1,5 @@
-; Makes 320 lists of the numbers 0 to 99, and keeps the last 3 of them. Each number takes 63 words: 4 for its pair, and 59 for scopes and frames
-; of the calls that make it. So the run takes more than 2016000 words, over 100 times a heap of 20000 words.
+; Makes 640 lists of the numbers 0 to 99, and keeps the last 3 of them. Each number takes 36 words: 4 for its pair, and 32 for the scopes of the
+; calls that make it. So the run takes more than 2304000 words, over 100 times a heap of 20000 words.
 
 (define (first-items count items)
   (if (or (= count 0) (null? items))
@@ -13,5 +13,5 @@
 
 (define (sum items) (fold + 0 items))
 
-(display (map sum (churn 320 '())))
+(display (map sum (churn 640 '())))
 (newline)

@@ -1,13 +1,15 @@
-"""Checks pair texts, draws them, and spoils them."""
+"""Checks pair texts and image texts, draws them, and spoils pairs."""
 from __future__ import annotations
 
 import random
 from typing import Any, NamedTuple
 
-from gcflip import BadText, Refused, check_text
+import gcflip
+from gcflip import BadText, Refused, check_text, compare, explained
 from gcflip_drawing.heap import walk
+from gcflip_drawing.images_text import read_images
 from gcflip_drawing.pair_picture import scene_of
-from gcflip_drawing.pair_text import Image, PairText, read_pair, written
+from gcflip_drawing.pair_text import Image, PairText, Unreadable, read_pair, written
 from gcflip_drawing.scene_picture import drawn_in_width
 from gcflip_drawing.verdicts import Verdict
 
@@ -20,16 +22,54 @@ class Place(NamedTuple):
     at: int
 
 
+HEADING = b"heapimages "
+INFERRED = "The pairs were found from the two images."
+
+
 def checked(text: bytes, width: int, changed: Place | None = None) -> dict[str, Any]:
-    """Returns the line that the checker prints for a text, its meaning, and the picture if the text is a pair text. Marks a changed
-    word in the picture."""
+    """Returns the line that the checker prints for a text, its meaning, where a refusal is, and the picture if the text is a pair text or
+    an image text. For an image text the pairs are inferred. Marks a changed word in the picture."""
+    if text.startswith(HEADING):
+        return compared(text, width)
+    refused = None
     try:
         verdict = Verdict("yes %d" % check_text(text))
     except BadText as fault:
         return {"line": str(fault), "fault": True, "bad_line": getattr(fault, "line", None)}
     except Refused as refusal:
-        verdict = Verdict(str(refusal))
-    scene = scene_of(read_pair(text.decode("ascii")), "The pair of heaps", verdict)
+        verdict, refused = Verdict(str(refusal)), refusal
+    pair = read_pair(text.decode("ascii"))
+    return {**drawn(pair, verdict, width, changed), "where": where(pair, refused)}
+
+
+def compared(text: bytes, width: int) -> dict[str, Any]:
+    """Returns the same for an image text, with the pairs that are found."""
+    try:
+        found = read_images(text.decode("ascii", "replace"))
+    except Unreadable as fault:
+        return {"line": "images: %s" % fault, "fault": True, "bad_line": None}
+    missing = [name for name in ("old", "new") if name not in found]
+    if missing:
+        return {"line": "images: there is no %s image" % missing[0], "fault": True, "bad_line": None}
+    comparison = compare(*(image_of(found[name], True) for name in ("old", "new")))
+    pair = PairText(True, found["old"], found["new"], comparison.pairs)
+    verdict = Verdict(str(comparison.refused) if comparison.refused else "yes %d" % len(comparison.pairs))
+    place = where(pair, comparison.refused)
+    return {**drawn(pair, verdict, width), "where": "%s %s" % (INFERRED, place) if place else INFERRED}
+
+
+def image_of(image: Image, raws: bool) -> gcflip.Image:
+    return gcflip.Image(image.words, image.roots, image.size, raws)
+
+
+def where(pair: PairText, refused: Refused | None) -> str:
+    """Says where a refusal is: the path from a root, and what stands there in both heaps."""
+    return explained(image_of(pair.old, pair.raws), image_of(pair.new, pair.raws), pair.pairs, refused) if refused else ""
+
+
+def drawn(pair: PairText, verdict: Verdict, width: int, changed: Place | None = None) -> dict[str, Any]:
+    """Returns the verdict on a pair, and its picture."""
+    scene = scene_of(pair, "The pair of heaps", verdict)
     # The page shows the verdict above the picture.
     scene.caption = None
     if changed:

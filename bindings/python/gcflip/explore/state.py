@@ -1,9 +1,10 @@
 """Describes a heap at a position of a trace for the page: the picture, roots, logs, and the certificate with the checker's verdict."""
 from __future__ import annotations
 
+import functools
 from typing import Any
 
-from gcflip import Image, Refused, check
+from gcflip import Image, Refused, check, explained
 from gcflip_drawing import collection_picture, pair_text, timeline
 from gcflip_drawing.collection_picture import State
 from gcflip_drawing.heap import shown, target
@@ -28,11 +29,21 @@ class Certificate:
         self.pairs = collection_picture.replicas(words.new.words)
         self.new = Image(words.new.words, collection_picture.new_roots(words.old, words.new.words), words.new.size)
 
-    def verdict(self) -> Verdict:
+    @functools.cached_property
+    def refused(self) -> Refused | None:
+        """The checker's refusal, or None if it says yes."""
         try:
-            return Verdict("yes %d" % check(self.old, self.new, self.pairs))
+            check(self.old, self.new, self.pairs)
         except Refused as refusal:
-            return Verdict(str(refusal))
+            return refusal
+        return None
+
+    def verdict(self) -> Verdict:
+        return Verdict(str(self.refused) if self.refused else "yes %d" % len(self.pairs))
+
+    def where(self) -> str:
+        """Says where a refusal is: the path from a root, and what stands there in both heaps."""
+        return explained(self.old, self.new, self.pairs, self.refused) if self.refused else ""
 
     def text(self) -> str:
         images = [pair_text.Image(image.size, image.words, image.roots) for image in (self.old, self.new)]
@@ -73,6 +84,7 @@ def collection(player: Player, words: Words) -> dict[str, Any]:
         "count": len(certificate.pairs),
         "verdict": verdict.line,
         "meaning": verdict.meaning(),
+        "where": certificate.where(),
     }
 
 

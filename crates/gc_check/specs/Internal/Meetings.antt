@@ -1,12 +1,13 @@
 -- The pairs that a walk over two images from their roots finds: words that stand at the same place are met, and two
 -- references that meet are a pair, unless one of them has a partner.
-use Rattle.std.specs.Prelude.{◌≡◌, ℕ, suc, ◌<◌, ◌==◌, Bool, false, not, ◌&&◌, if◌then◌else◌, List, [], ◌∷◌, ◌++◌, length, map, Option, Some, None, IsTrue, IsOk, ⊤}
+use Rattle.std.specs.Prelude.{◌≡◌, ℕ, suc, ◌<◌, ◌≤◌, ◌==◌, Bool, true, false, not, vec_capacity, ◌&&◌, if◌then◌else◌, List, [], ◌∷◌, ◌++◌, length, map, slice_index, Option, Some, None, IsTrue, IsOk, ⊤}
 use Rattle.std.specs.List.{All, list_any}
 use Rattle.gc_graph.specs.Graph.{Value, Nil, Num, Ref}
 use Rattle.gc_words.specs.Word.{read_value}
 use Rattle.gc_words.specs.Image.{Image, Block, walk_words, is_start, block_at}
 use Rattle.gc_words.specs.Fault.{same_header}
 use Rattle.gc_check.specs.Infer.{AreForced, AreTogether}
+use Rattle.gc_check.specs.Internal.Starts.{starts_from}
 use Rattle.gc_check.specs.Internal.Tables.{HoldsPartners}
 use Rattle.gc_check.specs.Tables.{pair_at}
 use Rattle.gc_check.specs.Verdict.{pairs_of}
@@ -99,7 +100,11 @@ pub record HoldsFound (old new : Image) (found : Found) : Type 0 where
   pub new_len : length found.originals.items ≡ length new.words
   pub partners : HoldsPartners found.partners.items (pairs_of found.pairs.items)
   pub originals : HoldsPartners found.originals.items (swapped (pairs_of found.pairs.items))
+  -- there are as many pairs as entries in each direction, and room for a pair of each old object
   pub count : length found.pairs.items ≡ taken_in found.partners.items
+  pub new_count : length found.pairs.items ≡ taken_in found.originals.items
+  pub starts : (a : ℕ) → not (slice_index found.partners.items a == 0) ≡ true → is_start old.words a ≡ true
+  pub room : starts_from old.words 0 (length old.words) ≤ vec_capacity found.pairs
 
 -- a pair for each entry that is not 0, with its address; the entries are those from address `at` on
 abbrev pub risen : ℕ → List ℕ → List (ℕ × ℕ)

@@ -1,17 +1,11 @@
 -- What private steps leave unchanged in a heap and in a collection, and words whose targets have replicas.
-use Rattle.std.specs.Prelude.{◌≡◌, ℕ, if◌then◌else◌, IsSome, ⊤}
-use Rattle.gc_graph.specs.Graph.{Value, Nil, Num, Ref}
+use Rattle.std.specs.Prelude.{◌≡◌, ℕ, if◌then◌else◌}
 use Rattle.gc_words.specs.Word.{value_of}
 use Rattle.gc_words.specs.Image.{Block, fresh_block, blocks}
 use Rattle.gc_heap.specs.Heap.{HeapWords, roomy_in}
-use Rattle.gc_copy.specs.State.{Collection, replica_of}
+use Rattle.gc_copy.specs.State.{Collection}
+use Rattle.gc_copy.specs.Staying.{HasReplicaOf}
 use Rattle.gc_copy.specs.Words.{CollectionWords}
-
--- nil, a number, or a reference to an object that has a replica
-abbrev pub HasReplicaOf : Collection → Value → Type 0
-HasReplicaOf c Nil = ⊤
-HasReplicaOf c (Num n) = ⊤
-HasReplicaOf c (Ref name) = IsSome (replica_of c name)
 
 abbrev pub HasReplicaWord : Collection → ℕ → Type 0
 HasReplicaWord c word = HasReplicaOf c (value_of word)

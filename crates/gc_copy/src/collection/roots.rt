@@ -1,10 +1,11 @@
-ghost use Rattle.std.specs.Prelude.{IfSome, ◌≡◌, IfOk, is_none, IsTrue};
+ghost use Rattle.std.specs.Prelude.{IfSome, ◌≡◌, ◌≤◌, ◌<◌, ℕ, IfOk, IsTrue, length, None};
 ghost use Rattle.std.specs.Option.{option_map};
 ghost use Rattle.gc_words.specs.Word.{value_of};
-ghost use Rattle.gc_graph.specs.Graph.{names_of};
+ghost use Rattle.gc_graph.specs.Graph.{names_of, root};
 ghost use Rattle.gc_words.specs.Image.{is_start};
 ghost use Rattle.gc_words.specs.Closed.{IsRootWord};
 ghost use Rattle.gc_heap.specs.Heap.{graph_in};
+ghost use Rattle.gc_copy.specs.Staying.{HasReplicaOf, IsMissing};
 ghost use Rattle.gc_copy.specs.Steps.{first_unreplicated, root_target, roots_done as roots_done_in};
 ghost use Rattle.gc_copy.specs.Words.{collection_in, BelongsTo, new_root_words};
 
@@ -14,24 +15,47 @@ use gc_heap::Heap;
 use gc_words::{OldAddr, target_of};
 use std::alloc::Global;
 
+/// A root whose target has no replica.
+#[derive(Clone, Copy, Debug, PartialEq, Eq)]
+pub struct MissingRoot {
+    /// The root's place in the list of roots.
+    pub place: usize,
+    /// The object that it refers to.
+    pub target: OldAddr,
+}
+
 impl Collection {
     /// Returns whether the target of each root has a replica.
     pub fn roots_done(&self, heap: &Heap) -> bool
         requires { BelongsTo heap.now self.now }
         ensures { result ≡ roots_done_in (collection_in self.now) (graph_in heap.now) }
     {
-        self.root_target(heap).is_none()
+        self.first_root(heap).is_none()
     }
 
-    /// Returns the target of the first root whose target has no replica.
-    pub(super) fn root_target(&self, heap: &Heap) -> Option<OldAddr>
+    /// Returns the first root whose target has no replica.
+    pub fn first_root(&self, heap: &Heap) -> Option<MissingRoot>
         requires { BelongsTo heap.now self.now }
-        ensures target { option_map (λ a. a.0) result ≡ root_target (collection_in self.now) (graph_in heap.now) }
-        ensures start { IfSome result (λ a. IsTrue (is_start heap.now.space.words a.0)) }
+        ensures target { option_map (λ r. r.target.0) result ≡ root_target (collection_in self.now) (graph_in heap.now) }
+        ensures start { IfSome result (λ r. IsTrue (is_start heap.now.space.words r.target.0)) }
     {
-        for word in heap.roots() {
-            if let Some(target) = self.target_without_replica(heap, *word) {
-                return Some(target);
+        self.missing_root(heap, 0, heap.roots().len())
+    }
+
+    /// Returns the first root whose target has no replica, of those from place `from` on and below place `to`. Reads each root up to that
+    /// one once.
+    pub fn missing_root(&self, heap: &Heap, from: usize, to: usize) -> Option<MissingRoot>
+        requires belongs { BelongsTo heap.now self.now }
+        requires within { to ≤ length heap.now.roots }
+        ensures none { result ≡ None → (p : ℕ) → from ≤ p → p < to
+            → HasReplicaOf (collection_in self.now) (root (graph_in heap.now) p) }
+        ensures first { IfSome result (λ r. IsMissing (collection_in self.now) (graph_in heap.now) from to r.place r.target.0) }
+        ensures start { IfSome result (λ r. IsTrue (is_start heap.now.space.words r.target.0)) }
+    {
+        let roots = heap.roots();
+        for place in from..to {
+            if let Some(target) = self.target_without_replica(heap, roots[place]) {
+                return Some(MissingRoot { place, target });
             }
         }
         None

@@ -1,25 +1,42 @@
-ghost use Rattle.std.specs.Prelude.{IsTrue, ◌≡◌, ◌≢◌, ◌<◌, ◌≤◌, ◌==◌, ◌||◌};
+ghost use Rattle.std.specs.Option.{option_map};
+ghost use Rattle.gc_words.specs.Image.{is_start};
+ghost use Rattle.std.specs.Prelude.{IsTrue, IfSome, ◌≡◌, ◌≢◌, ◌<◌, ◌≤◌, ◌==◌, ◌||◌};
 ghost use Rattle.gc_words.specs.Space.{image_with};
 ghost use Rattle.gc_words.specs.Certificate.{Certified};
 ghost use Rattle.gc_heap.specs.Heap.{image_of, graph_in};
 ghost use Rattle.gc_copy.specs.State.{pairs_of};
-ghost use Rattle.gc_copy.specs.Steps.{collect, scan_done as scan_done_in, is_ready};
+ghost use Rattle.gc_copy.specs.Steps.{collect, root_target, roots_done as roots_done_in, scan_done as scan_done_in, is_ready};
 ghost use Rattle.gc_copy.specs.Words.{collection_in, open_state, BelongsTo, new_root_words};
 ghost use Rattle.gc_copy.specs.declared.step.Step.{Step};
 ghost use Rattle.gc_copy.specs.declared.step.StepReply.{StepReply};
 
 use super::Collection;
 use super::copying::NoRoom;
+use super::roots::MissingRoot;
 use crate::laws::{images_show_links, room_suffices};
 use crate::step::StepReply;
 use gc_heap::Heap;
 use gc_words::{Header, NewAddr, OldAddr};
 
 impl Collection {
-    /// Replicates the target of the first root whose target has no replica: `Copied`, `NoRoom`, or `Clean` if there is none. Does
-    /// not allocate.
+    /// Replicates the target of the first root whose target has no replica: `Copied`, `NoRoom`, or `Clean` if there is none. Does not
+    /// allocate.
     pub fn roots(&mut self, heap: &mut Heap) -> StepReply
         requires { BelongsTo heap.old self.old }
+        ensures step { collect (open_state heap.old self.old) Step.Roots ≡ (result, open_state heap.new self.new) }
+        ensures room { heap.old.space.size ≤ self.old.space.size → result ≢ StepReply.NoRoom }
+        ensures belongs { BelongsTo heap.new self.new }
+        ensures mutators { heap.new.mutators ≡ heap.old.mutators }
+    {
+        let first = self.first_root(heap);
+        self.replicate_root(heap, first)
+    }
+
+    /// The same, where `first` is the first root whose target has no replica. `missing_root` finds it.
+    pub fn replicate_root(&mut self, heap: &mut Heap, first: Option<MissingRoot>) -> StepReply
+        requires belongs { BelongsTo heap.old self.old }
+        requires first { option_map (λ r. r.target.0) first ≡ root_target (collection_in self.old) (graph_in heap.old) }
+        requires start { IfSome first (λ r. IsTrue (is_start heap.old.space.words r.target.0)) }
         ensures step { collect (open_state heap.old self.old) Step.Roots ≡ (result, open_state heap.new self.new) }
         ensures room { heap.old.space.size ≤ self.old.space.size → result ≢ StepReply.NoRoom }
         ensures belongs { BelongsTo heap.new self.new }
@@ -29,10 +46,10 @@ impl Collection {
         // Here the prover learns that the heap and the collection are sound.
         let _ = heap.space();
         let _ = &self.space;
-        let Some(target) = self.root_target(heap) else {
+        let Some(missing) = first else {
             return StepReply::Clean;
         };
-        match self.place_replica(heap, target) {
+        match self.place_replica(heap, missing.target) {
             Ok(()) => StepReply::Copied,
             Err(NoRoom) => StepReply::NoRoom,
         }
@@ -113,11 +130,24 @@ impl Collection {
             (image_with self.now.space (new_root_words heap.now (collection_in self.now)))
             (pairs_of (collection_in self.now)) }
     {
+        self.ready_with(heap, self.roots_done(heap))
+    }
+
+    /// The same, where `roots_done` says whether the target of each root has a replica.
+    pub fn ready_with(&self, heap: &Heap, roots_done: bool) -> bool
+        requires belongs { BelongsTo heap.now self.now }
+        requires done { roots_done ≡ roots_done_in (collection_in self.now) (graph_in heap.now) }
+        ensures ready { result ≡ is_ready (collection_in self.now) (graph_in heap.now) }
+        // So a checker will accept its flip.
+        ensures certified { IsTrue result → Certified (image_of heap.now)
+            (image_with self.now.space (new_root_words heap.now (collection_in self.now)))
+            (pairs_of (collection_in self.now)) }
+    {
         images_show_links();
         // Here the prover learns that the heap and the collection are sound.
         let _ = heap.space();
         let _ = &self.space;
-        self.next_log().is_none() && self.scan_done() && self.roots_done(heap)
+        self.next_log().is_none() && self.scan_done() && roots_done
     }
 }
 

@@ -1,15 +1,17 @@
 //! One call for each mutator command, with that command's contract. `Heap::apply` calls them. None allocates.
 
-ghost use Rattle.std.specs.Prelude.{◌≡◌, ◌<◌};
+ghost use Rattle.std.specs.Prelude.{◌≡◌, ◌<◌, ◌+◌};
+ghost use Rattle.gc_graph.specs.Slots.{roots_of};
 ghost use Rattle.gc_graph.specs.declared.command.Op.{Op};
-ghost use Rattle.gc_heap.specs.Heap.{IsHeap};
+ghost use Rattle.gc_heap.specs.ExtraRoots.{extra_slot};
+ghost use Rattle.gc_heap.specs.Heap.{IsHeap, extra_roots_in};
 ghost use Rattle.gc_heap.specs.Commands.{Performs, Fetches};
 ghost use Rattle.gc_heap.specs.Internal.Taken.{taken_reply, IsTakenWord};
 
 use super::Heap;
 use crate::reading::{fetched, view};
 use crate::taken::{Fetched, Taken};
-use gc_graph::{Number, Reply, Slot};
+use gc_graph::{Number, Reply, Slot, root_count};
 use gc_words::{Value, encode};
 
 impl Heap {
@@ -67,6 +69,50 @@ impl Heap {
         let _ = &self.roots;
         let word = self.roots[s.place(m)];
         self.set_at(d.place(m), word)
+    }
+
+    /// Sets `d` to the value of extra root `k`: `Done`.
+    pub fn load(&mut self, m: u8, d: Slot, k: u32) -> Reply
+        requires mutator { m < self.old.mutators }
+        requires root { k < extra_roots_in self.old }
+        ensures performs { Performs self.old m (Op.Move d (extra_slot self.old.mutators m k)) result self.new }
+        ensures sound { IsHeap self.new }
+    {
+        // Here the prover learns how many roots there are.
+        let _ = &self.roots;
+        let word = self.roots[self.extra_place(k)];
+        self.set_at(d.place(m), word)
+    }
+
+    /// Sets extra root `k` to the value of `s`: `Done`.
+    pub fn store(&mut self, m: u8, k: u32, s: Slot) -> Reply
+        requires mutator { m < self.old.mutators }
+        requires root { k < extra_roots_in self.old }
+        ensures performs { Performs self.old m (Op.Move (extra_slot self.old.mutators m k) s) result self.new }
+        ensures sound { IsHeap self.new }
+    {
+        // Here the prover learns how many roots there are.
+        let _ = &self.roots;
+        let word = self.roots[s.place(m)];
+        self.set_at(self.extra_place(k), word)
+    }
+
+    /// Sets extra root `k` to nil: `Done`.
+    pub fn clear(&mut self, k: u32) -> Reply
+        requires { k < extra_roots_in self.old }
+        ensures performs { Performs self.old 0 (Op.Nil (extra_slot self.old.mutators 0 k)) result self.new }
+        ensures sound { IsHeap self.new }
+    {
+        // Here the prover learns how many roots there are.
+        let _ = &self.roots;
+        self.set_at(self.extra_place(k), encode(Value::Nil))
+    }
+
+    // Returns the place of extra root `k` in the list of roots.
+    fn extra_place(&self, k: u32) -> usize
+        ensures { result ≡ roots_of self.now.mutators + k }
+    {
+        root_count(self.mutators) + k as usize
     }
 
     /// Sets `d` to field `i` of the object that `s` refers to: `Saw`, `NoObject` or `NoField`.

@@ -5,13 +5,16 @@ mod rows;
 
 use gc_check::{
     CheckFault, Refusal, Tables, Verdict, Yes, check, check_text, check_wide, compare, infer,
+    path_to,
 };
 use gc_graph::{Sink, Source};
+use gc_par::compare_par;
 use gc_words::{ImageRef, NewAddr, OldAddr, Pair};
 use rows::{few_pairs, many_pairs, raw_objects};
 use std::alloc::{AllocError, Global};
 use std::process::Abort;
 use std::test::Fail;
+use std::thread::Threads;
 
 /// Two images, the addresses of a certificate, and the checker's answer.
 #[derive(Clone, Copy)]
@@ -206,9 +209,9 @@ fn references_that_no_text_holds(rt: HostRuntime) -> Result<(), Fail> {
     Ok(())
 }
 
-/// Expects that these pairs are inferred, in this order, and this verdict on them.
+/// Expects that these pairs are inferred, in this order, and this verdict on them, whoever compares the objects.
 fn expect_inferred(
-    rt: &impl Abort,
+    rt: &(impl Abort + Threads + Sync),
     alloc: Global,
     old: ImageRef,
     new: ImageRef,
@@ -219,6 +222,9 @@ fn expect_inferred(
     let inferred = infer(alloc, old, new)?;
     assert_eq!(rt; inferred.as_slice(), want.as_slice());
     let comparison = compare(alloc, old, new)?;
+    assert_eq!(rt; comparison.pairs.as_slice(), want.as_slice());
+    assert_eq!(rt; comparison.verdict, verdict);
+    let comparison = compare_par(rt, alloc, old, new)?;
     assert_eq!(rt; comparison.pairs.as_slice(), want.as_slice());
     assert_eq!(rt; comparison.verdict, verdict);
     Ok(())
@@ -300,6 +306,43 @@ fn images_without_shape_get_no_pairs(rt: HostRuntime) -> Result<(), Fail> {
     let one_root = image(16, 10, &CHAIN, &[2]);
     let refused = Verdict::Refused(Refusal::RootCount);
     expect_inferred(&rt, alloc, old, one_root, &[], refused)
+}
+
+/// Expects that the shortest path to the address has this root and these fields, or that there is none.
+fn expect_path(
+    rt: &impl Abort,
+    alloc: Global,
+    image: ImageRef,
+    address: u32,
+    wanted: Option<(u64, &[u64])>,
+) -> Result<(), Fail> {
+    let path = path_to(alloc, image, address)?;
+    match wanted {
+        Some((place, fields)) => {
+            let path = path.expect(rt, "a path");
+            assert_eq!(rt; path.place, place);
+            assert_eq!(rt; path.fields.as_slice(), fields);
+        }
+        None => assert!(rt; path.is_none()),
+    }
+    Ok(())
+}
+
+#[test]
+fn paths_are_the_shortest(rt: HostRuntime) -> Result<(), Fail> {
+    let alloc = rt.alloc();
+    // 1 refers to 5 and to 9, 5 refers to 9, and root 1 to 1.
+    let words = [
+        0, 16777218, 0, 10, 18, 16777218, 0, 18, 0, 16777216, 0, 16777216, 0,
+    ];
+    let both = image(16, 13, &words, &[7, 2]);
+    expect_path(&rt, alloc, both, 1, Some((1, &[])))?;
+    expect_path(&rt, alloc, both, 5, Some((1, &[0])))?;
+    expect_path(&rt, alloc, both, 9, Some((1, &[1])))?;
+    expect_path(&rt, alloc, both, 11, None)?;
+    expect_path(&rt, alloc, both, 2, None)?;
+    // No path leads through an image that is not shaped.
+    expect_path(&rt, alloc, image(16, 12, &words[..12], &[7, 2]), 1, None)
 }
 
 #[test]

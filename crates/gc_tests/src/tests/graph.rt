@@ -6,6 +6,7 @@ use gc_graph::text::{Pieces, ReadFault};
 use gc_graph::{Failed, Number, Op, Plain, Reply, Sink, Slot, Source};
 use std::io;
 use std::io::{ErrorKind, Read, Write};
+use std::process::Abort;
 use std::test::Fail;
 
 // The worked rows of the plain machine are in the tests of gc_heap, which play them on it and on a heap.
@@ -142,47 +143,101 @@ impl Write for Hesitant {
     }
 }
 
-/// The errors after which a retry can succeed.
-const PASSING: [ErrorKind; 3] = [
-    ErrorKind::Interrupted,
+/// Every kind of error, in the order of the standard library.
+const KINDS: [ErrorKind; 42] = [
+    ErrorKind::NotFound,
+    ErrorKind::PermissionDenied,
+    ErrorKind::ConnectionRefused,
+    ErrorKind::ConnectionReset,
+    ErrorKind::HostUnreachable,
+    ErrorKind::NetworkUnreachable,
+    ErrorKind::ConnectionAborted,
+    ErrorKind::NotConnected,
+    ErrorKind::AddrInUse,
+    ErrorKind::AddrNotAvailable,
+    ErrorKind::NetworkDown,
+    ErrorKind::BrokenPipe,
+    ErrorKind::AlreadyExists,
     ErrorKind::WouldBlock,
+    ErrorKind::NotADirectory,
+    ErrorKind::IsADirectory,
+    ErrorKind::DirectoryNotEmpty,
+    ErrorKind::ReadOnlyFilesystem,
+    ErrorKind::FilesystemLoop,
+    ErrorKind::StaleNetworkFileHandle,
+    ErrorKind::InvalidInput,
+    ErrorKind::InvalidData,
     ErrorKind::TimedOut,
+    ErrorKind::WriteZero,
+    ErrorKind::StorageFull,
+    ErrorKind::NotSeekable,
+    ErrorKind::QuotaExceeded,
+    ErrorKind::FileTooLarge,
+    ErrorKind::ResourceBusy,
+    ErrorKind::ExecutableFileBusy,
+    ErrorKind::Deadlock,
+    ErrorKind::CrossesDevices,
+    ErrorKind::TooManyLinks,
+    ErrorKind::InvalidFilename,
+    ErrorKind::ArgumentListTooLong,
+    ErrorKind::Interrupted,
+    ErrorKind::Unsupported,
+    ErrorKind::UnexpectedEof,
+    ErrorKind::OutOfMemory,
+    ErrorKind::InProgress,
+    ErrorKind::Other,
+    ErrorKind::Uncategorized,
 ];
 
 #[test]
 fn a_reader_that_fails_once_is_not_asked_again(rt: HostRuntime) {
-    for kind in PASSING {
-        let mut reader = Hesitant::new(Hitch::Error(kind));
-        let mut source = Source::new(&mut reader);
-        let mut buffer = [0u8; 4];
-        assert_eq!(rt; source.read(&mut buffer), Err(Failed));
-        assert!(rt; source.failed());
-        assert_eq!(rt; source.read(&mut buffer), Err(Failed));
-        assert_eq!(rt; reader.calls, 1);
-        let mut reader = Hesitant::new(Hitch::Error(kind));
+    for kind in KINDS {
+        let hitch = Hitch::Error(kind);
+        expect_one_read(&rt, hitch);
+        let mut reader = Hesitant::new(hitch);
         let had = Pieces::new(rt.alloc(), 9).more(&mut Source::new(&mut reader));
         assert_eq!(rt; had, Err(ReadFault::Read));
         assert_eq!(rt; reader.calls, 1);
     }
 }
 
+/// Asserts that a source whose reader fails in this way reads once, and fails from then on.
+fn expect_one_read(rt: &impl Abort, hitch: Hitch) {
+    let mut reader = Hesitant::new(hitch);
+    let mut source = Source::new(&mut reader);
+    let mut buffer = [0u8; 4];
+    assert_eq!(rt; source.read(&mut buffer), Err(Failed));
+    assert!(rt; source.failed());
+    assert_eq!(rt; source.read(&mut buffer), Err(Failed));
+    assert_eq!(rt; reader.calls, 1);
+}
+
 #[test]
 fn a_writer_that_fails_once_is_not_asked_again(rt: HostRuntime) {
-    for hitch in [
-        Hitch::NoByte,
-        Hitch::Error(ErrorKind::Interrupted),
-        Hitch::Error(ErrorKind::WouldBlock),
-        Hitch::Error(ErrorKind::TimedOut),
-    ] {
-        let mut writer = Hesitant::new(hitch);
-        let mut sink = Sink::new(&mut writer);
-        assert_eq!(rt; sink.write(b"text"), Err(Failed));
-        assert!(rt; sink.failed());
-        assert_eq!(rt; sink.write(b"text"), Err(Failed));
-        assert_eq!(rt; writer.calls, 1);
-        let mut writer = Hesitant::new(hitch);
-        assert_eq!(rt; Sink::new(&mut writer).write_all(b"text"), Err(Failed));
-        assert_eq!(rt; writer.calls, 1);
+    expect_one_write(&rt, Hitch::NoByte);
+    for kind in KINDS {
+        expect_one_write(&rt, Hitch::Error(kind));
+    }
+}
+
+/// Asserts that a sink whose writer fails in this way writes once, and fails from then on.
+fn expect_one_write(rt: &impl Abort, hitch: Hitch) {
+    let mut writer = Hesitant::new(hitch);
+    let mut sink = Sink::new(&mut writer);
+    assert_eq!(rt; sink.write(b"text"), Err(Failed));
+    assert!(rt; sink.failed());
+    assert_eq!(rt; sink.write(b"text"), Err(Failed));
+    assert_eq!(rt; writer.calls, 1);
+    let mut writer = Hesitant::new(hitch);
+    assert_eq!(rt; Sink::new(&mut writer).write_all(b"text"), Err(Failed));
+    assert_eq!(rt; writer.calls, 1);
+}
+
+/// The list of kinds has each kind of the standard library once: each stands at its own number, and the last is last.
+#[test]
+fn all_kinds_of_errors_are_listed(rt: HostRuntime) {
+    for (number, kind) in KINDS.iter().enumerate() {
+        assert_eq!(rt; *kind as usize, number);
     }
 }
 

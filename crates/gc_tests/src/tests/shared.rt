@@ -1,4 +1,6 @@
+mod all_seats;
 mod closing;
+mod counted_gates;
 mod gates;
 mod rows;
 

@@ -6,10 +6,10 @@ use super::marks::{fence, retried};
 use super::texts::{Fixed, ONE_KEPT};
 use gc_cert::{PairFault, read_pair};
 use gc_check::{
-    CheckFault, Refusal, RunFault, Tables, Verdict, Yes, check, check_text, compare, infer,
+    CheckFault, Refusal, RunFault, Tables, Verdict, Yes, check, check_text, compare, infer, path_to,
 };
 use gc_graph::{Sink, Source};
-use gc_par::{check_par, check_text_par};
+use gc_par::{check_par, check_text_par, compare_par};
 use gc_words::{ImageRef, NewAddr, OldAddr, Pair};
 use std::alloc::{AllocError, Global};
 use std::test::Fail;
@@ -104,6 +104,44 @@ fn images_compared(rt: HostRuntime) -> Result<(), Fail> {
     let comparison = comparison?;
     assert_eq!(rt; comparison.pairs.as_slice(), [pair(3, 1)].as_slice());
     assert_eq!(rt; comparison.verdict, Verdict::Yes { pairs: 1 });
+    Ok(())
+}
+
+#[test]
+fn images_compared_in_threads(rt: HostRuntime) -> Result<(), Fail> {
+    let alloc = rt.alloc();
+    let old = image(8, &OLD, &[6]);
+    let new = image(8, &NEW, &[2]);
+    fence(alloc)?;
+    let mut comparison = compare_par(&rt, alloc, old, new);
+    fence(alloc)?;
+    if comparison.is_err() {
+        retried(alloc)?;
+        comparison = compare_par(&rt, alloc, old, new);
+    }
+    let comparison = comparison?;
+    assert_eq!(rt; comparison.pairs.as_slice(), [pair(3, 1)].as_slice());
+    assert_eq!(rt; comparison.verdict, Verdict::Yes { pairs: 1 });
+    Ok(())
+}
+
+/// An object at 1 whose field refers to the one at 4.
+const LINKED: [u64; 6] = [0, 16777217, 0, 8, 16777216, 0];
+
+#[test]
+fn path_found(rt: HostRuntime) -> Result<(), Fail> {
+    let alloc = rt.alloc();
+    let linked = image(8, &LINKED, &[2]);
+    fence(alloc)?;
+    let mut path = path_to(alloc, linked, 4);
+    fence(alloc)?;
+    if path.is_err() {
+        retried(alloc)?;
+        path = path_to(alloc, linked, 4);
+    }
+    let path = path?.expect(&rt, "a path");
+    assert_eq!(rt; path.place, 0);
+    assert_eq!(rt; path.fields.as_slice(), [0].as_slice());
     Ok(())
 }
 

@@ -1,7 +1,7 @@
 //! The shared world: its calls, its closing, and scripts in threads. A failed call leaves the seat's receipts
 //! unchanged, and the world can be closed later.
 
-ghost use Rattle.std.specs.Prelude.{◌≡◌, IfOk, vec_len};
+ghost use Rattle.std.specs.Prelude.{◌≡◌, ◌≤◌, IfOk, vec_len};
 ghost use Rattle.gc_shared.specs.Seats.{HasSize};
 
 use super::marks::{fence, retried};
@@ -92,21 +92,37 @@ fn expect_world(rt: &impl Abort, shared: Shared, seats: Vec<Seat>, events: usize
     }
 }
 
-#[test]
-fn shared_open(rt: HostRuntime) -> Result<(), Fail> {
-    let alloc = rt.alloc();
+/// Opens a world for this many mutators and collectors, and tests that all their seats are there.
+fn expect_open(rt: &impl Abort, alloc: Global, mutators: u8, collectors: u8) -> Result<(), Fail>
+    requires some { 1 ≤ mutators }
+    requires few { mutators ≤ 16 }
+    requires few_collectors { collectors ≤ 16 }
+{
     fence(alloc)?;
-    let mut opened = Shared::open(alloc, 32, 1, 1);
+    let mut opened = Shared::open(alloc, 32, mutators, collectors);
     fence(alloc)?;
     if opened.is_err() {
         retried(alloc)?;
-        opened = Shared::open(alloc, 32, 1, 1);
+        opened = Shared::open(alloc, 32, mutators, collectors);
     }
     let (shared, seats) = opened?;
-    assert_eq!(rt; shared.mutators(), 1);
-    assert_eq!(rt; seats.len(), 2);
-    expect_world(&rt, shared, seats, 0);
+    assert_eq!(rt; shared.mutators(), mutators);
+    assert_eq!(rt;
+        seats.len(),
+        usize::from(mutators) + usize::from(collectors)
+    );
+    expect_world(rt, shared, seats, 0);
     Ok(())
+}
+
+#[test]
+fn shared_open(rt: HostRuntime) -> Result<(), Fail> {
+    expect_open(&rt, rt.alloc(), 1, 1)
+}
+
+#[test]
+fn shared_open_of_16_collectors(rt: HostRuntime) -> Result<(), Fail> {
+    expect_open(&rt, rt.alloc(), 1, 16)
 }
 
 #[test]
@@ -131,19 +147,34 @@ fn shared_call(rt: HostRuntime) -> Result<(), Fail> {
     Ok(())
 }
 
-#[test]
-fn shared_step(rt: HostRuntime) -> Result<(), Fail> {
-    let alloc = rt.alloc();
+/// Performs this begin and a flip.
+fn expect_steps(
+    rt: &(impl Threads + Wait + Abort + Sync),
+    alloc: Global,
+    begin: Step,
+) -> Result<(), Fail>
+    requires { HasSize begin }
+{
     let (shared, mut seats) = Shared::open(alloc, 32, 1, 1)?;
     let mut collector = seats.pop().ok_or("two seats")?;
-    let begun = step(&rt, alloc, &shared, &mut collector, Step::Begin);
+    let begun = step(rt, alloc, &shared, &mut collector, begin);
     assert!(rt; begun == Ok(StepReply::Begun));
-    let flipped = step(&rt, alloc, &shared, &mut collector, Step::Flip);
+    let flipped = step(rt, alloc, &shared, &mut collector, Step::Flip);
     assert!(rt; flipped == Ok(StepReply::Flipped { pairs: 0 }));
     assert_eq!(rt; collector.receipts().len(), 2);
     seats.push(collector)?;
-    expect_world(&rt, shared, seats, 2);
+    expect_world(rt, shared, seats, 2);
     Ok(())
+}
+
+#[test]
+fn shared_step(rt: HostRuntime) -> Result<(), Fail> {
+    expect_steps(&rt, rt.alloc(), Step::Begin)
+}
+
+#[test]
+fn shared_step_of_a_size(rt: HostRuntime) -> Result<(), Fail> {
+    expect_steps(&rt, rt.alloc(), Step::BeginSized(64))
 }
 
 #[test]

@@ -87,10 +87,10 @@ export class Checker {
     }
   }
 
-  show({ line, fault, refused, meaning, picture, bad_line: bad }) {
+  show({ line, fault, refused, meaning, where, picture, bad_line: bad }) {
     this.drawnWidth = this.width();
     const verdict = byId("verdict-line");
-    verdict.textContent = line + (meaning ? ` (${meaning})` : "");
+    verdict.textContent = line + (meaning ? ` (${meaning})` : "") + (where ? ` \u2014 ${where}` : "");
     verdict.className = fault || refused ? "verdict refused" : "verdict accepted";
     this.editor.note(bad ? { [bad]: line } : {}, null, bad ?? null);
     byId("pair-picture").replaceChildren(...(picture ? [render(picture)] : []));

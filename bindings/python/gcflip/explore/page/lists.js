@@ -13,7 +13,7 @@ export function showCertificate({ collection }, onText) {
     body.replaceChildren(make("p", {}, "No collection is open, so there is no certificate."));
     return;
   }
-  const { conditions, ready, pairs, count, verdict, meaning } = collection;
+  const { conditions, ready, pairs, count, verdict, meaning, where } = collection;
   const listed = conditions.map(({ text, holds }) => make("li", { className: holds ? "holds" : "fails" }, `${holds ? "yes" : "no"}: ${text}`));
   const items = pairs.map(([old, replica], at) => make("li", {}, `pair ${at}: the object at ${old} has its replica at ${replica}`));
   body.replaceChildren(
@@ -23,7 +23,7 @@ export function showCertificate({ collection }, onText) {
     make("ul", { className: "pairs" }, ...items), ...rest(pairs.length, count),
     make("p", {}, ready ? "The checker says of it:" : "If the collector flipped now, the checker would say:"),
     make("p", { id: "certificate-verdict", className: meaning ? "verdict refused" : "verdict accepted" },
-      make("code", {}, verdict), meaning ? ` (${meaning})` : ""),
+      make("code", {}, verdict), meaning ? ` (${meaning}) \u2014 ${where}` : ""),
     make("p", {}, make("button", { id: "certificate-text", onclick: onText }, "See it as a pair text")));
 }
 

@@ -1,4 +1,6 @@
 use Rattle.std.proofs.Common.{rules, ◌≡◌, length, replicate, [], sym, subst}
+use Rattle.std.specs.Vec.{vec_capacity}
+use Rattle.gc_check.specs.Internal.Starts.{starts_from}
 use Rattle.gc_check.specs.Internal.Meetings.{met_all, MetTo}
 use Rattle.gc_check.specs.Verdict.{pairs_of}
 use Rattle.gc_check.specs.declared.meet.Found.{Found}
@@ -11,7 +13,8 @@ meet_all-requires-clause-held c =
     let empty : Found = record { partners = c.in_ok-partners.partners; originals = c.in_ok-originals.originals; pairs = c.in_ok-pairs.pairs } in
     let partners : c.in_ok-partners.partners.items ≡ replicate (length c.args.old.now.words) 0 = search rules in
     let originals : c.in_ok-originals.originals.items ≡ replicate (length c.args.new.now.words) 0 = search rules in
-    held_none c.args.old.now c.args.new.now empty c.requires.old_walked c.requires.new_walked partners originals c.in_ok-pairs.ensures.items
+    let capacity : vec_capacity c.in_ok-pairs.pairs ≡ starts_from c.args.old.now.words 0 (length c.args.old.now.words) = search rules in
+    held_none c.args.old.now c.args.new.now empty c.requires.old_walked c.requires.new_walked partners originals c.in_ok-pairs.ensures.items capacity
 
 pub meet_reachable-requires-clause-met : goal.meet_reachable-requires-clause-met
 meet_reachable-requires-clause-met c =

@@ -28,9 +28,9 @@ loop-done-preserved c =
     let inside : c.loop-done.done < length c.loop-done.found.pairs.items = search rules in
     let is : pair_at (pairs_of c.loop-done.found.pairs.items) c.loop-done.done ≡ addresses c.index-pair.result.now = pair_is c.loop-done.found.pairs.items c.loop-done.done c.index-pair.result.now inside c.index-pair.ensures in
     let within : c.loop-done.done < length (pairs_of c.loop-done.found.pairs.items) = omega (arith, inside, length-map c.loop-done.found.pairs.items addresses) in
-    let now : pairs_of c.meet_objects.new.found.pairs.items ≡ met_objects c.args.old.now c.args.new.now (pairs_of c.loop-done.found.pairs.items) (addresses c.index-pair.result.now) = c.in_ok-meet_objects.ensures.pairs in
+    let now : pairs_of c.meet_objects.new.found.pairs.items ≡ met_objects c.args.old.now c.args.new.now (pairs_of c.loop-done.found.pairs.items) (addresses c.index-pair.result.now) = c.meet_objects.ensures.pairs in
     record {
-      held = c.in_ok-meet_objects.ensures.held;
+      held = c.meet_objects.ensures.held;
       met = subst (λ pairs. MetTo c.args.old.now c.args.new.now pairs (c.loop-done.done + 1)) (sym (now ∙ ap (met_objects c.args.old.now c.args.new.now (pairs_of c.loop-done.found.pairs.items)) (sym is)))
           (objects_met c.args.old.now c.args.new.now (pairs_of c.loop-done.found.pairs.items) c.loop-done.done within c.loop-done.invariant.met);
     }

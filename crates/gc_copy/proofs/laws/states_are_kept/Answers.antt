@@ -1,11 +1,14 @@
-use Rattle.gc_copy.proofs.Steps.{collect_keeps, mutate_keeps}
-use Rattle.gc_copy.proofs.Runs.{opening_ok, run_ok}
+use Rattle.gc_copy.proofs.Steps.{collect_keeps, mutate_keeps, ranged}
+use Rattle.gc_copy.proofs.Runs.{opening_ok, opening_with_ok, run_ok, root_run_ok}
 use Rattle.gc_copy.proofs.laws.states_are_kept.Goals as goal
 
 pub returns : goal.returns
 returns c = record {
   opening = opening_ok;
-  commands = mutate_keeps;
+  opening_with = opening_with_ok;
+  commands = λ s m op h l r. mutate_keeps s m op h l (ranged op r);
   steps = collect_keeps;
   runs = run_ok;
+  root_commands = mutate_keeps;
+  root_runs = root_run_ok;
 }

@@ -1,4 +1,4 @@
-use Rattle.std.proofs.Common.{◌≡◌, ap, ◌∙◌, subst, arith, [], ◌∷◌}
+use Rattle.std.proofs.Common.{◌≡◌, ◌<◌, refl, sym, ap, ◌∙◌, subst, arith, [], ◌∷◌}
 use Rattle.std.specs.Option.{option_map}
 use Rattle.gc_graph.specs.declared.command.Op.TheVariants.{New, Put}
 use Rattle.gc_heap.specs.Heap.{HeapWords}
@@ -6,6 +6,8 @@ use Rattle.gc_copy.specs.State.{State}
 use Rattle.gc_copy.specs.Words.{collection_in, state_of, open_state}
 use Rattle.gc_copy.proofs.Mutating.{open_left}
 use Rattle.gc_core.specs.Internal.CollectedHeap.{Fits}
+use Rattle.gc_core.specs.Internal.KnownRoots.{KnowsRoots}
+use Rattle.gc_core.proofs.Marks.{from_knows}
 use Rattle.gc_core.specs.CollectedHeap.{new_from_step}
 use Rattle.gc_core.proofs.NewFrom.{made_from, full_from, filled_two, opened_at}
 use Rattle.gc_core.proofs.OtherCommands.{idle_mutated}
@@ -32,7 +34,14 @@ pub invariant_of-self-in-Full-made : goal.invariant_of-self-in-Full-made
 invariant_of-self-in-Full-made c =
     let made = open_left c.self.inside.heap c.new_object-made-2.new.self c.reserve_more.new.self c.args.m (New c.args.d c.args.kind 2) c.new_object-made-2.result c.space.ensures.sound
     (c.in_ok-reserve_more.ensures.belongs c.self.inside.heap (subst (Fits c.self.inside.heap) c.in-Some.is c.self.invariant.0)) (λ none. none) c.new_object-made-2.ensures.performs in
-    (made.1, λ no. absurd cc)
+    let less : c.args.m < c.self.inside.heap.mutators = subst (λ (s : State). c.args.m < s.mutators) (sym c.self.view_is) c.requires in
+    let before = opened_at c.self.inside.heap c.self.inside.collection c.in-Some.collection c.reserve_more.new.self (state_of c.self.inside.heap (option_map collection_in c.self.inside.collection)) c.in-Some.is c.in_ok-reserve_more.ensures.collection refl in
+    let after = open_state c.new_object-made-2.new.self c.reserve_more.new.self in (
+      made.1,
+      from_knows c.self.inside.known (open_state c.self.inside.heap c.reserve_more.new.self) after c.args.m c.args.kind c.args.d (c.args.s ∷ c.args.t ∷ []) c.new_object-made-2.result (omega (arith, c.index.ensures.value, c.index.ensures.bound)) less
+          (full_from (open_state c.self.inside.heap c.reserve_more.new.self) after c.args.m c.args.kind c.args.d (c.args.s ∷ c.args.t ∷ []) c.new_object-made-2.result made.0 c.in-Full-made.is)
+          (subst (KnowsRoots c.self.inside.known) (sym before) c.self.invariant.1),
+    )
 
 pub returns-in-Full-made-clause-step : goal.returns-in-Full-made-clause-step
 returns-in-Full-made-clause-step c =
@@ -67,3 +76,35 @@ returns c =
       «open» = tt;
       mutators = two.ensures.mutators ∙ one.ensures.mutators ∙ c.new_object-made-2.ensures.performs.mutators ∙ ap (λ (s : State). s.mutators) c.self.view_is;
     }
+
+pub invariant_of-self-in_default : goal.invariant_of-self-in_default
+invariant_of-self-in_default c =
+    let o = c.self.inside.collection in
+    let state : HeapWords → State = λ h. state_of h (option_map collection_in c.self.inside.collection) in
+    let less : c.args.m < c.self.inside.heap.mutators = subst (λ (s : State). c.args.m < s.mutators) (sym c.self.view_is) c.requires in
+    let new = c.new_object-made in
+    let one = idle_mutated c.self.inside.heap new.new.self o c.args.m (New c.args.d c.args.kind 2) new.result c.space.ensures.sound c.in_default.not-Some new.ensures.performs c.self.invariant.0 in
+    let two = idle_mutated new.new.self c.put-first.new.self o c.args.m (Put c.args.d 0 c.args.s) c.put-first.result new.ensures.sound c.in_default.not-Some c.put-first.ensures.performs one.1 in
+    let three = idle_mutated c.put-first.new.self c.put-second.new.self o c.args.m (Put c.args.d 1 c.args.t) c.put-second.result c.put-first.ensures.sound c.in_default.not-Some c.put-second.ensures.performs two.1 in (
+      three.1,
+      from_knows c.self.inside.known (state c.self.inside.heap) (state c.put-second.new.self) c.args.m c.args.kind c.args.d (c.args.s ∷ c.args.t ∷ []) new.result (omega (arith, c.index.ensures.value, c.index.ensures.bound)) less
+          (made_from (state c.self.inside.heap) (state new.new.self) (state c.put-second.new.self) c.args.m c.args.kind c.args.d (c.args.s ∷ c.args.t ∷ []) new.result one.0 c.in_default-made.not-Full
+          (filled_two (state new.new.self) (state c.put-first.new.self) (state c.put-second.new.self) c.args.m c.args.d c.args.s c.args.t c.put-first.result c.put-second.result two.0 three.0))
+          c.self.invariant.1,
+    )
+
+pub invariant_of-self-2 : goal.invariant_of-self-2
+invariant_of-self-2 c =
+    let less : c.args.m < c.self.inside.heap.mutators = subst (λ (s : State). c.args.m < s.mutators) (sym c.self.view_is) c.requires in
+    let made = open_left c.self.inside.heap c.new_object-made-2.new.self c.reserve_more.new.self c.args.m (New c.args.d c.args.kind 2) c.new_object-made-2.result c.space.ensures.sound
+    (c.in_ok-reserve_more.ensures.belongs c.self.inside.heap (subst (Fits c.self.inside.heap) c.in-Some.is c.self.invariant.0)) (λ none. none) c.new_object-made-2.ensures.performs in
+    let before = opened_at c.self.inside.heap c.self.inside.collection c.in-Some.collection c.reserve_more.new.self (state_of c.self.inside.heap (option_map collection_in c.self.inside.collection)) c.in-Some.is c.in_ok-reserve_more.ensures.collection refl in
+    let one = c.put-first-2 in
+    let two = c.put-second-2 in
+    let after = open_state two.new.heap two.new.self in (
+      two.ensures.belongs,
+      from_knows c.self.inside.known (open_state c.self.inside.heap c.reserve_more.new.self) after c.args.m c.args.kind c.args.d (c.args.s ∷ c.args.t ∷ []) c.new_object-made-2.result (omega (arith, c.index.ensures.value, c.index.ensures.bound)) less
+          (made_from (open_state c.self.inside.heap c.reserve_more.new.self) (open_state c.new_object-made-2.new.self c.reserve_more.new.self) after c.args.m c.args.kind c.args.d (c.args.s ∷ c.args.t ∷ []) c.new_object-made-2.result made.0 c.in_default-made-2.not-Full
+          (filled_two (open_state c.new_object-made-2.new.self c.reserve_more.new.self) (open_state one.new.heap one.new.self) after c.args.m c.args.d c.args.s c.args.t one.result two.result one.ensures.step two.ensures.step))
+          (subst (KnowsRoots c.self.inside.known) (sym before) c.self.invariant.1),
+    )

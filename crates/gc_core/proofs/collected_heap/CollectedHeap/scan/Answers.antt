@@ -1,10 +1,17 @@
-use Rattle.std.proofs.Common.{refl, subst}
-use Rattle.gc_copy.specs.Staying.{StaysDone}
-use Rattle.gc_copy.specs.Words.{collection_in, open_state}
-use Rattle.gc_core.specs.Internal.CollectedHeap.{KnowsRoots}
+use Rattle.std.proofs.Common.{refl, ap, subst}
+use Rattle.std.specs.Option.{option_map}
+use Rattle.gc_copy.specs.State.{State}
+use Rattle.gc_copy.specs.Words.{collection_in, open_state, state_of}
+use Rattle.gc_copy.specs.declared.step.Step.TheVariants as steps
+use Rattle.gc_copy.specs.declared.step.StepReply.{StepReply}
+use Rattle.gc_core.specs.Internal.KnownRoots.{KnowsRoots}
+use Rattle.gc_core.proofs.Marks.{step_knows}
 use Rattle.gc_core.proofs.collected_heap.CollectedHeap.scan.Goals as goal
 
 pub invariant_of-self-in-Some : goal.invariant_of-self-in-Some
 invariant_of-self-in-Some c =
-    let known = subst (KnowsRoots c.self.inside.roots_done c.self.inside.heap) c.in-Some.is c.self.invariant.1 in
-    (c.scan.ensures.belongs, λ yes. subst StaysDone c.scan.ensures.step (c.roots_stay_done.ensures.scan (open_state c.self.inside.heap c.in-Some.collection) (collection_in c.in-Some.collection) refl (known yes)))
+    let before = subst (λ o. KnowsRoots c.self.inside.known (state_of c.self.inside.heap (option_map collection_in o))) c.in-Some.is c.self.invariant.1 in (
+      c.scan.ensures.belongs,
+      subst (KnowsRoots c.self.inside.known) (ap (λ (x : StepReply × State). x.1) c.scan.ensures.step)
+          (step_knows c.self.inside.known (open_state c.self.inside.heap c.in-Some.collection) (collection_in c.in-Some.collection) steps.Scan refl (λ e. cc e) before),
+    )

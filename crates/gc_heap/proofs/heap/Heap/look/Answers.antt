@@ -1,4 +1,4 @@
-use Rattle.std.proofs.Common.{◌≡◌, length, ap, ◌∙◌, subst, arith}
+use Rattle.std.proofs.Common.{◌≡◌, ◌≤◌, length, ap, ◌∙◌, subst, arith}
 use Rattle.std.specs.Prelude.{slice_index}
 use Rattle.gc_graph.specs.Slots.{roots_of}
 use Rattle.gc_graph.specs.Machine.{view_of}
@@ -15,7 +15,7 @@ pub returns-clause-performs : goal.returns-clause-performs
 returns-clause-performs c =
     let h : HeapWords = c.args.self.now in
     let heap : IsHeap h = subst IsHeap c.self.view_is c.self.invariant in
-    let count : length h.roots ≡ roots_of h.mutators = heap.roots in
+    let count : roots_of h.mutators ≤ length h.roots = heap.roots in
     let read : c.index-word.result.now ≡ slice_index h.roots c.place.result = read_root h _ c.place.result _ (ap (λ (h : HeapWords). h.roots) c.self.view_is) (omega (arith, c.place.ensures.bound, c.requires)) c.index-word.ensures in
     record {
       step = looked h c.args.m (Look c.args.s) c.args.s c.place.result c.index-word.result.now c.view.result refl c.place.ensures.value read (c.view.ensures ∙ ap (λ (h : HeapWords). view_of (graph_in h).objects (value_of c.index-word.result.now)) c.self.view_is);

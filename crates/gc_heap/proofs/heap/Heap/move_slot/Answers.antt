@@ -1,4 +1,4 @@
-use Rattle.std.proofs.Common.{◌≡◌, length, ap, ◌∙◌, sym, subst, arith}
+use Rattle.std.proofs.Common.{◌≡◌, ◌≤◌, length, ap, ◌∙◌, sym, subst, arith}
 use Rattle.std.specs.Prelude.{slice_index}
 use Rattle.gc_graph.specs.Slots.{place, roots_of}
 use Rattle.gc_graph.specs.Graph.{root, set_root}
@@ -14,7 +14,7 @@ pub returns-clause-performs : goal.returns-clause-performs
 returns-clause-performs c =
     let h : HeapWords = c.args.self.now in
     let heap : IsHeap h = subst IsHeap c.self.view_is c.self.invariant in
-    let count : length h.roots ≡ roots_of h.mutators = heap.roots in
+    let count : roots_of h.mutators ≤ length h.roots = heap.roots in
     let read : c.index-word.result.now ≡ slice_index h.roots c.place.result = read_root h _ c.place.result _ (ap (λ (h : HeapWords). h.roots) c.self.view_is) (omega (arith, c.place.ensures.bound, c.requires)) c.index-word.ensures in
     let given : root (graph_in h) (place c.args.s c.args.m) ≡ value_of c.index-word.result.now = ap (root (graph_in h)) (sym c.place.ensures.value) ∙ at_root h c.place.result c.index-word.result.now read in
     took_root h c.set_at.new.self c.args.m (Move c.args.d c.args.s) c.place-2.result c.index-word.result.now (value_of c.index-word.result.now) c.set_at.result (λ none. none)

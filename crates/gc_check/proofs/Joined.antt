@@ -1,0 +1,220 @@
+-- The pairs found, in the order of their new addresses: they have a table of partners, and lead to no further pair.
+use Rattle.std.proofs.Common.{◌≡◌, ℕ, zero, suc, ◌<◌, ◌≤◌, ◌^◌, Bool, true, false, not, ◌&&◌, ◌||◌, ◌==◌, List, [], ◌∷◌, length, get_or, Option, Some, None, refl, sym, ◌∙◌, ap, subst, inl, inr, arith}
+use Rattle.std.specs.Prelude.{slice_index, IsTrue}
+use Rattle.std.specs.List.{All, AllPairs, list_any}
+use Rattle.std.proofs.lemmas.Bool.{eqb-true, eq-eqb, and_from, or_cases}
+use Rattle.std.proofs.lemmas.List.Elements.{length_all_zip}
+use Rattle.std.proofs.lemmas.List.Folds.{list_any_at}
+use Rattle.gc_graph.specs.Correspond.{paired}
+use Rattle.gc_words.specs.Word.{read_value, words_correspond}
+use Rattle.gc_words.specs.Image.{Image, Block, is_start, block_at}
+use Rattle.gc_words.specs.Certificate.{Certified}
+use Rattle.gc_words.specs.Fault.{at_place, shape_fault, table_fault, first_fault, AreComparable}
+use Rattle.gc_words.specs.declared.refusal.Refusal.{Refusal}
+use Rattle.gc_words.specs.declared.refusal.Refusal.TheVariants.{OldShape, NewShape}
+use Rattle.gc_words.proofs.Faults.{Later, none_or, none_when, places_hold, no_shape_fault}
+use Rattle.gc_words.specs.declared.image.Pair.{Pair}
+use Rattle.gc_check.specs.Infer.{is_taken, LeadsToPairs, ObjectsLeadToPairs, AreClosed, Certifiable, Decides}
+use Rattle.gc_check.specs.Internal.Tables.{HoldsPartners, HasTables}
+use Rattle.gc_check.specs.Internal.Meetings.{is_free, AllMet, BlocksMet, ObjectsMet, MetTo, HoldsFound, swapped, risen}
+use Rattle.gc_check.specs.Headline.{Replicated}
+use Rattle.gc_check.specs.Verdict.{pairs_of, verdict_by, verdict_of, IsRefusalOf}
+use Rattle.gc_check.specs.declared.verdict.Verdict.{Verdict}
+use Rattle.gc_check.specs.declared.meet.Found.{Found}
+use Rattle.gc_check.specs.declared.verdict.CheckFault.{CheckFault}
+use Rattle.gc_check.specs.declared.verdict.CheckFault.TheVariants.{Refused}
+use Rattle.gc_check.proofs.StartMarks.{low_start}
+use Rattle.gc_check.proofs.Forced.{place_of}
+use Rattle.gc_check.proofs.Inferred.{found_of_risen, risen_of_found, risen_rises, risen_length, held_here, met_here, refused_of_all}
+
+-- ---- addresses of pairs
+
+same_bools : (b c : Bool) → (b ≡ true → c ≡ true) → (c ≡ true → b ≡ true) → b ≡ c
+same_bools true c to from = sym (to refl)
+same_bools false true to from = from refl
+same_bools false false to from = refl
+
+first_of : (pairs : List (ℕ × ℕ)) (a b : ℕ) → paired pairs a b ≡ true → list_any (λ q. q.0 == a) pairs ≡ true
+first_of pairs a b e =
+    let k : (k : ℕ) × (k < length pairs) × ((d : ℕ × ℕ) → get_or pairs k d ≡ (a, b)) = place_of pairs a b e in
+    list_any_at (λ q. q.0 == a) pairs k.0 (a, b) k.1 (eq-eqb _ a (ap (λ (p : ℕ × ℕ). p.0) (k.2 (a, b))))
+
+second_of : (pairs : List (ℕ × ℕ)) (a b : ℕ) → paired pairs a b ≡ true → list_any (λ q. q.1 == b) pairs ≡ true
+second_of pairs a b e =
+    let k : (k : ℕ) × (k < length pairs) × ((d : ℕ × ℕ) → get_or pairs k d ≡ (a, b)) = place_of pairs a b e in
+    list_any_at (λ q. q.1 == b) pairs k.0 (a, b) k.1 (eq-eqb _ b (ap (λ (p : ℕ × ℕ). p.1) (k.2 (a, b))))
+
+or_first : (b c : Bool) → b ≡ true → (b || c) ≡ true
+or_first b c e = ap (λ b. b || c) e
+
+or_second : (b c : Bool) → c ≡ true → (b || c) ≡ true
+or_second true c e = refl
+or_second false c e = e
+
+pair_of_first : (pairs : List (ℕ × ℕ)) (a : ℕ) → list_any (λ q. q.0 == a) pairs ≡ true → (b : ℕ) × (paired pairs a b ≡ true)
+pair_of_first [] a e = absurd (let no : false ≡ true = e in cc)
+pair_of_first (p ∷ pairs) a e =
+    elim (or_cases (p.0 == a) (list_any (λ q. q.0 == a) pairs) e) [
+      | inl here ↦ (p.1, or_first _ (paired pairs a p.1) (and_from _ _ here (eq-eqb p.1 p.1 refl)))
+      | inr later ↦ (let found : (b : ℕ) × (paired pairs a b ≡ true) = pair_of_first pairs a later in (found.0, or_second ((p.0 == a) && (p.1 == found.0)) _ found.1))
+    ]
+
+pair_of_second : (pairs : List (ℕ × ℕ)) (b : ℕ) → list_any (λ q. q.1 == b) pairs ≡ true → (a : ℕ) × (paired pairs a b ≡ true)
+pair_of_second [] b e = absurd (let no : false ≡ true = e in cc)
+pair_of_second (p ∷ pairs) b e =
+    elim (or_cases (p.1 == b) (list_any (λ q. q.1 == b) pairs) e) [
+      | inl here ↦ (p.0, or_first _ (paired pairs p.0 b) (and_from _ _ (eq-eqb p.0 p.0 refl) here))
+      | inr later ↦ (let found : (a : ℕ) × (paired pairs a b ≡ true) = pair_of_second pairs b later in (found.0, or_second ((p.0 == found.0) && (p.1 == b)) _ found.1))
+    ]
+
+-- ---- the pairs found, and the same pairs in order
+
+module _ (old new : Image) (pairs : List (ℕ × ℕ)) (row partners : List ℕ) (held : HoldsPartners row (swapped pairs)) (table : HoldsPartners partners pairs)
+    (met : MetTo old new pairs (length pairs)) (low : (a : ℕ) → is_start old.words a ≡ true → 1 ≤ a) (new_low : (b : ℕ) → is_start new.words b ≡ true → 1 ≤ b) where
+  abbrev now : List (ℕ × ℕ)
+  now = risen 0 row
+
+  starts_at : (a b : ℕ) → paired pairs a b ≡ true → (is_start old.words a ≡ true) × (is_start new.words b ≡ true)
+  starts_at a b e =
+      let k : (k : ℕ) × (k < length pairs) × ((d : ℕ × ℕ) → get_or pairs k d ≡ (a, b)) = place_of pairs a b e in
+      subst (λ (p : ℕ × ℕ). (is_start old.words p.0 ≡ true) × (is_start new.words p.1 ≡ true)) (k.2 (a, b)) (met.starts k.0 (a, b) k.1)
+
+  to_now : (a b : ℕ) → paired pairs a b ≡ true → paired now a b ≡ true
+  to_now a b e = risen_of_found old new pairs row held a b (low a (starts_at a b e).0) e
+
+  from_now : (a b : ℕ) → paired now a b ≡ true → paired pairs a b ≡ true
+  from_now a b e =
+      let k : (k : ℕ) × (k < length now) × ((d : ℕ × ℕ) → get_or now k d ≡ (a, b)) = place_of now a b e in
+      subst (λ (p : ℕ × ℕ). paired pairs p.0 p.1 ≡ true) (k.2 (a, b)) (found_of_risen old new pairs row held k.0 (a, b) k.1)
+
+  same_pairs : (a b : ℕ) → paired pairs a b ≡ paired now a b
+  same_pairs a b = same_bools _ _ (to_now a b) (from_now a b)
+
+  same_firsts : (a : ℕ) → list_any (λ q. q.0 == a) pairs ≡ list_any (λ q. q.0 == a) now
+  same_firsts a = same_bools _ _
+      (λ e. let found : (b : ℕ) × (paired pairs a b ≡ true) = pair_of_first pairs a e in first_of now a found.0 (to_now a found.0 found.1))
+      (λ e. let found : (b : ℕ) × (paired now a b ≡ true) = pair_of_first now a e in first_of pairs a found.0 (from_now a found.0 found.1))
+
+  same_seconds : (b : ℕ) → list_any (λ q. q.1 == b) pairs ≡ list_any (λ q. q.1 == b) now
+  same_seconds b = same_bools _ _
+      (λ e. let found : (a : ℕ) × (paired pairs a b ≡ true) = pair_of_second pairs b e in second_of now found.0 b (to_now found.0 b found.1))
+      (λ e. let found : (a : ℕ) × (paired now a b ≡ true) = pair_of_second now b e in second_of pairs found.0 b (from_now found.0 b found.1))
+
+  -- ---- their table
+
+  one_partner : (a b c : ℕ) → paired pairs a b ≡ true → paired pairs a c ≡ true → b ≡ c
+  one_partner a b c e f =
+      let x : slice_index partners a ≡ b = eqb-true _ _ (table.pair a b (new_low b (starts_at a b e).1) ∙ e) in
+      let y : slice_index partners a ≡ c = eqb-true _ _ (table.pair a c (new_low c (starts_at a c f).1) ∙ f) in
+      sym x ∙ y
+
+  later : AllPairs Later now
+  later i j d h l =
+      let rise : (get_or now i d).1 < (get_or now j d).1 = risen_rises 0 row i j d h l in
+      let x : paired pairs (get_or now i d).0 (get_or now i d).1 ≡ true = found_of_risen old new pairs row held i d (omega arith) in
+      let y : paired pairs (get_or now j d).0 (get_or now j d).1 ≡ true = found_of_risen old new pairs row held j d l in
+      (λ same. let one : (get_or now i d).1 ≡ (get_or now j d).1 = one_partner (get_or now i d).0 (get_or now i d).1 (get_or now j d).1 x (subst (λ n. paired pairs n (get_or now j d).1 ≡ true) (sym same) y) in absurd (omega arith), rise)
+
+  join_starts : All (λ p. (is_start old.words p.0 ≡ true) × (is_start new.words p.1 ≡ true)) now
+  join_starts k d h = starts_at (get_or now k d).0 (get_or now k d).1 (found_of_risen old new pairs row held k d h)
+
+  placed : shape_fault old ≡ None → shape_fault new ≡ None → length old.roots ≡ length new.roots → table_fault old new now ≡ None
+  placed old_shaped new_shaped roots =
+      none_or _ _ (none_or _ _ (none_or _ _ (ap (λ o. at_place o (λ at. OldShape at)) old_shaped) (ap (λ o. at_place o (λ at. NewShape at)) new_shaped)) (none_when _ _ (ap not (eq-eqb _ _ roots))))
+      (places_hold old new now now [] 0 refl refl later join_starts)
+
+  pub tables_of_found : shape_fault old ≡ None → shape_fault new ≡ None → length old.roots ≡ length new.roots → length now < 2 ^ 32 → HasTables (record { old = old; new = new; pairs = now }) partners
+  tables_of_found old_shaped new_shaped roots few = record {
+    few = few;
+    placed = placed old_shaped new_shaped roots;
+    partners = record { pair = λ a b one. table.pair a b one ∙ same_pairs a b; taken = λ a. table.taken a ∙ same_firsts a };
+  }
+
+  -- ---- they are closed
+
+  one_is_taken : (s t x y : Bool) → s ≡ true → t ≡ true → (s && t && not x && not y) ≡ false → (x || y) ≡ true
+  one_is_taken s t true y e f g = refl
+  one_is_taken s t false true e f g = refl
+  one_is_taken s t false false e f g = absurd (let no : true ≡ false = sym (λ i. e i && f i && true && true) ∙ g in cc)
+
+  taken_now : (a b : ℕ) → is_start old.words a ≡ true → is_start new.words b ≡ true → is_free old new pairs a b ≡ false → is_taken now a b ≡ true
+  taken_now a b s t taken =
+      one_is_taken (is_start old.words a) (is_start new.words b) (list_any (λ q. q.0 == a) now) (list_any (λ q. q.1 == b) now) s t
+      ((λ i. is_start old.words a && is_start new.words b && not (sym (same_firsts a) i) && not (sym (same_seconds b) i)) ∙ taken)
+
+  lead : (vs ws : List ℕ) → AllMet old new pairs vs ws → LeadsToPairs old new now vs ws
+  lead [] ws m i v w e f = absurd (let no : None ≡ Some v = e in cc)
+  lead (x ∷ vs) [] m i v w e f = absurd (let no : None ≡ Some w = f in cc)
+  lead (x ∷ vs) (y ∷ ws) m zero v w e f =
+      let v_is : x ≡ v = (let same : Some x ≡ Some v = e in cc) in
+      let w_is : y ≡ w = (let same : Some y ≡ Some w = f in cc) in
+      λ a b g h s t. taken_now a b s t (m.0 a b (ap read_value v_is ∙ g) (ap read_value w_is ∙ h))
+  lead (x ∷ vs) (y ∷ ws) m (suc i) v w e f = lead vs ws m.1 i v w e f
+
+  objects_lead : (o q : Option Block) → BlocksMet old new pairs o q → ObjectsLeadToPairs old new now o q
+  objects_lead (Some a) (Some b) m = λ same raw. lead a.fields b.fields (m same raw)
+  objects_lead (Some a) None m = tt
+  objects_lead None q m = tt
+
+  pub found_are_closed : AreClosed old new now
+  found_are_closed = record {
+    roots = lead old.roots new.roots met.roots;
+    objects = λ k d h.
+        let p : ℕ × ℕ = get_or now k d in
+        let j : (j : ℕ) × (j < length pairs) × ((d : ℕ × ℕ) → get_or pairs j d ≡ (p.0, p.1)) = place_of pairs p.0 p.1 (found_of_risen old new pairs row held k d h) in
+        objects_lead (block_at old.words p.0) (block_at new.words p.1) (subst (λ (p : ℕ × ℕ). ObjectsMet old new pairs p) (j.2 (0, 0)) (met.objects j.0 j.1 j.1));
+  }
+
+-- ---- answers
+
+module _ (old new old_seen new_seen : Image) (found : Found) (cert : List Pair) (old_is : old_seen ≡ old) (new_is : new_seen ≡ new)
+    (held : HoldsFound old_seen new_seen found) (met : MetTo old_seen new_seen (pairs_of found.pairs.items) (length found.pairs.items)) (rise : pairs_of cert ≡ risen 0 found.originals.items) where
+  here : HoldsFound old new found
+  here = held_here old new old_seen new_seen found cert old_is new_is held met rise
+
+  all_met : MetTo old new (pairs_of found.pairs.items) (length (pairs_of found.pairs.items))
+  all_met = met_here old new old_seen new_seen found cert old_is new_is held met rise
+
+  old_low : (a : ℕ) → is_start old.words a ≡ true → 1 ≤ a
+  old_low a start = low_start old.words a here.old_walked start
+
+  new_low : (b : ℕ) → is_start new.words b ≡ true → 1 ≤ b
+  new_low b start = low_start new.words b here.new_walked start
+
+  pub pairs_have_tables : shape_fault old ≡ None → shape_fault new ≡ None → length old.roots ≡ length new.roots → length found.originals.items < 2 ^ 32 → HasTables (record { old = old; new = new; pairs = pairs_of cert }) found.partners.items
+  pairs_have_tables old_shaped new_shaped roots few =
+      let most : length (risen 0 found.originals.items) ≤ length found.originals.items = risen_length 0 found.originals.items in
+      subst (λ pairs. HasTables (record { old = old; new = new; pairs = pairs }) found.partners.items) (sym rise)
+      (tables_of_found old new (pairs_of found.pairs.items) found.originals.items found.partners.items here.originals here.partners all_met old_low new_low old_shaped new_shaped roots (omega (arith, most, few)))
+
+  pub pairs_are_closed : AreClosed old new (pairs_of cert)
+  pairs_are_closed = subst (AreClosed old new) (sym rise)
+      (found_are_closed old new (pairs_of found.pairs.items) found.originals.items found.partners.items here.originals here.partners all_met old_low new_low)
+
+-- ---- images that cannot be compared
+
+pub comparable : (old new : Image) → Certifiable old new → AreComparable old new
+comparable old new some = record { old_shaped = some.1.old_shaped; new_shaped = some.1.new_shaped; roots = same_length }
+  where
+    same_length : length old.roots ≡ length new.roots
+    same_length = length_all_zip (λ v w. IsTrue (words_correspond some.0 v w)) old.roots new.roots some.1.roots
+
+no_refusal : (o : Option ℕ) (place : ℕ → Refusal) (fault : CheckFault) (refusal : Refusal) → o ≡ None → IsRefusalOf (at_place o place) fault → fault ≡ Refused refusal → ⊥
+no_refusal o place fault refusal none is same =
+    let there : at_place o place ≡ Some refusal = subst (IsRefusalOf (at_place o place)) same is in
+    let no : None ≡ Some refusal = sym (ap (λ o. at_place o place) none) ∙ there in cc
+
+pub old_is_shaped : (old new : Image) (fault : CheckFault) (refusal : Refusal) → IsRefusalOf (at_place (shape_fault old) (λ at. OldShape at)) fault → fault ≡ Refused refusal → AreComparable old new → ⊥
+old_is_shaped old new fault refusal is same both = no_refusal (shape_fault old) (λ at. OldShape at) fault refusal (no_shape_fault old both.old_shaped) is same
+
+pub new_is_shaped : (old new : Image) (fault : CheckFault) (refusal : Refusal) → IsRefusalOf (at_place (shape_fault new) (λ at. NewShape at)) fault → fault ≡ Refused refusal → AreComparable old new → ⊥
+new_is_shaped old new fault refusal is same both = no_refusal (shape_fault new) (λ at. NewShape at) fault refusal (no_shape_fault new both.new_shaped) is same
+
+-- the verdict on pairs that hold if any do
+pub decided : (old new : Image) (pairs : List (ℕ × ℕ)) (verdict : Verdict) → verdict ≡ verdict_of old new pairs → (Certifiable old new → Certified old new pairs) → (first_fault old new pairs ≡ None → Certified old new pairs)
+    → (Certified old new pairs → Replicated old new pairs) → Decides verdict old new pairs
+decided old new pairs verdict is complete certified replicated = subst (λ verdict. Decides verdict old new pairs) (sym is) (by_fault (first_fault old new pairs) refl)
+  where
+    by_fault : (first : Option Refusal) → first_fault old new pairs ≡ first → Decides (verdict_by (length pairs) first) old new pairs
+    by_fault None e = (certified e, replicated (certified e))
+    by_fault (Some refusal) e = refused_of_all old new pairs refusal complete e

@@ -1,0 +1,54 @@
+use Rattle.std.proofs.Common.{rules, ◌≡◌, ◌<◌, ◌^◌, ◌∙◌, ap, [], length}
+use Rattle.gc_words.specs.Fault.{shape_fault}
+use Rattle.gc_words.specs.Views.{image_of}
+use Rattle.gc_check.specs.Internal.Meetings.{risen}
+use Rattle.gc_check.specs.declared.verdict.CheckFault.TheVariants as fault
+use Rattle.gc_check.proofs.Placements.{old_refused, new_refused}
+use Rattle.gc_check.proofs.Inferred.{pairs_are_forced, pairs_together, pairs_hold}
+use Rattle.gc_check.proofs.Joined.{pairs_have_tables, pairs_are_closed, old_is_shaped, new_is_shaped}
+use Rattle.gc_check.proofs.inference.infer_with_table.Goals as goal
+
+pub returns-in-Err-clause-refused : goal.returns-in-Err-clause-refused
+returns-in-Err-clause-refused c =
+    old_refused (image_of c.args.old) (image_of c.args.new) [] c.of_old.result (c.of_old.ensures (shape_fault (image_of c.args.old)) c.in-Err.ensures)
+
+pub returns-in-Err-clause-impossible : goal.returns-in-Err-clause-impossible
+returns-in-Err-clause-impossible c = λ refusal same.
+    let is : c.of_old.result ≡ fault.Refused refusal = cc in
+    old_is_shaped (image_of c.args.old) (image_of c.args.new) c.of_old.result refusal (c.of_old.ensures (shape_fault (image_of c.args.old)) c.in-Err.ensures) is
+
+pub returns-in-Err-new-clause-refused : goal.returns-in-Err-new-clause-refused
+returns-in-Err-new-clause-refused c =
+    new_refused (image_of c.args.old) (image_of c.args.new) [] c.of_new.result c.in-Ok.ensures.0 (c.of_new.ensures (shape_fault (image_of c.args.new)) c.in-Err-new.ensures)
+
+pub returns-in-Err-new-clause-impossible : goal.returns-in-Err-new-clause-impossible
+returns-in-Err-new-clause-impossible c = λ refusal same.
+    let is : c.of_new.result ≡ fault.Refused refusal = cc in
+    new_is_shaped (image_of c.args.old) (image_of c.args.new) c.of_new.result refusal (c.of_new.ensures (shape_fault (image_of c.args.new)) c.in-Err-new.ensures) is
+
+pub returns-clause-forced : goal.returns-clause-forced
+returns-clause-forced c =
+    pairs_are_forced (image_of c.args.old) (image_of c.args.new) c.in-Ok.starts c.in-Ok-new.starts c.in_ok-found.found c.enter_rising.new.pairs.items c.in-Ok.ensures.1 c.in-Ok-new.ensures.1
+    c.in_ok-found.ensures.held c.in_ok-found.ensures.met (c.enter_rising.ensures.pairs ∙ ap (risen 0) c.as_slice.ensures.value)
+
+pub returns-clause-together : goal.returns-clause-together
+returns-clause-together c =
+    pairs_together (image_of c.args.old) (image_of c.args.new) c.in-Ok.starts c.in-Ok-new.starts c.in_ok-found.found c.enter_rising.new.pairs.items c.in-Ok.ensures.1 c.in-Ok-new.ensures.1
+    c.in_ok-found.ensures.held c.in_ok-found.ensures.met (c.enter_rising.ensures.pairs ∙ ap (risen 0) c.as_slice.ensures.value)
+
+pub returns-clause-closed : goal.returns-clause-closed
+returns-clause-closed c =
+    pairs_are_closed (image_of c.args.old) (image_of c.args.new) c.in-Ok.starts c.in-Ok-new.starts c.in_ok-found.found c.enter_rising.new.pairs.items c.in-Ok.ensures.1 c.in-Ok-new.ensures.1
+    c.in_ok-found.ensures.held c.in_ok-found.ensures.met (c.enter_rising.ensures.pairs ∙ ap (risen 0) c.as_slice.ensures.value)
+
+pub returns-clause-complete : goal.returns-clause-complete
+returns-clause-complete c =
+    pairs_hold (image_of c.args.old) (image_of c.args.new) c.in-Ok.starts c.in-Ok-new.starts c.in_ok-found.found c.enter_rising.new.pairs.items c.in-Ok.ensures.1 c.in-Ok-new.ensures.1
+    c.in_ok-found.ensures.held c.in_ok-found.ensures.met (c.enter_rising.ensures.pairs ∙ ap (risen 0) c.as_slice.ensures.value)
+
+pub returns-clause-table : goal.returns-clause-table
+returns-clause-table c =
+    let roots : length c.args.old.roots.now ≡ length c.args.new.roots.now = search rules in
+    let few : length c.in_ok-found.found.originals.items < 2 ^ 32 = search rules in
+    pairs_have_tables (image_of c.args.old) (image_of c.args.new) c.in-Ok.starts c.in-Ok-new.starts c.in_ok-found.found c.enter_rising.new.pairs.items c.in-Ok.ensures.1 c.in-Ok-new.ensures.1
+    c.in_ok-found.ensures.held c.in_ok-found.ensures.met (c.enter_rising.ensures.pairs ∙ ap (risen 0) c.as_slice.ensures.value) c.in-Ok.ensures.0 c.in-Ok-new.ensures.0 roots few

@@ -1,0 +1,32 @@
+use Rattle.std.proofs.Common.{rules, ◌<◌, ◌≤◌, suc, length, arith}
+use Rattle.gc_check.proofs.Breadth.{one_more_visit, near_next, low_count}
+use Rattle.gc_check.proofs.visits.visit_nodes.Goals as goal
+
+pub overflow_cast-done : goal.overflow_cast-done
+overflow_cast-done c =
+    let few : length c.loop-done.visits.list.items ≤ suc (length c.args.starts.now.words) = low_count c.args.starts.now c.loop-done.visits c.loop-done.invariant.held in
+    let inside : c.loop-done.done < length c.loop-done.visits.list.items = search rules in
+    omega (arith, few, inside, c.requires.held.few)
+
+pub loop-done-smaller : goal.loop-done-smaller
+loop-done-smaller c =
+    let few : length c.loop-done.visits.list.items ≤ suc (length c.args.starts.now.words) = low_count c.args.starts.now c.loop-done.visits c.loop-done.invariant.held in
+    let inside : c.loop-done.done < length c.loop-done.visits.list.items = search rules in
+    omega (arith, few, inside)
+
+pub loop-done-preserved : goal.loop-done-preserved
+loop-done-preserved c =
+    let image = c.args.starts.now in
+    let before = c.loop-done.visits.list.items in
+    let after = c.visit_references.new.visits.list.items in
+    let inside : c.loop-done.done < length before = search rules in
+    record {
+      held = c.visit_references.ensures.held;
+      near = near_next image before after c.loop-done.done inside c.visit_references.ensures.held.list c.visit_references.ensures.kept c.visit_references.ensures.near;
+      visited = one_more_visit image before after c.loop-done.done inside c.visit_references.ensures.kept c.loop-done.invariant.visited c.visit_references.ensures.visited;
+    }
+
+pub returns-clause-all : goal.returns-clause-all
+returns-clause-all c = λ k some inside.
+    let past : length c.loop-done.visits.list.items ≤ c.loop-done.done = search rules in
+    c.loop-done.invariant.visited k some (omega (arith, inside, past)) inside

@@ -1,0 +1,23 @@
+use Rattle.std.proofs.Common.{rules, ◌≡◌, ◌≤◌, ◌∷◌, [], suc, length, replicate, arith}
+use Rattle.std.specs.Prelude.{vec_capacity}
+use Rattle.gc_check.specs.Internal.Starts.{starts_from}
+use Rattle.gc_check.specs.Internal.Visits.{roots_visit}
+use Rattle.gc_check.proofs.Breadth.{begun, few_starts, low_count}
+use Rattle.gc_check.proofs.visits.visit_reachable.Goals as goal
+
+pub overflow_add-count : goal.overflow_add-count
+overflow_add-count c =
+    let few : starts_from c.args.starts.now.words 0 (length c.args.starts.now.words) ≤ length c.args.starts.now.words = few_starts c.args.starts.now.words 0 (length c.args.starts.now.words) in
+    omega (arith, few, c.requires.few, c.count.ensures)
+
+pub visit_nodes-requires-clause-held : goal.visit_nodes-requires-clause-held
+visit_nodes-requires-clause-held c =
+    let one : c.push_reserved.new.self.items ≡ roots_visit ∷ [] = search rules in
+    let none : c.in_ok-numbers.numbers.items ≡ replicate (length c.args.starts.now.words) 0 = search rules in
+    let room : suc (starts_from c.args.starts.now.words 0 (length c.args.starts.now.words)) ≤ vec_capacity c.push_reserved.new.self = search rules in
+    begun c.args.starts.now (record { list = c.push_reserved.new.self; numbers = c.in_ok-numbers.numbers }) c.requires.walked c.requires.few one none room
+
+pub returns-clause-few : goal.returns-clause-few
+returns-clause-few c =
+    let few : length c.visit_nodes.new.visits.list.items ≤ suc (length c.args.starts.now.words) = low_count c.args.starts.now c.visit_nodes.new.visits c.visit_nodes.ensures.held in
+    omega (arith, few, c.requires.few)

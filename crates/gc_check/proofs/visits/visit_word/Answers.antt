@@ -1,0 +1,32 @@
+use Rattle.std.proofs.Common.{rules, ◌≡◌, ◌<◌, ◌^◌, length, Some, None, true, arith, sym, ◌∙◌, ◌+◌, ap, subst, suc}
+use Rattle.gc_words.specs.Image.{is_start}
+use Rattle.gc_check.specs.Internal.Visits.{Visited, visit_at}
+use Rattle.gc_check.specs.declared.visits.Visit.{Visit}
+use Rattle.gc_check.proofs.StartMarks.{start_within}
+use Rattle.gc_check.proofs.Breadth.{read_visit}
+use Rattle.gc_check.proofs.visits.visit_word.Goals as goal
+
+pub returns-in_default-clause-visited : goal.returns-in_default-clause-visited
+returns-in_default-clause-visited c = λ a refers start.
+    let none : c.reference_at.result ≡ None = search rules in
+    let inside : a < length c.args.starts.now.words = start_within c.args.starts.now.words a c.requires.held.walked start in
+    let low : a < 2 ^ 32 = omega (arith, inside, c.requires.held.few) in
+    absurd (let no : None ≡ Some a = sym none ∙ (c.reference_at.ensures a low).1 ((c.requires.words c.args.i a).0 refers) in cc)
+
+pub visit_object-requires-clause-refers : goal.visit_object-requires-clause-refers
+visit_object-requires-clause-refers c =
+    let low : c.in-Some.address < 2 ^ 32 = search rules in
+    (c.requires.words c.args.i c.in-Some.address).1 ((c.reference_at.ensures c.in-Some.address low).0 c.in-Some.is)
+
+pub returns-clause-visited : goal.returns-clause-visited
+returns-clause-visited c = λ a refers start.
+    let inside : a < length c.args.starts.now.words = start_within c.args.starts.now.words a c.requires.held.walked start in
+    let low : a < 2 ^ 32 = omega (arith, inside, c.requires.held.few) in
+    let there : c.reference_at.result ≡ Some a = (c.reference_at.ensures a low).1 ((c.requires.words c.args.i a).0 refers) in
+    let same : c.in-Some.address ≡ a = (let both : Some c.in-Some.address ≡ Some a = sym c.in-Some.is ∙ there in cc) in
+    let list = c.args.visits.now.list.items in
+    let read : (visit_at list c.args.from).depth ≡ c.index.result.now.depth = ap (λ (v : Visit). v.depth) (read_visit list c.args.from c.index.result.now c.requires.from c.index.ensures) in
+    let deep : c.index.result.now.depth + 1 ≡ suc (visit_at list c.args.from).depth = omega (arith, read) in
+    let visited : Visited c.visit_object.new.visits.list.items c.in-Some.address (c.index.result.now.depth + 1)
+    = c.visit_object.ensures.visited (subst (λ a. is_start c.args.starts.now.words a ≡ true) (sym same) start) in
+    subst (λ a. Visited c.visit_object.new.visits.list.items a (suc (visit_at list c.args.from).depth)) same (subst (Visited c.visit_object.new.visits.list.items c.in-Some.address) deep visited)

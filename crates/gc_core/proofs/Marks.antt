@@ -1,0 +1,351 @@
+-- What commands and steps leave of the marks of a collected heap.
+use Rattle.std.proofs.Common.{◌≡◌, ◌≢◌, ⊎_elim, ℕ, zero, suc, ◌+◌, ◌-◌, ◌<◌, ◌≤◌, nat_lt, List, [], ◌∷◌, length, slice_get, replicate, Option, Some, None, refl, sym, ap, ◌∙◌, subst, arith}
+use Rattle.std.specs.Prelude.{IfSome, slice_set, min, max}
+use Rattle.std.specs.Option.{option_map}
+use Rattle.std.proofs.lemmas.Bool.{cond_both, cond-true, cond-false, cases_lt, cases_eq, lt-ltb, le-ltb, ltb-true}
+use Rattle.gc_graph.specs.Slots.{SlotName, place, roots_of}
+use Rattle.gc_graph.specs.Graph.{Value, Nil, Ref, lookup, root, value_or_nil, set_root}
+use Rattle.gc_graph.specs.Machine.{Roomy}
+use Rattle.gc_heap.specs.ExtraRoots.{extra_slot}
+use Rattle.gc_heap.specs.declared.options.HeapOptions.{HeapOptions}
+use Rattle.gc_heap.proofs.ExtraRoots.{extra_place}
+use Rattle.gc_core.specs.ExtraRoots.{clear_step}
+use Rattle.std.proofs.lemmas.List.{length-replicate}
+use Rattle.gc_graph.specs.declared.command.Op.{Op}
+use Rattle.gc_graph.specs.declared.command.Op.TheVariants as ops
+use Rattle.gc_graph.specs.declared.reply.Reply.{Reply}
+use Rattle.gc_graph.specs.declared.reply.Reply.TheVariants as replies
+use Rattle.gc_copy.specs.State.{Collection, State, opening_state_with}
+use Rattle.gc_copy.specs.Staying.{HasReplicaOf, KnowsRoot, root_written}
+use Rattle.gc_copy.specs.Steps.{mutate, collect, collect_with, with_collection, root_target, copy_root, place_replica, if_room}
+use Rattle.gc_copy.specs.declared.step.Step.{Step}
+use Rattle.gc_copy.specs.declared.step.Step.TheVariants as steps
+use Rattle.gc_copy.specs.declared.step.StepReply.{StepReply}
+use Rattle.gc_copy.specs.declared.step.StepReply.TheVariants.{Clean, NoRoom, Copied}
+use Rattle.gc_copy.specs.declared.collection.roots.MissingRoot.{MissingRoot}
+use Rattle.gc_copy.proofs.OpenCollection.{placed_has}
+use Rattle.gc_copy.proofs.Steps.{steps_stay}
+use Rattle.gc_copy.proofs.RootsStay.{collect_stays, mutate_stays, root_kept, roots_counted, flip_nil, flip_count}
+use Rattle.gc_core.specs.CollectedHeap.{fill_step, filled, new_from_step}
+use Rattle.gc_core.specs.Internal.KnownRoots.{KnowsRoots, FindsFirst, next_place}
+use Rattle.gc_core.specs.declared.known.KnownRoots.{KnownRoots}
+
+-- ---- commands
+
+-- the command writes no root at this place or after it
+abbrev pub WritesBelow : ℕ → ℕ → Op → Type 0
+WritesBelow end m op = (q : ℕ) → root_written m op ≡ Some q → q < end
+
+-- a slot's place is below that of the first extra root
+pub slot_below : (d : SlotName) (m mutators : ℕ) → d.index < 16 → m < mutators → place d m < roots_of mutators
+slot_below d m mutators low less = cond_both d.shared _ _ (λ (p : ℕ). p < roots_of mutators) (λ t. omega (arith, low)) (λ t. omega (arith, low, less))
+
+pub one_below : (p q end : ℕ) → p < end → Some p ≡ Some q → q < end
+one_below p q end less e = let same : p ≡ q = cc e in omega (arith, same, less)
+
+not_this : (end m : ℕ) (op : Op) (p : ℕ) → WritesBelow end m op → end ≤ p → root_written m op ≢ Some p
+not_this end m op p below le e = let less = below p e in absurd (omega (arith, less, le))
+
+-- a command that writes at most a slot
+pub slot_command : (known : KnownRoots) (s : State) (m : ℕ) (op : Op) → WritesBelow (roots_of s.mutators) m op → KnowsRoots known s
+    → KnowsRoots (record { slots = 0; extra = known.extra; used = known.used }) (mutate s m op).1
+slot_command known s m op below k = record {
+  slots_high = omega arith;
+  extra_high = k.extra_high;
+  used_high = omega (arith, roots_counted s m op, k.used_high);
+  slots = λ p less. absurd (omega (arith, less));
+  extra = λ i less. mutate_stays s m op (roots_of s.mutators + i) (not_this (roots_of s.mutators) m op (roots_of s.mutators + i) below (omega arith)) (k.extra i less);
+  unused = λ i le. root_kept s m op (roots_of s.mutators + i) (not_this (roots_of s.mutators) m op (roots_of s.mutators + i) below (omega arith)) ∙ k.unused i le;
+}
+
+-- a command that writes no root
+pub quiet_command : (known : KnownRoots) (s : State) (m : ℕ) (op : Op) → root_written m op ≡ None → KnowsRoots known s → KnowsRoots known (mutate s m op).1
+quiet_command known s m op none k = record {
+  slots_high = k.slots_high;
+  extra_high = k.extra_high;
+  used_high = omega (arith, roots_counted s m op, k.used_high);
+  slots = λ p less. mutate_stays s m op p (other p) (k.slots p less);
+  extra = λ i less. mutate_stays s m op (roots_of s.mutators + i) (other (roots_of s.mutators + i)) (k.extra i less);
+  unused = λ i le. root_kept s m op (roots_of s.mutators + i) (other (roots_of s.mutators + i)) ∙ k.unused i le;
+}
+  where
+    other : (p : ℕ) → root_written m op ≢ Some p
+    other p e = absurd (let no : None ≡ Some p = sym none ∙ e in cc)
+
+-- a command that writes extra root i
+pub stored_command : (known : KnownRoots) (s : State) (m i : ℕ) (op : Op) → root_written m op ≡ Some (roots_of s.mutators + i) → roots_of s.mutators + i < length s.heap.graph.roots → KnowsRoots known s
+    → KnowsRoots (record { slots = known.slots; extra = min known.extra i; used = max known.used (i + 1) }) (mutate s m op).1
+stored_command known s m i op at within k = record {
+  slots_high = k.slots_high;
+  extra_high = omega (arith, k.extra_high);
+  used_high = omega (arith, roots_counted s m op, k.used_high, within);
+  slots = λ p less. mutate_stays s m op p (other p (omega (arith, less, k.slots_high))) (k.slots p less);
+  extra = λ j less. mutate_stays s m op (roots_of s.mutators + j) (other (roots_of s.mutators + j) (omega (arith, less))) (k.extra j (omega (arith, less)));
+  unused = λ j le. root_kept s m op (roots_of s.mutators + j) (other (roots_of s.mutators + j) (omega (arith, le))) ∙ k.unused j (omega (arith, le));
+}
+  where
+    other : (p : ℕ) → p ≢ roots_of s.mutators + i → root_written m op ≢ Some p
+    other p differ e = let same : roots_of s.mutators + i ≡ p = cc (sym at ∙ e) in differ (sym same)
+
+-- ---- nil
+
+set_nil : (vs : List Value) (q : ℕ) → value_or_nil (slice_get (slice_set vs q Nil) q) ≡ Nil
+set_nil [] q = refl
+set_nil (v ∷ vs) zero = refl
+set_nil (v ∷ vs) (suc q) = set_nil vs q
+
+-- ---- steps
+
+pub step_knows : (known : KnownRoots) (s : State) (c : Collection) (step : Step) → s.collection ≡ Some c → step ≢ steps.Flip → KnowsRoots known s → KnowsRoots known (collect s step).1
+step_knows known s c step is other k =
+    let stays : (collect s step).1 ≡ with_collection s (collect s step).1.collection = steps_stay s step other in
+    subst (KnowsRoots known) (sym stays) (record {
+      slots_high = k.slots_high;
+      extra_high = k.extra_high;
+      used_high = k.used_high;
+      slots = λ p less. subst (λ (t : State). KnowsRoot t p) stays (collect_stays p s c step is (k.slots p less));
+      extra = λ i less. subst (λ (t : State). KnowsRoot t (roots_of s.mutators + i)) stays (collect_stays (roots_of s.mutators + i) s c step is (k.extra i less));
+      unused = k.unused;
+    })
+
+-- ---- searches
+
+module _ (known : KnownRoots) (s : State) (c : Collection) (is : s.collection ≡ Some c) (k : KnowsRoots known s) where
+  abbrev Has : ℕ → Type 0
+  Has p = HasReplicaOf c (root s.heap.graph p)
+
+  has : (p : ℕ) → KnowsRoot s p → Has p
+  has p h = subst (λ o. IfSome o (λ d. HasReplicaOf d (root s.heap.graph p))) is h
+
+  knows : (p : ℕ) → Has p → KnowsRoot s p
+  knows p h = subst (λ o. IfSome o (λ d. HasReplicaOf d (root s.heap.graph p))) (sym is) h
+
+  -- the slots: those that are known, and those that were searched
+  pub slots_have : (end : ℕ) → ((p : ℕ) → known.slots ≤ p → p < end → Has p) → (p : ℕ) → p < end → Has p
+  slots_have end searched p less = ⊎_elim (λ l. has p (k.slots p l)) (λ l. searched p l less) (cases_lt p known.slots)
+
+  pub extra_have : (end : ℕ) → ((p : ℕ) → p < roots_of s.mutators → Has p) → ((p : ℕ) → roots_of s.mutators + known.extra ≤ p → p < end → Has p) → (p : ℕ) → p < end → Has p
+  extra_have end slots searched p less = ⊎_elim
+      (λ l. slots p l)
+      (λ l. ⊎_elim
+      (λ m. (let i : (i : ℕ) × (p ≡ roots_of s.mutators + i) = split p l in
+      subst Has (sym i.1) (has (roots_of s.mutators + i.0) (k.extra i.0 (let e = i.1 in omega (arith, e, m))))))
+      (λ m. searched p m less)
+      (cases_lt p (roots_of s.mutators + known.extra)))
+      (cases_lt p (roots_of s.mutators))
+    where
+      split : (p : ℕ) → roots_of s.mutators ≤ p → (i : ℕ) × (p ≡ roots_of s.mutators + i)
+      split p le = (p - roots_of s.mutators, omega (arith, le))
+
+  -- and the extra roots that are not in use, which are nil
+  pub all_have : ((p : ℕ) → p < roots_of s.mutators + known.used → Has p) → (p : ℕ) → Has p
+  all_have searched p = ⊎_elim
+      (λ l. searched p l)
+      (λ l. subst Has (rest p l).1 (subst (HasReplicaOf c) (sym (k.unused (rest p l).0 (rest p l).2)) tt))
+      (cases_lt p (roots_of s.mutators + known.used))
+    where
+      rest : (p : ℕ) → roots_of s.mutators + known.used ≤ p → (i : ℕ) × (roots_of s.mutators + i ≡ p) × (known.used ≤ i)
+      rest p le = (p - roots_of s.mutators, omega (arith, le), omega (arith, le))
+
+-- after a root's target was replicated it has a replica
+copied_has : (s next : State) (c : Collection) (name p : ℕ) → root s.heap.graph p ≡ Ref name → copy_root s c (Some name) ≡ (Copied, next) → KnowsRoot next p
+copied_has s next c name p at e = go (place_replica c name (lookup s.heap.graph.objects name)) refl e
+  where
+    go : (o : Option Collection) → place_replica c name (lookup s.heap.graph.objects name) ≡ o → if_room s Copied o ≡ (Copied, next) → KnowsRoot next p
+    go None is e = absurd (let no : NoRoom ≡ Copied = ap (λ (x : StepReply × State). x.0) e in cc)
+    go (Some d) is e = subst (λ (t : State). KnowsRoot t p) (ap (λ (x : StepReply × State). x.1) e) (subst (HasReplicaOf d) (sym at) (placed_has c d name (lookup s.heap.graph.objects name) is))
+
+pub copied_knows : (known : KnownRoots) (s next : State) (c : Collection) (found : Option MissingRoot) → s.collection ≡ Some c → option_map (λ (r : MissingRoot). r.target.0) found ≡ root_target c s.heap.graph
+    → IfSome found (FindsFirst known s) → collect s steps.Roots ≡ (Copied, next) → KnowsRoot next (next_place (roots_of s.mutators) known)
+copied_knows known s next c found is first finds e = go found first finds (sym (ap (λ o. collect_with s o steps.Roots) is) ∙ e)
+  where
+    go : (o : Option MissingRoot) → option_map (λ (r : MissingRoot). r.target.0) o ≡ root_target c s.heap.graph → IfSome o (FindsFirst known s) → copy_root s c (root_target c s.heap.graph) ≡ (Copied, next) → KnowsRoot next (next_place (roots_of s.mutators) known)
+    go None first finds e = absurd (let no : Clean ≡ Copied = ap (λ (x : StepReply × State). x.0) (ap (copy_root s c) first ∙ e) in cc)
+    go (Some r) first finds e = subst (KnowsRoot next) finds.next (copied_has s next c r.target.0 r.place finds.target (ap (copy_root s c) first ∙ e))
+
+-- ---- commands that fill fields
+
+fill_knows : (known : KnownRoots) (s : State) (m : ℕ) (d : SlotName) (i : ℕ) (fields : List SlotName) → KnowsRoots known s → KnowsRoots known (fill_step s m d i fields)
+fill_knows known s m d i [] k = k
+fill_knows known s m d i (t ∷ rest) k = fill_knows known (mutate s m (ops.Put d i t)).1 m d (suc i) rest (quiet_command known s m (ops.Put d i t) refl k)
+
+filled_knows : (known : KnownRoots) (reply : Reply) (made : State) (m : ℕ) (d : SlotName) (fields : List SlotName) → KnowsRoots known made → KnowsRoots known (filled reply made m d fields)
+filled_knows known replies.Full made m d fields k = k
+filled_knows known replies.Made made m d fields k = fill_knows known made m d 0 fields k
+filled_knows known replies.Done made m d fields k = fill_knows known made m d 0 fields k
+filled_knows known replies.NoObject made m d fields k = fill_knows known made m d 0 fields k
+filled_knows known replies.NoField made m d fields k = fill_knows known made m d 0 fields k
+filled_knows known replies.NoNumber made m d fields k = fill_knows known made m d 0 fields k
+filled_knows known (replies.Saw view) made m d fields k = fill_knows known made m d 0 fields k
+filled_knows known replies.Yes made m d fields k = fill_knows known made m d 0 fields k
+filled_knows known replies.No made m d fields k = fill_knows known made m d 0 fields k
+
+pub from_knows : (known : KnownRoots) (s new : State) (m kind : ℕ) (d : SlotName) (fields : List SlotName) (reply : Reply) → d.index < 16 → m < s.mutators → new_from_step s m d kind fields ≡ (reply, new) → KnowsRoots known s
+    → KnowsRoots (record { slots = 0; extra = known.extra; used = known.used }) new
+from_knows known s new m kind d fields reply low less steps k =
+    let op = ops.New d kind (length fields) in
+    let after : KnownRoots = record { slots = 0; extra = known.extra; used = known.used } in
+    let below : WritesBelow (roots_of s.mutators) m op = λ q. one_below (place d m) q (roots_of s.mutators) (slot_below d m s.mutators low less) in
+    subst (KnowsRoots after) (ap (λ (x : Reply × State). x.1) steps)
+    (filled_knows after (mutate s m op).0 (mutate s m op).1 m d fields (slot_command known s m op below k))
+
+pub number_knows : (known : KnownRoots) (s one new : State) (m i n : ℕ) (d t : SlotName) (first reply : Reply) → t.index < 16 → m < s.mutators → mutate s m (ops.Num t n) ≡ (first, one) → mutate one m (ops.Put d i t) ≡ (reply, new) → KnowsRoots known s
+    → KnowsRoots (record { slots = 0; extra = known.extra; used = known.used }) new
+number_knows known s one new m i n d t first reply low less a b k =
+    let after : KnownRoots = record { slots = 0; extra = known.extra; used = known.used } in
+    let below : WritesBelow (roots_of s.mutators) m (ops.Num t n) = λ q. one_below (place t m) q (roots_of s.mutators) (slot_below t m s.mutators low less) in
+    let numbered : KnowsRoots after one = subst (KnowsRoots after) (ap (λ (x : Reply × State). x.1) a) (slot_command known s m (ops.Num t n) below k) in
+    subst (KnowsRoots after) (ap (λ (x : Reply × State). x.1) b) (quiet_command after one m (ops.Put d i t) refl numbered)
+
+pub put_knows : (known : KnownRoots) (s new : State) (m i : ℕ) (d t : SlotName) (reply : Reply) → mutate s m (ops.Put d i t) ≡ (reply, new) → KnowsRoots known s → KnowsRoots known new
+put_knows known s new m i d t reply steps k = subst (KnowsRoots known) (ap (λ (x : Reply × State). x.1) steps) (quiet_command known s m (ops.Put d i t) refl k)
+
+-- ---- nil roots
+
+nil_known : (s : State) (p : ℕ) → root s.heap.graph p ≡ Nil → KnowsRoot s p
+nil_known s p e = go s.collection
+  where
+    go : (o : Option Collection) → IfSome o (λ c. HasReplicaOf c (root s.heap.graph p))
+    go None = tt
+    go (Some c) = subst (HasReplicaOf c) (sym e) tt
+
+-- the command that makes extra root i nil
+abbrev Clears : State → ℕ → State
+Clears s i = (mutate s 0 (ops.Nil (extra_slot s.mutators 0 i))).1
+
+written_at : (s : State) (i : ℕ) → root_written 0 (ops.Nil (extra_slot s.mutators 0 i)) ≡ Some (roots_of s.mutators + i)
+written_at s i = ap Some (extra_place s.mutators 0 i (omega arith))
+
+elsewhere : (s : State) (i p : ℕ) → p ≢ roots_of s.mutators + i → root_written 0 (ops.Nil (extra_slot s.mutators 0 i)) ≢ Some p
+elsewhere s i p differ e = let same : roots_of s.mutators + i ≡ p = cc (sym (written_at s i) ∙ e) in differ (sym same)
+
+nil_made : (s : State) (i : ℕ) → root (Clears s i).heap.graph (roots_of s.mutators + i) ≡ Nil
+nil_made s i =
+    let op = ops.Nil (extra_slot s.mutators 0 i) in
+    cond_both (nat_lt s.heap.free 0) _ _ (λ (x : Reply × Roomy). root x.1.graph (roots_of s.mutators + i) ≡ Nil)
+    (λ t. absurd (let no = ltb-true s.heap.free 0 t in omega (arith, no)))
+    (λ t. subst (λ p. root (set_root s.heap.graph (place (extra_slot s.mutators 0 i) 0) Nil) p ≡ Nil) (extra_place s.mutators 0 i (omega arith)) (set_nil s.heap.graph.roots (place (extra_slot s.mutators 0 i) 0)))
+
+nil_stays : (s : State) (i p : ℕ) → root s.heap.graph p ≡ Nil → root (Clears s i).heap.graph p ≡ Nil
+nil_stays s i p e = ⊎_elim
+    (λ same. subst (λ q. root (Clears s i).heap.graph q ≡ Nil) (sym same) (nil_made s i))
+    (λ other. root_kept s 0 (ops.Nil (extra_slot s.mutators 0 i)) p (elsewhere s i p other) ∙ e)
+    (cases_eq p (roots_of s.mutators + i))
+
+clears_knows : (known : KnownRoots) (s : State) (i : ℕ) → KnowsRoots known s → KnowsRoots known (Clears s i)
+clears_knows known s i k =
+    let op = ops.Nil (extra_slot s.mutators 0 i) in
+    let knows : (p : ℕ) → KnowsRoot s p → KnowsRoot (Clears s i) p = λ p has. ⊎_elim
+    (λ same. nil_known (Clears s i) p (subst (λ q. root (Clears s i).heap.graph q ≡ Nil) (sym same) (nil_made s i)))
+    (λ other. mutate_stays s 0 op p (elsewhere s i p other) has)
+    (cases_eq p (roots_of s.mutators + i)) in
+    record {
+      slots_high = k.slots_high;
+      extra_high = k.extra_high;
+      used_high = omega (arith, roots_counted s 0 op, k.used_high);
+      slots = λ p less. knows p (k.slots p less);
+      extra = λ j less. knows (roots_of s.mutators + j) (k.extra j less);
+      unused = λ j le. nil_stays s i (roots_of s.mutators + j) (k.unused j le);
+    }
+
+pub cleared_knows : (known : KnownRoots) (s : State) (i n : ℕ) → KnowsRoots known s → KnowsRoots known (clear_step s i n)
+cleared_knows known s i zero k = k
+cleared_knows known s i (suc n) k = cleared_knows known (Clears s i) (suc i) n (clears_knows known s i k)
+
+still_nil : (s : State) (i n p : ℕ) → root s.heap.graph p ≡ Nil → root (clear_step s i n).heap.graph p ≡ Nil
+still_nil s i zero p e = e
+still_nil s i (suc n) p e = still_nil (Clears s i) (suc i) n p (nil_stays s i p e)
+
+pub cleared_nil : (s : State) (i n j : ℕ) → i ≤ j → j < i + n → root (clear_step s i n).heap.graph (roots_of s.mutators + j) ≡ Nil
+cleared_nil s i zero j low high = absurd (omega (arith, low, high))
+cleared_nil s i (suc n) j low high = ⊎_elim
+    (λ same. still_nil (Clears s i) (suc i) n (roots_of s.mutators + j) (subst (λ q. root (Clears s i).heap.graph (roots_of s.mutators + q) ≡ Nil) (sym same) (nil_made s i)))
+    (λ other. cleared_nil (Clears s i) (suc i) n j (omega (arith, low, other)) (omega (arith, high)))
+    (cases_eq j i)
+
+-- one more root
+pub clear_next : (s : State) (i j n count : ℕ) → count ≡ suc n → j ≡ suc i → clear_step s i count ≡ clear_step (Clears s i) j n
+clear_next s i j n count e f = ap (clear_step s i) e ∙ ap (λ q. clear_step (Clears s i) q n) (sym f)
+
+-- ---- moving the marks
+
+pub lowered : (known : KnownRoots) (s : State) (from to : ℕ) → from ≤ known.used → known.used ≤ to → KnowsRoots known s
+    → ((i : ℕ) → from ≤ i → i < to → root s.heap.graph (roots_of s.mutators + i) ≡ Nil) → KnowsRoots (record { slots = known.slots; extra = min known.extra from; used = from }) s
+lowered known s from to low high k nil = record {
+  slots_high = k.slots_high;
+  extra_high = omega arith;
+  used_high = omega (arith, k.used_high, low);
+  slots = k.slots;
+  extra = λ i less. k.extra i (omega (arith, less));
+  unused = λ i le. ⊎_elim (λ l. nil i le l) (λ l. k.unused i (omega (arith, l, high))) (cases_lt i to);
+}
+
+pub advanced_slots : (known : KnownRoots) (s : State) → known.slots < roots_of s.mutators → KnowsRoots known s → KnowsRoot s known.slots → KnowsRoots (record { slots = known.slots + 1; extra = known.extra; used = known.used }) s
+advanced_slots known s less k has = record {
+  slots_high = omega (arith, less);
+  extra_high = k.extra_high;
+  used_high = k.used_high;
+  slots = λ p l. ⊎_elim (λ same. subst (KnowsRoot s) (sym same) has) (λ other. k.slots p (omega (arith, l, other))) (cases_eq p known.slots);
+  extra = k.extra;
+  unused = k.unused;
+}
+
+pub advanced_extra : (known : KnownRoots) (s : State) → known.extra < known.used → KnowsRoots known s → KnowsRoot s (roots_of s.mutators + known.extra) → KnowsRoots (record { slots = known.slots; extra = known.extra + 1; used = known.used }) s
+advanced_extra known s less k has = record {
+  slots_high = k.slots_high;
+  extra_high = omega (arith, less);
+  used_high = k.used_high;
+  slots = k.slots;
+  extra = λ i l. ⊎_elim (λ same. subst (λ j. KnowsRoot s (roots_of s.mutators + j)) (sym same) has) (λ other. k.extra i (omega (arith, l, other))) (cases_eq i known.extra);
+  unused = k.unused;
+}
+
+-- the next place, if the marks tell of some slots only
+pub next_slot : (slots : ℕ) (known : KnownRoots) → known.slots < slots → next_place slots known ≡ known.slots
+next_slot slots known less = cond-true (nat_lt known.slots slots) known.slots (slots + known.extra) (lt-ltb known.slots slots less)
+
+pub next_extra : (slots : ℕ) (known : KnownRoots) → slots ≤ known.slots → next_place slots known ≡ slots + known.extra
+next_extra slots known le = cond-false (nat_lt known.slots slots) known.slots (slots + known.extra) (le-ltb known.slots slots le)
+
+-- ---- opening, beginning and flipping
+
+nil_replicate : (n p : ℕ) → value_or_nil (slice_get (replicate n Nil) p) ≡ Nil
+nil_replicate zero p = refl
+nil_replicate (suc n) zero = refl
+nil_replicate (suc n) (suc p) = nil_replicate n p
+
+pub opened_knows : (options : HeapOptions) (s : State) → s ≡ opening_state_with options → KnowsRoots (record { slots = 0; extra = 0; used = 0 }) s
+opened_knows options s is = subst (KnowsRoots (record { slots = 0; extra = 0; used = 0 })) (sym is) (record {
+  slots_high = omega arith;
+  extra_high = omega arith;
+  used_high = omega (arith, length-replicate (roots_of options.mutators + options.extra_roots) Nil);
+  slots = λ p less. absurd (omega (arith, less));
+  extra = λ i less. absurd (omega (arith, less));
+  unused = λ i le. nil_replicate (roots_of options.mutators + options.extra_roots) (roots_of options.mutators + i);
+})
+
+pub begun_knows : (known : KnownRoots) (s t : State) → t.mutators ≡ s.mutators → t.heap ≡ s.heap → KnowsRoots known s → KnowsRoots (record { slots = 0; extra = 0; used = known.used }) t
+begun_knows known s t count same k = record {
+  slots_high = omega arith;
+  extra_high = omega arith;
+  used_high = subst (λ n. roots_of n + known.used ≤ length t.heap.graph.roots) (sym count) (subst (λ (h : Roomy). roots_of s.mutators + known.used ≤ length h.graph.roots) (sym same) k.used_high);
+  slots = λ p less. absurd (omega (arith, less));
+  extra = λ i less. absurd (omega (arith, less));
+  unused = λ i le. subst (λ n. root t.heap.graph (roots_of n + i) ≡ Nil) (sym count) (subst (λ (h : Roomy). root h.graph (roots_of s.mutators + i) ≡ Nil) (sym same) (k.unused i le));
+}
+
+-- after a flip no collection is open
+pub flipped_knows : (known : KnownRoots) (s t : State) (reply : StepReply) → t.collection ≡ None → t.mutators ≡ s.mutators → collect s steps.Flip ≡ (reply, t) → KnowsRoots known s → KnowsRoots known t
+flipped_knows known s t reply none count steps_to k =
+    let after : (collect s steps.Flip).1 ≡ t = ap (λ (x : StepReply × State). x.1) steps_to in
+    let idle : (p : ℕ) → KnowsRoot t p = λ p. subst (λ o. IfSome o (λ c. HasReplicaOf c (root t.heap.graph p))) (sym none) tt in
+    let length_is : length t.heap.graph.roots ≡ length s.heap.graph.roots = ap (λ (u : State). length u.heap.graph.roots) (sym after) ∙ flip_count s in
+    record {
+      slots_high = subst (λ n. known.slots ≤ roots_of n) (sym count) k.slots_high;
+      extra_high = k.extra_high;
+      used_high = omega (arith, count, length_is, k.used_high);
+      slots = λ p less. idle p;
+      extra = λ i less. idle (roots_of t.mutators + i);
+      unused = λ i le. subst (λ n. root t.heap.graph (roots_of n + i) ≡ Nil) (sym count)
+          (subst (λ (u : State). root u.heap.graph (roots_of s.mutators + i) ≡ Nil) after (flip_nil s (roots_of s.mutators + i) (k.unused i le)));
+    }

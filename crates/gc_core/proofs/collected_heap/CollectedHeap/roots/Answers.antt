@@ -1,0 +1,30 @@
+use Rattle.std.proofs.Common.{refl, sym, ◌∙◌, ap, subst}
+use Rattle.gc_graph.specs.Slots.{roots_of}
+use Rattle.gc_copy.specs.State.{State}
+use Rattle.gc_copy.specs.Words.{collection_in, open_state}
+use Rattle.gc_copy.specs.declared.step.Step.TheVariants as steps
+use Rattle.gc_copy.specs.declared.step.StepReply.{StepReply}
+use Rattle.gc_copy.specs.Staying.{KnowsRoot}
+use Rattle.gc_core.specs.Internal.KnownRoots.{KnowsRoots, next_place}
+use Rattle.gc_core.specs.declared.known.KnownRoots.{KnownRoots}
+use Rattle.gc_core.proofs.Marks.{step_knows, copied_knows}
+use Rattle.gc_core.proofs.collected_heap.CollectedHeap.roots.Goals as goal
+use Rattle.gc_core.proofs.collected_heap.CollectedHeap.roots.Goals.{in-Copied, in_default-reply}
+
+pub invariant_of-self-2 : goal.invariant_of-self-2
+invariant_of-self-2 c =
+    let before = open_state c.self.inside.heap c.in-Some.collection in
+    let after = open_state c.replicate_root-reply.new.heap c.replicate_root-reply.new.self in
+    let known = c.search-missing.result.known in
+    let knows = subst (KnowsRoots known) (ap (λ (x : StepReply × State). x.1) c.replicate_root-reply.ensures.step)
+    (step_knows known before (collection_in c.in-Some.collection) steps.Roots refl (λ e. cc e) c.search-missing.ensures.knows) in (
+      c.replicate_root-reply.ensures.belongs,
+      elim c.match-reply.branch [
+        | in-Copied w ↦ (let slots = w.root_count.ensures ∙ ap roots_of w.mutators.ensures.value in
+            let copied = copied_knows known before after (collection_in c.in-Some.collection) c.search-missing.result.missing refl c.search-missing.ensures.first c.search-missing.ensures.next
+            (c.replicate_root-reply.ensures.step ∙ ap (λ (r : StepReply). (r, after)) w.in-Copied.is) in
+            subst (λ (k : KnownRoots). KnowsRoots k after) (sym w.self-is)
+            (w.advanced-self-inside.ensures after slots knows (subst (λ n. KnowsRoot after (next_place n known)) (sym (slots ∙ ap roots_of c.replicate_root-reply.ensures.mutators)) copied)))
+        | in_default-reply w ↦ subst (λ (k : KnownRoots). KnowsRoots k after) (sym w.self-is) knows
+      ],
+    )

@@ -1,0 +1,35 @@
+ghost use Rattle.std.specs.Prelude.{◌≡◌, IfOk};
+ghost use Rattle.gc_words.specs.Fault.{AreComparable};
+ghost use Rattle.gc_words.specs.Views.{image_of};
+ghost use Rattle.gc_check.specs.Infer.{AreClosed, AreForced, AreTogether, Decides};
+ghost use Rattle.gc_check.specs.Verdict.{pairs_of, verdict_of};
+
+use crate::parallel::Parallel;
+use gc_check::{Comparison, compare_by};
+use gc_graph::NoMemory;
+use gc_words::ImageRef;
+use std::alloc::Global;
+use std::thread::Threads;
+
+/// Decides whether any certificate holds of two heap images, as `gc_check::compare` does. The calling thread infers the pairs. If there
+/// are many, several threads compare their objects. Returns `NoMemory` if an allocation fails.
+pub fn compare_par(
+    rt: &(impl Threads + Sync),
+    alloc: Global,
+    old: ImageRef,
+    new: ImageRef,
+) -> Result<Comparison, NoMemory>
+    ensures forced { IfOk result (λ comparison.
+        AreForced (image_of old.entry) (image_of new.entry) (pairs_of comparison.pairs.items)) }
+    ensures together { IfOk result (λ comparison.
+        AreTogether (image_of old.entry) (image_of new.entry) (pairs_of comparison.pairs.items)) }
+    ensures closed { IfOk result (λ comparison. AreComparable (image_of old.entry) (image_of new.entry)
+        → AreClosed (image_of old.entry) (image_of new.entry) (pairs_of comparison.pairs.items)) }
+    ensures verdict { IfOk result (λ comparison. comparison.verdict
+        ≡ verdict_of (image_of old.entry) (image_of new.entry) (pairs_of comparison.pairs.items)) }
+    // After a yes the certificate holds, and with it the soundness theorem; after a refusal none holds.
+    ensures decides { IfOk result (λ comparison.
+        Decides comparison.verdict (image_of old.entry) (image_of new.entry) (pairs_of comparison.pairs.items)) }
+{
+    compare_by(&Parallel::new(rt), alloc, old, new)
+}

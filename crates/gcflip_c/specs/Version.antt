@@ -1,0 +1,5 @@
+-- The version that the library says it is: 0.1.0.
+use Rattle.std.specs.Prelude.{ℕ}
+
+abbrev pub version : ℕ
+version = 100

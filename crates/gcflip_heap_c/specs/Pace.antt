@@ -1,0 +1,88 @@
+-- The steps that are due at a call of paced work: a function of the heap's counts and of a pace, which remembers counts of the call before.
+use Rattle.std.specs.Prelude.{◌≡◌, ℕ, ◌+◌, ◌-◌, ◌*◌, ◌/◌, ◌≤◌, ◌↔◌, ◌==◌, nat_lt, min, max, if◌then◌else◌, Option, Some, None, IsSomeAnd}
+use Rattle.gc_copy.specs.State.{State}
+use Rattle.gc_copy.specs.Steps.{useful_step}
+use Rattle.gc_core.specs.CollectedHeap.{Allocates}
+use Rattle.gcflip_heap_c.specs.Readings.{counts_of}
+use Rattle.gcflip_heap_c.specs.Work.{IsWork}
+use Rattle.gcflip_heap_c.specs.declared.pace.GcflipPace.{GcflipPace}
+use Rattle.gcflip_heap_c.specs.declared.reading.GcflipCounts.{GcflipCounts}
+use Rattle.gcflip_heap_c.specs.declared.work.GcflipWork.{GcflipWork}
+
+-- the factor is in range
+abbrev pub IsPace : GcflipPace → Type 0
+IsPace pace = (100 ≤ pace.factor) × (pace.factor ≤ 10000)
+
+-- ---- the steps that are due
+
+-- No more steps than these are left until the flip, if no mutator acts: one for each word in use from the scan pointer on, one for
+-- each log entry, and the flip. An object of n words takes n steps at most: one for its root, n - 2 for its fields, and one behind them.
+abbrev pub steps_left : GcflipCounts → ℕ
+steps_left counts = (counts.end - counts.scan_place) + counts.logged + 1
+
+-- the words that were allocated and the entries that were logged since the call before
+abbrev pub spent : GcflipPace → GcflipCounts → ℕ
+spent pace counts = (counts.end - pace.end) + (counts.logged - pace.logged)
+
+-- A collection begins where this many words are in use: the factor times what the last flip left, or `least` if that is more. It
+-- begins at the latest where half of the room that the flip left is used up.
+abbrev pub beginning : GcflipPace → GcflipCounts → ℕ
+beginning pace counts = min (max pace.least (pace.factor * pace.left / 100)) ((pace.left + counts.size) / 2)
+
+-- The steps for each word and each entry, where this much room is left. One of them pays for the step that the word or the entry adds.
+-- The others perform the steps that are left before the room is used up.
+abbrev pub rate_of : GcflipPace → GcflipCounts → ℕ → ℕ
+rate_of pace counts room = if pace.rate == 0 then 2 + steps_left counts / room else pace.rate
+
+abbrev pub due_with : GcflipPace → GcflipCounts → ℕ → ℕ
+due_with pace counts room =
+    if room == 0 then steps_left counts
+    else if counts.is_open == 0 then (if nat_lt counts.end (beginning pace counts) then 0 else 1)
+    else min (steps_left counts) (spent pace counts * rate_of pace counts room)
+
+-- the steps that are due before the program allocates this many words; a call performs fewer than 2^32
+abbrev pub steps_due : GcflipPace → GcflipCounts → ℕ → ℕ
+steps_due pace counts wanted = min (due_with pace counts (counts.free - wanted)) 4294967295
+
+-- While a collection is open, each word allocated and each entry logged since the call before is paid for by a step, unless fewer
+-- are left.
+abbrev pub Pays : GcflipPace → GcflipCounts → ℕ → Type 0
+Pays pace counts due = 1 ≤ counts.is_open → min (min (spent pace counts) (steps_left counts)) 4294967295 ≤ due
+
+-- ---- what the pace remembers
+
+-- the pace of a heap with these counts, where nothing was allocated yet
+abbrev pub pace_from : GcflipPace → GcflipCounts → GcflipPace
+pace_from pace counts = record pace { left = counts.end; end = counts.end; logged = counts.logged }
+
+-- the pace after this work, which led to these counts; 43 stands for a flip
+abbrev pub pace_after : GcflipPace → GcflipWork → GcflipCounts → GcflipPace
+pace_after pace work counts = record pace { left = (if work.last == 43 then counts.end else pace.left); end = counts.end; logged = counts.logged }
+
+-- ---- paced work
+
+abbrev pub no_work : GcflipWork
+no_work = record { steps = 0; copied = 0; last = 0; pairs = 0 }
+
+-- the useful steps that are due, in order, or none
+pub record IsPacedWork (wanted : ℕ) (s t : State) (before after : GcflipPace) (work : GcflipWork) : Type 0 where
+  pub none : steps_due before (counts_of s) wanted ≡ 0 → (t ≡ s) × (work ≡ no_work)
+  pub some : 1 ≤ steps_due before (counts_of s) wanted → IsWork None (steps_due before (counts_of s) wanted) s t work
+  pub paid : Pays before (counts_of s) (steps_due before (counts_of s) wanted)
+  pub pace : after ≡ pace_after before work (counts_of t)
+
+abbrev pub WorksPaced : ℕ → Option State → Option State → GcflipPace → GcflipPace → GcflipWork → Type 0
+WorksPaced wanted (Some old) (Some new) before after work = IsPacedWork wanted old new before after work
+WorksPaced wanted old new before after work = ⊥
+
+-- what a call of paced work returns, and the heap, the pace and C's report after it
+pub record IsPacedCall (wanted : ℕ) (old new : Option State) (before after : GcflipPace) (earlier work : GcflipWork) (answer : ℕ) : Type 0 where
+  pub answers : answer ≤ 3
+  pub done : answer ≡ 0 → WorksPaced wanted old new before after work
+  -- a refused call changes nothing
+  pub heap : 1 ≤ answer → new ≡ old
+  pub pace : 1 ≤ answer → after ≡ before
+  pub silent : 1 ≤ answer → work ≡ earlier
+  pub memory : answer ≡ 1 → IsSomeAnd old (λ s. Allocates s (useful_step s))
+  pub outside : (answer ≡ 2) ↔ IsSomeAnd old (λ s. ¬ IsPace before)
+  pub closed : (answer ≡ 3) ↔ (old ≡ None)

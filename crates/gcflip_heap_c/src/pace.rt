@@ -1,0 +1,259 @@
+//! The pace of collector steps: how many are due, as a function of counts, and the exports that perform them.
+
+ghost use Rattle.std.specs.Prelude.{◌≡◌, ◌⊎◌, ◌<◌, ◌≤◌, ◌↔◌, ◌^◌, ◌*◌, min, None, IsSomeAnd, IsTrue, IfOk, OnErr};
+ghost use Rattle.gc_copy.specs.Steps.{useful_step};
+ghost use Rattle.gc_core.specs.CollectedHeap.{Allocates};
+ghost use Rattle.gcflip_heap_c.specs.Readings as readings;
+ghost use Rattle.gcflip_heap_c.specs.Pace as paces;
+ghost use Rattle.gcflip_heap_c.specs.Pace.{IsPace, IsPacedWork, IsPacedCall};
+ghost use Rattle.gcflip_heap_c.specs.Work.{IsWork};
+
+use crate::answer::{CLOSED, DONE, NO_MEMORY, OUT_OF_RANGE};
+use crate::handle::GcflipHeap;
+use crate::reading::{GcflipCounts, counts_of};
+use crate::work::{GcflipWork, work_on};
+use gc_core::CollectedHeap;
+use gc_graph::NoMemory;
+use std::alloc::Global;
+
+/// The lowest factor of a pace, in hundredths.
+const LOWEST_FACTOR: u32 = 100;
+
+/// The highest factor of a pace, in hundredths.
+const HIGHEST_FACTOR: u32 = 10_000;
+
+/// The number that stands for a flip, as the reply to a step.
+const FLIPPED: u32 = 43;
+
+/// When a collection begins and how fast it goes on, and what paced work remembers of the call before, as C sees it.
+#[repr(C)]
+#[derive(Clone, Copy, Debug, Drop, PartialEq, Eq)]
+pub struct GcflipPace {
+    /// A collection begins where this many hundredths of the words that the last flip left are in use: 100 to 10,000.
+    pub factor: u32,
+    /// The steps for each word allocated and each entry logged, or 0 if they follow from the counts.
+    pub rate: u32,
+    /// The words in use below which no collection begins, unless little room is left.
+    pub least: u32,
+    /// The heap's end after the last flip.
+    pub left: u32,
+    /// The heap's end after the last call.
+    pub end: u32,
+    /// The number of log entries after the last call.
+    pub logged: u32,
+}
+
+/// Returns an upper bound on the useful steps that are left until the flip, if no mutator acts.
+fn steps_left(counts: &GcflipCounts) -> u64
+    ensures value { result ≡ paces.steps_left counts.now }
+    ensures bound { result < 2 ^ 34 }
+{
+    let _counts = *counts;
+    let unscanned = counts.end.saturating_sub(counts.scan_place);
+    u64::from(unscanned) + u64::from(counts.logged) + 1
+}
+
+/// Returns the number of words allocated and entries logged since the call before.
+fn spent(pace: &GcflipPace, counts: &GcflipCounts) -> u64
+    ensures value { result ≡ paces.spent pace.now counts.now }
+    ensures bound { result < 2 ^ 34 }
+{
+    let _values = (*pace, *counts);
+    let allocated = counts.end.saturating_sub(pace.end);
+    let logged = counts.logged.saturating_sub(pace.logged);
+    u64::from(allocated) + u64::from(logged)
+}
+
+/// Returns the number of words in use at which a collection begins.
+fn beginning(pace: &GcflipPace, counts: &GcflipCounts) -> u64
+    ensures { result ≡ paces.beginning pace.now counts.now }
+{
+    let _values = (*pace, *counts);
+    let grown = u64::from(pace.factor) * u64::from(pace.left) / 100;
+    let halfway = (u64::from(pace.left) + u64::from(counts.size)) / 2;
+    grown.max(u64::from(pace.least)).min(halfway)
+}
+
+/// Returns the number of steps for each word and each entry, where this much room is left.
+fn rate(pace: &GcflipPace, counts: &GcflipCounts, room: u32) -> u64
+    requires { 1 ≤ room }
+    ensures value { result ≡ paces.rate_of pace.now counts.now room }
+    ensures bound { result < 2 ^ 35 }
+{
+    let _pace = *pace;
+    if pace.rate == 0 {
+        2 + steps_left(counts) / u64::from(room)
+    } else {
+        u64::from(pace.rate)
+    }
+}
+
+/// Returns the number of steps that are due while a collection is open.
+fn due_while_open(pace: &GcflipPace, counts: &GcflipCounts, room: u32) -> u64
+    requires { 1 ≤ room }
+    ensures { result ≡ min (paces.steps_left counts.now) (paces.spent pace.now counts.now * paces.rate_of pace.now counts.now room) }
+{
+    let left = steps_left(counts);
+    let paid = u128::from(spent(pace, counts)) * u128::from(rate(pace, counts, room));
+    if paid < u128::from(left) {
+        paid as u64
+    } else {
+        left
+    }
+}
+
+/// Returns the number of steps that are due, where this much room is left.
+fn due_with(pace: &GcflipPace, counts: &GcflipCounts, room: u32) -> u64
+    ensures { result ≡ paces.due_with pace.now counts.now room }
+{
+    if room == 0 {
+        return steps_left(counts);
+    }
+    if counts.is_open != 0 {
+        return due_while_open(pace, counts, room);
+    }
+    if u64::from(counts.end) < beginning(pace, counts) {
+        0
+    } else {
+        1
+    }
+}
+
+/// Returns the number of steps that are due, where the program wants to allocate `wanted` words.
+fn steps_due(pace: &GcflipPace, counts: &GcflipCounts, wanted: u32) -> u32
+    ensures { result ≡ paces.steps_due pace.now counts.now wanted }
+{
+    let due = due_with(pace, counts, counts.free.saturating_sub(wanted));
+    due.min(u64::from(u32::MAX)) as u32
+}
+
+/// Returns the number of useful steps that are due before the program allocates `wanted` words. This is the whole policy of paced work:
+/// it reads nothing but its arguments.
+#[unsafe(no_mangle)]
+pub extern "C" fn gcflip_pace_due(pace: &GcflipPace, counts: &GcflipCounts, wanted: u32) -> u32
+    ensures due { result ≡ paces.steps_due pace.now counts.now wanted }
+    ensures paid { paces.Pays pace.now counts.now result }
+{
+    steps_due(pace, counts, wanted)
+}
+
+/// Returns whether the pace's factor is in range.
+fn is_fit(pace: &GcflipPace) -> bool
+    ensures { IsTrue result ↔ IsPace pace.now }
+{
+    pace.factor >= LOWEST_FACTOR && pace.factor <= HIGHEST_FACTOR
+}
+
+/// Makes the pace remember this heap as it is, as if it had just flipped. Returns 2 if the factor is out of range.
+#[unsafe(no_mangle)]
+pub extern "C" fn gcflip_heap_pace(
+    alloc: Global,
+    heap: &mut GcflipHeap,
+    pace: &mut GcflipPace,
+) -> u32
+    ensures answers { (result ≡ 0) ⊎ ((result ≡ 2) ⊎ (result ≡ 3)) }
+    ensures pace { result ≡ 0 → IsSomeAnd heap.old.state (λ s. pace.new ≡ paces.pace_from pace.old (readings.counts_of s)) }
+    ensures heap { heap.new.state ≡ heap.old.state }
+    ensures silent { 1 ≤ result → pace.new ≡ pace.old }
+    ensures outside { (result ≡ 2) ↔ IsSomeAnd heap.old.state (λ s. ¬ IsPace pace.old) }
+    ensures closed { (result ≡ 3) ↔ (heap.old.state ≡ None) }
+{
+    let Some(opened) = heap.take(alloc) else {
+        return CLOSED;
+    };
+    let counts = counts_of(&opened);
+    *heap = GcflipHeap::full(opened);
+    if !is_fit(pace) {
+        return OUT_OF_RANGE;
+    }
+    pace.left = counts.end;
+    pace.end = counts.end;
+    pace.logged = counts.logged;
+    DONE
+}
+
+/// What paced work did, and the pace after it.
+#[derive(Drop)]
+struct Paced {
+    work: GcflipWork,
+    pace: GcflipPace,
+}
+
+/// Returns the pace after this work, which led to these counts.
+fn pace_after(pace: &GcflipPace, work: &GcflipWork, counts: &GcflipCounts) -> GcflipPace
+    ensures { result ≡ paces.pace_after pace.now work.now counts.now }
+{
+    GcflipPace {
+        factor: pace.factor,
+        rate: pace.rate,
+        least: pace.least,
+        left: if work.last == FLIPPED {
+            counts.end
+        } else {
+            pace.left
+        },
+        end: counts.end,
+        logged: counts.logged,
+    }
+}
+
+/// Performs this many useful steps, or none.
+fn work_due(heap: &mut CollectedHeap, due: u32) -> Result<GcflipWork, NoMemory>
+    ensures none { due ≡ 0 → IfOk result (λ work. (heap.new ≡ heap.old) × (work ≡ paces.no_work)) }
+    ensures some { 1 ≤ due → IfOk result (IsWork None due heap.old heap.new) }
+    ensures refused { OnErr result (heap.new ≡ heap.old) }
+    ensures allocates { OnErr result (Allocates heap.old (useful_step heap.old)) }
+{
+    if due == 0 {
+        return Ok(GcflipWork {
+            steps: 0,
+            copied: 0,
+            last: 0,
+            pairs: 0,
+        });
+    }
+    work_on(heap, None, due)
+}
+
+/// Performs the useful steps that are due.
+fn work_at_pace(heap: &mut CollectedHeap, pace: &GcflipPace, wanted: u32) -> Result<Paced, NoMemory>
+    ensures done { IfOk result (λ made. IsPacedWork wanted heap.old heap.new pace.now made.pace made.work) }
+    ensures refused { OnErr result (heap.new ≡ heap.old) }
+    ensures allocates { OnErr result (Allocates heap.old (useful_step heap.old)) }
+{
+    let due = gcflip_pace_due(pace, &counts_of(heap), wanted);
+    let work = work_due(heap, due)?;
+    let pace = pace_after(pace, &work, &counts_of(heap));
+    Ok(Paced { work, pace })
+}
+
+/// Performs the useful steps that are due before the program allocates `wanted` words, and writes a report of them to `work`. Stops early
+/// for the reasons of `gcflip_heap_work`.
+#[unsafe(no_mangle)]
+pub extern "C" fn gcflip_heap_work_paced(
+    alloc: Global,
+    heap: &mut GcflipHeap,
+    pace: &mut GcflipPace,
+    wanted: u32,
+    work: &mut GcflipWork,
+) -> u32
+    ensures { IsPacedCall wanted heap.old.state heap.new.state pace.old pace.new work.old work.new result }
+{
+    let Some(mut opened) = heap.take(alloc) else {
+        return CLOSED;
+    };
+    if !is_fit(pace) {
+        *heap = GcflipHeap::full(opened);
+        return OUT_OF_RANGE;
+    }
+    let made = work_at_pace(&mut opened, pace, wanted);
+    *heap = GcflipHeap::full(opened);
+    match made {
+        Ok(made) => {
+            *work = made.work;
+            *pace = made.pace;
+            DONE
+        }
+        Err(NoMemory) => NO_MEMORY,
+    }
+}

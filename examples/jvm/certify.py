@@ -1,0 +1,225 @@
+#!/usr/bin/env python3
+"""Checks a collection of the JVM by two heap dumps: certify.py BEFORE AFTER CLASS [--self-test FLIPS]
+
+The roots are the static fields of the classes whose names begin with CLASS. What they reach becomes two images, whose pairs are inferred, so no
+collector needs to say where it moved what. Prints 'yes N', or the refusal with the classes and fields on a path to the place. The
+status is 0 for a yes and 1 for a refusal. --self-test flips so many bits of the second dump, one at a time, and prints which were not refused.
+
+Fields of java.lang.ref.Reference are the collector's own, and are not read. Needs the package of bindings/python; GCFLIP_LIBRARY may name the
+library.
+"""
+import argparse
+import os
+import random
+import struct
+import sys
+import time
+from array import array
+
+sys.dont_write_bytecode = True
+HERE = os.path.dirname(os.path.abspath(__file__))
+sys.path.insert(0, os.path.join(HERE, "..", "..", "bindings", "python"))
+
+import gcflip  # noqa: E402
+
+from hprof import INSTANCE, NUMBERS, OBJECTS, REFERENCE, SIZES, Dump  # noqa: E402
+
+PLAIN, RAW = 16777216, 50331648
+# Kinds: instances, arrays of references, arrays of numbers, large arrays, their parts, and constants that are no number of an image.
+INSTANCES, REFERENCES, WORDS, LARGE, PART, CONSTANT = range(6)
+PART_FIELDS, MOST_FIELDS = 32768, 65535
+# Even, and above all references: it corresponds to nothing.
+STRAY = 1 << 33
+
+
+class View:
+    """An image of what the roots of a dump reach. `at` has the place of each object by its address."""
+
+    def __init__(self, dump, prefix, class_numbers):
+        self.dump, self.words, self.roots, self.class_numbers = dump, array("Q", [0]), array("Q"), class_numbers
+        self.at, self.constants, self.unwritten = {}, {}, []
+        self.root_names = []
+        for number in sorted(dump.classes, key=dump.names.get):
+            if dump.names[number].startswith(prefix):
+                for name, kind, value in dump.classes[number].statics:
+                    if kind == REFERENCE and not name.startswith("<"):
+                        self.roots.append(self.reference(value))
+                        self.root_names.append("%s.%s" % (dump.names[number], name))
+        while self.unwritten:
+            self.write(self.unwritten.pop())
+
+    def image(self):
+        return gcflip.Image(self.words, self.roots)
+
+    def class_number(self, number):
+        return 2 * self.class_numbers.setdefault(self.dump.names[number], len(self.class_numbers)) + 1
+
+    def place(self, header, length):
+        at = len(self.words)
+        self.words.extend([header + length, 0])
+        self.words.frombytes(bytes(8 * length))
+        return at
+
+    def constant(self, value):
+        """The encoding of docs/CERTIFY.md: numbers for small constants of both signs, and objects for the others."""
+        if value < 1 << 61 or value >= (1 << 64) - (1 << 61):
+            return 2 * (value & ((1 << 62) - 1)) + 1
+        if value not in self.constants:
+            at = self.constants[value] = self.place(RAW + 65536 * CONSTANT, 1)
+            self.words[at + 2] = value
+        return 2 * self.constants[value]
+
+    def reference(self, address):
+        if address == 0:
+            return 0
+        if address in self.at:
+            return 2 * self.at[address]
+        if address in self.dump.classes:
+            return self.class_number(address)
+        if address not in self.dump.where:
+            return STRAY
+        at = self.at[address] = self.placed(*self.dump.where[address])
+        self.unwritten.append(address)
+        return 2 * at
+
+    def placed(self, tag, record):
+        """Places an object. Its class, or the type and the number of its elements, come before its fields."""
+        data, read = self.dump.data, struct.unpack_from
+        if tag == INSTANCE:
+            return self.place(PLAIN + 65536 * INSTANCES, 1 + len(self.dump.layout(read(">Q", data, record + 12)[0]).fields))
+        count = read(">I", data, record + 12)[0]
+        if tag == OBJECTS:
+            return self.rows(PLAIN, REFERENCES, 1, count)
+        return self.rows(RAW, WORDS, 2, -(-count * SIZES[data[record + 16]] // 8))
+
+    def rows(self, header, kind, before, count):
+        """Places an array, in parts if it is large: the parts come behind what comes before the fields."""
+        if before + count <= MOST_FIELDS:
+            return self.place(header + 65536 * kind, before + count)
+        parts = -(-count // PART_FIELDS)
+        at = self.place(PLAIN + 65536 * LARGE, before + parts)
+        for i in range(parts):
+            part = self.place(header + 65536 * PART, min(PART_FIELDS, count - PART_FIELDS * i))
+            self.words[at + 2 + before + i] = 2 * part
+        return at
+
+    def write(self, address):
+        data, read, at = self.dump.data, struct.unpack_from, self.at[address]
+        tag, record = self.dump.where[address]
+        if tag == INSTANCE:
+            of_class = read(">Q", data, record + 12)[0]
+            layout = self.dump.layout(of_class)
+            words = [self.class_number(of_class)]
+            for (_, kind, own), value in zip(layout.fields, layout.values.unpack_from(data, record + 24)):
+                words.append(1 if own else self.reference(value) if kind == REFERENCE else self.constant(value))
+            self.words[at + 2:at + 2 + len(words)] = array("Q", words)
+        elif tag == OBJECTS:
+            count, of_class = read(">IQ", data, record + 12)
+            values = read(">%dQ" % count, data, record + 24)
+            self.write_rows(at, [self.class_number(of_class)], [self.reference(value) for value in values])
+        else:
+            count, kind = read(">IB", data, record + 12)
+            numbers = bytes(data[record + 17:record + 17 + count * SIZES[kind]])
+            # Odd, so that they are numbers in a large array too, which is not raw.
+            self.write_rows(at, [2 * kind + 1, 2 * count + 1], array("Q", numbers + bytes(-len(numbers) % 8)))
+
+    def write_rows(self, at, before, values):
+        """Writes what comes before the elements of an array, and the elements."""
+        self.words[at + 2:at + 2 + len(before)] = array("Q", before)
+        if self.words[at] // 65536 % 256 != LARGE:
+            first = at + 2 + len(before)
+            self.words[first:first + len(values)] = array("Q", values)
+            return
+        for i in range(0, len(values), PART_FIELDS):
+            part = self.words[at + 2 + len(before) + i // PART_FIELDS] // 2 + 2
+            some = array("Q", values[i:i + PART_FIELDS])
+            self.words[part:part + len(some)] = some
+
+    def field_names(self, place):
+        """Returns the names of the fields of the object at a place, if it is an instance, and its class."""
+        for address, at in self.at.items():
+            if at == place:
+                tag, record = self.dump.where[address]
+                if tag != INSTANCE:
+                    return None, "an array"
+                of_class = struct.unpack_from(">Q", self.dump.data, record + 12)[0]
+                return ["class", *(name for name, _, _ in self.dump.layout(of_class).fields)], self.dump.names[of_class]
+        return None, "a part of an array"
+
+
+def described(old, found):
+    """Names the path to the place of a refusal by classes and fields."""
+    refused = found.refused
+    if refused.refusal == gcflip.Refusal.RootDiffers:
+        return "the static field %s" % old.root_names[refused.place]
+    if refused.refusal not in (gcflip.Refusal.HeaderDiffers, gcflip.Refusal.FieldDiffers):
+        return ""
+    target = found.pairs[refused.place][0]
+    path = gcflip.path_to(old.image(), target)
+    steps, at = ["the static field %s" % old.root_names[path.place]], old.roots[path.place] // 2
+    for field in (*path.fields, *([refused.field] if refused.refusal == gcflip.Refusal.FieldDiffers else [])):
+        names, name = old.field_names(at)
+        steps.append("%s of %s" % (names[field], name) if names else "field %d of %s" % (field, name))
+        at = old.words[at + 2 + field] // 2
+    return " . ".join(steps)
+
+
+def bits_of(view):
+    """Yields where the bytes of each object that was reached are in the dump, and the reason for which some make no difference."""
+    for address in view.at:
+        tag, record = view.dump.where[address]
+        if tag == INSTANCE:
+            layout = view.dump.layout(struct.unpack_from(">Q", view.dump.data, record + 12)[0])
+            for (_, kind, own), start in zip(layout.fields, layout.starts):
+                yield record + 24 + start, SIZES[kind], "a field of the collector's own" if own else None
+        else:
+            count = struct.unpack_from(">I", view.dump.data, record + 12)[0]
+            size = SIZES[view.dump.data[record + 16]] if tag == NUMBERS else 8
+            yield record + (17 if tag == NUMBERS else 24), count * size, None
+
+
+def self_test(before, after, prefix, numbers, flips):
+    """Flips bits of the second dump, asks again, and returns whether each one that was spared has a reason."""
+    old, new = View(before, prefix, numbers), View(after, prefix, numbers)
+    pieces = [piece for piece in bits_of(new) if piece[1]]
+    choose, refused, reasons = random.Random(1), 0, {}
+    for at, size, reason in choose.choices(pieces, [size for _, size, _ in pieces], k=flips):
+        at, bit = at + choose.randrange(size), 1 << choose.randrange(8)
+        after.data[at] ^= bit
+        found = gcflip.compare(old.image(), View(after, prefix, numbers).image())
+        after.data[at] ^= bit
+        if found.refused is not None:
+            refused += 1
+        else:
+            reasons[reason] = reasons.get(reason, 0) + 1
+    for reason, count in reasons.items():
+        print("spared %d: %s" % (count, reason or "for no reason"))
+    print("flipped %d bits: refused %d, explained %d, unexplained %d"
+          % (flips, refused, sum(count for reason, count in reasons.items() if reason), reasons.get(None, 0)))
+    return None not in reasons
+
+
+def main():
+    parser = argparse.ArgumentParser(description=__doc__, formatter_class=argparse.RawDescriptionHelpFormatter)
+    parser.add_argument("before")
+    parser.add_argument("after")
+    parser.add_argument("prefix", metavar="CLASS")
+    parser.add_argument("--self-test", type=int, default=0, metavar="FLIPS")
+    words = parser.parse_args()
+    started, numbers = time.time(), {}
+    before, after = Dump(words.before), Dump(words.after)
+    read = time.time()
+    if words.self_test:
+        return 0 if self_test(before, after, words.prefix, numbers, words.self_test) else 1
+    old, new = View(before, words.prefix, numbers), View(after, words.prefix, numbers)
+    built = time.time()
+    found = gcflip.compare(old.image(), new.image())
+    ended = time.time()
+    print("yes %d" % len(found.pairs) if found.refused is None else "%s\n%s" % (found.refused, described(old, found)))
+    print("%d of %d objects reached, %d addresses differ, %d roots; %.1f s for reading, %.1f for the views, %.3f for pairs and check"
+          % (len(old.at), len(before.where), len(set(old.at) - set(new.at)), len(old.roots), read - started, built - read, ended - built))
+    return 0 if found.refused is None else 1
+
+
+if __name__ == "__main__":
+    sys.exit(main())

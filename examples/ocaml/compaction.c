@@ -1,0 +1,188 @@
+/* Checks Gc.compact of OCaml 4.13. It moves the blocks of the old generation in place and leaves no forwarding pointers, so the view before is
+ * a copy of the heap, and the pairs are inferred. */
+#include "adapter.h"
+#include <inttypes.h>
+#include <stdlib.h>
+
+static gcflip_view *old_view, *new_view;
+static value *ephemerons; /* sorted */
+static size_t ephemeron_count, ephemeron_room;
+
+static bool is_in_heap(value v)
+{
+    return Is_block(v) && Is_in_heap(v);
+}
+
+static int by_value(const void *a, const void *b)
+{
+    value x = *(const value *)a, y = *(const value *)b;
+    return (x > y) - (x < y);
+}
+
+static void list_ephemerons(void)
+{
+    ephemeron_count = 0;
+    for (value v = caml_ephe_list_head; v != (value)NULL; v = Field(v, CAML_EPHE_LINK_OFFSET)) {
+        ephemerons = adapter_grown(ephemerons, &ephemeron_room, ephemeron_count, sizeof *ephemerons);
+        ephemerons[ephemeron_count++] = v;
+    }
+    if (ephemeron_count != 0)
+        qsort(ephemerons, ephemeron_count, sizeof *ephemerons, by_value);
+}
+
+static bool is_ephemeron(value v)
+{
+    return ephemeron_count != 0 && bsearch(&v, ephemerons, ephemeron_count, sizeof v, by_value) != NULL;
+}
+
+/* Places a block. A weak array has weak fields, although the collector treats it as abstract. */
+static uint32_t placed(gcflip_view *view, value block, header_t header)
+{
+    if (is_ephemeron(block))
+        return gcflip_view_object(view, (uint64_t)block, 0, Wosize_hd(header) + 1);
+    return adapter_place(view, block, header, Wosize_hd(header));
+}
+
+static uint64_t word_in(gcflip_view *view, value v)
+{
+    if (!is_in_heap(v))
+        return Is_block(v) ? gcflip_view_fixed(view, (uint64_t)v) : gcflip_view_constant(view, (uint64_t)v);
+    if (Tag_val(v) == Infix_tag)
+        return gcflip_view_inside(view, (uint64_t)(v - Infix_offset_val(v)), (uint32_t)Infix_offset_val(v));
+    return gcflip_view_reference(view, (uint64_t)v);
+}
+
+/* Finds the block that a value refers to, and places it before the collection. */
+static void find(value v)
+{
+    if (!is_in_heap(v))
+        return;
+    value block = Tag_val(v) == Infix_tag ? v - (value)Infix_offset_val(v) : v;
+    adapter_found(block, placed);
+}
+
+static uint64_t old_word(value v)
+{
+    find(v);
+    return word_in(old_view, v);
+}
+
+static uint64_t new_word(value v)
+{
+    return word_in(new_view, v);
+}
+
+/* The link is the collector's own. One field more than the block has makes it unlike every other object. */
+static void write_ephemeron(gcflip_view *view, uint32_t place, value block, uint64_t (*word)(value))
+{
+    mlsize_t length = Wosize_val(block);
+    gcflip_view_set(view, place, CAML_EPHE_LINK_OFFSET, 0);
+    gcflip_view_set(view, place, length, gcflip_view_constant(view, Abstract_tag));
+    for (mlsize_t i = CAML_EPHE_DATA_OFFSET; i < length; i++) {
+        value v = Field(block, i);
+        if (v == caml_ephe_none || (is_in_heap(v) && Tag_val(v) != Infix_tag))
+            gcflip_view_set_weak(view, place, i, v == caml_ephe_none ? 0 : (uint64_t)v);
+        else
+            gcflip_view_set(view, place, i, word(v));
+        adapter_pairs[WEAK]++;
+    }
+}
+
+static void write_block(gcflip_view *view, uint32_t place, value block, header_t header, uint64_t (*word)(value))
+{
+    if (is_ephemeron(block))
+        write_ephemeron(view, place, block, word);
+    else
+        adapter_write_fields(view, place, block, header, Wosize_hd(header), word);
+}
+
+static void add_root(value v, value *at)
+{
+    if (is_in_heap(v))
+        adapter_add_place(at, 'r');
+}
+
+static void write_before(void)
+{
+    adapter_forget();
+    list_ephemerons();
+    caml_do_roots(add_root, 1);
+    for (size_t i = 0; i < adapter_place_count; i++)
+        gcflip_view_root(old_view, old_word(adapter_places[i].before));
+    for (size_t i = 0; i < adapter_object_count; i++) {
+        struct object object = adapter_objects[i];
+        if (is_ephemeron(object.real))
+            for (mlsize_t k = CAML_EPHE_DATA_OFFSET; k < Wosize_hd(object.header); k++)
+                find(Field(object.real, k));
+        write_block(old_view, object.place, object.real, object.header, old_word);
+    }
+}
+
+/* Calls a function for each block of the heap that is not free. */
+static void each_block(void (*visit)(value block, header_t header))
+{
+    for (char *chunk = caml_heap_start; chunk; chunk = Chunk_next(chunk))
+        for (char *p = chunk, *end = chunk + Chunk_size(chunk); p < end; p += Bhsize_hp(p))
+            if (Color_hd(Hd_hp(p)) != Caml_blue && Wosize_hp(p) > 0)
+                visit(Val_hp(p), Hd_hp(p));
+}
+
+static void place_new(value block, header_t header)
+{
+    placed(new_view, block, header);
+}
+
+static void write_new(value block, header_t header)
+{
+    write_block(new_view, gcflip_view_find(new_view, (uint64_t)block), block, header, new_word);
+}
+
+static size_t blocks_seen;
+
+static void flip_one_bit(value block, header_t header)
+{
+    if (Tag_hd(header) == 0 && ++blocks_seen == 5000)
+        Field(block, 0) ^= 64;
+}
+
+static uint64_t moved_blocks(void)
+{
+    uint64_t moved = 0;
+    for (size_t i = 0; i < adapter_object_count; i++)
+        moved += gcflip_view_find(new_view, (uint64_t)adapter_objects[i].real) == 0;
+    return moved;
+}
+
+static void count_pairs(void)
+{
+    for (size_t i = 0; i < adapter_object_count; i++)
+        if (!is_ephemeron(adapter_objects[i].real))
+            adapter_count(adapter_objects[i].header);
+}
+
+value certify_compact(value unit)
+{
+    gcflip_verdict verdict = {0, 0, 0, 0};
+    old_view = gcflip_before(adapter_collection);
+    new_view = gcflip_after(adapter_collection);
+    caml_empty_minor_heap();
+    caml_finish_major_cycle();
+    caml_finish_major_cycle();
+    caml_empty_minor_heap();
+    write_before();
+    count_pairs();
+    caml_compact_heap(-1);
+    if (adapter_fault == BIT_AFTER_COMPACTION)
+        each_block(flip_one_bit);
+    list_ephemerons();
+    each_block(place_new);
+    each_block(write_new);
+    for (size_t i = 0; i < adapter_place_count; i++)
+        gcflip_view_root(new_view, new_word(*adapter_places[i].at));
+    if (gcflip_collection_infer(adapter_collection, &verdict) != GCFLIP_YES) {
+        fprintf(stderr, "compaction: ");
+        adapter_refused(&verdict);
+    }
+    fprintf(stderr, "a compaction, %zu pairs, at least %" PRIu64 " blocks moved\n", gcflip_collection_pairs(adapter_collection), moved_blocks());
+    return unit;
+}

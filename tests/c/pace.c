@@ -1,0 +1,271 @@
+/* Tests the pace of collector steps: the number of steps that are due, by rows worked by hand, and programs that call paced work alone. */
+#include "expect.h"
+#include "gcflip_heap.h"
+#include "open_heap.h"
+#include <stdbool.h>
+#include <string.h>
+
+enum { KIND = 7, G0 = 16, G1 = 17, LIVE = 500 };
+
+static gcflip_heap heap = GCFLIP_NO_HEAP;
+static gcflip_pace pace;
+static gcflip_work work;
+static gcflip_counts counts;
+static uint64_t number;
+static uint32_t flips, most_logged;
+
+static void read_counts(void)
+{
+    EXPECT(gcflip_heap_counts(&heap, &counts) == GCFLIP_DONE);
+}
+
+static gcflip_pace pace_of(uint32_t factor, uint32_t rate, uint32_t least, uint32_t left, uint32_t end, uint32_t logged)
+{
+    gcflip_pace made = {factor, rate, least, left, end, logged};
+    return made;
+}
+
+/* The steps that are due on a heap of 200 words with these counts. */
+static uint32_t due(gcflip_pace of, uint32_t end, bool is_open, uint32_t scan_place, uint32_t logged, uint32_t wanted)
+{
+    gcflip_counts c = {200, end, 200 - end, 1, 0, is_open, is_open ? 200 : 0, 0, scan_place, 0, logged};
+    return gcflip_pace_due(&of, &c, wanted);
+}
+
+/* A collection begins at 60 words, which are twice the 30 that the last flip left; at `least`, if that is more; and at the latest at
+ * 115 words, halfway from 30 to 200. */
+static void beginnings(void)
+{
+    EXPECT(due(pace_of(200, 0, 10, 30, 50, 3), 59, false, 0, 0, 0) == 0);
+    EXPECT(due(pace_of(200, 0, 10, 30, 50, 3), 60, false, 0, 0, 0) == 1);
+    EXPECT(due(pace_of(200, 9, 10, 30, 1, 0), 199, false, 0, 0, 0) == 1);
+    EXPECT(due(pace_of(200, 0, 80, 30, 50, 0), 79, false, 0, 0, 0) == 0);
+    EXPECT(due(pace_of(200, 0, 80, 30, 50, 0), 80, false, 0, 0, 0) == 1);
+    EXPECT(due(pace_of(200, 0, 500, 30, 50, 0), 114, false, 0, 0, 0) == 0);
+    EXPECT(due(pace_of(200, 0, 500, 30, 50, 0), 115, false, 0, 0, 0) == 1);
+    EXPECT(due(pace_of(10000, 0, 0, 30, 50, 0), 114, false, 0, 0, 0) == 0);
+    EXPECT(due(pace_of(10000, 0, 0, 30, 50, 0), 115, false, 0, 0, 0) == 1);
+    EXPECT(due(pace_of(100, 0, 10, 30, 50, 0), 30, false, 0, 0, 0) == 1);
+    EXPECT(due(pace_of(150, 0, 10, 33, 50, 0), 48, false, 0, 0, 0) == 0); /* 49.5 is rounded down */
+    EXPECT(due(pace_of(150, 0, 10, 33, 50, 0), 49, false, 0, 0, 0) == 1);
+    /* no room: the begin, 58 words, and the flip */
+    EXPECT(due(pace_of(200, 0, 10, 30, 50, 3), 59, false, 0, 0, 140) == 0);
+    EXPECT(due(pace_of(200, 0, 10, 30, 50, 3), 59, false, 0, 0, 141) == 60);
+    EXPECT(due(pace_of(200, 0, 10, 30, 50, 3), 59, false, 0, 0, UINT32_MAX) == 60);
+    EXPECT(due(pace_of(200, 0, 10, 30, 50, 3), 200, false, 0, 0, 0) == 201);
+}
+
+/* With one word allocated and two entries logged, and 10 words, 5 entries and the flip left: 16 steps left, 149 words free. */
+static void rates(void)
+{
+    EXPECT(due(pace_of(200, 0, 10, 30, 50, 3), 51, true, 41, 5, 0) == 6);    /* 3 times 2 */
+    EXPECT(due(pace_of(200, 0, 10, 30, 50, 3), 51, true, 41, 5, 144) == 15); /* 3 times 2 + 16 / 5 */
+    EXPECT(due(pace_of(200, 0, 10, 30, 50, 3), 51, true, 41, 5, 146) == 16); /* 3 times 2 + 16 / 3, and no more than are left */
+    EXPECT(due(pace_of(200, 0, 10, 30, 50, 3), 51, true, 41, 5, 149) == 16);
+    EXPECT(due(pace_of(200, 1, 10, 30, 50, 3), 51, true, 41, 5, 0) == 3);
+    EXPECT(due(pace_of(200, 4, 10, 30, 50, 3), 51, true, 41, 5, 146) == 12);
+    EXPECT(due(pace_of(200, UINT32_MAX, 10, 30, 50, 3), 51, true, 41, 5, 0) == 16);
+    /* nothing spent; counts that fell since the call before */
+    EXPECT(due(pace_of(200, 0, 10, 30, 50, 3), 50, true, 41, 3, 0) == 0);
+    EXPECT(due(pace_of(200, 0, 10, 30, 50, 3), 50, true, 41, 3, 150) == 13);
+    EXPECT(due(pace_of(200, 0, 10, 30, 50, 3), 40, true, 1, 0, 0) == 0);
+    EXPECT(due(pace_of(200, 0, 10, 30, 50, 3), 40, true, 1, 4, 0) == 2);
+}
+
+/* The largest counts: no sum or product wraps, and the result is cut off. */
+static void largest_counts(void)
+{
+    const gcflip_pace all = {10000, UINT32_MAX, UINT32_MAX, UINT32_MAX, 0, 0};
+    gcflip_counts c = {UINT32_MAX, UINT32_MAX, 0, 16, 0, 1, UINT32_MAX, 1, 1, 0, UINT32_MAX};
+    EXPECT(gcflip_pace_due(&all, &c, 0) == UINT32_MAX);
+    c.free = 1;
+    EXPECT(gcflip_pace_due(&all, &c, 0) == UINT32_MAX);
+    c.is_open = 0;
+    EXPECT(gcflip_pace_due(&all, &c, 0) == 1);
+    c.end = UINT32_MAX - 1;
+    EXPECT(gcflip_pace_due(&all, &c, 0) == 0);
+}
+
+static bool is_pace(uint32_t left, uint32_t end, uint32_t logged)
+{
+    return pace.left == left && pace.end == end && pace.logged == logged;
+}
+
+/* Each step of a collection of one object with one field, which takes words 1 to 3 of 11. */
+static void one_collection(void)
+{
+    const gcflip_work none = {0, 0, 0, 0};
+    EXPECT(open_plain_heap(&heap, 11, 2) == GCFLIP_DONE);
+    pace = gcflip_pace_default();
+    EXPECT(pace.factor == 200 && pace.rate == 0 && is_pace(1, 1, 0));
+    EXPECT(gcflip_heap_new_object(&heap, 0, G0, KIND, 1) == GCFLIP_MADE);
+    EXPECT(gcflip_heap_work_paced(&heap, &pace, 0, &work) == GCFLIP_DONE && memcmp(&work, &none, sizeof work) == 0);
+    EXPECT(is_pace(1, 4, 0));
+    EXPECT(gcflip_heap_new_object(&heap, 0, G1, KIND, 0) == GCFLIP_MADE);
+    EXPECT(gcflip_heap_work_paced(&heap, &pace, 0, &work) == GCFLIP_DONE && work.steps == 1 && work.last == GCFLIP_BEGUN);
+    EXPECT(is_pace(1, 6, 0));
+    EXPECT(gcflip_heap_set_nil(&heap, 0, G1) == GCFLIP_DONE);
+    EXPECT(gcflip_heap_work_paced(&heap, &pace, 0, &work) == GCFLIP_DONE && work.steps == 0);
+    /* one entry; 7 steps left and 5 words free: 1 times 2 + 7 / 5 */
+    EXPECT(gcflip_heap_put(&heap, 1, G0, 0, 2) == GCFLIP_DONE);
+    EXPECT(gcflip_heap_work_paced(&heap, &pace, 0, &work) == GCFLIP_DONE);
+    EXPECT(work.steps == 3 && work.copied == 3 && work.last == GCFLIP_PASSED && is_pace(1, 6, 1));
+    EXPECT(gcflip_heap_work_paced(&heap, &pace, 4, &work) == GCFLIP_DONE && work.steps == 0);
+    EXPECT(gcflip_heap_work_paced(&heap, &pace, 5, &work) == GCFLIP_DONE);
+    EXPECT(work.steps == 2 && work.last == GCFLIP_FLIPPED && work.pairs == 1 && is_pace(4, 4, 0));
+    /* a whole collection for want of room */
+    EXPECT(gcflip_heap_work_paced(&heap, &pace, 7, &work) == GCFLIP_DONE);
+    EXPECT(work.steps == 5 && work.last == GCFLIP_FLIPPED && is_pace(4, 4, 0));
+    EXPECT(gcflip_heap_close(&heap) == GCFLIP_DONE);
+}
+
+static void refusals(void)
+{
+    const gcflip_pace wrong[] = {{99, 0, 0, 1, 1, 0}, {10001, 0, 0, 1, 1, 0}, {0, 0, 0, 1, 1, 0}, {UINT32_MAX, 0, 0, 1, 1, 0}};
+    const gcflip_work before = {77, 77, 77, 77};
+    work = before;
+    pace = wrong[0];
+    EXPECT(gcflip_heap_pace(&heap, &pace) == GCFLIP_CLOSED);
+    EXPECT(gcflip_heap_work_paced(&heap, &pace, 1, &work) == GCFLIP_CLOSED && memcmp(&work, &before, sizeof work) == 0);
+    EXPECT(open_plain_heap(&heap, 16, 1) == GCFLIP_DONE);
+    EXPECT(gcflip_heap_new_object(&heap, 0, G0, KIND, 1) == GCFLIP_MADE);
+    for (size_t i = 0; i < sizeof wrong / sizeof *wrong; i++) {
+        pace = wrong[i];
+        EXPECT(gcflip_heap_pace(&heap, &pace) == GCFLIP_OUT_OF_RANGE && memcmp(&pace, &wrong[i], sizeof pace) == 0);
+        EXPECT(gcflip_heap_work_paced(&heap, &pace, UINT32_MAX, &work) == GCFLIP_OUT_OF_RANGE);
+        EXPECT(memcmp(&pace, &wrong[i], sizeof pace) == 0 && memcmp(&work, &before, sizeof work) == 0);
+    }
+    EXPECT(gcflip_heap_step_give_up(&heap) == GCFLIP_IDLE);
+    pace = pace_of(100, 1, 2, 77, 77, 77);
+    EXPECT(gcflip_heap_pace(&heap, &pace) == GCFLIP_DONE && pace.factor == 100 && pace.rate == 1 && pace.least == 2 && is_pace(4, 4, 0));
+    pace.factor = 10000;
+    EXPECT(gcflip_heap_step_begin(&heap) == GCFLIP_BEGUN && gcflip_heap_put(&heap, 0, G0, 0, 1) == GCFLIP_DONE);
+    EXPECT(gcflip_heap_pace(&heap, &pace) == GCFLIP_DONE && is_pace(4, 4, 1));
+    EXPECT(gcflip_heap_close(&heap) == GCFLIP_DONE);
+}
+
+/* Performs paced work, and checks that it performs as many steps as are due, unless it flipped. */
+static void paced(uint32_t wanted)
+{
+    uint32_t steps;
+    read_counts();
+    if (counts.logged > most_logged)
+        most_logged = counts.logged;
+    steps = gcflip_pace_due(&pace, &counts, wanted);
+    EXPECT(gcflip_heap_work_paced(&heap, &pace, wanted, &work) == GCFLIP_DONE && work.last != GCFLIP_NO_ROOM);
+    EXPECT(work.steps == steps || (work.last == GCFLIP_FLIPPED && work.steps < steps));
+    flips += work.last == GCFLIP_FLIPPED;
+    if (steps > 0 && wanted >= counts.free)
+        EXPECT(work.last == GCFLIP_FLIPPED); /* the steps that are left are enough */
+}
+
+/* Puts a list of this many pairs into slot G0, each with its number. */
+static void make_list(uint32_t length)
+{
+    EXPECT(gcflip_heap_set_nil(&heap, 0, G0) == GCFLIP_DONE);
+    for (uint32_t i = 1; i <= length; i++) {
+        paced(4);
+        EXPECT(gcflip_heap_set_number(&heap, 0, 1, i) == GCFLIP_DONE);
+        EXPECT(gcflip_heap_new_pair(&heap, 0, 3, KIND, 1, G0) == GCFLIP_MADE);
+        EXPECT(gcflip_heap_move(&heap, 0, G0, 3) == GCFLIP_DONE);
+    }
+    EXPECT(gcflip_heap_set_nil(&heap, 0, 3) == GCFLIP_DONE);
+}
+
+/* Turns the list of slot G0 round, so that each of its objects is made again and the old ones become garbage. */
+static void reverse_list(uint32_t length)
+{
+    EXPECT(gcflip_heap_set_nil(&heap, 0, 2) == GCFLIP_DONE);
+    for (uint32_t i = 0; i < length; i++) {
+        paced(4);
+        EXPECT(gcflip_heap_get(&heap, 0, 1, G0, 0, &number) == GCFLIP_NUMBER);
+        EXPECT(gcflip_heap_new_object(&heap, 0, 3, KIND, 2) == GCFLIP_MADE);
+        EXPECT(gcflip_heap_put(&heap, 0, 3, 0, 1) == GCFLIP_DONE && gcflip_heap_put(&heap, 0, 3, 1, 2) == GCFLIP_DONE);
+        EXPECT(gcflip_heap_move(&heap, 0, 2, 3) == GCFLIP_DONE);
+        gcflip_heap_get(&heap, 0, G0, G0, 1, &number);
+    }
+    EXPECT(gcflip_heap_move(&heap, 0, G0, 2) == GCFLIP_DONE);
+    EXPECT(gcflip_heap_set_nil(&heap, 0, 2) == GCFLIP_DONE && gcflip_heap_set_nil(&heap, 0, 3) == GCFLIP_DONE);
+}
+
+/* Reads the list: its numbers rise or fall from `first` on. */
+static void expect_list(uint32_t length, uint32_t first, bool rises)
+{
+    EXPECT(gcflip_heap_move(&heap, 0, 4, G0) == GCFLIP_DONE);
+    for (uint32_t i = 0; i < length; i++) {
+        EXPECT(gcflip_heap_get(&heap, 0, 5, 4, 0, &number) == GCFLIP_NUMBER && number == (rises ? first + i : first - i));
+        gcflip_heap_get(&heap, 0, 4, 4, 1, &number);
+    }
+    EXPECT(gcflip_heap_set_nil(&heap, 0, 4) == GCFLIP_DONE);
+}
+
+/* A program that allocates 100 times what it keeps, on a heap of this many times 2000 words: it never lacks room. */
+static void allocate(uint32_t size, gcflip_pace of)
+{
+    EXPECT(open_plain_heap(&heap, size, 1) == GCFLIP_DONE);
+    pace = of;
+    flips = most_logged = 0;
+    make_list(LIVE);
+    for (uint32_t round = 0; round < 100; round++) {
+        expect_list(LIVE, round % 2 ? 1 : LIVE, round % 2);
+        reverse_list(LIVE);
+    }
+    EXPECT(flips >= 200000 / size && most_logged < size);
+    EXPECT(gcflip_heap_close(&heap) == GCFLIP_DONE);
+}
+
+/* 32,000 puts to one field, with a collection open at each: the log never has more entries than the heap had words at the begin. */
+static void put_again_and_again(gcflip_pace of)
+{
+    EXPECT(open_plain_heap(&heap, 100000, 1) == GCFLIP_DONE);
+    pace = of;
+    make_list(LIVE);
+    EXPECT(gcflip_heap_pace(&heap, &pace) == GCFLIP_DONE);
+    flips = most_logged = 0;
+    for (uint32_t i = 0; i < 32000; i++) {
+        read_counts();
+        if (!counts.is_open)
+            EXPECT(gcflip_heap_step_begin(&heap) == GCFLIP_BEGUN);
+        EXPECT(gcflip_heap_put_number(&heap, 0, G0, 0, 1, i) == GCFLIP_DONE);
+        paced(0);
+    }
+    EXPECT(flips >= 32000 / (4 * LIVE) && most_logged <= 1 + 4 * LIVE);
+    EXPECT(gcflip_heap_get(&heap, 0, 5, G0, 0, &number) == GCFLIP_NUMBER && number == 31999);
+    EXPECT(gcflip_heap_close(&heap) == GCFLIP_DONE);
+}
+
+/* Paced work ends a collection whenever there is no room, wherever the collection stands, and however many steps were made before. */
+static void no_room_anywhere(void)
+{
+    EXPECT(open_plain_heap(&heap, 3000, 2) == GCFLIP_DONE);
+    pace = gcflip_pace_default();
+    make_list(20);
+    for (uint32_t steps = 1; steps < 110; steps++) {
+        EXPECT(gcflip_heap_work(&heap, steps, &work) == GCFLIP_DONE);
+        EXPECT(gcflip_heap_put_number(&heap, 1, G0, 0, 1, 20) == GCFLIP_DONE);
+        EXPECT(gcflip_heap_new_object(&heap, 0, 2, KIND, steps % 5) == GCFLIP_MADE);
+        paced(UINT32_MAX);
+        EXPECT(work.last == GCFLIP_FLIPPED);
+    }
+    expect_list(20, 20, false);
+    EXPECT(gcflip_heap_close(&heap) == GCFLIP_DONE);
+}
+
+int main(void)
+{
+    beginnings();
+    rates();
+    largest_counts();
+    refusals();
+    one_collection();
+    allocate(4200, pace_of(200, 0, 0, 1, 1, 0));
+    allocate(5000, gcflip_pace_default());
+    allocate(20000, gcflip_pace_default());
+    allocate(20000, pace_of(100, 0, 0, 1, 1, 0));
+    allocate(20000, pace_of(150, 8, 0, 1, 1, 0));
+    allocate(100000, pace_of(400, 0, 0, 1, 1, 0));
+    put_again_and_again(gcflip_pace_default());
+    put_again_and_again(pace_of(200, 2, 0, 1, 1, 0));
+    no_room_anywhere();
+    return 0;
+}

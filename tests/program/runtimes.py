@@ -1,0 +1,138 @@
+"""Tests of the adapters for collectors of real runtimes. A runtime that is missing is skipped, and a line says how many cases that leaves
+out."""
+import os
+import re
+import shutil
+import subprocess
+import sys
+import tempfile
+
+from .c_library import TOP, done, library, skip
+
+OCAML = os.path.join(TOP, "examples", "ocaml")
+JVM = os.path.join(TOP, "examples", "jvm")
+# The lines that examples/ocaml/check.sh prints where all is well.
+OF_OCAML = (
+    "a million pairs and more, ten kinds, and two compactions", "fault 1, a bit of a promoted object", "fault 2, a root that the collector misses",
+    "fault 3, a remembered field that it misses", "fault 4, a store without the barrier", "fault 5, a bit after a compaction",
+    "fault 6, a weak reference that is cleared", "the self-test", "under AddressSanitizer", "OCaml's compiler",
+)
+
+
+def version_of_ocaml():
+    """Returns the version of OCaml whose compiler can be linked anew, or None."""
+    if shutil.which("ocamlopt") is None:
+        return None
+    where = done(["ocamlopt", "-where"]).stdout.decode().strip()
+    linked = os.path.exists(os.path.join(where, "compiler-libs", "ocamlcommon.cmxa"))
+    return done(["ocamlopt", "-version"]).stdout.decode().strip() if linked else None
+
+
+def ocaml(_program, folder):
+    """Runs 'make check' of examples/ocaml: OCaml's own collector, with and without faults, and its compiler."""
+    version = version_of_ocaml()
+    if version is None or not version.startswith("4.13."):
+        skip("%d cases of examples/ocaml" % len(OF_OCAML), "OCaml is %s, not 4.13" % (version or "missing"))
+        return
+    built = library(folder)
+    if built is None:
+        return
+    words = ["make", "-s", "-C", OCAML, "check", "PREFIX=" + built.prefix, "OUT=" + os.path.join(folder, "ocaml")]
+    ran = subprocess.run(words, stdout=subprocess.PIPE, stderr=subprocess.STDOUT, timeout=900)
+    text = ran.stdout.decode("utf-8", "replace")
+    yield "make check of examples/ocaml", None if ran.returncode == 0 else text[-4000:]
+    told = re.findall(r"(?m)^ok: (.*)$", text)
+    for line in OF_OCAML:
+        yield "examples/ocaml: %s" % line, None if line in told else "not told"
+    for line in re.findall(r"(?m)^SKIPPED: (.*)$", text):
+        skip("a case of examples/ocaml", line)
+
+
+# HotSpot's collectors.
+COLLECTORS = ("Serial", "Parallel", "G1", "Shenandoah", "Z")
+
+
+class App:
+    """examples/jvm/App.java, compiled, and the library that certify.py calls."""
+
+    def __init__(self, folder, built):
+        self.folder = folder
+        self.environment = dict(os.environ, GCFLIP_LIBRARY=os.path.join(built.lib, "libgcflip.so"))
+        self.made = done(["javac", "-nowarn", "-d", folder, os.path.join(JVM, "App.java")])
+
+    def dumps(self, collector, *words):
+        """Runs it. Returns the folder with its dumps, and why there are none, or None."""
+        dumps = tempfile.mkdtemp(dir=self.folder)
+        size, rounds, *more = words
+        ran = done(["java", "-XX:+Use%sGC" % collector, "-Xmx256m", "-cp", self.folder, "App", size, rounds, dumps, *more])
+        return dumps, None if ran.status == 0 else ran.stderr.decode("utf-8", "replace")
+
+    def certified(self, dumps, turn, *words):
+        """Returns the status and the lines of certify.py about a collection."""
+        paths = [os.path.join(dumps, "%d%s.hprof" % (turn, which)) for which in "ab"]
+        ran = done([sys.executable, os.path.join(JVM, "certify.py"), *paths, "App", *words], env=self.environment, timeout=3600)
+        return ran.status, (ran.stdout + ran.stderr).decode("utf-8", "replace").split("\n")
+
+
+def java(folder):
+    """Returns the app, or None, with a line that says how many cases are skipped."""
+    missing = [tool for tool in ("java", "javac") if shutil.which(tool) is None]
+    if missing:
+        skip("%d cases of examples/jvm" % (4 * len(COLLECTORS) + 2), "no %s" % ", ".join(missing))
+        return None
+    built = library(folder)
+    return built and App(folder, built)
+
+
+def has_collector(collector):
+    """Returns whether this JVM has the collector. If not, a line says so."""
+    if done(["java", "-XX:+Use%sGC" % collector, "-version"]).status == 0:
+        return True
+    skip("4 cases of examples/jvm", "this JVM has no %s" % collector)
+    return False
+
+
+def jvm(_program, folder, size="1000", rounds=2):
+    """Checks collections of each collector of the JVM, and finds a bit that was flipped."""
+    app = java(folder)
+    if app is None:
+        return
+    yield "App.java is compiled", None if app.made.status == 0 else app.made.stderr.decode("utf-8", "replace")
+    for collector in filter(has_collector, COLLECTORS):
+        moved = 0
+        dumps, why = app.dumps(collector, size, str(rounds))
+        for turn in range(rounds):
+            status, lines = app.certified(dumps, turn)
+            pairs = re.fullmatch(r"yes (\d+)", lines[0])
+            moved += sum(map(int, re.findall(r" (\d+) addresses differ", "".join(lines))))
+            whole = status == 0 and pairs and int(pairs.group(1)) > 5000
+            yield "%s, collection %d" % (collector, turn), why or (None if whole else "\n".join(lines))
+        yield "%s moves objects" % collector, None if moved > 1000 else "it moved %d" % moved
+        dumps, why = app.dumps(collector, "300", "1", "fault")
+        status, lines = app.certified(dumps, 0)
+        found = (status, lines[0][:22], lines[1]) == (1, "refused 9 FieldDiffers", "the static field App.victim . size of java/util/LinkedList")
+        yield "%s, a flipped bit" % collector, why or (None if found else "\n".join(lines))
+
+
+def jvm_self_test(_program, folder, flips=40):
+    """Flips bits of a dump in turn."""
+    app = java(folder)
+    if app is None:
+        return
+    dumps, why = app.dumps("Serial", "20", "1")
+    status, lines = app.certified(dumps, 0, "--self-test", str(flips))
+    told = "flipped %d bits: " % flips in "".join(lines) and "unexplained 0" in "".join(lines)
+    yield "the self-test of examples/jvm", why or (None if status == 0 and told else "\n".join(lines))
+
+
+def table_of_readme(_program, _folder):
+    """Checks that the table of faults has each fault that is tested."""
+    with open(os.path.join(OCAML, "README.md"), encoding="utf-8") as file:
+        text = file.read()
+    for line in OF_OCAML:
+        fault = re.match(r"fault (\d), (.*)", line)
+        row = fault and "| %s | %s |" % fault.groups()
+        yield "row of %s" % line, None if row is None or row in text else "no row %r" % row
+
+
+GROUPS = [ocaml, jvm, jvm_self_test, table_of_readme]
