@@ -24,6 +24,7 @@ use gc_graph::text::Printer;
 use gc_graph::{NoMemory, Op, Reply, Source, View};
 use std::alloc::Global;
 use std::io::Read;
+use std::mem::replace;
 
 /// Performs the event in the heap, and returns its answer. On `NoMemory` the heap is unchanged.
 pub fn answer_in(heap: &mut CollectedHeap, event: &Event) -> Result<Answer, NoMemory>
@@ -151,27 +152,20 @@ impl Player {
         Ok(())
     }
 
-    /// Returns the results after the last event.
-    fn finish(mut self) -> Result<Played, NoMemory>
-        requires sound { IsState self.heap }
-        ensures report { (s : State) (events : List Event) → HasPlayed s events self
+    /// Takes the results after the last event. The player stays where it is: a copy would take 16 KiB of stack.
+    fn finish(&mut self, alloc: Global) -> Result<Played, NoMemory>
+        requires sound { IsState self.old.heap }
+        ensures report { (s : State) (events : List Event) → HasPlayed s events self.old
             → IfOk result (λ played. played.report ≡ report_of (answers s events) (state_after s events)) }
-        ensures replies { (s : State) (events : List Event) → HasPlayed s events self → self.gather ≡ Gather.Replies
+        ensures replies { (s : State) (events : List Event) → HasPlayed s events self.old → self.old.gather ≡ Gather.Replies
             → IfOk result (λ played. played.replies.items ≡ reply_text (answers s events)) }
     {
         heaps_have_addresses_as_names();
-        // The printer stays where it is: a copy would take 16 KiB of stack.
         self.printer.gather_all(&mut self.text)?;
-        let Player {
-            heap: collected,
-            report,
-            gather: _,
-            text,
-            printer: _,
-        } = self;
+        let replies = replace(&mut self.text, Vec::new(alloc));
         Ok(Played {
-            replies: text,
-            report: report.with_space(collected.heap().space()),
+            replies,
+            report: self.report.with_space(self.heap.heap().space()),
         })
     }
 }
@@ -191,7 +185,7 @@ pub fn play_all<R: Read>(
     let mut lines = EventReader::open(alloc, reader)?;
     let mut player = Player::open(alloc, lines.size, lines.mutators, gather)?;
     player.take_all(&mut lines, reader)?;
-    match player.finish() {
+    match player.finish(alloc) {
         Ok(played) => Ok(played),
         Err(NoMemory) => Err(TraceFault::NoMemory),
     }

@@ -8,11 +8,11 @@ use Rattle.gc_trace.proofs.playing.Player.finish.Goals as goal
 
 pub returns-clause-report : goal.returns-clause-report
 returns-clause-report c s events h =
-    let state = c.args.self.heap in
+    let state = c.args.self.now.heap in
     let heap = c.heap.result.now in
     let sound = c.space.ensures.sound in
     let graph = c.heaps_have_addresses_as_names.ensures.graph heap sound in
     let end : end_of heap.space ≡ heap_end state = same_end heap state sound graph c.requires.sound c.heap.ensures in
     let free : free_in heap.space ≡ state.heap.free = ap (λ (r : Roomy). r.free) c.heap.ensures in
     let space : c.space.result.now ≡ heap.space = c.space.ensures.value in
-    report_is s events state c.args.self.report c.with_space.result _ _ h.state h.counts c.with_space.ensures (ap end_of space ∙ end) (ap free_in space ∙ free)
+    report_is s events state c.args.self.now.report c.with_space.result _ _ h.state h.counts c.with_space.ensures (ap end_of space ∙ end) (ap free_in space ∙ free)
