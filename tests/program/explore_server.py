@@ -3,16 +3,17 @@ import contextlib
 import http.client
 import os
 import re
+import shutil
 import socket
 import subprocess
 import sys
 import time
 
 from . import pairs
-from .c_library import TOP
+from .c_library import TOP, done
 from .examples import FOLDER as EXAMPLES, content, names_of
 from .harness import file_of
-from .python import prepared
+from .python import PACKAGE, prepared, wrong_libraries
 from .traces import PLAYED, refused_texts, trace_and_replies
 from .web_page import ADDRESS, SECONDS, Server, hear_interrupts, served, wrong
 
@@ -149,6 +150,14 @@ def commands(_program, folder):
     python = prepared(folder)
     if python is None:
         return
+    for name, (path, part) in wrong_libraries(folder).items():
+        without = {**python.environment, "GCFLIP_LIBRARY": path}
+        found = done([sys.executable, "-m", "gcflip.explore", "--no-browser"], env=without)
+        said = found.stderr.decode()
+        right = found.status == 1 and found.stdout == b"" and said.startswith("explore: " + path) and part in said and said.count("\n") == 1
+        yield name, None if right else "status %s, said %r" % (found.status, said)
+        found = done([sys.executable, "-m", "gcflip.explore", "--help"], env=without)
+        yield "the help with %s" % name, None if found.status == 0 and found.stdout.startswith(b"usage: ") else found.stderr.decode()
     taken = socket.create_server(("127.0.0.1", 0))
     cases = {
         "a file that does not exist": ([os.path.join(folder, "nothing")], "No such file or directory"),
@@ -176,6 +185,23 @@ def commands(_program, folder):
         opened = server.ask("start")["file"]
         server.end()
         yield "opens %s" % name, wrong(opened, {"kind": name.split(".")[1], "name": name, "text": content(name).decode()})
+
+
+def found_library(_program, folder):
+    """Checks that the command finds the library by itself: in its place in the repository, and beside the package as a wheel has it."""
+    python = prepared(folder)
+    if python is None:
+        return
+    environment = {name: value for name, value in os.environ.items() if name not in ("GCFLIP_LIBRARY", "LD_LIBRARY_PATH")}
+    environment.update(PYTHONDONTWRITEBYTECODE="1")
+    package = os.path.join(folder, "copy", "bindings", "python")
+    shutil.copytree(PACKAGE, package, ignore=shutil.ignore_patterns("__pycache__"))
+    code = "import gcflip; from gcflip.library import place; print(place(), gcflip.library_version())"
+    for name, at in [("in the repository", os.path.join(folder, "copy", "bindings", "c", "out")), ("in a wheel", os.path.join(package, "gcflip"))]:
+        os.makedirs(at, exist_ok=True)
+        shutil.copy(python.environment["GCFLIP_LIBRARY"], os.path.join(at, "libgcflip.so"))
+        found = done([sys.executable, "-c", code], env=environment, cwd=package)
+        yield "the library %s" % name, wrong(found.stdout.decode(), "%s 0.1.0\n" % os.path.join(os.path.realpath(at), "libgcflip.so"))
 
 
 def answers(_program, folder):
