@@ -255,6 +255,10 @@ def crates(_program, _folder):
     wanted = [("left", "low"), ("right", "low"), ("top", "left"), ("top", "right")]
     yield "a crate that is used through another one has no arrow", None if found == wanted else "arrows %s" % found
     yield "drawing of four crates", wrong_drawing(crates_picture.drawn(uses, "four"))
+    with open(os.path.join(TOP, "crates.txt"), encoding="utf-8") as file:
+        listed = set(crates_picture.read_crates(file.read()))
+    grouped = [name for _, members in crates_picture.GROUPS.values() for name in members]
+    yield "each crate is in one group", None if sorted(grouped) == sorted(listed) else "in groups: %s" % sorted(grouped)
 
 
 # ---- the tool
@@ -288,7 +292,7 @@ def messages(program, folder):
 
 # For each example that is refused: where, as docs/FORMATS.md reads its words. The pictures of two of them are kept.
 REFUSED_AT = {
-    "replica_out_of_date": "r0 of mutator 0 . field 1: old 9, new nil",
+    "replica_out_of_date": "r0 of mutator 0 (place 16) . field 1: old 9, new nil",
     "number_moved_as_a_reference": "root 0 . field 0: old 8, new 2",
     "one_replica_for_two": "the new address 1 of pair 1 is not above that of the pair before it",
 }
@@ -375,6 +379,63 @@ def kept(program, folder):
         yield "%s is up to date" % name, None if same else "draw it again: tools/draw %s -o %s" % (os.path.relpath(source, TOP), name)
 
 
+# Points of a path: of 'M', 'L' and 'C', with absolute coordinates.
+PART = re.compile(r"([MLC])([^MLC]*)")
+
+
+def points_of(path):
+    """Returns points along a path, close to each other."""
+    found = []
+    for command, numbers in PART.findall(path):
+        values = [float(part) for part in re.split(r"[ ,]+", numbers.strip())]
+        ends = list(zip(values[::2], values[1::2]))
+        if command == "M":
+            found.append(ends[0])
+        elif command == "L":
+            for end in ends:
+                start = found[-1]
+                found += [tuple(start[k] + (end[k] - start[k]) * at / 50 for k in (0, 1)) for at in range(1, 51)]
+        else:
+            corners = [found[-1], *ends]
+            for at in range(1, 51):
+                t = at / 50
+                weights = (1 - t) ** 3, 3 * t * (1 - t) ** 2, 3 * t * t * (1 - t), t ** 3
+                found.append(tuple(sum(weight * corner[k] for weight, corner in zip(weights, corners)) for k in (0, 1)))
+    return found
+
+
+# Boxes that stand for a place, and that curves may run through.
+OPEN_BOXES = ("space", "band", "free")
+
+
+def crossed(root):
+    """Returns a path that runs through a box in which it neither begins nor ends, or None."""
+    boxes = [[float(box.get(name)) for name in ("x", "y", "width", "height")] for box in root.iter(SVG + "rect")
+             if box.get("class") and box.get("class") not in OPEN_BOXES]
+
+    def inside(point, box, margin):
+        return box[0] - margin < point[0] < box[0] + box[2] + margin and box[1] - margin < point[1] < box[1] + box[3] + margin
+
+    for path in root.iter(SVG + "path"):
+        if path.get("class"):
+            points = points_of(path.get("d"))
+            for box in boxes:
+                if any(inside(point, box, -1) for point in points) and not inside(points[0], box, 3) and not inside(points[-1], box, 3):
+                    return path.get("d")
+    return None
+
+
+def far_ends(root):
+    """Returns an arrow whose head is at no box and no text, or None."""
+    things = [[float(box.get(name)) for name in ("x", "y", "width", "height")] for box in root.iter(SVG + "rect") if box.get("class")]
+    things += [[float(text.get("x")) - 60, float(text.get("y")) - 20, 120, 20] for text in root.iter(SVG + "text")]
+    for path in root.iter(SVG + "path"):
+        x, y = points_of(path.get("d"))[-1] if path.get("marker-end") else (things[0][0], things[0][1])
+        if not any(left - 3 <= x <= left + width + 3 and top - 3 <= y <= top + height + 3 for left, top, width, height in things):
+            return path.get("d")
+    return None
+
+
 def drawn_by_hand(_program, _folder):
     for name in ("spaces", "flip", "levels"):
         path = os.path.join(TOP, "docs", "pictures", name + ".svg")
@@ -384,6 +445,8 @@ def drawn_by_hand(_program, _folder):
         inside = all(0 <= float(box.get("x")) and float(box.get("x")) + float(box.get("width")) <= width
                      and 0 <= float(box.get("y")) and float(box.get("y")) + float(box.get("height")) <= height for box in boxes)
         yield "docs/pictures/%s.svg" % name, None if boxes and inside else "a box is outside of the frame"
+        yield "curves of docs/pictures/%s.svg" % name, crossed(root) and "%s runs through a box" % crossed(root)
+        yield "ends of arrows of docs/pictures/%s.svg" % name, far_ends(root) and "%s ends at nothing" % far_ends(root)
 
 
 GROUPS = [examples, small_pairs, faults, large_pairs, written_pairs, faults_of_traces, replies, timelines, crates, messages, tool, paths, long_paths, kept,

@@ -237,7 +237,7 @@ def tour(program, folder):
             if at == 6:
                 said = shown.text("certificate-body")
                 yield "the tour's checker refuses", wrong("refused 9 FieldDiffers 0 0" in said, True)
-                yield "the tour's checker says where", wrong("r0 of mutator 0 . field 0: old 9, new nil" in said, True)
+                yield "the tour's checker says where", wrong("r0 of mutator 0 (place 16) . field 0: old 9, new nil" in said, True)
                 yield "the tour's log has an entry", wrong("object at 1, field 0" in shown.text("logs-body"), True)
             shown.click("tour-next")
         shown.wait("document.getElementById('tour').hidden")

@@ -7,6 +7,7 @@ import shutil
 import socket
 import subprocess
 import sys
+import threading
 import time
 
 from . import pairs
@@ -85,7 +86,10 @@ def refusals(_program, folder):
             yield "a length of %r" % length, wrong(status, wanted)
         yield "a body that is too long is read and discarded", wrong(server.request("POST", path, b" " * 20000000, **json_type)[0], 413)
         idle = [socket.create_connection(("127.0.0.1", server.port), timeout=SECONDS) for _ in range(40)]
-        yield "more than 32 connections are closed", wrong([is_closed(connection) for connection in idle[32:]], [True] * 8)
+        yield "of more than 32 idle connections the oldest are closed", wrong([is_closed(connection) for connection in idle[:8]], [True] * 8)
+        started = time.monotonic()
+        yield "it answers beside idle connections", wrong(server.request("POST", path, "{}", **json_type)[0], 200)
+        yield "it answers at once", None if time.monotonic() - started < 5 else "it took %.1f seconds" % (time.monotonic() - started)
         for connection in idle:
             connection.close()
         yield "it answers again once they are gone", None if answers_again(server, path) else "it does not"
@@ -101,19 +105,61 @@ def refusals(_program, folder):
 
 
 def patience(_program, folder):
-    """Checks that the server closes a connection that is silent for 20 seconds, as its comment says, and not much earlier or later."""
+    """Checks that the server closes a connection whose request is not there after 20 seconds, as its comment says, and not much earlier or
+    later: a silent one, and those that send a byte now and then, in the head and in the body."""
     with served(folder) as server:
         if server is None:
             return
-        started = time.monotonic()
-        with socket.create_connection(("127.0.0.1", server.port), timeout=40) as connection:
-            connection.sendall(b"GET ")
+        head = "POST /%s/start HTTP/1.1\r\nHost: 127.0.0.1:%d\r\nContent-Type: application/json\r\nContent-Length: 1000\r\n\r\n" % (server.token, server.port)
+        cases = {"a silent connection": (b"GET ", b""), "a connection that sends its head slowly": (b"GET ", b"x"),
+                 "a connection that sends its body slowly": (head.encode(), b" ")}
+        waited = dict.fromkeys(cases)
+        threads = [threading.Thread(target=wait_for_end, args=(server.port, *sent, waited, name)) for name, sent in cases.items()]
+        for thread in threads:
+            thread.start()
+        for thread in threads:
+            thread.join()
+        for name, seconds in waited.items():
+            yield "%s is closed" % name, None if seconds is not None and 15 < seconds < 35 else "after %s seconds" % seconds
+
+
+def wait_for_end(port, first, more, waited, name):
+    """Sends the first bytes, and then others twice a second until the server closes the connection. Notes how long that took."""
+    started = time.monotonic()
+    with socket.create_connection(("127.0.0.1", port), timeout=0.5) as connection, contextlib.suppress(ConnectionError):
+        connection.sendall(first)
+        while time.monotonic() - started < 40:
             try:
-                closed = connection.recv(1) == b""
-            except OSError:
-                closed = False
-        waited = time.monotonic() - started
-        yield "a silent connection is closed", None if closed and 15 < waited < 35 else "closed: %s, after %.1f seconds" % (closed, waited)
+                if connection.recv(4096) == b"":
+                    break
+            except socket.timeout:
+                connection.sendall(more)
+        else:
+            return
+    waited[name] = time.monotonic() - started
+
+
+def sessions(_program, folder):
+    """Checks that a tab does not wait for another one, whose request takes long, and that each has its own players."""
+    with served(folder) as server:
+        if server is None:
+            return
+        long = "heaptrace 1\nspace 1048576 mutators 1\n" + "m 0 new r0 0 500\nm 0 same r0 r0\n" * 1000 + "m 0 look r0\n" * 18000
+        found = {}
+        slow = threading.Thread(target=lambda: found.update(slow=server.ask("play", text=long, position=20000, known=0, width=900, session="one")))
+        slow.start()
+        time.sleep(0.2)
+        text = content("write_while_scanning.trace").decode()
+        waits = slow.is_alive()
+        other = server.ask("play", text=text, position=11, known=0, width=900, session="two")
+        yield "another tab is answered meanwhile", wrong((waits, slow.is_alive(), other.get("position")), (True, True, 11))
+        slow.join()
+        yield "the long request is answered", wrong(found["slow"].get("position"), 20000)
+        for number in range(20):
+            server.ask("play", text=text, position=number % 12, known=0, width=900, session="tab %d" % number)
+        yield "an old session goes on", wrong(server.ask("play", text=text, position=3, known=0, width=900, session="two").get("position"), 3)
+        for name in ("x" * 65, 7):
+            yield "the session %r" % name, wrong(server.ask("start", session=name).get("message"), "The name of the session has to be a short text.")
 
 
 def is_closed(connection):

@@ -184,7 +184,7 @@ class Certificates(unittest.TestCase):
         """The replica has nil where the write of 9 is still in the log."""
         trace = read_trace(b"heaptrace 1\nspace 32 mutators 1\nm 0 new r0 1 1\nm 0 num r1 9\nc begin\nc roots\nc scan\nm 0 put r0 0 r1\n")
         words = played(trace, 6).words()
-        self.assertEqual(state.Certificate(words).where(), "r0 of mutator 0 . field 0: old 9, new nil")
+        self.assertEqual(state.Certificate(words).where(), "r0 of mutator 0 (place 16) . field 0: old 9, new nil")
 
 
     def test_a_root_without_a_replica_becomes_nil(self):
@@ -211,7 +211,7 @@ class Checking(unittest.TestCase):
     def test_the_spoiled_word_is_named(self):
         good = next(example["text"] for example in PAIRS if example["name"] == "garbage_left_behind").encode()
         pair = read_pair(good.decode())
-        names = {("old", "words", 0): "the reserved word 0 of the old heap", ("new", "roots", 16): "root 16 of the new heap",
+        names = {("old", "words", 0): "the reserved word 0 of the old heap", ("new", "roots", 16): "r0 of mutator 0 (place 16) of the new heap",
                  ("old", "words", 5): "the header of the object at 5 of the old heap",
                  ("new", "words", 2): "the link of the object at 1 of the new heap",
                  ("old", "words", 8): "field 1 of the object at 5 of the old heap"}
@@ -226,7 +226,7 @@ class Checking(unittest.TestCase):
 
     def test_a_refusal_says_where(self):
         bad = next(example["text"] for example in PAIRS if example["name"] == "replica_out_of_date").encode()
-        self.assertEqual(checking.checked(bad, 900)["where"], "r0 of mutator 0 . field 1: old 9, new nil")
+        self.assertEqual(checking.checked(bad, 900)["where"], "r0 of mutator 0 (place 16) . field 1: old 9, new nil")
         good = next(example["text"] for example in PAIRS if example["name"] == "garbage_left_behind").encode()
         self.assertEqual(checking.checked(good, 900)["where"], "")
 

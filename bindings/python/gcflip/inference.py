@@ -24,10 +24,11 @@ class Path:
 
 
 def root_name(place: int, roots: int) -> str:
-    """Names the root at this place of a list of this length: `g3`, `r0 of mutator 1`, or `root 5`."""
+    """Names the root at this place of a list of this length: `g3 (place 3)`, `r0 of mutator 1 (place 32)`, or `root 5`."""
     if roots < 32 or roots % 16 != 0 or roots > 272:
         return "root %d" % place
-    return "g%d" % place if place < 16 else "r%d of mutator %d" % (place % 16, place // 16 - 1)
+    slot = "g%d" % place if place < 16 else "r%d of mutator %d" % (place % 16, place // 16 - 1)
+    return "%s (place %d)" % (slot, place)
 
 
 @dataclass(frozen=True)
@@ -127,4 +128,6 @@ def _is_raw(header: int) -> bool:
 
 
 def _shown_header(header: int) -> str:
-    return "%s of kind %d with %d fields" % ("a raw object" if _is_raw(header) else "an object", header // LENGTHS % 256, header % LENGTHS)
+    length = header % LENGTHS
+    fields = "1 field" if length == 1 else "%d fields" % length
+    return "%s of kind %d with %s" % ("a raw object" if _is_raw(header) else "an object", header // LENGTHS % 256, fields)

@@ -91,7 +91,7 @@ def draw_joined(picture, sides, scene):
     for old, new in scene.joined[::step]:
         if old < len(scene.old.words) and new < len(scene.new.words):
             picture.line([sides[0].place(old), sides[1].place(new)], scene.joined_as)
-    return "%ss" % scene.joined_as if step == 1 else "one of %d %ss" % (step, scene.joined_as)
+    return "%ss" % scene.joined_as if step == 1 else "one %s in %d" % (scene.joined_as, step)
 
 
 def draw_faults(picture, sides, scene):

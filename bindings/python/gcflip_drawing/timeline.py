@@ -48,8 +48,8 @@ class Column:
 
     def add(self, measure):
         self.size, self.used = measure.size, max(self.used, measure.used)
-        if measure.is_open or measure.reply.startswith("flipped") or measure.reply == "dropped":
-            self.is_open = True
+        # As with the curves, what counts is the state after the event: a flip ends its collection.
+        self.is_open = self.is_open or measure.is_open
         self.copied = max(self.copied, measure.copied)
         self.entries = [max(most, entries) for most, entries in zip(self.entries, measure.entries)]
         if mark_of(measure.reply):
@@ -243,7 +243,8 @@ def drawn(trace, measures, title, frame=Frame()):
     if frame.has_texts:
         picture.text(24, 26, title, "title")
         mutators = "1 mutator" if trace.mutators == 1 else "%d mutators" % trace.mutators
-        picture.text(24, 46, "%d events, %s, a space of %d words" % (run.count, mutators, trace.size), "label")
+        events = "1 event" if run.count == 1 else "%d events" % run.count
+        picture.text(24, 46, "%s, %s, a space of %d words" % (events, mutators, trace.size), "label")
     draw_words(picture, run)
     top = draw_marks(picture, run, frame.top() + frame.height + 4)
     top = draw_logs(picture, run, top + 8)

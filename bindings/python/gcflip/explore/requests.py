@@ -15,6 +15,7 @@ from . import checking, state
 from .playing import Player, Players
 
 MOST_EVENTS = 20000
+MOST_SESSIONS = 8
 HERE = os.path.dirname(os.path.abspath(__file__))
 # An installed package has copies of the examples. In the repository they are at the top.
 PLACES = (os.path.join(HERE, "examples"), os.path.join(HERE, "..", "..", "..", "..", "examples"))
@@ -26,6 +27,15 @@ class BadRequest(Exception):
     """Why a request cannot be answered."""
 
 
+class Session:
+    """What the server keeps for a tab of the browser."""
+
+    def __init__(self) -> None:
+        self.players = Players()
+        self.lock = threading.Lock()
+        self.chosen = random.Random()
+
+
 class Asked:
     """The JSON of a request. Its methods read parts by name, and raise BadRequest for a part that is missing or wrong."""
 
@@ -33,6 +43,14 @@ class Asked:
         if not isinstance(data, dict):
             raise BadRequest("The request is no JSON object.")
         self.data = data
+        self.session = Session()
+
+    def name_of_session(self) -> str:
+        """Returns the name that the tab gave itself. Requests without one share a session."""
+        name = self.data.get("session", "")
+        if not isinstance(name, str) or len(name) > 64:
+            raise BadRequest("The name of the session has to be a short text.")
+        return name
 
     def text(self, name: str = "text") -> str:
         value = self.data.get(name)
@@ -67,25 +85,36 @@ def read(text: str) -> Trace:
 
 
 class Desk:
-    """Answers the requests of the page, one at a time."""
+    """Answers the requests of the page: those of one tab one at a time, and those of different tabs side by side."""
 
     def __init__(self, file: dict[str, str] | None = None) -> None:
-        self.players = Players()
+        self.sessions: dict[str, Session] = {}
         self.lock = threading.Lock()
         self.file = file
-        self.chosen = random.Random()
         self.answers: dict[str, Callable[[Asked], dict[str, Any]]] = {
             "start": self.start, "play": self.play, "insert": self.insert, "pair": self.pair, "check": self.check, "spoil": self.spoil}
 
     def answer(self, name: str, data: Any) -> dict[str, Any]:
         """Answers a request. Its name is one of `answers`. Raises BadRequest."""
-        with self.lock:
+        asked = Asked(data)
+        asked.session = self.session(asked.name_of_session())
+        with asked.session.lock:
             try:
-                return self.answers[name](Asked(data))
+                return self.answers[name](asked)
             except BadTrace as fault:
                 return {"fault": {"message": str(fault), "line": fault.line}}
             except MemoryError:
                 raise BadRequest("Out of memory. The request can be tried again.") from None
+
+    def session(self, name: str) -> Session:
+        """Returns the session with this name, or a new one. Forgets the one that was not used for longest if there are too many; its tab then
+        gets a new one, which plays its trace again."""
+        with self.lock:
+            found = self.sessions.pop(name, None) or Session()
+            self.sessions[name] = found
+            for forgotten in list(self.sessions)[:-MOST_SESSIONS]:
+                del self.sessions[forgotten]
+            return found
 
     def start(self, _asked: Asked) -> dict[str, Any]:
         """Returns the examples, and the file of the command line."""
@@ -95,16 +124,9 @@ class Desk:
         """Plays a trace up to a position, or up to the next flip after it."""
         trace = asked.trace()
         position = asked.position(trace)
-        player = self.players.at(trace, position)
-        if asked.data.get("to_flip"):
-            player = self.before_flip(trace, position)
+        players = asked.session.players
+        player = before_flip(players, trace, position) if asked.data.get("to_flip") else players.at(trace, position)
         return self.told(player, trace, asked)
-
-    def before_flip(self, trace: Trace, position: int) -> Player:
-        """Returns a player before the next flip after a position, or at the position if there is none."""
-        player = self.players.at(trace, len(trace.events))
-        flips = [at for at, measure in enumerate(player.measures) if measure.reply.startswith("flipped") and at > position]
-        return self.players.at(trace, min(flips, default=position))
 
     def told(self, player: Player, trace: Trace, asked: Asked) -> dict[str, Any]:
         """Describes a player, with the replies that the page does not have yet."""
@@ -119,7 +141,7 @@ class Desk:
         if len(trace.events) >= MOST_EVENTS:
             raise BadRequest("This page plays traces of up to %d events." % MOST_EVENTS)
         if asked.data.get("line") is None:
-            line = self.players.at(trace, position).play_useful()
+            line = asked.session.players.at(trace, position).play_useful()
         else:
             line = asked.text("line")
         event = event_of(line)
@@ -128,12 +150,12 @@ class Desk:
         text = with_event(trace, position, event)
         # The longer trace may be refused: the event's mutator may not exist.
         longer = read(text)
-        return {"text": text, **self.told(self.players.at(longer, position + 1), longer, asked)}
+        return {"text": text, **self.told(asked.session.players.at(longer, position + 1), longer, asked)}
 
     def pair(self, asked: Asked) -> dict[str, Any]:
         """Returns the certificate of an open collection as a pair text."""
         trace = asked.trace()
-        words = self.players.at(trace, asked.position(trace)).words()
+        words = asked.session.players.at(trace, asked.position(trace)).words()
         if words.new is None:
             raise BadRequest("No collection is open, so there is no certificate.")
         return {"text": state.Certificate(words).text()}
@@ -144,9 +166,16 @@ class Desk:
     def spoil(self, asked: Asked) -> dict[str, Any]:
         """Changes one random word of a pair text."""
         try:
-            return checking.spoiled(asked.text().encode("utf-8", "surrogatepass"), asked.width(), self.chosen)
+            return checking.spoiled(asked.text().encode("utf-8", "surrogatepass"), asked.width(), asked.session.chosen)
         except BadText as fault:
             raise BadRequest("Only a pair text can be spoiled: %s." % fault) from None
+
+
+def before_flip(players: Players, trace: Trace, position: int) -> Player:
+    """Returns a player before the next flip after a position, or at the position if there is none."""
+    player = players.at(trace, len(trace.events))
+    flips = [at for at, measure in enumerate(player.measures) if measure.reply.startswith("flipped") and at > position]
+    return players.at(trace, min(flips, default=position))
 
 
 def with_event(trace: Trace, position: int, event: Event) -> str:

@@ -1,11 +1,14 @@
 // Asks the server. The address of the page has the token, so paths are relative.
 
+// The server keeps the heaps of each tab apart.
+const SESSION = crypto.randomUUID();
+
 // Returns the answer to a request. Throws an Error with a message for the reader if there is none.
 export async function ask(name, data) {
   let response;
   try {
     response = await fetch(name, {
-      method: "POST", headers: { "Content-Type": "application/json" }, body: JSON.stringify(data),
+      method: "POST", headers: { "Content-Type": "application/json" }, body: JSON.stringify({ ...data, session: SESSION }),
     });
   } catch {
     throw new Error("The server does not answer. Is 'python3 -m gcflip.explore' still running?");
