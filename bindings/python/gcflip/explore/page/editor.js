@@ -13,6 +13,7 @@ export class Editor {
   // `onEdit` is called with the text a moment after an edit, and `onLine` with the number of a line that is clicked.
   constructor(place, label, onEdit, onLine = () => {}) {
     this.onEdit = onEdit;
+    this.place = place;
     this.text = "";
     this.before = 0;
     this.notes = [];
@@ -98,6 +99,7 @@ export class Editor {
   }
 
   draw() {
+    this.place.dataset.before = String(this.before);
     const lines = this.before + this.area.value.split("\n").length;
     const offset = PADDING - this.area.scrollTop - this.before * LINE;
     const first = this.before + Math.max(1, Math.floor(this.area.scrollTop / LINE));
