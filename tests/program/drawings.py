@@ -67,11 +67,21 @@ def outside(picture):
     return None
 
 
+def too_wide(picture):
+    """Returns a text that does not fit into its box, or None."""
+    for shape in picture.shapes:
+        if shape["kind"] == "box" and shape["text"] and text_width(shape["text"], "value") > shape["width"] + 1:
+            return shape
+    return None
+
+
 def wrong_drawing(picture):
     """Returns what is wrong with a picture and its SVG, or None."""
     stray = outside(picture)
     if stray:
         return "outside of %d by %d: %s" % (picture.width, picture.height, stray)
+    if too_wide(picture):
+        return "too wide for its box: %s" % too_wide(picture)
     root = ElementTree.fromstring(svg.render(picture))
     drawn = [node for node in root if node.tag in (SVG + "rect", SVG + "polyline", SVG + "polygon", SVG + "path")]
     wanted = sum(1 for shape in picture.shapes if shape["kind"] != "text")
@@ -132,6 +142,11 @@ def small_pairs(_program, _folder):
     yield "drawing of six rows", wrong_drawing(drawn)
     # Arrows from roots would cross the rows.
     yield "counts of six rows", None if counted(drawn) == (80, 0, 0, 40) else "counted %s" % (counted(drawn),)
+    linked = "heappair 1\nold 200 3\n0\n33488896\n101\nroots 0\nnew 1 1\n0\nroots 0\npairs 0\nend\n"
+    drawn = pair_picture.drawn(read_pair(linked), "a long link", None)
+    texts = [shape["text"] for shape in drawn.shapes if shape["kind"] == "text"]
+    yield "drawing of a long link", wrong_drawing(drawn)
+    yield "links and kinds of three digits are whole", None if {"255", "101", "link", "kind"} <= set(texts) else "texts: %s" % texts
     yield "drawing without a verdict", wrong_drawing(
         pair_picture.drawn(read_pair(example("replica_out_of_date.pair")), "not checked", None))
 
@@ -230,6 +245,10 @@ def timelines(_program, folder):
         run = run_of(name)
         found = tuple(run.counts[role] for role in ("flip", "drop", "full", "no-room"))
         yield "marks of %s" % name, None if found == wanted else "counted %s, wanted %s" % (found, wanted)
+    run = run_of("second_collection")
+    # The flips are the events 11 and 20; each ends its collection, as the curve of the new space does.
+    yield "the shading ends with the flip", None if [(column.is_open, column.copied > 0) for column in run.columns[9:11]] == [(True, True), (False, False)] else str(
+        [(column.is_open, column.copied) for column in run.columns[9:11]])
     run = run_of("write_while_scanning")
     found = [(column.used, column.copied, sum(column.entries)) for column in run.columns]
     # An object of one field takes 3 words, and word 0 is reserved. The log has its entry from the put to the apply.

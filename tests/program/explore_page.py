@@ -152,9 +152,9 @@ def wrong_texts(program, folder):
         shown.wait_for("event", "of 20 events")
         yield "a dropped trace is opened in its tab", None
         shown.run("""const transfer = new DataTransfer();
-            transfer.items.add(new File([new Uint8Array(8388609)], "large"));
+            transfer.items.add(new File([new Uint8Array(67108865)], "large"));
             document.getElementById("trace").dispatchEvent(new DragEvent("drop", { dataTransfer: transfer, bubbles: true, cancelable: true }));""")
-        shown.wait_for("message", "This page takes texts of up to 8 MiB")
+        shown.wait_for("message", "This page takes texts of up to 64 MiB")
         yield "a file that is too large gets a message", None
         yield "no complaint", complaints(shown)
 
@@ -430,6 +430,10 @@ def refused_places(_program, folder):
             place = shown.run("""const it = document.querySelector("#pair-editor textarea");
                 return it.value.split("\\n")[%d - 1 - Number(document.querySelector("#pair-editor").dataset.before)];""" % int(rows[0][4]))
             yield "%s: the text in the editor" % name, wrong(place, rows[0][2])
+            shown.run("document.querySelector('#pair-picture rect.garbage').dispatchEvent(new MouseEvent('click', { bubbles: true }));")
+            shown.wait("document.querySelector('#pair-looked table')")
+            looked = shown.run("return [...document.querySelectorAll('#pair-looked tbody tr')].map((it) => [...it.children].map((cell) => cell.innerText));")
+            yield "%s: the objects of a block" % name, wrong([row[2] for row in looked], [lines[int(row[4]) - 1] for row in looked])
         yield "no complaint", complaints(shown)
 
 

@@ -81,10 +81,10 @@ def refusals(_program, folder):
         json_type = {"Content_Type": "application/json"}
         for name, body in {"no JSON": "{", "a byte of no text": b"\xff", "much nesting": "[" * 100000}.items():
             yield name, wrong(server.request("POST", path, body, **json_type)[0], 400)
-        for length, wanted in {"16777217": 413, "99999999999999999999": 413, "-1": 411, "1x": 411, "": 411, "\u00b2": 411}.items():
+        for length, wanted in {"134217729": 413, "99999999999999999999": 413, "-1": 411, "1x": 411, "": 411, "\u00b2": 411}.items():
             status = raw_request(server, path, "Content-Length: %s\r\n" % length)
             yield "a length of %r" % length, wrong(status, wanted)
-        yield "a body that is too long is read and discarded", wrong(server.request("POST", path, b" " * 20000000, **json_type)[0], 413)
+        yield "a body that is too long is read and discarded", wrong(server.request("POST", path, b" " * 140000000, **json_type)[0], 413)
         idle = [socket.create_connection(("127.0.0.1", server.port), timeout=SECONDS) for _ in range(40)]
         yield "of more than 32 idle connections the oldest are closed", wrong([is_closed(connection) for connection in idle[:8]], [True] * 8)
         started = time.monotonic()
@@ -209,7 +209,7 @@ def commands(_program, folder):
         "a file that does not exist": ([os.path.join(folder, "nothing")], "No such file or directory"),
         "a folder": ([folder], "Is a directory"),
         "another text": ([file_of(folder, "text", b"hello\n")], "the first line is neither that of a trace nor that of a pair text"),
-        "a text too large": ([file_of(folder, "large", b"heappair 1\n" + b"x" * 8388608)], "the page takes texts of up to 8 MiB"),
+        "a text too large": ([file_of(folder, "large", b"heappair 1\n" + b"x" * 67108864)], "the page takes texts of up to 64 MiB"),
         "a port that is taken": (["--port", str(taken.getsockname()[1])], "Address already in use"),
         "a port that does not exist": (["--port", "65536"], "port 65536"),
     }

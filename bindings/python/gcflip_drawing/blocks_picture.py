@@ -75,7 +75,7 @@ class Side:
 def draw_space(picture, side):
     for first, count, sort in side.runs():
         x, y = ROOT_X + first % side.blocks.columns * BLOCK, side.top + first // side.blocks.columns * ROW
-        tip = "words %d to %d: %s" % (first * side.scale, (first + count) * side.scale - 1, sort)
+        tip = "%s, words %d to %d: %s" % (side.space.name, first * side.scale, (first + count) * side.scale - 1, sort)
         picture.box(x, y, count * BLOCK, ROW, sort, tip=tip)
 
 

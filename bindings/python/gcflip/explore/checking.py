@@ -10,7 +10,7 @@ from gcflip.inference import root_name
 from gcflip_drawing.heap import header_of, shown, walk
 from gcflip_drawing.images_text import read_images
 from gcflip_drawing.pair_picture import scene_of
-from gcflip_drawing.pair_text import Image, PairText, Unreadable, read_pair, written
+from gcflip_drawing.pair_text import Image, PairText, Unreadable, read_accepted, read_pair, written
 from gcflip_drawing.scene import counted
 from gcflip_drawing.scene_picture import drawn_in_width
 from gcflip_drawing.scene_text import told
@@ -41,7 +41,7 @@ def checked(text: bytes, width: int, changed: Place | None = None) -> dict[str, 
         return {"line": str(fault), "fault": True, "bad_line": getattr(fault, "line", None)}
     except Refused as refusal:
         verdict, refused = Verdict(str(refusal)), refusal
-    pair = read_pair(text.decode("ascii"))
+    pair = read_accepted(text.decode("ascii"))
     return {**drawn(pair, verdict, width, changed), "where": where(pair, refused)}
 
 
@@ -103,6 +103,28 @@ def place_of(pair: PairText, verdict: Verdict) -> list[dict[str, Any]]:
     return found
 
 
+# So many objects of a block are shown.
+MOST_LOOKED_AT = 8
+
+
+def objects_between(text: str, heap: str, first: int, last: int) -> list[dict[str, Any]]:
+    """Returns the first objects of a heap with a word from `first` to `last`, each with a heading and its first rows. Raises BadText."""
+    try:
+        check_text(text.encode("utf-8", "surrogatepass"))
+    except Refused:
+        pass
+    pair = read_accepted(text)
+    image: Image = getattr(pair, heap)
+    found = []
+    for start, thing in walk(image.words, pair.raws).items():
+        if start > last or len(found) == MOST_LOOKED_AT:
+            break
+        if start + thing.size() > first:
+            rows = object_rows(image, pair.raws, start, None, first_line(pair, heap), False)
+            found.append({"heading": "object at %d of the %s heap" % (start, heap), "rows": rows})
+    return found
+
+
 def first_line(pair: PairText, heap: str) -> int:
     """Returns the number of the line that begins a heap: `old SIZE END` or `new SIZE END`."""
     return 2 if heap == "old" else 2 + 1 + len(pair.old.words) + 1 + len(pair.old.roots)
@@ -113,7 +135,7 @@ def row_of_place(part: str, address: int | None, word: int, meaning: str, line: 
     return {"part": part, "address": address, "word": str(word), "meaning": meaning, "line": line, "refused": is_refused}
 
 
-def object_rows(image: Image, raws: bool, address: int, field: int | None, first: int) -> list[dict[str, Any]]:
+def object_rows(image: Image, raws: bool, address: int, field: int | None, first: int, is_refused: bool = True) -> list[dict[str, Any]]:
     """Returns the rows of the words of an object, or of the one word at an address where no object starts."""
     header = header_of(image.words[address], raws)
     size = min(header[2] + 2 if header else 1, len(image.words) - address)
@@ -123,7 +145,7 @@ def object_rows(image: Image, raws: bool, address: int, field: int | None, first
         word = image.words[address + at]
         part = ("header" if header else "no header", "link")[at] if at < 2 else "field %d" % (at - 2)
         meaning = described_header(header) if at == 0 else "" if at == 1 else str(word) if header and header[0] else shown(word)
-        rows.append(row_of_place(part, address + at, word, meaning, first + 1 + address + at, at == refused))
+        rows.append(row_of_place(part, address + at, word, meaning, first + 1 + address + at, is_refused and at == refused))
     return rows
 
 

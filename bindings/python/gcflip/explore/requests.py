@@ -9,12 +9,11 @@ import threading
 from typing import Any, Callable
 
 from gcflip import BadText
-from gcflip_drawing.trace_text import BadTrace, Event, Trace, event_of, heading, read_trace, version_of
+from gcflip_drawing.trace_text import MOST_BYTES, BadTrace, Event, Trace, event_of, heading, read_trace, version_of
 
 from . import checking, state
 from .playing import Player, Players
 
-MOST_EVENTS = 20000
 MOST_SESSIONS = 8
 HERE = os.path.dirname(os.path.abspath(__file__))
 # An installed package has copies of the examples. In the repository they are at the top.
@@ -34,6 +33,25 @@ class Session:
         self.players = Players()
         self.lock = threading.Lock()
         self.chosen = random.Random()
+        self.flips: tuple[Trace, list[int]] | None = None
+
+    def positions_before_flips(self, trace: Trace) -> list[int]:
+        """Returns the positions before the flips of a trace, which is played to its end unless it was the last one."""
+        if self.flips is None or self.flips[0] is not trace:
+            player = self.players.at(trace, len(trace.events))
+            self.flips = trace, [at for at, measure in enumerate(player.measures) if measure.reply.startswith("flipped")]
+        return self.flips[1]
+
+    def before_flip(self, trace: Trace, position: int) -> int:
+        """Returns the position before the next flip after a position, or the position if there is none."""
+        return min([at for at in self.positions_before_flips(trace) if at > position], default=position)
+
+    def before_flip_number(self, trace: Trace, number: int) -> int:
+        """Returns the position before the flip with this number, counted from 1. Raises BadRequest if there is none."""
+        flips = self.positions_before_flips(trace)
+        if not 1 <= number <= len(flips):
+            raise BadRequest("This trace has %s." % ("no flip" if not flips else "1 flip" if len(flips) == 1 else "%d flips" % len(flips)))
+        return flips[number - 1]
 
 
 class Asked:
@@ -69,11 +87,7 @@ class Asked:
 
     def trace(self) -> Trace:
         """Returns the trace of the request. Raises BadTrace."""
-        trace = read(self.text())
-        if len(trace.events) > MOST_EVENTS:
-            raise BadRequest("This page plays traces of up to %d events, and this one has %d. 'gcflip play' plays it." % (
-                MOST_EVENTS, len(trace.events)))
-        return trace
+        return read(self.text())
 
     def position(self, trace: Trace) -> int:
         return self.number("position", len(trace.events))
@@ -92,7 +106,7 @@ class Desk:
         self.lock = threading.Lock()
         self.file = file
         self.answers: dict[str, Callable[[Asked], dict[str, Any]]] = {
-            "start": self.start, "play": self.play, "insert": self.insert, "pair": self.pair, "check": self.check, "spoil": self.spoil}
+            "start": self.start, "play": self.play, "insert": self.insert, "pair": self.pair, "check": self.check, "spoil": self.spoil, "look": self.look}
 
     def answer(self, name: str, data: Any) -> dict[str, Any]:
         """Answers a request. Its name is one of `answers`. Raises BadRequest."""
@@ -125,12 +139,16 @@ class Desk:
         trace = asked.trace()
         position = asked.position(trace)
         players = asked.session.players
-        player = before_flip(players, trace, position) if asked.data.get("to_flip") else players.at(trace, position)
+        if asked.data.get("to_flip"):
+            position = asked.session.before_flip(trace, position)
+        elif asked.data.get("flip") is not None:
+            position = asked.session.before_flip_number(trace, asked.number("flip", MOST_BYTES))
+        player = players.at(trace, position)
         return self.told(player, trace, asked)
 
     def told(self, player: Player, trace: Trace, asked: Asked) -> dict[str, Any]:
         """Describes a player, with the replies that the page does not have yet."""
-        known = asked.number("known", MOST_EVENTS)
+        known = asked.number("known", MOST_BYTES)
         replies = [measure.reply for measure in player.measures]
         return {**state.described(player, trace, asked.width()), "known": min(known, len(replies)), "replies": replies[known:]}
 
@@ -138,8 +156,6 @@ class Desk:
         """Inserts an event after the last one that was played, and plays it. Without a line, the event is the collector's useful step."""
         trace = asked.trace()
         position = asked.position(trace)
-        if len(trace.events) >= MOST_EVENTS:
-            raise BadRequest("This page plays traces of up to %d events." % MOST_EVENTS)
         if asked.data.get("line") is None:
             line = asked.session.players.at(trace, position).play_useful()
         else:
@@ -170,12 +186,15 @@ class Desk:
         except BadText as fault:
             raise BadRequest("Only a pair text can be spoiled: %s." % fault) from None
 
-
-def before_flip(players: Players, trace: Trace, position: int) -> Player:
-    """Returns a player before the next flip after a position, or at the position if there is none."""
-    player = players.at(trace, len(trace.events))
-    flips = [at for at, measure in enumerate(player.measures) if measure.reply.startswith("flipped") and at > position]
-    return players.at(trace, min(flips, default=position))
+    def look(self, asked: Asked) -> dict[str, Any]:
+        """Returns the objects of a heap of a pair text that have words in a range."""
+        heap = asked.text("heap")
+        if heap not in ("old", "new"):
+            raise BadRequest("'heap' has to be old or new.")
+        try:
+            return {"places": checking.objects_between(asked.text(), heap, asked.number("first", 1 << 20), asked.number("last", 1 << 20))}
+        except BadText as fault:
+            raise BadRequest("Only a pair text has objects: %s." % fault) from None
 
 
 def with_event(trace: Trace, position: int, event: Event) -> str:

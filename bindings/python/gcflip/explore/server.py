@@ -25,7 +25,7 @@ TYPES = {".html": "text/html; charset=utf-8", ".css": "text/css; charset=utf-8",
          ".svg": "image/svg+xml"}
 PLAIN = "text/plain; charset=utf-8"
 # The most bytes of a text, and of the JSON of a request.
-MOST_TEXT = 8388608
+MOST_TEXT = 67108864
 MOST_BYTES = 2 * MOST_TEXT
 MOST_CONNECTIONS = 32
 # The most seconds for a whole request, from the connection to the last byte of its body, and for the answer.

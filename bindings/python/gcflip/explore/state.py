@@ -109,7 +109,7 @@ def described(player: Player, trace: Trace, width: int) -> dict[str, Any]:
         "told": told(scene),
         # Where the events are in the timeline: the left end of the first one, and the width of all.
         "span": [timeline.LEFT, frame.width],
-        "timeline": timeline.drawn(trace, player.measures, "Words in use", frame).described(),
+        "timeline": timeline.drawn_run(trace, player.run_of(len(trace.events), frame), "Words in use").described(),
         "roots": roots(player, words),
         "logs": logs(player),
         "collection": opened,

@@ -26,6 +26,7 @@ export class Checker {
       this.editor.flush();
       save(this.text, `${this.name || "heaps"}.pair`);
     });
+    byId("pair-picture").addEventListener("click", (event) => this.look(event));
     new ResizeObserver(() => this.resized()).observe(byId("pair-picture"));
   }
 
@@ -118,13 +119,26 @@ export class Checker {
     verdict.textContent = line + (meaning ? ` (${meaning})` : "") + (where ? ` \u2014 ${where}` : "");
     verdict.className = fault || refused ? "verdict refused" : "verdict accepted";
     const rows = (place ?? []).flatMap((each) => each.rows).filter((row) => row.refused);
-    const lines = Object.fromEntries(rows.map((row) => [row.line, line]));
-    this.editor.note(bad ? { [bad]: line } : lines, null, bad ?? rows[0]?.line ?? null);
+    const noted = bad ? [bad] : rows.map((row) => row.line);
+    this.editor.note((each) => (noted.includes(each) ? line : undefined), null, bad ?? rows[0]?.line ?? null);
     byId("pair-place").replaceChildren(...(place ?? []).map((each) => this.table(each)));
+    byId("pair-looked").replaceChildren();
     byId("pair-picture").replaceChildren(...(picture ? [render(picture)] : []));
     byId("pair-text").replaceChildren(...(told ?? []).map((each) => make("li", {}, each)));
     byId("spoil").disabled = Boolean(fault) || !this.text.startsWith("heappair ");
     this.onShow();
+  }
+
+  // Shows the objects of a block that is clicked.
+  look(event) {
+    const tip = event.target.querySelector?.("title")?.textContent ?? "";
+    const found = /^(old|new) space, words (\d+) to (\d+)/.exec(tip);
+    if (found) {
+      this.then(async () => {
+        const { places } = await ask("look", { text: this.text, heap: found[1], first: Number(found[2]), last: Number(found[3]) });
+        byId("pair-looked").replaceChildren(...places.map((each) => this.table(each)));
+      });
+    }
   }
 
   // Returns a table of the words of a refused object. A click on a line number shows that line in the editor.

@@ -63,6 +63,14 @@ export class Collector {
       });
     }
     byId("play-to").addEventListener("change", () => this.goTo(Number(byId("play-to").value)));
+    byId("play-to-flip").addEventListener("change", () => {
+      const flip = Number(byId("play-to-flip").value);
+      if (Number.isInteger(flip) && flip > 0) {
+        this.editor.flush();
+        this.stop();
+        this.then(() => this.asked(this.position, { flip }));
+      }
+    });
     byId("trace-save").addEventListener("click", () => {
       this.editor.flush();
       save(this.text, `${this.name || "trace"}.trace`);
@@ -275,13 +283,14 @@ export class Collector {
 
   show(answer) {
     this.replies.length = answer.known;
-    this.replies.push(...answer.replies);
+    for (const reply of answer.replies) {
+      this.replies.push(reply);
+    }
     this.position = answer.position;
     this.replies.length = this.position;
     this.total = answer.total;
     this.drawnWidth = this.width();
-    const notes = this.replies.reduce((found, reply, at) => Object.assign(found, { [at + FIRST]: reply }), {});
-    this.editor.note(notes, this.position > 0 ? this.position + FIRST - 1 : null, null);
+    this.editor.note((line) => this.replies[line - FIRST], this.position > 0 ? this.position + FIRST - 1 : null, null);
     byId("trace-fault").textContent = "";
     byId("trace-fault").hidden = true;
     this.showEvent(answer);
@@ -319,7 +328,7 @@ export class Collector {
     fault.textContent = message + (cut ? ". The last line lacks its line feed: press Enter at its end." : "");
     fault.hidden = false;
     this.total = 0;
-    this.editor.note({ [at]: message }, null, at);
+    this.editor.note((line) => (line === at ? message : undefined), null, at);
     this.enable(false);
   }
 

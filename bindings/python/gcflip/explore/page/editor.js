@@ -16,7 +16,7 @@ export class Editor {
     this.place = place;
     this.text = "";
     this.before = 0;
-    this.notes = [];
+    this.notes = () => undefined;
     this.current = null;
     this.bad = null;
     this.waiting = null;
@@ -48,7 +48,7 @@ export class Editor {
     this.before = 0;
     this.lines = this.cut ? text.split("\n") : null;
     this.area.value = this.cut ? this.part(1) : text;
-    this.note([], null, null);
+    this.note(() => undefined, null, null);
   }
 
   // Returns the lines of a long text around one of them, which are shown in its place.
@@ -73,7 +73,7 @@ export class Editor {
     }
   }
 
-  // Sets the notes of lines, the current line and the faulty one. Lines are counted from 1.
+  // Sets the notes of lines, by a function of their numbers, the current line and the faulty one. Lines are counted from 1.
   note(notes, current, bad) {
     const moved = current !== this.current;
     Object.assign(this, { notes, current, bad });
@@ -108,7 +108,7 @@ export class Editor {
     const inSight = Array.from({ length: Math.max(0, last - first + 1) }, (_, i) => first + i);
     this.numbers.style.width = `${14 + 8 * Math.max(3, String(lines).length)}px`;
     this.numbers.replaceChildren(...inSight.map((line) => this.placed(line, place(line), String(line))));
-    this.replies.replaceChildren(...inSight.filter((line) => this.notes[line]).map((line) => this.placed(line, place(line), this.notes[line])));
+    this.replies.replaceChildren(...inSight.filter((line) => this.notes(line)).map((line) => this.placed(line, place(line), this.notes(line))));
     this.marker.hidden = this.current === null;
     this.marker.style.top = place(this.current);
   }

@@ -31,7 +31,7 @@ export function say(text) {
 }
 
 // The server refuses longer texts.
-const MOST_BYTES = 8388608;
+const MOST_BYTES = 67108864;
 
 // Returns the text of a file. A byte that is not text becomes a character that no format has. Throws an Error if the file is too large.
 export async function textOf(file) {
