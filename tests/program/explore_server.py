@@ -144,17 +144,22 @@ def sessions(_program, folder):
     with served(folder) as server:
         if server is None:
             return
-        long = "heaptrace 1\nspace 1048576 mutators 1\n" + "m 0 new r0 0 500\nm 0 same r0 r0\n" * 1000 + "m 0 look r0\n" * 18000
-        found = {}
-        slow = threading.Thread(target=lambda: found.update(slow=server.ask("play", text=long, position=20000, known=0, width=900, session="one")))
+        long = "heaptrace 1\nspace 1048576 mutators 1\n" + "m 0 new r0 0 500\nm 0 same r0 r0\n" * 1000 + "m 0 look r0\n" * 398000
+        found, began = {}, time.monotonic()
+
+        def play_long():
+            found["slow"] = server.ask("play", text=long, position=400000, known=400000, width=900, session="one")
+            found["slow took"] = time.monotonic() - began
+
+        slow = threading.Thread(target=play_long)
         slow.start()
         time.sleep(0.2)
         text = content("write_while_scanning.trace").decode()
-        waits = slow.is_alive()
         other = server.ask("play", text=text, position=11, known=0, width=900, session="two")
-        yield "another tab is answered meanwhile", wrong((waits, slow.is_alive(), other.get("position")), (True, True, 11))
+        took = time.monotonic() - began
         slow.join()
-        yield "the long request is answered", wrong(found["slow"].get("position"), 20000)
+        yield "the long request and the short one are answered", wrong((found["slow"].get("position"), other.get("position")), (400000, 11))
+        yield "another tab is answered meanwhile", None if took < 0.7 * found["slow took"] else "after %.1f of %.1f seconds" % (took, found["slow took"])
         for number in range(20):
             server.ask("play", text=text, position=number % 12, known=0, width=900, session="tab %d" % number)
         yield "an old session goes on", wrong(server.ask("play", text=text, position=3, known=0, width=900, session="two").get("position"), 3)
