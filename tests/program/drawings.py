@@ -3,13 +3,14 @@ text that cannot be drawn gets a message."""
 import json
 import os
 import re
+import shutil
 import subprocess
 import sys
 import xml.etree.ElementTree as ElementTree
 
 from . import pairs
 from .c_library import library
-from .harness import file_of, run
+from .harness import Skipped, file_of, run
 from .traces import PLAYED, refused_texts, trace_and_replies
 
 TOP = os.path.normpath(os.path.join(os.path.dirname(os.path.abspath(__file__)), "..", ".."))
@@ -20,15 +21,18 @@ sys.path[:0] = [os.path.join(TOP, "tools"), os.path.join(TOP, "bindings", "pytho
 from drawing import crates_picture, svg  # noqa: E402
 from drawing.machine import Machine  # noqa: E402
 from gcflip_drawing import pair_picture, timeline  # noqa: E402
+from gcflip_drawing.graph_picture import drawn_as_graph  # noqa: E402
 from gcflip_drawing.pair_text import read_pair, written  # noqa: E402
 from gcflip_drawing.picture import text_width  # noqa: E402
 from gcflip_drawing.trace_text import BadTrace, read_trace  # noqa: E402
 from gcflip_drawing.verdicts import MEANINGS, Verdict  # noqa: E402
 
 
-def draw(*words, shared="no library"):
-    """Runs tools/draw with this shared library, and returns its status, its standard output and its standard error."""
+def draw(*words, shared="no library", path=None):
+    """Runs tools/draw with this shared library and path, and returns its status, its standard output and its standard error."""
     environment = dict(os.environ, GCFLIP_LIBRARY=shared, PYTHONDONTWRITEBYTECODE="1")
+    if path is not None:
+        environment["PATH"] = path
     done = subprocess.run([sys.executable, TOOL, *words], stdout=subprocess.PIPE, stderr=subprocess.PIPE, timeout=120, env=environment)
     return done.returncode, done.stdout.decode(), done.stderr.decode()
 
@@ -149,6 +153,32 @@ def small_pairs(_program, _folder):
     yield "links and kinds of three digits are whole", None if {"255", "101", "link", "kind"} <= set(texts) else "texts: %s" % texts
     yield "drawing without a verdict", wrong_drawing(
         pair_picture.drawn(read_pair(example("replica_out_of_date.pair")), "not checked", None))
+
+
+def graphs(_program, _folder):
+    """Checks graphs of objects: each object has its box, each reference and each root its arrow, and each replica the name of its original."""
+    if shutil.which("dot") is None:
+        yield "graphs of objects", Skipped("there is no dot on the path")
+        return
+    for name, (objects, arrows, roots, _) in COUNTS.items():
+        verdict = Verdict(example(name + ".verdict").strip())
+        drawn = drawn_as_graph(pair_picture.scene_of(read_pair(example(name + ".pair")), name, verdict))
+        tips = [shape["tip"] for shape in drawn.shapes if shape["kind"] == "box" and shape["tip"].startswith("object at ")]
+        heads = [shape["role"] for shape in drawn.shapes if shape["kind"] == "arrow"]
+        found = len(tips), len(heads) - heads.count("rooted"), heads.count("rooted")
+        # The one unreachable object is left out.
+        wanted = objects - (1 if name == "garbage_left_behind" else 0), arrows, roots
+        yield "graph of %s" % name, wrong_drawing(drawn) or (None if found == wanted else "counted %s" % (found,))
+        named = [shape["text"] for shape in drawn.shapes if shape["kind"] == "box" and " of " in shape["text"]]
+        wanted = len({new for _, new in read_pair(example(name + ".pair")).pairs})
+        yield "originals in the graph of %s" % name, None if len(named) == wanted else "named %s" % named
+    text, verdict = pairs.all_paired(400, 1, altered=(300,))
+    drawn = drawn_as_graph(pair_picture.scene_of(read_pair(text.decode()), "400 objects", Verdict(verdict)))
+    faults_in = [shape for shape in shapes_of(drawn, "fault") if shape["kind"] == "box"]
+    # The legend has one more.
+    yield "graph of 400 objects", wrong_drawing(drawn) or (None if len(faults_in) == 3 else "%d marks" % len(faults_in))
+    status, _, said = draw(os.path.join(TOP, "examples", "replica_out_of_date.pair"), "--graph", "--program", "none", path="")
+    yield "a graph without Graphviz", None if status == 1 and said.endswith("Graphviz's 'dot' is not on the path\n") else said
 
 
 def within(inner, outer):
@@ -468,5 +498,5 @@ def drawn_by_hand(_program, _folder):
         yield "ends of arrows of docs/pictures/%s.svg" % name, far_ends(root) and "%s ends at nothing" % far_ends(root)
 
 
-GROUPS = [examples, small_pairs, faults, large_pairs, written_pairs, faults_of_traces, replies, timelines, crates, messages, tool, paths, long_paths, kept,
+GROUPS = [examples, small_pairs, graphs, faults, large_pairs, written_pairs, faults_of_traces, replies, timelines, crates, messages, tool, paths, long_paths, kept,
           drawn_by_hand]
