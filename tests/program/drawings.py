@@ -393,17 +393,21 @@ def long_paths(_program, _folder):
 
 def tool(program, folder):
     """Runs the tool, which asks the checker and writes the picture or its description."""
-    pair = os.path.join(TOP, "examples", "one_replica_for_two.pair")
+    pair = os.path.join(TOP, "examples", "replica_out_of_date.pair")
     out = os.path.join(folder, "out.svg")
     status, written, said = draw(pair, "-o", out, "--program", program)
     right = (status, written) == (0, "") and said.startswith("draw: no path to the fault: ") and said.count("\n") == 1
     yield "a file is written", None if right else "status %d, said %r" % (status, said)
     with open(out, encoding="utf-8") as file:
-        yield "the verdict is shown", None if "refused 6 NotRising 1" in file.read() else "there is no verdict in the picture"
+        yield "the verdict is shown", None if "refused 9 FieldDiffers 0 1" in file.read() else "there is no verdict in the picture"
     status, written, _ = draw(pair, "--json", "--program", program)
     described = json.loads(written)
-    right = status == 0 and len(described["shapes"]) == len(drawn_example("one_replica_for_two").shapes)
+    right = status == 0 and len(described["shapes"]) == len(drawn_example("replica_out_of_date").shapes)
     yield "the description has all shapes", None if right else "%d shapes" % len(described["shapes"])
+    # This refusal is told by the pairs alone, so that it needs no library.
+    status, written, said = draw(os.path.join(TOP, "examples", "one_replica_for_two.pair"), "--json", "--program", program)
+    right = (status, said) == (0, "") and REFUSED_AT["one_replica_for_two"] in joined_texts(json.loads(written), "label")
+    yield "a place that needs no path", None if right else "status %d, said %r" % (status, said)
 
 
 def kept_pictures():
