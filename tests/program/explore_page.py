@@ -377,6 +377,23 @@ def places(_program, folder):
         cut = shown.run("""return [...document.querySelectorAll("#trace-editor .numbers div")].filter((it) => it.scrollWidth > it.clientWidth)
             .map((it) => it.textContent);""")
         yield "line numbers of four digits", wrong((cut, "1202" in shown.text("trace-editor")), ([], True))
+        shown.set("#trace-examples", "second_collection")
+        shown.wait_for("event", "of 20 events")
+        # Its flips are the events 11 and 20.
+        shown.set("#play-to-flip", "2")
+        shown.wait_for("event", "Event 19 of 20")
+        shown.set("#play-to-flip", "3")
+        shown.wait_for("message", "This trace has 2 flips.")
+        yield "a flip by its number", None
+        # A text that is too long for the editor is shown in part.
+        shown.drop_text("#trace", "long", "heaptrace 1\nspace 24 mutators 1\n" + "m 0 look r0\n" * 39999 + "m 0 nil r1\n")
+        shown.wait_for("event", "of 40000 events")
+        shown.set("#play-to", "40000")
+        shown.wait_for("event", "Event 40000 of 40000")
+        found = shown.run("""const before = Number(document.getElementById("trace-editor").dataset.before);
+            return [document.querySelector("#trace-editor textarea").value.split("\\n")[40002 - 1 - before],
+                document.querySelector("#trace-editor .numbers .current").textContent];""")
+        yield "the current line of a long text", wrong(found, ["m 0 nil r1", "40002"])
         yield "no complaint", complaints(shown)
 
 
