@@ -169,6 +169,11 @@ def graphs(_program, _folder):
         # The one unreachable object is left out.
         wanted = objects - (1 if name == "garbage_left_behind" else 0), arrows, roots
         yield "graph of %s" % name, wrong_drawing(drawn) or (None if found == wanted else "counted %s" % (found,))
+        ends = [shape["points"][-1] for shape in drawn.shapes if shape["kind"] == "arrow"]
+        boxes = [shape for shape in drawn.shapes if shape["kind"] == "box" and shape["tip"].startswith("object at ")]
+        loose = [end for end in ends if not any(box["x"] - 2 <= end[0] <= box["x"] + box["width"] + 2 and box["y"] - 2 <= end[1] <= box["y"] + box["height"] + 2
+                                                for box in boxes)]
+        yield "arrows in the graph of %s end at objects" % name, None if not loose else "at %s" % loose
         named = [shape["text"] for shape in drawn.shapes if shape["kind"] == "box" and " of " in shape["text"]]
         wanted = len({new for _, new in read_pair(example(name + ".pair")).pairs})
         yield "originals in the graph of %s" % name, None if len(named) == wanted else "named %s" % named
