@@ -4,7 +4,7 @@
  * checker decides whether mutators can continue in the new image without noticing. It makes no assumption
  * about who produced the images and the pairs: wrong numbers are refused, not obeyed.
  *
- * The promise, proved of the code behind these calls: if a call returns GCFLIP_YES, then
+ * The promise, proved for the code behind these calls: if a call returns GCFLIP_YES, then
  * - every object that the old roots reach has exactly one replica, equal to it field by field, and no two of
  *   these objects share a replica;
  * - every path from a root finds the same in both heaps;

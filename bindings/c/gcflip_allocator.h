@@ -4,7 +4,8 @@
  * program that does so includes this header. What it owes:
  * - all three use one allocator, and none of them is left to the library;
  * - they can be called by several threads at a time, if the program calls the libraries so;
- * - they do not call the libraries.
+ * - they do not call the libraries;
+ * - they return. After a longjmp out of one of them, or a C++ exception, the heap that made the call cannot be used or closed any more.
  */
 #ifndef GCFLIP_ALLOCATOR_H
 #define GCFLIP_ALLOCATOR_H

@@ -5,11 +5,11 @@
  * gcflip_heap_close frees the heap. Every call takes the handle and returns a number of gcflip_answers.h: the reply, or
  * the reason why the call was refused. A refused call changes nothing, neither the heap nor its output arguments.
  *
- * The promise, proved of the code behind these calls:
+ * The promise, proved for the code behind these calls:
  * - each reply and each new state is the one that the definitions of the collector give. So mutators get the
  *   replies of a heap without a collector, except that an allocation may find the heap full;
  * - a flip happens only if its certificate holds, and the flip of a ready collection passes. That each flip asks the checker is
- *   proved one layer below, of CollectedHeap::flip in crates/gc_core;
+ *   proved one layer below, for CollectedHeap::flip in crates/gc_core;
  * - no step lacks room if the new space is at least as large as the heap;
  * - only open, step_begin, step_begin_sized, step_flip, work, work_sized and work_paced can return GCFLIP_NO_MEMORY, and, while
  *   a collection is open, put, put_number, new_pair and new_from.

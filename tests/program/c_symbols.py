@@ -87,7 +87,7 @@ def versions(_program, _folder):
     yield "the header's number is that of its text", None if number == 10000 * major + 100 * minor + patch else "it is %d" % number
     places = [("crates/gcflip_c/src/version.rt", r"const VERSION: u32 = (\d+);", str(number)),
               ("bindings/python/pyproject.toml", r"(?m)^version = \"(.*)\"", text), ("bindings/rust/Cargo.toml", r"(?m)^version = \"(.*)\"", text),
-              ("CHANGELOG.md", r"(?m)^## (\d+\.\d+\.\d+)", text)]
+              ("bindings/python/gcflip/library.py", r"(?m)^VERSION = (\d+)", str(number)), ("CHANGELOG.md", r"(?m)^## (\d+\.\d+\.\d+)", text)]
     for path, pattern, wanted in places:
         found = re.search(pattern, read(*path.split("/")))
         yield "version in %s" % path, None if found and found.group(1) == wanted else "it is %s, wanted %s" % (found and found.group(1), wanted)

@@ -36,7 +36,7 @@ COMPARED = {
     ),
     "a_root_of_a_mutator": (
         "old 1 1/0/roots 32/%s15/%s/new 1 1/0/roots 32/%s" % ("0/" * 17, "/".join("0" * 14), "/".join("0" * 32)),
-        "refused 10 RootDiffers 17\nr1 of mutator 0: old 7, new nil",
+        "refused 10 RootDiffers 17\nr1 of mutator 0 (place 17): old 7, new nil",
     ),
     "old_is_no_heap": (
         "old 8 3/0/5/0/roots 0/new 1 1/0/roots 0",

@@ -11,7 +11,8 @@ from prover.axioms import PRODUCTS, counts_in, lines_to_keep, row_of, verdict_of
 from prover.crates import CRATES, TOP, crates_listed
 from prover.edits import BadEdit, Edit, edits_of
 
-from .harness import Skipped, file_of
+from .c_library import library
+from .harness import Skipped
 
 SOURCES = (".rt", ".antt", ".edit", ".py", ".c", ".txt")
 WORD = re.compile(r"[A-Za-z_]\w{3,}")
@@ -108,12 +109,19 @@ STUMBLED_OVER = {
     "that there isn't": "that does not exist",
     "as it is told": "as it stands",
     "the merge gate": "CI",
+    "of up to 8 MiB, which up to 16 clients": "Up to 16 clients (mutators) share one heap",
+    "while the mutators run: a few": "interleaved with the mutators: a few",
+    "proved of the code": "proved for",
+    "trust a flip by the checker's theorem alone": "so that trusting a flip requires only the checker's theorem",
+    "contract whose conditions no call can meet": "every contract can be met by some call",
 }
 
 
 def words(_program, _folder):
-    for document in documents():
-        text = " ".join(text_of(document).split())
+    headers = sorted(os.path.relpath(path, TOP) for path in glob.glob(os.path.join(TOP, "bindings", "c", "*.h")))
+    for document in documents() + headers:
+        # A comment of C has a star at the head of each line.
+        text = " ".join(re.sub(r"(?m)^ \*", "", text_of(document)).split())
         found = ["'%s': write '%s'" % pair for pair in STUMBLED_OVER.items() if pair[0] in text]
         yield "words of %s" % document, ", ".join(found) or None
 
@@ -282,11 +290,11 @@ def pieces(block):
 
 
 def quotes(_program, _folder):
-    """The code that the documents show is in the sources. README's C is in none: it is compiled."""
+    """The code that the documents show is in the sources."""
     for language, endings in QUOTED.items():
         texts = [" ".join(text.split()) for path, text in sources() if path.endswith(endings)]
         for document in documents():
-            found = blocks(document, language) if (language, document) != ("c", "README.md") else []
+            found = blocks(document, language)
             missing = [piece[:60] for block in found for piece in pieces(block) if not any(piece in text for text in texts)]
             if found:
                 yield "%s of %s" % (language, document), "in no source: %s" % ", ".join(missing) if missing else None
@@ -320,15 +328,36 @@ def outputs_in_c(_program, _folder):
 
 
 def c_of_readme(_program, folder):
-    """Compiles README's C as the body of a function."""
-    if shutil.which("gcc") is None:
-        yield "C of README.md compiles", Skipped("there is no gcc on the path")
+    """Runs README's line that compiles and starts a program, with the library as it is now, and compares what it prints with the block of text
+    behind the line. The line compiles the program whose code README shows."""
+    found = re.search(r"(?m)^    (cc .*) && (\./\w+)$", text_of("README.md"))
+    built = library(folder) if found else None
+    if built is None:
+        yield "C of README.md runs", Skipped("there is no library") if found else "README has no line that compiles a program"
         return
-    for block in blocks("README.md", "c"):
-        source = file_of(folder, "readme.c", ("#include \"gcflip_heap.h\"\nvoid sample(void)\n{\n%s\n}\n" % "\n".join(block)).encode())
-        words = ["gcc", "-std=c11", "-Wall", "-Werror", "-fsyntax-only", "-I", os.path.join(TOP, "bindings", "c"), source]
-        found = subprocess.run(words, stdout=subprocess.PIPE, stderr=subprocess.STDOUT)
-        yield "C of README.md compiles", None if found.returncode == 0 else found.stdout.decode("utf-8", "replace")
+    line = found.group(0).replace("bindings/c/out/libgcflip.a", built.archive()[0]).replace("bindings/c", os.path.join(TOP, "bindings", "c"))
+    ran = subprocess.run(["bash", "-c", line.strip()], cwd=folder, stdout=subprocess.PIPE, stderr=subprocess.STDOUT)
+    shown = ["\n".join(block) + "\n" for block in blocks("README.md", "text")]
+    yield "C of README.md runs", None if [ran.stdout.decode("utf-8", "replace")] == shown else "printed %r, but %r is shown" % (ran.stdout, shown)
+    source = re.search(r"bindings/c/examples/\w+\.c", found.group(1)).group(0)
+    code = " ".join(text_of(source).split())
+    missing = [piece[:60] for block in blocks("README.md", "c") for piece in pieces(block) if piece not in code]
+    yield "C of README.md is in %s" % source, ", ".join(missing) or None
+
+
+# What README's first screen has, in this order, and how many lines it is.
+FIRST_SCREEN, FIRST_LINES = ["proved", "For whom", "Why", "$ tools/draw"], 25
+
+
+def first_screen(_program, _folder):
+    """Checks that README says within its first lines what is proved, for whom, why, and how to run it, and names limits and tables later."""
+    lines = text_of("README.md").split("\n")[:FIRST_LINES]
+    shown = "\n".join(lines)
+    places = [shown.find(part) for part in FIRST_SCREEN]
+    yield "first screen of README.md", None if -1 not in places and places == sorted(places) else "places %s of %s" % (places, FIRST_SCREEN)
+    yield "no table on the first screen", None if not any(line.startswith("|") for line in lines) else "there is one"
+    whole = text_of("README.md")
+    yield "C before the tables", None if -1 < whole.find("```c\n") < whole.find("\n|") else "a table comes first"
 
 
 # ---- commands
@@ -449,4 +478,4 @@ def applied_edits(_program, _folder):
             yield "edit %s/%s" % (crate, name), why_not_applied(crate, name)
 
 
-GROUPS = [names, words, files, edits, hand_tried, applied_edits, quotes, names_in_c, outputs_in_c, c_of_readme, commands, commands_of_tables, definitions, counts, axioms]
+GROUPS = [names, words, files, edits, hand_tried, applied_edits, quotes, names_in_c, outputs_in_c, c_of_readme, first_screen, commands, commands_of_tables, definitions, counts, axioms]

@@ -3,13 +3,14 @@ text that cannot be drawn gets a message."""
 import json
 import os
 import re
+import shutil
 import subprocess
 import sys
 import xml.etree.ElementTree as ElementTree
 
 from . import pairs
 from .c_library import library
-from .harness import file_of, run
+from .harness import Skipped, file_of, run
 from .traces import PLAYED, refused_texts, trace_and_replies
 
 TOP = os.path.normpath(os.path.join(os.path.dirname(os.path.abspath(__file__)), "..", ".."))
@@ -20,15 +21,18 @@ sys.path[:0] = [os.path.join(TOP, "tools"), os.path.join(TOP, "bindings", "pytho
 from drawing import crates_picture, svg  # noqa: E402
 from drawing.machine import Machine  # noqa: E402
 from gcflip_drawing import pair_picture, timeline  # noqa: E402
+from gcflip_drawing.graph_picture import drawn_as_graph  # noqa: E402
 from gcflip_drawing.pair_text import read_pair, written  # noqa: E402
 from gcflip_drawing.picture import text_width  # noqa: E402
 from gcflip_drawing.trace_text import BadTrace, read_trace  # noqa: E402
 from gcflip_drawing.verdicts import MEANINGS, Verdict  # noqa: E402
 
 
-def draw(*words, shared="no library"):
-    """Runs tools/draw with this shared library, and returns its status, its standard output and its standard error."""
+def draw(*words, shared="no library", path=None):
+    """Runs tools/draw with this shared library and path, and returns its status, its standard output and its standard error."""
     environment = dict(os.environ, GCFLIP_LIBRARY=shared, PYTHONDONTWRITEBYTECODE="1")
+    if path is not None:
+        environment["PATH"] = path
     done = subprocess.run([sys.executable, TOOL, *words], stdout=subprocess.PIPE, stderr=subprocess.PIPE, timeout=120, env=environment)
     return done.returncode, done.stdout.decode(), done.stderr.decode()
 
@@ -67,11 +71,21 @@ def outside(picture):
     return None
 
 
+def too_wide(picture):
+    """Returns a text that does not fit into its box, or None."""
+    for shape in picture.shapes:
+        if shape["kind"] == "box" and shape["text"] and text_width(shape["text"], "value") > shape["width"] + 1:
+            return shape
+    return None
+
+
 def wrong_drawing(picture):
     """Returns what is wrong with a picture and its SVG, or None."""
     stray = outside(picture)
     if stray:
         return "outside of %d by %d: %s" % (picture.width, picture.height, stray)
+    if too_wide(picture):
+        return "too wide for its box: %s" % too_wide(picture)
     root = ElementTree.fromstring(svg.render(picture))
     drawn = [node for node in root if node.tag in (SVG + "rect", SVG + "polyline", SVG + "polygon", SVG + "path")]
     wanted = sum(1 for shape in picture.shapes if shape["kind"] != "text")
@@ -132,8 +146,44 @@ def small_pairs(_program, _folder):
     yield "drawing of six rows", wrong_drawing(drawn)
     # Arrows from roots would cross the rows.
     yield "counts of six rows", None if counted(drawn) == (80, 0, 0, 40) else "counted %s" % (counted(drawn),)
+    linked = "heappair 1\nold 200 3\n0\n33488896\n101\nroots 0\nnew 1 1\n0\nroots 0\npairs 0\nend\n"
+    drawn = pair_picture.drawn(read_pair(linked), "a long link", None)
+    texts = [shape["text"] for shape in drawn.shapes if shape["kind"] == "text"]
+    yield "drawing of a long link", wrong_drawing(drawn)
+    yield "links and kinds of three digits are whole", None if {"255", "101", "link", "kind"} <= set(texts) else "texts: %s" % texts
     yield "drawing without a verdict", wrong_drawing(
         pair_picture.drawn(read_pair(example("replica_out_of_date.pair")), "not checked", None))
+
+
+def graphs(_program, _folder):
+    """Checks graphs of objects: each object has its box, each reference and each root its arrow, and each replica the name of its original."""
+    if shutil.which("dot") is None:
+        yield "graphs of objects", Skipped("there is no dot on the path")
+        return
+    for name, (objects, arrows, roots, _) in COUNTS.items():
+        verdict = Verdict(example(name + ".verdict").strip())
+        drawn = drawn_as_graph(pair_picture.scene_of(read_pair(example(name + ".pair")), name, verdict))
+        tips = [shape["tip"] for shape in drawn.shapes if shape["kind"] == "box" and shape["tip"].startswith("object at ")]
+        heads = [shape["role"] for shape in drawn.shapes if shape["kind"] == "arrow"]
+        found = len(tips), len(heads) - heads.count("rooted"), heads.count("rooted")
+        # The one unreachable object is left out.
+        wanted = objects - (1 if name == "garbage_left_behind" else 0), arrows, roots
+        yield "graph of %s" % name, wrong_drawing(drawn) or (None if found == wanted else "counted %s" % (found,))
+        ends = [shape["points"][-1] for shape in drawn.shapes if shape["kind"] == "arrow"]
+        boxes = [shape for shape in drawn.shapes if shape["kind"] == "box" and shape["tip"].startswith("object at ")]
+        loose = [end for end in ends if not any(box["x"] - 2 <= end[0] <= box["x"] + box["width"] + 2 and box["y"] - 2 <= end[1] <= box["y"] + box["height"] + 2
+                                                for box in boxes)]
+        yield "arrows in the graph of %s end at objects" % name, None if not loose else "at %s" % loose
+        named = [shape["text"] for shape in drawn.shapes if shape["kind"] == "box" and " of " in shape["text"]]
+        wanted = len({new for _, new in read_pair(example(name + ".pair")).pairs})
+        yield "originals in the graph of %s" % name, None if len(named) == wanted else "named %s" % named
+    text, verdict = pairs.all_paired(400, 1, altered=(300,))
+    drawn = drawn_as_graph(pair_picture.scene_of(read_pair(text.decode()), "400 objects", Verdict(verdict)))
+    faults_in = [shape for shape in shapes_of(drawn, "fault") if shape["kind"] == "box"]
+    # The legend has one more.
+    yield "graph of 400 objects", wrong_drawing(drawn) or (None if len(faults_in) == 3 else "%d marks" % len(faults_in))
+    status, _, said = draw(os.path.join(TOP, "examples", "replica_out_of_date.pair"), "--graph", "--program", "none", path="")
+    yield "a graph without Graphviz", None if status == 1 and said.endswith("Graphviz's 'dot' is not on the path\n") else said
 
 
 def within(inner, outer):
@@ -230,6 +280,10 @@ def timelines(_program, folder):
         run = run_of(name)
         found = tuple(run.counts[role] for role in ("flip", "drop", "full", "no-room"))
         yield "marks of %s" % name, None if found == wanted else "counted %s, wanted %s" % (found, wanted)
+    run = run_of("second_collection")
+    # The flips are the events 11 and 20; each ends its collection, as the curve of the new space does.
+    yield "the shading ends with the flip", None if [(column.is_open, column.copied > 0) for column in run.columns[9:11]] == [(True, True), (False, False)] else str(
+        [(column.is_open, column.copied) for column in run.columns[9:11]])
     run = run_of("write_while_scanning")
     found = [(column.used, column.copied, sum(column.entries)) for column in run.columns]
     # An object of one field takes 3 words, and word 0 is reserved. The log has its entry from the put to the apply.
@@ -255,6 +309,10 @@ def crates(_program, _folder):
     wanted = [("left", "low"), ("right", "low"), ("top", "left"), ("top", "right")]
     yield "a crate that is used through another one has no arrow", None if found == wanted else "arrows %s" % found
     yield "drawing of four crates", wrong_drawing(crates_picture.drawn(uses, "four"))
+    with open(os.path.join(TOP, "crates.txt"), encoding="utf-8") as file:
+        listed = set(crates_picture.read_crates(file.read()))
+    grouped = [name for _, members in crates_picture.GROUPS.values() for name in members]
+    yield "each crate is in one group", None if sorted(grouped) == sorted(listed) else "in groups: %s" % sorted(grouped)
 
 
 # ---- the tool
@@ -288,7 +346,7 @@ def messages(program, folder):
 
 # For each example that is refused: where, as docs/FORMATS.md reads its words. The pictures of two of them are kept.
 REFUSED_AT = {
-    "replica_out_of_date": "r0 of mutator 0 . field 1: old 9, new nil",
+    "replica_out_of_date": "r0 of mutator 0 (place 16) . field 1: old 9, new nil",
     "number_moved_as_a_reference": "root 0 . field 0: old 8, new 2",
     "one_replica_for_two": "the new address 1 of pair 1 is not above that of the pair before it",
 }
@@ -340,17 +398,21 @@ def long_paths(_program, _folder):
 
 def tool(program, folder):
     """Runs the tool, which asks the checker and writes the picture or its description."""
-    pair = os.path.join(TOP, "examples", "one_replica_for_two.pair")
+    pair = os.path.join(TOP, "examples", "replica_out_of_date.pair")
     out = os.path.join(folder, "out.svg")
     status, written, said = draw(pair, "-o", out, "--program", program)
     right = (status, written) == (0, "") and said.startswith("draw: no path to the fault: ") and said.count("\n") == 1
     yield "a file is written", None if right else "status %d, said %r" % (status, said)
     with open(out, encoding="utf-8") as file:
-        yield "the verdict is shown", None if "refused 6 NotRising 1" in file.read() else "there is no verdict in the picture"
+        yield "the verdict is shown", None if "refused 9 FieldDiffers 0 1" in file.read() else "there is no verdict in the picture"
     status, written, _ = draw(pair, "--json", "--program", program)
     described = json.loads(written)
-    right = status == 0 and len(described["shapes"]) == len(drawn_example("one_replica_for_two").shapes)
+    right = status == 0 and len(described["shapes"]) == len(drawn_example("replica_out_of_date").shapes)
     yield "the description has all shapes", None if right else "%d shapes" % len(described["shapes"])
+    # This refusal is told by the pairs alone, so that it needs no library.
+    status, written, said = draw(os.path.join(TOP, "examples", "one_replica_for_two.pair"), "--json", "--program", program)
+    right = (status, said) == (0, "") and REFUSED_AT["one_replica_for_two"] in joined_texts(json.loads(written), "label")
+    yield "a place that needs no path", None if right else "status %d, said %r" % (status, said)
 
 
 def kept_pictures():
@@ -375,6 +437,63 @@ def kept(program, folder):
         yield "%s is up to date" % name, None if same else "draw it again: tools/draw %s -o %s" % (os.path.relpath(source, TOP), name)
 
 
+# Points of a path: of 'M', 'L' and 'C', with absolute coordinates.
+PART = re.compile(r"([MLC])([^MLC]*)")
+
+
+def points_of(path):
+    """Returns points along a path, close to each other."""
+    found = []
+    for command, numbers in PART.findall(path):
+        values = [float(part) for part in re.split(r"[ ,]+", numbers.strip())]
+        ends = list(zip(values[::2], values[1::2]))
+        if command == "M":
+            found.append(ends[0])
+        elif command == "L":
+            for end in ends:
+                start = found[-1]
+                found += [tuple(start[k] + (end[k] - start[k]) * at / 50 for k in (0, 1)) for at in range(1, 51)]
+        else:
+            corners = [found[-1], *ends]
+            for at in range(1, 51):
+                t = at / 50
+                weights = (1 - t) ** 3, 3 * t * (1 - t) ** 2, 3 * t * t * (1 - t), t ** 3
+                found.append(tuple(sum(weight * corner[k] for weight, corner in zip(weights, corners)) for k in (0, 1)))
+    return found
+
+
+# Boxes that stand for a place, and that curves may run through.
+OPEN_BOXES = ("space", "band", "free")
+
+
+def crossed(root):
+    """Returns a path that runs through a box in which it neither begins nor ends, or None."""
+    boxes = [[float(box.get(name)) for name in ("x", "y", "width", "height")] for box in root.iter(SVG + "rect")
+             if box.get("class") and box.get("class") not in OPEN_BOXES]
+
+    def inside(point, box, margin):
+        return box[0] - margin < point[0] < box[0] + box[2] + margin and box[1] - margin < point[1] < box[1] + box[3] + margin
+
+    for path in root.iter(SVG + "path"):
+        if path.get("class"):
+            points = points_of(path.get("d"))
+            for box in boxes:
+                if any(inside(point, box, -1) for point in points) and not inside(points[0], box, 3) and not inside(points[-1], box, 3):
+                    return path.get("d")
+    return None
+
+
+def far_ends(root):
+    """Returns an arrow whose head is at no box and no text, or None."""
+    things = [[float(box.get(name)) for name in ("x", "y", "width", "height")] for box in root.iter(SVG + "rect") if box.get("class")]
+    things += [[float(text.get("x")) - 60, float(text.get("y")) - 20, 120, 20] for text in root.iter(SVG + "text")]
+    for path in root.iter(SVG + "path"):
+        x, y = points_of(path.get("d"))[-1] if path.get("marker-end") else (things[0][0], things[0][1])
+        if not any(left - 3 <= x <= left + width + 3 and top - 3 <= y <= top + height + 3 for left, top, width, height in things):
+            return path.get("d")
+    return None
+
+
 def drawn_by_hand(_program, _folder):
     for name in ("spaces", "flip", "levels"):
         path = os.path.join(TOP, "docs", "pictures", name + ".svg")
@@ -384,7 +503,9 @@ def drawn_by_hand(_program, _folder):
         inside = all(0 <= float(box.get("x")) and float(box.get("x")) + float(box.get("width")) <= width
                      and 0 <= float(box.get("y")) and float(box.get("y")) + float(box.get("height")) <= height for box in boxes)
         yield "docs/pictures/%s.svg" % name, None if boxes and inside else "a box is outside of the frame"
+        yield "curves of docs/pictures/%s.svg" % name, crossed(root) and "%s runs through a box" % crossed(root)
+        yield "ends of arrows of docs/pictures/%s.svg" % name, far_ends(root) and "%s ends at nothing" % far_ends(root)
 
 
-GROUPS = [examples, small_pairs, faults, large_pairs, written_pairs, faults_of_traces, replies, timelines, crates, messages, tool, paths, long_paths, kept,
+GROUPS = [examples, small_pairs, graphs, faults, large_pairs, written_pairs, faults_of_traces, replies, timelines, crates, messages, tool, paths, long_paths, kept,
           drawn_by_hand]

@@ -152,9 +152,9 @@ def wrong_texts(program, folder):
         shown.wait_for("event", "of 20 events")
         yield "a dropped trace is opened in its tab", None
         shown.run("""const transfer = new DataTransfer();
-            transfer.items.add(new File([new Uint8Array(8388609)], "large"));
+            transfer.items.add(new File([new Uint8Array(67108865)], "large"));
             document.getElementById("trace").dispatchEvent(new DragEvent("drop", { dataTransfer: transfer, bubbles: true, cancelable: true }));""")
-        shown.wait_for("message", "This page takes texts of up to 8 MiB")
+        shown.wait_for("message", "This page takes texts of up to 64 MiB")
         yield "a file that is too large gets a message", None
         yield "no complaint", complaints(shown)
 
@@ -195,6 +195,10 @@ def checks(program, folder):
             yield "picture of %s" % name, wrong(drawn, 0 if line.startswith("pair: ") else 1)
         seen = set()
         for number in range(25):
+            if number > 0:
+                # The pair that is shown is spoiled, so the good one is taken back first.
+                shown.click("mend")
+                shown.wait_for("verdict-line", "yes 1")
             shown.run("document.getElementById('spoiled').textContent = '';")
             shown.click("spoil")
             shown.wait("document.getElementById('spoiled').textContent")
@@ -205,6 +209,13 @@ def checks(program, folder):
             if shown.text("verdict-line").split(" (")[0] != line or unmarked:
                 yield "spoiled pair %d" % number, "%r, wanted %r, %d marks" % (shown.text("verdict-line"), line, marks())
         yield "spoiled pairs are refused", wrong("refused" in seen, True)
+        spoiled_once = shown.run("return document.querySelector('#pair-editor textarea').value;")
+        shown.run("document.getElementById('spoiled').textContent = '';")
+        shown.click("spoil")
+        shown.wait("document.getElementById('spoiled').textContent")
+        shown.click("mend")
+        shown.wait("document.querySelector('#pair-editor textarea').value === %s" % json.dumps(spoiled_once))
+        yield "a refused pair that was spoiled comes back", None
         shown.click("mend")
         shown.wait_for("verdict-line", "yes 1")
         yield "undone", wrong(shown.run("return document.querySelector('#pair-editor textarea').value;"), good.decode())
@@ -218,29 +229,228 @@ def checks(program, folder):
         yield "no complaint", complaints(shown)
 
 
+FIRST_TRACE, SECOND_TRACE = "write_while_scanning", "sharing_and_a_cycle"
+
+
 def tour(program, folder):
-    """Checks that each stop of the tour shows the event that it is about, with the program's reply."""
+    """Checks that each stop of the tour shows the event that it is about, with the program's reply, and that the reader's own trace comes back."""
+    own = "heaptrace 1\nspace 24 mutators 1\nm 0 new r0 7 1\nm 0 look r0\n"
     with page(folder) as shown:
         if shown is None:
             return
         stops = shown.run("return (await import('./tour.js')).STOPS;")
-        replies = run(program, text=content("write_while_scanning.trace")).stdout.decode().split("\n")[:-1]
-        yield "the tour goes through the whole trace", wrong([stop["position"] for stop in stops], list(range(len(replies) + 1)))
-        yield "the tour's replies", wrong([stop.get("reply") for stop in stops[1:]], replies)
+        replies = {name: run(program, text=content(name + ".trace")).stdout.decode().split("\n")[:-1] for name in (FIRST_TRACE, SECOND_TRACE)}
+        first = [stop for stop in stops if "trace" not in stop]
+        yield "the tour goes through the whole first trace", wrong([stop["position"] for stop in first], list(range(len(replies[FIRST_TRACE]) + 1)))
+        told = [replies[stop.get("trace", FIRST_TRACE)][stop["position"] - 1] for stop in stops[1:]]
+        yield "the tour's replies", wrong([stop.get("reply") for stop in stops[1:]], told)
+        yield "the tour's second trace", wrong({stop.get("trace") for stop in stops}, {None, SECOND_TRACE})
+        shown.set("#trace-editor textarea", own)
+        shown.wait_for("event", "of 2 events")
+        shown.step(1, 2)
         shown.click("tour-start")
         for at, stop in enumerate(stops):
             shown.wait_for("tour-title", stop["title"])
-            shown.wait_for("event", "Event %d of 11" % at if at else "Before the first of 11")
+            count = len(replies[stop.get("trace", FIRST_TRACE)])
+            if stop.get("checks"):
+                shown.wait_for("verdict-line", stop["checks"])
+                text = shown.run("return document.querySelector('#pair-editor textarea').value;")
+                verdict = run(program, ["check", file_of(folder, "tour", text.encode())]).stdout.decode().strip()
+                yield "the verdict of stop %d" % at, wrong(verdict, stop["checks"])
+            else:
+                shown.wait_for("event", "Event %d of %d" % (stop["position"], count) if at else "Before the first of %d" % count)
             pointed = shown.run("return [...document.querySelectorAll('.pointed')].map((it) => it.id).sort();")
             yield "what stop %d points at" % at, wrong(pointed, sorted(stop["look"]))
+            hidden = shown.run("return [...document.querySelectorAll('.pointed')].filter((it) => !it.offsetParent).map((it) => it.id);")
+            yield "what stop %d points at is shown" % at, wrong(hidden, [])
             shown.wait("document.activeElement.id === 'tour-title'")
             if at == 6:
                 said = shown.text("certificate-body")
                 yield "the tour's checker refuses", wrong("refused 9 FieldDiffers 0 0" in said, True)
-                yield "the tour's checker says where", wrong("r0 of mutator 0 . field 0: old 9, new nil" in said, True)
+                yield "the tour's checker says where", wrong("r0 of mutator 0 (place 16) . field 0: old 9, new nil" in said, True)
                 yield "the tour's log has an entry", wrong("object at 1, field 0" in shown.text("logs-body"), True)
             shown.click("tour-next")
         shown.wait("document.getElementById('tour').hidden")
+        shown.wait_for("event", "Event 1 of 2")
+        yield "the reader's own trace comes back", wrong(shown.trace(), own)
+        shown.click("tab-checker")
+        yield "the reader's pair comes back", wrong(shown.text("verdict-line").split(" (")[0], "yes 1")
+        yield "no complaint", complaints(shown)
+
+
+def saved(shown, button):
+    """Presses a button that saves a text, and returns the text and the name of its file."""
+    return shown.run("""const make = URL.createObjectURL, click = HTMLAnchorElement.prototype.click;
+        let blob, name;
+        URL.createObjectURL = (it) => { blob = it; return make.call(URL, it); };
+        HTMLAnchorElement.prototype.click = function () { name = this.download; };
+        document.getElementById(%s).click();
+        Object.assign(URL, { createObjectURL: make });
+        HTMLAnchorElement.prototype.click = click;
+        return [await blob.text(), name];""" % json.dumps(button))
+
+
+def reloaded(shown):
+    """Loads the page again from the address that it shows."""
+    shown.run("window.isOld = true; location.reload();")
+    shown.wait("!window.isOld && document.body && document.body.dataset.ready")
+
+
+def nothing_is_lost(_program, folder):
+    """Checks that changes can be taken back, that texts can be saved, and that a reload shows what was shown."""
+    with page(folder) as shown:
+        if shown is None:
+            return
+        good = content("write_while_scanning.trace").decode()
+        shown.step(1, 11)
+        shown.click("play-work")
+        shown.wait_for("event", "Event 2 of 12")
+        shown.click("play-undo")
+        shown.wait_for("event", "Event 1 of 11")
+        yield "an inserted line is taken back", wrong((shown.trace(), shown.run("return document.getElementById('trace-examples').value;")), (good, FIRST_TRACE))
+        shown.set("#trace-editor textarea", "m")
+        shown.wait_for("trace-fault", "bad header")
+        shown.click("play-undo")
+        shown.wait("document.getElementById('trace-fault').hidden")
+        yield "an edit is taken back", wrong(shown.trace(), good)
+        shown.set("#trace-examples", SECOND_TRACE)
+        shown.wait_for("event", "of 21 events")
+        shown.click("play-undo")
+        shown.wait_for("event", "Event 1 of 11")
+        yield "a trace that was replaced comes back", wrong(shown.trace(), good)
+        yield "a saved trace", wrong(saved(shown, "trace-save"), [good, "write_while_scanning.trace"])
+        yield "a saved pair", wrong(saved(shown, "pair-save"), [content("garbage_left_behind.pair").decode(), "garbage_left_behind.pair"])
+        shown.step(2, 11)
+        reloaded(shown)
+        yield "a reload shows the same event", wrong("Event 2 of 11" in shown.text("event"), True)
+        own = "heaptrace 1\nspace 24 mutators 1\nm 0 new r0 7 1\nm 0 look r0\n"
+        shown.set("#trace-editor textarea", own)
+        shown.wait_for("event", "of 2 events")
+        shown.step(1, 2)
+        shown.click("tab-checker")
+        shown.click("spoil")
+        shown.wait("document.getElementById('spoiled').textContent")
+        pair = shown.run("return document.querySelector('#pair-editor textarea').value;")
+        reloaded(shown)
+        yield "a reload shows the same tab", wrong(shown.run("return document.getElementById('panel-checker').hidden;"), False)
+        yield "a reload shows the reader's pair", wrong(shown.run("return document.querySelector('#pair-editor textarea').value;"), pair)
+        shown.click("tab-collector")
+        yield "a reload shows the reader's trace", wrong((shown.trace(), "Event 1 of 2" in shown.text("event")), (own, True))
+        yield "no complaint", complaints(shown)
+
+
+def places(_program, folder):
+    """Checks the ways to an event: the timeline, a line number, a number; the speed; numbers of four digits; keys that are switched off."""
+    long = "heaptrace 1\nspace 24 mutators 1\n" + "m 0 look r0\n" * 1200
+    with page(folder) as shown:
+        if shown is None:
+            return
+        shown.run("""const svg = document.querySelector("#timeline svg"), box = svg.getBoundingClientRect();
+            const axis = svg.querySelector("polyline.axis").getBoundingClientRect();
+            svg.dispatchEvent(new MouseEvent("click", { bubbles: true, clientX: axis.left + axis.width * 5 / 11, clientY: box.top + 40 }));""")
+        shown.wait_for("event", "Event 5 of 11")
+        yield "a click on the timeline", None
+        shown.run("document.querySelector('#trace-editor .numbers [data-line=\"9\"]').click();")
+        shown.wait_for("event", "Event 7 of 11")
+        yield "a click on a line number", None
+        shown.set("#play-to", "10")
+        shown.wait_for("event", "Event 10 of 11")
+        yield "a number", None
+        shown.run("document.getElementById('keys').click(); document.activeElement.blur();")
+        shown.press("f")
+        shown.press("w")
+        shown.press("ArrowLeft")
+        shown.wait_for("event", "Event 9 of 11")
+        yield "keys that are switched off", wrong(shown.trace(), content("write_while_scanning.trace").decode())
+        shown.prefer(color_scheme="light", reduced_motion="no-preference")
+        shown.set("#play-speed", "150")
+        shown.click("play-start")
+        shown.wait_for("event", "Before the first")
+        began = time.monotonic()
+        shown.click("play-run")
+        shown.wait_for("event", "Event 11 of 11")
+        yield "a fast run", None if time.monotonic() - began < 6 else "%.1f seconds" % (time.monotonic() - began)
+        shown.set("#trace-editor textarea", long)
+        shown.wait_for("event", "of 1200 events")
+        shown.set("#play-to", "1200")
+        shown.wait_for("event", "Event 1200 of 1200")
+        cut = shown.run("""return [...document.querySelectorAll("#trace-editor .numbers div")].filter((it) => it.scrollWidth > it.clientWidth)
+            .map((it) => it.textContent);""")
+        yield "line numbers of four digits", wrong((cut, "1202" in shown.text("trace-editor")), ([], True))
+        shown.set("#trace-examples", "second_collection")
+        shown.wait_for("event", "of 20 events")
+        # Its flips are the events 11 and 20.
+        shown.set("#play-to-flip", "2")
+        shown.wait_for("event", "Event 19 of 20")
+        shown.set("#play-to-flip", "3")
+        shown.wait_for("message", "This trace has 2 flips.")
+        yield "a flip by its number", None
+        # A text that is too long for the editor is shown in part.
+        shown.drop_text("#trace", "long", "heaptrace 1\nspace 24 mutators 1\n" + "m 0 look r0\n" * 39999 + "m 0 nil r1\n")
+        shown.wait_for("event", "of 40000 events")
+        shown.set("#play-to", "40000")
+        shown.wait_for("event", "Event 40000 of 40000")
+        found = shown.run("""const before = Number(document.getElementById("trace-editor").dataset.before);
+            return [document.querySelector("#trace-editor textarea").value.split("\\n")[40002 - 1 - before],
+                document.querySelector("#trace-editor .numbers .current").textContent];""")
+        yield "the current line of a long text", wrong(found, ["m 0 nil r1", "40002"])
+        yield "no complaint", complaints(shown)
+
+
+# The widths of a laptop, a tablet and a phone, with their heights.
+SCREENS = [(1280, 800), (768, 1024), (390, 844)]
+
+
+def roots_are_drawn(_program, folder):
+    """Checks that roots are drawn at each width, that the buttons to act are in view, and that a text says what the drawing shows."""
+    with page(folder) as shown:
+        if shown is None:
+            return
+        for at in range(1, 5):
+            shown.step(at, 11)
+        for width, height in SCREENS:
+            shown.resize(width, height, width < 500)
+            time.sleep(0.6)
+            names = shown.run("return [...document.querySelectorAll('#picture svg text')].map((it) => it.textContent);")
+            yield "roots at %d" % width, None if any(name.startswith("r0 ") for name in names) else "drawn: %s" % names
+            shown.click("to-commands")
+            top = shown.run("return document.getElementById('steps-body').getBoundingClientRect().bottom;")
+            yield "the buttons to act at %d" % width, None if 0 < top <= height else "they end at %s" % top
+        shown.resize(1280, 800)
+        shown.run("scrollTo(0, 0);")
+        top = shown.run("return document.getElementById('commands-title').getBoundingClientRect().bottom;")
+        yield "they are in view on a laptop", None if top < 700 else "they begin at %s" % top
+        said = shown.run("return [...document.querySelectorAll('#picture-text li')].map((it) => it.textContent);")
+        wanted = {"root r0 (place 16): the object at 1", "object at 1, kind 1, link 1, 1 field: nil"}
+        yield "the drawing as text", None if wanted <= set(said) else "said %s" % said
+        yield "one name for a root", wrong("r0 of mutator 0 (place 16)" in shown.text("roots-body"), True)
+        yield "no complaint", complaints(shown)
+
+
+def refused_places(_program, folder):
+    """Checks that a refused pair opens at its place: both words, their objects, and the line in the editor, also in a long text."""
+    with page(folder) as shown:
+        if shown is None:
+            return
+        shown.click("tab-checker")
+        for name, count, altered in [("5000 objects", 5000, 4000), ("70000 objects", 70000, 60000)]:
+            text, verdict = pairs.all_paired(count, 1, altered=(altered,))
+            shown.drop_text("#panel-checker", name, text.decode())
+            shown.wait_for("verdict-line", verdict)
+            rows = shown.run("""return [...document.querySelectorAll("#pair-place tr.refused")].map((it) => [...it.children].map((cell) => cell.innerText));""")
+            lines = text.decode().split("\n")
+            yield "%s: both words" % name, wrong(len(rows), 2)
+            for row in rows:
+                yield "%s: the word in line %s" % (name, row[4]), wrong(lines[int(row[4]) - 1], row[2])
+            visible = shown.run("return [...document.querySelectorAll('#pair-editor .numbers .bad')].map((it) => it.textContent);")
+            yield "%s: the line in the editor" % name, wrong(visible, [rows[0][4]])
+            place = shown.run("""const it = document.querySelector("#pair-editor textarea");
+                return it.value.split("\\n")[%d - 1 - Number(document.querySelector("#pair-editor").dataset.before)];""" % int(rows[0][4]))
+            yield "%s: the text in the editor" % name, wrong(place, rows[0][2])
+            shown.run("document.querySelector('#pair-picture rect.garbage').dispatchEvent(new MouseEvent('click', { bubbles: true }));")
+            shown.wait("document.querySelector('#pair-looked table')")
+            looked = shown.run("return [...document.querySelectorAll('#pair-looked tbody tr')].map((it) => [...it.children].map((cell) => cell.innerText));")
+            yield "%s: the objects of a block" % name, wrong([row[2] for row in looked], [lines[int(row[4]) - 1] for row in looked])
         yield "no complaint", complaints(shown)
 
 
@@ -250,7 +460,7 @@ def keyboard(_program, folder):
         if shown is None:
             return
         for key, wanted in [("ArrowRight", "Event 1 of 11"), ("ArrowRight", "Event 2 of 11"), ("ArrowLeft", "Event 1 of 11"), ("f", "Event 9 of 11"),
-                            ("Home", "Before the first"), ("r", "Event 11 of 11"), ("w", "Event 12 of 12")]:
+                            ("Home", "Before the first"), ("r", "Event 11 of 11"), ("w", "Event 12 of 12"), ("u", "Event 11 of 11"), ("w", "Event 12 of 12")]:
             shown.press(key)
             shown.wait_for("event", wanted)
             yield "the key %s" % key, None

@@ -3,16 +3,18 @@ import contextlib
 import http.client
 import os
 import re
+import shutil
 import socket
 import subprocess
 import sys
+import threading
 import time
 
 from . import pairs
-from .c_library import TOP
+from .c_library import TOP, done
 from .examples import FOLDER as EXAMPLES, content, names_of
 from .harness import file_of
-from .python import prepared
+from .python import PACKAGE, prepared, wrong_libraries
 from .traces import PLAYED, refused_texts, trace_and_replies
 from .web_page import ADDRESS, SECONDS, Server, hear_interrupts, served, wrong
 
@@ -79,12 +81,15 @@ def refusals(_program, folder):
         json_type = {"Content_Type": "application/json"}
         for name, body in {"no JSON": "{", "a byte of no text": b"\xff", "much nesting": "[" * 100000}.items():
             yield name, wrong(server.request("POST", path, body, **json_type)[0], 400)
-        for length, wanted in {"16777217": 413, "99999999999999999999": 413, "-1": 411, "1x": 411, "": 411, "\u00b2": 411}.items():
+        for length, wanted in {"134217729": 413, "99999999999999999999": 413, "-1": 411, "1x": 411, "": 411, "\u00b2": 411}.items():
             status = raw_request(server, path, "Content-Length: %s\r\n" % length)
             yield "a length of %r" % length, wrong(status, wanted)
-        yield "a body that is too long is read and discarded", wrong(server.request("POST", path, b" " * 20000000, **json_type)[0], 413)
+        yield "a body that is too long is read and discarded", wrong(server.request("POST", path, b" " * 140000000, **json_type)[0], 413)
         idle = [socket.create_connection(("127.0.0.1", server.port), timeout=SECONDS) for _ in range(40)]
-        yield "more than 32 connections are closed", wrong([is_closed(connection) for connection in idle[32:]], [True] * 8)
+        yield "of more than 32 idle connections the oldest are closed", wrong([is_closed(connection) for connection in idle[:8]], [True] * 8)
+        started = time.monotonic()
+        yield "it answers beside idle connections", wrong(server.request("POST", path, "{}", **json_type)[0], 200)
+        yield "it answers at once", None if time.monotonic() - started < 5 else "it took %.1f seconds" % (time.monotonic() - started)
         for connection in idle:
             connection.close()
         yield "it answers again once they are gone", None if answers_again(server, path) else "it does not"
@@ -100,19 +105,66 @@ def refusals(_program, folder):
 
 
 def patience(_program, folder):
-    """Checks that the server closes a connection that is silent for 20 seconds, as its comment says, and not much earlier or later."""
+    """Checks that the server closes a connection whose request is not there after 20 seconds, as its comment says, and not much earlier or
+    later: a silent one, and those that send a byte now and then, in the head and in the body."""
     with served(folder) as server:
         if server is None:
             return
-        started = time.monotonic()
-        with socket.create_connection(("127.0.0.1", server.port), timeout=40) as connection:
-            connection.sendall(b"GET ")
+        head = "POST /%s/start HTTP/1.1\r\nHost: 127.0.0.1:%d\r\nContent-Type: application/json\r\nContent-Length: 1000\r\n\r\n" % (server.token, server.port)
+        cases = {"a silent connection": (b"GET ", b""), "a connection that sends its head slowly": (b"GET ", b"x"),
+                 "a connection that sends its body slowly": (head.encode(), b" ")}
+        waited = dict.fromkeys(cases)
+        threads = [threading.Thread(target=wait_for_end, args=(server.port, *sent, waited, name)) for name, sent in cases.items()]
+        for thread in threads:
+            thread.start()
+        for thread in threads:
+            thread.join()
+        for name, seconds in waited.items():
+            yield "%s is closed" % name, None if seconds is not None and 15 < seconds < 35 else "after %s seconds" % seconds
+
+
+def wait_for_end(port, first, more, waited, name):
+    """Sends the first bytes, and then others twice a second until the server closes the connection. Notes how long that took."""
+    started = time.monotonic()
+    with socket.create_connection(("127.0.0.1", port), timeout=0.5) as connection, contextlib.suppress(ConnectionError):
+        connection.sendall(first)
+        while time.monotonic() - started < 40:
             try:
-                closed = connection.recv(1) == b""
-            except OSError:
-                closed = False
-        waited = time.monotonic() - started
-        yield "a silent connection is closed", None if closed and 15 < waited < 35 else "closed: %s, after %.1f seconds" % (closed, waited)
+                if connection.recv(4096) == b"":
+                    break
+            except socket.timeout:
+                connection.sendall(more)
+        else:
+            return
+    waited[name] = time.monotonic() - started
+
+
+def sessions(_program, folder):
+    """Checks that a tab does not wait for another one, whose request takes long, and that each has its own players."""
+    with served(folder) as server:
+        if server is None:
+            return
+        long = "heaptrace 1\nspace 1048576 mutators 1\n" + "m 0 new r0 0 500\nm 0 same r0 r0\n" * 1000 + "m 0 look r0\n" * 398000
+        found, began = {}, time.monotonic()
+
+        def play_long():
+            found["slow"] = server.ask("play", text=long, position=400000, known=400000, width=900, session="one")
+            found["slow took"] = time.monotonic() - began
+
+        slow = threading.Thread(target=play_long)
+        slow.start()
+        time.sleep(0.2)
+        text = content("write_while_scanning.trace").decode()
+        other = server.ask("play", text=text, position=11, known=0, width=900, session="two")
+        took = time.monotonic() - began
+        slow.join()
+        yield "the long request and the short one are answered", wrong((found["slow"].get("position"), other.get("position")), (400000, 11))
+        yield "another tab is answered meanwhile", None if took < 0.7 * found["slow took"] else "after %.1f of %.1f seconds" % (took, found["slow took"])
+        for number in range(20):
+            server.ask("play", text=text, position=number % 12, known=0, width=900, session="tab %d" % number)
+        yield "an old session goes on", wrong(server.ask("play", text=text, position=3, known=0, width=900, session="two").get("position"), 3)
+        for name in ("x" * 65, 7):
+            yield "the session %r" % name, wrong(server.ask("start", session=name).get("message"), "The name of the session has to be a short text.")
 
 
 def is_closed(connection):
@@ -149,12 +201,20 @@ def commands(_program, folder):
     python = prepared(folder)
     if python is None:
         return
+    for name, (path, part) in wrong_libraries(folder).items():
+        without = {**python.environment, "GCFLIP_LIBRARY": path}
+        found = done([sys.executable, "-m", "gcflip.explore", "--no-browser"], env=without)
+        said = found.stderr.decode()
+        right = found.status == 1 and found.stdout == b"" and said.startswith("explore: " + path) and part in said and said.count("\n") == 1
+        yield name, None if right else "status %s, said %r" % (found.status, said)
+        found = done([sys.executable, "-m", "gcflip.explore", "--help"], env=without)
+        yield "the help with %s" % name, None if found.status == 0 and found.stdout.startswith(b"usage: ") else found.stderr.decode()
     taken = socket.create_server(("127.0.0.1", 0))
     cases = {
         "a file that does not exist": ([os.path.join(folder, "nothing")], "No such file or directory"),
         "a folder": ([folder], "Is a directory"),
         "another text": ([file_of(folder, "text", b"hello\n")], "the first line is neither that of a trace nor that of a pair text"),
-        "a text too large": ([file_of(folder, "large", b"heappair 1\n" + b"x" * 8388608)], "the page takes texts of up to 8 MiB"),
+        "a text too large": ([file_of(folder, "large", b"heappair 1\n" + b"x" * 67108864)], "the page takes texts of up to 64 MiB"),
         "a port that is taken": (["--port", str(taken.getsockname()[1])], "Address already in use"),
         "a port that does not exist": (["--port", "65536"], "port 65536"),
     }
@@ -176,6 +236,23 @@ def commands(_program, folder):
         opened = server.ask("start")["file"]
         server.end()
         yield "opens %s" % name, wrong(opened, {"kind": name.split(".")[1], "name": name, "text": content(name).decode()})
+
+
+def found_library(_program, folder):
+    """Checks that the command finds the library by itself: in its place in the repository, and beside the package as a wheel has it."""
+    python = prepared(folder)
+    if python is None:
+        return
+    environment = {name: value for name, value in os.environ.items() if name not in ("GCFLIP_LIBRARY", "LD_LIBRARY_PATH")}
+    environment.update(PYTHONDONTWRITEBYTECODE="1")
+    package = os.path.join(folder, "copy", "bindings", "python")
+    shutil.copytree(PACKAGE, package, ignore=shutil.ignore_patterns("__pycache__"))
+    code = "import gcflip; from gcflip.library import place; print(place(), gcflip.library_version())"
+    for name, at in [("in the repository", os.path.join(folder, "copy", "bindings", "c", "out")), ("in a wheel", os.path.join(package, "gcflip"))]:
+        os.makedirs(at, exist_ok=True)
+        shutil.copy(python.environment["GCFLIP_LIBRARY"], os.path.join(at, "libgcflip.so"))
+        found = done([sys.executable, "-c", code], env=environment, cwd=package)
+        yield "the library %s" % name, wrong(found.stdout.decode(), "%s 0.1.0\n" % os.path.join(os.path.realpath(at), "libgcflip.so"))
 
 
 def answers(_program, folder):

@@ -1,11 +1,12 @@
 """Tests of bindings/python: the package over the shared library, built by its pyproject.toml, with the programs of tests/python."""
 import os
+import re
 import shutil
 import sys
 
 from .c_library import TOP, done, library, skip, texts_and_lines, traces_and_replies
 from .examples import names_of
-from .harness import Outcome, difference, file_of
+from .harness import Outcome, Skipped, difference, file_of
 
 PACKAGE = os.path.join(TOP, "bindings", "python")
 TESTS = os.path.join(TOP, "tests", "python")
@@ -119,11 +120,43 @@ def content_of(path):
 
 
 def not_found(_program, folder):
-    """Checks that without the shared library the import says which file is missing."""
-    environment = dict(os.environ, PYTHONPATH=PACKAGE, PYTHONDONTWRITEBYTECODE="1", GCFLIP_LIBRARY=os.path.join(folder, "nothing.so"))
-    found = done([sys.executable, "-c", "import gcflip"], env=environment)
-    said = found.stderr.decode().strip().split("\n")[-1]
-    yield "no shared library", None if said.startswith("OSError: ") and "nothing.so" in said and "set GCFLIP_LIBRARY" in said else said
+    """Checks that the package is imported without a library, and that the first call then says in one line which file is missing or wrong."""
+    for name, (path, part) in wrong_libraries(folder).items():
+        environment = dict(os.environ, PYTHONPATH=PACKAGE, PYTHONDONTWRITEBYTECODE="1", GCFLIP_LIBRARY=path)
+        found = done([sys.executable, "-c", "import gcflip\nprint('imported')\ngcflip.library_version()"], env=environment)
+        said = found.stderr.decode().strip().split("\n")[-1]
+        right = found.stdout == b"imported\n" and said.startswith("OSError: ") and path in said and part in said and "set GCFLIP_LIBRARY" in said
+        yield name, None if right else said
 
 
-GROUPS = [suites, texts, plays, tour, not_found]
+def wrong_libraries(folder):
+    """Returns the path of each sort of file that is not the library, by a name, with a part of the message about it."""
+    text, other, older = file_of(folder, "text.so", b"hello\n" * 1000), os.path.join(folder, "other.so"), os.path.join(folder, "older.so")
+    calls = "".join("int gcflip_%s(void) { return %d; }\n" % (name, 9999 if name == "version" else 0)
+                    for name in ("version", "pace_due", "check", "check_text", "infer", "path"))
+    for path, source in ((other, "int nothing;\n"), (older, calls)):
+        done(["gcc", "-shared", "-fPIC", "-o", path, file_of(folder, "source.c", source.encode())])
+    return {"no shared library": (os.path.join(folder, "nothing.so"), "No such file"), "a text in place of the library": (text, "invalid ELF header"),
+            "another library": (other, "is not the library of this package"), "a library of another version": (older, "has version 0.99, and this package needs 0.1")}
+
+
+def types(_program, folder):
+    """Checks by mypy, in strict mode, the modules that a program imports, and a program that uses them: it accepts all but the lines that are
+    marked as wrong, and complains about each of these."""
+    if shutil.which("mypy") is None:
+        yield "types of the package", Skipped("there is no mypy on the path")
+        return
+    words = ["mypy", "--strict", "--follow-imports=silent", "--no-error-summary", "--cache-dir", os.path.join(folder, "cache")]
+    modules = sorted(os.path.join(PACKAGE, "gcflip", name) for name in os.listdir(os.path.join(PACKAGE, "gcflip")) if name.endswith(".py"))
+    found = done([*words, *modules], cwd=PACKAGE)
+    yield "types of the package", None if found.status == 0 else found.stdout.decode()
+    yield "the package says that it has types", None if os.path.exists(os.path.join(PACKAGE, "gcflip", "py.typed")) else "there is no py.typed"
+    program = os.path.join(TESTS, "typed.py")
+    with open(program, encoding="utf-8") as file:
+        wrong = {number for number, line in enumerate(file, 1) if line.endswith("# wrong\n")}
+    found = done([*words, program], env=dict(os.environ, MYPYPATH=PACKAGE))
+    refused = {int(number) for number in re.findall(r"typed\.py:(\d+): error", found.stdout.decode())}
+    yield "types of a program", None if refused == wrong and wrong else "refused %s, wanted %s: %s" % (refused, wrong, found.stdout.decode())
+
+
+GROUPS = [suites, texts, plays, tour, not_found, types]

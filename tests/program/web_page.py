@@ -125,6 +125,13 @@ class Page(browser.Browser):
             document.querySelector(%s).dispatchEvent(new DragEvent("drop", { dataTransfer: transfer, bubbles: true, cancelable: true }));"""
                  % (json.dumps(list(data)), json.dumps(name), json.dumps(area)))
 
+    def drop_text(self, area, name, text):
+        """Drops a file of text on an area, also a long one."""
+        self.run("""const transfer = new DataTransfer();
+            transfer.items.add(new File([%s], %s));
+            document.querySelector(%s).dispatchEvent(new DragEvent("drop", { dataTransfer: transfer, bubbles: true, cancelable: true }));"""
+                 % (json.dumps(text), json.dumps(name), json.dumps(area)))
+
     def command(self, name, **words):
         """Presses the button of a command, after it puts these words into its inputs in order."""
         self.run("""const form = document.querySelector(`[data-command="${%s}"]`);

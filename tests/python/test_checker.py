@@ -1,7 +1,13 @@
 """Tests of the package's checker. The images are those of docs/FORMATS.md: headers 16777216 + LEN, words 2a for references."""
 import array
+import ctypes
 import mmap
 import unittest
+
+try:
+    import numpy
+except ImportError:
+    numpy = None
 
 import gcflip
 from gcflip import Image, Refusal, check, check_text
@@ -101,7 +107,36 @@ class Rows(unittest.TestCase):
         self.assertEqual(Block(words, "Q").address, address)
         self.assertEqual(Block(memoryview(words), "Q").address, address)
         self.assertEqual(Block(memoryview(words)[2:], "Q").address, address + 16)
-        self.assertNotEqual(Block(memoryview(words).toreadonly(), "Q").address, address)
+        self.assertEqual(Block(memoryview(words).toreadonly(), "Q").address, address)
+        data = words.tobytes()
+        self.assertEqual(Block(memoryview(data).cast("Q"), "Q").address, ctypes.cast(ctypes.c_char_p(data), ctypes.c_void_p).value)
+        self.assertNotEqual(Block(words.tolist(), "Q").address, address)
+
+    def test_a_block_holds_its_buffer(self):
+        words = array.array("Q", [0, 1])
+        block = Block(words, "Q")
+        with self.assertRaises(BufferError):
+            words.append(2)
+        del block
+        words.append(2)
+
+    @unittest.skipIf(numpy is None, "there is no numpy")
+    def test_numpy_is_read_in_place(self):
+        words, roots = numpy.array(OLD.words, numpy.uint64), numpy.array(OLD.roots, numpy.uint64)
+        pairs = numpy.array(PAIRS, numpy.uint32)
+        for writable in (True, False):
+            for each in (words, roots, pairs):
+                each.setflags(write=writable)
+            self.assertEqual(Block(words, "Q").address, words.ctypes.data)
+            self.assertEqual(check(Image(words, roots, 8), NEW, pairs), 1)
+        with self.assertRaises(TypeError):
+            check(Image(words[::2], roots, 8), NEW, PAIRS)
+        with self.assertRaises(TypeError):
+            check(Image(words.astype(numpy.int32), roots, 8), NEW, PAIRS)
+        with gcflip.Heap(8) as heap:
+            heap.mutator(0).new(gcflip.own(0), 1, 2)
+            copied = heap.image().words
+            self.assertEqual(numpy.frombuffer(copied, numpy.uint64).ctypes.data, copied.buffer_info()[0])
 
     def test_rows_are_left_as_they_are(self):
         words = array.array("Q", OLD.words)

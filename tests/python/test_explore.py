@@ -5,7 +5,7 @@ from unittest import mock
 
 import gcflip
 from gcflip.explore import checking, playing, requests, state
-from gcflip_drawing.pair_text import read_pair, written
+from gcflip_drawing.pair_text import read_accepted, read_pair, written
 from gcflip_drawing.trace_text import event_of, read_trace
 
 TRACES = [example for example in requests.examples() if example["kind"] == "trace"]
@@ -184,7 +184,7 @@ class Certificates(unittest.TestCase):
         """The replica has nil where the write of 9 is still in the log."""
         trace = read_trace(b"heaptrace 1\nspace 32 mutators 1\nm 0 new r0 1 1\nm 0 num r1 9\nc begin\nc roots\nc scan\nm 0 put r0 0 r1\n")
         words = played(trace, 6).words()
-        self.assertEqual(state.Certificate(words).where(), "r0 of mutator 0 . field 0: old 9, new nil")
+        self.assertEqual(state.Certificate(words).where(), "r0 of mutator 0 (place 16) . field 0: old 9, new nil")
 
 
     def test_a_root_without_a_replica_becomes_nil(self):
@@ -211,7 +211,7 @@ class Checking(unittest.TestCase):
     def test_the_spoiled_word_is_named(self):
         good = next(example["text"] for example in PAIRS if example["name"] == "garbage_left_behind").encode()
         pair = read_pair(good.decode())
-        names = {("old", "words", 0): "the reserved word 0 of the old heap", ("new", "roots", 16): "root 16 of the new heap",
+        names = {("old", "words", 0): "the reserved word 0 of the old heap", ("new", "roots", 16): "r0 of mutator 0 (place 16) of the new heap",
                  ("old", "words", 5): "the header of the object at 5 of the old heap",
                  ("new", "words", 2): "the link of the object at 1 of the new heap",
                  ("old", "words", 8): "field 1 of the object at 5 of the old heap"}
@@ -226,7 +226,7 @@ class Checking(unittest.TestCase):
 
     def test_a_refusal_says_where(self):
         bad = next(example["text"] for example in PAIRS if example["name"] == "replica_out_of_date").encode()
-        self.assertEqual(checking.checked(bad, 900)["where"], "r0 of mutator 0 . field 1: old 9, new nil")
+        self.assertEqual(checking.checked(bad, 900)["where"], "r0 of mutator 0 (place 16) . field 1: old 9, new nil")
         good = next(example["text"] for example in PAIRS if example["name"] == "garbage_left_behind").encode()
         self.assertEqual(checking.checked(good, 900)["where"], "")
 
@@ -287,13 +287,41 @@ class Requests(unittest.TestCase):
             with self.subTest(data=data), self.assertRaises(requests.BadRequest):
                 self.desk.answer("play", data)
 
-    def test_a_trace_of_too_many_events(self):
-        text = "heaptrace 1\nspace 8 mutators 1\n" + "m 0 nil r0\n" * requests.MOST_EVENTS
-        self.assertEqual(self.ask("play", text=text)["total"], requests.MOST_EVENTS)
-        with self.assertRaisesRegex(requests.BadRequest, "up to 20000 events, and this one has 20001"):
-            self.ask("play", text=text + "m 0 nil r0\n")
+    def test_a_trace_that_is_too_long(self):
+        heading = "heaptrace 1\nspace 8 mutators 1\n"
+        found = self.ask("play", text=heading + "m 0 nil r0\n" * (16777216 // 11))
+        self.assertEqual(found["fault"], {"message": "trace: too large", "line": None})
+
+    def test_flips_by_their_numbers(self):
+        text = next(example["text"] for example in TRACES if example["name"] == "second_collection")
+        self.assertEqual([self.ask("play", text=text, flip=number)["position"] for number in (1, 2)], [10, 19])
+        for number, count in ((3, "2 flips"), (0, "2 flips")):
+            with self.assertRaisesRegex(requests.BadRequest, "This trace has %s" % count):
+                self.ask("play", text=text, flip=number)
+
+    def test_measures_are_those_of_the_library(self):
+        """Checks after each event that the measure, which is copied where an event cannot change it, is what the library counts."""
+        for _, trace, position in positions():
+            player = played(trace, position)
+            if position > 0:
+                self.assertEqual(player.measures[-1], player.measured(player.measures[-1].reply))
+
+    def test_accepted_pairs_are_those_that_are_read(self):
+        for example in PAIRS:
+            self.assertEqual(written(read_accepted(example["text"])), example["text"])
+
+    def test_objects_of_a_range(self):
+        text = next(example["text"] for example in PAIRS if example["name"] == "replica_out_of_date")
+        # Each heap has an object of two fields at 1, and one of a single field at 5.
+        for first, last, wanted in [(1, 1, [1]), (4, 4, [1]), (4, 5, [1, 5]), (0, 1048575, [1, 5]), (7, 7, [5]), (8, 9, [])]:
+            found = self.ask("look", text=text, heap="new", first=first, last=last)["places"]
+            self.assertEqual([place["rows"][0]["address"] for place in found], wanted)
+        lines = text.split("\n")
+        for heap in ("old", "new"):
+            for place in self.ask("look", text=text, heap=heap, first=0, last=20)["places"]:
+                self.assertTrue(all(lines[row["line"] - 1] == row["word"] for row in place["rows"]))
         with self.assertRaises(requests.BadRequest):
-            self.ask("insert", text=text, line="m 0 nil r0")
+            self.ask("look", text="heappair 1\n", heap="old", first=0, last=1)
 
     def test_a_request_without_memory_is_refused(self):
         for fault in (MemoryError(), gcflip.OutOfMemory("play")):

@@ -1,8 +1,13 @@
 """Tests of the package's heap."""
 import array
+import copy
 import gc
+import os
+import pickle
+import signal
 import sys
 import threading
+import time
 import unittest
 import weakref
 
@@ -352,6 +357,108 @@ def count(mutator):
         mutator.num(own(1), number)
         mutator.put(own(0), 0, own(1))
         assert mutator.get(own(2), own(0), 0) == number
+
+
+class Number:
+    """A number whose conversion calls a heap."""
+
+    def __init__(self, heap, value):
+        self.heap, self.value = heap, value
+
+    def __index__(self):
+        self.heap.counts()
+        return self.value
+
+
+class Turns(unittest.TestCase):
+    """A call from within a call on the same heap: it is refused, and does not wait for itself."""
+
+    def test_a_number_that_calls_the_heap(self):
+        with Heap(32, extra_roots=2) as heap:
+            mutator = heap.mutator(Number(heap, 0))
+            mutator.new(Number(heap, own(0)), Number(heap, 1), Number(heap, 2))
+            mutator.num(own(1), Number(heap, 7))
+            mutator.new_from(own(2), 3, [Number(heap, own(0)), own(1)])
+            self.assertEqual(mutator.get(own(3), own(2), Number(heap, 1)), 7)
+            heap.work(Number(heap, 100), size=Number(heap, 40))
+            self.assertEqual(heap.counts().size, 40)
+            for call in (lambda: mutator.num(own(1), 1.0), lambda: mutator.num(own(1), "1"), lambda: mutator.get(own(1), None, 0)):
+                with self.assertRaises(TypeError):
+                    call()
+            with self.assertRaises(gcflip.OutOfRange):
+                mutator.num(own(1), Number(heap, 1 << 64))
+
+    def test_a_call_within_a_call(self):
+        with Heap(32) as heap:
+            for call in (heap.counts, heap.image, heap.begin, heap.close, lambda: heap.mutator(0), lambda: heap.log_length(0)):
+                with self.assertRaises(gcflip.Reentered):
+                    heap._turn.take(call)
+            self.assertFalse(heap.counts().is_open)
+
+    def test_a_signal_handler_that_calls_the_heap(self):
+        found = []
+
+        def handle(_number, _frame):
+            try:
+                found.append(heap.counts().size)
+            except gcflip.Reentered:
+                found.append("refused")
+
+        with Heap(32) as heap:
+            mutator = heap.mutator(0)
+            before = signal.signal(signal.SIGALRM, handle)
+            signal.setitimer(signal.ITIMER_REAL, 0.0005, 0.0005)
+            try:
+                end = time.monotonic() + 1
+                while time.monotonic() < end:
+                    mutator.num(own(0), 5)
+            finally:
+                signal.setitimer(signal.ITIMER_REAL, 0)
+                signal.signal(signal.SIGALRM, before)
+            self.assertTrue(set(found) <= {32, "refused"} and 32 in found, set(found))
+            self.assertEqual(mutator.look(own(0)), 5)
+
+    def test_the_finaliser_waits_for_a_call(self):
+        heap, inside, go = Heap(32), threading.Event(), threading.Event()
+        turn, close = heap._turn, heap._close
+        calling = threading.Thread(target=lambda: turn.take(lambda: (inside.set(), go.wait(10))))
+        calling.start()
+        inside.wait(10)
+        closing = threading.Thread(target=close)
+        closing.start()
+        closing.join(0.2)
+        self.assertTrue(closing.is_alive())
+        go.set()
+        closing.join(10)
+        self.assertFalse(closing.is_alive())
+        calling.join(10)
+        with self.assertRaises(gcflip.Closed):
+            heap.counts()
+
+    def test_a_forked_child_does_not_wait(self):
+        heap, inside, go = Heap(32), threading.Event(), threading.Event()
+        calling = threading.Thread(target=lambda: heap._turn.take(lambda: (inside.set(), go.wait(10))))
+        calling.start()
+        inside.wait(10)
+        child = os.fork()
+        if child == 0:
+            signal.alarm(5)
+            heap._close()
+            os._exit(0)
+        self.assertEqual(os.waitpid(child, 0)[1], 0)
+        go.set()
+        calling.join(10)
+        heap.close()
+
+    def test_a_heap_is_not_copied(self):
+        with Heap(32) as heap:
+            for call in (copy.copy, copy.deepcopy, pickle.dumps):
+                with self.assertRaises(TypeError):
+                    call(heap)
+            with self.assertRaises(TypeError):
+                copy.deepcopy(heap.mutator(0))
+            gc.collect()
+            heap.mutator(0).new(own(0), 1, 1)
 
 
 class Paced(unittest.TestCase):

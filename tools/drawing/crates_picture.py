@@ -3,6 +3,15 @@ from gcflip_drawing.pair_text import Unreadable
 from gcflip_drawing.picture import Picture
 
 BOX_WIDTH, BOX, GAP_X, GAP_Y, LEFT, TOP = 104, 34, 30, 40, 24, 24
+# The groups of crates, by the role of their boxes: a name for the legend, and the crates.
+GROUPS = {
+    "crate-base": ("objects and words", ["gc_graph", "gc_words"]),
+    "crate-collector": ("the heap and the collector", ["gc_heap", "gc_copy", "gc_core"]),
+    "crate-checker": ("the checker", ["gc_cert", "gc_check", "gc_par"]),
+    "crate-run": ("histories, threads, traces, the program", ["gc_world", "gc_shared", "gc_trace", "gcflip"]),
+    "crate-c": ("for C", ["gcflip_c", "gcflip_heap_c"]),
+    "crate-tests": ("only tests", ["gc_tests", "growths"]),
+}
 
 
 def read_crates(text):
@@ -70,6 +79,21 @@ def places_of(rows, width):
     return found
 
 
+def role_of(name):
+    """Returns the role of a crate's box, by its group."""
+    return next((role for role, (_, members) in GROUPS.items() if name in members), "crate")
+
+
+def draw_legend(picture, uses, y):
+    """Draws a sample for each group that has a crate, one below the other. Returns the lower end."""
+    for role, (name, members) in GROUPS.items():
+        if any(member in uses for member in members):
+            picture.box(LEFT, y, 18, 12, role)
+            picture.text(LEFT + 26, y + 10, name, "small")
+            y += 18
+    return y
+
+
 def drawn(uses, title):
     """Returns the picture of the crates. `uses` has the crates that each crate uses."""
     picture = Picture(title)
@@ -86,5 +110,6 @@ def drawn(uses, title):
         bend = ((x + to_x) / 2 + (side * BOX_WIDTH * 1.2 if far else 0), (y + to_y) / 2)
         picture.arrow((x, y + BOX / 2), bend, (to_x, to_y - BOX / 2), "uses")
     for name, (x, y) in places.items():
-        picture.box(x - BOX_WIDTH / 2, y - BOX / 2, BOX_WIDTH, BOX, "crate", name)
-    return picture.sized(width, TOP + len(rows) * (BOX + GAP_Y) - GAP_Y + 24)
+        picture.box(x - BOX_WIDTH / 2, y - BOX / 2, BOX_WIDTH, BOX, role_of(name), name)
+    bottom = draw_legend(picture, uses, TOP + len(rows) * (BOX + GAP_Y) - GAP_Y + 18)
+    return picture.sized(width, bottom + 12)

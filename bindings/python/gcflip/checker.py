@@ -5,16 +5,17 @@ import array
 import ctypes
 from ctypes import c_uint32
 from dataclasses import dataclass
-from typing import Any, Iterable, Sequence, Tuple, Union
+from typing import Any, Dict, Iterable, Sequence, Tuple, Type, Union
 
 from .errors import BadLine, EndsEarly, OutOfMemory, Refusal, Refused, TextTooLarge, TooManyPairs
-from .library import LIBRARY, Answer, Verdict, check_ranges
+from .library import LIBRARY, Answer, Verdict, in_range
 
-Row = Union[Sequence[int], array.array, memoryview]
-"""Words. An `array` of type 'Q', or another writable and contiguous buffer of 64-bit words, is read in place. Others are copied."""
+Row = Union[Sequence[int], "array.array[int]", memoryview]
+"""Words. An `array` of type 'Q', a NumPy array of `uint64`, or another contiguous buffer of 64-bit words is read in place, also if it is read-only. Other
+sequences are copied."""
 
-Pairs = Union[Iterable[Tuple[int, int]], array.array, memoryview]
-"""Pairs of an old address and a new one. A writable buffer of 32-bit words, two for each pair, is read in place."""
+Pairs = Union[Iterable[Tuple[int, int]], "array.array[int]", memoryview]
+"""Pairs of an old address and a new one. A contiguous buffer of 32-bit words, two for each pair, is read in place."""
 
 
 @dataclass(frozen=True)
@@ -31,20 +32,34 @@ class Image:
     """Whether header words of raw objects are valid."""
 
 
+class _Buffer(ctypes.Structure):
+    """What Python's C API tells of a buffer: Py_buffer."""
+
+    _fields_ = [("at", ctypes.c_void_p), ("owner", ctypes.py_object), ("bytes", ctypes.c_ssize_t), ("item", ctypes.c_ssize_t), ("readonly", ctypes.c_int),
+                ("dimensions", ctypes.c_int), ("format", ctypes.c_char_p), ("shape", ctypes.c_void_p), ("strides", ctypes.c_void_p),
+                ("suboffsets", ctypes.c_void_p), ("internal", ctypes.c_void_p)]
+
+
+_GET, _RELEASE = ctypes.pythonapi.PyObject_GetBuffer, ctypes.pythonapi.PyBuffer_Release
+_GET.argtypes, _GET.restype = [ctypes.py_object, ctypes.POINTER(_Buffer), ctypes.c_int], ctypes.c_int
+_RELEASE.argtypes, _RELEASE.restype = [ctypes.POINTER(_Buffer)], None
+_SIMPLE = 0
+
+
 class Block:
-    """Numbers in memory that does not move while the block lives."""
+    """Numbers in memory that does not move while the block lives. A buffer is used where it is, also if it is read-only."""
 
     def __init__(self, numbers: Any, code: str) -> None:
-        view = _view(numbers, code)
-        self.count = view.nbytes // view.itemsize
-        kind = ctypes.c_char * view.nbytes
-        if view.nbytes == 0:
-            self.at: Any = ctypes.c_uint64()  # an empty array needs an address too
-        elif view.readonly:
-            self.at = kind.from_buffer_copy(view)
-        else:
-            self.at = kind.from_buffer(view)
-        self.address = ctypes.addressof(self.at)
+        self.view = _view(numbers, code)
+        self.count = self.view.nbytes // self.view.itemsize
+        self.held, self.empty = _Buffer(), ctypes.c_uint64()
+        _GET(self.view, self.held, _SIMPLE)
+        # An empty array needs an address too.
+        self.address: int = self.held.at if self.count else ctypes.addressof(self.empty)
+
+    def __del__(self) -> None:
+        if hasattr(self, "held"):
+            _RELEASE(self.held)
 
 
 def _view(numbers: Any, code: str) -> memoryview:
@@ -54,7 +69,7 @@ def _view(numbers: Any, code: str) -> memoryview:
     except TypeError:
         return memoryview(array.array(code, numbers))
     wanted = array.array(code).itemsize
-    if view.itemsize != wanted or view.format.lstrip("@=<") not in "BILQ" or not view.c_contiguous:
+    if view.itemsize != wanted or view.format.lstrip("@=<") not in ("B", "I", "L", "Q") or not view.c_contiguous:
         raise TypeError("a row has to be contiguous, of unsigned numbers of %d bytes" % wanted)
     return view
 
@@ -64,7 +79,8 @@ def _flat(pairs: Pairs) -> Any:
     try:
         return memoryview(pairs)  # type: ignore[arg-type]
     except TypeError:
-        return [address for old_address, new_address in pairs for address in (old_address, new_address)]
+        listed: Iterable[Any] = pairs
+        return [address for old_address, new_address in listed for address in (old_address, new_address)]
 
 
 def check(old: Image, new: Image, pairs: Pairs) -> int:
@@ -91,24 +107,19 @@ def check(old: Image, new: Image, pairs: Pairs) -> int:
 
 def arguments_of(image: Image, words: Block, roots: Block) -> tuple[Any, ...]:
     """Returns an image's arguments of a call."""
-    size = words.count if image.size is None else image.size
-    check_ranges((size, words.count), [c_uint32, c_uint32])
-    return size, words.count, image.raws, words.address, words.count, roots.address, roots.count
+    size, count = in_range((words.count if image.size is None else image.size, words.count), [c_uint32, c_uint32])
+    return size, count, image.raws, words.address, words.count, roots.address, roots.count
 
 
 def check_text(text: bytes | bytearray | memoryview) -> int:
     """Checks the pair of images in a text of the format `heappair 1` or `heappair 2`, and returns the number of its pairs, as
-    `check` does. Reads the text in place; only a read-only buffer that is not bytes is copied.
+    `check` does. Reads the text in place.
 
     Raises BadLine, EndsEarly or TextTooLarge if the text is not a pair text, else what `check` raises.
     """
     verdict = Verdict()
-    if isinstance(text, bytes):
-        answer = LIBRARY.gcflip_check_text(ctypes.cast(text, ctypes.c_void_p), len(text), verdict)
-    else:
-        block = Block(memoryview(text).cast("B"), "B")
-        answer = LIBRARY.gcflip_check_text(block.address, block.count, verdict)
-    return _pairs_of(answer, verdict)
+    block = Block(memoryview(text).cast("B"), "B")
+    return _pairs_of(LIBRARY.gcflip_check_text(block.address, block.count, verdict), verdict)
 
 
 def _pairs_of(answer: int, verdict: Verdict) -> int:
@@ -117,7 +128,7 @@ def _pairs_of(answer: int, verdict: Verdict) -> int:
         raise Refused(Refusal(verdict.refusal), verdict.place, verdict.field)
     if answer == Answer.BAD_LINE:
         raise BadLine(verdict.place)
-    errors = {Answer.NO_MEMORY: OutOfMemory, Answer.TOO_MANY: TooManyPairs, Answer.TOO_LARGE: TextTooLarge, Answer.ENDS_EARLY: EndsEarly}
+    errors: Dict[int, Type[Exception]] = {Answer.NO_MEMORY: OutOfMemory, Answer.TOO_MANY: TooManyPairs, Answer.TOO_LARGE: TextTooLarge, Answer.ENDS_EARLY: EndsEarly}
     if answer in errors:
         raise errors[answer]()
-    return verdict.pairs
+    return int(verdict.pairs)

@@ -20,6 +20,10 @@ class Closed(GcflipError, ValueError):
     """The heap is closed."""
 
 
+class Reentered(GcflipError, RuntimeError):
+    """This thread is in a call on the heap already: a signal handler or a finaliser called the heap from within that call."""
+
+
 # ---- Of the checker
 
 

@@ -4,15 +4,17 @@ from __future__ import annotations
 import array
 import ctypes
 import enum
+import operator
+import os
 import threading
 import weakref
-from typing import Any, NamedTuple, Sequence, Union
+from typing import Any, Callable, NamedTuple, NoReturn, Sequence, TypeVar, Union
 
 from . import library
 from .checker import Image
 from .errors import (Busy, Closed, FlipRefused, Full, GcflipError, HeapRefused, Idle, NoField, NoNumber, NoObject, NoRoom, NotReady,
-                     OutOfMemory, OutOfRange)
-from .library import COUNTS, HEAP, LIBRARY, MUTATOR, SLOT, Answer, check_ranges
+                     OutOfMemory, OutOfRange, Reentered)
+from .library import COUNTS, HEAP, LIBRARY, MUTATOR, SLOT, Answer, in_range
 
 SLOTS = 16
 NOTHING_DONE: dict[int, type[GcflipError]] = {
@@ -115,8 +117,7 @@ class Pace:
     """
 
     def __init__(self, factor: int = 200, rate: int = 0, least: int = 65536) -> None:
-        check_ranges((factor, rate, least), [ctypes.c_uint32] * 3)
-        self._raw = library.RawPace(factor, rate, least, 1, 1, 0)
+        self._raw = library.RawPace(*in_range((factor, rate, least), [ctypes.c_uint32] * 3), 1, 1, 0)
 
 
 class Counts(NamedTuple):
@@ -153,21 +154,55 @@ class LogEntry(NamedTuple):
     field: int
 
 
+Returned = TypeVar("Returned")
+
+
+class Turn:
+    """Lets in one call at a time: other threads wait, and the thread that is in a call already is refused."""
+
+    def __init__(self) -> None:
+        # The lock is taken again by its own thread, which finds that it is busy instead of waiting for itself.
+        self.lock = threading.RLock()
+        self.busy = False
+
+    def take(self, act: Callable[[], Returned]) -> Returned:
+        """Runs a function while no other one runs. Raises Reentered if this thread runs one already."""
+        with self.lock:
+            if self.busy:
+                raise Reentered("a call on this heap was made from within another one")
+            try:
+                self.busy = True
+                return act()
+            finally:
+                self.busy = False
+
+
+def _close(handle: library.Handle, turn: Turn, process: int) -> None:
+    """Frees a heap when no call uses it any more. In a forked child the lock may belong to a thread that the child does not have, so that the
+    child does not wait for it."""
+    if turn.lock.acquire(blocking=os.getpid() == process):
+        try:
+            LIBRARY.gcflip_heap_close(handle)
+        finally:
+            turn.lock.release()
+
+
 class Heap:
     """A heap, and a context manager that closes it. Several threads may call it: a lock lets in one call at a time.
 
-    All calls raise Closed after `close`, and OutOfRange if an argument is out of its range.
+    All calls raise Closed after `close`, OutOfRange if an argument is out of its range, and Reentered if this thread is in a call on the heap
+    already, as in a signal handler. A heap cannot be copied or pickled.
     """
 
     def __init__(self, size: int, mutators: int = 1, extra_roots: int = 0) -> None:
         """Opens an empty heap of `size` words, 1 to 4294967295, for 1 to 16 mutators, with up to 1048576 extra roots. All roots hold
         nil. Raises OutOfMemory."""
-        check_ranges((size, extra_roots, mutators), [kind for _, kind in library.Options._fields_[1:]])
-        self._lock = threading.Lock()
+        numbers = in_range((size, extra_roots, mutators), [ctypes.c_uint32, ctypes.c_uint32, ctypes.c_uint8])
+        self._turn = Turn()
         self._handle = library.Handle()
-        self._extra_roots = extra_roots
-        self._call("open", library.Options(ctypes.sizeof(library.Options), size, extra_roots, mutators))
-        self._close = weakref.finalize(self, LIBRARY.gcflip_heap_close, self._handle)
+        self._extra_roots = numbers[1]
+        self._call("open", library.Options(ctypes.sizeof(library.Options), *numbers))
+        self._close = weakref.finalize(self, _close, self._handle, self._turn, os.getpid())
 
     def __enter__(self) -> Heap:
         return self
@@ -177,11 +212,14 @@ class Heap:
 
     def close(self) -> None:
         """Frees the heap. Does nothing if it is closed already."""
-        with self._lock:
-            self._close()
+        self._turn.take(self._close)
+
+    def __reduce_ex__(self, protocol: object) -> NoReturn:
+        raise TypeError("a heap cannot be copied or pickled")
 
     def mutator(self, number: int) -> Mutator:
         """Returns the mutator with this number, counted from 0."""
+        number = operator.index(number)
         if not 0 <= number < self.counts().mutators:
             raise OutOfRange("there is no mutator %d" % number)
         return Mutator(self, number)
@@ -245,10 +283,8 @@ class Heap:
 
     def steps_due(self, pace: Pace, wanted: int = 0) -> int:
         """Returns the number of steps that `work_paced` would perform, if none of them ends it early."""
-        check_ranges((wanted,), [ctypes.c_uint32])
-        with self._lock:
-            counts = self._counts()
-        return int(LIBRARY.gcflip_pace_due(pace._raw, counts, wanted))
+        wanted, = in_range((wanted,), [ctypes.c_uint32])
+        return int(LIBRARY.gcflip_pace_due(pace._raw, self._turn.take(self._counts), wanted))
 
     def remember(self, pace: Pace) -> None:
         """Makes the pace remember the heap as it is, as if it had just flipped: before the first paced work on a heap in use, and after a flip
@@ -259,8 +295,7 @@ class Heap:
 
     def counts(self) -> Counts:
         """Reads how full the heap is, and how far an open collection has come."""
-        with self._lock:
-            counts = self._counts()
+        counts = self._turn.take(self._counts)
         return Counts(**{name: getattr(counts, name) for name in COUNTS})._replace(is_open=bool(counts.is_open))
 
     def log_length(self, mutator: int) -> int:
@@ -277,22 +312,26 @@ class Heap:
 
     def image(self) -> Image:
         """Copies the heap's words, links included, and the root words: the 16 shared slots, the 16 of each mutator, and the extra roots."""
-        with self._lock:
+        def copied() -> Image:
             counts = self._counts()
             words, roots = _zeros(counts.end), _zeros(SLOTS + SLOTS * counts.mutators + self._extra_roots)
             self._made("image", words.buffer_info()[0], len(words), roots.buffer_info()[0], len(roots))
-        return Image(words, roots, counts.size)
+            return Image(words, roots, counts.size)
 
-    def new_words(self) -> array.array:
+        return self._turn.take(copied)
+
+    def new_words(self) -> array.array[int]:
         """Copies the words of the open collection's new space. A replica's link is its original's address. Raises OutOfRange if no
         collection is open."""
-        with self._lock:
+        def copied() -> array.array[int]:
             words = _zeros(self._counts().new_end)
             self._made("new_words", words.buffer_info()[0], len(words))
-        return words
+            return words
+
+        return self._turn.take(copied)
 
     def _counts(self) -> library.Counts:
-        """Reads the counts. The caller holds the lock, so they stay true until it lets go."""
+        """Reads the counts. The caller has the turn, so they stay true until it ends."""
         counts = library.Counts()
         self._made("counts", counts)
         return counts
@@ -304,12 +343,11 @@ class Heap:
 
     def _call(self, name: str, *arguments: Any) -> Answer:
         """Makes a call and returns its reply. Raises the exception for a refusal."""
-        check_ranges(tuple(argument for argument in arguments if isinstance(argument, int)), HEAP[name])
-        with self._lock:
-            return self._made(name, *arguments)
+        numbers = in_range(arguments, HEAP[name])
+        return self._turn.take(lambda: self._made(name, *numbers))
 
     def _made(self, name: str, *arguments: Any) -> Answer:
-        """Does the same if the arguments are in range and the lock is held."""
+        """Does the same if the arguments are in range and it is this call's turn."""
         answer = Answer(getattr(LIBRARY, "gcflip_heap_" + name)(self._handle, *arguments))
         if answer in NOTHING_DONE:
             raise NOTHING_DONE[answer](name)
@@ -319,24 +357,25 @@ class Heap:
 
     def _new_from(self, mutator: int, slot: int, kind: int, sources: Sequence[int]) -> None:
         """Makes an object whose fields take the values of slots."""
-        check_ranges((mutator, slot, kind, *sources), (MUTATOR, SLOT, ctypes.c_uint8, *[SLOT] * len(sources)))
-        numbers = (ctypes.c_uint8 * max(1, len(sources)))(*sources)
-        with self._lock:
-            self._made("new_from", mutator, slot, kind, numbers, len(sources))
+        sources = list(sources)
+        mutator, slot, kind, *slots = in_range((mutator, slot, kind, *sources), (MUTATOR, SLOT, ctypes.c_uint8, *[SLOT] * len(sources)))
+        numbers = (ctypes.c_uint8 * max(1, len(slots)))(*slots)
+        self._turn.take(lambda: self._made("new_from", mutator, slot, kind, numbers, len(slots)))
 
     def _get(self, mutator: int, slot: int, source: int, field: int) -> Value:
         """Reads a field into a slot, and looks at the slot before another thread can change it."""
-        check_ranges((mutator, slot, source, field), HEAP["get"])
-        number, view = ctypes.c_uint64(), library.View()
-        with self._lock:
-            answer = self._made("get", mutator, slot, source, field, number)
+        numbers = in_range((mutator, slot, source, field), HEAP["get"])
+
+        def found() -> Value:
+            number, view = ctypes.c_uint64(), library.View()
+            answer = self._made("get", *numbers, number)
             view.number = number.value
-            if answer == Answer.OBJECT:
-                answer = self._made("look", mutator, slot, view)
-        return _seen(answer, view)
+            return _seen(self._made("look", *numbers[:2], view) if answer == Answer.OBJECT else answer, view)
+
+        return self._turn.take(found)
 
 
-def _zeros(count: int) -> array.array:
+def _zeros(count: int) -> array.array[int]:
     return array.array("Q", bytes(8 * count))
 
 

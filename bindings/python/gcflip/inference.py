@@ -8,7 +8,7 @@ from typing import List, Optional, Tuple
 
 from .checker import Image, Block, arguments_of
 from .errors import OutOfMemory, Refusal, Refused
-from .library import LIBRARY, Answer, Verdict, check_ranges
+from .library import LIBRARY, Answer, Verdict, in_range
 
 
 @dataclass(frozen=True)
@@ -24,10 +24,11 @@ class Path:
 
 
 def root_name(place: int, roots: int) -> str:
-    """Names the root at this place of a list of this length: `g3`, `r0 of mutator 1`, or `root 5`."""
+    """Names the root at this place of a list of this length: `g3 (place 3)`, `r0 of mutator 1 (place 32)`, or `root 5`."""
     if roots < 32 or roots % 16 != 0 or roots > 272:
         return "root %d" % place
-    return "g%d" % place if place < 16 else "r%d of mutator %d" % (place % 16, place // 16 - 1)
+    slot = "g%d" % place if place < 16 else "r%d of mutator %d" % (place % 16, place // 16 - 1)
+    return "%s (place %d)" % (slot, place)
 
 
 @dataclass(frozen=True)
@@ -64,7 +65,7 @@ def path_to(image: Image, address: int) -> Optional[Path]:
 
     Raises OutOfMemory, OutOfRange for an address or a size of more than 32 bits, and OverflowError for a word that is too large.
     """
-    check_ranges((address,), [c_uint32])
+    address, = in_range((address,), [c_uint32])
     words, roots = Block(image.words, "Q"), Block(image.roots, "Q")
     room = 16
     while True:
@@ -105,10 +106,10 @@ def _explained_pair(old: Image, new: Image, pair: Tuple[int, int], refused: Refu
     where = path.words(len(old.roots)) if path else "object %d, which no root reaches" % pair[0]
     if refused.refusal == Refusal.HeaderDiffers:
         return "%s: old %s, new %s" % (where, _shown_header(old.words[pair[0]]), _shown_header(new.words[pair[1]]))
-    words = [image.words[address + 2 + refused.field] for image, address in ((old, pair[0]), (new, pair[1]))]
+    words = [int(image.words[address + 2 + refused.field]) for image, address in ((old, pair[0]), (new, pair[1]))]
     if _is_raw(old.words[pair[0]]):
-        return "%s . field %d: old %d, new %d" % (where, refused.field, *words)
-    return "%s . field %d: old %s, new %s" % (where, refused.field, *map(shown, words))
+        return "%s . field %d: old %d, new %d" % (where, refused.field, words[0], words[1])
+    return "%s . field %d: old %s, new %s" % (where, refused.field, shown(words[0]), shown(words[1]))
 
 
 def shown(word: int) -> str:
@@ -127,4 +128,6 @@ def _is_raw(header: int) -> bool:
 
 
 def _shown_header(header: int) -> str:
-    return "%s of kind %d with %d fields" % ("a raw object" if _is_raw(header) else "an object", header // LENGTHS % 256, header % LENGTHS)
+    length = header % LENGTHS
+    fields = "1 field" if length == 1 else "%d fields" % length
+    return "%s of kind %d with %s" % ("a raw object" if _is_raw(header) else "an object", header // LENGTHS % 256, fields)

@@ -3,11 +3,16 @@ from __future__ import annotations
 
 import ctypes
 import enum
+import operator
 import os
 from ctypes import POINTER, c_bool, c_size_t, c_uint8, c_uint16, c_uint32, c_uint64, c_void_p
-from typing import Any
+from typing import Any, Dict, List, Sequence
 
 from .errors import OutOfRange
+
+
+# The version that this package is for, as gcflip_version tells it. A library may differ from it in its last part.
+VERSION = 100
 
 
 class Handle(ctypes.Structure):
@@ -91,12 +96,12 @@ class Options(ctypes.Structure):
     _fields_ = [("bytes", c_uint32), ("size", c_uint32), ("extra_roots", c_uint32), ("mutators", c_uint8)]
 
 
-IMAGE = [c_uint32, c_uint32, c_bool, c_void_p, c_size_t, c_void_p, c_size_t]
+IMAGE: List[Any] = [c_uint32, c_uint32, c_bool, c_void_p, c_size_t, c_void_p, c_size_t]
 SLOT = c_uint8
 MUTATOR = c_uint8
 
 # The calls by their names without `gcflip_`. Those on a heap take a handle first.
-CHECKS = {
+CHECKS: Dict[str, List[Any]] = {
     "version": [],
     "pace_due": [POINTER(RawPace), POINTER(Counts), c_uint32],
     "check": [*IMAGE, *IMAGE, c_void_p, c_size_t, POINTER(Verdict)],
@@ -104,7 +109,7 @@ CHECKS = {
     "infer": [*IMAGE, *IMAGE, c_void_p, c_size_t, POINTER(c_size_t), POINTER(Verdict)],
     "path": [*IMAGE, c_uint32, POINTER(c_uint64), c_void_p, c_size_t, POINTER(c_size_t)],
 }
-HEAP = {
+HEAP: Dict[str, List[Any]] = {
     "open": [POINTER(Options)],
     "close": [],
     "new_object": [MUTATOR, SLOT, c_uint8, c_uint16],
@@ -147,30 +152,72 @@ def declare(library: ctypes.CDLL, name: str, arguments: list[Any]) -> None:
     call.restype = c_uint32
 
 
-def opened() -> ctypes.CDLL:
-    """Loads the file that the environment variable GCFLIP_LIBRARY names, or libgcflip.so, which the loader finds. Raises OSError."""
+NAME = "libgcflip.so"
+HERE = os.path.dirname(os.path.abspath(__file__))
+# A wheel has the library beside this file. In the repository 'make -C bindings/c' builds it.
+PLACES = (os.path.join(HERE, NAME), os.path.join(HERE, "..", "..", "c", "out", NAME))
+HINT = "build it by 'make -C bindings/c', or set GCFLIP_LIBRARY to its path"
+
+
+def place() -> str:
+    """Returns the file that the environment variable GCFLIP_LIBRARY names, else one in its place in a wheel or in the repository, else the name
+    that the loader searches for."""
+    named = os.environ.get("GCFLIP_LIBRARY")
+    return named if named else next((os.path.normpath(path) for path in PLACES if os.path.exists(path)), NAME)
+
+
+def opened(path: str) -> ctypes.CDLL:
+    """Loads the library from a file, and declares its calls. Raises OSError, whose text is one line, for a file that is missing, is no library,
+    or is of another version."""
     try:
-        library = ctypes.CDLL(os.environ.get("GCFLIP_LIBRARY") or "libgcflip.so")
+        library = ctypes.CDLL(path)
     except OSError as error:
-        raise OSError("%s; install it by 'make -C bindings/c install', or set GCFLIP_LIBRARY to its path" % error) from None
-    for name, arguments in CHECKS.items():
-        declare(library, "gcflip_" + name, arguments)
-    for name, arguments in HEAP.items():
-        declare(library, "gcflip_heap_" + name, [POINTER(Handle), *arguments])
+        raise OSError("%s; %s" % (error, HINT)) from None
+    try:
+        for name, arguments in CHECKS.items():
+            declare(library, "gcflip_" + name, arguments)
+        found = library.gcflip_version() // 100
+        if found != VERSION // 100:
+            raise OSError("%s has version %s, and this package needs %s; %s" % (path, _shown(found), _shown(VERSION // 100), HINT))
+        for name, arguments in HEAP.items():
+            declare(library, "gcflip_heap_" + name, [POINTER(Handle), *arguments])
+    except AttributeError as error:
+        raise OSError("%s is not the library of this package: %s; %s" % (path, error, HINT)) from None
     return library
 
 
-LIBRARY = opened()
+def _shown(version: int) -> str:
+    return "%d.%d" % (version // 100, version % 100)
+
+
+class Library:
+    """The calls of the shared library by their names. The first use of one loads the library, and raises OSError if it cannot be loaded."""
+
+    def __getattr__(self, name: str) -> Any:
+        call = getattr(opened(place()), name)
+        setattr(self, name, call)
+        return call
+
+
+LIBRARY = Library()
 
 
 def library_version() -> str:
-    """Returns the version of the shared library."""
+    """Returns the version of the shared library. Raises OSError if it cannot be loaded."""
     number = LIBRARY.gcflip_version()
     return "%d.%d.%d" % (number // 10000, number // 100 % 100, number % 100)
 
 
-def check_ranges(values: tuple[int, ...], types: list[Any]) -> None:
-    """Raises OutOfRange unless each number fits its type. ctypes would truncate it."""
-    for value, kind in zip(values, types):
-        if not 0 <= value < 1 << 8 * ctypes.sizeof(kind):
-            raise OutOfRange("%d is negative or has more than %d bits" % (value, 8 * ctypes.sizeof(kind)))
+NUMBERS = (c_uint8, c_uint16, c_uint32, c_uint64, c_size_t)
+
+
+def in_range(values: Sequence[Any], types: Sequence[Any]) -> list[Any]:
+    """Returns the arguments of a call, with each number as an int, so that the call itself runs no code of the caller. Raises OutOfRange unless
+    each number fits its type, since ctypes would truncate it, and TypeError for what is no number."""
+    return [_fitting(operator.index(value), kind) if kind in NUMBERS else value for value, kind in zip(values, types)]
+
+
+def _fitting(value: int, kind: Any) -> int:
+    if not 0 <= value < 1 << 8 * ctypes.sizeof(kind):
+        raise OutOfRange("%d is negative or has more than %d bits" % (value, 8 * ctypes.sizeof(kind)))
+    return value

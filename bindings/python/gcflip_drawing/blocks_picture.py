@@ -75,7 +75,7 @@ class Side:
 def draw_space(picture, side):
     for first, count, sort in side.runs():
         x, y = ROOT_X + first % side.blocks.columns * BLOCK, side.top + first // side.blocks.columns * ROW
-        tip = "words %d to %d: %s" % (first * side.scale, (first + count) * side.scale - 1, sort)
+        tip = "%s, words %d to %d: %s" % (side.space.name, first * side.scale, (first + count) * side.scale - 1, sort)
         picture.box(x, y, count * BLOCK, ROW, sort, tip=tip)
 
 
@@ -91,7 +91,7 @@ def draw_joined(picture, sides, scene):
     for old, new in scene.joined[::step]:
         if old < len(scene.old.words) and new < len(scene.new.words):
             picture.line([sides[0].place(old), sides[1].place(new)], scene.joined_as)
-    return "%ss" % scene.joined_as if step == 1 else "one of %d %ss" % (step, scene.joined_as)
+    return "%ss" % scene.joined_as if step == 1 else "one %s in %d" % (scene.joined_as, step)
 
 
 def draw_faults(picture, sides, scene):

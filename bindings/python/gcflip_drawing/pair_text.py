@@ -1,4 +1,5 @@
 """Reads and writes pair texts as far as pictures need it. Only `gcflip check` and the library decide what a pair text is."""
+import functools
 import re
 
 NUMBER = re.compile(r"0|[1-9][0-9]{0,19}")
@@ -76,6 +77,26 @@ def read_pair(text):
     if lines.next("the line 'end'") != "end":
         lines.fail("the line 'end'")
     return PairText(version == 2, old, new, pairs)
+
+
+@functools.lru_cache(maxsize=2)
+def read_accepted(text):
+    """Returns the pair of a text that the library has read without a fault. Nobody may change what is returned, since it is kept."""
+    lines = text.split("\n")
+    old, at = accepted_image(lines, 1)
+    new, at = accepted_image(lines, at)
+    count = int(lines[at].split(" ")[1])
+    pairs = [(int(first), int(second)) for first, _, second in (line.partition(" ") for line in lines[at + 1:at + 1 + count])]
+    return PairText(lines[0] == "heappair 2", old, new, pairs)
+
+
+def accepted_image(lines, at):
+    """Returns the image that begins at a place of the lines, and the place behind it."""
+    _, size, end = lines[at].split(" ")
+    words = list(map(int, lines[at + 1:at + 1 + int(end)]))
+    at += 1 + int(end)
+    count = int(lines[at].split(" ")[1])
+    return Image(int(size), words, list(map(int, lines[at + 1:at + 1 + count]))), at + 1 + count
 
 
 def written_image(name, image):

@@ -48,8 +48,8 @@ class Column:
 
     def add(self, measure):
         self.size, self.used = measure.size, max(self.used, measure.used)
-        if measure.is_open or measure.reply.startswith("flipped") or measure.reply == "dropped":
-            self.is_open = True
+        # As with the curves, what counts is the state after the event: a flip ends its collection.
+        self.is_open = self.is_open or measure.is_open
         self.copied = max(self.copied, measure.copied)
         self.entries = [max(most, entries) for most, entries in zip(self.entries, measure.entries)]
         if mark_of(measure.reply):
@@ -66,19 +66,24 @@ class Run:
     there are few, and the count of each mark."""
 
     def __init__(self, mutators, count, measures, frame=Frame()):
-        self.frame, self.columns, self.replies = frame, [], []
+        self.frame, self.columns, self.replies, self.mutators, self.played = frame, [], [], mutators, 0
         self.counts = {name: 0 for name, _ in LANES}
         self.count = count
         self.labelled = frame.has_texts and count <= MOST_LABELS
         self.all_columns = min(count, frame.width)
-        for at, measure in enumerate(measures):
-            if count <= frame.width or at * frame.width // count >= len(self.columns):
-                self.columns.append(Column(mutators))
+        self.extend(measures)
+
+    def extend(self, measures):
+        """Adds the measures of further events."""
+        for at, measure in enumerate(measures, self.played):
+            if self.count <= self.frame.width or at * self.frame.width // self.count >= len(self.columns):
+                self.columns.append(Column(self.mutators))
             self.columns[-1].add(measure)
             if mark_of(measure.reply):
                 self.counts[mark_of(measure.reply)] += 1
             if self.labelled:
                 self.replies.append(measure.reply)
+            self.played = at + 1
 
     def step(self):
         """Returns the width of a column."""
@@ -238,12 +243,17 @@ def draw_cursor(picture, run, floor):
 
 def drawn(trace, measures, title, frame=Frame()):
     """Returns the picture of a trace, from a measure for each event that was played."""
-    run = Run(trace.mutators, len(trace.events), measures, frame)
-    picture = Picture(title)
+    return drawn_run(trace, Run(trace.mutators, len(trace.events), measures, frame), title)
+
+
+def drawn_run(trace, run, title):
+    """Returns the picture of a trace, from the run of it."""
+    picture, frame = Picture(title), run.frame
     if frame.has_texts:
         picture.text(24, 26, title, "title")
         mutators = "1 mutator" if trace.mutators == 1 else "%d mutators" % trace.mutators
-        picture.text(24, 46, "%d events, %s, a space of %d words" % (run.count, mutators, trace.size), "label")
+        events = "1 event" if run.count == 1 else "%d events" % run.count
+        picture.text(24, 46, "%s, %s, a space of %d words" % (events, mutators, trace.size), "label")
     draw_words(picture, run)
     top = draw_marks(picture, run, frame.top() + frame.height + 4)
     top = draw_logs(picture, run, top + 8)

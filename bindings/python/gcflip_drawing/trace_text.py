@@ -1,4 +1,6 @@
 """Reads trace texts. For a text that is not a trace, the fault is the line that `gcflip play` prints. docs/FORMATS.md has the grammar."""
+import functools
+import io
 import re
 from typing import NamedTuple
 
@@ -34,7 +36,7 @@ class Trace(NamedTuple):
     version: int
     size: int
     mutators: int
-    events: "list[Event]"
+    events: "list[Event] | Events"
 
 
 def number_to(most):
@@ -80,6 +82,8 @@ STEPS = {
 }
 
 
+# Long traces repeat few lines.
+@functools.lru_cache(maxsize=65536)
 def event_of(line, version=3):
     """Returns the event that a line spells in a version, or None."""
     words = line.split(" ")
@@ -115,10 +119,16 @@ def names_mutator(event):
 
 def read_trace(data):
     """Returns the trace that these bytes spell. Raises BadTrace."""
+    trace = open_trace(data)
+    return trace._replace(events=list(trace.events))
+
+
+def open_trace(data):
+    """Returns the trace that these bytes spell. Its events are read while one goes through them, and BadTrace may be raised then."""
     if len(data) > MOST_BYTES:
         raise BadTrace("trace: too large")
     # Each byte becomes a character, so that a byte that is not text is found at its place.
-    lines = data.decode("latin-1").split("\n")
+    lines = data[:100].decode("latin-1").split("\n")
     first = FIRST_LINE.fullmatch(lines[0])
     second = SECOND_LINE.fullmatch(lines[1]) if len(lines) > 2 else None
     if not first or not second:
@@ -126,18 +136,26 @@ def read_trace(data):
     version, words, mutators = int(first.group(1)), int(second.group(1)), int(second.group(2))
     if not 1 <= words <= MOST_WORDS or not 1 <= mutators <= MOST_MUTATORS:
         raise BadTrace("trace: bad header")
-    return Trace(version, words, mutators, list(read_events(lines[2:], version, mutators)))
+    return Trace(version, words, mutators, Events(data, version, mutators))
 
 
-def read_events(lines, version, mutators):
-    """Yields the events of the lines after the first two. Raises BadTrace."""
-    for at, line in enumerate(lines, 3):
-        is_last = at == len(lines) + 2
-        if is_last and not line:
-            return
-        event = event_of(line, version)
-        if event is None or is_last:
-            raise BadTrace("trace: bad line %d" % at, at)
-        if (names_mutator(event) or 0) >= mutators:
-            raise BadTrace("trace: no such mutator at line %d" % at, at)
-        yield event
+class Events:
+    """The events of a trace, read from its bytes each time that one goes through them. The length counts the last line even if it is cut."""
+
+    def __init__(self, data, version, mutators):
+        self.data, self.version, self.mutators = data, version, mutators
+
+    def __len__(self):
+        return self.data.count(b"\n") - 2 + (0 if self.data.endswith(b"\n") else 1)
+
+    def __iter__(self):
+        """Yields the events of the lines after the first two. Raises BadTrace."""
+        for at, line in enumerate(io.BytesIO(self.data), 1):
+            if at < 3:
+                continue
+            event = event_of(line[:-1].decode("latin-1"), self.version)
+            if event is None or not line.endswith(b"\n"):
+                raise BadTrace("trace: bad line %d" % at, at)
+            if (names_mutator(event) or 0) >= self.mutators:
+                raise BadTrace("trace: no such mutator at line %d" % at, at)
+            yield event

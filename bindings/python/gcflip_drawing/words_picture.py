@@ -3,7 +3,7 @@ together."""
 from typing import NamedTuple
 
 from .heap import references, shown, target
-from .picture import MARGIN, Picture
+from .picture import MARGIN, Picture, text_width
 from .scene import counted, objects_of
 
 CELL, HEIGHT = 50, 30
@@ -16,7 +16,9 @@ FREE_HEIGHT, FREE_GAP, LABEL_GAP = 10, 4, 16
 LEAST_COLUMNS = 11
 MOST_SHOWN_ROOTS = 24
 RIGHT = 24
-LEAST_WIDTH_WITH_ROOTS = 560
+# In a narrower picture the roots are in rows of their own, above the old space and below the new one.
+LEAST_WIDTH_WITH_ROOTS_AT_THE_LEFT = 460
+ROOT_GAP = 8
 # In a space with more rows, the names of an object's roots are next to its address, and no arrows are drawn from them.
 MOST_ROWS_WITH_ARROWS = 2
 
@@ -26,7 +28,7 @@ class Grid(NamedTuple):
 
     columns: int = 16
     has_roots: bool = True
-    """Whether roots are at the left, with arrows to their targets."""
+    """Whether roots are at the left, with arrows to their targets. Otherwise they are in rows, and each object has the names of its roots."""
     is_whole: bool = False
     """Whether all free words are drawn, or only as many as fill the last row."""
 
@@ -36,7 +38,7 @@ class Grid(NamedTuple):
 
 def grid_of(width, is_whole=False):
     """Returns the grid for a picture of about this width. Roots are at the left if enough columns remain."""
-    has_roots = width >= LEAST_WIDTH_WITH_ROOTS
+    has_roots = width >= LEAST_WIDTH_WITH_ROOTS_AT_THE_LEFT
     left = Grid(has_roots=has_roots).left()
     return Grid(max(4, min(24, (width - left - RIGHT) // CELL)), has_roots, is_whole)
 
@@ -107,22 +109,38 @@ class Side:
             start, size = start + count, size - count
 
 
-def short(text, most=7):
+# A cell has room for so many characters.
+MOST_IN_CELL = 6
+# An object that goes on in the next row reaches so far beyond the end of its row, and begins as far before the next one.
+BEYOND = 9
+
+
+def short(text, most=MOST_IN_CELL):
     return text if len(text) <= most else text[: most - 1] + "\u2026"
 
 
 def draw_word(picture, side, address, role, text, tip):
+    """Draws a word in its cell. A text of two words that is too long has two lines."""
     x, y = side.place(address)
-    picture.box(x + 3, y + 3, CELL - 6, HEIGHT - 6, "changed" if address in side.changed else role, short(text), tip)
+    role = "changed" if address in side.changed else role
+    first, _, second = text.partition(" ")
+    if second and len(text) > MOST_IN_CELL:
+        picture.box(x + 3, y + 3, CELL - 6, HEIGHT - 6, role, "", tip)
+        picture.text(x + CELL / 2, y + 13, short(first), "small", "middle")
+        picture.text(x + CELL / 2, y + 24, short(second), "small", "middle")
+    else:
+        picture.box(x + 3, y + 3, CELL - 6, HEIGHT - 6, role, short(text), tip)
 
 
 def draw_object(picture, side, thing):
     for address, count in side.segments(thing.start, thing.size()):
         x, y = side.place(address)
         tip = "object at %d" if address == thing.start else "rest of the object at %d"
-        picture.box(x, y, count * CELL, HEIGHT, side.space.sort(thing), tip=tip % thing.start)
+        before = BEYOND if address != thing.start else 0
+        after = BEYOND if address + count < thing.start + thing.size() else 0
+        picture.box(x - before, y, before + count * CELL + after, HEIGHT, side.space.sort(thing), tip=tip % thing.start)
     name = "raw" if thing.raw else "kind"
-    draw_word(picture, side, thing.start, "head", "%s %d" % (name, thing.kind), "header: kind %d, %d fields" % (thing.kind, len(thing.fields)))
+    draw_word(picture, side, thing.start, "head", "%s %d" % (name, thing.kind), "header: kind %d, %s" % (thing.kind, counted(len(thing.fields), "field")))
     link = side.space.words[thing.start + 1]
     draw_word(picture, side, thing.start + 1, "head", "link %d" % link, "link word %d" % link)
     for i, word in enumerate(thing.fields):
@@ -148,6 +166,7 @@ def draw_rest(picture, side):
         height = side.row_height(address)
         inset = 3 if height == HEIGHT else 0
         text = "%d free" % (side.space.size - len(words)) if address == free.start and height == HEIGHT else ""
+        text = text if text_width(text, "value") <= count * CELL - 8 else ""
         picture.box(x + 3, y + inset, count * CELL - 6, height - 2 * inset, "free", text)
 
 
@@ -189,17 +208,41 @@ def shown_roots(space, wanted):
     return places
 
 
-def draw_roots(picture, side, wanted, changed):
-    """Draws the roots at the left of a space, and marks those that changed and the one that the checker names."""
+def roots_in_a_row(width):
+    """Returns how many roots have room in a row of a picture of this width."""
+    return max(1, (width - ROOT_X - RIGHT + ROOT_GAP) // (ROOT_WIDTH + ROOT_GAP))
+
+
+def height_of_root_rows(space, wanted, width):
+    """Returns the height of the rows with the roots of a space."""
+    return -(-len(shown_roots(space, wanted)) // roots_in_a_row(width)) * HEIGHT
+
+
+def draw_root(picture, side, place, x, y, scene):
+    """Draws a root, and marks it if it changed or the checker names it."""
     roots = side.space.roots
-    names, places = root_names(len(roots)), shown_roots(side.space, wanted)
+    word, name = roots[place], root_names(len(roots))[place]
+    role = "changed" if (side.is_old, place) in scene.changed_roots else "root"
+    picture.box(x, y, ROOT_WIDTH, HEIGHT - 8, role, "%s  %s" % (name, short(shown(word), 9)), "word %d" % word)
+    if place == scene.root:
+        picture.box(x - 3, y - 3, ROOT_WIDTH + 6, HEIGHT - 2, "fault")
+
+
+def draw_root_rows(picture, side, y, width, scene):
+    """Draws the roots of a space in rows."""
+    for at, place in enumerate(shown_roots(side.space, scene.root)):
+        line, column = divmod(at, roots_in_a_row(width))
+        draw_root(picture, side, place, ROOT_X + column * (ROOT_WIDTH + ROOT_GAP), y + line * HEIGHT, scene)
+
+
+def draw_roots(picture, side, scene):
+    """Draws the roots at the left of a space, and arrows to their targets."""
+    roots = side.space.roots
+    places = shown_roots(side.space, scene.root)
     for line, place in enumerate(places):
         y = side.row_top(0) + line * (HEIGHT - 4)
         word = roots[place]
-        role = "changed" if (side.is_old, place) in changed else "root"
-        picture.box(ROOT_X, y, ROOT_WIDTH, HEIGHT - 8, role, "%s  %s" % (names[place], short(shown(word), 9)), "word %d" % word)
-        if place == wanted:
-            picture.box(ROOT_X - 3, y - 3, ROOT_WIDTH + 6, HEIGHT - 2, "fault")
+        draw_root(picture, side, place, ROOT_X, y, scene)
         address = target(word)
         if address in side.space.objects and side.has_arrows:
             x, edge_y = side.edge(address)
@@ -271,7 +314,7 @@ def draw_side(picture, side, scene):
         draw_object(picture, side, thing)
     draw_references(picture, side)
     if side.grid.has_roots:
-        draw_roots(picture, side, scene.root, scene.changed_roots)
+        draw_roots(picture, side, scene)
 
 
 def width_of(scene, grid):
@@ -285,15 +328,20 @@ def drawn_word_by_word(scene, grid=Grid()):
     """Returns the picture of a scene."""
     picture, width = Picture(scene.title), width_of(scene, grid)
     heading_y = picture.paragraph(ROOT_X, draw_caption(picture, scene, width), heading(scene.old), "label", width)
-    old, old_height = side_of(scene, scene.old, True, heading_y + 2, grid)
+    # The rows of roots, if they are not at the left: where they begin, and their height.
+    rows = [(heading_y + 10, 0 if grid.has_roots else height_of_root_rows(scene.old, scene.root, width))]
+    old, old_height = side_of(scene, scene.old, True, heading_y + 2 + rows[0][1], grid)
     sides, bottom = [old], old.top + old_height
     if scene.new:
         new, new_height = side_of(scene, scene.new, False, bottom + BETWEEN, grid)
         sides.append(new)
-        bottom = picture.paragraph(ROOT_X, new.top + new_height + 16, heading(scene.new), "label", width)
+        rows.append((new.top + new_height + 4, 0 if grid.has_roots else height_of_root_rows(scene.new, scene.root, width)))
+        bottom = picture.paragraph(ROOT_X, sum(rows[1]) + 14, heading(scene.new), "label", width)
         draw_joined(picture, sides, scene)
-    for side in sides:
+    for side, (y, height) in zip(sides, rows):
         draw_side(picture, side, scene)
+        if height > 0:
+            draw_root_rows(picture, side, y, width, scene)
     for side in sides:
         draw_marks(picture, side, scene)
     if scene.scan is not None:

@@ -7,6 +7,8 @@ import sys
 import threading
 import webbrowser
 
+from gcflip import library_version
+
 from .requests import Desk, examples, kind_of
 from .server import MOST_TEXT, Server
 
@@ -37,6 +39,10 @@ def opened(path: str) -> dict[str, str]:
 
 def main() -> None:
     given = arguments()
+    try:
+        library_version()
+    except OSError as error:
+        sys.exit("explore: %s" % error)
     try:
         examples()
     except OSError as error:

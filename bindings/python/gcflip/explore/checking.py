@@ -6,11 +6,14 @@ from typing import Any, NamedTuple
 
 import gcflip
 from gcflip import BadText, Refused, check_text, compare, explained
-from gcflip_drawing.heap import walk
+from gcflip.inference import root_name
+from gcflip_drawing.heap import header_of, shown, walk
 from gcflip_drawing.images_text import read_images
 from gcflip_drawing.pair_picture import scene_of
-from gcflip_drawing.pair_text import Image, PairText, Unreadable, read_pair, written
+from gcflip_drawing.pair_text import Image, PairText, Unreadable, read_accepted, read_pair, written
+from gcflip_drawing.scene import counted
 from gcflip_drawing.scene_picture import drawn_in_width
+from gcflip_drawing.scene_text import told
 from gcflip_drawing.verdicts import Verdict
 
 
@@ -38,7 +41,7 @@ def checked(text: bytes, width: int, changed: Place | None = None) -> dict[str, 
         return {"line": str(fault), "fault": True, "bad_line": getattr(fault, "line", None)}
     except Refused as refusal:
         verdict, refused = Verdict(str(refusal)), refusal
-    pair = read_pair(text.decode("ascii"))
+    pair = read_accepted(text.decode("ascii"))
     return {**drawn(pair, verdict, width, changed), "where": where(pair, refused)}
 
 
@@ -76,7 +79,78 @@ def drawn(pair: PairText, verdict: Verdict, width: int, changed: Place | None = 
         scene.note_changed(changed.heap == "old", changed.row, changed.at)
         scene.legend = [*scene.legend, ("changed", "just changed")]
     return {"line": verdict.line, "fault": False, "refused": verdict.refusal is not None, "meaning": verdict.meaning(),
-            "picture": drawn_in_width(scene, width).described()}
+            "picture": drawn_in_width(scene, width).described(), "told": told(scene), "place": place_of(pair, verdict)}
+
+
+# Of a large object, so many words are shown before and after the refused one.
+AROUND = 6
+
+
+def place_of(pair: PairText, verdict: Verdict) -> list[dict[str, Any]]:
+    """Returns what stands at the place of a refusal, for each heap: a heading, and rows with the part of the object, the address, the word, its
+    meaning, the line of the pair text, and whether it is the refused word."""
+    found = []
+    for heap, is_old in (("old", True), ("new", False)):
+        image: Image = getattr(pair, heap)
+        first = first_line(pair, heap)
+        address = verdict.address(is_old, pair.pairs)
+        if verdict.root() is not None and verdict.root() < len(image.roots):
+            word = image.roots[verdict.root()]
+            row = row_of_place(root_name(verdict.root(), len(image.roots)), None, word, shown(word), first + 1 + len(image.words) + 1 + verdict.root(), True)
+            found.append({"heading": "%s heap" % heap, "rows": [row]})
+        elif address is not None and address < len(image.words):
+            found.append({"heading": "%s heap" % heap, "rows": object_rows(image, pair.raws, address, verdict.field(), first)})
+    return found
+
+
+# So many objects of a block are shown.
+MOST_LOOKED_AT = 8
+
+
+def objects_between(text: str, heap: str, first: int, last: int) -> list[dict[str, Any]]:
+    """Returns the first objects of a heap with a word from `first` to `last`, each with a heading and its first rows. Raises BadText."""
+    try:
+        check_text(text.encode("utf-8", "surrogatepass"))
+    except Refused:
+        pass
+    pair = read_accepted(text)
+    image: Image = getattr(pair, heap)
+    found = []
+    for start, thing in walk(image.words, pair.raws).items():
+        if start > last or len(found) == MOST_LOOKED_AT:
+            break
+        if start + thing.size() > first:
+            rows = object_rows(image, pair.raws, start, None, first_line(pair, heap), False)
+            found.append({"heading": "object at %d of the %s heap" % (start, heap), "rows": rows})
+    return found
+
+
+def first_line(pair: PairText, heap: str) -> int:
+    """Returns the number of the line that begins a heap: `old SIZE END` or `new SIZE END`."""
+    return 2 if heap == "old" else 2 + 1 + len(pair.old.words) + 1 + len(pair.old.roots)
+
+
+def row_of_place(part: str, address: int | None, word: int, meaning: str, line: int, is_refused: bool) -> dict[str, Any]:
+    # Words have up to 20 digits, more than a number of JavaScript keeps exactly.
+    return {"part": part, "address": address, "word": str(word), "meaning": meaning, "line": line, "refused": is_refused}
+
+
+def object_rows(image: Image, raws: bool, address: int, field: int | None, first: int, is_refused: bool = True) -> list[dict[str, Any]]:
+    """Returns the rows of the words of an object, or of the one word at an address where no object starts."""
+    header = header_of(image.words[address], raws)
+    size = min(header[2] + 2 if header else 1, len(image.words) - address)
+    refused = 0 if field is None else 2 + field
+    rows = []
+    for at in range(max(0, refused - AROUND), min(size, refused + AROUND + 1)):
+        word = image.words[address + at]
+        part = ("header" if header else "no header", "link")[at] if at < 2 else "field %d" % (at - 2)
+        meaning = described_header(header) if at == 0 else "" if at == 1 else str(word) if header and header[0] else shown(word)
+        rows.append(row_of_place(part, address + at, word, meaning, first + 1 + address + at, is_refused and at == refused))
+    return rows
+
+
+def described_header(header: tuple[bool, int, int] | None) -> str:
+    return "" if header is None else "%s of kind %d, %s" % ("raw object" if header[0] else "object", header[1], counted(header[2], "field"))
 
 
 def row_of(pair: PairText, heap: str, row: str) -> list[int]:
@@ -87,7 +161,7 @@ def row_of(pair: PairText, heap: str, row: str) -> list[int]:
 def name_of(pair: PairText, place: Place) -> str:
     """Says what a word is: a root, or a part of an object."""
     if place.row == "roots":
-        return "root %d of the %s heap" % (place.at, place.heap)
+        return "%s of the %s heap" % (root_name(place.at, len(row_of(pair, place.heap, "roots"))), place.heap)
     if place.at == 0:
         return "the reserved word 0 of the %s heap" % place.heap
     for start, thing in walk(row_of(pair, place.heap, "words"), pair.raws).items():

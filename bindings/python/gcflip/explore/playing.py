@@ -5,7 +5,7 @@ from typing import Iterable, NamedTuple
 
 from gcflip import Heap, HeapRefused, Image, Mutator, Object, Step, Value
 from gcflip_drawing.collection_picture import Changed
-from gcflip_drawing.timeline import Measure
+from gcflip_drawing.timeline import Frame, Measure, Run
 from gcflip_drawing.trace_text import Event, Trace, event_of
 
 MOST_PLAYERS = 4
@@ -54,6 +54,8 @@ class Player:
         self.lines: list[str] = []
         self.measures: list[Measure] = []
         self.changed: list[Changed] = []
+        # The summary of the measures for the timeline: for how many events and for which frame, and itself.
+        self.summary: tuple[int, Frame, Run] | None = None
 
     def play(self, event: Event) -> str:
         """Performs an event, and returns the line of its reply. Raises OutOfMemory; the event is then not performed."""
@@ -62,7 +64,11 @@ class Player:
         except HeapRefused as refusal:
             reply = str(refusal)
         self.lines.append(event.line)
-        self.measures.append(self.measured(reply))
+        last = self.measures[-1] if self.measures else None
+        if last is None or event.mutator is None or event.name in ("new", "raw") or event.name == "put" and last.is_open:
+            self.measures.append(self.measured(reply))
+        else:
+            self.measures.append(last._replace(reply=reply))
         return reply
 
     def play_to(self, trace: Trace, position: int) -> None:
@@ -95,6 +101,14 @@ class Player:
         counts = self.heap.counts()
         entries = tuple(self.heap.log_length(mutator.number) for mutator in self.mutators)
         return Measure(reply, counts.size, counts.end, counts.new_end, counts.is_open, entries)
+
+    def run_of(self, count: int, frame: Frame) -> Run:
+        """Returns the summary of the events that were played, of a trace of `count` events."""
+        if self.summary is None or self.summary[:2] != (count, frame):
+            self.summary = count, frame, Run(len(self.mutators), count, [], frame)
+        run = self.summary[2]
+        run.extend(self.measures[run.played:])
+        return run
 
     def words(self) -> Words:
         counts = self.heap.counts()

@@ -9,12 +9,12 @@ import threading
 from typing import Any, Callable
 
 from gcflip import BadText
-from gcflip_drawing.trace_text import BadTrace, Event, Trace, event_of, heading, read_trace, version_of
+from gcflip_drawing.trace_text import MOST_BYTES, BadTrace, Event, Trace, event_of, heading, read_trace, version_of
 
 from . import checking, state
 from .playing import Player, Players
 
-MOST_EVENTS = 20000
+MOST_SESSIONS = 8
 HERE = os.path.dirname(os.path.abspath(__file__))
 # An installed package has copies of the examples. In the repository they are at the top.
 PLACES = (os.path.join(HERE, "examples"), os.path.join(HERE, "..", "..", "..", "..", "examples"))
@@ -26,6 +26,34 @@ class BadRequest(Exception):
     """Why a request cannot be answered."""
 
 
+class Session:
+    """What the server keeps for a tab of the browser."""
+
+    def __init__(self) -> None:
+        self.players = Players()
+        self.lock = threading.Lock()
+        self.chosen = random.Random()
+        self.flips: tuple[Trace, list[int]] | None = None
+
+    def positions_before_flips(self, trace: Trace) -> list[int]:
+        """Returns the positions before the flips of a trace, which is played to its end unless it was the last one."""
+        if self.flips is None or self.flips[0] is not trace:
+            player = self.players.at(trace, len(trace.events))
+            self.flips = trace, [at for at, measure in enumerate(player.measures) if measure.reply.startswith("flipped")]
+        return self.flips[1]
+
+    def before_flip(self, trace: Trace, position: int) -> int:
+        """Returns the position before the next flip after a position, or the position if there is none."""
+        return min([at for at in self.positions_before_flips(trace) if at > position], default=position)
+
+    def before_flip_number(self, trace: Trace, number: int) -> int:
+        """Returns the position before the flip with this number, counted from 1. Raises BadRequest if there is none."""
+        flips = self.positions_before_flips(trace)
+        if not 1 <= number <= len(flips):
+            raise BadRequest("This trace has %s." % ("no flip" if not flips else "1 flip" if len(flips) == 1 else "%d flips" % len(flips)))
+        return flips[number - 1]
+
+
 class Asked:
     """The JSON of a request. Its methods read parts by name, and raise BadRequest for a part that is missing or wrong."""
 
@@ -33,6 +61,14 @@ class Asked:
         if not isinstance(data, dict):
             raise BadRequest("The request is no JSON object.")
         self.data = data
+        self.session = Session()
+
+    def name_of_session(self) -> str:
+        """Returns the name that the tab gave itself. Requests without one share a session."""
+        name = self.data.get("session", "")
+        if not isinstance(name, str) or len(name) > 64:
+            raise BadRequest("The name of the session has to be a short text.")
+        return name
 
     def text(self, name: str = "text") -> str:
         value = self.data.get(name)
@@ -51,11 +87,7 @@ class Asked:
 
     def trace(self) -> Trace:
         """Returns the trace of the request. Raises BadTrace."""
-        trace = read(self.text())
-        if len(trace.events) > MOST_EVENTS:
-            raise BadRequest("This page plays traces of up to %d events, and this one has %d. 'gcflip play' plays it." % (
-                MOST_EVENTS, len(trace.events)))
-        return trace
+        return read(self.text())
 
     def position(self, trace: Trace) -> int:
         return self.number("position", len(trace.events))
@@ -67,25 +99,36 @@ def read(text: str) -> Trace:
 
 
 class Desk:
-    """Answers the requests of the page, one at a time."""
+    """Answers the requests of the page: those of one tab one at a time, and those of different tabs side by side."""
 
     def __init__(self, file: dict[str, str] | None = None) -> None:
-        self.players = Players()
+        self.sessions: dict[str, Session] = {}
         self.lock = threading.Lock()
         self.file = file
-        self.chosen = random.Random()
         self.answers: dict[str, Callable[[Asked], dict[str, Any]]] = {
-            "start": self.start, "play": self.play, "insert": self.insert, "pair": self.pair, "check": self.check, "spoil": self.spoil}
+            "start": self.start, "play": self.play, "insert": self.insert, "pair": self.pair, "check": self.check, "spoil": self.spoil, "look": self.look}
 
     def answer(self, name: str, data: Any) -> dict[str, Any]:
         """Answers a request. Its name is one of `answers`. Raises BadRequest."""
-        with self.lock:
+        asked = Asked(data)
+        asked.session = self.session(asked.name_of_session())
+        with asked.session.lock:
             try:
-                return self.answers[name](Asked(data))
+                return self.answers[name](asked)
             except BadTrace as fault:
                 return {"fault": {"message": str(fault), "line": fault.line}}
             except MemoryError:
                 raise BadRequest("Out of memory. The request can be tried again.") from None
+
+    def session(self, name: str) -> Session:
+        """Returns the session with this name, or a new one. Forgets the one that was not used for longest if there are too many; its tab then
+        gets a new one, which plays its trace again."""
+        with self.lock:
+            found = self.sessions.pop(name, None) or Session()
+            self.sessions[name] = found
+            for forgotten in list(self.sessions)[:-MOST_SESSIONS]:
+                del self.sessions[forgotten]
+            return found
 
     def start(self, _asked: Asked) -> dict[str, Any]:
         """Returns the examples, and the file of the command line."""
@@ -95,20 +138,17 @@ class Desk:
         """Plays a trace up to a position, or up to the next flip after it."""
         trace = asked.trace()
         position = asked.position(trace)
-        player = self.players.at(trace, position)
+        players = asked.session.players
         if asked.data.get("to_flip"):
-            player = self.before_flip(trace, position)
+            position = asked.session.before_flip(trace, position)
+        elif asked.data.get("flip") is not None:
+            position = asked.session.before_flip_number(trace, asked.number("flip", MOST_BYTES))
+        player = players.at(trace, position)
         return self.told(player, trace, asked)
-
-    def before_flip(self, trace: Trace, position: int) -> Player:
-        """Returns a player before the next flip after a position, or at the position if there is none."""
-        player = self.players.at(trace, len(trace.events))
-        flips = [at for at, measure in enumerate(player.measures) if measure.reply.startswith("flipped") and at > position]
-        return self.players.at(trace, min(flips, default=position))
 
     def told(self, player: Player, trace: Trace, asked: Asked) -> dict[str, Any]:
         """Describes a player, with the replies that the page does not have yet."""
-        known = asked.number("known", MOST_EVENTS)
+        known = asked.number("known", MOST_BYTES)
         replies = [measure.reply for measure in player.measures]
         return {**state.described(player, trace, asked.width()), "known": min(known, len(replies)), "replies": replies[known:]}
 
@@ -116,10 +156,8 @@ class Desk:
         """Inserts an event after the last one that was played, and plays it. Without a line, the event is the collector's useful step."""
         trace = asked.trace()
         position = asked.position(trace)
-        if len(trace.events) >= MOST_EVENTS:
-            raise BadRequest("This page plays traces of up to %d events." % MOST_EVENTS)
         if asked.data.get("line") is None:
-            line = self.players.at(trace, position).play_useful()
+            line = asked.session.players.at(trace, position).play_useful()
         else:
             line = asked.text("line")
         event = event_of(line)
@@ -128,12 +166,12 @@ class Desk:
         text = with_event(trace, position, event)
         # The longer trace may be refused: the event's mutator may not exist.
         longer = read(text)
-        return {"text": text, **self.told(self.players.at(longer, position + 1), longer, asked)}
+        return {"text": text, **self.told(asked.session.players.at(longer, position + 1), longer, asked)}
 
     def pair(self, asked: Asked) -> dict[str, Any]:
         """Returns the certificate of an open collection as a pair text."""
         trace = asked.trace()
-        words = self.players.at(trace, asked.position(trace)).words()
+        words = asked.session.players.at(trace, asked.position(trace)).words()
         if words.new is None:
             raise BadRequest("No collection is open, so there is no certificate.")
         return {"text": state.Certificate(words).text()}
@@ -144,9 +182,19 @@ class Desk:
     def spoil(self, asked: Asked) -> dict[str, Any]:
         """Changes one random word of a pair text."""
         try:
-            return checking.spoiled(asked.text().encode("utf-8", "surrogatepass"), asked.width(), self.chosen)
+            return checking.spoiled(asked.text().encode("utf-8", "surrogatepass"), asked.width(), asked.session.chosen)
         except BadText as fault:
             raise BadRequest("Only a pair text can be spoiled: %s." % fault) from None
+
+    def look(self, asked: Asked) -> dict[str, Any]:
+        """Returns the objects of a heap of a pair text that have words in a range."""
+        heap = asked.text("heap")
+        if heap not in ("old", "new"):
+            raise BadRequest("'heap' has to be old or new.")
+        try:
+            return {"places": checking.objects_between(asked.text(), heap, asked.number("first", 1 << 20), asked.number("last", 1 << 20))}
+        except BadText as fault:
+            raise BadRequest("Only a pair text has objects: %s." % fault) from None
 
 
 def with_event(trace: Trace, position: int, event: Event) -> str:

@@ -6,6 +6,7 @@ may list its processes can see the address with which a browser was started.
 """
 from __future__ import annotations
 
+import contextlib
 import hmac
 import http.server
 import json
@@ -14,6 +15,7 @@ import secrets
 import socket
 import sys
 import threading
+import time
 from typing import Any
 
 from .requests import BadRequest, Desk
@@ -23,10 +25,10 @@ TYPES = {".html": "text/html; charset=utf-8", ".css": "text/css; charset=utf-8",
          ".svg": "image/svg+xml"}
 PLAIN = "text/plain; charset=utf-8"
 # The most bytes of a text, and of the JSON of a request.
-MOST_TEXT = 8388608
+MOST_TEXT = 67108864
 MOST_BYTES = 2 * MOST_TEXT
 MOST_CONNECTIONS = 32
-# A connection that is silent for this long is closed.
+# The most seconds for a whole request, from the connection to the last byte of its body, and for the answer.
 SECONDS = 20
 HEADERS = {
     "Content-Security-Policy": "default-src 'none'; script-src 'self'; style-src 'self'; img-src 'self'; connect-src 'self'; "
@@ -64,6 +66,7 @@ class Handler(http.server.BaseHTTPRequestHandler):
     timeout = SECONDS
 
     def do_GET(self) -> None:
+        self.server.note_read(self.connection)
         self.reply(self.file)
 
     def do_POST(self) -> None:
@@ -121,6 +124,7 @@ class Handler(http.server.BaseHTTPRequestHandler):
             self.skip(4 * MOST_BYTES)
             raise Refusal(413, "This page takes texts of up to %d MiB. 'gcflip' itself takes longer ones." % (MOST_TEXT >> 20))
         body = self.rfile.read(int(length))
+        self.server.note_read(self.connection)
         if len(body) < int(length):
             raise Refusal(400, "The request ended early.")
         return body
@@ -157,7 +161,10 @@ class Server(http.server.ThreadingHTTPServer):
         self.desk = desk
         self.token = secrets.token_urlsafe(24)
         self.files = page_files()
-        self.free = threading.BoundedSemaphore(MOST_CONNECTIONS)
+        # When each connection came, as long as its request is not read; the oldest first.
+        self.waiting: dict[socket.socket, float] = {}
+        self.answered: set[socket.socket] = set()
+        self.guard = threading.Lock()
         super().__init__(("127.0.0.1", port), Handler)
 
     def hosts(self) -> tuple[str, ...]:
@@ -167,17 +174,42 @@ class Server(http.server.ThreadingHTTPServer):
         return "http://127.0.0.1:%d/%s/" % (self.server_port, self.token)
 
     def process_request(self, request: Any, client_address: Any) -> None:
-        """Starts a thread for a connection, unless there are too many."""
-        if self.free.acquire(blocking=False):
-            super().process_request(request, client_address)
-        else:
-            self.shutdown_request(request)
+        """Starts a thread for a connection. If there are too many, closes the one that has waited longest with its request, or this one if all
+        others have theirs."""
+        with self.guard:
+            if len(self.waiting) + len(self.answered) >= MOST_CONNECTIONS:
+                oldest = next(iter(self.waiting), None)
+                self.cut_off(oldest if oldest is not None else request)
+                if oldest is None:
+                    return self.close_request(request)
+            self.waiting[request] = time.monotonic()
+        super().process_request(request, client_address)
 
     def process_request_thread(self, request: Any, client_address: Any) -> None:
         try:
             super().process_request_thread(request, client_address)
         finally:
-            self.free.release()
+            with self.guard:
+                self.waiting.pop(request, None)
+                self.answered.discard(request)
+
+    def note_read(self, request: socket.socket) -> None:
+        """Notes that the request of a connection is read. From then on it is not closed."""
+        with self.guard:
+            if self.waiting.pop(request, None) is not None:
+                self.answered.add(request)
+
+    def service_actions(self) -> None:
+        """Closes the connections whose requests take too long. The server calls this twice a second."""
+        with self.guard:
+            for request in [request for request, came in self.waiting.items() if time.monotonic() - came > SECONDS]:
+                self.cut_off(request)
+
+    def cut_off(self, request: socket.socket) -> None:
+        """Ends a connection. Its thread, if it has one, reads no more and ends."""
+        self.waiting.pop(request, None)
+        with contextlib.suppress(OSError):
+            request.shutdown(socket.SHUT_RDWR)
 
     def handle_error(self, request: Any, client_address: Any) -> None:
         """Prints an error to the terminal, except for a broken connection."""

@@ -5,13 +5,15 @@ import functools
 from typing import Any
 
 from gcflip import Image, Refused, check, explained
+from gcflip.inference import root_name
 from gcflip_drawing import collection_picture, pair_text, timeline
 from gcflip_drawing.collection_picture import State
 from gcflip_drawing.heap import shown, target
+from gcflip_drawing.scene import counted
 from gcflip_drawing.scene_picture import drawn_in_width
+from gcflip_drawing.scene_text import told
 from gcflip_drawing.trace_text import Trace
 from gcflip_drawing.verdicts import Verdict
-from gcflip_drawing.words_picture import root_names
 
 from .playing import Player, Words
 
@@ -65,11 +67,11 @@ def conditions(player: Player, words: Words) -> list[dict[str, Any]]:
 
 def roots(player: Player, words: Words) -> list[dict[str, Any]]:
     """Returns the roots that are not nil, by their owners."""
-    names = root_names(len(words.old.roots))
+    count = len(words.old.roots)
     owners = ["all mutators"] + ["mutator %d" % mutator.number for mutator in player.mutators]
     changed = {change.address for change in player.changed if change.row == "roots"}
     return [{"owner": owner, "slots": [
-        {"name": names[place].split(" ")[-1], "value": shown(words.old.roots[place]), "changed": place in changed}
+        {"name": root_name(place, count), "value": shown(words.old.roots[place]), "changed": place in changed}
         for place in range(16 * number, 16 * number + 16) if words.old.roots[place] != 0]} for number, owner in enumerate(owners)]
 
 
@@ -99,11 +101,15 @@ def described(player: Player, trace: Trace, width: int) -> dict[str, Any]:
     state = State(words.old, words.new, (counts.scan_place, counts.scan_field), player.logs(), bool(opened and opened["ready"]),
                   tuple(player.changed))
     frame = timeline.Frame(max(160, width - timeline.LEFT - timeline.RIGHT), TIMELINE_HEIGHT, False)
+    scene = collection_picture.scene_of(state, "The heap after %s" % counted(len(player.lines), "event"))
     return {
         "position": len(player.lines),
         "total": len(trace.events),
-        "picture": drawn_in_width(collection_picture.scene_of(state, "The heap after %d events" % len(player.lines)), width).described(),
-        "timeline": timeline.drawn(trace, player.measures, "Words in use", frame).described(),
+        "picture": drawn_in_width(scene, width).described(),
+        "told": told(scene),
+        # Where the events are in the timeline: the left end of the first one, and the width of all.
+        "span": [timeline.LEFT, frame.width],
+        "timeline": timeline.drawn_run(trace, player.run_of(len(trace.events), frame), "Words in use").described(),
         "roots": roots(player, words),
         "logs": logs(player),
         "collection": opened,

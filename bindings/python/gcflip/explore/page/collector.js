@@ -2,28 +2,32 @@
 
 import { CommandButtons } from "./commands.js";
 import { Editor } from "./editor.js";
-import { byId, fill, make } from "./elements.js";
+import { byId, fill, make, save } from "./elements.js";
 import { showCertificate, showLogs, showRoots } from "./lists.js";
-import { meaning } from "./meanings.js";
+import { meaning, plural } from "./meanings.js";
 import { render } from "./picture.js";
 import { ask, say } from "./server.js";
 
 // The first event is in this line.
 const FIRST = 3;
-const PAUSE = 700;
 const MOST_PAUSES = 60;
+// The reader can take back so many changes.
+const MOST_UNDONE = 100;
 const REDUCED = matchMedia("(prefers-reduced-motion: reduce)");
 
 export class Collector {
-  // `onPair` is called with the pair text of a certificate that the reader wants to see.
-  constructor(examples, onPair) {
+  // `onPair` is called with the pair text of a certificate that the reader wants to see, and `onShow` when something else is shown.
+  constructor(examples, onPair, onShow) {
     this.examples = examples;
     this.onPair = onPair;
+    this.onShow = onShow;
     this.text = "";
     this.replies = [];
     this.position = 0;
     this.turn = Promise.resolve();
-    this.editor = new Editor(byId("trace-editor"), "The trace, one event a line", (text) => this.edit(text));
+    this.past = [];
+    this.name = "";
+    this.editor = new Editor(byId("trace-editor"), "The trace, one event a line", (text) => this.edit(text), (line) => this.goTo(line - FIRST + 1));
     this.buttons = new CommandButtons((line) => {
       this.editor.flush();
       this.stop();
@@ -43,6 +47,7 @@ export class Collector {
       "play-run": () => this.run(),
       "play-flip": () => this.toFlip(),
       "play-work": () => this.insert(null),
+      "play-undo": () => this.undo(),
     };
     for (const [id, act] of Object.entries(acts)) {
       const button = byId(id);
@@ -57,6 +62,28 @@ export class Collector {
         act();
       });
     }
+    byId("play-to").addEventListener("change", () => this.goTo(Number(byId("play-to").value)));
+    byId("play-to-flip").addEventListener("change", () => {
+      const flip = Number(byId("play-to-flip").value);
+      if (Number.isInteger(flip) && flip > 0) {
+        this.editor.flush();
+        this.stop();
+        this.then(() => this.asked(this.position, { flip }));
+      }
+    });
+    byId("trace-save").addEventListener("click", () => {
+      this.editor.flush();
+      save(this.text, `${this.name || "trace"}.trace`);
+    });
+    byId("to-commands").addEventListener("click", () => byId("commands").scrollIntoView());
+    byId("timeline").addEventListener("click", (event) => {
+      const drawing = byId("timeline").querySelector("svg");
+      if (drawing && this.span && this.total > 0) {
+        const [left, width] = this.span;
+        const part = (event.clientX - drawing.getBoundingClientRect().left - left) / width;
+        this.goTo(Math.round(part * this.total));
+      }
+    });
     new ResizeObserver(() => this.resized()).observe(byId("picture"));
   }
 
@@ -69,36 +96,75 @@ export class Collector {
 
   // Shows an example, played up to a position. The reader may have changed the trace meanwhile.
   showExample(name, position) {
-    if (this.text !== this.examples.find((each) => each.name === name).text) {
-      this.choose(name);
+    const { text } = this.examples.find((each) => each.name === name);
+    if (this.text !== text) {
+      this.stop();
+      return this.then(() => this.shown({ text, name, position }));
     }
     return this.go(() => position);
   }
 
   // Opens a text, played up to its start.
   open(text, example = { name: "", about: "" }) {
+    this.editor.flush();
     this.stop();
     return this.then(() => {
-      byId("trace-examples").value = example.name;
-      byId("trace-about").textContent = example.about;
-      this.text = text;
-      this.replies = [];
-      this.position = 0;
-      this.editor.show(text);
-      return this.asked(0, {});
+      this.remember();
+      return this.shown({ text, name: example.name, position: 0 });
     });
+  }
+
+  // Shows a text at a position. A name is that of an example, or empty.
+  shown({ text, name, position }) {
+    this.named(name);
+    this.text = text;
+    this.replies = [];
+    this.position = 0;
+    this.editor.show(text);
+    return this.asked(position, {});
+  }
+
+  named(name) {
+    this.name = name;
+    byId("trace-examples").value = name;
+    byId("trace-about").textContent = this.examples.find((each) => each.name === name)?.about ?? "";
+  }
+
+  // ---- changes that can be taken back
+
+  // Returns what the reader sees, so that it can be shown again.
+  state() {
+    return { text: this.text, name: this.name, position: this.position };
+  }
+
+  // Keeps what is shown before it changes.
+  remember() {
+    if (this.text !== "") {
+      this.past.push(this.state());
+      this.past.splice(0, this.past.length - MOST_UNDONE);
+    }
+  }
+
+  undo() {
+    return this.then(() => (this.past.length > 0 ? this.shown(this.past.pop()) : undefined));
+  }
+
+  // Shows a state again that was kept.
+  restore(state) {
+    this.stop();
+    return this.then(() => this.shown(state));
   }
 
   // Takes an edited text. The events before the first changed line stay played.
   edit(text) {
     this.stop();
     return this.then(() => {
+      this.remember();
       const lines = this.text.split("\n");
       const others = text.split("\n");
       const same = others.findIndex((line, at) => line !== lines[at]);
       const kept = Math.max(0, (same < 0 ? others.length : same + 1) - FIRST);
-      byId("trace-examples").value = "";
-      byId("trace-about").textContent = "";
+      this.named("");
       this.text = text;
       this.position = Math.min(this.position, kept);
       this.replies.length = Math.min(this.replies.length, this.position);
@@ -126,6 +192,15 @@ export class Collector {
     return this.then(() => this.asked(Math.max(0, Math.min(where(), this.total ?? 0)), {}));
   }
 
+  // Goes to an event that the reader names, by its number, its line, or a place of the timeline.
+  goTo(position) {
+    if (Number.isFinite(position)) {
+      this.editor.flush();
+      this.stop();
+      this.go(() => position);
+    }
+  }
+
   toFlip() {
     return this.then(async () => {
       const before = this.position;
@@ -143,9 +218,10 @@ export class Collector {
       if (answer.fault) {
         say(`There is no such mutator in this trace: ${line}`);
       } else {
+        this.remember();
         this.text = answer.text;
         this.editor.show(answer.text);
-        byId("trace-examples").value = "";
+        this.named("");
         this.show(answer);
       }
     });
@@ -191,7 +267,7 @@ export class Collector {
       if (this.position >= this.total) {
         this.stop();
       } else if (this.running) {
-        this.timer = setTimeout(next, PAUSE);
+        this.timer = setTimeout(next, Number(byId("play-speed").value));
       }
     };
     next();
@@ -207,29 +283,34 @@ export class Collector {
 
   show(answer) {
     this.replies.length = answer.known;
-    this.replies.push(...answer.replies);
+    for (const reply of answer.replies) {
+      this.replies.push(reply);
+    }
     this.position = answer.position;
     this.replies.length = this.position;
     this.total = answer.total;
     this.drawnWidth = this.width();
-    const notes = this.replies.reduce((found, reply, at) => Object.assign(found, { [at + FIRST]: reply }), {});
-    this.editor.note(notes, this.position > 0 ? this.position + FIRST - 1 : null, null);
+    this.editor.note((line) => this.replies[line - FIRST], this.position > 0 ? this.position + FIRST - 1 : null, null);
     byId("trace-fault").textContent = "";
     byId("trace-fault").hidden = true;
     this.showEvent(answer);
+    this.span = answer.span;
     byId("picture").replaceChildren(render(answer.picture));
+    byId("picture-text").replaceChildren(...answer.told.map((line) => make("li", {}, line)));
+    byId("play-to").value = String(answer.position);
     byId("timeline").replaceChildren(render(answer.timeline));
     showCertificate(answer, () => this.certificate());
     showLogs(answer);
     showRoots(answer);
     this.buttons.show(answer.mutators);
     this.enable(true);
+    this.onShow();
   }
 
   showEvent({ collection, position, total }) {
     const event = byId("event");
     if (position === 0) {
-      event.replaceChildren(make("strong", {}, `Before the first of ${total} events.`), " All slots hold nil, and the space is empty.");
+      event.replaceChildren(make("strong", {}, `Before the first of ${plural(total, "event")}.`), " All slots hold nil, and the space is empty.");
       return;
     }
     const line = this.text.split("\n")[position + FIRST - 2];
@@ -247,7 +328,7 @@ export class Collector {
     fault.textContent = message + (cut ? ". The last line lacks its line feed: press Enter at its end." : "");
     fault.hidden = false;
     this.total = 0;
-    this.editor.note({ [at]: message }, null, at);
+    this.editor.note((line) => (line === at ? message : undefined), null, at);
     this.enable(false);
   }
 
@@ -259,6 +340,8 @@ export class Collector {
       // A disabled button would lose the focus, so these are only marked as disabled.
       byId(id).setAttribute("aria-disabled", String(!(enabled && useful)));
     }
+    // A fault can be taken back too.
+    byId("play-undo").setAttribute("aria-disabled", String(this.past.length === 0));
     byId("panel-collector").classList.toggle("stale", !enabled);
     this.buttons.enable(enabled);
   }

@@ -4,15 +4,19 @@ import { make } from "./elements.js";
 
 const LINE = 20;
 const PADDING = 6;
-// A longer text is not shown, since browsers edit it too slowly.
+// Browsers edit a longer text too slowly.
 const MOST_SHOWN = 400000;
+// Of a longer text so many lines are shown, around the place that matters, and cannot be edited.
+const MOST_LINES = 2000;
 
 export class Editor {
-  // `onEdit` is called with the text a moment after an edit.
-  constructor(place, label, onEdit) {
+  // `onEdit` is called with the text a moment after an edit, and `onLine` with the number of a line that is clicked.
+  constructor(place, label, onEdit, onLine = () => {}) {
     this.onEdit = onEdit;
+    this.place = place;
     this.text = "";
-    this.notes = [];
+    this.before = 0;
+    this.notes = () => undefined;
     this.current = null;
     this.bad = null;
     this.waiting = null;
@@ -23,6 +27,12 @@ export class Editor {
     this.numbers.setAttribute("aria-hidden", "true");
     this.marker = make("div", { className: "marker" });
     place.append(this.numbers, make("div", { className: "lines" }, this.marker, this.area), this.replies);
+    this.numbers.addEventListener("click", (event) => {
+      const line = Number(event.target.dataset.line);
+      if (line > 0) {
+        onLine(line);
+      }
+    });
     this.area.addEventListener("scroll", () => this.draw());
     this.area.addEventListener("input", () => this.edited());
     new ResizeObserver(() => this.draw()).observe(this.area);
@@ -33,10 +43,18 @@ export class Editor {
     clearTimeout(this.waiting);
     this.waiting = null;
     this.text = text;
-    this.hidden = text.length > MOST_SHOWN;
-    this.area.readOnly = this.hidden;
-    this.area.value = this.hidden ? `(${text.length} characters: too many to be shown here)` : text;
-    this.note([], null, null);
+    this.cut = text.length > MOST_SHOWN;
+    this.area.readOnly = this.cut;
+    this.before = 0;
+    this.lines = this.cut ? text.split("\n") : null;
+    this.area.value = this.cut ? this.part(1) : text;
+    this.note(() => undefined, null, null);
+  }
+
+  // Returns the lines of a long text around one of them, which are shown in its place.
+  part(line) {
+    this.before = Math.max(0, Math.min(line - 1 - MOST_LINES / 2, this.lines.length - MOST_LINES));
+    return this.lines.slice(this.before, this.before + MOST_LINES).join("\n");
   }
 
   edited() {
@@ -55,18 +73,23 @@ export class Editor {
     }
   }
 
-  // Sets the notes of lines, the current line and the faulty one. Lines are counted from 1.
+  // Sets the notes of lines, by a function of their numbers, the current line and the faulty one. Lines are counted from 1.
   note(notes, current, bad) {
     const moved = current !== this.current;
     Object.assign(this, { notes, current, bad });
     if (moved && current !== null) {
       this.reveal(current);
+    } else if (bad !== null) {
+      this.reveal(bad);
     }
     this.draw();
   }
 
   reveal(line) {
-    const top = (line - 1) * LINE;
+    if (this.cut && (line <= this.before + 10 || line > this.before + MOST_LINES - 10)) {
+      this.area.value = this.part(line);
+    }
+    const top = (line - 1 - this.before) * LINE;
     const height = this.area.clientHeight - 2 * PADDING;
     if (top < this.area.scrollTop) {
       this.area.scrollTop = Math.max(0, top - LINE);
@@ -76,14 +99,16 @@ export class Editor {
   }
 
   draw() {
-    const lines = this.hidden ? 0 : this.area.value.split("\n").length;
-    const offset = PADDING - this.area.scrollTop;
-    const first = Math.max(1, Math.floor(this.area.scrollTop / LINE));
+    this.place.dataset.before = String(this.before);
+    const lines = this.before + this.area.value.split("\n").length;
+    const offset = PADDING - this.area.scrollTop - this.before * LINE;
+    const first = this.before + Math.max(1, Math.floor(this.area.scrollTop / LINE));
     const last = Math.min(lines, first + Math.ceil(this.area.clientHeight / LINE) + 1);
     const place = (line) => `${offset + (line - 1) * LINE}px`;
     const inSight = Array.from({ length: Math.max(0, last - first + 1) }, (_, i) => first + i);
+    this.numbers.style.width = `${14 + 8 * Math.max(3, String(lines).length)}px`;
     this.numbers.replaceChildren(...inSight.map((line) => this.placed(line, place(line), String(line))));
-    this.replies.replaceChildren(...inSight.filter((line) => this.notes[line]).map((line) => this.placed(line, place(line), this.notes[line])));
+    this.replies.replaceChildren(...inSight.filter((line) => this.notes(line)).map((line) => this.placed(line, place(line), this.notes(line))));
     this.marker.hidden = this.current === null;
     this.marker.style.top = place(this.current);
   }

@@ -17,6 +17,13 @@ export function fill(select, groups) {
   select.replaceChildren(...groups.map(([label, options]) => make("optgroup", { label }, ...options.map(option))));
 }
 
+// Saves a text as a file.
+export function save(text, name) {
+  const link = make("a", { href: URL.createObjectURL(new Blob([text], { type: "text/plain" })), download: name });
+  link.click();
+  setTimeout(() => URL.revokeObjectURL(link.href), 1000);
+}
+
 // Calls `act` with each file that is chosen in an input or dropped on an area.
 export function onFiles(input, area, act) {
   input.addEventListener("change", () => {

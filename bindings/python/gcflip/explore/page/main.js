@@ -3,6 +3,7 @@
 import { Checker } from "./checker.js";
 import { Collector } from "./collector.js";
 import { byId, onFiles } from "./elements.js";
+import { noted, stateOf } from "./address.js";
 import { ask, say, textOf } from "./server.js";
 import { Tour } from "./tour.js";
 
@@ -20,15 +21,19 @@ function show(shown) {
   say("");
 }
 
-function listenToTabs() {
+function listenToTabs(onShow) {
   for (const [at, name] of TABS.entries()) {
     const tab = byId(`tab-${name}`);
-    tab.addEventListener("click", () => show(name));
+    tab.addEventListener("click", () => {
+      show(name);
+      onShow();
+    });
     tab.addEventListener("keydown", (event) => {
       const step = { ArrowRight: 1, ArrowLeft: -1 }[event.key];
       if (step) {
         const other = TABS[(at + step + TABS.length) % TABS.length];
         show(other);
+        onShow();
         byId(`tab-${other}`).focus();
         event.stopPropagation();
       }
@@ -36,14 +41,15 @@ function listenToTabs() {
   }
 }
 
-const KEYS = { ArrowRight: "play-step", ArrowLeft: "play-back", Home: "play-start", r: "play-run", f: "play-flip", w: "play-work" };
+const KEYS = { ArrowRight: "play-step", ArrowLeft: "play-back", Home: "play-start", r: "play-run", f: "play-flip", w: "play-work", u: "play-undo" };
 
 // Keys play the trace, unless the reader is typing, choosing or scrolling.
 function listenToKeys() {
   document.addEventListener("keydown", (event) => {
     const busy = event.target.closest("textarea, input, select, .picture") || event.ctrlKey || event.altKey || event.metaKey;
     const id = KEYS[event.key] ?? KEYS[event.key.toLowerCase()];
-    if (!busy && id && !byId("panel-collector").hidden) {
+    const off = event.key.length === 1 && !byId("keys").checked;
+    if (!busy && !off && id && !byId("panel-collector").hidden) {
       event.preventDefault();
       byId(id).click();
     }
@@ -70,26 +76,33 @@ function listenToFiles(tabs) {
 async function start() {
   const { examples, file } = await ask("start", {});
   const ofKind = (kind) => examples.filter((example) => example.kind === kind);
-  const checker = new Checker(ofKind("pair"));
+  let isReady = false;
+  const note = () => isReady && noted({ tab: TABS.find((name) => !byId(`panel-${name}`).hidden), collector, checker });
+  const checker = new Checker(ofKind("pair"), note);
   const collector = new Collector(ofKind("trace"), (text) => {
     show("checker");
     checker.open(text);
-  });
+  }, note);
   listenToFiles({ collector, checker });
-  const tour = new Tour(collector, () => show("collector"));
-  listenToTabs();
+  const tour = new Tour(collector, checker, show);
+  listenToTabs(note);
   listenToKeys();
   for (const button of document.querySelectorAll(".tour-start")) {
     button.addEventListener("click", () => tour.start());
   }
   // A picture needs the width of its place, so each tab is shown while it is first drawn.
+  const { tab, trace, pair, event } = stateOf(location.hash, examples);
   show("checker");
-  await (file?.kind === "pair" ? checker.open(file.text) : checker.choose(FIRST_PAIR));
+  await (pair ? checker.open(pair.text, pair) : file?.kind === "pair" ? checker.open(file.text) : checker.choose(FIRST_PAIR));
   show("collector");
-  await (file?.kind === "trace" ? collector.open(file.text) : collector.choose(FIRST_TRACE));
-  if (file?.kind === "pair") {
-    show("checker");
+  await (trace ? collector.open(trace.text, trace) : file?.kind === "trace" ? collector.open(file.text) : collector.choose(FIRST_TRACE));
+  if (event > 0) {
+    await collector.go(() => event);
   }
+  if (tab ?? file?.kind === "pair") {
+    show(TABS.includes(tab) ? tab : "checker");
+  }
+  isReady = true;
   document.body.dataset.ready = "yes";
 }
 

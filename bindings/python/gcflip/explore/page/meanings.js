@@ -1,6 +1,6 @@
 // Says in a sentence what an event did, from its line and its reply. docs/FORMATS.md of the repository has the rules.
 
-const plural = (count, name) => `${count} ${name}${count === "1" ? "" : "s"}`;
+export const plural = (count, name) => `${count} ${name}${String(count) === "1" ? "" : "s"}`;
 
 const NOTHING = "Nothing changed.";
 

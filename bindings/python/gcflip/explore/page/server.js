@@ -1,11 +1,14 @@
 // Asks the server. The address of the page has the token, so paths are relative.
 
+// The server keeps the heaps of each tab apart.
+const SESSION = crypto.randomUUID();
+
 // Returns the answer to a request. Throws an Error with a message for the reader if there is none.
 export async function ask(name, data) {
   let response;
   try {
     response = await fetch(name, {
-      method: "POST", headers: { "Content-Type": "application/json" }, body: JSON.stringify(data),
+      method: "POST", headers: { "Content-Type": "application/json" }, body: JSON.stringify({ ...data, session: SESSION }),
     });
   } catch {
     throw new Error("The server does not answer. Is 'python3 -m gcflip.explore' still running?");
@@ -28,7 +31,7 @@ export function say(text) {
 }
 
 // The server refuses longer texts.
-const MOST_BYTES = 8388608;
+const MOST_BYTES = 67108864;
 
 // Returns the text of a file. A byte that is not text becomes a character that no format has. Throws an Error if the file is too large.
 export async function textOf(file) {

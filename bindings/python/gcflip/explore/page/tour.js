@@ -1,11 +1,13 @@
-// The guided tour: what to look at in each step of one trace.
+// The guided tour: what to look at in each step of two traces.
 
 import { byId, make } from "./elements.js";
+import { say } from "./server.js";
 
-const EXAMPLE = "write_while_scanning";
+const [FIRST, SECOND] = ["write_while_scanning", "sharing_and_a_cycle"];
 
-// For each stop: the number of events that are played, the places of the page to look at, a title, and paragraphs. `reply` is the reply
-// to the last event; the tests compare it with the program's.
+// For each stop: the trace, if it is not the first one, the number of events that are played, the places of the page to look at, a title, and
+// paragraphs. `reply` is the reply to the last event; the tests compare it with the program's. A stop with `checks` shows the certificate in the
+// other tab, and the verdict that it begins with.
 export const STOPS = [
   {
     position: 0, look: ["trace", "heap"], title: "A program, a collector, and one heap",
@@ -77,23 +79,81 @@ export const STOPS = [
     text: ["The mutator read the field, and found its 9. It cannot tell that the object moved.",
       "So this is why a log is needed: the program can write to an object after the collector has copied it. The log names the field, and the " +
       "collector copies it again before the flip.",
-    "Now try it yourself. Delete the line 'c apply 0', and the last flip is not ready either. Or go back to event 6, press 'Work' again and " +
-      "again, and see which steps the collector chooses."],
+    "The second part has more than one object: garbage, sharing and a cycle. You can also end the tour here."],
+  },
+  {
+    trace: SECOND, position: 2, reply: "made", look: ["picture"], title: "Two objects",
+    text: ["This is another program. It made an object with two fields at 1, to which r0 refers, and one with a single field at 5, to which r1 refers."],
+  },
+  {
+    trace: SECOND, position: 5, reply: "done", look: ["picture"], title: "Sharing and a cycle",
+    text: ["Both fields of the first object refer to the second one: it is shared. The field of the second refers back to the first: a cycle. A copy " +
+      "that made two replicas of the shared object, or that followed the cycle for ever, would be wrong."],
+  },
+  {
+    trace: SECOND, position: 8, reply: "done", look: ["picture", "roots"], title: "Garbage",
+    text: ["The program gave up r1. The second object stays in use, since the first one refers to it. Then the program made an object at 8 and gave up " +
+      "r2, the only reference to it. The object is grey now: no path from a root leads to it."],
+  },
+  {
+    trace: SECOND, position: 11, reply: "scanned", look: ["picture", "certificate"], title: "A replica by scanning",
+    text: ["A collection began, the target of r0 got its replica, and the first field was scanned. It refers to the object at 5, which had no replica. So " +
+      "that object got one, and the replica's field refers to it."],
+  },
+  {
+    trace: SECOND, position: 12, reply: "scanned", look: ["picture"], title: "One replica for both references",
+    text: ["The second field refers to the same object. Its link says that it has a replica already, so no second one is made. The sharing is kept."],
+  },
+  {
+    trace: SECOND, position: 14, reply: "scanned", look: ["picture"], title: "The cycle is closed",
+    text: ["The scan pointer moved on to the second replica. Its field refers to the first object, which has a replica too. The cycle is copied, and " +
+      "nobody followed it: the pointer only moves forward."],
+  },
+  {
+    trace: SECOND, position: 15, reply: "done", look: ["picture", "logs"], title: "A write that would be lost",
+    text: ["The program wrote to the second field of the first object: it refers to the object itself now. Its replica was scanned before, and still " +
+      "refers to the other one. The log has the entry."],
+  },
+  {
+    trace: SECOND, position: 16, reply: "passed", checks: "refused 9 FieldDiffers 0 1", look: ["verdict"], title: "The checker refuses",
+    text: ["Everything is scanned. Suppose that the collector forgot its log and asked for a flip now. This is the pair text that the checker would get: " +
+      "both heaps and the certificate.",
+    "The checker refuses, and names the place: pair 0, field 1. The tables show both words, and the first line below names the path from a root. You " +
+      "can spoil a word here yourself later."],
+  },
+  {
+    trace: SECOND, position: 18, reply: "applied", look: ["picture", "certificate"], title: "The entry is applied",
+    text: ["This collector does not forget its log: the flip was not ready, and then it applied the entry. The replica refers to itself now, as the " +
+      "original does, and the checker says yes."],
+  },
+  {
+    trace: SECOND, position: 19, reply: "flipped 2", look: ["picture"], title: "The garbage is gone",
+    text: ["The flip had two pairs. The object at 8 has no replica, so its words are free. Nobody had to find it: what is not copied is gone."],
+  },
+  {
+    trace: SECOND, position: 21, reply: "yes", look: ["trace", "event"], title: "The program goes on",
+    text: ["The program read the field, and compared: both slots refer to one object. The write was kept, and so was the cycle.",
+    "Now try it yourself. Delete the line 'c apply 0', and the last flip is not ready either. Or go back to event 15, press 'Work' again and again, and " +
+      "see which steps the collector chooses."],
   },
 ];
 
 export class Tour {
-  // `onStart` brings the tab of the collector to the front.
-  constructor(collector, onStart) {
+  // `show` brings a tab to the front.
+  constructor(collector, checker, show) {
     this.collector = collector;
-    this.onStart = onStart;
+    this.checker = checker;
+    this.show = show;
     byId("tour-next").addEventListener("click", () => (this.at + 1 < STOPS.length ? this.stop(this.at + 1) : this.end()));
     byId("tour-back").addEventListener("click", () => this.stop(this.at - 1));
     byId("tour-end").addEventListener("click", () => this.end());
   }
 
+  // The reader's own texts are kept, and given back at the end.
   start() {
-    this.onStart();
+    this.kept = this.collector.state();
+    this.keptPair = this.checker.state();
+    this.show("collector");
     byId("tour").hidden = false;
     byId("lead").hidden = true;
     document.body.classList.add("touring");
@@ -102,14 +162,21 @@ export class Tour {
 
   async stop(at) {
     this.at = at;
-    const { position, look, title, text } = STOPS[at];
+    const { trace = FIRST, position, look, title, text, checks } = STOPS[at];
     byId("tour-title").textContent = title;
     byId("tour-text").replaceChildren(...text.map((paragraph) => make("p", {}, paragraph)));
     byId("tour-place").textContent = `${at + 1} of ${STOPS.length}`;
     byId("tour-back").disabled = at === 0;
     byId("tour-next").textContent = at + 1 < STOPS.length ? "Next" : "Done";
     this.point(look);
-    await this.collector.showExample(EXAMPLE, position);
+    this.show("collector");
+    await this.collector.showExample(trace, position);
+    if (checks) {
+      await this.collector.certificate();
+    } else if (this.isPairShown) {
+      this.checker.restore(this.keptPair);
+    }
+    this.isPairShown = Boolean(checks);
     byId("tour-title").focus();
   }
 
@@ -127,6 +194,13 @@ export class Tour {
     this.point([]);
     byId("tour").hidden = true;
     document.body.classList.remove("touring");
+    if (this.isPairShown) {
+      this.checker.restore(this.keptPair);
+    }
+    this.isPairShown = false;
+    if (this.kept.name !== FIRST) {
+      this.collector.restore(this.kept).then(() => say("The tour is over. Your trace is back."));
+    }
     byId("tour-start").focus();
   }
 }

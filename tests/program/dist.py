@@ -1,0 +1,213 @@
+"""Tests of a release: tools/dist packs the program and the library as they are now. Each package is installed into an empty folder or root, runs
+the first programs from there, is upgraded and removed again."""
+import hashlib
+import os
+import re
+import resource
+import shutil
+import subprocess
+import sys
+import tempfile
+import time
+
+from .c_library import TOP, done, library
+from .harness import Skipped
+
+TOOL = os.path.join(TOP, "tools", "dist")
+# A user waits at most so long for the first run from a package.
+SECONDS = 10
+# The most bytes of a file that a tried program, and its compiler, may write.
+MOST_OUTPUT = 1 << 28
+FIRST_HEAP = b"mutators go on\nmutators go on\nflipped 1\nsaw 42\n"
+CMAKE = """cmake_minimum_required(VERSION 3.10)
+project(first C)
+find_package(gcflip 0.1 REQUIRED)
+add_executable(first first_heap.c)
+target_link_libraries(first gcflip::gcflip)
+add_executable(first_static first_heap.c)
+target_link_libraries(first_static gcflip::archive)
+"""
+
+
+def packed(program, folder, name="dist"):
+    """Returns the folder with a release, and why there is none, or None."""
+    built = library(folder)
+    if built is None:
+        return None, Skipped("there is no library")
+    out = os.path.join(folder, name)
+    ran = done([sys.executable, TOOL, "-o", out, "--program", program, "--libraries", built.lib])
+    return out, None if ran.status == 0 else ran.stderr.decode()
+
+
+def only(folder, ending):
+    """Returns the path of the one file of a folder with this ending."""
+    found, = [os.path.join(folder, name) for name in os.listdir(folder) if name.endswith(ending)]
+    return found
+
+
+def within(limit, began, why):
+    """Returns why a first run is wrong, or that it took too long."""
+    took = time.monotonic() - began
+    return why or (None if took < limit else "it took %.1f seconds" % took)
+
+
+def printed(words, wanted, **more):
+    """Runs a command, and returns why it does not print what is wanted, or None."""
+    with tempfile.TemporaryFile() as out:
+        # A program that prints without end is stopped by the limit.
+        limit = lambda: resource.setrlimit(resource.RLIMIT_FSIZE, (MOST_OUTPUT, MOST_OUTPUT))  # noqa: E731
+        ran = subprocess.run(words, stdout=out, stderr=subprocess.PIPE, timeout=120, preexec_fn=limit, **more)
+        out.seek(0)
+        found = out.read(1000)
+    return None if ran.returncode == 0 and found == wanted else "status %d, printed %r, %r" % (ran.returncode, found[:300], ran.stderr[-600:])
+
+
+def files_below(folder):
+    return {os.path.relpath(os.path.join(path, name), folder) for path, _, names in os.walk(folder) for name in names}
+
+
+def release(program, folder):
+    """Checks that a release has its files, that their checksums are right, that packing twice gives the same bytes, and what is inside."""
+    out, why = packed(program, folder)
+    yield "a release is packed", why
+    if why:
+        return
+    with open(os.path.join(out, "SHA256SUMS"), encoding="ascii") as file:
+        sums = dict(line.split()[::-1] for line in file)
+    found = {name: hashlib.sha256(open(os.path.join(out, name), "rb").read()).hexdigest() for name in os.listdir(out) if name != "SHA256SUMS"}
+    yield "checksums", None if sums == found and len(found) == 4 else "they are %s" % found
+    again, _ = packed(program, folder, "again")
+    differ = [name for name in found if open(os.path.join(out, name), "rb").read() != open(os.path.join(again, name), "rb").read()]
+    yield "packed again, the bytes are the same", None if not differ else ", ".join(differ)
+    if shutil.which("lintian"):
+        said = done(["lintian", "--allow-root", only(out, ".deb")]).stdout.decode()
+        yield "lintian", None if "E: " not in said else said
+    else:
+        yield "lintian", Skipped("there is no lintian on the path")
+
+
+def archive(program, folder):
+    """Runs the first programs from the archive in an empty folder: the program, and C by pkg-config and by CMake."""
+    out, why = packed(program, folder)
+    if why:
+        yield "the archive", why
+        return
+    began, place = time.monotonic(), os.path.join(folder, "empty")
+    os.makedirs(place)
+    done(["tar", "-xzf", only(out, ".tar.gz"), "-C", place])
+    prefix = os.path.join(place, os.listdir(place)[0])
+    examples = os.path.join(prefix, "share", "doc", "herbpond", "examples")
+    why = printed([os.path.join(prefix, "bin", "gcflip"), "check", os.path.join(examples, "garbage_left_behind.pair")], b"yes 1\n")
+    yield "the program of the archive", within(SECONDS, began, why)
+    began, environment = time.monotonic(), dict(os.environ, PKG_CONFIG_PATH=os.path.join(prefix, "lib", "pkgconfig"), LD_LIBRARY_PATH=os.path.join(prefix, "lib"))
+    line = "cc -std=c11 %s/first_heap.c $(pkg-config --cflags --libs gcflip) -o %s/first && %s/first" % (examples, folder, folder)
+    yield "C by pkg-config", within(SECONDS, began, printed(["bash", "-c", line], FIRST_HEAP, env=environment))
+    if shutil.which("cmake") is None:
+        yield "C by CMake", Skipped("there is no cmake on the path")
+        return
+    began, source = time.monotonic(), os.path.join(folder, "cmake")
+    os.makedirs(source)
+    shutil.copy(os.path.join(examples, "first_heap.c"), source)
+    with open(os.path.join(source, "CMakeLists.txt"), "w", encoding="ascii") as file:
+        file.write(CMAKE)
+    line = "cmake -B build -DCMAKE_PREFIX_PATH=%s > log && cmake --build build > log && build/first && build/first_static" % prefix
+    yield "C by CMake", within(SECONDS, began, printed(["bash", "-c", line], 2 * FIRST_HEAP, cwd=source))
+    found = printed(["bash", "-c", "cmake -B other -DCMAKE_PREFIX_PATH=%s 2>&1 | grep -c 'version: 0.1.0'" % prefix], b"1\n",
+                    cwd=with_version(source, "0.2"))
+    yield "CMake refuses another version", found
+
+
+def with_version(source, version):
+    """Makes the project of CMake ask for another version."""
+    path = os.path.join(source, "CMakeLists.txt")
+    with open(path, encoding="ascii") as file:
+        text = file.read()
+    with open(path, "w", encoding="ascii") as file:
+        file.write(text.replace("gcflip 0.1 ", "gcflip %s " % version))
+    return source
+
+
+def wheel(program, folder):
+    """Installs the wheel by pip without a network, uses it, installs it again, and removes it."""
+    out, why = packed(program, folder)
+    if why:
+        yield "the wheel", why
+        return
+    site = os.path.join(folder, "venv")
+    made = done([sys.executable, "-m", "venv", site])
+    if made.status != 0:
+        yield "the wheel", Skipped("there is no venv")
+        return
+    before = files_below(site)
+    python = os.path.join(site, "bin", "python")
+    pip = [python, "-m", "pip", "--disable-pip-version-check", "--quiet"]
+    environment = {name: value for name, value in os.environ.items() if name not in ("GCFLIP_LIBRARY", "LD_LIBRARY_PATH", "PYTHONPATH")}
+    environment.update(PYTHONDONTWRITEBYTECODE="1")
+    began = time.monotonic()
+    yield "pip install", within(SECONDS, began, printed([*pip, "install", "--no-index", "--no-compile", only(out, ".whl")], b"", env=environment, cwd=folder))
+    code = "import gcflip; print(gcflip.library_version()); heap = gcflip.Heap(4096); heap.mutator(0).new(0, 1, 2); print(heap.work(100).pairs)"
+    began = time.monotonic()
+    yield "Python from the wheel", within(SECONDS, began, printed([python, "-c", code], b"0.1.0\n1\n", env=environment, cwd=folder))
+    began, page = time.monotonic(), subprocess.Popen([python, "-m", "gcflip.explore", "--no-browser"], env=environment, cwd=folder, stdout=subprocess.PIPE, text=True)
+    said = page.stdout.readline()
+    page.terminate()
+    page.communicate()
+    yield "the page from the wheel", within(SECONDS, began, None if "http://127.0.0.1:" in said else said)
+    yield "an upgrade", printed([*pip, "install", "--no-index", "--no-compile", "--force-reinstall", only(out, ".whl")], b"", env=environment, cwd=folder)
+    done([*pip, "uninstall", "--yes", "gcflip"], env=environment, cwd=folder)
+    left = files_below(site) - before
+    yield "nothing is left of the wheel", None if not left else "left: %s" % sorted(left)[:5]
+
+
+def deb(program, folder):
+    """Installs the Debian package into an empty root, runs its program, installs it again, and removes it."""
+    out, why = packed(program, folder)
+    if why or shutil.which("dpkg") is None or os.geteuid() != 0:
+        yield "the Debian package", why or Skipped("there is no dpkg, or this is not the superuser")
+        return
+    root = os.path.join(folder, "root")
+    for name in ("info", "updates"):
+        os.makedirs(os.path.join(root, "var", "lib", "dpkg", name))
+    open(os.path.join(root, "var", "lib", "dpkg", "status"), "w").close()
+    words = ["dpkg", "--root=" + root, "--force-depends", "--force-script-chrootless", "--log=/dev/null"]
+    began = time.monotonic()
+    installed = done([*words, "-i", only(out, ".deb")])
+    yield "dpkg -i", within(SECONDS, began, None if installed.status == 0 else installed.stderr.decode())
+    usr = os.path.join(root, "usr")
+    pair = os.path.join(usr, "share", "doc", "herbpond", "examples", "garbage_left_behind.pair")
+    yield "the program of the package", printed([os.path.join(usr, "bin", "gcflip"), "check", pair], b"yes 1\n")
+    environment = dict(os.environ, PKG_CONFIG_PATH=os.path.join(usr, "lib", "x86_64-linux-gnu", "pkgconfig"), LD_LIBRARY_PATH=os.path.join(usr, "lib", "x86_64-linux-gnu"))
+    line = "cc -std=c11 %s/first_heap.c $(pkg-config --cflags --libs gcflip) -o %s/first && %s/first" % (os.path.dirname(pair), folder, folder)
+    yield "C with the package", printed(["bash", "-c", line], FIRST_HEAP, env=environment)
+    again = done([*words, "-i", only(out, ".deb")])
+    yield "an upgrade of the package", None if again.status == 0 else again.stderr.decode()
+    removed = done([*words, "-P", "herbpond"])
+    left = files_below(usr) if os.path.exists(usr) else set()
+    yield "nothing is left of the package", None if removed.status == 0 and not left else "left: %s, %s" % (sorted(left)[:5], removed.stderr.decode())
+
+
+def crate(program, folder):
+    """Runs an example of the crate, unpacked into an empty folder, with the library of the archive."""
+    out, why = packed(program, folder)
+    if why or shutil.which("cargo") is None:
+        yield "the crate", why or Skipped("there is no cargo on the path")
+        return
+    for ending in (".tar.gz", ".crate"):
+        done(["tar", "-xzf", only(out, ending), "-C", folder])
+    source = only(folder, "gcflip-0.1.0")
+    environment = dict(os.environ, GCFLIP_LIB_DIR=os.path.join(only(folder, "linux-x86_64"), "lib"))
+    began = time.monotonic()
+    why = printed(["cargo", "run", "--quiet", "--offline", "--locked", "--example", "first_heap"], b"Number(42)\n", cwd=source, env=environment)
+    yield "Rust's example", within(3 * SECONDS, began, why)
+
+
+def versions(_program, _folder):
+    """Checks that the templates of a release have no version of their own."""
+    folder = os.path.join(TOP, "tools", "distribution")
+    for name in ("gcflip.1", "gcflip-config-version.cmake"):
+        with open(os.path.join(folder, name), encoding="ascii") as file:
+            text = file.read()
+        yield "the version in %s" % name, None if "@VERSION@" in text and not re.search(r"\d+\.\d+\.\d+", text) else "it is written there"
+
+
+GROUPS = [release, archive, wheel, deb, crate, versions]

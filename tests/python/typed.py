@@ -1,0 +1,39 @@
+"""A program whose types mypy has to accept in strict mode. A line with the comment `wrong` has a type that it has to refuse."""
+from __future__ import annotations
+
+import array
+
+from gcflip import Comparison, Counts, Heap, Image, LogEntry, Mutator, Object, Pace, Path, Refused, Step, Value, Work, check, check_text, compare, own, path_to
+
+
+def collected(heap: Heap) -> int:
+    mutator: Mutator = heap.mutator(0)
+    mutator.new(own(0), kind=1, length=2)
+    value: Value = mutator.get(own(1), own(0), 0)
+    if isinstance(value, Object):
+        return value.length
+    begun: Step = heap.begin()
+    work: Work = heap.work(100)
+    paced: Work | None = heap.work_paced(Pace(), 4)
+    counts: Counts = heap.counts()
+    entry: LogEntry = heap.log_entry(0, 0)
+    return work.pairs + counts.free + entry.field + (0 if paced is None else paced.steps) + len(begun.value)
+
+
+def checked(words: memoryview, roots: array.array[int]) -> int:
+    image: Image = Image(words, roots, size=8)
+    try:
+        found: Comparison = compare(image, image)
+        path: Path | None = path_to(image, 1)
+        return check(image, image, found.pairs) + check_text(b"") + (0 if path is None else path.place)
+    except Refused as refused:
+        return refused.place
+
+
+def refused_by_mypy(heap: Heap) -> None:
+    heap.work("100")  # wrong
+    length: int = heap.mutator(0).get(own(1), own(0), 0)  # wrong
+    heap.mutators  # wrong
+    check(Image([0], []), Image([0], []), [(1, 2, 3)])  # wrong
+    Image("words", [])  # wrong
+    word: str = heap.new_words()[0]  # wrong

@@ -1,0 +1,111 @@
+"""The files of a release, as trees: each path with its bytes and its mode, or with the file that it links to."""
+import os
+import re
+import subprocess
+import tempfile
+from typing import NamedTuple
+
+TOP = os.path.normpath(os.path.join(os.path.dirname(os.path.abspath(__file__)), "..", ".."))
+HERE = os.path.dirname(os.path.abspath(__file__))
+SHARED = "libgcflip.so.0"
+DOCUMENTS = ["README.md", "CHANGELOG.md", "docs/FORMATS.md", "docs/EMBEDDING.md", "docs/CERTIFY.md", "docs/GLOSSARY.md", "docs/EXPLORE.md"]
+HEADERS = ["gcflip_answers.h", "gcflip.h", "gcflip_heap.h", "gcflip_images.h", "gcflip_record.h", "gcflip_allocator.h"]
+
+
+class Leaf(NamedTuple):
+    """A file, or a link if `target` is not empty."""
+
+    data: bytes = b""
+    mode: int = 0o644
+    target: str = ""
+
+
+def read(*path):
+    with open(os.path.join(TOP, *path), "rb") as file:
+        return file.read()
+
+
+def version():
+    """Returns the version, which the header says; the gate compares the other places with it."""
+    return re.search(rb"#define GCFLIP_VERSION_TEXT \"([\d.]+)\"", read("bindings", "c", "gcflip_answers.h")).group(1).decode()
+
+
+def filled(name, libdir):
+    """Returns a template of this folder with the version and the folder of the libraries."""
+    with open(os.path.join(HERE, name), "rb") as file:
+        return file.read().replace(b"@VERSION@", version().encode()).replace(b"@LIBDIR@", libdir.encode())
+
+
+def below(folder, wanted=lambda path: True):
+    """Yields the files below a folder of the repository, in a fixed order, but none that a build makes."""
+    for path, folders, names in os.walk(os.path.join(TOP, folder)):
+        folders[:] = sorted(name for name in folders if name not in ("out", "target", "__pycache__"))
+        for name in sorted(names):
+            found = os.path.relpath(os.path.join(path, name), TOP)
+            if wanted(found):
+                yield found
+
+
+def verdicts():
+    """Returns TRUST.md with the verdicts that this build kept."""
+    found = [b"# Verdicts of this build\n"]
+    for crate in ("gcflip_c", "gcflip_heap_c", "gcflip"):
+        kept = os.path.join(TOP, "crates", crate, "out", "verdict.txt")
+        text = open(kept, "rb").read() if os.path.exists(kept) else b"no verdict was kept\n"
+        found.append(b"## %s\n\n```\n%s```\n" % (crate.encode(), text))
+    return read("docs", "TRUST.md") + b"\n" + b"\n".join(found)
+
+
+def stripped(path):
+    """Returns a program or a shared library without what only a debugger needs."""
+    with tempfile.TemporaryDirectory() as folder:
+        out = os.path.join(folder, "out")
+        subprocess.run(["strip", "--strip-unneeded", "-o", out, path], check=True)
+        with open(out, "rb") as file:
+            return file.read()
+
+
+def tree(program, libraries, libdir="lib", documents="share/doc/herbpond"):
+    """Returns the files of the archive and of the Debian package, below their prefix. `libraries` is the folder with both libraries."""
+    def outside(path):
+        with open(path, "rb") as file:
+            return file.read()
+
+    found = {
+        "bin/gcflip": Leaf(stripped(program), 0o755),
+        libdir + "/libgcflip.a": Leaf(outside(os.path.join(libraries, "libgcflip.a"))),
+        libdir + "/" + SHARED: Leaf(stripped(os.path.join(libraries, SHARED)), 0o644),
+        libdir + "/libgcflip.so": Leaf(target=SHARED),
+        libdir + "/pkgconfig/gcflip.pc": Leaf(package_file(libdir)),
+        libdir + "/cmake/gcflip/gcflip-config.cmake": Leaf(filled("gcflip-config.cmake", libdir)),
+        libdir + "/cmake/gcflip/gcflip-config-version.cmake": Leaf(filled("gcflip-config-version.cmake", libdir)),
+        "share/man/man1/gcflip.1": Leaf(filled("gcflip.1", libdir)),
+        documents + "/TRUST.md": Leaf(verdicts()),
+    }
+    found.update({"include/" + name: Leaf(read("bindings", "c", name)) for name in HEADERS})
+    found.update({documents + "/" + os.path.basename(name): Leaf(read(name)) for name in DOCUMENTS})
+    examples = list(below("bindings/c/examples")) + list(below("examples", lambda path: path.endswith((".trace", ".replies", ".pair", ".verdict"))))
+    found.update({documents + "/examples/" + os.path.basename(path): Leaf(read(path)) for path in examples})
+    return found
+
+
+def package_file(libdir):
+    """Returns the file for pkg-config. It finds its prefix by its own place, so that the folder may be moved."""
+    up = "/".join([".."] * (libdir.count("/") + 2))
+    text = read("bindings", "c", "gcflip.pc.in").decode().replace("@PREFIX@", "${pcfiledir}/" + up).replace("@VERSION@", version())
+    return text.replace("libdir=${prefix}/lib", "libdir=${prefix}/" + libdir).encode()
+
+
+def wheel_tree(libraries):
+    """Returns the files of the wheel, without its own descriptions."""
+    found = {"gcflip/libgcflip.so": Leaf(stripped(os.path.join(libraries, SHARED)), 0o755)}
+    for package in ("gcflip", "gcflip_drawing"):
+        for path in below("bindings/python/" + package):
+            found[os.path.relpath(path, "bindings/python")] = Leaf(read(path))
+    for path in below("examples", lambda path: path.count("/") == 1 and path.endswith((".trace", ".pair", "README.md"))):
+        found["gcflip/explore/examples/" + os.path.basename(path)] = Leaf(read(path))
+    return found
+
+
+def crate_tree():
+    return {os.path.relpath(path, "bindings/rust"): Leaf(read(path)) for path in below("bindings/rust")}
