@@ -1,42 +1,18 @@
 //! The exports that perform mutators' commands, with C's numbers as arguments.
 
-ghost use Rattle.std.specs.Prelude.{◌≡◌, ◌≢◌, ◌<◌, ◌↔◌, ◌∷◌, [], IsSomeAnd, IsSome, IsTrue};
-ghost use Rattle.std.specs.List.{AllByRecursion};
+ghost use Rattle.std.specs.Prelude.{◌≡◌, ◌≢◌, ◌∷◌, [], IsSomeAnd, IsSome};
 ghost use Rattle.std.specs.Option.{option_map};
 ghost use Rattle.gc_graph.specs.declared.command.Op.{Op};
 ghost use Rattle.gc_heap.specs.Commands.{fetched_of};
-ghost use Rattle.gc_core.specs.Slots.{slot_numbers};
-ghost use Rattle.gcflip_heap_c.specs.Commands.{slot_at, number_in, with_both, IsCommandCall, IsPutNumberCall, IsNewFromCall};
+ghost use Rattle.gcflip_heap_c.specs.Commands.{number_in, with_both, IsCommandCall, IsPutNumberCall, IsNewFromCall};
 ghost use Rattle.gcflip_heap_c.specs.Replies.{IsRefusal, reply_in_c, fetched_in_c, number_after, view_after};
+ghost use Rattle.gcflip_heap_c.specs.Slots.{slot_at};
 
 use crate::answer::{CLOSED, NO_MEMORY, OUT_OF_RANGE};
 use crate::handle::GcflipHeap;
 use crate::reply::{GcflipView, of_fetched, of_look, of_reply};
-use gc_core::{SLOT_NUMBERS, numbered_slot};
-use gc_graph::{NoMemory, Number, Slot};
-
-/// Returns the slot with this number, or `None` if there is no such slot.
-pub(crate) fn slot(number: u8) -> Option<Slot>
-    ensures { result ≡ slot_at number }
-{
-    if number < SLOT_NUMBERS {
-        Some(numbered_slot(number))
-    } else {
-        None
-    }
-}
-
-/// Returns whether every number is that of a slot.
-fn are_slots(numbers: &[u8]) -> bool
-    ensures { IsTrue result ↔ AllByRecursion (λ n. n < slot_numbers) numbers.now }
-{
-    for number in numbers {
-        if *number >= SLOT_NUMBERS {
-            return false;
-        }
-    }
-    true
-}
+use crate::slots::{NumberedSlots, are_slots, slot};
+use gc_graph::{NoMemory, Number};
 
 /// Makes an object of this kind with `count` fields, all nil, and puts a reference to it into slot `d`.
 #[unsafe(no_mangle)]
@@ -316,7 +292,8 @@ pub extern "C" fn gcflip_heap_new_from(
     if fields.len() > usize::from(u16::MAX) || !are_slots(fields) {
         return OUT_OF_RANGE;
     }
-    match heap.new_from(m, d, kind, fields) {
+    let fields = NumberedSlots { numbers: fields };
+    match heap.new_from(m, d, kind, &fields) {
         Ok(reply) => of_reply(&reply),
         Err(NoMemory) => NO_MEMORY,
     }

@@ -1,13 +1,13 @@
 //! The exports on extra roots, and on frames, which are stacks of them.
 
 ghost use Rattle.std.specs.Prelude.{◌≡◌, ◌≢◌, ◌↔◌, IsTrue};
-ghost use Rattle.gcflip_heap_c.specs.Commands.{slot_at};
+ghost use Rattle.gcflip_heap_c.specs.Slots.{slot_at};
 ghost use Rattle.gcflip_heap_c.specs.ExtraRoots.{HasFrame, IsLoadCall, IsStoreCall, IsClearCall, IsPushCall, IsPopCall};
 
 use crate::answer::{CLOSED, DONE, FRAME_EMPTY, FRAME_FULL, OUT_OF_RANGE};
-use crate::commands::slot;
 use crate::handle::GcflipHeap;
 use crate::reply::of_reply;
+use crate::slots::slot;
 use gc_core::CollectedHeap;
 
 /// A frame: the extra roots from `first` on and below `end` as a stack, as C sees it. Those below `top` hold its values.

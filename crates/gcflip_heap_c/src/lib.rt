@@ -10,6 +10,7 @@ mod pace;
 mod parts;
 mod reading;
 mod reply;
+mod slots;
 mod stepping;
 mod work;
 
