@@ -1,6 +1,5 @@
 -- The commands that make an object and fill its fields, in order.
-use Rattle.std.proofs.Common.{◌≡◌, ℕ, List, [], ◌∷◌, length, map, Option, Some, refl, sym, ◌∙◌, ap}
-use Rattle.std.proofs.lemmas.List.{length-map}
+use Rattle.std.proofs.Common.{◌≡◌, ℕ, List, [], ◌∷◌, length, Option, Some, refl, sym, ◌∙◌, ap}
 use Rattle.std.specs.Option.{option_map}
 use Rattle.gc_graph.specs.Slots.{SlotName}
 use Rattle.gc_graph.specs.declared.command.Op.TheVariants.{New, Put}
@@ -11,7 +10,6 @@ use Rattle.gc_copy.specs.State.{Collection, State}
 use Rattle.gc_copy.specs.Words.{CollectionWords, collection_in, state_of, open_state}
 use Rattle.gc_copy.specs.Steps.{mutate}
 use Rattle.gc_core.specs.CollectedHeap.{fill_step, filled, new_from_step}
-use Rattle.gc_core.specs.Slots.{numbered_slot}
 
 filled_is : (reply : Reply) (made : State) (m : ℕ) (d : SlotName) (fields : List SlotName) → (reply ≡ replies.Full → ⊥) → filled reply made m d fields ≡ fill_step made m d 0 fields
 filled_is replies.Full made m d fields other = absurd (other refl)
@@ -36,10 +34,10 @@ full_from old made m kind d fields reply first full =
     ap (λ (x : Reply × State). (x.0, filled x.0 x.1 m d fields)) first
     ∙ ap (λ (x : State). (reply, x)) (ap (λ r. filled r made m d fields) full)
 
--- there are as many slots as numbers
-pub counted : (old made : State) (m kind : ℕ) (d : SlotName) (numbers : List ℕ) (reply : Reply) → mutate old m (New d kind (length numbers)) ≡ (reply, made)
-    → mutate old m (New d kind (length (map numbered_slot numbers))) ≡ (reply, made)
-counted old made m kind d numbers reply first = ap (λ n. mutate old m (New d kind n)) (length-map numbers numbered_slot) ∙ first
+-- as many fields are asked for as there are slots
+pub counted : (old made : State) (m kind count : ℕ) (d : SlotName) (fields : List SlotName) (reply : Reply) → count ≡ length fields → mutate old m (New d kind count) ≡ (reply, made)
+    → mutate old m (New d kind (length fields)) ≡ (reply, made)
+counted old made m kind count d fields reply same first = ap (λ n. mutate old m (New d kind n)) (sym same) ∙ first
 
 -- two fields
 pub filled_two : (made one two : State) (m : ℕ) (d s t : SlotName) (first second : Reply) → mutate made m (Put d 0 s) ≡ (first, one) → mutate one m (Put d 1 t) ≡ (second, two)

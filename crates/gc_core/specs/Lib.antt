@@ -4,4 +4,3 @@ pub mod Flip
 pub mod Internal
 pub mod Readings
 pub mod Replies
-pub mod Slots

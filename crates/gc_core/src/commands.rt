@@ -1,17 +1,14 @@
 use crate::collected_heap::CollectedHeap;
-use crate::fields::{fill, fill_and_log};
+use crate::fields::{SlotRow, fill, fill_and_log};
 use gc_copy::commands_leave_collections;
 use gc_graph::{NoMemory, Number, Op, Reply, Slot};
 use gc_heap::Fetched;
 
 impl CollectedHeap {
-    ghost use Rattle.std.specs.Prelude.{◌≡◌, ◌<◌, ◌∷◌, [], IfOk, OnErr, IsSome, length, map};
-    ghost use Rattle.std.specs.List.{AllByRecursion};
-    ghost use Rattle.gc_graph.specs.Limits.{lengths};
+    ghost use Rattle.std.specs.Prelude.{◌≡◌, ◌<◌, ◌∷◌, [], IfOk, OnErr, IsSome};
     ghost use Rattle.gc_copy.specs.Steps.{mutate, WritesField};
     ghost use Rattle.gc_graph.specs.declared.command.Op.{Op};
     ghost use Rattle.gc_core.specs.CollectedHeap.{Fetches, new_from_step};
-    ghost use Rattle.gc_core.specs.Slots.{slot_numbers, numbered_slot};
 
     /// Performs mutator `m`'s command. While a collection is open, a field that the command wrote is logged (the
     /// write barrier). Only a `put` while a collection is open can return `NoMemory`; the heap is then unchanged.
@@ -218,16 +215,21 @@ impl CollectedHeap {
         Ok(made)
     }
 
-    /// Makes an object of this kind and sets `d` to a reference to it. `fields` has a slot number for each field, which
-    /// takes what that slot holds. This is a `new_object` followed by a `put` for each field, in one call. Returns
-    /// `Made`, or `Full` if there is no room; then nothing has changed. `d` is set first, so a field filled from slot
-    /// `d` refers to the object itself. Returns `NoMemory` only while a collection is open; the heap is then unchanged.
-    pub fn new_from(&mut self, m: u8, d: Slot, kind: u8, fields: &[u8]) -> Result<Reply, NoMemory>
+    /// Makes an object of this kind and sets `d` to a reference to it. `fields` has a slot for each field, which takes
+    /// what that slot holds. This is a `new_object` followed by a `put` for each field, in one call. Returns `Made`, or
+    /// `Full` if there is no room; then nothing has changed. `d` is set first, so a field filled from slot `d` refers to
+    /// the object itself. Returns `NoMemory` only while a collection is open; the heap is then unchanged.
+    pub fn new_from<R: SlotRow>(
+        &mut self,
+        m: u8,
+        d: Slot,
+        kind: u8,
+        fields: &R,
+    ) -> Result<Reply, NoMemory>
         requires mutator { m < self.old.mutators }
-        requires few { length fields.now < lengths }
-        requires slots { AllByRecursion (λ n. n < slot_numbers) fields.now }
+        requires row { R.is_row fields.now }
         ensures step { IfOk result (λ reply.
-            new_from_step self.old m d kind (map numbered_slot fields.now) ≡ (reply, self.new)) }
+            new_from_step self.old m d kind (R.slots fields.now) ≡ (reply, self.new)) }
         ensures refused { OnErr result (self.new ≡ self.old) }
         ensures open { OnErr result (IsSome self.old.collection) }
         ensures mutators { self.new.mutators ≡ self.old.mutators }
@@ -236,7 +238,7 @@ impl CollectedHeap {
         // Here the prover learns that the heap is sound, and the slot in range.
         let _ = self.heap.space();
         let _ = d.index();
-        let count = fields.len() as u16;
+        let count = fields.count();
         let Some(collection) = &mut self.collection else {
             self.known.slots = 0;
             let made = self.heap.new_object(m, d, kind, count);
@@ -246,7 +248,7 @@ impl CollectedHeap {
             fill(&mut self.heap, m, d, fields);
             return Ok(made);
         };
-        collection.reserve_more(m, fields.len())?;
+        collection.reserve_more(m, usize::from(count))?;
         self.known.slots = 0;
         let made = self.heap.new_object(m, d, kind, count);
         if let Reply::Full = made {

@@ -10,11 +10,10 @@ mod flipping;
 mod known;
 mod laws;
 mod reading;
-mod slots;
 mod steps;
 
 pub use collected_heap::CollectedHeap;
+pub use fields::SlotRow;
 pub use flip::{Flip, Keep};
 pub use laws::runs_are_legal;
 pub use reading::NewSpace;
-pub use slots::{SLOT_NUMBERS, numbered_slot};

@@ -1,7 +1,5 @@
 -- The commands that C's numbers name, what a call of one returns, and the state after it.
-use Rattle.std.specs.Prelude.{◌≡◌, ℕ, ◌≤◌, ◌<◌, ◌↔◌, nat_lt, if◌then◌else◌, Option, Some, None, IsSomeAnd, ⊤, ◌^◌, List, length, map}
-use Rattle.std.specs.List.{AllByRecursion}
-use Rattle.gc_graph.specs.Limits.{lengths}
+use Rattle.std.specs.Prelude.{◌≡◌, ℕ, ◌≤◌, ◌<◌, ◌↔◌, nat_lt, if◌then◌else◌, Option, Some, None, IsSomeAnd, ⊤, ◌^◌, List, map}
 use Rattle.gc_graph.specs.Slots.{SlotName}
 use Rattle.gc_graph.specs.declared.command.Op.{Op}
 use Rattle.gc_graph.specs.declared.reply.Reply.{Reply}
@@ -9,11 +7,8 @@ use Rattle.gc_copy.specs.State.{State}
 use Rattle.gc_copy.specs.Steps.{mutate}
 use Rattle.gc_graph.specs.declared.command.Op.TheVariants.{Num, Put}
 use Rattle.gc_core.specs.CollectedHeap.{new_from_step}
-use Rattle.gc_core.specs.Slots.{slot_numbers, numbered_slot}
+use Rattle.gcflip_heap_c.specs.Slots.{slot_numbers, numbered_slot, AreFields}
 use Rattle.gcflip_heap_c.specs.Replies.{IsRefusal, reply_in_c}
-
-abbrev pub slot_at : ℕ → Option SlotName
-slot_at n = if nat_lt n slot_numbers then Some (numbered_slot n) else None
 
 abbrev pub number_in : ℕ → Option ℕ
 number_in n = if nat_lt n (2 ^ 63) then Some n else None
@@ -69,8 +64,7 @@ IsPutNumberCall m s i t n old new answer = IsCall (IsNoPutNumber m s t n) (PutsN
 pub record NameFields (m d : ℕ) (fields : List ℕ) (state : State) : Type 0 where
   pub mutator : m < state.mutators
   pub slot : d < slot_numbers
-  pub few : length fields < lengths
-  pub slots : AllByRecursion (λ n. n < slot_numbers) fields
+  pub slots : AreFields fields
 
 abbrev pub MakesFrom : ℕ → ℕ → ℕ → List ℕ → Option State → Option State → ℕ → Type 0
 MakesFrom m d kind fields (Some old) (Some new) answer =

@@ -1,47 +1,36 @@
-//! Mutators' commands on a heap, with C's numbers as arguments.
+//! The exports that perform mutators' commands, with C's numbers as arguments.
 
-ghost use Rattle.std.specs.Prelude.{◌≡◌, ◌≢◌, ◌<◌, ◌↔◌, ◌∷◌, [], Some, IsSome, IsTrue};
-ghost use Rattle.std.specs.List.{AllByRecursion};
-ghost use Rattle.gc_core.specs.Slots.{slot_numbers};
+ghost use Rattle.std.specs.Prelude.{◌≡◌, ◌≢◌, ◌∷◌, [], IsSomeAnd, IsSome};
 ghost use Rattle.std.specs.Option.{option_map};
 ghost use Rattle.gc_graph.specs.declared.command.Op.{Op};
 ghost use Rattle.gc_heap.specs.Commands.{fetched_of};
-ghost use Rattle.gcflip_heap_c.specs.Commands.{slot_at, number_in, with_both, IsCommandCall, IsPutNumberCall, IsNewFromCall};
+ghost use Rattle.gcflip_heap_c.specs.Commands.{number_in, with_both, IsCommandCall, IsPutNumberCall, IsNewFromCall};
 ghost use Rattle.gcflip_heap_c.specs.Replies.{IsRefusal, reply_in_c, fetched_in_c, number_after, view_after};
+ghost use Rattle.gcflip_heap_c.specs.Slots.{slot_at};
 
-use crate::answer::{NO_MEMORY, OUT_OF_RANGE};
+use crate::answer::{CLOSED, NO_MEMORY, OUT_OF_RANGE};
+use crate::handle::GcflipHeap;
 use crate::reply::{GcflipView, of_fetched, of_look, of_reply};
-use gc_core::{CollectedHeap, SLOT_NUMBERS, numbered_slot};
-use gc_graph::{NoMemory, Number, Slot};
+use crate::slots::{NumberedSlots, are_slots, slot};
+use gc_graph::{NoMemory, Number};
 
-/// Returns the slot with this number, or `None` if there is no such slot.
-pub(crate) fn slot(number: u8) -> Option<Slot>
-    ensures { result ≡ slot_at number }
-{
-    if number < SLOT_NUMBERS {
-        Some(numbered_slot(number))
-    } else {
-        None
-    }
-}
-
-/// Returns whether every number is that of a slot.
-fn are_slots(numbers: &[u8]) -> bool
-    ensures { IsTrue result ↔ AllByRecursion (λ n. n < slot_numbers) numbers.now }
-{
-    for number in numbers {
-        if *number >= SLOT_NUMBERS {
-            return false;
-        }
-    }
-    true
-}
-
-pub(crate) fn new(heap: &mut CollectedHeap, m: u8, d: u8, kind: u8, count: u16) -> u32
-    ensures call { IsCommandCall m (option_map (λ d. Op.New d kind count) (slot_at d)) (λ reply. result ≡ reply_in_c reply)
-        (Some heap.old) (Some heap.new) result }
+/// Makes an object of this kind with `count` fields, all nil, and puts a reference to it into slot `d`.
+#[unsafe(no_mangle)]
+pub extern "C" fn gcflip_heap_new_object(
+    heap: &mut GcflipHeap,
+    m: u8,
+    d: u8,
+    kind: u8,
+    count: u16,
+) -> u32
+    ensures call { IsCommandCall m (option_map (λ d. Op.New d kind count) (slot_at d))
+        (λ reply. result ≡ reply_in_c reply) heap.old.state heap.new.state result }
     ensures memory { result ≢ 1 }
 {
+    if heap.is_empty() {
+        return CLOSED;
+    }
+    let heap = heap.heap_mut();
     if m >= heap.mutators() {
         return OUT_OF_RANGE;
     }
@@ -51,11 +40,23 @@ pub(crate) fn new(heap: &mut CollectedHeap, m: u8, d: u8, kind: u8, count: u16) 
     of_reply(&heap.new_object(m, d, kind, count))
 }
 
-pub(crate) fn raw(heap: &mut CollectedHeap, m: u8, d: u8, kind: u8, count: u16) -> u32
-    ensures call { IsCommandCall m (option_map (λ d. Op.NewRaw d kind count) (slot_at d)) (λ reply. result ≡ reply_in_c reply)
-        (Some heap.old) (Some heap.new) result }
+/// Makes a raw object of this kind, with `count` fields that are numbers, all 0. Puts a reference to it into slot `d`.
+#[unsafe(no_mangle)]
+pub extern "C" fn gcflip_heap_new_raw(
+    heap: &mut GcflipHeap,
+    m: u8,
+    d: u8,
+    kind: u8,
+    count: u16,
+) -> u32
+    ensures call { IsCommandCall m (option_map (λ d. Op.NewRaw d kind count) (slot_at d))
+        (λ reply. result ≡ reply_in_c reply) heap.old.state heap.new.state result }
     ensures memory { result ≢ 1 }
 {
+    if heap.is_empty() {
+        return CLOSED;
+    }
+    let heap = heap.heap_mut();
     if m >= heap.mutators() {
         return OUT_OF_RANGE;
     }
@@ -65,28 +66,40 @@ pub(crate) fn raw(heap: &mut CollectedHeap, m: u8, d: u8, kind: u8, count: u16) 
     of_reply(&heap.new_raw(m, d, kind, count))
 }
 
-pub(crate) fn num(heap: &mut CollectedHeap, m: u8, d: u8, n: u64) -> u32
-    ensures call { IsCommandCall m (with_both (slot_at d) (number_in n) Op.Num) (λ reply. result ≡ reply_in_c reply)
-        (Some heap.old) (Some heap.new) result }
+/// Puts the number `n`, which must be below 2^63, into slot `d`.
+#[unsafe(no_mangle)]
+pub extern "C" fn gcflip_heap_set_number(heap: &mut GcflipHeap, m: u8, d: u8, n: u64) -> u32
+    ensures call { IsCommandCall m (with_both (slot_at d) (number_in n) Op.Num)
+        (λ reply. result ≡ reply_in_c reply) heap.old.state heap.new.state result }
     ensures memory { result ≢ 1 }
 {
+    if heap.is_empty() {
+        return CLOSED;
+    }
+    let heap = heap.heap_mut();
     if m >= heap.mutators() {
         return OUT_OF_RANGE;
     }
     let Some(d) = slot(d) else {
         return OUT_OF_RANGE;
     };
-    let Some(n) = Number::new(n) else {
+    let Some(number) = Number::new(n) else {
         return OUT_OF_RANGE;
     };
-    of_reply(&heap.num(m, d, n))
+    of_reply(&heap.num(m, d, number))
 }
 
-pub(crate) fn nil(heap: &mut CollectedHeap, m: u8, d: u8) -> u32
-    ensures call { IsCommandCall m (option_map Op.Nil (slot_at d)) (λ reply. result ≡ reply_in_c reply)
-        (Some heap.old) (Some heap.new) result }
+/// Puts nil into slot `d`.
+#[unsafe(no_mangle)]
+pub extern "C" fn gcflip_heap_set_nil(heap: &mut GcflipHeap, m: u8, d: u8) -> u32
+    ensures call { IsCommandCall m (option_map Op.Nil (slot_at d))
+        (λ reply. result ≡ reply_in_c reply) heap.old.state heap.new.state result }
     ensures memory { result ≢ 1 }
 {
+    if heap.is_empty() {
+        return CLOSED;
+    }
+    let heap = heap.heap_mut();
     if m >= heap.mutators() {
         return OUT_OF_RANGE;
     }
@@ -96,11 +109,17 @@ pub(crate) fn nil(heap: &mut CollectedHeap, m: u8, d: u8) -> u32
     of_reply(&heap.nil(m, d))
 }
 
-pub(crate) fn moved(heap: &mut CollectedHeap, m: u8, d: u8, s: u8) -> u32
-    ensures call { IsCommandCall m (with_both (slot_at d) (slot_at s) Op.Move) (λ reply. result ≡ reply_in_c reply)
-        (Some heap.old) (Some heap.new) result }
+/// Copies the value of slot `s` into slot `d`.
+#[unsafe(no_mangle)]
+pub extern "C" fn gcflip_heap_move(heap: &mut GcflipHeap, m: u8, d: u8, s: u8) -> u32
+    ensures call { IsCommandCall m (with_both (slot_at d) (slot_at s) Op.Move)
+        (λ reply. result ≡ reply_in_c reply) heap.old.state heap.new.state result }
     ensures memory { result ≢ 1 }
 {
+    if heap.is_empty() {
+        return CLOSED;
+    }
+    let heap = heap.heap_mut();
     if m >= heap.mutators() {
         return OUT_OF_RANGE;
     }
@@ -113,12 +132,26 @@ pub(crate) fn moved(heap: &mut CollectedHeap, m: u8, d: u8, s: u8) -> u32
     of_reply(&heap.move_slot(m, d, s))
 }
 
-pub(crate) fn get(heap: &mut CollectedHeap, m: u8, d: u8, s: u8, i: u16, number: &mut u64) -> u32
+/// Reads field `i` of the object that slot `s` refers to into slot `d`. If the value is a number, also writes it to
+/// `number`. If it is a reference, the reply does not say whether the object is raw.
+#[unsafe(no_mangle)]
+pub extern "C" fn gcflip_heap_get(
+    heap: &mut GcflipHeap,
+    m: u8,
+    d: u8,
+    s: u8,
+    i: u16,
+    number: &mut u64,
+) -> u32
     ensures call { IsCommandCall m (with_both (slot_at d) (slot_at s) (λ d s. Op.Get d s i))
-        (λ reply. (result ≡ fetched_in_c (fetched_of reply)) × (number.new ≡ number_after number.old (fetched_of reply))) (Some heap.old) (Some heap.new) result }
+        (λ reply. (result ≡ fetched_in_c (fetched_of reply)) × (number.new ≡ number_after number.old (fetched_of reply))) heap.old.state heap.new.state result }
     ensures silent { IsRefusal result → number.new ≡ number.old }
     ensures memory { result ≢ 1 }
 {
+    if heap.is_empty() {
+        return CLOSED;
+    }
+    let heap = heap.heap_mut();
     if m >= heap.mutators() {
         return OUT_OF_RANGE;
     }
@@ -131,11 +164,18 @@ pub(crate) fn get(heap: &mut CollectedHeap, m: u8, d: u8, s: u8, i: u16, number:
     of_fetched(heap.fetch(m, d, s, i), number)
 }
 
-pub(crate) fn put(heap: &mut CollectedHeap, m: u8, s: u8, i: u16, t: u8) -> u32
-    ensures call { IsCommandCall m (with_both (slot_at s) (slot_at t) (λ s t. Op.Put s i t)) (λ reply. result ≡ reply_in_c reply)
-        (Some heap.old) (Some heap.new) result }
-    ensures memory { result ≡ 1 → IsSome heap.old.collection }
+/// Writes the value of slot `t` to field `i` of the object that slot `s` refers to. Allocates only while a collection
+/// is open.
+#[unsafe(no_mangle)]
+pub extern "C" fn gcflip_heap_put(heap: &mut GcflipHeap, m: u8, s: u8, i: u16, t: u8) -> u32
+    ensures call { IsCommandCall m (with_both (slot_at s) (slot_at t) (λ s t. Op.Put s i t))
+        (λ reply. result ≡ reply_in_c reply) heap.old.state heap.new.state result }
+    ensures memory { result ≡ 1 → IsSomeAnd heap.old.state (λ s. IsSome s.collection) }
 {
+    if heap.is_empty() {
+        return CLOSED;
+    }
+    let heap = heap.heap_mut();
     if m >= heap.mutators() {
         return OUT_OF_RANGE;
     }
@@ -151,10 +191,24 @@ pub(crate) fn put(heap: &mut CollectedHeap, m: u8, s: u8, i: u16, t: u8) -> u32
     }
 }
 
-pub(crate) fn put_number(heap: &mut CollectedHeap, m: u8, s: u8, i: u16, t: u8, n: u64) -> u32
-    ensures call { IsPutNumberCall m (slot_at s) i (slot_at t) (number_in n) (Some heap.old) (Some heap.new) result }
-    ensures memory { result ≡ 1 → IsSome heap.old.collection }
+/// Puts the number `n` into slot `t`, and then writes it to field `i` of the object that slot `s` refers to. This is a
+/// `gcflip_heap_set_number` followed by a `gcflip_heap_put`, in one call. Allocates only while a collection is open.
+#[unsafe(no_mangle)]
+pub extern "C" fn gcflip_heap_put_number(
+    heap: &mut GcflipHeap,
+    m: u8,
+    s: u8,
+    i: u16,
+    t: u8,
+    n: u64,
+) -> u32
+    ensures call { IsPutNumberCall m (slot_at s) i (slot_at t) (number_in n) heap.old.state heap.new.state result }
+    ensures memory { result ≡ 1 → IsSomeAnd heap.old.state (λ s. IsSome s.collection) }
 {
+    if heap.is_empty() {
+        return CLOSED;
+    }
+    let heap = heap.heap_mut();
     if m >= heap.mutators() {
         return OUT_OF_RANGE;
     }
@@ -173,10 +227,25 @@ pub(crate) fn put_number(heap: &mut CollectedHeap, m: u8, s: u8, i: u16, t: u8, 
     }
 }
 
-pub(crate) fn cons(heap: &mut CollectedHeap, m: u8, d: u8, kind: u8, s: u8, t: u8) -> u32
-    ensures call { IsNewFromCall m d kind (s ∷ t ∷ []) (Some heap.old) (Some heap.new) result }
-    ensures memory { result ≡ 1 → IsSome heap.old.collection }
+/// Makes an object of this kind with two fields, which take the values of slots `s` and `t`, and puts a reference to
+/// it into slot `d`. This is a `gcflip_heap_new_object` followed by two `gcflip_heap_put`, in one call. Slot `d` is set
+/// first, so a field filled from slot `d` refers to the object itself. Allocates only while a collection is open.
+#[unsafe(no_mangle)]
+pub extern "C" fn gcflip_heap_new_pair(
+    heap: &mut GcflipHeap,
+    m: u8,
+    d: u8,
+    kind: u8,
+    s: u8,
+    t: u8,
+) -> u32
+    ensures call { IsNewFromCall m d kind (s ∷ t ∷ []) heap.old.state heap.new.state result }
+    ensures memory { result ≡ 1 → IsSomeAnd heap.old.state (λ s. IsSome s.collection) }
 {
+    if heap.is_empty() {
+        return CLOSED;
+    }
+    let heap = heap.heap_mut();
     if m >= heap.mutators() {
         return OUT_OF_RANGE;
     }
@@ -195,10 +264,25 @@ pub(crate) fn cons(heap: &mut CollectedHeap, m: u8, d: u8, kind: u8, s: u8, t: u
     }
 }
 
-pub(crate) fn new_from(heap: &mut CollectedHeap, m: u8, d: u8, kind: u8, fields: &[u8]) -> u32
-    ensures call { IsNewFromCall m d kind fields.now (Some heap.old) (Some heap.new) result }
-    ensures memory { result ≡ 1 → IsSome heap.old.collection }
+/// Makes an object of this kind, and puts a reference to it into slot `d`. `fields` has a slot number for each field,
+/// which takes the value of that slot. This is a `gcflip_heap_new_object` followed by a `gcflip_heap_put` for each field, in
+/// one call. Slot `d` is set first, so a field filled from slot `d` refers to the object itself. Allocates only while
+/// a collection is open.
+#[unsafe(no_mangle)]
+pub extern "C" fn gcflip_heap_new_from(
+    heap: &mut GcflipHeap,
+    m: u8,
+    d: u8,
+    kind: u8,
+    fields: &[u8],
+) -> u32
+    ensures call { IsNewFromCall m d kind fields.now heap.old.state heap.new.state result }
+    ensures memory { result ≡ 1 → IsSomeAnd heap.old.state (λ s. IsSome s.collection) }
 {
+    if heap.is_empty() {
+        return CLOSED;
+    }
+    let heap = heap.heap_mut();
     if m >= heap.mutators() {
         return OUT_OF_RANGE;
     }
@@ -208,17 +292,24 @@ pub(crate) fn new_from(heap: &mut CollectedHeap, m: u8, d: u8, kind: u8, fields:
     if fields.len() > usize::from(u16::MAX) || !are_slots(fields) {
         return OUT_OF_RANGE;
     }
-    match heap.new_from(m, d, kind, fields) {
+    let fields = NumberedSlots { numbers: fields };
+    match heap.new_from(m, d, kind, &fields) {
         Ok(reply) => of_reply(&reply),
         Err(NoMemory) => NO_MEMORY,
     }
 }
 
-pub(crate) fn same(heap: &CollectedHeap, m: u8, s: u8, t: u8) -> u32
-    ensures call { IsCommandCall m (with_both (slot_at s) (slot_at t) Op.Same) (λ reply. result ≡ reply_in_c reply)
-        (Some heap.now) (Some heap.now) result }
+/// Compares the values of slots `s` and `t`.
+#[unsafe(no_mangle)]
+pub extern "C" fn gcflip_heap_same(heap: &mut GcflipHeap, m: u8, s: u8, t: u8) -> u32
+    ensures call { IsCommandCall m (with_both (slot_at s) (slot_at t) Op.Same)
+        (λ reply. result ≡ reply_in_c reply) heap.old.state heap.new.state result }
     ensures memory { result ≢ 1 }
 {
+    if heap.is_empty() {
+        return CLOSED;
+    }
+    let heap = heap.heap_mut();
     if m >= heap.mutators() {
         return OUT_OF_RANGE;
     }
@@ -231,12 +322,23 @@ pub(crate) fn same(heap: &CollectedHeap, m: u8, s: u8, t: u8) -> u32
     of_reply(&heap.same(m, s, t))
 }
 
-pub(crate) fn look(heap: &CollectedHeap, m: u8, s: u8, view: &mut GcflipView) -> u32
+/// Looks at the value of slot `s`, and writes what it saw to `view`.
+#[unsafe(no_mangle)]
+pub extern "C" fn gcflip_heap_look(
+    heap: &mut GcflipHeap,
+    m: u8,
+    s: u8,
+    view: &mut GcflipView,
+) -> u32
     ensures call { IsCommandCall m (option_map Op.Look (slot_at s))
-        (λ reply. (result ≡ reply_in_c reply) × (view.new ≡ view_after view.old reply)) (Some heap.now) (Some heap.now) result }
+        (λ reply. (result ≡ reply_in_c reply) × (view.new ≡ view_after view.old reply)) heap.old.state heap.new.state result }
     ensures silent { IsRefusal result → view.new ≡ view.old }
     ensures memory { result ≢ 1 }
 {
+    if heap.is_empty() {
+        return CLOSED;
+    }
+    let heap = heap.heap_mut();
     if m >= heap.mutators() {
         return OUT_OF_RANGE;
     }

@@ -1,4 +1,4 @@
-use Rattle.std.proofs.Common.{◌≡◌, ◌<◌, refl, sym, ap, ◌∙◌, subst, arith, map, None}
+use Rattle.std.proofs.Common.{◌≡◌, ◌<◌, refl, sym, ap, ◌∙◌, subst, arith, None}
 use Rattle.gc_copy.specs.State.{State}
 use Rattle.std.specs.Option.{option_map}
 use Rattle.gc_copy.specs.Words.{collection_in, state_of, open_state, idle_state}
@@ -8,19 +8,18 @@ use Rattle.gc_core.specs.Internal.CollectedHeap.{Fits}
 use Rattle.gc_core.specs.Internal.KnownRoots.{KnowsRoots}
 use Rattle.gc_core.proofs.Marks.{from_knows}
 use Rattle.gc_core.specs.CollectedHeap.{new_from_step}
-use Rattle.gc_core.specs.Slots.{numbered_slot}
 use Rattle.gc_core.proofs.NewFrom.{counted, made_from, full_from, opened_at}
 use Rattle.gc_core.proofs.collected_heap.CollectedHeap.new_from.Goals as goal
 
 pub invariant_of-self-in-Full-made : goal.invariant_of-self-in-Full-made
-invariant_of-self-in-Full-made c =
+invariant_of-self-in-Full-made g c =
     let made = open_left c.self.inside.heap c.new_object-made-2.new.self c.reserve_more.new.self c.args.m _ c.new_object-made-2.result c.space.ensures.sound
     (c.in_ok-reserve_more.ensures.belongs c.self.inside.heap (subst (Fits c.self.inside.heap) c.in-Some.is c.self.invariant.0)) (λ none. none) c.new_object-made-2.ensures.performs in
     let less : c.args.m < c.self.inside.heap.mutators = subst (λ (s : State). c.args.m < s.mutators) (sym c.self.view_is) c.requires.mutator in
     let before = opened_at c.self.inside.heap c.self.inside.collection c.in-Some.collection c.reserve_more.new.self (state_of c.self.inside.heap (option_map collection_in c.self.inside.collection)) c.in-Some.is c.in_ok-reserve_more.ensures.collection refl in
     let after = open_state c.new_object-made-2.new.self c.reserve_more.new.self in
-    let fields = map numbered_slot c.args.fields.now in
-    let first = counted (open_state c.self.inside.heap c.reserve_more.new.self) after c.args.m c.args.kind c.args.d c.args.fields.now c.new_object-made-2.result made.0 in (
+    let fields = g.R.SlotRow.slots c.args.fields.now in
+    let first = counted (open_state c.self.inside.heap c.reserve_more.new.self) after c.args.m c.args.kind c.count-count.result c.args.d fields c.new_object-made-2.result c.count-count.ensures made.0 in (
       made.1,
       from_knows c.self.inside.known (open_state c.self.inside.heap c.reserve_more.new.self) after c.args.m c.args.kind c.args.d fields c.new_object-made-2.result (omega (arith, c.index.ensures.value, c.index.ensures.bound)) less
           (full_from (open_state c.self.inside.heap c.reserve_more.new.self) after c.args.m c.args.kind c.args.d fields c.new_object-made-2.result first c.in-Full-made.is)
@@ -28,33 +27,35 @@ invariant_of-self-in-Full-made c =
     )
 
 pub returns-in-Full-made-clause-step : goal.returns-in-Full-made-clause-step
-returns-in-Full-made-clause-step c =
+returns-in-Full-made-clause-step g c =
     let made = open_left c.self.inside.heap c.new_object-made-2.new.self c.reserve_more.new.self c.args.m _ c.new_object-made-2.result c.space.ensures.sound
     (c.in_ok-reserve_more.ensures.belongs c.self.inside.heap (subst (Fits c.self.inside.heap) c.in-Some.is c.self.invariant.0)) (λ none. none) c.new_object-made-2.ensures.performs in
     let before = opened_at c.self.inside.heap c.self.inside.collection c.in-Some.collection c.reserve_more.new.self c.args.self.now c.in-Some.is c.in_ok-reserve_more.ensures.collection c.self.view_is in
     let after = open_state c.new_object-made-2.new.self c.reserve_more.new.self in
-    let fields = map numbered_slot c.args.fields.now in
-    let first = counted (open_state c.self.inside.heap c.reserve_more.new.self) (open_state c.new_object-made-2.new.self c.reserve_more.new.self) c.args.m c.args.kind c.args.d c.args.fields.now c.new_object-made-2.result made.0 in
+    let fields = g.R.SlotRow.slots c.args.fields.now in
+    let first = counted (open_state c.self.inside.heap c.reserve_more.new.self) (open_state c.new_object-made-2.new.self c.reserve_more.new.self) c.args.m c.args.kind c.count-count.result c.args.d fields c.new_object-made-2.result c.count-count.ensures made.0 in
     subst (λ x. new_from_step x c.args.m c.args.d c.args.kind fields ≡ (c.new_object-made-2.result, after)) before
     (full_from (open_state c.self.inside.heap c.reserve_more.new.self) after c.args.m c.args.kind c.args.d fields c.new_object-made-2.result first c.in-Full-made.is)
 
 pub fill_and_log-requires : goal.fill_and_log-requires
-fill_and_log-requires c =
+fill_and_log-requires g c =
     let made = open_left c.self.inside.heap c.new_object-made-2.new.self c.reserve_more.new.self c.args.m _ c.new_object-made-2.result c.space.ensures.sound
     (c.in_ok-reserve_more.ensures.belongs c.self.inside.heap (subst (Fits c.self.inside.heap) c.in-Some.is c.self.invariant.0)) (λ none. none) c.new_object-made-2.ensures.performs in
     let count : c.new_object-made-2.new.self.mutators ≡ c.args.self.now.mutators = c.new_object-made-2.ensures.performs.mutators ∙ ap (λ (s : State). s.mutators) c.self.view_is in
     let mutator = c.requires.mutator in
-    record { belongs = made.1; mutator = omega (arith, count, mutator); few = c.requires.few; slots = c.requires.slots; room = c.in_ok-reserve_more.ensures.room }
+    let same = c.count-count.ensures in let from = c.from.ensures in
+    let room = c.in_ok-reserve_more.ensures.room in
+    record { belongs = made.1; mutator = omega (arith, count, mutator); row = c.requires.row; room = omega (arith, same, from, room) }
 
 pub returns : goal.returns
-returns c =
+returns g c =
     let made = open_left c.self.inside.heap c.new_object-made-2.new.self c.reserve_more.new.self c.args.m _ c.new_object-made-2.result c.space.ensures.sound
     (c.in_ok-reserve_more.ensures.belongs c.self.inside.heap (subst (Fits c.self.inside.heap) c.in-Some.is c.self.invariant.0)) (λ none. none) c.new_object-made-2.ensures.performs in
     let before = opened_at c.self.inside.heap c.self.inside.collection c.in-Some.collection c.reserve_more.new.self c.args.self.now c.in-Some.is c.in_ok-reserve_more.ensures.collection c.self.view_is in
     let filled = c.fill_and_log in
     let after = open_state filled.new.heap filled.new.collection in
-    let fields = map numbered_slot c.args.fields.now in
-    let first = counted (open_state c.self.inside.heap c.reserve_more.new.self) (open_state c.new_object-made-2.new.self c.reserve_more.new.self) c.args.m c.args.kind c.args.d c.args.fields.now c.new_object-made-2.result made.0 in
+    let fields = g.R.SlotRow.slots c.args.fields.now in
+    let first = counted (open_state c.self.inside.heap c.reserve_more.new.self) (open_state c.new_object-made-2.new.self c.reserve_more.new.self) c.args.m c.args.kind c.count-count.result c.args.d fields c.new_object-made-2.result c.count-count.ensures made.0 in
     record {
       step = subst (λ x. new_from_step x c.args.m c.args.d c.args.kind fields ≡ (c.new_object-made-2.result, after)) before
           (made_from (open_state c.self.inside.heap c.reserve_more.new.self) (open_state c.new_object-made-2.new.self c.reserve_more.new.self) after c.args.m c.args.kind c.args.d fields c.new_object-made-2.result first c.in_default-made-2.not-Full filled.ensures.step);
@@ -64,15 +65,15 @@ returns c =
     }
 
 pub invariant_of-self-2 : goal.invariant_of-self-2
-invariant_of-self-2 c =
+invariant_of-self-2 g c =
     let less : c.args.m < c.self.inside.heap.mutators = subst (λ (s : State). c.args.m < s.mutators) (sym c.self.view_is) c.requires.mutator in
     let made = open_left c.self.inside.heap c.new_object-made-2.new.self c.reserve_more.new.self c.args.m _ c.new_object-made-2.result c.space.ensures.sound
     (c.in_ok-reserve_more.ensures.belongs c.self.inside.heap (subst (Fits c.self.inside.heap) c.in-Some.is c.self.invariant.0)) (λ none. none) c.new_object-made-2.ensures.performs in
     let before = opened_at c.self.inside.heap c.self.inside.collection c.in-Some.collection c.reserve_more.new.self (state_of c.self.inside.heap (option_map collection_in c.self.inside.collection)) c.in-Some.is c.in_ok-reserve_more.ensures.collection refl in
     let filled = c.fill_and_log in
     let after = open_state filled.new.heap filled.new.collection in
-    let fields = map numbered_slot c.args.fields.now in
-    let first = counted (open_state c.self.inside.heap c.reserve_more.new.self) (open_state c.new_object-made-2.new.self c.reserve_more.new.self) c.args.m c.args.kind c.args.d c.args.fields.now c.new_object-made-2.result made.0 in (
+    let fields = g.R.SlotRow.slots c.args.fields.now in
+    let first = counted (open_state c.self.inside.heap c.reserve_more.new.self) (open_state c.new_object-made-2.new.self c.reserve_more.new.self) c.args.m c.args.kind c.count-count.result c.args.d fields c.new_object-made-2.result c.count-count.ensures made.0 in (
       filled.ensures.belongs,
       from_knows c.self.inside.known (open_state c.self.inside.heap c.reserve_more.new.self) after c.args.m c.args.kind c.args.d fields c.new_object-made-2.result (omega (arith, c.index.ensures.value, c.index.ensures.bound)) less
           (made_from (open_state c.self.inside.heap c.reserve_more.new.self) (open_state c.new_object-made-2.new.self c.reserve_more.new.self) after c.args.m c.args.kind c.args.d fields c.new_object-made-2.result first c.in_default-made-2.not-Full filled.ensures.step)
@@ -80,14 +81,14 @@ invariant_of-self-2 c =
     )
 
 pub invariant_of-self-in_default : goal.invariant_of-self-in_default
-invariant_of-self-in_default c =
+invariant_of-self-in_default g c =
     let heap = c.self.inside.heap in
     let new = c.new_object-made in
     let less : c.args.m < heap.mutators = subst (λ (s : State). c.args.m < s.mutators) (sym c.self.view_is) c.requires.mutator in
     let none : c.self.inside.collection ≡ None = c.in_default.is in
     let one = idle_left heap new.new.self c.args.m _ new.result c.space.ensures.sound (subst (Fits heap) none c.self.invariant.0) new.ensures.performs in
-    let fields = map numbered_slot c.args.fields.now in
-    let first = counted (idle_state heap) (idle_state new.new.self) c.args.m c.args.kind c.args.d c.args.fields.now new.result one.0 in
+    let fields = g.R.SlotRow.slots c.args.fields.now in
+    let first = counted (idle_state heap) (idle_state new.new.self) c.args.m c.args.kind c.count-count.result c.args.d fields new.result c.count-count.ensures one.0 in
     let after : KnownRoots = record { slots = 0; extra = c.self.inside.known.extra; used = c.self.inside.known.used } in
     subst (λ o. Fits c.fill.new.heap o × KnowsRoots after (state_of c.fill.new.heap (option_map collection_in o))) (sym none) (
       c.fill.ensures.links,

@@ -1,7 +1,7 @@
 use Rattle.std.proofs.Common.{◌↔◌, ◌<◌, drop}
 use Rattle.std.specs.List.{AllByRecursion}
-use Rattle.gc_core.specs.Slots.{slot_numbers}
-use Rattle.gcflip_heap_c.proofs.commands.are_slots.Given as goal
+use Rattle.gcflip_heap_c.specs.Slots.{slot_numbers}
+use Rattle.gcflip_heap_c.proofs.slots.are_slots.Given as goal
 
 -- all numbers are those of slots if the remaining ones are
 abbrev pub invariant-loop-number : goal.invariant-loop-number

@@ -1,0 +1,69 @@
+//! Slots by the numbers that C gives them.
+
+ghost use Rattle.std.specs.Prelude.{◌≡◌, ◌<◌, ◌↔◌, IsTrue, map};
+ghost use Rattle.std.specs.List.{AllByRecursion};
+ghost use Rattle.gcflip_heap_c.specs.Slots.{slot_numbers, numbered_slot, slot_at, AreFields};
+
+use gc_core::SlotRow;
+use gc_graph::Slot;
+
+/// The number of slots that a mutator can name: sixteen of its own, and the sixteen that all mutators share.
+const SLOT_NUMBERS: u8 = 32;
+
+/// Returns the slot with this number, which must be below `SLOT_NUMBERS`. Numbers below 16 are the mutator's own slots,
+/// and the others are the shared ones.
+#[inline(always)]
+fn numbered_slot(number: u8) -> Slot
+    requires { number < slot_numbers }
+    ensures { result ≡ numbered_slot number }
+{
+    if number < 16 {
+        Slot::own(number).unwrap()
+    } else {
+        Slot::shared(number - 16).unwrap()
+    }
+}
+
+/// Returns the slot with this number, or `None` if there is no such slot.
+pub(crate) fn slot(number: u8) -> Option<Slot>
+    ensures { result ≡ slot_at number }
+{
+    if number < SLOT_NUMBERS {
+        Some(numbered_slot(number))
+    } else {
+        None
+    }
+}
+
+/// Returns whether every number is that of a slot.
+pub(crate) fn are_slots(numbers: &[u8]) -> bool
+    ensures { IsTrue result ↔ AllByRecursion (λ n. n < slot_numbers) numbers.now }
+{
+    for number in numbers {
+        if *number >= SLOT_NUMBERS {
+            return false;
+        }
+    }
+    true
+}
+
+/// The slots with these numbers, in order.
+#[derive(Drop)]
+pub(crate) struct NumberedSlots<'a> {
+    pub(crate) numbers: &'a [u8],
+}
+
+impl SlotRow for NumberedSlots<'_> {
+    ghost is_row = { λ row. AreFields row.numbers.now };
+
+    ghost slots = { λ row. map numbered_slot row.numbers.now };
+
+    fn count(&self) -> u16 {
+        self.numbers.len() as u16
+    }
+
+    #[inline(always)]
+    fn slot(&self, i: u16) -> Slot {
+        numbered_slot(self.numbers[usize::from(i)])
+    }
+}
