@@ -12,6 +12,7 @@ mod laws;
 mod reading;
 mod slots;
 mod steps;
+mod watching;
 
 pub use collected_heap::CollectedHeap;
 pub use flip::{Flip, Keep};
