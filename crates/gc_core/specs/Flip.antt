@@ -1,5 +1,5 @@
 -- What a flip shows its checker, and the pair of heaps that the checker accepts.
-use Rattle.std.specs.Prelude.{◌≡◌, ◌⊎◌, ◌≢◌, ◌≤◌, ℕ, length, Option, Some, None, IfSome, IsTrue}
+use Rattle.std.specs.Prelude.{◌≡◌, ◌≢◌, ◌≤◌, ℕ, length, Option, Some, None, IfSome, IsTrue}
 use Rattle.gc_words.specs.Image.{Image}
 use Rattle.gc_words.specs.Certificate.{Certified}
 use Rattle.gc_cert.specs.Grammar.{CertifiedPair}
@@ -45,6 +45,6 @@ PassesIfReady s reply = IfSome s.collection (λ c. IsTrue (is_ready c s.heap.gra
 abbrev pub HasRoomIfLarge : State → StepReply → Type 0
 HasRoomIfLarge s reply = IfSome s.collection (λ c. s.size ≤ c.size → reply ≢ NoRoom)
 
--- the checker that went along accepts the images, or the other one says yes to the pair
-abbrev pub AcceptedBy : (Image → Image → Type 0) → (CertifiedPair → Type 0) → CertifiedPair → Type 0
-AcceptedBy accepted says pair = accepted pair.old pair.new ⊎ says pair
+-- a checker that went along accepts the images of the pair
+abbrev pub HasAccepted : (Image → Image → Type 0) → CertifiedPair → Type 0
+HasAccepted accepted pair = accepted pair.old pair.new

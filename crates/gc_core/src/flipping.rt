@@ -1,4 +1,4 @@
-ghost use Rattle.std.specs.Prelude.{◌≡◌, ◌≢◌, ◌<◌, ◌^◌, Some, None, IfOk, IfSome, IsSome, IsTrue, OnErr, length};
+ghost use Rattle.std.specs.Prelude.{◌≡◌, ◌≢◌, ◌<◌, ◌^◌, Some, None, IfOk, IfSome, IsSome, IsTrue, IsFalse, false, OnErr, length};
 ghost use Rattle.std.specs.Option.{option_map};
 ghost use Rattle.gc_cert.specs.Views.{pair_in};
 ghost use Rattle.gc_heap.specs.Heap.{graph_in};
@@ -7,11 +7,11 @@ ghost use Rattle.gc_copy.specs.Words.{BelongsTo, HasNoLinks, collection_in, idle
 ghost use Rattle.gc_copy.specs.State.{pairs_of};
 ghost use Rattle.gc_copy.specs.declared.step.Step.{Step};
 ghost use Rattle.gc_copy.specs.declared.step.StepReply.{StepReply};
-ghost use Rattle.gc_core.specs.Flip.{flip_pair, AcceptedBy, IsCertified};
+ghost use Rattle.gc_core.specs.Flip.{flip_pair, IsCertified};
 ghost use Rattle.gc_core.specs.Internal.Flip.{IsDraft, AreCopies};
 
 use crate::collected_heap::CollectedHeap;
-use crate::flip::{Copies, Draft, Flip, Keep};
+use crate::flip::{AlongFlip, Copies, Draft, Flip, Keep};
 use crate::known::search;
 use gc_along::Watcher;
 use gc_cert::{Image, PairFile};
@@ -24,7 +24,7 @@ use std::alloc::Global;
 
 impl CollectedHeap {
     ghost use Rattle.gc_core.specs.CollectedHeap.{Allocates};
-    ghost use Rattle.gc_core.specs.Flip.{AcceptedBy, FlipsOnly, PassesIfReady, kept_after, replaced};
+    ghost use Rattle.gc_core.specs.Flip.{FlipsOnly, HasAccepted, PassesIfReady, kept_after, replaced};
     ghost use Rattle.gc_cert.specs.Grammar.{CertifiedPair};
     ghost use Rattle.std.specs.Prelude.{Option};
     ghost use Rattle.gc_core.specs.declared.flip.Keep.{Keep};
@@ -78,27 +78,28 @@ impl CollectedHeap {
         &mut self,
         along: &W,
         checker: &C,
-    ) -> Result<StepReply, NoMemory>
+    ) -> Result<AlongFlip, NoMemory>
         requires { C.can_check checker.now }
-        ensures step { IfOk result (λ reply. collect self.old Step.Flip ≡ (reply, self.new)) }
-        // A flip happens only if one of the two said yes.
-        ensures asked { IfOk result (FlipsOnly (AcceptedBy (W.accepted along.now) (C.says_yes checker.now)) self.old) }
-        // A flip happens only if the checker that went along accepted, or the certificate holds.
-        ensures sound { IfOk result (FlipsOnly (AcceptedBy (W.accepted along.now) IsCertified) self.old) }
+        ensures step { IfOk result (λ flip. collect self.old Step.Flip ≡ (flip.reply, self.new)) }
+        // A flip happens only if one of the two said yes: the one that `whole` tells.
+        ensures along { IfOk result (λ flip. IsFalse flip.whole → FlipsOnly (HasAccepted (W.accepted along.now)) self.old flip.reply) }
+        ensures asked { IfOk result (λ flip. IsTrue flip.whole → FlipsOnly (C.says_yes checker.now) self.old flip.reply) }
+        // What the other checker accepted is certified.
+        ensures sound { IfOk result (λ flip. IsTrue flip.whole → FlipsOnly IsCertified self.old flip.reply) }
         // A ready collection passes, so no flip is refused.
-        ensures passes { IfOk result (PassesIfReady self.old) }
-        ensures never_refused { IfOk result (λ reply. reply ≢ StepReply.Refused) }
+        ensures passes { IfOk result (λ flip. PassesIfReady self.old flip.reply) }
+        ensures never_refused { IfOk result (λ flip. flip.reply ≢ StepReply.Refused) }
         ensures refused { OnErr result (self.new ≡ self.old) }
         // Only the flip of a ready collection allocates.
         ensures allocates { OnErr result (Allocates self.old Step.Flip) }
         ensures mutators { self.new.mutators ≡ self.old.mutators }
     {
         let Some(collection) = &self.collection else {
-            return Ok(StepReply::Idle);
+            return Ok(unasked(StepReply::Idle));
         };
         let roots_done = search(collection, &self.heap, self.known).missing.is_none();
         if !collection.ready_with(&self.heap, roots_done) {
-            return Ok(StepReply::NotReady);
+            return Ok(unasked(StepReply::NotReady));
         }
         let roots = collection.new_roots(self.alloc, &self.heap)?;
         let pairs = collection.count_pairs();
@@ -109,28 +110,43 @@ impl CollectedHeap {
             return self.flip_whole(checker);
         }
         let collection = self.collection.take().unwrap();
-        Ok(carry_out_along(
+        Ok(unasked(carry_out_along(
             &mut self.heap,
             collection,
             roots,
             pairs as u32,
-        ))
+        )))
     }
 
     // Flips if the open collection is ready and the checker accepts its certificate.
     #[inline(never)]
-    fn flip_whole<C: Checks>(&mut self, checker: &C) -> Result<StepReply, NoMemory>
+    fn flip_whole<C: Checks>(&mut self, checker: &C) -> Result<AlongFlip, NoMemory>
         requires { C.can_check checker.now }
-        ensures step { IfOk result (λ reply. collect self.old Step.Flip ≡ (reply, self.new)) }
-        ensures asked { IfOk result (FlipsOnly (C.says_yes checker.now) self.old) }
-        ensures sound { IfOk result (FlipsOnly IsCertified self.old) }
-        ensures passes { IfOk result (PassesIfReady self.old) }
-        ensures never_refused { IfOk result (λ reply. reply ≢ StepReply.Refused) }
+        ensures step { IfOk result (λ flip. collect self.old Step.Flip ≡ (flip.reply, self.new)) }
+        ensures whole { IfOk result (λ flip. IsTrue flip.whole) }
+        ensures asked { IfOk result (λ flip. FlipsOnly (C.says_yes checker.now) self.old flip.reply) }
+        ensures sound { IfOk result (λ flip. FlipsOnly IsCertified self.old flip.reply) }
+        ensures passes { IfOk result (λ flip. PassesIfReady self.old flip.reply) }
+        ensures never_refused { IfOk result (λ flip. flip.reply ≢ StepReply.Refused) }
         ensures refused { OnErr result (self.new ≡ self.old) }
         ensures allocates { OnErr result (Allocates self.old Step.Flip) }
         ensures mutators { self.new.mutators ≡ self.old.mutators }
     {
-        Ok(self.flip(checker, Keep::Nothing)?.reply)
+        let flip = self.flip(checker, Keep::Nothing)?;
+        Ok(AlongFlip {
+            reply: flip.reply,
+            whole: true,
+        })
+    }
+}
+
+// Returns the outcome of a step for which the other checker was not asked.
+fn unasked(reply: StepReply) -> AlongFlip
+    ensures { result ≡ record { reply = reply; whole = false } }
+{
+    AlongFlip {
+        reply,
+        whole: false,
     }
 }
 

@@ -15,7 +15,7 @@ mod steps;
 mod watching;
 
 pub use collected_heap::CollectedHeap;
-pub use flip::{Flip, Keep};
+pub use flip::{AlongFlip, Flip, Keep};
 pub use laws::runs_are_legal;
 pub use reading::NewSpace;
 pub use slots::{SLOT_NUMBERS, numbered_slot};

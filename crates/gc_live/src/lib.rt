@@ -3,4 +3,4 @@
 
 mod live_heap;
 
-pub use live_heap::{Checking, LiveHeap};
+pub use live_heap::{Checking, FlipChecks, LiveHeap};

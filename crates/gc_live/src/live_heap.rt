@@ -19,11 +19,39 @@ pub enum Checking {
     Along,
 }
 
+/// How many flips each checker has accepted since the heap was opened.
+#[derive(Clone, Copy, Debug, Drop, PartialEq, Eq)]
+pub struct FlipChecks {
+    /// Those of the standing checker.
+    pub along: u64,
+    /// Those of the checker of both spaces whole.
+    pub whole: u64,
+}
+
+impl FlipChecks {
+    // With one flip more. A count stays at the largest number that it can hold.
+    fn with(self, whole: bool) -> FlipChecks {
+        let FlipChecks { along, whole: wholes } = self;
+        if whole {
+            FlipChecks {
+                along,
+                whole: wholes.saturating_add(1),
+            }
+        } else {
+            FlipChecks {
+                along: along.saturating_add(1),
+                whole: wholes,
+            }
+        }
+    }
+}
+
 /// A collected heap whose checker goes along with the collection.
 #[derive(Debug, Drop)]
 pub struct LiveHeap {
     inner: CollectedHeap,
     watch: Standing,
+    checks: FlipChecks,
 }
 
 impl Model for LiveHeap {
@@ -84,7 +112,11 @@ impl LiveHeap {
             Checking::AtFlip => Standing::absent(alloc),
             Checking::Along => Standing::new(alloc, options.size)?,
         };
-        Ok(LiveHeap { inner, watch })
+        Ok(LiveHeap {
+            inner,
+            watch,
+            checks: FlipChecks { along: 0, whole: 0 },
+        })
     }
 
     /// Returns the mutators' heap.
@@ -92,6 +124,11 @@ impl LiveHeap {
         ensures { roomy_in result.now ≡ self.now.heap }
     {
         self.inner.heap()
+    }
+
+    /// Returns how many flips each checker has accepted.
+    pub fn flip_checks(&self) -> FlipChecks {
+        self.checks
     }
 
     /// Returns the number of mutators, 1 to 16.
@@ -590,11 +627,12 @@ impl LiveHeap {
     {
         self.inner.is_sound();
         self.inner.is_watched();
-        let reply = self.inner.flip_along(&self.watch, checker)?;
-        if let StepReply::Flipped { .. } = reply {
+        let flip = self.inner.flip_along(&self.watch, checker)?;
+        if let StepReply::Flipped { .. } = flip.reply {
+            self.checks = self.checks.with(flip.whole);
             self.watch.flipped();
         }
-        Ok(reply)
+        Ok(flip.reply)
     }
 }
 

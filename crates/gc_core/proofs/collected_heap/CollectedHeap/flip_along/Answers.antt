@@ -1,22 +1,16 @@
-use Rattle.std.proofs.Common.{refl, sym, ◌∙◌, subst, inl}
+use Rattle.std.proofs.Common.{refl, sym, ◌∙◌, subst}
 use Rattle.std.specs.Option.{option_map}
 use Rattle.gc_copy.specs.Words.{collection_in, state_of, open_state, idle_state}
-use Rattle.gc_core.specs.Flip.{AcceptedBy, IsCertified}
+use Rattle.gc_core.specs.Flip.{HasAccepted}
 use Rattle.gc_core.specs.Internal.CollectedHeap.{Fits}
 use Rattle.gc_core.specs.Internal.KnownRoots.{KnowsRoots}
 use Rattle.gc_core.proofs.KeptPair.{pair_now}
 use Rattle.gc_core.proofs.Marks.{flipped_knows}
 use Rattle.gc_core.proofs.collected_heap.CollectedHeap.flip_along.Goals as goal
 
-pub returns-clause-asked : goal.returns-clause-asked
-returns-clause-asked g c pairs told =
-    pair_now (AcceptedBy (g.W.Watcher.accepted c.args.along.now) (g.C.Checks.says_yes c.args.checker.now)) c.self.inside.heap c.self.inside.collection c.in-Some.collection c.args.self.now c.in-Some.is c.self.view_is
-    (inl (c.if-not-is_accepted.ensures refl))
-
-pub returns-clause-sound : goal.returns-clause-sound
-returns-clause-sound g c pairs told =
-    pair_now (AcceptedBy (g.W.Watcher.accepted c.args.along.now) IsCertified) c.self.inside.heap c.self.inside.collection c.in-Some.collection c.args.self.now c.in-Some.is c.self.view_is
-    (inl (c.if-not-is_accepted.ensures refl))
+pub returns-clause-along : goal.returns-clause-along
+returns-clause-along g c unasked pairs told =
+    pair_now (HasAccepted (g.W.Watcher.accepted c.args.along.now)) c.self.inside.heap c.self.inside.collection c.in-Some.collection c.args.self.now c.in-Some.is c.self.view_is (c.if-not-is_accepted.ensures refl)
 
 pub invariant_of-self : goal.invariant_of-self
 invariant_of-self g c =
