@@ -20,7 +20,7 @@
  *   count says. Nobody else writes this memory during the call;
  * - a handle is not copied, and only these calls write it. It may be moved in memory;
  * - one thread at a time uses a handle. A lock, or the start or join of a thread, orders the uses. Different handles
- *   are independent;
+ *   are independent. This holds of calls with a const handle too, which write neither the handle nor its heap;
  * - no call is made from a signal handler, or in the forked child of a process with threads.
  */
 #ifndef GCFLIP_HEAP_H
@@ -120,7 +120,7 @@ uint32_t gcflip_heap_new_pair(gcflip_heap *heap, uint8_t m, uint8_t d, uint8_t k
 uint32_t gcflip_heap_new_from(gcflip_heap *heap, uint8_t m, uint8_t d, uint8_t kind, const uint8_t *fields, size_t count);
 
 /* Compares the values of slots s and t: GCFLIP_SAME or GCFLIP_NOT_SAME. */
-uint32_t gcflip_heap_same(gcflip_heap *heap, uint8_t m, uint8_t s, uint8_t t);
+uint32_t gcflip_heap_same(const gcflip_heap *heap, uint8_t m, uint8_t s, uint8_t t);
 
 typedef struct gcflip_view {
     uint32_t kind;   /* for an object: its kind; else 0 */
@@ -129,7 +129,7 @@ typedef struct gcflip_view {
 } gcflip_view;
 
 /* Looks at the value of slot s: GCFLIP_NIL, GCFLIP_NUMBER, GCFLIP_OBJECT or GCFLIP_RAW_OBJECT. Writes what it saw to `view`. */
-uint32_t gcflip_heap_look(gcflip_heap *heap, uint8_t m, uint8_t s, gcflip_view *view);
+uint32_t gcflip_heap_look(const gcflip_heap *heap, uint8_t m, uint8_t s, gcflip_view *view);
 
 /* ---- Extra roots, which a heap has if gcflip_heap_open asked for them
  *
@@ -180,6 +180,27 @@ uint32_t gcflip_heap_step_flip(gcflip_heap *heap, uint32_t *pairs);
 /* Frees the new space and the logs: GCFLIP_DROPPED or GCFLIP_IDLE. */
 uint32_t gcflip_heap_step_give_up(gcflip_heap *heap);
 
+/* The steps, in the order of their calls. */
+enum gcflip_step_name {
+    GCFLIP_STEP_BEGIN = 1,
+    GCFLIP_STEP_BEGIN_SIZED = 2,
+    GCFLIP_STEP_ROOTS = 3,
+    GCFLIP_STEP_SCAN = 4,
+    GCFLIP_STEP_APPLY = 5,
+    GCFLIP_STEP_FLIP = 6,
+    GCFLIP_STEP_GIVE_UP = 7
+};
+
+typedef struct gcflip_step {
+    uint32_t name;    /* a gcflip_step_name */
+    uint32_t mutator; /* the mutator whose log GCFLIP_STEP_APPLY applies; else 0 */
+} gcflip_step;
+
+/* Writes the useful step to `step`, and performs none: GCFLIP_STEP_BEGIN if no collection is open. Otherwise it is the first of
+ * GCFLIP_STEP_ROOTS, GCFLIP_STEP_SCAN and GCFLIP_STEP_APPLY with something left to do, and GCFLIP_STEP_FLIP if none of them has. Like
+ * gcflip_heap_work, it remembers which roots it has seen, so `heap` is not const. */
+uint32_t gcflip_heap_useful(gcflip_heap *heap, gcflip_step *step);
+
 typedef struct gcflip_work {
     uint32_t steps;  /* the number of steps performed, at least 1 */
     uint32_t copied; /* the number of words that replicas took in the new space during these steps */
@@ -187,8 +208,7 @@ typedef struct gcflip_work {
     uint32_t pairs;  /* the number of pairs if the last step flipped, else 0 */
 } gcflip_work;
 
-/* Performs at most `most` useful steps; `most` is not 0. The useful step begins a collection if none is open. Otherwise it
- * is the first of roots, scan and apply with something left to do, and the flip if none of them has. The call ends after
+/* Performs at most `most` useful steps, each that which gcflip_heap_useful would tell; `most` is not 0. The call ends after
  * a flip, and after a step that finds no room. If an allocation fails, it ends before that step; it returns
  * GCFLIP_NO_MEMORY if that was the first step. Otherwise it writes its report to `work` and returns GCFLIP_DONE. */
 uint32_t gcflip_heap_work(gcflip_heap *heap, uint32_t most, gcflip_work *work);
@@ -213,7 +233,7 @@ typedef struct gcflip_counts {
     uint32_t logged;     /* the entries in all logs, or UINT32_MAX if there are more */
 } gcflip_counts;
 
-uint32_t gcflip_heap_counts(gcflip_heap *heap, gcflip_counts *counts);
+uint32_t gcflip_heap_counts(const gcflip_heap *heap, gcflip_counts *counts);
 
 /* ---- Pace: as many useful steps as keep a collection ahead of the program
  *
@@ -239,7 +259,7 @@ static inline gcflip_pace gcflip_pace_default(void)
 
 /* Makes the pace remember the heap as it is, as if it had just flipped. A program calls it before the first paced work on a heap that is
  * in use, and after a flip by another call. If the factor is out of range, it returns GCFLIP_OUT_OF_RANGE. */
-uint32_t gcflip_heap_pace(gcflip_heap *heap, gcflip_pace *pace);
+uint32_t gcflip_heap_pace(const gcflip_heap *heap, gcflip_pace *pace);
 
 /* Returns the number of steps that are due before the program allocates `wanted` words. It is a function of its arguments alone, and
  * takes any counts:
@@ -261,7 +281,7 @@ uint32_t gcflip_pace_due(const gcflip_pace *pace, const gcflip_counts *counts, u
 uint32_t gcflip_heap_work_paced(gcflip_heap *heap, gcflip_pace *pace, uint32_t wanted, gcflip_work *work);
 
 /* Reads the length of mutator m's log, which is 0 while no collection is open. */
-uint32_t gcflip_heap_log_length(gcflip_heap *heap, uint8_t m, size_t *length);
+uint32_t gcflip_heap_log_length(const gcflip_heap *heap, uint8_t m, size_t *length);
 
 /* ---- Reading, for debuggers: copies into the caller's memory */
 
@@ -271,7 +291,7 @@ typedef struct gcflip_log_entry {
 } gcflip_log_entry;
 
 /* Reads entry k of mutator m's log. Entry 0 is the oldest. */
-uint32_t gcflip_heap_log_entry(gcflip_heap *heap, uint8_t m, size_t k, gcflip_log_entry *entry);
+uint32_t gcflip_heap_log_entry(const gcflip_heap *heap, uint8_t m, size_t k, gcflip_log_entry *entry);
 
 /* Returns the number of root words of the slots: the shared ones, and then those of each mutator. Shared slot s is root s - 16, and slot s
  * of mutator m's own is root 16 + 16 * m + s. Extra roots follow. */
@@ -282,11 +302,11 @@ static inline size_t gcflip_heap_root_count(uint8_t mutators)
 
 /* Copies the heap's words, links included, and the root words. The counts must be exactly `end` of gcflip_counts, and
  * gcflip_heap_root_count plus the number of extra roots. An original's link is its replica's address; all other links are 0. */
-uint32_t gcflip_heap_image(gcflip_heap *heap, uint64_t *words, size_t word_count, uint64_t *roots, size_t root_count);
+uint32_t gcflip_heap_image(const gcflip_heap *heap, uint64_t *words, size_t word_count, uint64_t *roots, size_t root_count);
 
 /* Copies the words of the open collection's new space. The count must be exactly `new_end` of gcflip_counts. A
  * replica's link is its original's address. If no collection is open, no count is right: GCFLIP_OUT_OF_RANGE. */
-uint32_t gcflip_heap_new_words(gcflip_heap *heap, uint64_t *words, size_t word_count);
+uint32_t gcflip_heap_new_words(const gcflip_heap *heap, uint64_t *words, size_t word_count);
 
 #ifdef __cplusplus
 }

@@ -258,7 +258,7 @@ static inline uint32_t gcflip_record_new_from(gcflip_heap *heap, uint8_t m, uint
     return gcflip_trace_new_from(gcflip_heap_new_from(heap, m, d, kind, fields, count), m, d, kind, fields, count);
 }
 
-static inline uint32_t gcflip_record_same(gcflip_heap *heap, uint8_t m, uint8_t s, uint8_t t)
+static inline uint32_t gcflip_record_same(const gcflip_heap *heap, uint8_t m, uint8_t s, uint8_t t)
 {
     uint32_t answer = gcflip_heap_same(heap, m, s, t);
     if (gcflip_recorded(answer)) {
@@ -270,7 +270,7 @@ static inline uint32_t gcflip_record_same(gcflip_heap *heap, uint8_t m, uint8_t 
     return answer;
 }
 
-static inline uint32_t gcflip_record_look(gcflip_heap *heap, uint8_t m, uint8_t s, gcflip_view *view)
+static inline uint32_t gcflip_record_look(const gcflip_heap *heap, uint8_t m, uint8_t s, gcflip_view *view)
 {
     uint32_t answer = gcflip_heap_look(heap, m, s, view);
     if (gcflip_recorded(answer)) {
@@ -337,33 +337,25 @@ static inline uint32_t gcflip_record_step_apply(gcflip_heap *heap, uint8_t m)
     return answer;
 }
 
-/* Performs the useful step and records it, but not the steps that were clean. A begin takes `size` words, or as many as the heap has if
- * `size` is 0. */
-static inline uint32_t gcflip_record_useful(gcflip_heap *heap, const gcflip_counts *counts, uint32_t size, uint32_t *pairs)
+/* Performs the useful step and records it. A begin takes `size` words, or as many as the heap has if `size` is 0. */
+static inline uint32_t gcflip_record_useful(gcflip_heap *heap, uint32_t size, uint32_t *pairs)
 {
-    uint8_t m;
-    uint32_t answer;
-    if (!counts->is_open)
+    gcflip_step step = {0, 0};
+    uint32_t answer = gcflip_heap_useful(heap, &step);
+    if (answer != GCFLIP_DONE)
+        return answer;
+    switch (step.name) {
+    case GCFLIP_STEP_BEGIN:
         return size ? gcflip_record_step_begin_sized(heap, size) : gcflip_record_step_begin(heap);
-    answer = gcflip_heap_step_roots(heap);
-    if (answer != GCFLIP_CLEAN) {
-        if (gcflip_is_recording())
-            fprintf(gcflip_trace, "c roots\n");
-        return answer;
+    case GCFLIP_STEP_ROOTS:
+        return gcflip_record_step_roots(heap);
+    case GCFLIP_STEP_SCAN:
+        return gcflip_record_step_scan(heap);
+    case GCFLIP_STEP_APPLY:
+        return gcflip_record_step_apply(heap, (uint8_t)step.mutator);
+    default:
+        return gcflip_record_step_flip(heap, pairs);
     }
-    answer = gcflip_heap_step_scan(heap);
-    if (answer != GCFLIP_CLEAN) {
-        if (gcflip_is_recording())
-            fprintf(gcflip_trace, "c scan\n");
-        return answer;
-    }
-    for (m = 0; m < counts->mutators; m++) {
-        size_t length = 0;
-        gcflip_heap_log_length(heap, m, &length);
-        if (length > 0)
-            return gcflip_record_step_apply(heap, m);
-    }
-    return gcflip_record_step_flip(heap, pairs);
 }
 
 /* Performs at most `most` useful steps, at least 1, and records them. */
@@ -376,7 +368,7 @@ static inline uint32_t gcflip_record_steps(gcflip_heap *heap, uint32_t most, uin
         return answer;
     start = counts.is_open ? counts.new_end : 1;
     while (made.steps < most) {
-        answer = gcflip_record_useful(heap, &counts, size, &made.pairs);
+        answer = gcflip_record_useful(heap, size, &made.pairs);
         if (GCFLIP_IS_REFUSED(answer))
             break;
         made.steps++;
@@ -406,21 +398,25 @@ static inline uint32_t gcflip_record_work_sized(gcflip_heap *heap, uint32_t most
     return gcflip_record_steps(heap, most, size, work);
 }
 
+/* A closed heap and a factor out of range are refused as gcflip_heap_pace refuses them. */
 static inline uint32_t gcflip_record_work_paced(gcflip_heap *heap, gcflip_pace *pace, uint32_t wanted, gcflip_work *work)
 {
     gcflip_counts counts = {0, 0, 0, 0, 0, 0, 0, 0, 0, 0, 0};
-    uint32_t answer = gcflip_heap_counts(heap, &counts);
-    uint32_t due = answer == GCFLIP_DONE ? gcflip_pace_due(pace, &counts, wanted) : 0;
-    if (due == 0 || pace->factor < 100 || pace->factor > 10000)
+    gcflip_pace after = *pace;
+    uint32_t due, answer = gcflip_heap_pace(heap, &after);
+    if (answer != GCFLIP_DONE)
+        return answer;
+    gcflip_heap_counts(heap, &counts);
+    due = gcflip_pace_due(pace, &counts, wanted);
+    if (due == 0)
         return gcflip_heap_work_paced(heap, pace, wanted, work);
     answer = gcflip_record_steps(heap, due, 0, work);
     if (answer != GCFLIP_DONE)
         return answer;
-    gcflip_heap_counts(heap, &counts);
-    pace->end = counts.end;
-    pace->logged = counts.logged;
-    if (work->last == GCFLIP_FLIPPED)
-        pace->left = counts.end;
+    gcflip_heap_pace(heap, &after);
+    if (work->last != GCFLIP_FLIPPED)
+        after.left = pace->left;
+    *pace = after;
     return GCFLIP_DONE;
 }
 

@@ -129,6 +129,51 @@ static void steps(void)
     close_heap();
 }
 
+static bool is_useful(uint32_t name, uint32_t mutator)
+{
+    gcflip_step step = {77, 77};
+    EXPECT(gcflip_heap_useful(&heap, &step) == GCFLIP_DONE);
+    return step.name == name && step.mutator == mutator;
+}
+
+/* Tests that each useful step is named before it is performed: of a heap with one object, to which mutators 1 and 0 write. */
+static void useful_step_names(void)
+{
+    uint32_t pairs = 77;
+    open_heap(32, 2);
+    REPLIES(gcflip_heap_new_object(&heap, 1, 16, KIND, 1), GCFLIP_MADE);
+    EXPECT(is_useful(GCFLIP_STEP_BEGIN, 0) && is_useful(GCFLIP_STEP_BEGIN, 0));
+    REPLIES(gcflip_heap_step_begin_sized(&heap, 3), GCFLIP_BEGUN);
+    EXPECT(is_useful(GCFLIP_STEP_ROOTS, 0));
+    REPLIES(gcflip_heap_step_roots(&heap), GCFLIP_NO_ROOM);
+    EXPECT(is_useful(GCFLIP_STEP_ROOTS, 0));
+    REPLIES(gcflip_heap_step_give_up(&heap), GCFLIP_DROPPED);
+    EXPECT(is_useful(GCFLIP_STEP_BEGIN, 0));
+    REPLIES(gcflip_heap_step_begin(&heap), GCFLIP_BEGUN);
+    EXPECT(is_useful(GCFLIP_STEP_ROOTS, 0));
+    REPLIES(gcflip_heap_step_roots(&heap), GCFLIP_COPIED);
+    EXPECT(is_useful(GCFLIP_STEP_SCAN, 0));
+    REPLIES(gcflip_heap_step_scan(&heap), GCFLIP_SCANNED);
+    EXPECT(is_useful(GCFLIP_STEP_SCAN, 0));
+    REPLIES(gcflip_heap_step_scan(&heap), GCFLIP_PASSED);
+    EXPECT(is_useful(GCFLIP_STEP_FLIP, 0));
+    REPLIES(gcflip_heap_put(&heap, 1, 16, 0, 0), GCFLIP_DONE);
+    EXPECT(is_useful(GCFLIP_STEP_APPLY, 1));
+    REPLIES(gcflip_heap_put(&heap, 0, 16, 0, 0), GCFLIP_DONE);
+    EXPECT(is_useful(GCFLIP_STEP_APPLY, 0));
+    REPLIES(gcflip_heap_step_apply(&heap, 0), GCFLIP_APPLIED);
+    EXPECT(is_useful(GCFLIP_STEP_APPLY, 1));
+    REPLIES(gcflip_heap_new_object(&heap, 0, 5, KIND, 0), GCFLIP_MADE);
+    EXPECT(is_useful(GCFLIP_STEP_ROOTS, 0));
+    REPLIES(gcflip_heap_step_roots(&heap), GCFLIP_COPIED);
+    REPLIES(gcflip_heap_step_scan(&heap), GCFLIP_PASSED);
+    REPLIES(gcflip_heap_step_apply(&heap, 1), GCFLIP_APPLIED);
+    EXPECT(is_useful(GCFLIP_STEP_FLIP, 0));
+    REPLIES(gcflip_heap_step_flip(&heap, &pairs), GCFLIP_FLIPPED);
+    EXPECT(pairs == 2 && is_useful(GCFLIP_STEP_BEGIN, 0));
+    close_heap();
+}
+
 /* Tests the useful steps of a heap with one object: begin, one root, one field, the end of the object, the flip. */
 static void useful_steps(void)
 {
@@ -378,6 +423,7 @@ static void behind_the_words_of_a_text(void)
 static void closed(void)
 {
     const gcflip_view before = {77, 77, 77};
+    gcflip_step step = {77, 77};
     view = before;
     number = pairs = 77;
     EXPECT(gcflip_heap_close(&heap) == GCFLIP_CLOSED);
@@ -404,6 +450,7 @@ static void closed(void)
     EXPECT(gcflip_heap_work(&heap, 1, &work) == GCFLIP_CLOSED);
     EXPECT(gcflip_heap_work_sized(&heap, 1, 8, &work) == GCFLIP_CLOSED);
     EXPECT(gcflip_heap_work_sized(&heap, 0, 0, &work) == GCFLIP_CLOSED);
+    EXPECT(gcflip_heap_useful(&heap, &step) == GCFLIP_CLOSED && step.name == 77 && step.mutator == 77);
     EXPECT(gcflip_heap_counts(&heap, &counts) == GCFLIP_CLOSED);
     EXPECT(gcflip_heap_log_length(&heap, 0, &length) == GCFLIP_CLOSED);
     EXPECT(gcflip_heap_log_entry(&heap, 0, 0, &entry) == GCFLIP_CLOSED);
@@ -433,6 +480,7 @@ int main(void)
     commands();
     steps();
     useful_steps();
+    useful_step_names();
     sized_work();
     readings();
     copied_images_are_certified();

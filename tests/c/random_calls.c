@@ -93,6 +93,25 @@ static void work(uint32_t most)
     printf("\n");
 }
 
+static void useful(void)
+{
+    static const char *const names[] = {"", "begin", "begin_sized", "roots", "scan", "apply", "flip", "drop"};
+    gcflip_step step = {KEPT_32, KEPT_32};
+    uint32_t answer = gcflip_heap_useful(&heap, &step);
+    if (answer != GCFLIP_DONE) {
+        EXPECT(step.name == KEPT_32 && step.mutator == KEPT_32);
+        printf("%s\n", reply(answer));
+        return;
+    }
+    EXPECT(step.name < sizeof names / sizeof names[0]);
+    printf("useful %s", names[step.name]);
+    if (step.name == GCFLIP_STEP_APPLY)
+        printf(" %u", step.mutator);
+    else
+        EXPECT(step.mutator == 0);
+    printf("\n");
+}
+
 static void counts(void)
 {
     gcflip_counts c;
@@ -209,6 +228,7 @@ static void perform(const char *name)
     else if (IS("get")) get(m, d, (uint8_t)a[2], (uint16_t)a[3]);
     else if (IS("flip")) flip();
     else if (IS("work")) work((uint32_t)a[0]);
+    else if (IS("useful")) useful();
     else if (IS("counts")) counts();
     else if (IS("log")) print_log(m);
     else if (IS("image")) image(a[0], a[1]);

@@ -224,6 +224,16 @@ class Model:
         except NoRoom:
             return "no room"
 
+    def next_step(self):
+        """Returns the name of the useful step, with the mutator whose log it applies."""
+        if not self.new:
+            return "begin"
+        if not all(map(self.copied, self.roots)):
+            return "roots"
+        if self.scan_place < len(self.new.words):
+            return "scan"
+        return next(("apply %d" % m for m, log in enumerate(self.logs) if log), "flip")
+
     def useful(self):
         """Performs the useful step, and returns its line in a trace and its reply."""
         if not self.new:

@@ -10,7 +10,7 @@ SIZES = [1, 2, 3, 8, 20, 40, 80, 120, 200, 400]
 OUT_OF_RANGE, CLOSED, OPEN = "out of range", "closed", "open"
 # Each call with how often it is made. `session` closes the heap and opens another.
 WEIGHTS = {"new": 8, "raw": 4, "num": 5, "nil": 2, "move": 6, "get": 9, "put": 10, "put_number": 5, "cons": 4, "new_from": 4, "same": 4, "look": 5,
-           "begin": 2, "begin_sized": 1, "roots": 7, "scan": 14, "apply": 5, "flip": 4, "drop": 0.4, "work": 4, "counts": 3, "log": 2,
+           "begin": 2, "begin_sized": 1, "roots": 7, "scan": 14, "apply": 5, "flip": 4, "drop": 0.4, "work": 4, "useful": 4, "counts": 3, "log": 2,
            "image": 2, "new_words": 2, "wrong": 4, "session": 0.7}
 COMMANDS = ("new", "raw", "num", "nil", "move", "get", "put", "same", "look")
 
@@ -79,7 +79,7 @@ class Calls:
             self.call(["close"], "done")
             self.model = None
         for _ in range(self.chance.randrange(3)):
-            self.call(self.chance.choice([["num", 0, 0, 5], ["roots"], ["work", 3], ["close"], ["counts"]]), CLOSED)
+            self.call(self.chance.choice([["num", 0, 0, 5], ["roots"], ["work", 3], ["useful"], ["close"], ["counts"]]), CLOSED)
         if self.chance.random() < 0.3:
             self.call(["open", *self.chance.choice([(0, 1), (9, 0), (9, 17), (9, 255)])], OUT_OF_RANGE)
         size = self.chance.choice(SIZES + [self.chance.randrange(1, 6000), 70000])
@@ -195,6 +195,9 @@ class Calls:
         self.call(["work", most], "worked %d %d %s" % (len(made), end - start, last), [line for line, _ in made], [reply for _, reply in made])
 
     # ---- calls that read, and calls that are out of range
+
+    def add_useful(self):
+        self.call(["useful"], "useful " + self.model.next_step())
 
     def add_counts(self):
         self.call(["counts"], "counts " + " ".join(map(str, self.model.counts())))

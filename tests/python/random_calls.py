@@ -63,6 +63,8 @@ def performed(heap, name, numbers):
         return reading(heap, name, numbers)
     if name == "work":
         return worked(heap.work(*numbers))
+    if name == "useful":
+        return "useful " + " ".join(str(part) for part in heap.useful() if part is not None)
     if name == "flip":
         return "flipped %d" % heap.flip()
     if name in ("begin", "begin_sized"):

@@ -12,7 +12,7 @@ from . import library
 from .checker import Image
 from .errors import (Busy, Closed, FlipRefused, Full, GcflipError, HeapRefused, Idle, NoField, NoNumber, NoObject, NoRoom, NotReady,
                      OutOfMemory, OutOfRange)
-from .library import COUNTS, HEAP, LIBRARY, MUTATOR, SLOT, Answer, check_ranges
+from .library import COUNTS, HEAP, LIBRARY, MUTATOR, SLOT, Answer, StepName, check_ranges
 
 SLOTS = 16
 NOTHING_DONE: dict[int, type[GcflipError]] = {
@@ -87,6 +87,13 @@ class Step(enum.Enum):
 
 def _step_of(answer: int) -> Step:
     return Step[Answer(answer).name]
+
+
+class Useful(NamedTuple):
+    """The useful step: the name of the method that performs it, and the mutator whose log `apply` applies, or None."""
+
+    name: str
+    mutator: int | None
 
 
 class Work(NamedTuple):
@@ -220,12 +227,19 @@ class Heap:
         """Frees the new space and the logs: DROPPED. Raises Idle."""
         return self._step("give_up")
 
-    def work(self, most: int, size: int | None = None) -> Work:
-        """Performs at most `most` useful steps; `most` is not 0. If one of them begins a collection, the new space is as large as the
-        heap, or has `size` words, at least 1.
+    def useful(self) -> Useful:
+        """Returns the useful step, and performs none. It begins a collection if none is open. Otherwise it is the first of roots, scan and
+        apply with something left to do, and the flip if none of them has."""
+        step = library.RawStep()
+        self._call("useful", step)
+        name = StepName(step.name)
+        return Useful(name.name.lower(), step.mutator if name == StepName.APPLY else None)
 
-        The useful step begins a collection if none is open. Otherwise it is the first of roots, scan and apply with something
-        left to do, and the flip if none of them has. The call ends after a flip, and after a step that finds no room. If an
+    def work(self, most: int, size: int | None = None) -> Work:
+        """Performs at most `most` useful steps, as `useful` names them; `most` is not 0. If one of them begins a collection, the new space
+        is as large as the heap, or has `size` words, at least 1.
+
+        The call ends after a flip, and after a step that finds no room. If an
         allocation fails, it ends before that step; it raises OutOfMemory only if that was the first step.
         """
         work = library.Work()

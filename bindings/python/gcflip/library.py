@@ -22,6 +22,10 @@ class View(ctypes.Structure):
     _fields_ = [("kind", c_uint32), ("count", c_uint32), ("number", c_uint64)]
 
 
+class RawStep(ctypes.Structure):
+    _fields_ = [("name", c_uint32), ("mutator", c_uint32)]
+
+
 class Work(ctypes.Structure):
     _fields_ = [("steps", c_uint32), ("copied", c_uint32), ("last", c_uint32), ("pairs", c_uint32)]
 
@@ -68,6 +72,18 @@ class Answer(enum.IntEnum):
     ENDS_EARLY = 50
     NO_PATH = 51
     LONG_PATH = 52
+
+
+class StepName(enum.IntEnum):
+    """The numbers that stand for steps."""
+
+    BEGIN = 1
+    BEGIN_SIZED = 2
+    ROOTS = 3
+    SCAN = 4
+    APPLY = 5
+    FLIP = 6
+    GIVE_UP = 7
 
 
 COUNTS = ("size", "end", "free", "mutators", "extra_roots", "is_open", "new_size", "new_end", "scan_place", "scan_field", "logged")
@@ -129,6 +145,7 @@ HEAP = {
     "step_apply": [MUTATOR],
     "step_flip": [POINTER(c_uint32)],
     "step_give_up": [],
+    "useful": [POINTER(RawStep)],
     "work": [c_uint32, POINTER(Work)],
     "pace": [POINTER(RawPace)],
     "work_paced": [POINTER(RawPace), c_uint32, POINTER(Work)],

@@ -174,6 +174,21 @@ pub enum Step {
     NoRoom,
 }
 
+/// The useful step of a heap, named for the call that performs it.
+#[derive(Clone, Copy, Debug, PartialEq, Eq, Hash)]
+pub enum Useful {
+    /// [`Heap::begin`], or [`Heap::begin_sized`]: no collection is open.
+    Begin,
+    /// [`Heap::roots`]: the target of some root has no replica.
+    Roots,
+    /// [`Heap::scan`]: some replica is not scanned.
+    Scan,
+    /// [`Heap::apply`] of this mutator's log.
+    Apply(u8),
+    /// [`Heap::flip`]: nothing else is left to do.
+    Flip,
+}
+
 /// What [`Heap::work`] did.
 #[derive(Clone, Copy, Debug, PartialEq, Eq, Hash)]
 pub struct Work {
@@ -415,10 +430,22 @@ impl Heap {
         replied(self.handle.give_up()).map(drop)
     }
 
-    /// Performs at most `most` useful steps.
+    /// Returns the useful step, and performs none.
     ///
-    /// The useful step begins a collection if none is open. Otherwise it is the first of roots, scan and apply with something left to do, and the
-    /// flip if none of them has. The call ends after a flip, and after a step that finds no room. If an allocation fails, it ends before that step.
+    /// It begins a collection if none is open. Otherwise it is the first of roots, scan and apply with something left to do, and the flip if none
+    /// of them has.
+    pub fn useful(&self) -> Useful {
+        let (_, step) = self.handle.useful();
+        match step.name {
+            sys::GCFLIP_STEP_BEGIN => Useful::Begin,
+            sys::GCFLIP_STEP_ROOTS => Useful::Roots,
+            sys::GCFLIP_STEP_SCAN => Useful::Scan,
+            sys::GCFLIP_STEP_APPLY => Useful::Apply(step.mutator as u8),
+            _ => Useful::Flip,
+        }
+    }
+
+    /// Performs at most `most` useful steps, as [`Heap::useful`] names them. The call ends after a flip, and after a step that finds no room. If an allocation fails, it ends before that step.
     ///
     /// # Errors
     ///

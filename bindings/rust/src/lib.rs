@@ -56,6 +56,6 @@ mod inference;
 mod sys;
 
 pub use checker::{check, check_text, Image, Refusal, TextRefusal, Yes};
-pub use heap::{Counts, Error, Heap, Mutator, Options, OwnedImage, Result, Slot, Step, Value, Work};
+pub use heap::{Counts, Error, Heap, Mutator, Options, OwnedImage, Result, Slot, Step, Useful, Value, Work};
 pub use inference::{compare, path_to, Comparison, NoMemory, Path};
 pub use sys::{version, Frame, LogEntry, Pace, Pair};

@@ -80,6 +80,13 @@ pub struct RawView {
 
 #[repr(C)]
 #[derive(Default)]
+pub struct RawStep {
+    pub name: u32,
+    pub mutator: u32,
+}
+
+#[repr(C)]
+#[derive(Default)]
 pub struct RawWork {
     pub steps: u32,
     pub copied: u32,
@@ -196,6 +203,13 @@ numbers! {
     GCFLIP_ENDS_EARLY = 50,
     GCFLIP_NO_PATH = 51,
     GCFLIP_LONG_PATH = 52,
+    GCFLIP_STEP_BEGIN = 1,
+    GCFLIP_STEP_BEGIN_SIZED = 2,
+    GCFLIP_STEP_ROOTS = 3,
+    GCFLIP_STEP_SCAN = 4,
+    GCFLIP_STEP_APPLY = 5,
+    GCFLIP_STEP_FLIP = 6,
+    GCFLIP_STEP_GIVE_UP = 7,
     GCFLIP_VERSION = 100,
 }
 
@@ -232,8 +246,8 @@ calls! {
     gcflip_heap_put_number(*mut RawHeap, u8, u8, u16, u8, u64);
     gcflip_heap_new_pair(*mut RawHeap, u8, u8, u8, u8, u8);
     gcflip_heap_new_from(*mut RawHeap, u8, u8, u8, *const u8, usize);
-    gcflip_heap_same(*mut RawHeap, u8, u8, u8);
-    gcflip_heap_look(*mut RawHeap, u8, u8, *mut RawView);
+    gcflip_heap_same(*const RawHeap, u8, u8, u8);
+    gcflip_heap_look(*const RawHeap, u8, u8, *mut RawView);
     gcflip_heap_root_load(*mut RawHeap, u8, u8, u32);
     gcflip_heap_root_store(*mut RawHeap, u8, u32, u8);
     gcflip_heap_root_clear(*mut RawHeap, u32, u32);
@@ -246,16 +260,17 @@ calls! {
     gcflip_heap_step_apply(*mut RawHeap, u8);
     gcflip_heap_step_flip(*mut RawHeap, *mut u32);
     gcflip_heap_step_give_up(*mut RawHeap);
+    gcflip_heap_useful(*mut RawHeap, *mut RawStep);
     gcflip_heap_work(*mut RawHeap, u32, *mut RawWork);
     gcflip_heap_work_sized(*mut RawHeap, u32, u32, *mut RawWork);
-    gcflip_heap_pace(*mut RawHeap, *mut Pace);
+    gcflip_heap_pace(*const RawHeap, *mut Pace);
     gcflip_pace_due(*const Pace, *const RawCounts, u32);
     gcflip_heap_work_paced(*mut RawHeap, *mut Pace, u32, *mut RawWork);
-    gcflip_heap_counts(*mut RawHeap, *mut RawCounts);
-    gcflip_heap_log_length(*mut RawHeap, u8, *mut usize);
-    gcflip_heap_log_entry(*mut RawHeap, u8, usize, *mut LogEntry);
-    gcflip_heap_image(*mut RawHeap, *mut u64, usize, *mut u64, usize);
-    gcflip_heap_new_words(*mut RawHeap, *mut u64, usize);
+    gcflip_heap_counts(*const RawHeap, *mut RawCounts);
+    gcflip_heap_log_length(*const RawHeap, u8, *mut usize);
+    gcflip_heap_log_entry(*const RawHeap, u8, usize, *mut LogEntry);
+    gcflip_heap_image(*const RawHeap, *mut u64, usize, *mut u64, usize);
+    gcflip_heap_new_words(*const RawHeap, *mut u64, usize);
 }
 
 // ---- The checker
@@ -406,6 +421,7 @@ results! {
     get: gcflip_heap_get(m: u8, d: u8, s: u8, i: u16) -> u64;
     look: gcflip_heap_look(m: u8, s: u8) -> RawView;
     flip: gcflip_heap_step_flip() -> u32;
+    useful: gcflip_heap_useful() -> RawStep;
     work: gcflip_heap_work(most: u32) -> RawWork;
     work_sized: gcflip_heap_work_sized(most: u32, size: u32) -> RawWork;
     work_paced: gcflip_heap_work_paced(pace: &mut Pace, wanted: u32) -> RawWork;

@@ -1,6 +1,6 @@
 //! Tests each call on a heap, and each error but `FlipRefused`, which is proved never to occur, and `NoMemory` (out_of_memory.rs).
 
-use gcflip::{check, Error, Frame, Heap, LogEntry, Options, Pace, Pair, Slot, Step, Value};
+use gcflip::{check, Error, Frame, Heap, LogEntry, Options, Pace, Pair, Slot, Step, Useful, Value};
 
 const A: Slot = Slot::own(0);
 const B: Slot = Slot::own(1);
@@ -131,6 +131,25 @@ fn work() {
     let sized = heap.work_sized(9, 9).unwrap();
     assert_eq!((sized.steps, sized.copied, sized.last, heap.counts().size), (6, 4, Step::Flipped { pairs: 1 }, 9));
     assert_eq!(heap.work_sized(9, 4).unwrap().last, Step::NoRoom);
+}
+
+#[test]
+fn useful_steps_are_named() {
+    let heap = prepared();
+    let mutator = heap.mutator(0).unwrap();
+    assert_eq!(heap.useful(), Useful::Begin);
+    heap.begin().unwrap();
+    assert_eq!(heap.useful(), Useful::Roots);
+    assert_eq!(heap.roots(), Ok(Step::Copied));
+    while heap.useful() == Useful::Scan {
+        assert_ne!(heap.scan(), Ok(Step::Clean));
+    }
+    assert_eq!((heap.useful(), heap.scan()), (Useful::Flip, Ok(Step::Clean)));
+    mutator.put(SHARED, 0, A).unwrap();
+    assert_eq!(heap.useful(), Useful::Apply(0));
+    assert_eq!(heap.apply(0), Ok(Step::Applied));
+    assert_eq!((heap.useful(), heap.flip()), (Useful::Flip, Ok(1)));
+    assert_eq!(heap.useful(), Useful::Begin);
 }
 
 #[test]

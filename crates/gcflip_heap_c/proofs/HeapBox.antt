@@ -1,9 +1,10 @@
 -- A box of a collected heap over the C library's allocator. Its parts own what it owns, and so does a heap's handle.
+use Rattle.std.proofs.Common.{◌≡◌, refl, true, false, Option, Some, None, IsSome}
 use mathlib.Core.List.{[]}
 use mir.Syntax.{impl, tnil, dnil}
 use denote.RattleType.{RattleType}
 use denote.Signature.{Slot, plain}
-use Rattle.std_alloc.proofs.BoxSteps.Form.{Bx}
+use Rattle.std_alloc.proofs.BoxSteps.Form.{Bx, X}
 use Rattle.std.specs.contracts.alloc.Global as Global
 use Rattle.std.specs.contracts.impls.GlobalAllocator.TheImpl.{ghosts, dict}
 use Rattle.std.proofs.alloc.Global.TheLaws as global
@@ -24,3 +25,8 @@ its_parts = plain (λ _. Held)
 
 abbrev pub its_handle : Slot 0
 its_handle = plain (λ _. Handle.the_row)
+
+-- the state that a handle has
+pub there : (state : Option (X heap_box)) → IsSome state → (heap : X heap_box) × (state ≡ Some heap)
+there None is = absurd (let never : false ≡ true = is in cc)
+there (Some heap) is = (heap, refl)

@@ -45,10 +45,14 @@ IsClearCall from to old new answer = IsCall (IsNoRange from to) (Clears from to 
 
 -- ---- frames
 
--- the state has no mutator m or not all roots of the frame, the frame's numbers are not in order, or there is no such slot
+-- the frame's numbers are in order, and the state has its roots
+abbrev pub HasFrame : GcflipFrame → State → Type 0
+HasFrame frame s = (frame.first ≤ frame.top) × (frame.top ≤ frame.end) × (frame.end ≤ extra_roots_of s)
+
+-- the state has no mutator m or no such frame, or there is no such slot
 abbrev pub IsNoFrame : ℕ → Option SlotName → GcflipFrame → State → Type 0
 IsNoFrame m None frame s = ⊤
-IsNoFrame m (Some slot) frame s = (s.mutators ≤ m) ⊎ (frame.top < frame.first) ⊎ (frame.end < frame.top) ⊎ (extra_roots_of s < frame.end)
+IsNoFrame m (Some slot) frame s = (s.mutators ≤ m) ⊎ (¬ HasFrame frame s)
 
 -- What a call on a frame returns, and the heap and the frame after it. `did` is what the call does unless it is refused. `lacks` says
 -- that the frame has no place or no value for it, for which the call returns `lack`.

@@ -9,6 +9,17 @@ use Rattle.gc_copy.specs.declared.step.StepReply.TheVariants as replies
 use Rattle.gc_core.specs.CollectedHeap.{Allocates}
 use Rattle.gc_core.specs.Flip.{FlipsOnly, IsCertified, PassesIfReady, HasRoomIfLarge}
 use Rattle.gcflip_heap_c.specs.Replies.{IsRefusal, step_reply_in_c}
+use Rattle.gcflip_heap_c.specs.declared.stepping.GcflipStep.{GcflipStep}
+
+-- the step as C sees it
+abbrev pub step_in_c : Step → GcflipStep
+step_in_c steps.Begin = record { name = 1; mutator = 0 }
+step_in_c (steps.BeginSized size) = record { name = 2; mutator = 0 }
+step_in_c steps.Roots = record { name = 3; mutator = 0 }
+step_in_c steps.Scan = record { name = 4; mutator = 0 }
+step_in_c (steps.Apply m) = record { name = 5; mutator = m }
+step_in_c steps.Flip = record { name = 6; mutator = 0 }
+step_in_c steps.Drop = record { name = 7; mutator = 0 }
 
 -- the step's size is out of range, or its log does not exist in this state
 abbrev pub IsNoStep : Step → State → Type 0

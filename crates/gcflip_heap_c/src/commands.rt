@@ -1,17 +1,18 @@
-//! Mutators' commands on a heap, with C's numbers as arguments.
+//! The exports that perform mutators' commands, with C's numbers as arguments.
 
-ghost use Rattle.std.specs.Prelude.{◌≡◌, ◌≢◌, ◌<◌, ◌↔◌, ◌∷◌, [], Some, IsSome, IsTrue};
+ghost use Rattle.std.specs.Prelude.{◌≡◌, ◌≢◌, ◌<◌, ◌↔◌, ◌∷◌, [], IsSomeAnd, IsSome, IsTrue};
 ghost use Rattle.std.specs.List.{AllByRecursion};
-ghost use Rattle.gc_core.specs.Slots.{slot_numbers};
 ghost use Rattle.std.specs.Option.{option_map};
 ghost use Rattle.gc_graph.specs.declared.command.Op.{Op};
 ghost use Rattle.gc_heap.specs.Commands.{fetched_of};
+ghost use Rattle.gc_core.specs.Slots.{slot_numbers};
 ghost use Rattle.gcflip_heap_c.specs.Commands.{slot_at, number_in, with_both, IsCommandCall, IsPutNumberCall, IsNewFromCall};
 ghost use Rattle.gcflip_heap_c.specs.Replies.{IsRefusal, reply_in_c, fetched_in_c, number_after, view_after};
 
-use crate::answer::{NO_MEMORY, OUT_OF_RANGE};
+use crate::answer::{CLOSED, NO_MEMORY, OUT_OF_RANGE};
+use crate::handle::GcflipHeap;
 use crate::reply::{GcflipView, of_fetched, of_look, of_reply};
-use gc_core::{CollectedHeap, SLOT_NUMBERS, numbered_slot};
+use gc_core::{SLOT_NUMBERS, numbered_slot};
 use gc_graph::{NoMemory, Number, Slot};
 
 /// Returns the slot with this number, or `None` if there is no such slot.
@@ -37,11 +38,23 @@ fn are_slots(numbers: &[u8]) -> bool
     true
 }
 
-pub(crate) fn new(heap: &mut CollectedHeap, m: u8, d: u8, kind: u8, count: u16) -> u32
-    ensures call { IsCommandCall m (option_map (λ d. Op.New d kind count) (slot_at d)) (λ reply. result ≡ reply_in_c reply)
-        (Some heap.old) (Some heap.new) result }
+/// Makes an object of this kind with `count` fields, all nil, and puts a reference to it into slot `d`.
+#[unsafe(no_mangle)]
+pub extern "C" fn gcflip_heap_new_object(
+    heap: &mut GcflipHeap,
+    m: u8,
+    d: u8,
+    kind: u8,
+    count: u16,
+) -> u32
+    ensures call { IsCommandCall m (option_map (λ d. Op.New d kind count) (slot_at d))
+        (λ reply. result ≡ reply_in_c reply) heap.old.state heap.new.state result }
     ensures memory { result ≢ 1 }
 {
+    if heap.is_empty() {
+        return CLOSED;
+    }
+    let heap = heap.heap_mut();
     if m >= heap.mutators() {
         return OUT_OF_RANGE;
     }
@@ -51,11 +64,23 @@ pub(crate) fn new(heap: &mut CollectedHeap, m: u8, d: u8, kind: u8, count: u16) 
     of_reply(&heap.new_object(m, d, kind, count))
 }
 
-pub(crate) fn raw(heap: &mut CollectedHeap, m: u8, d: u8, kind: u8, count: u16) -> u32
-    ensures call { IsCommandCall m (option_map (λ d. Op.NewRaw d kind count) (slot_at d)) (λ reply. result ≡ reply_in_c reply)
-        (Some heap.old) (Some heap.new) result }
+/// Makes a raw object of this kind, with `count` fields that are numbers, all 0. Puts a reference to it into slot `d`.
+#[unsafe(no_mangle)]
+pub extern "C" fn gcflip_heap_new_raw(
+    heap: &mut GcflipHeap,
+    m: u8,
+    d: u8,
+    kind: u8,
+    count: u16,
+) -> u32
+    ensures call { IsCommandCall m (option_map (λ d. Op.NewRaw d kind count) (slot_at d))
+        (λ reply. result ≡ reply_in_c reply) heap.old.state heap.new.state result }
     ensures memory { result ≢ 1 }
 {
+    if heap.is_empty() {
+        return CLOSED;
+    }
+    let heap = heap.heap_mut();
     if m >= heap.mutators() {
         return OUT_OF_RANGE;
     }
@@ -65,28 +90,40 @@ pub(crate) fn raw(heap: &mut CollectedHeap, m: u8, d: u8, kind: u8, count: u16) 
     of_reply(&heap.new_raw(m, d, kind, count))
 }
 
-pub(crate) fn num(heap: &mut CollectedHeap, m: u8, d: u8, n: u64) -> u32
-    ensures call { IsCommandCall m (with_both (slot_at d) (number_in n) Op.Num) (λ reply. result ≡ reply_in_c reply)
-        (Some heap.old) (Some heap.new) result }
+/// Puts the number `n`, which must be below 2^63, into slot `d`.
+#[unsafe(no_mangle)]
+pub extern "C" fn gcflip_heap_set_number(heap: &mut GcflipHeap, m: u8, d: u8, n: u64) -> u32
+    ensures call { IsCommandCall m (with_both (slot_at d) (number_in n) Op.Num)
+        (λ reply. result ≡ reply_in_c reply) heap.old.state heap.new.state result }
     ensures memory { result ≢ 1 }
 {
+    if heap.is_empty() {
+        return CLOSED;
+    }
+    let heap = heap.heap_mut();
     if m >= heap.mutators() {
         return OUT_OF_RANGE;
     }
     let Some(d) = slot(d) else {
         return OUT_OF_RANGE;
     };
-    let Some(n) = Number::new(n) else {
+    let Some(number) = Number::new(n) else {
         return OUT_OF_RANGE;
     };
-    of_reply(&heap.num(m, d, n))
+    of_reply(&heap.num(m, d, number))
 }
 
-pub(crate) fn nil(heap: &mut CollectedHeap, m: u8, d: u8) -> u32
-    ensures call { IsCommandCall m (option_map Op.Nil (slot_at d)) (λ reply. result ≡ reply_in_c reply)
-        (Some heap.old) (Some heap.new) result }
+/// Puts nil into slot `d`.
+#[unsafe(no_mangle)]
+pub extern "C" fn gcflip_heap_set_nil(heap: &mut GcflipHeap, m: u8, d: u8) -> u32
+    ensures call { IsCommandCall m (option_map Op.Nil (slot_at d))
+        (λ reply. result ≡ reply_in_c reply) heap.old.state heap.new.state result }
     ensures memory { result ≢ 1 }
 {
+    if heap.is_empty() {
+        return CLOSED;
+    }
+    let heap = heap.heap_mut();
     if m >= heap.mutators() {
         return OUT_OF_RANGE;
     }
@@ -96,11 +133,17 @@ pub(crate) fn nil(heap: &mut CollectedHeap, m: u8, d: u8) -> u32
     of_reply(&heap.nil(m, d))
 }
 
-pub(crate) fn moved(heap: &mut CollectedHeap, m: u8, d: u8, s: u8) -> u32
-    ensures call { IsCommandCall m (with_both (slot_at d) (slot_at s) Op.Move) (λ reply. result ≡ reply_in_c reply)
-        (Some heap.old) (Some heap.new) result }
+/// Copies the value of slot `s` into slot `d`.
+#[unsafe(no_mangle)]
+pub extern "C" fn gcflip_heap_move(heap: &mut GcflipHeap, m: u8, d: u8, s: u8) -> u32
+    ensures call { IsCommandCall m (with_both (slot_at d) (slot_at s) Op.Move)
+        (λ reply. result ≡ reply_in_c reply) heap.old.state heap.new.state result }
     ensures memory { result ≢ 1 }
 {
+    if heap.is_empty() {
+        return CLOSED;
+    }
+    let heap = heap.heap_mut();
     if m >= heap.mutators() {
         return OUT_OF_RANGE;
     }
@@ -113,12 +156,26 @@ pub(crate) fn moved(heap: &mut CollectedHeap, m: u8, d: u8, s: u8) -> u32
     of_reply(&heap.move_slot(m, d, s))
 }
 
-pub(crate) fn get(heap: &mut CollectedHeap, m: u8, d: u8, s: u8, i: u16, number: &mut u64) -> u32
+/// Reads field `i` of the object that slot `s` refers to into slot `d`. If the value is a number, also writes it to
+/// `number`. If it is a reference, the reply does not say whether the object is raw.
+#[unsafe(no_mangle)]
+pub extern "C" fn gcflip_heap_get(
+    heap: &mut GcflipHeap,
+    m: u8,
+    d: u8,
+    s: u8,
+    i: u16,
+    number: &mut u64,
+) -> u32
     ensures call { IsCommandCall m (with_both (slot_at d) (slot_at s) (λ d s. Op.Get d s i))
-        (λ reply. (result ≡ fetched_in_c (fetched_of reply)) × (number.new ≡ number_after number.old (fetched_of reply))) (Some heap.old) (Some heap.new) result }
+        (λ reply. (result ≡ fetched_in_c (fetched_of reply)) × (number.new ≡ number_after number.old (fetched_of reply))) heap.old.state heap.new.state result }
     ensures silent { IsRefusal result → number.new ≡ number.old }
     ensures memory { result ≢ 1 }
 {
+    if heap.is_empty() {
+        return CLOSED;
+    }
+    let heap = heap.heap_mut();
     if m >= heap.mutators() {
         return OUT_OF_RANGE;
     }
@@ -131,11 +188,18 @@ pub(crate) fn get(heap: &mut CollectedHeap, m: u8, d: u8, s: u8, i: u16, number:
     of_fetched(heap.fetch(m, d, s, i), number)
 }
 
-pub(crate) fn put(heap: &mut CollectedHeap, m: u8, s: u8, i: u16, t: u8) -> u32
-    ensures call { IsCommandCall m (with_both (slot_at s) (slot_at t) (λ s t. Op.Put s i t)) (λ reply. result ≡ reply_in_c reply)
-        (Some heap.old) (Some heap.new) result }
-    ensures memory { result ≡ 1 → IsSome heap.old.collection }
+/// Writes the value of slot `t` to field `i` of the object that slot `s` refers to. Allocates only while a collection
+/// is open.
+#[unsafe(no_mangle)]
+pub extern "C" fn gcflip_heap_put(heap: &mut GcflipHeap, m: u8, s: u8, i: u16, t: u8) -> u32
+    ensures call { IsCommandCall m (with_both (slot_at s) (slot_at t) (λ s t. Op.Put s i t))
+        (λ reply. result ≡ reply_in_c reply) heap.old.state heap.new.state result }
+    ensures memory { result ≡ 1 → IsSomeAnd heap.old.state (λ s. IsSome s.collection) }
 {
+    if heap.is_empty() {
+        return CLOSED;
+    }
+    let heap = heap.heap_mut();
     if m >= heap.mutators() {
         return OUT_OF_RANGE;
     }
@@ -151,10 +215,24 @@ pub(crate) fn put(heap: &mut CollectedHeap, m: u8, s: u8, i: u16, t: u8) -> u32
     }
 }
 
-pub(crate) fn put_number(heap: &mut CollectedHeap, m: u8, s: u8, i: u16, t: u8, n: u64) -> u32
-    ensures call { IsPutNumberCall m (slot_at s) i (slot_at t) (number_in n) (Some heap.old) (Some heap.new) result }
-    ensures memory { result ≡ 1 → IsSome heap.old.collection }
+/// Puts the number `n` into slot `t`, and then writes it to field `i` of the object that slot `s` refers to. This is a
+/// `gcflip_heap_set_number` followed by a `gcflip_heap_put`, in one call. Allocates only while a collection is open.
+#[unsafe(no_mangle)]
+pub extern "C" fn gcflip_heap_put_number(
+    heap: &mut GcflipHeap,
+    m: u8,
+    s: u8,
+    i: u16,
+    t: u8,
+    n: u64,
+) -> u32
+    ensures call { IsPutNumberCall m (slot_at s) i (slot_at t) (number_in n) heap.old.state heap.new.state result }
+    ensures memory { result ≡ 1 → IsSomeAnd heap.old.state (λ s. IsSome s.collection) }
 {
+    if heap.is_empty() {
+        return CLOSED;
+    }
+    let heap = heap.heap_mut();
     if m >= heap.mutators() {
         return OUT_OF_RANGE;
     }
@@ -173,10 +251,25 @@ pub(crate) fn put_number(heap: &mut CollectedHeap, m: u8, s: u8, i: u16, t: u8, 
     }
 }
 
-pub(crate) fn cons(heap: &mut CollectedHeap, m: u8, d: u8, kind: u8, s: u8, t: u8) -> u32
-    ensures call { IsNewFromCall m d kind (s ∷ t ∷ []) (Some heap.old) (Some heap.new) result }
-    ensures memory { result ≡ 1 → IsSome heap.old.collection }
+/// Makes an object of this kind with two fields, which take the values of slots `s` and `t`, and puts a reference to
+/// it into slot `d`. This is a `gcflip_heap_new_object` followed by two `gcflip_heap_put`, in one call. Slot `d` is set
+/// first, so a field filled from slot `d` refers to the object itself. Allocates only while a collection is open.
+#[unsafe(no_mangle)]
+pub extern "C" fn gcflip_heap_new_pair(
+    heap: &mut GcflipHeap,
+    m: u8,
+    d: u8,
+    kind: u8,
+    s: u8,
+    t: u8,
+) -> u32
+    ensures call { IsNewFromCall m d kind (s ∷ t ∷ []) heap.old.state heap.new.state result }
+    ensures memory { result ≡ 1 → IsSomeAnd heap.old.state (λ s. IsSome s.collection) }
 {
+    if heap.is_empty() {
+        return CLOSED;
+    }
+    let heap = heap.heap_mut();
     if m >= heap.mutators() {
         return OUT_OF_RANGE;
     }
@@ -195,10 +288,25 @@ pub(crate) fn cons(heap: &mut CollectedHeap, m: u8, d: u8, kind: u8, s: u8, t: u
     }
 }
 
-pub(crate) fn new_from(heap: &mut CollectedHeap, m: u8, d: u8, kind: u8, fields: &[u8]) -> u32
-    ensures call { IsNewFromCall m d kind fields.now (Some heap.old) (Some heap.new) result }
-    ensures memory { result ≡ 1 → IsSome heap.old.collection }
+/// Makes an object of this kind, and puts a reference to it into slot `d`. `fields` has a slot number for each field,
+/// which takes the value of that slot. This is a `gcflip_heap_new_object` followed by a `gcflip_heap_put` for each field, in
+/// one call. Slot `d` is set first, so a field filled from slot `d` refers to the object itself. Allocates only while
+/// a collection is open.
+#[unsafe(no_mangle)]
+pub extern "C" fn gcflip_heap_new_from(
+    heap: &mut GcflipHeap,
+    m: u8,
+    d: u8,
+    kind: u8,
+    fields: &[u8],
+) -> u32
+    ensures call { IsNewFromCall m d kind fields.now heap.old.state heap.new.state result }
+    ensures memory { result ≡ 1 → IsSomeAnd heap.old.state (λ s. IsSome s.collection) }
 {
+    if heap.is_empty() {
+        return CLOSED;
+    }
+    let heap = heap.heap_mut();
     if m >= heap.mutators() {
         return OUT_OF_RANGE;
     }
@@ -214,11 +322,17 @@ pub(crate) fn new_from(heap: &mut CollectedHeap, m: u8, d: u8, kind: u8, fields:
     }
 }
 
-pub(crate) fn same(heap: &CollectedHeap, m: u8, s: u8, t: u8) -> u32
-    ensures call { IsCommandCall m (with_both (slot_at s) (slot_at t) Op.Same) (λ reply. result ≡ reply_in_c reply)
-        (Some heap.now) (Some heap.now) result }
+/// Compares the values of slots `s` and `t`.
+#[unsafe(no_mangle)]
+pub extern "C" fn gcflip_heap_same(heap: &mut GcflipHeap, m: u8, s: u8, t: u8) -> u32
+    ensures call { IsCommandCall m (with_both (slot_at s) (slot_at t) Op.Same)
+        (λ reply. result ≡ reply_in_c reply) heap.old.state heap.new.state result }
     ensures memory { result ≢ 1 }
 {
+    if heap.is_empty() {
+        return CLOSED;
+    }
+    let heap = heap.heap_mut();
     if m >= heap.mutators() {
         return OUT_OF_RANGE;
     }
@@ -231,12 +345,23 @@ pub(crate) fn same(heap: &CollectedHeap, m: u8, s: u8, t: u8) -> u32
     of_reply(&heap.same(m, s, t))
 }
 
-pub(crate) fn look(heap: &CollectedHeap, m: u8, s: u8, view: &mut GcflipView) -> u32
+/// Looks at the value of slot `s`, and writes what it saw to `view`.
+#[unsafe(no_mangle)]
+pub extern "C" fn gcflip_heap_look(
+    heap: &mut GcflipHeap,
+    m: u8,
+    s: u8,
+    view: &mut GcflipView,
+) -> u32
     ensures call { IsCommandCall m (option_map Op.Look (slot_at s))
-        (λ reply. (result ≡ reply_in_c reply) × (view.new ≡ view_after view.old reply)) (Some heap.now) (Some heap.now) result }
+        (λ reply. (result ≡ reply_in_c reply) × (view.new ≡ view_after view.old reply)) heap.old.state heap.new.state result }
     ensures silent { IsRefusal result → view.new ≡ view.old }
     ensures memory { result ≢ 1 }
 {
+    if heap.is_empty() {
+        return CLOSED;
+    }
+    let heap = heap.heap_mut();
     if m >= heap.mutators() {
         return OUT_OF_RANGE;
     }

@@ -1,6 +1,7 @@
 //! The handle by which C holds a heap.
 
 ghost use Rattle.std.specs.Prelude.{◌≡◌, Option, Some, None, IsSome, MatchBool, MatchOption};
+ghost use Rattle.std.specs.Borrow.{sem};
 ghost use Rattle.gc_copy.specs.State.{State};
 ghost use Rattle.gcflip_heap_c.specs.Handle.{owns_heap, coded_heap};
 
@@ -25,6 +26,8 @@ impl Model for GcflipHeap {
 }
 
 impl GcflipHeap {
+    ghost use Rattle.gcflip_heap_c.specs.Internal.Lending.{LendsHeap};
+
     /// Returns a handle without a heap.
     pub(crate) fn empty(alloc: Global) -> GcflipHeap
         ensures { result.state ≡ None }
@@ -38,6 +41,16 @@ impl GcflipHeap {
         ensures { MatchBool result (self.old.state ≡ None) (IsSome self.old.state) × (self.new ≡ self.old) }
     {
         self.at.is_null()
+    }
+
+    /// Lends the heap.
+    pub(crate) fn heap_mut(&mut self) -> &mut CollectedHeap
+        requires { IsSome self.old.state }
+        ensures* writes_back { sem 𝓛 (LendsHeap self.entry result) }
+        ensures value { self.old.state ≡ Some result.now }
+    {
+        let at = self.at as *mut CollectedHeap;
+        unsafe { &mut *at }
     }
 
     /// Returns a handle that has this heap.

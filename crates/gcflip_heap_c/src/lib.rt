@@ -5,7 +5,6 @@ mod answer;
 mod commands;
 mod frame;
 mod handle;
-mod mutating;
 mod opening;
 mod pace;
 mod parts;
@@ -14,16 +13,16 @@ mod reply;
 mod stepping;
 mod work;
 
+pub use commands::{
+    gcflip_heap_get, gcflip_heap_look, gcflip_heap_move, gcflip_heap_new_from,
+    gcflip_heap_new_object, gcflip_heap_new_pair, gcflip_heap_new_raw, gcflip_heap_put,
+    gcflip_heap_put_number, gcflip_heap_same, gcflip_heap_set_nil, gcflip_heap_set_number,
+};
 pub use frame::{
     GcflipFrame, gcflip_heap_frame_pop, gcflip_heap_frame_push, gcflip_heap_root_clear,
     gcflip_heap_root_load, gcflip_heap_root_store,
 };
 pub use handle::GcflipHeap;
-pub use mutating::{
-    gcflip_heap_get, gcflip_heap_look, gcflip_heap_move, gcflip_heap_new_from,
-    gcflip_heap_new_object, gcflip_heap_new_pair, gcflip_heap_new_raw, gcflip_heap_put,
-    gcflip_heap_put_number, gcflip_heap_same, gcflip_heap_set_nil, gcflip_heap_set_number,
-};
 pub use opening::{GcflipOptions, gcflip_heap_close, gcflip_heap_open};
 pub use pace::{GcflipPace, gcflip_heap_pace, gcflip_heap_work_paced, gcflip_pace_due};
 pub use reading::{
@@ -32,7 +31,8 @@ pub use reading::{
 };
 pub use reply::GcflipView;
 pub use stepping::{
-    gcflip_heap_step_apply, gcflip_heap_step_begin, gcflip_heap_step_begin_sized,
+    GcflipStep, gcflip_heap_step_apply, gcflip_heap_step_begin, gcflip_heap_step_begin_sized,
     gcflip_heap_step_flip, gcflip_heap_step_give_up, gcflip_heap_step_roots, gcflip_heap_step_scan,
+    gcflip_heap_useful,
 };
 pub use work::{GcflipWork, gcflip_heap_work, gcflip_heap_work_sized};

@@ -14,7 +14,6 @@ use crate::reading::{GcflipCounts, counts_of};
 use crate::work::{GcflipWork, work_on};
 use gc_core::CollectedHeap;
 use gc_graph::NoMemory;
-use std::alloc::Global;
 
 /// The lowest factor of a pace, in hundredths.
 const LOWEST_FACTOR: u32 = 100;
@@ -146,11 +145,7 @@ fn is_fit(pace: &GcflipPace) -> bool
 
 /// Makes the pace remember this heap as it is, as if it had just flipped. Returns 2 if the factor is out of range.
 #[unsafe(no_mangle)]
-pub extern "C" fn gcflip_heap_pace(
-    alloc: Global,
-    heap: &mut GcflipHeap,
-    pace: &mut GcflipPace,
-) -> u32
+pub extern "C" fn gcflip_heap_pace(heap: &mut GcflipHeap, pace: &mut GcflipPace) -> u32
     ensures answers { (result ≡ 0) ⊎ ((result ≡ 2) ⊎ (result ≡ 3)) }
     ensures pace { result ≡ 0 → IsSomeAnd heap.old.state (λ s. pace.new ≡ paces.pace_from pace.old (readings.counts_of s)) }
     ensures heap { heap.new.state ≡ heap.old.state }
@@ -158,14 +153,13 @@ pub extern "C" fn gcflip_heap_pace(
     ensures outside { (result ≡ 2) ↔ IsSomeAnd heap.old.state (λ s. ¬ IsPace pace.old) }
     ensures closed { (result ≡ 3) ↔ (heap.old.state ≡ None) }
 {
-    let Some(opened) = heap.take(alloc) else {
+    if heap.is_empty() {
         return CLOSED;
-    };
-    let counts = counts_of(&opened);
-    *heap = GcflipHeap::full(opened);
+    }
     if !is_fit(pace) {
         return OUT_OF_RANGE;
     }
+    let counts = counts_of(heap.heap_mut());
     pace.left = counts.end;
     pace.end = counts.end;
     pace.logged = counts.logged;
@@ -231,7 +225,6 @@ fn work_at_pace(heap: &mut CollectedHeap, pace: &GcflipPace, wanted: u32) -> Res
 /// for the reasons of `gcflip_heap_work`.
 #[unsafe(no_mangle)]
 pub extern "C" fn gcflip_heap_work_paced(
-    alloc: Global,
     heap: &mut GcflipHeap,
     pace: &mut GcflipPace,
     wanted: u32,
@@ -239,16 +232,13 @@ pub extern "C" fn gcflip_heap_work_paced(
 ) -> u32
     ensures { IsPacedCall wanted heap.old.state heap.new.state pace.old pace.new work.old work.new result }
 {
-    let Some(mut opened) = heap.take(alloc) else {
+    if heap.is_empty() {
         return CLOSED;
-    };
+    }
     if !is_fit(pace) {
-        *heap = GcflipHeap::full(opened);
         return OUT_OF_RANGE;
     }
-    let made = work_at_pace(&mut opened, pace, wanted);
-    *heap = GcflipHeap::full(opened);
-    match made {
+    match work_at_pace(heap.heap_mut(), pace, wanted) {
         Ok(made) => {
             *work = made.work;
             *pace = made.pace;

@@ -7,7 +7,6 @@ ghost use Rattle.gcflip_heap_c.specs.Readings.{counts_of, logged_in, entries_of,
 use crate::answer::{CLOSED, DONE, OUT_OF_RANGE};
 use crate::handle::GcflipHeap;
 use gc_core::CollectedHeap;
-use std::alloc::Global;
 
 /// The sizes of a heap, and how far its open collection has come, as C sees them. Sizes and addresses are in words.
 #[repr(C)]
@@ -87,33 +86,23 @@ pub(crate) fn counts_of(heap: &CollectedHeap) -> GcflipCounts
 
 /// Reads the sizes of the heap, and how far its open collection has come.
 #[unsafe(no_mangle)]
-pub extern "C" fn gcflip_heap_counts(
-    alloc: Global,
-    heap: &mut GcflipHeap,
-    counts: &mut GcflipCounts,
-) -> u32
+pub extern "C" fn gcflip_heap_counts(heap: &mut GcflipHeap, counts: &mut GcflipCounts) -> u32
     ensures answers { (result ≡ 0) ⊎ (result ≡ 3) }
     ensures counts { IfSome heap.old.state (λ s. counts.new ≡ counts_of s) }
     ensures heap { heap.new.state ≡ heap.old.state }
     ensures silent { result ≡ 3 → counts.new ≡ counts.old }
     ensures closed { (result ≡ 3) ↔ (heap.old.state ≡ None) }
 {
-    let Some(opened) = heap.take(alloc) else {
+    if heap.is_empty() {
         return CLOSED;
-    };
-    *counts = counts_of(&opened);
-    *heap = GcflipHeap::full(opened);
+    }
+    *counts = counts_of(heap.heap_mut());
     DONE
 }
 
 /// Reads the number of entries in mutator `m`'s log, which is 0 if no collection is open.
 #[unsafe(no_mangle)]
-pub extern "C" fn gcflip_heap_log_length(
-    alloc: Global,
-    heap: &mut GcflipHeap,
-    m: u8,
-    count: &mut usize,
-) -> u32
+pub extern "C" fn gcflip_heap_log_length(heap: &mut GcflipHeap, m: u8, count: &mut usize) -> u32
     ensures answers { (result ≡ 0) ⊎ ((result ≡ 2) ⊎ (result ≡ 3)) }
     ensures count { result ≡ 0 → IsSomeAnd heap.old.state (λ s. count.new ≡ length (log_of s m)) }
     ensures heap { heap.new.state ≡ heap.old.state }
@@ -121,15 +110,15 @@ pub extern "C" fn gcflip_heap_log_length(
     ensures outside { (result ≡ 2) ↔ IsSomeAnd heap.old.state (λ s. s.mutators ≤ m) }
     ensures closed { (result ≡ 3) ↔ (heap.old.state ≡ None) }
 {
-    let Some(opened) = heap.take(alloc) else {
+    if heap.is_empty() {
         return CLOSED;
-    };
-    let is_mutator = m < opened.mutators();
-    if is_mutator {
-        *count = opened.log_len(m);
     }
-    *heap = GcflipHeap::full(opened);
-    if is_mutator { DONE } else { OUT_OF_RANGE }
+    let heap = heap.heap_mut();
+    if m >= heap.mutators() {
+        return OUT_OF_RANGE;
+    }
+    *count = heap.log_len(m);
+    DONE
 }
 
 /// Writes entry `k` of mutator `m`'s log to `entry` if it exists. Returns whether it exists.
@@ -153,7 +142,6 @@ fn copy_entry(heap: &CollectedHeap, m: u8, k: usize, entry: &mut GcflipLogEntry)
 /// Reads entry `k` of mutator `m`'s log, counted from the oldest. Returns 2 if there is no such entry.
 #[unsafe(no_mangle)]
 pub extern "C" fn gcflip_heap_log_entry(
-    alloc: Global,
     heap: &mut GcflipHeap,
     m: u8,
     k: usize,
@@ -166,12 +154,14 @@ pub extern "C" fn gcflip_heap_log_entry(
     ensures outside { (result ≡ 2) ↔ IsSomeAnd heap.old.state (λ s. entry_at s m k ≡ None) }
     ensures closed { (result ≡ 3) ↔ (heap.old.state ≡ None) }
 {
-    let Some(opened) = heap.take(alloc) else {
+    if heap.is_empty() {
         return CLOSED;
-    };
-    let is_there = copy_entry(&opened, m, k, entry);
-    *heap = GcflipHeap::full(opened);
-    if is_there { DONE } else { OUT_OF_RANGE }
+    }
+    if copy_entry(heap.heap_mut(), m, k, entry) {
+        DONE
+    } else {
+        OUT_OF_RANGE
+    }
 }
 
 /// Copies the image if the arrays are as long as its words and roots. Returns whether they are.
@@ -193,7 +183,6 @@ fn copy_image(heap: &CollectedHeap, words: &mut [u64], roots: &mut [u64]) -> boo
 /// exactly these lengths.
 #[unsafe(no_mangle)]
 pub extern "C" fn gcflip_heap_image(
-    alloc: Global,
     heap: &mut GcflipHeap,
     words: &mut [u64],
     roots: &mut [u64],
@@ -206,12 +195,14 @@ pub extern "C" fn gcflip_heap_image(
     ensures outside { (result ≡ 2) ↔ IsSomeAnd heap.old.state (λ s. ¬ FitsImage words.old roots.old s) }
     ensures closed { (result ≡ 3) ↔ (heap.old.state ≡ None) }
 {
-    let Some(opened) = heap.take(alloc) else {
+    if heap.is_empty() {
         return CLOSED;
-    };
-    let fits = copy_image(&opened, words, roots);
-    *heap = GcflipHeap::full(opened);
-    if fits { DONE } else { OUT_OF_RANGE }
+    }
+    if copy_image(heap.heap_mut(), words, roots) {
+        DONE
+    } else {
+        OUT_OF_RANGE
+    }
 }
 
 /// Copies the words of the new space if the array has that length. Returns whether it has.
@@ -233,11 +224,7 @@ fn copy_new_words(heap: &CollectedHeap, words: &mut [u64]) -> bool
 /// Copies the words of the open collection's new space (to-space), links included. Returns 2 if the array does not have
 /// exactly that length, or if no collection is open.
 #[unsafe(no_mangle)]
-pub extern "C" fn gcflip_heap_new_words(
-    alloc: Global,
-    heap: &mut GcflipHeap,
-    words: &mut [u64],
-) -> u32
+pub extern "C" fn gcflip_heap_new_words(heap: &mut GcflipHeap, words: &mut [u64]) -> u32
     ensures answers { (result ≡ 0) ⊎ ((result ≡ 2) ⊎ (result ≡ 3)) }
     ensures words { result ≡ 0 → IsSomeAnd heap.old.state (λ s. new_words s ≡ Some words.new) }
     ensures heap { heap.new.state ≡ heap.old.state }
@@ -245,10 +232,12 @@ pub extern "C" fn gcflip_heap_new_words(
     ensures outside { (result ≡ 2) ↔ IsSomeAnd heap.old.state (λ s. ¬ FitsNew words.old (new_words s)) }
     ensures closed { (result ≡ 3) ↔ (heap.old.state ≡ None) }
 {
-    let Some(opened) = heap.take(alloc) else {
+    if heap.is_empty() {
         return CLOSED;
-    };
-    let fits = copy_new_words(&opened, words);
-    *heap = GcflipHeap::full(opened);
-    if fits { DONE } else { OUT_OF_RANGE }
+    }
+    if copy_new_words(heap.heap_mut(), words) {
+        DONE
+    } else {
+        OUT_OF_RANGE
+    }
 }

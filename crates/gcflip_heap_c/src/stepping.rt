@@ -1,29 +1,70 @@
 //! The exports that perform collector steps.
 
-ghost use Rattle.std.specs.Prelude.{◌≡◌};
+ghost use Rattle.std.specs.Prelude.{◌≡◌, ◌⊎◌, ◌↔◌, None, IfSome};
 ghost use Rattle.gc_copy.specs.declared.step.Step.{Step};
-ghost use Rattle.gcflip_heap_c.specs.Steps.{IsStepCall, Flips, LacksNoRoom};
+ghost use Rattle.gc_copy.specs.Steps.{useful_step};
+ghost use Rattle.gcflip_heap_c.specs.Steps.{IsStepCall, Flips, LacksNoRoom, step_in_c};
 ghost use Rattle.gcflip_heap_c.specs.Replies.{IsRefusal, step_reply_in_c, pairs_after};
 
-use crate::answer::{CLOSED, NO_MEMORY, OUT_OF_RANGE};
+use crate::answer::{CLOSED, DONE, NO_MEMORY, OUT_OF_RANGE};
 use crate::handle::GcflipHeap;
 use crate::reply::{of_step, pairs_of};
 use gc_check::Sequential;
+use gc_copy::Step;
 use gc_core::Keep;
 use gc_graph::NoMemory;
-use std::alloc::Global;
+
+/// A step as C sees it.
+#[repr(C)]
+#[derive(Clone, Copy, Debug, Drop, PartialEq, Eq)]
+pub struct GcflipStep {
+    /// The number that stands for the step.
+    pub name: u32,
+    /// The mutator whose log the step applies, or 0 if it applies none.
+    pub mutator: u32,
+}
+
+/// Returns the step as C sees it.
+fn of_useful(step: Step) -> GcflipStep
+    ensures { result ≡ step_in_c step }
+{
+    let (name, mutator) = match step {
+        Step::Begin => (1, 0),
+        Step::BeginSized(_) => (2, 0),
+        Step::Roots => (3, 0),
+        Step::Scan => (4, 0),
+        Step::Apply(m) => (5, u32::from(m)),
+        Step::Flip => (6, 0),
+        Step::Drop => (7, 0),
+    };
+    GcflipStep { name, mutator }
+}
+
+/// Writes the useful step to `step`, and performs none.
+#[unsafe(no_mangle)]
+pub extern "C" fn gcflip_heap_useful(heap: &mut GcflipHeap, step: &mut GcflipStep) -> u32
+    ensures answers { (result ≡ 0) ⊎ (result ≡ 3) }
+    ensures step { IfSome heap.old.state (λ s. step.new ≡ step_in_c (useful_step s)) }
+    ensures heap { heap.new.state ≡ heap.old.state }
+    ensures silent { result ≡ 3 → step.new ≡ step.old }
+    ensures closed { (result ≡ 3) ↔ (heap.old.state ≡ None) }
+{
+    if heap.is_empty() {
+        return CLOSED;
+    }
+    *step = of_useful(heap.heap_mut().next_useful_step());
+    DONE
+}
 
 /// Opens a collection whose new space is as large as the heap. Allocates the new space and the logs.
 #[unsafe(no_mangle)]
-pub extern "C" fn gcflip_heap_step_begin(alloc: Global, heap: &mut GcflipHeap) -> u32
+pub extern "C" fn gcflip_heap_step_begin(heap: &mut GcflipHeap) -> u32
     ensures { IsStepCall Step.Begin (λ reply. result ≡ step_reply_in_c reply) heap.old.state heap.new.state result }
 {
-    let Some(mut opened) = heap.take(alloc) else {
+    if heap.is_empty() {
         return CLOSED;
-    };
-    let begun = opened.begin();
-    *heap = GcflipHeap::full(opened);
-    match begun {
+    }
+    match heap.heap_mut().begin() {
         Ok(begun) => of_step(begun),
         Err(NoMemory) => NO_MEMORY,
     }
@@ -31,23 +72,16 @@ pub extern "C" fn gcflip_heap_step_begin(alloc: Global, heap: &mut GcflipHeap) -
 
 /// Opens a collection whose new space has `size` words, at least 1. Allocates the new space and the logs.
 #[unsafe(no_mangle)]
-pub extern "C" fn gcflip_heap_step_begin_sized(
-    alloc: Global,
-    heap: &mut GcflipHeap,
-    size: u32,
-) -> u32
+pub extern "C" fn gcflip_heap_step_begin_sized(heap: &mut GcflipHeap, size: u32) -> u32
     ensures { IsStepCall (Step.BeginSized size) (λ reply. result ≡ step_reply_in_c reply) heap.old.state heap.new.state result }
 {
-    let Some(mut opened) = heap.take(alloc) else {
+    if heap.is_empty() {
         return CLOSED;
-    };
+    }
     if size < 1 {
-        *heap = GcflipHeap::full(opened);
         return OUT_OF_RANGE;
     }
-    let begun = opened.begin_sized(size);
-    *heap = GcflipHeap::full(opened);
-    match begun {
+    match heap.heap_mut().begin_sized(size) {
         Ok(begun) => of_step(begun),
         Err(NoMemory) => NO_MEMORY,
     }
@@ -55,70 +89,58 @@ pub extern "C" fn gcflip_heap_step_begin_sized(
 
 /// Replicates the target of the first root whose target has no replica.
 #[unsafe(no_mangle)]
-pub extern "C" fn gcflip_heap_step_roots(alloc: Global, heap: &mut GcflipHeap) -> u32
+pub extern "C" fn gcflip_heap_step_roots(heap: &mut GcflipHeap) -> u32
     ensures call { IsStepCall Step.Roots (λ reply. result ≡ step_reply_in_c reply) heap.old.state heap.new.state result }
     ensures room { ¬ IsRefusal result → LacksNoRoom heap.old.state result }
 {
-    let Some(mut opened) = heap.take(alloc) else {
+    if heap.is_empty() {
         return CLOSED;
-    };
-    let reply = opened.roots();
-    *heap = GcflipHeap::full(opened);
-    of_step(reply)
+    }
+    of_step(heap.heap_mut().roots())
 }
 
 /// Brings the field at the scan pointer up to date, or moves on to the next replica.
 #[unsafe(no_mangle)]
-pub extern "C" fn gcflip_heap_step_scan(alloc: Global, heap: &mut GcflipHeap) -> u32
+pub extern "C" fn gcflip_heap_step_scan(heap: &mut GcflipHeap) -> u32
     ensures call { IsStepCall Step.Scan (λ reply. result ≡ step_reply_in_c reply) heap.old.state heap.new.state result }
     ensures room { ¬ IsRefusal result → LacksNoRoom heap.old.state result }
 {
-    let Some(mut opened) = heap.take(alloc) else {
+    if heap.is_empty() {
         return CLOSED;
-    };
-    let reply = opened.scan();
-    *heap = GcflipHeap::full(opened);
-    of_step(reply)
+    }
+    of_step(heap.heap_mut().scan())
 }
 
 /// Applies the oldest entry of mutator `m`'s log.
 #[unsafe(no_mangle)]
-pub extern "C" fn gcflip_heap_step_apply(alloc: Global, heap: &mut GcflipHeap, m: u8) -> u32
+pub extern "C" fn gcflip_heap_step_apply(heap: &mut GcflipHeap, m: u8) -> u32
     ensures call { IsStepCall (Step.Apply m) (λ reply. result ≡ step_reply_in_c reply) heap.old.state heap.new.state result }
     ensures room { ¬ IsRefusal result → LacksNoRoom heap.old.state result }
 {
-    let Some(mut opened) = heap.take(alloc) else {
+    if heap.is_empty() {
         return CLOSED;
-    };
-    if m >= opened.mutators() {
-        *heap = GcflipHeap::full(opened);
+    }
+    let heap = heap.heap_mut();
+    if m >= heap.mutators() {
         return OUT_OF_RANGE;
     }
-    let reply = opened.apply_log(m);
-    *heap = GcflipHeap::full(opened);
-    of_step(reply)
+    of_step(heap.apply_log(m))
 }
 
 /// Flips if the open collection is ready and the checker accepts its certificate. Then writes the number of pairs to
 /// `pairs`. Allocates the certificate, the moved roots and the checker's tables, and frees them before it returns.
 #[unsafe(no_mangle)]
-pub extern "C" fn gcflip_heap_step_flip(
-    alloc: Global,
-    heap: &mut GcflipHeap,
-    pairs: &mut u32,
-) -> u32
+pub extern "C" fn gcflip_heap_step_flip(heap: &mut GcflipHeap, pairs: &mut u32) -> u32
     ensures call { IsStepCall Step.Flip
         (λ reply. (result ≡ step_reply_in_c reply) × (pairs.new ≡ pairs_after pairs.old reply)) heap.old.state heap.new.state result }
     // It flips only if the certificate holds. It is not refused, and a ready collection flips.
     ensures flips { ¬ IsRefusal result → Flips heap.old.state heap.new.state result }
     ensures silent { IsRefusal result → pairs.new ≡ pairs.old }
 {
-    let Some(mut opened) = heap.take(alloc) else {
+    if heap.is_empty() {
         return CLOSED;
-    };
-    let flip = opened.flip(&Sequential, Keep::Nothing);
-    *heap = GcflipHeap::full(opened);
-    match flip {
+    }
+    match heap.heap_mut().flip(&Sequential, Keep::Nothing) {
         Ok(flip) => {
             *pairs = pairs_of(flip.reply, *pairs);
             of_step(flip.reply)
@@ -129,13 +151,11 @@ pub extern "C" fn gcflip_heap_step_flip(
 
 /// Frees the new space and the logs of the open collection.
 #[unsafe(no_mangle)]
-pub extern "C" fn gcflip_heap_step_give_up(alloc: Global, heap: &mut GcflipHeap) -> u32
+pub extern "C" fn gcflip_heap_step_give_up(heap: &mut GcflipHeap) -> u32
     ensures { IsStepCall Step.Drop (λ reply. result ≡ step_reply_in_c reply) heap.old.state heap.new.state result }
 {
-    let Some(mut opened) = heap.take(alloc) else {
+    if heap.is_empty() {
         return CLOSED;
-    };
-    let reply = opened.give_up();
-    *heap = GcflipHeap::full(opened);
-    of_step(reply)
+    }
+    of_step(heap.heap_mut().give_up())
 }

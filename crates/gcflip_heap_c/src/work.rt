@@ -14,7 +14,6 @@ use gc_check::Sequential;
 use gc_copy::{Step, StepReply};
 use gc_core::CollectedHeap;
 use gc_graph::NoMemory;
-use std::alloc::Global;
 
 /// What a call of work did, as C sees it.
 #[repr(C)]
@@ -176,25 +175,16 @@ fn is_fit(size: Option<u32>, most: u32) -> bool
 }
 
 // Performs at most `most` useful steps, unless an argument is out of range.
-fn work_sized(
-    alloc: Global,
-    heap: &mut GcflipHeap,
-    size: Option<u32>,
-    most: u32,
-    work: &mut GcflipWork,
-) -> u32
+fn work_sized(heap: &mut GcflipHeap, size: Option<u32>, most: u32, work: &mut GcflipWork) -> u32
     ensures { IsWorkCall size most heap.old.state heap.new.state work.old work.new result }
 {
-    let Some(mut opened) = heap.take(alloc) else {
+    if heap.is_empty() {
         return CLOSED;
-    };
+    }
     if !is_fit(size, most) {
-        *heap = GcflipHeap::full(opened);
         return OUT_OF_RANGE;
     }
-    let made = work_on(&mut opened, size, most);
-    *heap = GcflipHeap::full(opened);
-    match made {
+    match work_on(heap.heap_mut(), size, most) {
         Ok(made) => {
             *work = made;
             DONE
@@ -206,21 +196,15 @@ fn work_sized(
 /// Performs at most `most` useful steps, and writes a report of them to `work`. Stops after a flip, and after a step
 /// that finds no room. If an allocation fails, stops before that step, and returns 1 only if that was the first step.
 #[unsafe(no_mangle)]
-pub extern "C" fn gcflip_heap_work(
-    alloc: Global,
-    heap: &mut GcflipHeap,
-    most: u32,
-    work: &mut GcflipWork,
-) -> u32
+pub extern "C" fn gcflip_heap_work(heap: &mut GcflipHeap, most: u32, work: &mut GcflipWork) -> u32
     ensures { IsWorkCall None most heap.old.state heap.new.state work.old work.new result }
 {
-    work_sized(alloc, heap, None, most, work)
+    work_sized(heap, None, most, work)
 }
 
 /// Does the same, but if a step is a begin, the new space gets `size` words, at least 1.
 #[unsafe(no_mangle)]
 pub extern "C" fn gcflip_heap_work_sized(
-    alloc: Global,
     heap: &mut GcflipHeap,
     most: u32,
     size: u32,
@@ -228,5 +212,5 @@ pub extern "C" fn gcflip_heap_work_sized(
 ) -> u32
     ensures { IsWorkCall (Some size) most heap.old.state heap.new.state work.old work.new result }
 {
-    work_sized(alloc, heap, Some(size), most, work)
+    work_sized(heap, Some(size), most, work)
 }

@@ -73,23 +73,15 @@ class Player:
             self.changed = [] if before is None else list(changes(before, self.words()))
 
     def play_useful(self) -> str:
-        """Performs the useful step of the collector, as `Heap.work` does, and returns its line: the first step with something to do."""
+        """Performs the useful step of the collector, as the library names it, and returns its line."""
         before = self.words()
-        for line in self.candidates():
-            event = event_of(line)
-            if event is None or self.play(event) != "clean":
-                break
-            # A step that is clean changes nothing.
-            self.lines.pop()
-            self.measures.pop()
+        step = self.heap.useful()
+        line = "c " + step.name if step.mutator is None else "c %s %d" % step
+        event = event_of(line)
+        assert event is not None
+        self.play(event)
         self.changed = list(changes(before, self.words()))
-        return self.lines[-1]
-
-    def candidates(self) -> list[str]:
-        """Returns the steps that may be the useful one, in the order of `Heap.work`."""
-        if not self.heap.counts().is_open:
-            return ["c begin"]
-        return ["c roots", "c scan", *["c apply %d" % mutator.number for mutator in self.mutators], "c flip"]
+        return line
 
     def measured(self, reply: str) -> Measure:
         counts = self.heap.counts()

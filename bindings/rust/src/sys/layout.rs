@@ -38,6 +38,8 @@ c_types! {
     *mut RawWork = "gcflip_work *",
     *mut RawCounts = "gcflip_counts *",
     *mut RawHeap = "gcflip_heap *",
+    *const RawHeap = "const gcflip_heap *",
+    *mut RawStep = "gcflip_step *",
     *const RawOptions = "const gcflip_options *",
     *mut Frame = "gcflip_frame *",
     *mut Pace = "gcflip_pace *",
@@ -75,6 +77,7 @@ fn rules() -> Vec<String> {
         struct_rules!(Frame as "gcflip_frame": first, end, top),
         struct_rules!(Pace as "gcflip_pace": factor, rate, least, left, end, logged),
         struct_rules!(RawView as "gcflip_view": kind, count, number),
+        struct_rules!(RawStep as "gcflip_step": name, mutator),
         struct_rules!(RawWork as "gcflip_work": steps, copied, last, pairs),
         struct_rules!(RawCounts as "gcflip_counts": size, end, free, mutators, extra_roots, is_open, new_size, new_end, scan_place, scan_field, logged),
         struct_rules!(LogEntry as "gcflip_log_entry": object, field),
@@ -123,6 +126,7 @@ fn wrong_rules_do_not_compile() {
     assert!(!code("_Static_assert(GCFLIP_NO_ROOM == 35, \"\");"));
     assert!(!code("_Static_assert(sizeof(gcflip_view) == 20, \"\");"));
     assert!(!code("uint32_t gcflip_heap_set_nil(gcflip_heap *, uint8_t, uint16_t);"));
+    assert!(!code("uint32_t gcflip_heap_counts(gcflip_heap *, gcflip_counts *);"));
     assert!(!code("uint32_t (*same)() = (uint32_t (*)())gcflip_heap_nul;"));
 }
 

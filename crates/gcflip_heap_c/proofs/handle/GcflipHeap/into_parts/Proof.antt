@@ -1,5 +1,5 @@
 -- The pointer and the allocator move out of the handle, and what they own goes with them.
-use Rattle.std.proofs.Common.{◌≡◌, List, [], ◌∷◌, ◌++◌, refl, sym, true, false, Option, Some, None, IsSome}
+use Rattle.std.proofs.Common.{List, [], ◌∷◌, ◌++◌, refl, sym, Option, IsSome}
 use mir.Val.{Val}
 use base.Logic.{id⊢}
 use base.Fml.{ftrue, fsep}
@@ -16,7 +16,7 @@ use denote.Triple.Walked.{Stays, walk_of, says, stay_dropped, Goes-dropped, ends
 use Rattle.std.proofs.raw_atomic.Walks.{proved_at}
 use Rattle.std_alloc.proofs.BoxSteps.Form.{D, X, B, word, box_typed}
 use Rattle.std_alloc.proofs.BoxSteps.Steps.{box_out, box_in}
-use Rattle.gcflip_heap_c.proofs.HeapBox.{heap_box, its_handle, Held}
+use Rattle.gcflip_heap_c.proofs.HeapBox.{heap_box, its_handle, Held, there}
 use Rattle.gcflip_heap_c.specs.contracts.handle.GcflipHeap.into_parts as f
 use Rattle.gcflip_heap_c.specs.contracts.handle.GcflipHeap.{the_row as Handle}
 use Rattle.gcflip_heap_c.proofs.handle.GcflipHeap.into_parts.Statement.{statement}
@@ -24,11 +24,6 @@ use Rattle.gcflip_heap_c.proofs.handle.GcflipHeap.into_parts.Code as code
 
 abbrev stayed : Stays f.ended.signature.params f.ended.kept
 stayed = (stay_dropped its_handle yes, tt)
-
--- the state that the handle has
-there : (state : Option (X heap_box)) → IsSome state → (heap : X heap_box) × (state ≡ Some heap)
-there None is = absurd (let never : false ≡ true = is in cc)
-there (Some heap) is = (heap, refl)
 
 pub into_parts_spec : {M : Type 1} → statement M
 into_parts_spec 𝓤 𝓛 𝓜 𝓡 wired =
