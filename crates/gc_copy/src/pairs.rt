@@ -13,7 +13,7 @@ use gc_words::{Addr, NewAddr, OldAddr, Pair, Space};
 use std::alloc::Global;
 
 /// Returns the number of objects in the space.
-fn count_objects(space: &Space) -> usize
+pub(crate) fn count_objects(space: &Space) -> usize
     requires { IsSpace space.now }
     ensures { result ≡ length (blocks space.now.words) }
 {

@@ -1,3 +1,4 @@
+pub mod Beside
 mod FirstLog
 mod KeptPair
 pub mod LegalRuns

@@ -1,5 +1,6 @@
 -- What a flip shows its checker, and the pair of heaps that the checker accepts.
 use Rattle.std.specs.Prelude.{◌≡◌, ◌≢◌, ◌≤◌, ℕ, length, Option, Some, None, IfSome, IsTrue}
+use Rattle.gc_words.specs.Image.{Image}
 use Rattle.gc_words.specs.Certificate.{Certified}
 use Rattle.gc_cert.specs.Grammar.{CertifiedPair}
 use Rattle.gc_copy.specs.State.{State, Collection, pairs_of}
@@ -43,3 +44,7 @@ PassesIfReady s reply = IfSome s.collection (λ c. IsTrue (is_ready c s.heap.gra
 -- if the new space is at least as large as the old one, the reply is not `NoRoom`
 abbrev pub HasRoomIfLarge : State → StepReply → Type 0
 HasRoomIfLarge s reply = IfSome s.collection (λ c. s.size ≤ c.size → reply ≢ NoRoom)
+
+-- a checker that went along accepts the images of the pair
+abbrev pub HasAccepted : (Image → Image → Type 0) → CertifiedPair → Type 0
+HasAccepted accepted pair = accepted pair.old pair.new

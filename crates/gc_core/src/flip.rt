@@ -30,6 +30,14 @@ pub struct Flip {
     pub pair: Option<PairFile>,
 }
 
+/// The outcome of a flip that asks the checker that went along first.
+#[derive(Clone, Copy, Debug, Drop, PartialEq, Eq)]
+pub struct AlongFlip {
+    pub reply: StepReply,
+    /// Whether the other checker was asked, about both spaces whole.
+    pub whole: bool,
+}
+
 /// What the checker sees in addition to the two spaces and the old roots: the certificate and the moved roots.
 #[derive(Debug, Drop)]
 pub(crate) struct Draft {

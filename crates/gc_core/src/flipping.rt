@@ -1,17 +1,19 @@
-ghost use Rattle.std.specs.Prelude.{◌≡◌, ◌≢◌, ◌<◌, ◌^◌, Some, None, IfOk, IfSome, IsSome, IsTrue, OnErr, length};
+ghost use Rattle.std.specs.Prelude.{◌≡◌, ◌≢◌, ◌<◌, ◌^◌, Some, None, IfOk, IfSome, IsSome, IsTrue, IsFalse, false, OnErr, length};
 ghost use Rattle.std.specs.Option.{option_map};
 ghost use Rattle.gc_cert.specs.Views.{pair_in};
 ghost use Rattle.gc_heap.specs.Heap.{graph_in};
 ghost use Rattle.gc_copy.specs.Steps.{collect, is_ready};
-ghost use Rattle.gc_copy.specs.Words.{BelongsTo, HasNoLinks, collection_in, idle_state, open_state};
+ghost use Rattle.gc_copy.specs.Words.{BelongsTo, HasNoLinks, collection_in, idle_state, new_root_words, open_state};
+ghost use Rattle.gc_copy.specs.State.{pairs_of};
 ghost use Rattle.gc_copy.specs.declared.step.Step.{Step};
 ghost use Rattle.gc_copy.specs.declared.step.StepReply.{StepReply};
 ghost use Rattle.gc_core.specs.Flip.{flip_pair, IsCertified};
 ghost use Rattle.gc_core.specs.Internal.Flip.{IsDraft, AreCopies};
 
 use crate::collected_heap::CollectedHeap;
-use crate::flip::{Copies, Draft, Flip, Keep};
+use crate::flip::{AlongFlip, Copies, Draft, Flip, Keep};
 use crate::known::search;
+use gc_along::Watcher;
 use gc_cert::{Image, PairFile};
 use gc_check::{CheckFault, Checks};
 use gc_copy::{Collection, StepReply, images_show_links};
@@ -22,7 +24,7 @@ use std::alloc::Global;
 
 impl CollectedHeap {
     ghost use Rattle.gc_core.specs.CollectedHeap.{Allocates};
-    ghost use Rattle.gc_core.specs.Flip.{FlipsOnly, PassesIfReady, kept_after, replaced};
+    ghost use Rattle.gc_core.specs.Flip.{FlipsOnly, HasAccepted, PassesIfReady, kept_after, replaced};
     ghost use Rattle.gc_cert.specs.Grammar.{CertifiedPair};
     ghost use Rattle.std.specs.Prelude.{Option};
     ghost use Rattle.gc_core.specs.declared.flip.Keep.{Keep};
@@ -68,6 +70,118 @@ impl CollectedHeap {
         let collection = self.collection.take().unwrap();
         Ok(carry_out(&mut self.heap, collection, draft, copies))
     }
+
+    /// Flips if the open collection is ready, and a checker that went along accepts both images, or else this checker the
+    /// certificate. No pair is kept.
+    #[inline(never)]
+    pub fn flip_along<W: Watcher, C: Checks>(
+        &mut self,
+        along: &W,
+        checker: &C,
+    ) -> Result<AlongFlip, NoMemory>
+        requires { C.can_check checker.now }
+        ensures step { IfOk result (λ flip. collect self.old Step.Flip ≡ (flip.reply, self.new)) }
+        // A flip happens only if one of the two said yes: the one that `whole` tells.
+        ensures along { IfOk result (λ flip. IsFalse flip.whole → FlipsOnly (HasAccepted (W.accepted along.now)) self.old flip.reply) }
+        ensures asked { IfOk result (λ flip. IsTrue flip.whole → FlipsOnly (C.says_yes checker.now) self.old flip.reply) }
+        // What the other checker accepted is certified.
+        ensures sound { IfOk result (λ flip. IsTrue flip.whole → FlipsOnly IsCertified self.old flip.reply) }
+        // A ready collection passes, so no flip is refused.
+        ensures passes { IfOk result (λ flip. PassesIfReady self.old flip.reply) }
+        ensures never_refused { IfOk result (λ flip. flip.reply ≢ StepReply.Refused) }
+        ensures refused { OnErr result (self.new ≡ self.old) }
+        // Only the flip of a ready collection allocates.
+        ensures allocates { OnErr result (Allocates self.old Step.Flip) }
+        ensures mutators { self.new.mutators ≡ self.old.mutators }
+    {
+        let Some(collection) = &self.collection else {
+            return Ok(unasked(StepReply::Idle));
+        };
+        let roots_done = search(collection, &self.heap, self.known).missing.is_none();
+        if !collection.ready_with(&self.heap, roots_done) {
+            return Ok(unasked(StepReply::NotReady));
+        }
+        let roots = collection.new_roots(self.alloc, &self.heap)?;
+        let pairs = collection.count_pairs();
+        if pairs > u32::MAX as usize {
+            return self.flip_whole(checker);
+        }
+        if !is_accepted(along, &self.heap, collection, &roots) {
+            return self.flip_whole(checker);
+        }
+        let collection = self.collection.take().unwrap();
+        Ok(unasked(carry_out_along(
+            &mut self.heap,
+            collection,
+            roots,
+            pairs as u32,
+        )))
+    }
+
+    // Flips if the open collection is ready and the checker accepts its certificate.
+    #[inline(never)]
+    fn flip_whole<C: Checks>(&mut self, checker: &C) -> Result<AlongFlip, NoMemory>
+        requires { C.can_check checker.now }
+        ensures step { IfOk result (λ flip. collect self.old Step.Flip ≡ (flip.reply, self.new)) }
+        ensures whole { IfOk result (λ flip. IsTrue flip.whole) }
+        ensures asked { IfOk result (λ flip. FlipsOnly (C.says_yes checker.now) self.old flip.reply) }
+        ensures sound { IfOk result (λ flip. FlipsOnly IsCertified self.old flip.reply) }
+        ensures passes { IfOk result (λ flip. PassesIfReady self.old flip.reply) }
+        ensures never_refused { IfOk result (λ flip. flip.reply ≢ StepReply.Refused) }
+        ensures refused { OnErr result (self.new ≡ self.old) }
+        ensures allocates { OnErr result (Allocates self.old Step.Flip) }
+        ensures mutators { self.new.mutators ≡ self.old.mutators }
+    {
+        let flip = self.flip(checker, Keep::Nothing)?;
+        Ok(AlongFlip {
+            reply: flip.reply,
+            whole: true,
+        })
+    }
+}
+
+// Returns the outcome of a step for which the other checker was not asked.
+fn unasked(reply: StepReply) -> AlongFlip
+    ensures { result ≡ record { reply = reply; whole = false } }
+{
+    AlongFlip {
+        reply,
+        whole: false,
+    }
+}
+
+// Returns whether the checker that went along accepts both images as they are now.
+fn is_accepted<W: Watcher>(along: &W, heap: &Heap, collection: &Collection, roots: &[u64]) -> bool
+    requires belongs { BelongsTo heap.now collection.now }
+    requires roots { roots.now ≡ new_root_words heap.now (collection_in collection.now) }
+    ensures { IsTrue result → W.accepted along.now
+        (flip_pair (open_state heap.now collection.now) (collection_in collection.now)).old
+        (flip_pair (open_state heap.now collection.now) (collection_in collection.now)).new }
+{
+    images_show_links();
+    let old = heap.image();
+    let new = collection.new_image(roots);
+    along.accepts(old, new)
+}
+
+// Carries out a flip that the checker that went along accepted. No pair is kept.
+fn carry_out_along(
+    heap: &mut Heap,
+    collection: Collection,
+    roots: Vec<u64>,
+    pairs: u32,
+) -> StepReply
+    requires belongs { BelongsTo heap.old collection }
+    requires ready { IsTrue (is_ready (collection_in collection) (graph_in heap.old)) }
+    requires roots { roots.items ≡ new_root_words heap.old (collection_in collection) }
+    requires pairs { pairs ≡ length (pairs_of (collection_in collection)) }
+    ensures step { collect (open_state heap.old collection) Step.Flip ≡ (result, idle_state heap.new) }
+    ensures reply { result ≡ StepReply.Flipped (length (collection_in collection).replicas) }
+    ensures links { HasNoLinks heap.new }
+    ensures mutators { heap.new.mutators ≡ heap.old.mutators }
+{
+    let _ = collection.flip_into(heap, roots);
+    StepReply::Flipped { pairs }
 }
 
 // Returns the reply of a step that did not flip.

@@ -11,9 +11,10 @@ mod known;
 mod laws;
 mod reading;
 mod steps;
+mod watching;
 
 pub use collected_heap::CollectedHeap;
 pub use fields::SlotRow;
-pub use flip::{Flip, Keep};
+pub use flip::{AlongFlip, Flip, Keep};
 pub use laws::runs_are_legal;
 pub use reading::NewSpace;

@@ -9,7 +9,7 @@ ghost use Rattle.gc_copy.specs.declared.step.Step.{Step};
 ghost use Rattle.gc_copy.specs.declared.step.StepReply.{StepReply};
 
 use super::Collection;
-use crate::pairs::linked_pairs;
+use crate::pairs::{count_objects, linked_pairs};
 use gc_graph::NoMemory;
 use gc_heap::Heap;
 use gc_words::{Addr, ImageRef, NewAddr, OldAddr, Pair, Space};
@@ -22,6 +22,13 @@ impl Collection {
         ensures pairs { IfOk result (λ pairs. map addresses pairs.items ≡ pairs_of (collection_in self.now)) }
     {
         linked_pairs(alloc, &self.space)
+    }
+
+    /// Returns the number of pairs. Does not allocate.
+    pub fn count_pairs(&self) -> usize
+        ensures { result ≡ length (pairs_of (collection_in self.now)) }
+    {
+        count_objects(&self.space)
     }
 
     /// Returns the image of the new space with these roots, including links.

@@ -1,0 +1,185 @@
+-- The rows of the tables agree, whatever happens.
+use Rattle.std.proofs.Common.{◌≡◌, ◌⊎◌, inl, inr, ⊎_elim, ℕ, zero, suc, ◌+◌, ◌<◌, ◌≤◌, ◌==◌, Bool, true, false, not, List, [], ◌∷◌, ◌++◌, length, set, get_or, replicate, refl, sym, ◌∙◌, ap, subst, arith, length-append, length-set}
+use Rattle.std.specs.Prelude.{if◌then◌else◌}
+use Rattle.std.specs.List.{sum_by}
+use Rattle.std.proofs.lemmas.Bool.{cases_eq}
+use Rattle.std.proofs.lemmas.List.{get_or-set_other, get_or-set_same, length-replicate, length-map}
+use Rattle.std.proofs.lemmas.List.Sums.{sum_by-set, sum_by-append}
+use Rattle.gc_words.specs.declared.header.Header.{Header}
+use Rattle.gc_along.specs.Watch.{bit}
+use Rattle.gc_along.specs.Tables.{Tables, IsKept, IsLostOrKept, due_in, missing_in}
+use Rattle.gc_along.specs.Events.{code_of, object_codes, with_news, with_due, replica_added, IsClaim, IsCopy, Placed, HasNoReplica}
+use Rattle.gc_along.proofs.Codes.{code_set}
+use Rattle.gc_along.proofs.Within.{at_most}
+
+-- what is not lost
+pub kept_of : (t : Tables) → IsLostOrKept t → t.lost ≡ false → IsKept t
+kept_of t (inl lost) found = absurd (let no : true ≡ false = sym lost ∙ found in cc)
+kept_of t (inr kept) found = kept
+
+-- ---- the count
+
+pub few_due : (codes : List ℕ) → missing_in codes ≤ length codes
+few_due codes = let m : sum_by bit (due_in codes) ≤ length (due_in codes) = at_most (due_in codes) in omega (arith, length-map codes (λ code. code == 3))
+
+pub code_is : (due : Bool) → (code_of due == 3) ≡ due
+code_is true = refl
+code_is false = refl
+
+pub due_at : (codes : List ℕ) (place : ℕ) → get_or (due_in codes) place false ≡ (get_or codes place 0 == 3)
+due_at [] place = refl
+due_at (c ∷ codes) zero = refl
+due_at (c ∷ codes) (suc place) = due_at codes place
+
+pub set_count : (codes : List ℕ) (place : ℕ) (due : Bool) → place < length codes → missing_in (set codes place (code_of due)) + bit (get_or codes place 0 == 3) ≡ missing_in codes + bit due
+set_count codes place due h =
+    (λ i. sum_by bit ((code_set codes place (code_of due) ∙ ap (set (due_in codes) place) (code_is due)) i) + bit (sym (due_at codes place) i))
+    ∙ sum_by-set bit (due_in codes) place due false (omega (arith, length-map codes (λ code. code == 3)))
+
+pub kept_due : (t : Tables) (place : ℕ) (due : Bool) → IsKept t → IsKept (with_due t place due)
+kept_due t place due k = record {
+  counted = refl;
+  few = (let few : length t.news ≤ 4294967295 = k.few in omega (arith, length-set t.news place (code_of due)));
+  rows = k.rows ∙ sym (length-set t.news place (code_of due));
+  taken = k.taken;
+}
+
+-- ---- an object more
+
+pub in_front : (xs ys : List ℕ) (k c : ℕ) → get_or xs k 0 ≡ suc c → get_or (xs ++ ys) k 0 ≡ suc c
+in_front [] ys k c h = absurd (let no : 0 ≡ suc c = h in omega arith)
+in_front (x ∷ xs) ys zero c h = h
+in_front (x ∷ xs) ys (suc k) c h = in_front xs ys k c h
+
+pub within_row : (xs : List ℕ) (k c : ℕ) → get_or xs k 0 ≡ suc c → k < length xs
+within_row [] k c h = absurd (let no : 0 ≡ suc c = h in omega arith)
+within_row (x ∷ xs) zero c h = omega arith
+within_row (x ∷ xs) (suc k) c h = let l : k < length xs = within_row xs k c h in omega arith
+
+bits : (n : ℕ) (due : Bool) → missing_in (replicate n (code_of due)) ≡ (if due then n else 0)
+bits zero true = refl
+bits zero false = refl
+bits (suc n) true = sum_by-append bit (true ∷ []) (due_in (replicate n 3)) ∙ (let ih : missing_in (replicate n 3) ≡ n = bits n true in omega arith)
+bits (suc n) false = sum_by-append bit (false ∷ []) (due_in (replicate n 0)) ∙ (let ih : missing_in (replicate n 0) ≡ 0 = bits n false in omega arith)
+
+pub map_append : (xs ys : List ℕ) → due_in (xs ++ ys) ≡ due_in xs ++ due_in ys
+map_append [] ys = refl
+map_append (x ∷ xs) ys = ap (λ bs. (x == 3) ∷ bs) (map_append xs ys)
+
+pub added_count : (codes : List ℕ) (n : ℕ) (due : Bool) → missing_in (codes ++ object_codes n (code_of due)) ≡ missing_in codes + (if due then n else 0)
+added_count codes n due =
+    ap (sum_by bit) (map_append codes (object_codes n (code_of due)))
+    ∙ sum_by-append bit (due_in codes) (due_in (object_codes n (code_of due)))
+    ∙ ap (λ m. missing_in codes + m) (sum_by-append bit (false ∷ false ∷ []) (due_in (replicate n (code_of due))) ∙ ap (λ m. 0 + m) (bits n due) ∙ (let z : 0 + (if due then n else 0) ≡ (if due then n else 0) = omega arith in z))
+
+pub codes_length : (n code : ℕ) → length (object_codes n code) ≡ n + 2
+codes_length n code = let l : length (replicate n code) ≡ n = length-replicate n code in omega arith
+
+pub kept_old : (t : Tables) (h : Header) → IsKept t → IsKept (Rattle.gc_along.specs.Events.old_added t h)
+kept_old t h k = record {
+  counted = k.counted;
+  few = k.few;
+  rows = k.rows;
+  taken = λ b low. in_front t.olds (object_codes h.len 0) (get_or t.origins b 0) 1 (k.taken b low);
+}
+
+-- the row of originals with one more
+origin_there : (xs : List ℕ) (a n b : ℕ) → 1 ≤ get_or (xs ++ a ∷ 0 ∷ replicate n 0) b 0 → ((get_or (xs ++ a ∷ 0 ∷ replicate n 0) b 0 ≡ get_or xs b 0) × (1 ≤ get_or xs b 0)) ⊎ (get_or (xs ++ a ∷ 0 ∷ replicate n 0) b 0 ≡ a)
+origin_there [] a n zero low = inr refl
+origin_there [] a n (suc b) low = absurd (let z : get_or {A = ℕ} (replicate (suc n) 0) b 0 ≡ 0 = zeros (suc n) b in let l : 1 ≤ get_or {A = ℕ} (replicate (suc n) 0) b 0 = low in omega arith)
+  where
+    zeros : (n b : ℕ) → get_or {A = ℕ} (replicate n 0) b 0 ≡ 0
+    zeros zero b = refl
+    zeros (suc n) zero = refl
+    zeros (suc n) (suc b) = zeros n b
+origin_there (x ∷ xs) a n zero low = inl (refl, low)
+origin_there (x ∷ xs) a n (suc b) low = origin_there xs a n b low
+
+pub kept_replica : (t : Tables) (h : Header) (a : ℕ) (due : Bool) → length t.news + (h.len + 2) ≤ 4294967295 → get_or t.olds a 0 ≡ 1 → IsKept t → IsKept (replica_added t h a due)
+kept_replica t h a due bound start k = record {
+  counted = refl;
+  few = omega (arith, length-append t.news (object_codes h.len (code_of due)), codes_length h.len (code_of due));
+  rows = length-append t.origins (a ∷ 0 ∷ replicate h.len 0) ∙ (let rows : length t.origins ≡ length t.news = k.rows in let l : length {A = ℕ} (replicate h.len 0) ≡ h.len = length-replicate {A = ℕ} h.len 0 in omega (arith, length-append t.news (object_codes h.len (code_of due)), codes_length h.len (code_of due)));
+  taken = λ b low. ⊎_elim
+      (λ e. the_mark _ e.0 (k.taken b e.1))
+      (λ e. ap (λ x. get_or (set t.olds a 2) x 0) e ∙ get_or-set_same t.olds a 2 0 (within_row t.olds a 0 start))
+      (origin_there t.origins a h.len b low);
+}
+  where
+    the_mark : (x : ℕ) {y : ℕ} → x ≡ y → get_or t.olds y 0 ≡ 2 → get_or (set t.olds a 2) x 0 ≡ 2
+    the_mark x {y} e two = ap (λ x. get_or (set t.olds a 2) x 0) e ∙ elim (cases_eq y a) [
+      | inl same ↦ absurd (let one : get_or t.olds y 0 ≡ 1 = ap (λ y. get_or t.olds y 0) same ∙ start in omega arith)
+      | inr other ↦ get_or-set_other t.olds a y 2 0 other ∙ two
+    ]
+
+-- the count of the rows with a replica more
+pub replica_counted : (t : Tables) (h : Header) (a : ℕ) (due : Bool) (m : ℕ) → IsKept t → m ≡ t.missing + (if due then h.len else 0)
+    → record (replica_added t h a due) { missing = m } ≡ replica_added t h a due
+replica_counted t h a due m k is =
+    let e : m ≡ missing_in (t.news ++ object_codes h.len (code_of due)) = is ∙ ap (λ n. n + (if due then h.len else 0)) k.counted ∙ sym (added_count t.news h.len due) in
+    ap (λ n. record (replica_added t h a due) { missing = n }) e
+
+-- ---- originals without their replicas
+
+abbrev pub IsFreedAt : List ℕ → List ℕ → ℕ → Type 0
+IsFreedAt before after a = (get_or after a 0 ≡ get_or before a 0) ⊎ ((get_or before a 0 ≡ 2) × (get_or after a 0 ≡ 1))
+
+-- one mark set to 1, which was a start's
+pub freed_one : (before after : List ℕ) (x : ℕ) → get_or before x 0 ≡ 2 → length after ≡ length before → ((a : ℕ) → IsFreedAt before after a) → (a : ℕ) → IsFreedAt before (set after x 1) a
+freed_one before after x two count h a = elim (cases_eq a x) [
+  | inl same ↦ inr (ap (λ a. get_or before a 0) same ∙ two, ap (λ a. get_or (set after x 1) a 0) same ∙ get_or-set_same after x 1 0 (let l : x < length before = within_row before x 1 two in omega arith))
+  | inr other ↦ (let e : get_or (set after x 1) a 0 ≡ get_or after a 0 = get_or-set_other after x a 1 0 other in
+      ⊎_elim (λ f. inl (e ∙ f)) (λ f. inr (f.0, e ∙ f.1)) (h a))
+]
+
+pub one_stays : (before after : List ℕ) (x y : ℕ) → get_or before x 0 ≡ 2 → length after ≡ length before → get_or after y 0 ≡ 1 → get_or (set after x 1) y 0 ≡ 1
+one_stays before after x y two count h = elim (cases_eq y x) [
+  | inl same ↦ ap (λ a. get_or (set after x 1) a 0) same ∙ get_or-set_same after x 1 0 (let l : x < length before = within_row before x 1 two in omega arith)
+  | inr other ↦ get_or-set_other after x y 1 0 other ∙ h
+]
+
+-- ---- the fields as they are written
+
+-- the tables with one place due or not, and counted anew
+pub due_written : (t : Tables) (place code m : ℕ) (due : Bool) → IsKept t → place < length t.news → code ≡ code_of due → m + bit (get_or t.news place 0 == 3) ≡ t.missing + bit due
+    → record t { news = set t.news place code; missing = m } ≡ with_due t place due
+due_written t place code m due k within is count =
+    let e : m ≡ missing_in (set t.news place (code_of due)) =
+    (let counted : t.missing ≡ missing_in t.news = k.counted in
+    let one : missing_in (set t.news place (code_of due)) + bit (get_or t.news place 0 == 3) ≡ missing_in t.news + bit due = set_count t.news place due within in
+    omega arith) in
+    (λ i. record t { news = set t.news place (is i); missing = e i })
+
+pub few_missing : (t : Tables) → IsKept t → t.missing ≤ 4294967295
+few_missing t k = let few : length t.news ≤ 4294967295 = k.few in let counted : t.missing ≡ missing_in t.news = k.counted in let m : missing_in t.news ≤ length t.news = few_due t.news in omega arith
+
+-- one that is due is among those counted
+pub some_missing : (t : Tables) (place : ℕ) → IsKept t → place < length t.news → bit (get_or t.news place 0 == 3) ≤ t.missing
+some_missing t place k within =
+    let counted : t.missing ≡ missing_in t.news = k.counted in
+    let one : missing_in (set t.news place 0) + bit (get_or t.news place 0 == 3) ≡ missing_in t.news + 0 = set_count t.news place false within in
+    omega arith
+
+-- the tables with a replica more
+pub replica_written : (t : Tables) (h : Header) (a code m n : ℕ) (due : Bool) (news origins : List ℕ) → IsKept t → code ≡ code_of due → news ≡ t.news ++ object_codes h.len code
+    → origins ≡ t.origins ++ a ∷ 0 ∷ replicate h.len 0 → m ≡ t.missing + n → n ≡ (if due then h.len else 0)
+    → record t { olds = set t.olds a 2; news = news; origins = origins; missing = m } ≡ replica_added t h a due
+replica_written t h a code m n due news origins k is news_are origins_are m_is n_is =
+    (λ i. record t { olds = set t.olds a 2; news = (news_are ∙ ap (λ c. t.news ++ object_codes h.len c) is) i; origins = origins_are i; missing = (m_is ∙ ap (λ n. t.missing + n) n_is) i })
+    ∙ replica_counted t h a due (t.missing + (if due then h.len else 0)) k refl
+
+pub placed_is : (old new : List ℕ) (t after : Tables) (h : Header) (a : ℕ) (copied : Bool) → length t.news < length new → IsClaim old new t h a → (copied ≡ true → IsCopy old new h a (length t.news))
+    → after ≡ replica_added t h a (not copied) → Placed old new t after
+placed_is old new t after h a true less claim copy is = record { at_end = λ past. absurd (omega arith); more = λ l. (h, a, claim, inr (copy refl, is)) }
+placed_is old new t after h a false less claim copy is = record { at_end = λ past. absurd (omega arith); more = λ l. (h, a, claim, inl is) }
+
+pub placed_at : (old new : List ℕ) (t now after : Tables) (h : Header) (a : ℕ) (copied : Bool) → t ≡ now → length t.news < length new → IsClaim old new t h a → (copied ≡ true → IsCopy old new h a (length t.news))
+    → after ≡ replica_added t h a (not copied) → Placed old new now after
+placed_at old new t now after h a copied same less claim copy is = subst (λ t. Placed old new t after) same (placed_is old new t after h a copied less claim copy is)
+
+-- where the mark is not set no replica was seen
+pub untaken : (t now : Tables) (a : ℕ) → t ≡ now → IsLostOrKept t → now.lost ≡ false → (get_or now.olds a 0 == 2) ≡ false → HasNoReplica now a
+untaken t now a same h found not_two b low is =
+    let k : IsKept now = subst IsKept same (kept_of t h (ap (λ (t : Tables). t.lost) same ∙ found)) in
+    let two : get_or now.olds a 0 ≡ 2 = ap (λ x. get_or now.olds x 0) (sym is) ∙ k.taken b low in
+    absurd (let no : false ≡ true = sym not_two ∙ ap (λ n. n == 2) two in cc)

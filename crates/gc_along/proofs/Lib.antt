@@ -1,0 +1,9 @@
+pub mod Seen
+pub mod Looks
+pub mod Written
+pub mod Walked
+pub mod Exact
+pub mod Within
+pub mod Origins
+pub mod Codes
+pub mod Kept

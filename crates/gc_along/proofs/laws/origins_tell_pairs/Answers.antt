@@ -1,0 +1,5 @@
+use Rattle.gc_along.proofs.Origins.{told, placed, walked}
+use Rattle.gc_along.proofs.laws.origins_tell_pairs.Goals as goal
+
+pub returns : goal.returns
+returns c = record { paired = told; placed = placed; walked = walked }

@@ -1,0 +1,4 @@
+pub mod Watch
+pub mod Origins
+pub mod Tables
+pub mod Events

@@ -1,0 +1,14 @@
+//! A standing checker: it goes along with a collection, compares each field as it is brought up to date, and knows at the flip which
+//! fields it has yet to see. It believes nobody.
+#![tactic(auto)]
+
+mod laws;
+mod standing;
+mod watcher;
+
+pub use laws::{
+    due_places_are_counted, looks_keep_watching, origins_tell_pairs, the_answer_is_exact,
+    walks_keep_watching, what_is_seen_is_certified, writes_keep_watching,
+};
+pub use standing::Standing;
+pub use watcher::Watcher;

@@ -1,0 +1,757 @@
+use crate::watcher::Watcher;
+use crate::{origins_tell_pairs, what_is_seen_is_certified};
+use gc_graph::NoMemory;
+use gc_words::{Addr, Header, ImageRef, Value, decode_wide, field_index};
+use std::alloc::Global;
+use std::marker::Model;
+use std::mem::swap;
+
+/// An object starts here. In the old table: no replica of it was seen.
+const START: u8 = 1;
+/// In the old table: a start whose replica was seen.
+const TAKEN: u8 = 2;
+/// In the new table: a field that has yet to be compared.
+const DUE: u8 = 3;
+
+/// A checker that goes along with collections. It has its own tables, and believes nobody, but that each write is told.
+#[derive(Debug, Drop)]
+pub struct Standing {
+    /// By old place, as far as the old space is walked: 0, `START` or `TAKEN`.
+    olds: Vec<u8>,
+    /// By new place, as far as the new space is walked: 0, `START` or `DUE`.
+    news: Vec<u8>,
+    /// By new place: the original of the replica that starts here, or 0.
+    origins: Vec<u32>,
+    /// The number of places that are due.
+    missing: usize,
+    /// The number of words of a space for which there is room.
+    room: u32,
+    /// Something was not as it was told: no flip passes, and nothing more is noted.
+    lost: bool,
+}
+
+impl Model for Standing {
+    ghost use Rattle.std.specs.Prelude.{◌⊎◌, ◌≤◌, IsTrue, vec_capacity};
+    ghost use Rattle.gc_along.specs.Tables.{Tables, IsLostOrKept};
+
+    ghost Value = { Tables };
+
+    ghost view = { λ s. record {
+      olds = s.olds.items;
+      news = s.news.items;
+      origins = s.origins.items;
+      missing = s.missing;
+      room = s.room;
+      lost = s.lost;
+    } };
+
+    ghost invariant = { λ s. (IsTrue s.lost ⊎ (1 ≤ s.room)) × (s.room ≤ 4294967295) × (s.room ≤ vec_capacity s.olds) × (s.room ≤ vec_capacity s.news) × (s.room ≤ vec_capacity s.origins)
+        × IsLostOrKept (record { olds = s.olds.items; news = s.news.items; origins = s.origins.items; missing = s.missing; room = s.room; lost = s.lost }) };
+}
+
+impl Standing {
+    ghost use Rattle.std.specs.Prelude.{◌≡◌, ◌<◌, ◌≤◌, ◌==◌, ◌↔◌, ℕ, true, IsTrue, IsFalse, ◌⊎◌, IfOk, OnOk, OnErr, MatchOption, length, slice_index, slice_index_or};
+    ghost use Rattle.gc_graph.specs.Correspond.{paired};
+    ghost use Rattle.gc_words.specs.Word.{words_correspond, field_words_correspond};
+    ghost use Rattle.gc_words.specs.declared.header.Header.{Header};
+    ghost use Rattle.gc_words.specs.Views.{image_of};
+    ghost use Rattle.gc_words.specs.Layout.{field_place};
+    ghost use Rattle.gc_along.specs.Origins.{pairs_in};
+    ghost use Rattle.gc_along.specs.Watch.{RootsCorrespond};
+    ghost use Rattle.gc_along.specs.Tables.{CertifiedBy};
+    ghost use Rattle.gc_along.specs.Events.{Made, Placed, Looked, Wrote, Applied, Freed, WalkedAnew, IsFieldOf, HasNoReplica, absent_tables, opening_tables, flipped_tables, with_due};
+
+    /// Returns a checker for spaces of up to `size` words, at least 1.
+    pub fn new(alloc: Global, size: u32) -> Result<Standing, NoMemory>
+        requires { 1 ≤ size }
+        ensures { IfOk result (λ standing. standing ≡ opening_tables size) }
+    {
+        let mut olds = Vec::with_capacity(alloc, size as usize)?;
+        let mut news = Vec::with_capacity(alloc, size as usize)?;
+        let mut origins = Vec::with_capacity(alloc, size as usize)?;
+        olds.push_reserved(0);
+        news.push_reserved(0);
+        origins.push_reserved(0);
+        Ok(Standing {
+            olds,
+            news,
+            origins,
+            missing: 0,
+            room: size,
+            lost: false,
+        })
+    }
+
+    /// Returns a checker without tables, which is lost and stays so: it never accepts. Does not allocate.
+    pub fn absent(alloc: Global) -> Standing
+        ensures { result ≡ absent_tables }
+    {
+        Standing {
+            olds: Vec::new(alloc),
+            news: Vec::new(alloc),
+            origins: Vec::new(alloc),
+            missing: 0,
+            room: 0,
+            lost: true,
+        }
+    }
+
+    /// Makes room for spaces of `size` words, unless the checker is absent. If memory is refused, all stays as it is.
+    pub fn reserve(&mut self, size: u32) -> Result<(), NoMemory>
+        ensures tables { self.new ≡ record self.old { room = self.new.room } }
+        ensures room { OnOk result ((self.old.room ≡ 0) ⊎ (size ≤ self.new.room)) }
+        ensures refused { OnErr result (self.new ≡ self.old) }
+    {
+        if self.room == 0 || size <= self.room {
+            return Ok(());
+        }
+        reserve_places(&mut self.olds, size)?;
+        reserve_places(&mut self.news, size)?;
+        reserve_places(&mut self.origins, size)?;
+        self.room = size;
+        Ok(())
+    }
+
+    /// A collection begins. If the checker is lost, it walks over the old space anew, unless it is absent or the space is larger than its
+    /// room.
+    pub fn begun(&mut self, old: &[u64])
+        ensures kept { IsFalse self.old.lost → self.new ≡ self.old }
+        ensures anew { IsTrue self.old.lost → IsFalse self.new.lost → WalkedAnew old.now self.new }
+    {
+        if !self.lost || self.room == 0 || old.is_empty() {
+            return;
+        }
+        self.clear();
+        for _ in 0..old.len() {
+            self.made(old);
+        }
+        if self.olds.len() != old.len() {
+            self.lost = true;
+        }
+    }
+
+    // Nothing is seen of either space.
+    fn clear(&mut self)
+        requires { 1 ≤ self.old.room }
+        ensures { self.new ≡ opening_tables self.old.room }
+    {
+        self.olds.clear();
+        self.olds.push_reserved(0);
+        self.news.clear();
+        self.news.push_reserved(0);
+        self.origins.clear();
+        self.origins.push_reserved(0);
+        self.missing = 0;
+        self.lost = false;
+    }
+
+    /// The walk over the old space goes on by one object, if there is one.
+    #[inline(always)]
+    pub fn made(&mut self, old: &[u64])
+        ensures lost { IsTrue self.old.lost → IsTrue self.new.lost }
+        ensures made { IsFalse self.new.lost → Made old.now self.old self.new }
+    {
+        if self.lost {
+            return;
+        }
+        let at = self.olds.len();
+        if at >= old.len() {
+            return;
+        }
+        let Some(header) = next_header(old, at, self.room) else {
+            self.lost = true;
+            return;
+        };
+        add_codes(&mut self.olds, header.len(), 0);
+    }
+
+    /// The walk over the new space goes on by one object, if there is one: the replica of the object that its link claims.
+    #[inline(always)]
+    pub fn placed(&mut self, old: &[u64], new: &[u64])
+        ensures lost { IsTrue self.old.lost → IsTrue self.new.lost }
+        ensures placed { IsFalse self.new.lost → Placed old.now new.now self.old self.new }
+    {
+        if self.lost {
+            return;
+        }
+        let at = self.news.len();
+        if at >= new.len() {
+            return;
+        }
+        let Some(header) = next_header(new, at, self.room) else {
+            self.lost = true;
+            return;
+        };
+        let Some(original) = claim_in(old, new, &self.olds, at) else {
+            self.lost = true;
+            return;
+        };
+        let due = !is_copy(header, old, new, original, at);
+        self.olds[original as usize] = TAKEN;
+        add_origin(&mut self.origins, header.len(), original);
+        add_codes(&mut self.news, header.len(), code_of(due));
+        self.missing += due_words(header.len(), due);
+    }
+
+    /// Compares field `i` of the replica at `at` as it is now.
+    #[inline(always)]
+    pub fn look(&mut self, old: &[u64], new: &[u64], at: u32, i: u16)
+        ensures lost { IsTrue self.old.lost → IsTrue self.new.lost }
+        ensures looked { IsFalse self.new.lost → Looked old.now new.now at i self.old self.new }
+    {
+        if self.lost {
+            return;
+        }
+        match self.compared(old, new, at, i) {
+            None => self.lose(),
+            Some(alike) => self.set_due(field_index(Addr(at), i), !alike),
+        }
+    }
+
+    // Whether field `i` of the replica at `at` stands for its original's, if there are such fields.
+    #[inline(always)]
+    fn compared(&self, old: &[u64], new: &[u64], at: u32, i: u16) -> Option<bool>
+        ensures { MatchOption result Unit (λ alike. (h : Header) × (a : ℕ) × IsFieldOf new.now self.now h a at i
+            × (field_place a i < length old.now) × (field_place at i < length new.now)
+            × (alike ≡ field_words_correspond h (pairs_in self.now.origins) (slice_index old.now (field_place a i)) (slice_index new.now (field_place at i)))) }
+    {
+        let start = at as usize;
+        if start >= self.origins.len() {
+            return None;
+        }
+        let original = self.origins[start];
+        if original == 0 {
+            return None;
+        }
+        if start >= new.len() {
+            return None;
+        }
+        let header = Header::read(new[start])?;
+        if i >= header.len() {
+            return None;
+        }
+        let place = field_index(Addr(at), i);
+        if place >= self.news.len() {
+            return None;
+        }
+        if place >= new.len() {
+            return None;
+        }
+        let from = field_index(Addr(original), i);
+        if from >= old.len() {
+            return None;
+        }
+        Some(self.is_alike(header, old[from], new[place]))
+    }
+
+    /// Compares field `i` of the replica of the object at `a`, if it has one; its link is the claim.
+    #[inline(always)]
+    pub fn applied(&mut self, old: &[u64], new: &[u64], a: u32, i: u16)
+        ensures lost { IsTrue self.old.lost → IsTrue self.new.lost }
+        ensures applied { IsFalse self.new.lost → Applied old.now new.now a i self.old self.new }
+    {
+        if self.lost {
+            return;
+        }
+        if !self.is_taken(a) {
+            return;
+        }
+        match self.replica(old, a) {
+            None => self.lose(),
+            Some(at) => self.look(old, new, at, i),
+        }
+    }
+
+    /// Field `i` of the object at `a` was written: it is due in its replica, if it has one.
+    #[inline(always)]
+    pub fn written(&mut self, old: &[u64], a: u32, i: u16)
+        ensures lost { IsTrue self.old.lost → IsTrue self.new.lost }
+        ensures wrote { IsFalse self.new.lost → Wrote a i self.old self.new }
+    {
+        if self.lost {
+            return;
+        }
+        if !self.is_taken(a) {
+            return;
+        }
+        match self.replica(old, a) {
+            None => self.lose(),
+            Some(at) => self.set_written(field_index(Addr(at), i)),
+        }
+    }
+
+    // Takes this place for due, if there is such a place.
+    #[inline(always)]
+    fn set_written(&mut self, place: usize)
+        requires { IsFalse self.old.lost }
+        ensures { IsFalse self.new.lost → (place < length self.old.news) × (self.new ≡ with_due self.old place true) }
+    {
+        if place >= self.news.len() {
+            self.lost = true;
+            return;
+        }
+        self.set_due(place, true);
+    }
+
+    // Whether the object at `a` has a replica.
+    #[inline(always)]
+    #[tactic(auto, using(crate::proofs::Kept::untaken))]
+    fn is_taken(&self, a: u32) -> bool
+        ensures taken { result ≡ (slice_index_or self.now.olds a 0 == 2) }
+        ensures none { IsFalse self.now.lost → IsFalse result → HasNoReplica self.now a }
+    {
+        let from = a as usize;
+        from < self.olds.len() && self.olds[from] == TAKEN
+    }
+
+    // The replica of the object at `a`, if its link tells it.
+    #[inline(always)]
+    fn replica(&self, old: &[u64], a: u32) -> Option<u32>
+        ensures { MatchOption result Unit (λ b. (1 ≤ a) × (slice_index_or self.now.origins b 0 ≡ a)) }
+    {
+        let link = a as usize + 1;
+        if a == 0 {
+            return None;
+        }
+        if link >= old.len() {
+            return None;
+        }
+        let claim = old[link];
+        if claim >= u64::from(u32::MAX) {
+            return None;
+        }
+        let at = claim as u32;
+        if self.origin_at(at) != a {
+            return None;
+        }
+        Some(at)
+    }
+
+    /// Something is not as it was told: no flip passes from now on.
+    pub fn lose(&mut self)
+        ensures { IsTrue self.new.lost }
+    {
+        self.lost = true;
+    }
+
+    #[inline(always)]
+    fn set_due(&mut self, place: usize, due: bool)
+        requires found { IsFalse self.old.lost }
+        requires within { place < length self.old.news }
+        ensures { self.new ≡ with_due self.old place due }
+    {
+        let was = self.news[place] == DUE;
+        self.missing = recounted(self.missing, was, due);
+        self.news[place] = code_of(due);
+    }
+
+    // Whether the words are fields that stand for each other, of objects with this header. The words of raw objects have to be
+    // equal, even if they look like a pair's addresses.
+    fn is_alike(&self, header: Header, old: u64, new: u64) -> bool
+        ensures { result ≡ field_words_correspond header (pairs_in self.now.origins) old new }
+    {
+        if header.is_raw() {
+            return old == new;
+        }
+        self.is_correspondence(old, new)
+    }
+
+    // Whether the words are values that stand for each other.
+    fn is_correspondence(&self, old: u64, new: u64) -> bool
+        ensures { result ≡ words_correspond (pairs_in self.now.origins) old new }
+    {
+        let Some(old) = decode_wide(old) else {
+            return false;
+        };
+        let Some(new) = decode_wide(new) else {
+            return false;
+        };
+        match old {
+            Value::Nil => matches!(new, Value::Nil),
+            Value::Num(number) => match new {
+                Value::Num(other) => number == other,
+                _ => false,
+            },
+            Value::Ref(address) => match new {
+                Value::Ref(other) => self.is_partner(address, other),
+                _ => false,
+            },
+        }
+    }
+
+    // Whether the addresses are a pair.
+    fn is_partner(&self, old: Addr, new: Addr) -> bool
+        requires { 1 ≤ old.0 }
+        ensures { result ≡ paired (pairs_in self.now.origins) old.0 new.0 }
+    {
+        origins_tell_pairs();
+        self.origin_at(new.0) == old.0
+    }
+
+    // The original of the replica that starts here, or 0.
+    fn origin_at(&self, at: u32) -> u32
+        ensures { result ≡ slice_index_or self.now.origins at 0 }
+    {
+        let place = at as usize;
+        if place < self.origins.len() {
+            self.origins[place]
+        } else {
+            0
+        }
+    }
+
+    // Whether the roots correspond, place by place.
+    fn roots_correspond(&self, old: &[u64], new: &[u64]) -> bool
+        ensures { IsTrue result ↔ RootsCorrespond (pairs_in self.now.origins) old.now new.now }
+    {
+        if old.len() != new.len() {
+            return false;
+        }
+        for i in 0..old.len() {
+            if !self.is_correspondence(old[i], new[i]) {
+                return false;
+            }
+        }
+        true
+    }
+
+    /// Returns whether all is seen and compared, and the roots correspond.
+    pub fn says_yes(&self, old: ImageRef, new: ImageRef) -> bool
+        ensures yes { IsTrue result → CertifiedBy self.now (image_of old.entry) (image_of new.entry) }
+    {
+        what_is_seen_is_certified();
+        if self.lost {
+            return false;
+        }
+        if self.missing != 0 {
+            return false;
+        }
+        if self.olds.len() != old.words.len() {
+            return false;
+        }
+        if self.news.len() != new.words.len() {
+            return false;
+        }
+        if !is_sized(old) {
+            return false;
+        }
+        if !is_sized(new) {
+            return false;
+        }
+        self.roots_correspond(old.roots, new.roots)
+    }
+
+    /// The new space is the old one from now on, and the next new one is empty.
+    pub fn flipped(&mut self)
+        ensures lost { IsTrue self.old.lost → IsTrue self.new.lost }
+        ensures flipped { IsFalse self.new.lost → self.new ≡ flipped_tables self.old }
+    {
+        if self.lost {
+            return;
+        }
+        swap(&mut self.olds, &mut self.news);
+        self.news.clear();
+        self.news.push_reserved(0);
+        self.origins.clear();
+        self.origins.push_reserved(0);
+        self.missing = 0;
+    }
+
+    /// The new space is given up.
+    pub fn dropped(&mut self)
+        ensures lost { IsTrue self.old.lost → IsTrue self.new.lost }
+        ensures freed { IsFalse self.new.lost → Freed self.old self.new }
+    {
+        if self.lost {
+            return;
+        }
+        free_originals(&mut self.olds, &self.origins);
+        self.news.clear();
+        self.news.push_reserved(0);
+        self.origins.clear();
+        self.origins.push_reserved(0);
+        self.missing = 0;
+    }
+}
+
+impl Watcher for Standing {
+    ghost use Rattle.gc_along.specs.Tables.{CertifiedBy};
+
+    ghost accepted = { CertifiedBy };
+
+    fn accepts(&self, old: ImageRef, new: ImageRef) -> bool {
+        self.says_yes(old, new)
+    }
+}
+
+ghost use Rattle.gc_words.specs.Views.{image_of};
+ghost use Rattle.std.specs.Prelude.{◌≡◌, ◌⊎◌, ◌↔◌, OnOk, ◌≤◌, ◌<◌, ◌+◌, ◌==◌, ◌∷◌, ◌++◌, ℕ, IsTrue, MatchOption, length, replicate, slice_index, slice_index_or, vec_len, vec_capacity};
+ghost use Rattle.gc_words.specs.Layout.{link_place};
+ghost use Rattle.std.specs.Prelude.{if◌then◌else◌};
+ghost use Rattle.gc_along.specs.Watch.{IsNext, IsSized, bit};
+ghost use Rattle.gc_along.specs.Events.{IsCopy, object_codes, code_of};
+
+// The header of the next object of a walk, if there is one, and room for its codes.
+#[inline(always)]
+fn next_header(words: &[u64], at: usize, room: u32) -> Option<Header>
+    requires at { at < length words.now }
+    requires room { room ≤ 4294967295 }
+    ensures { MatchOption result Unit (λ h. IsNext at words.now h × (at + (h.len + 2) ≤ room)) }
+{
+    let header = Header::read(words[at])?;
+    let taken = usize::from(header.len()) + 2;
+    if taken > words.len() - at {
+        return None;
+    }
+    if at + taken > room as usize {
+        return None;
+    }
+    Some(header)
+}
+
+// The original that the link of the object at `at` claims, if it is one: it starts an object that was seen and has no replica,
+// with an equal header word.
+#[inline(always)]
+fn claim_in(old: &[u64], new: &[u64], olds: &[u8], at: usize) -> Option<u32>
+    requires { link_place at < length new.now }
+    ensures { MatchOption result Unit (λ a. (slice_index new.now (link_place at) ≡ a) × (1 ≤ a) × (a < length old.now) × (a < length olds.now)
+        × (slice_index_or olds.now a 0 ≡ 1) × (slice_index old.now a ≡ slice_index new.now at)) }
+{
+    let claim = new[at + 1];
+    if claim < 1 {
+        return None;
+    }
+    if claim >= u64::from(u32::MAX) {
+        return None;
+    }
+    let original = claim as u32;
+    let from = original as usize;
+    if from >= olds.len() {
+        return None;
+    }
+    if olds[from] != START {
+        return None;
+    }
+    if from >= old.len() {
+        return None;
+    }
+    if old[from] != new[at] {
+        return None;
+    }
+    Some(original)
+}
+
+// Whether the object at `at` is raw, and its field words are those of its original.
+#[inline(always)]
+fn is_copy(header: Header, old: &[u64], new: &[u64], original: u32, at: usize) -> bool
+    requires { at + (header.len + 2) ≤ length new.now }
+    ensures { IsTrue result → IsCopy old.now new.now header original at }
+{
+    if !header.is_raw() {
+        return false;
+    }
+    let len = usize::from(header.len());
+    let from = original as usize + 2;
+    if from + len > old.len() {
+        return false;
+    }
+    let first = at + 2;
+    old[from..from + len] == new[first..first + len]
+}
+
+// Makes room for this many places. If memory is refused, the row stays as it is.
+fn reserve_places<T>(row: &mut Vec<T>, size: u32) -> Result<(), NoMemory>
+    ensures items { row.new.items ≡ row.old.items }
+    ensures capacity { vec_capacity row.old ≤ vec_capacity row.new }
+    ensures room { OnOk result (size ≤ vec_capacity row.new) }
+{
+    let places = size as usize;
+    if row.len() < places {
+        row.reserve_exact(places - row.len())?;
+    }
+    Ok(())
+}
+
+// Adds the codes of an object.
+#[inline(always)]
+fn add_codes(row: &mut Vec<u8>, len: u16, code: u8)
+    requires { vec_len row.old + (len + 2) ≤ vec_capacity row.old }
+    ensures items { row.new.items ≡ row.old.items ++ object_codes len code }
+    ensures capacity { vec_capacity row.old ≤ vec_capacity row.new }
+{
+    let next = row.len() + usize::from(len) + 2;
+    row.push_reserved(START);
+    row.push_reserved(0);
+    // There is room, so this cannot fail.
+    row.resize(next, code).unwrap();
+}
+
+// Adds the original of a replica.
+#[inline(always)]
+fn add_origin(row: &mut Vec<u32>, len: u16, original: u32)
+    requires { vec_len row.old + (len + 2) ≤ vec_capacity row.old }
+    ensures items { row.new.items ≡ row.old.items ++ original ∷ 0 ∷ replicate len 0 }
+    ensures capacity { vec_capacity row.old ≤ vec_capacity row.new }
+{
+    let next = row.len() + usize::from(len) + 2;
+    row.push_reserved(original);
+    row.push_reserved(0);
+    // There is room, so this cannot fail.
+    row.resize(next, 0).unwrap();
+}
+
+// The originals have no replicas any more.
+fn free_originals(olds: &mut [u8], origins: &[u32])
+    requires { (b : ℕ) → 1 ≤ slice_index_or origins.now b 0 → slice_index_or olds.old (slice_index_or origins.now b 0) 0 ≡ 2 }
+    ensures codes { (a : ℕ) → (slice_index_or olds.new a 0 ≡ slice_index_or olds.old a 0) ⊎ ((slice_index_or olds.old a 0 ≡ 2) × (slice_index_or olds.new a 0 ≡ 1)) }
+    ensures freed { (b : ℕ) → 1 ≤ slice_index_or origins.now b 0 → slice_index_or olds.new (slice_index_or origins.now b 0) 0 ≡ 1 }
+{
+    for at in 0..origins.len() {
+        let from = origins[at] as usize;
+        if from != 0 {
+            olds[from] = START;
+        }
+    }
+}
+
+// Whether the numbers of an image fit its words.
+fn is_sized(image: ImageRef) -> bool
+    ensures { IsTrue result ↔ IsSized (image_of image.entry) }
+{
+    image.raws
+        && 1 <= image.end
+        && image.end <= image.size
+        && image.words.len() == image.end as usize
+}
+
+// The count of due places after one that was due or not is due or not.
+#[inline(always)]
+fn recounted(missing: usize, was: bool, due: bool) -> usize
+    requires few { missing ≤ 4294967295 }
+    requires some { bit was ≤ missing }
+    ensures { result + bit was ≡ missing + bit due }
+{
+    let added = if due { 1 } else { 0 };
+    let taken = if was { 1 } else { 0 };
+    missing + added - taken
+}
+
+// How many words of a new replica with `len` fields are due.
+#[inline(always)]
+fn due_words(len: u16, due: bool) -> usize
+    ensures { result ≡ (if due then len else 0) }
+{
+    if due { usize::from(len) } else { 0 }
+}
+
+fn code_of(due: bool) -> u8
+    ensures { result ≡ code_of due }
+{
+    if due { DUE } else { 0 }
+}
+
+#[cfg(test)]
+mod tests {
+    use super::Standing;
+    use gc_words::ImageRef;
+    use std::alloc::Global;
+    use std::process::Abort;
+    use std::test::Fail;
+
+    const PAIR: u64 = 16777218;
+
+    const EMPTY: u64 = 16777216;
+
+    const RAW: u64 = 50331649;
+    // An object with a reference and a number, and an empty one.
+    const OLD: [u64; 7] = [0, PAIR, 1, 10, 15, EMPTY, 5];
+
+    const NEW: [u64; 7] = [0, PAIR, 1, 10, 15, EMPTY, 5];
+
+    fn image<'a>(words: &'a [u64], roots: &'a [u64]) -> ImageRef<'a> {
+        ImageRef {
+            size: 32,
+            end: 7,
+            words,
+            roots,
+            raws: true,
+        }
+    }
+
+    fn says(standing: &Standing, old: &[u64], new: &[u64], root: u64) -> bool {
+        standing.says_yes(image(old, &[2]), image(new, &[root]))
+    }
+
+    /// Returns a checker that has walked over both spaces and looked at both fields.
+    fn looked(alloc: Global, old: &[u64], new: &[u64]) -> Result<Standing, Fail> {
+        let mut standing = Standing::new(alloc, 32)?;
+        standing.made(old);
+        standing.made(old);
+        standing.placed(old, new);
+        standing.placed(old, new);
+        standing.look(old, new, 1, 0);
+        standing.look(old, new, 1, 1);
+        Ok(standing)
+    }
+
+    #[test]
+    fn what_is_right_is_accepted(rt: HostRuntime) -> Result<(), Fail> {
+        let standing = looked(rt.alloc(), &OLD, &NEW)?;
+        assert!(rt; says(&standing, &OLD, &NEW, 2));
+        assert!(rt; !says(&standing, &OLD, &NEW, 10));
+        assert!(rt; !standing.says_yes(image(&OLD, &[2]), image(&NEW, &[])));
+        Ok(())
+    }
+
+    #[test]
+    fn a_field_that_is_due_is_not_accepted(rt: HostRuntime) -> Result<(), Fail> {
+        let mut standing = looked(rt.alloc(), &OLD, &NEW)?;
+        standing.written(&OLD, 1, 1);
+        assert!(rt; !says(&standing, &OLD, &NEW, 2));
+        standing.look(&OLD, &NEW, 1, 1);
+        assert!(rt; says(&standing, &OLD, &NEW, 2));
+        Ok(())
+    }
+
+    #[test]
+    fn wrong_words_are_not_accepted(rt: HostRuntime) -> Result<(), Fail> {
+        let number = [0, PAIR, 1, 10, 17, EMPTY, 5];
+        let standing = looked(rt.alloc(), &OLD, &number)?;
+        assert!(rt; !says(&standing, &OLD, &number, 2));
+        let target = [0, PAIR, 1, 2, 15, EMPTY, 5];
+        let standing = looked(rt.alloc(), &OLD, &target)?;
+        assert!(rt; !says(&standing, &OLD, &target, 2));
+        let claim = [0, PAIR, 5, 10, 15, EMPTY, 1];
+        let standing = looked(rt.alloc(), &OLD, &claim)?;
+        assert!(rt; !says(&standing, &OLD, &claim, 2));
+        let twice = [0, PAIR, 1, 10, 15, PAIR, 1];
+        let standing = looked(rt.alloc(), &OLD, &twice)?;
+        assert!(rt; !says(&standing, &OLD, &twice, 2));
+        Ok(())
+    }
+
+    #[test]
+    fn raw_words_have_to_be_equal(rt: HostRuntime) -> Result<(), Fail> {
+        let old = [0, RAW, 3, 8, EMPTY, 1];
+        // A collector that takes the raw word 8 for a reference to the object at 4, whose replica is at 1.
+        let moved = [0, EMPTY, 4, RAW, 1, 2];
+        let copied = [0, EMPTY, 4, RAW, 1, 8];
+        assert!(rt; !raw_says(rt.alloc(), &old, &moved)?);
+        assert!(rt; raw_says(rt.alloc(), &old, &copied)?);
+        Ok(())
+    }
+
+    fn raw_says(alloc: Global, old: &[u64], new: &[u64]) -> Result<bool, Fail> {
+        let mut standing = Standing::new(alloc, 32)?;
+        standing.made(old);
+        standing.made(old);
+        standing.placed(old, new);
+        standing.placed(old, new);
+        standing.look(old, new, 3, 0);
+        let mut before = image(old, &[]);
+        before.end = 6;
+        let mut after = image(new, &[]);
+        after.end = 6;
+        Ok(standing.says_yes(before, after))
+    }
+}

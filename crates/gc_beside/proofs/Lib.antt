@@ -1,0 +1,11 @@
+pub mod Bringing
+pub mod Stays
+pub mod Words
+pub mod Events
+pub mod Shown
+pub mod Growth
+pub mod Told
+pub mod Beside
+pub mod Lives
+pub mod LivesOn
+pub mod LivesThrough

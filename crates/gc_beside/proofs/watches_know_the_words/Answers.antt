@@ -1,0 +1,5 @@
+use Rattle.gc_beside.proofs.Words.{watches}
+use Rattle.gc_beside.proofs.watches_know_the_words.Goals as goal
+
+pub returns : goal.returns
+returns c = record { words = λ heap x w heap_is is k h. watches heap x w heap_is is k h }

@@ -1,0 +1,58 @@
+//! Laws: a standing checker beside a collected heap. It goes along through the collector's steps and the mutators' commands, and so it knows
+//! the words of both spaces.
+#![tactic(auto)]
+
+ghost use Rattle.std.specs.Prelude.{◌≡◌, ◌∷◌, ℕ, List, Some, IsSome};
+ghost use Rattle.gc_graph.specs.Graph.{Object};
+ghost use Rattle.gc_graph.specs.declared.command.Op.{Op};
+ghost use Rattle.gc_graph.specs.declared.reply.Reply.{Reply};
+ghost use Rattle.gc_words.specs.Space.{end_of};
+ghost use Rattle.gc_heap.specs.Heap.{HeapWords, IsHeap, graph_in};
+ghost use Rattle.gc_copy.specs.Members.{In};
+ghost use Rattle.gc_copy.specs.State.{State, Collection, Replica, heap_end, new_end, replica_at};
+ghost use Rattle.gc_copy.specs.Steps.{collect, mutate, written, log_at, root_target, copy_root, scan, apply_log, fresh_collection};
+ghost use Rattle.gc_copy.specs.Belonging.{IsOpened};
+ghost use Rattle.gc_copy.specs.Words.{CollectionWords, IsCollection, BelongsTo, collection_in};
+ghost use Rattle.gc_copy.specs.declared.step.StepReply.{StepReply};
+ghost use Rattle.gc_along.specs.Watch.{Watch, Watches, opening};
+ghost use Rattle.gc_beside.specs.Stays.{Fits, GoesAlong, LosesOnly, LosesNone, MarksWritten};
+
+/// A watch that goes along with a collection watches the words of both spaces: each field is due or corresponds.
+pub fn watches_know_the_words()
+    ensures words { (heap : HeapWords) (c : CollectionWords) (w : Watch)
+        → IsHeap heap → IsCollection c → BelongsTo heap c
+        → GoesAlong (graph_in heap).objects (end_of heap.space) (collection_in c) w
+        → Watches heap.space.words c.space.words w }
+{}
+
+/// A watch goes along through the collector's steps and the mutators' commands, if it has the fields of new replicas as
+/// due, loses no mark but that of the field that a step brought up to date, and marks each field that a command wrote.
+pub fn watches_go_along()
+    ensures begun { (objects : List (ℕ × Object)) (end mutators size : ℕ)
+        → GoesAlong objects end (fresh_collection mutators size) (opening end) }
+    ensures roots { (s after : State) (c next : Collection) (w later : Watch) → IsOpened s c
+        → GoesAlong s.heap.graph.objects (heap_end s) c w
+        → copy_root s c (root_target c s.heap.graph) ≡ (StepReply.Copied, after) → after.collection ≡ Some next
+        → Fits (heap_end s) next later → LosesNone (new_end c) w next later
+        → GoesAlong s.heap.graph.objects (heap_end s) next later }
+    ensures scan { (s after : State) (c next : Collection) (r : Replica) (w later : Watch) → IsOpened s c
+        → GoesAlong s.heap.graph.objects (heap_end s) c w → replica_at c c.scan_place ≡ Some r
+        → scan s c ≡ (StepReply.Scanned, after) → after.collection ≡ Some next
+        → Fits (heap_end s) next later → LosesOnly (new_end c) r.original c.scan_field w next later
+        → GoesAlong s.heap.graph.objects (heap_end s) next later }
+    ensures passed { (s after : State) (c next : Collection) (r : Replica) (w : Watch)
+        → GoesAlong s.heap.graph.objects (heap_end s) c w → replica_at c c.scan_place ≡ Some r
+        → scan s c ≡ (StepReply.Passed, after) → after.collection ≡ Some next
+        → GoesAlong s.heap.graph.objects (heap_end s) next w }
+    ensures apply { (s after : State) (c next : Collection) (m : ℕ) (entry : ℕ × ℕ) (rest : List (ℕ × ℕ))
+        (w later : Watch) → IsOpened s c → GoesAlong s.heap.graph.objects (heap_end s) c w
+        → apply_log s c m (entry ∷ rest) ≡ (StepReply.Applied, after) → after.collection ≡ Some next
+        → Fits (heap_end s) next later → LosesOnly (new_end c) entry.0 entry.1 w next later
+        → GoesAlong s.heap.graph.objects (heap_end s) next later }
+    ensures command { (s after : State) (c next : Collection) (m : ℕ) (op : Op) (reply : Reply) (w later : Watch)
+        → IsOpened s c → GoesAlong s.heap.graph.objects (heap_end s) c w
+        → s.collection ≡ Some c → mutate s m op ≡ (reply, after) → after.collection ≡ Some next
+        → Fits (heap_end after) next later
+        → MarksWritten (λ a i. In {X = ℕ × ℕ} (a, i) (written s.heap.graph m op reply)) w c later
+        → GoesAlong after.heap.graph.objects (heap_end after) next later }
+{}

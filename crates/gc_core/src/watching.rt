@@ -1,0 +1,40 @@
+ghost use Rattle.std.specs.Prelude.{◌≡◌, Some};
+ghost use Rattle.gc_copy.specs.State.{Collection, heap_end};
+ghost use Rattle.gc_copy.specs.Belonging.{IsSpaceGraph, IsOpen};
+ghost use Rattle.gc_core.specs.Flip.{flip_pair};
+ghost use Rattle.gc_along.specs.Watch.{Watch, Watches};
+ghost use Rattle.gc_beside.specs.Stays.{GoesAlong};
+
+use crate::collected_heap::CollectedHeap;
+use gc_beside::watches_know_the_words;
+use gc_copy::{heaps_have_addresses_as_names, images_show_links};
+
+impl CollectedHeap {
+    /// Does nothing. Each state of a heap is sound: its objects lie back to back, and an open collection belongs to it.
+    #[inline(always)]
+    pub fn is_sound(&self)
+        ensures heap { IsSpaceGraph self.now.size self.now.heap.free self.now.heap.graph }
+        ensures open { IsOpen self.now self.now.collection }
+    {
+        heaps_have_addresses_as_names();
+        let _ = self.heap.space();
+        if let Some(collection) = &self.collection {
+            let _ = collection.new_image(&[]);
+        }
+    }
+
+    /// Does nothing. A watch that goes along with the open collection watches the words of both images.
+    #[inline(always)]
+    pub fn is_watched(&self)
+        ensures { (c : Collection) (w : Watch) → self.now.collection ≡ Some c
+            → GoesAlong self.now.heap.graph.objects (heap_end self.now) c w
+            → Watches (flip_pair self.now c).old.words (flip_pair self.now c).new.words w }
+    {
+        images_show_links();
+        watches_know_the_words();
+        let _ = self.heap.space();
+        if let Some(collection) = &self.collection {
+            let _ = collection.new_image(&[]);
+        }
+    }
+}

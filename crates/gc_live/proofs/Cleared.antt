@@ -1,0 +1,36 @@
+-- A standing checker beside a heap whose extra roots are cleared.
+use Rattle.std.proofs.Common.{◌≡◌, ⊎_elim, ℕ, zero, suc, Option, Some, None, refl, ap, ◌∙◌, subst}
+use Rattle.gc_graph.specs.declared.command.Op.TheVariants as ops
+use Rattle.gc_heap.specs.ExtraRoots.{extra_slot}
+use Rattle.gc_copy.specs.State.{Collection, State, heap_end}
+use Rattle.gc_copy.specs.Steps.{mutate}
+use Rattle.gc_copy.specs.Belonging.{IsOpen}
+use Rattle.gc_copy.proofs.Commands.{WrittenBy, unchanged}
+use Rattle.gc_core.specs.ExtraRoots.{clear_step}
+use Rattle.gc_along.specs.Watch.{opening}
+use Rattle.gc_along.specs.Tables.{Tables, watch_of}
+use Rattle.gc_beside.specs.Stays.{Fits}
+use Rattle.gc_beside.specs.Live.{IsLive}
+use Rattle.gc_beside.proofs.LivesThrough.{Leads, same_itself, leads_on, leads_one, lives_through, end_by}
+
+abbrev Never : ℕ → ℕ → Type 0
+Never a i = ⊥
+
+clear_leads : (n : ℕ) (s : State) (k : ℕ) → Leads s (clear_step s k n) Never × (heap_end s ≡ heap_end (clear_step s k n))
+clear_leads zero s k = (record { collection = same_itself s.collection; evolves = unchanged s.heap.graph.objects Never }, refl)
+clear_leads (suc n) s k =
+    let op = ops.Nil (extra_slot s.mutators 0 k) in
+    let next = mutate s 0 op in
+    let r = clear_leads n next.1 (suc k) in (
+      leads_on s next.1 (clear_step next.1 (suc k) n) (WrittenBy s.heap.graph 0 op next.0) Never Never (λ a i w. w) (λ a i w. w) (leads_one s next.1 0 op next.0 refl) r.0,
+      end_by s next.1 0 op next.0 refl refl ∙ r.1,
+    )
+
+pub lives_cleared : (s s' : State) (k n : ℕ) (t : Tables) → IsOpen s s.collection → clear_step s k n ≡ s' → IsLive s t → IsLive s' t
+lives_cleared s s' k n t is_open is live =
+    let r = clear_leads n s k in
+    let end : heap_end s ≡ heap_end s' = r.1 ∙ ap heap_end is in
+    lives_through s s' t t Never is_open (subst (λ (x : State). Leads s x Never) is r.0) (λ y. y)
+    (λ found e w. w ∙ ap opening end)
+    (λ found c e opened g. (subst (λ n. Fits n c (watch_of t)) end g.fits, λ r l j u. ⊎_elim (λ d. d) (λ w. absurd w)))
+    live

@@ -1,0 +1,24 @@
+use Rattle.std.proofs.Common.{◌≡◌, ℕ, List, Bor, Option, Some, None, sym, ap, subst, ◌∙◌}
+use Rattle.std.specs.Option.{option_map}
+use Rattle.gc_copy.specs.State.{State, Collection}
+use Rattle.gc_core.specs.Readings.{new_space, new_space_in}
+use Rattle.gc_core.specs.declared.reading.NewSpace.{NewSpace}
+use Rattle.gc_along.specs.Events.{Looked}
+use Rattle.gc_beside.proofs.Lives.{lives_scanned, lives_scan_other}
+use Rattle.gc_live.proofs.live_heap.LiveHeap.scan.Goals as goal
+
+pub invariant_of-self : goal.invariant_of-self
+invariant_of-self c = lives_scan_other c.self.inside.inner c.scan-reply.new.self c.scan-reply.result c.self.inside.watch c.is_sound.ensures.heap c.is_sound.ensures.open c.is_sound-2.ensures.open c.scan-reply.ensures.step c.in_default.not-Scanned c.self.invariant
+
+collection_of : (s : State) (space : NewSpace) → Some space ≡ new_space s → (c : Collection) × (s.collection ≡ Some c) × (new_space_in c ≡ space)
+collection_of s space is = go s.collection is
+  where
+    go : (o : Option Collection) → Some space ≡ option_map new_space_in o → (c : Collection) × (o ≡ Some c) × (new_space_in c ≡ space)
+    go None e = absurd (let no : Some space ≡ None = e in cc)
+    go (Some c) e = (c, Rattle.std.proofs.Common.refl, (let n : Some space ≡ Some (new_space_in c) = e in cc))
+
+pub invariant_of-self-in-Some-new_words : goal.invariant_of-self-in-Some-new_words
+invariant_of-self-in-Some-new_words c =
+    let found = collection_of c.self.inside.inner c.in-Some-Some.space (sym c.in-Some-Some.is-0 ∙ c.new_space-space.ensures) in
+    lives_scanned c.self.inside.inner c.scan-reply.new.self found.0 _ c.in-Some-Some.new.now c.self.inside.watch c.placed.new.self c.look.new.self c.is_sound.ensures.heap c.is_sound.ensures.open c.is_sound-2.ensures.open found.1 c.in-Scanned.ensures.step (sym c.new_words.ensures ∙ ap (λ (r : Option (Bor (List ℕ))). option_map (λ (w : Bor (List ℕ)). w.now) r) c.in-Some-Some.is-1)
+    c.placed.ensures.lost c.placed.ensures.placed c.look.ensures.lost (λ n. subst (λ (s : NewSpace). Looked c.image.result.words.now c.in-Some-Some.new.now s.scan_place s.scan_field c.placed.new.self c.look.new.self) (sym found.2) (c.look.ensures.looked n)) c.self.invariant

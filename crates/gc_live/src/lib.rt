@@ -1,0 +1,6 @@
+//! A collected heap whose checker goes along with the collection.
+#![tactic(auto)]
+
+mod live_heap;
+
+pub use live_heap::{Checking, FlipChecks, LiveHeap};

@@ -1,0 +1,654 @@
+ghost use Rattle.std.specs.Prelude.{◌≡◌};
+
+use gc_along::Standing;
+use gc_check::Checks;
+use gc_copy::{LogEntry, Step, StepReply};
+use gc_core::{CollectedHeap, NewSpace};
+use gc_graph::{NoMemory, Number, Op, Reply, Slot};
+use gc_heap::{Fetched, Heap, HeapOptions};
+use gc_words::{ImageRef, OldAddr};
+use std::alloc::Global;
+use std::marker::Model;
+
+/// When the checker looks at a collection.
+#[derive(Clone, Copy, Debug, Drop, PartialEq, Eq)]
+pub enum Checking {
+    /// The flip checks both spaces whole.
+    AtFlip,
+    /// A standing checker looks at each field when the collector brings it up to date. The flip looks at a count and the roots.
+    Along,
+}
+
+/// How many flips each checker has accepted since the heap was opened.
+#[derive(Clone, Copy, Debug, Drop, PartialEq, Eq)]
+pub struct FlipChecks {
+    /// Those of the standing checker.
+    pub along: u64,
+    /// Those of the checker of both spaces whole.
+    pub whole: u64,
+}
+
+impl FlipChecks {
+    // With one flip more. A count stays at the largest number that it can hold.
+    fn with(self, whole: bool) -> FlipChecks {
+        let FlipChecks { along, whole: wholes } = self;
+        if whole {
+            FlipChecks {
+                along,
+                whole: wholes.saturating_add(1),
+            }
+        } else {
+            FlipChecks {
+                along: along.saturating_add(1),
+                whole: wholes,
+            }
+        }
+    }
+}
+
+/// A collected heap whose checker goes along with the collection.
+#[derive(Debug, Drop)]
+pub struct LiveHeap {
+    inner: CollectedHeap,
+    watch: Standing,
+    checks: FlipChecks,
+}
+
+impl Model for LiveHeap {
+    ghost use Rattle.gc_copy.specs.State.{State};
+
+    ghost Value = { State };
+
+    ghost view = { λ h. h.inner };
+
+    ghost use Rattle.gc_beside.specs.Live.{IsLive};
+
+    ghost invariant = { λ h. IsLive h.inner h.watch };
+}
+
+impl LiveHeap {
+    ghost use Rattle.std.specs.Prelude.{◌≡◌, ◌≤◌, IfOk, is_some, ◌<◌, ◌∷◌, [], OnErr, IsSome, length, map, ◌≢◌, ◌-◌, slice_get};
+    ghost use Rattle.gc_graph.specs.Limits.{most_mutators, lengths};
+    ghost use Rattle.gc_copy.specs.State.{opening_state, opening_state_with, extra_roots_of, heap_end};
+    ghost use Rattle.gc_heap.specs.ExtraRoots.{CanOpen, extra_slot};
+    ghost use Rattle.gc_core.specs.ExtraRoots.{clear_step};
+    ghost use Rattle.gc_copy.specs.Steps.{useful_step, mutate, WritesField, collect};
+    ghost use Rattle.gc_copy.specs.Runs.{IsStep};
+    ghost use Rattle.gc_heap.specs.Heap.{roomy_in};
+    ghost use Rattle.std.specs.List.{AllByRecursion};
+    ghost use Rattle.gc_graph.specs.declared.command.Op.{Op};
+    ghost use Rattle.gc_core.specs.CollectedHeap.{Fetches, new_from_step, Allocates};
+    ghost use Rattle.gc_core.specs.Slots.{slot_numbers, numbered_slot};
+    ghost use Rattle.gc_copy.specs.declared.step.Step.{Step};
+    ghost use Rattle.gc_copy.specs.declared.step.StepReply.{StepReply};
+    ghost use Rattle.gc_live.specs.Sure.{IsSure};
+    ghost use Rattle.gc_core.specs.Flip.{FlipsOnly, IsCertified, PassesIfReady, HasRoomIfLarge};
+    ghost use Rattle.std.specs.Option.{option_map};
+    ghost use Rattle.gc_words.specs.Views.{image_of};
+    ghost use Rattle.gc_copy.specs.Entries.{entry_in};
+    ghost use Rattle.gc_core.specs.Readings.{heap_image, new_words, new_space, log_of};
+
+    /// Returns an empty heap of `size` words, at least 1, for 1 to 16 mutators, whose flips are checked along with the collection.
+    pub fn open(alloc: Global, size: u32, mutators: u8) -> Result<LiveHeap, NoMemory>
+        requires low { 1 ≤ size }
+        requires some { 1 ≤ mutators }
+        requires few { mutators ≤ most_mutators }
+        ensures { IfOk result (λ heap. heap ≡ opening_state size mutators) }
+    {
+        LiveHeap::open_with(alloc, &HeapOptions::new(size, mutators), Checking::Along)
+    }
+
+    /// Returns an empty heap with these options, whose flips are checked in this way. All roots are nil.
+    pub fn open_with(
+        alloc: Global,
+        options: &HeapOptions,
+        checking: Checking,
+    ) -> Result<LiveHeap, NoMemory>
+        requires { CanOpen options.now }
+        ensures { IfOk result (λ heap. heap ≡ opening_state_with options.now) }
+    {
+        let inner = CollectedHeap::open_with(alloc, options)?;
+        let watch = match checking {
+            Checking::AtFlip => Standing::absent(alloc),
+            Checking::Along => Standing::new(alloc, options.size)?,
+        };
+        Ok(LiveHeap {
+            inner,
+            watch,
+            checks: FlipChecks { along: 0, whole: 0 },
+        })
+    }
+
+    /// Returns the mutators' heap.
+    pub fn heap(&self) -> &Heap
+        ensures { roomy_in result.now ≡ self.now.heap }
+    {
+        self.inner.heap()
+    }
+
+    /// Returns how many flips each checker has accepted.
+    pub fn flip_checks(&self) -> FlipChecks {
+        self.checks
+    }
+
+    /// Returns the number of mutators, 1 to 16.
+    pub fn mutators(&self) -> u8
+        ensures { result ≡ self.now.mutators }
+    {
+        self.inner.mutators()
+    }
+
+    /// Returns whether a collection is open.
+    pub fn is_open(&self) -> bool
+        ensures { result ≡ is_some self.now.collection }
+    {
+        self.inner.is_open()
+    }
+
+    /// Makes an object of this kind with `len` fields, all nil, and sets `d` to a reference to it. Returns `Made`, or
+    /// `Full` if there is no room; then nothing has changed. Does not allocate.
+    #[inline(always)]
+    pub fn new_object(&mut self, m: u8, d: Slot, kind: u8, len: u16) -> Reply
+        requires { m < self.old.mutators }
+        ensures step { mutate self.old m (Op.New d kind len) ≡ (result, self.new) }
+        ensures mutators { self.new.mutators ≡ self.old.mutators }
+    {
+        self.inner.is_sound();
+        let reply = self.inner.new_object(m, d, kind, len);
+        self.inner.is_sound();
+        self.watch.made(self.inner.image().words);
+        reply
+    }
+
+    /// Makes a raw object, as `new_object` makes an object. Its fields are plain numbers, all 0. Does not allocate.
+    #[inline(always)]
+    pub fn new_raw(&mut self, m: u8, d: Slot, kind: u8, len: u16) -> Reply
+        requires { m < self.old.mutators }
+        ensures step { mutate self.old m (Op.NewRaw d kind len) ≡ (result, self.new) }
+        ensures mutators { self.new.mutators ≡ self.old.mutators }
+    {
+        self.inner.is_sound();
+        let reply = self.inner.new_raw(m, d, kind, len);
+        self.inner.is_sound();
+        self.watch.made(self.inner.image().words);
+        reply
+    }
+
+    /// Sets `d` to the number. Returns `Done`. Does not allocate.
+    #[inline(always)]
+    pub fn num(&mut self, m: u8, d: Slot, n: Number) -> Reply
+        requires { m < self.old.mutators }
+        ensures step { mutate self.old m (Op.Num d n) ≡ (result, self.new) }
+        ensures mutators { self.new.mutators ≡ self.old.mutators }
+    {
+        self.inner.is_sound();
+        self.inner.num(m, d, n)
+    }
+
+    /// Sets `d` to nil. Returns `Done`. Does not allocate.
+    #[inline(always)]
+    pub fn nil(&mut self, m: u8, d: Slot) -> Reply
+        requires { m < self.old.mutators }
+        ensures step { mutate self.old m (Op.Nil d) ≡ (result, self.new) }
+        ensures mutators { self.new.mutators ≡ self.old.mutators }
+    {
+        self.inner.is_sound();
+        self.inner.nil(m, d)
+    }
+
+    /// Sets `d` to what `s` holds. Returns `Done`. Does not allocate.
+    #[inline(always)]
+    pub fn move_slot(&mut self, m: u8, d: Slot, s: Slot) -> Reply
+        requires { m < self.old.mutators }
+        ensures step { mutate self.old m (Op.Move d s) ≡ (result, self.new) }
+        ensures mutators { self.new.mutators ≡ self.old.mutators }
+    {
+        self.inner.is_sound();
+        self.inner.move_slot(m, d, s)
+    }
+
+    /// Sets `d` to field `i` of the object that `s` refers to. Returns `Saw`, or else `NoObject` or `NoField`. Does not
+    /// allocate.
+    #[inline(always)]
+    pub fn get(&mut self, m: u8, d: Slot, s: Slot, i: u16) -> Reply
+        requires { m < self.old.mutators }
+        ensures step { mutate self.old m (Op.Get d s i) ≡ (result, self.new) }
+        ensures mutators { self.new.mutators ≡ self.old.mutators }
+    {
+        self.inner.is_sound();
+        self.inner.get(m, d, s, i)
+    }
+
+    /// Does what `get` does, but does not read an object that it found, so it returns no kind and no length. Does not
+    /// allocate.
+    #[inline(always)]
+    pub fn fetch(&mut self, m: u8, d: Slot, s: Slot, i: u16) -> Fetched
+        requires { m < self.old.mutators }
+        ensures fetches { Fetches self.old m d s i result self.new }
+        ensures mutators { self.new.mutators ≡ self.old.mutators }
+    {
+        self.inner.is_sound();
+        self.inner.fetch(m, d, s, i)
+    }
+
+    /// Writes what `t` holds to field `i` of the object that `s` refers to. Returns `Done`, or else `NoObject`,
+    /// `NoField` or `NoNumber`. While a collection is open, the field is logged (the write barrier). Only then can the
+    /// call return `NoMemory`, and the heap is unchanged.
+    #[inline(always)]
+    pub fn put(&mut self, m: u8, s: Slot, i: u16, t: Slot) -> Result<Reply, NoMemory>
+        requires { m < self.old.mutators }
+        ensures step { IfOk result (λ reply. mutate self.old m (Op.Put s i t) ≡ (reply, self.new)) }
+        ensures refused { OnErr result (self.new ≡ self.old) }
+        ensures open { OnErr result (IsSome self.old.collection) }
+        ensures mutators { self.new.mutators ≡ self.old.mutators }
+    {
+        self.inner.is_sound();
+        if !self.inner.is_open() {
+            return self.inner.put(m, s, i, t);
+        }
+        let target = target_in(self.inner.heap(), m, s);
+        let reply = self.inner.put(m, s, i, t)?;
+        let Reply::Done = reply else {
+            return Ok(reply);
+        };
+        match target {
+            None => self.watch.lose(),
+            Some(object) => self.watch.written(self.inner.image().words, object.0, i),
+        }
+        Ok(reply)
+    }
+
+    /// Performs a `num` and a `put` in one call: sets `t` to the number, and then writes it to field `i` of the object
+    /// that `s` refers to. Returns the reply to the `put`. Returns `NoMemory` only while a collection is open; the heap
+    /// is then unchanged.
+    #[inline(always)]
+    pub fn put_number(
+        &mut self,
+        m: u8,
+        s: Slot,
+        i: u16,
+        t: Slot,
+        n: Number,
+    ) -> Result<Reply, NoMemory>
+        requires { m < self.old.mutators }
+        ensures step { IfOk result (λ reply. mutate (mutate self.old m (Op.Num t n)).1 m (Op.Put s i t) ≡ (reply, self.new)) }
+        ensures refused { OnErr result (self.new ≡ self.old) }
+        ensures open { OnErr result (IsSome self.old.collection) }
+        ensures mutators { self.new.mutators ≡ self.old.mutators }
+    {
+        self.inner.is_sound();
+        let reply = self.inner.put_number(m, s, i, t, n)?;
+        if !self.inner.is_open() {
+            return Ok(reply);
+        }
+        let Reply::Done = reply else {
+            return Ok(reply);
+        };
+        match target_in(self.inner.heap(), m, s) {
+            None => self.watch.lose(),
+            Some(object) => self.watch.written(self.inner.image().words, object.0, i),
+        }
+        Ok(reply)
+    }
+
+    /// Makes an object of this kind with two fields, which take what `s` and `t` hold, and sets `d` to a reference to
+    /// it. This is a `new_object` followed by two `put`s, in one call. Returns `Made`, or `Full` if there is no room;
+    /// then nothing has changed. `d` is set first, so a field filled from slot `d` refers to the object itself. Returns
+    /// `NoMemory` only while a collection is open; the heap is then unchanged.
+    #[inline(always)]
+    pub fn cons(&mut self, m: u8, d: Slot, kind: u8, s: Slot, t: Slot) -> Result<Reply, NoMemory>
+        requires { m < self.old.mutators }
+        ensures step { IfOk result (λ reply. new_from_step self.old m d kind (s ∷ t ∷ []) ≡ (reply, self.new)) }
+        ensures refused { OnErr result (self.new ≡ self.old) }
+        ensures open { OnErr result (IsSome self.old.collection) }
+        ensures mutators { self.new.mutators ≡ self.old.mutators }
+    {
+        self.inner.is_sound();
+        let reply = self.inner.cons(m, d, kind, s, t)?;
+        self.inner.is_sound();
+        self.watch.made(self.inner.image().words);
+        Ok(reply)
+    }
+
+    /// Makes an object of this kind and sets `d` to a reference to it. `fields` has a slot number for each field, which
+    /// takes what that slot holds. This is a `new_object` followed by a `put` for each field, in one call. Returns
+    /// `Made`, or `Full` if there is no room; then nothing has changed. `d` is set first, so a field filled from slot
+    /// `d` refers to the object itself. Returns `NoMemory` only while a collection is open; the heap is then unchanged.
+    pub fn new_from(&mut self, m: u8, d: Slot, kind: u8, fields: &[u8]) -> Result<Reply, NoMemory>
+        requires mutator { m < self.old.mutators }
+        requires few { length fields.now < lengths }
+        requires slots { AllByRecursion (λ n. n < slot_numbers) fields.now }
+        ensures step { IfOk result (λ reply.
+            new_from_step self.old m d kind (map numbered_slot fields.now) ≡ (reply, self.new)) }
+        ensures refused { OnErr result (self.new ≡ self.old) }
+        ensures open { OnErr result (IsSome self.old.collection) }
+        ensures mutators { self.new.mutators ≡ self.old.mutators }
+    {
+        self.inner.is_sound();
+        let reply = self.inner.new_from(m, d, kind, fields)?;
+        self.inner.is_sound();
+        self.watch.made(self.inner.image().words);
+        Ok(reply)
+    }
+
+    /// Returns the number of extra roots.
+    pub fn extra_roots(&self) -> u32
+        ensures { result ≡ extra_roots_of self.now }
+    {
+        self.inner.extra_roots()
+    }
+
+    /// Sets `d` to what extra root `k` holds. Returns `Done`. Does not allocate, and logs nothing.
+    pub fn load(&mut self, m: u8, d: Slot, k: u32) -> Reply
+        requires mutator { m < self.old.mutators }
+        requires root { k < extra_roots_of self.old }
+        ensures step { mutate self.old m (Op.Move d (extra_slot self.old.mutators m k)) ≡ (result, self.new) }
+        ensures mutators { self.new.mutators ≡ self.old.mutators }
+    {
+        self.inner.is_sound();
+        self.inner.load(m, d, k)
+    }
+
+    /// Sets extra root `k` to what `s` holds. Returns `Done`. Does not allocate, and logs nothing.
+    pub fn store(&mut self, m: u8, k: u32, s: Slot) -> Reply
+        requires mutator { m < self.old.mutators }
+        requires root { k < extra_roots_of self.old }
+        ensures step { mutate self.old m (Op.Move (extra_slot self.old.mutators m k) s) ≡ (result, self.new) }
+        ensures mutators { self.new.mutators ≡ self.old.mutators }
+    {
+        self.inner.is_sound();
+        self.inner.store(m, k, s)
+    }
+
+    /// Sets the extra roots from `from` on, and below `to`, to nil. Does not allocate, and logs nothing. A collection does not read extra
+    /// roots above the last one that was set and not cleared.
+    pub fn clear(&mut self, from: u32, to: u32)
+        requires { to ≤ extra_roots_of self.old }
+        ensures step { clear_step self.old from (to - from) ≡ self.new }
+        ensures mutators { self.new.mutators ≡ self.old.mutators }
+    {
+        self.inner.is_sound();
+        self.inner.clear(from, to);
+    }
+
+    /// Compares what `s` and `t` hold. Returns `Yes` or `No`. Changes nothing.
+    #[inline(always)]
+    pub fn same(&self, m: u8, s: Slot, t: Slot) -> Reply
+        requires { m < self.now.mutators }
+        ensures { mutate self.now m (Op.Same s t) ≡ (result, self.now) }
+    {
+        self.inner.same(m, s, t)
+    }
+
+    /// Returns `Saw` with what `s` holds. Changes nothing.
+    #[inline(always)]
+    pub fn look(&self, m: u8, s: Slot) -> Reply
+        requires { m < self.now.mutators }
+        ensures { mutate self.now m (Op.Look s) ≡ (result, self.now) }
+    {
+        self.inner.look(m, s)
+    }
+
+    /// Opens a collection whose new space has `size` words, at least 1. Returns `Begun`, or `Busy` if one is already open. On
+    /// `NoMemory` nothing has changed, and none is open.
+    pub fn begin_sized(&mut self, size: u32) -> Result<StepReply, NoMemory>
+        requires low { 1 ≤ size }
+        ensures step { IfOk result (λ reply. collect self.old (Step.BeginSized size) ≡ (reply, self.new)) }
+        ensures refused { OnErr result (self.new ≡ self.old) }
+        ensures allocates { OnErr result (Allocates self.old (Step.BeginSized size)) }
+        ensures mutators { self.new.mutators ≡ self.old.mutators }
+    {
+        if self.inner.is_open() {
+            return Ok(StepReply::Busy);
+        }
+        self.watch.reserve(size)?;
+        let reply = self.inner.begin_sized(size)?;
+        self.inner.is_sound();
+        self.watch.begun(self.inner.image().words);
+        Ok(reply)
+    }
+
+    /// Opens a collection whose new space is as large as the heap. Returns `Begun`, or `Busy` if one is already open.
+    /// On `NoMemory` nothing has changed, and none is open.
+    pub fn begin(&mut self) -> Result<StepReply, NoMemory>
+        ensures step { IfOk result (λ reply. collect self.old Step.Begin ≡ (reply, self.new)) }
+        ensures refused { OnErr result (self.new ≡ self.old) }
+        ensures allocates { OnErr result (Allocates self.old Step.Begin) }
+        ensures mutators { self.new.mutators ≡ self.old.mutators }
+    {
+        self.inner.is_sound();
+        let size = self.inner.size();
+        self.begin_sized(size)
+    }
+
+    /// Replicates the target of the first root whose target has no replica. Returns `Copied` or `NoRoom`, `Clean` if
+    /// there is no such root, or `Idle` if no collection is open. Does not allocate.
+    #[inline(always)]
+    pub fn roots(&mut self) -> StepReply
+        ensures step { collect self.old Step.Roots ≡ (result, self.new) }
+        ensures room { HasRoomIfLarge self.old result }
+        ensures mutators { self.new.mutators ≡ self.old.mutators }
+    {
+        self.inner.is_sound();
+        let reply = self.inner.roots();
+        self.inner.is_sound();
+        let StepReply::Copied = reply else {
+            return reply;
+        };
+        match self.inner.new_words() {
+            None => self.watch.lose(),
+            Some(new) => self.watch.placed(self.inner.image().words, new),
+        }
+        reply
+    }
+
+    /// Brings the field at the scan pointer up to date (`Scanned` or `NoRoom`), or moves on to the next replica
+    /// (`Passed`). Returns `Clean` if all replicas are scanned, or `Idle` if no collection is open. Does not allocate.
+    #[inline(always)]
+    pub fn scan(&mut self) -> StepReply
+        ensures step { collect self.old Step.Scan ≡ (result, self.new) }
+        ensures room { HasRoomIfLarge self.old result }
+        ensures mutators { self.new.mutators ≡ self.old.mutators }
+    {
+        self.inner.is_sound();
+        let space = self.inner.new_space();
+        let reply = self.inner.scan();
+        self.inner.is_sound();
+        let StepReply::Scanned = reply else {
+            return reply;
+        };
+        match (space, self.inner.new_words()) {
+            (Some(space), Some(new)) => {
+                let old = self.inner.image().words;
+                self.watch.placed(old, new);
+                self.watch
+                    .look(old, new, space.scan_place, space.scan_field);
+            }
+            _ => self.watch.lose(),
+        }
+        reply
+    }
+
+    /// Applies the oldest entry of mutator `m`'s log. Returns `Applied` or `NoRoom`, `Clean` if the log is empty, or
+    /// `Idle` if no collection is open. Does not allocate.
+    pub fn apply_log(&mut self, m: u8) -> StepReply
+        requires { m < self.old.mutators }
+        ensures step { collect self.old (Step.Apply m) ≡ (result, self.new) }
+        ensures room { HasRoomIfLarge self.old result }
+        ensures mutators { self.new.mutators ≡ self.old.mutators }
+    {
+        self.inner.is_sound();
+        let entry = self.inner.log_entry(m, 0);
+        let reply = self.inner.apply_log(m);
+        self.inner.is_sound();
+        let StepReply::Applied = reply else {
+            return reply;
+        };
+        match (entry, self.inner.new_words()) {
+            (Some(entry), Some(new)) => {
+                let old = self.inner.image().words;
+                self.watch.placed(old, new);
+                self.watch.applied(old, new, entry.object.0, entry.field);
+            }
+            _ => self.watch.lose(),
+        }
+        reply
+    }
+
+    /// Frees the new space and the logs of the open collection. Returns `Dropped`, or `Idle` if none is open. Does not
+    /// allocate.
+    pub fn give_up(&mut self) -> StepReply
+        ensures step { collect self.old Step.Drop ≡ (result, self.new) }
+        ensures mutators { self.new.mutators ≡ self.old.mutators }
+    {
+        let reply = self.inner.give_up();
+        self.watch.dropped();
+        reply
+    }
+
+    /// Returns the useful step: the one that advances the collection, or opens one.
+    #[inline(always)]
+    pub fn useful_step(&self) -> Step
+        ensures useful { result ≡ useful_step self.now }
+        ensures step { IsStep self.now.mutators result }
+    {
+        self.inner.useful_step()
+    }
+
+    /// Returns the useful step. If it finds that every root's target has a replica, it remembers that. The next calls
+    /// then look at no root until a command comes.
+    #[inline(always)]
+    pub fn next_useful_step(&mut self) -> Step
+        ensures useful { result ≡ useful_step self.old }
+        ensures step { IsStep self.old.mutators result }
+        ensures same { self.new ≡ self.old }
+    {
+        self.inner.next_useful_step()
+    }
+
+    /// Returns the number of words in the mutators' space.
+    pub fn size(&self) -> u32
+        ensures { result ≡ self.now.size }
+    {
+        self.inner.size()
+    }
+
+    /// Returns the first word of the mutators' space that no object takes.
+    pub fn end(&self) -> u32
+        ensures { result ≡ heap_end self.now }
+    {
+        self.inner.end()
+    }
+
+    /// Returns the number of words in the mutators' space that no object takes.
+    pub fn free(&self) -> u32
+        ensures { result ≡ self.now.heap.free }
+    {
+        self.inner.free()
+    }
+
+    /// Returns how far the open collection has come, or `None` if none is open.
+    pub fn new_space(&self) -> Option<NewSpace>
+        ensures { result ≡ new_space self.now }
+    {
+        self.inner.new_space()
+    }
+
+    /// Returns the number of entries in mutator `m`'s log: 0 if no collection is open.
+    pub fn log_len(&self, m: u8) -> usize
+        requires { m < self.now.mutators }
+        ensures { result ≡ length (log_of self.now m) }
+    {
+        self.inner.log_len(m)
+    }
+
+    /// Returns entry `k` of mutator `m`'s log, counted from the oldest, or `None` if there is no such entry.
+    pub fn log_entry(&self, m: u8, k: usize) -> Option<LogEntry>
+        requires { m < self.now.mutators }
+        ensures { option_map entry_in result ≡ slice_get (log_of self.now m) k }
+    {
+        self.inner.log_entry(m, k)
+    }
+
+    /// Returns the mutators' space with its links, and the roots.
+    pub fn image(&self) -> ImageRef<'_>
+        ensures { image_of result ≡ heap_image self.now }
+    {
+        self.inner.image()
+    }
+
+    /// Returns the words of the open collection's new space (to-space) with its links, or `None` if none is open.
+    pub fn new_words(&self) -> Option<&[u64]>
+        ensures { option_map (λ words. words.now) result ≡ new_words self.now }
+    {
+        self.inner.new_words()
+    }
+
+    /// Performs one collector step.
+    #[inline(always)]
+    pub fn collect<C: Checks>(&mut self, checker: &C, step: Step) -> Result<StepReply, NoMemory>
+        requires can { C.can_check checker.now }
+        requires step { IsStep self.old.mutators step }
+        ensures step { IfOk result (λ reply. collect self.old step ≡ (reply, self.new)) }
+        // A flip happens only if the certificate holds.
+        ensures sound { IfOk result (FlipsOnly IsCertified self.old) }
+        ensures passes { step ≡ Step.Flip → IfOk result (PassesIfReady self.old) }
+        ensures never_refused { IfOk result (λ reply. reply ≢ StepReply.Refused) }
+        ensures room { IfOk result (HasRoomIfLarge self.old) }
+        ensures refused { OnErr result (self.new ≡ self.old) }
+        ensures allocates { OnErr result (Allocates self.old step) }
+        ensures mutators { self.new.mutators ≡ self.old.mutators }
+    {
+        match step {
+            Step::Begin => self.begin(),
+            Step::BeginSized(size) => self.begin_sized(size),
+            Step::Roots => Ok(self.roots()),
+            Step::Scan => Ok(self.scan()),
+            Step::Apply(m) => Ok(self.apply_log(m)),
+            Step::Flip => self.flip(checker),
+            Step::Drop => Ok(self.give_up()),
+        }
+    }
+
+    /// Flips.
+    pub fn flip<C: Checks>(&mut self, checker: &C) -> Result<StepReply, NoMemory>
+        requires { C.can_check checker.now }
+        ensures step { IfOk result (λ reply. collect self.old Step.Flip ≡ (reply, self.new)) }
+        // A flip happens only if the certificate holds, as the standing checker knows, or this checker said yes.
+        ensures asked { IfOk result (FlipsOnly (IsSure (C.says_yes checker.now)) self.old) }
+        // A flip happens only if the certificate holds.
+        ensures sound { IfOk result (FlipsOnly IsCertified self.old) }
+        ensures passes { IfOk result (PassesIfReady self.old) }
+        ensures never_refused { IfOk result (λ reply. reply ≢ StepReply.Refused) }
+        ensures refused { OnErr result (self.new ≡ self.old) }
+        // Only the flip of a ready collection allocates.
+        ensures allocates { OnErr result (Allocates self.old Step.Flip) }
+        ensures mutators { self.new.mutators ≡ self.old.mutators }
+    {
+        self.inner.is_sound();
+        self.inner.is_watched();
+        let flip = self.inner.flip_along(&self.watch, checker)?;
+        if let StepReply::Flipped { .. } = flip.reply {
+            self.checks = self.checks.with(flip.whole);
+            self.watch.flipped();
+        }
+        Ok(flip.reply)
+    }
+}
+
+ghost use Rattle.std.specs.Prelude.{◌≤◌, IfSome, Some};
+ghost use Rattle.gc_graph.specs.Graph.{root, Value, Ref};
+ghost use Rattle.gc_graph.specs.Slots.{place};
+ghost use Rattle.gc_heap.specs.Heap.{graph_in};
+
+// The object that the slot refers to.
+#[inline(always)]
+fn target_in(heap: &Heap, m: u8, s: Slot) -> Option<OldAddr>
+    ensures object { IfSome result (λ a. root (graph_in heap.now) (place s m) ≡ Ref a.0) }
+    ensures low { IfSome result (λ a. 1 ≤ a.0) }
+{
+    if m >= heap.mutators() {
+        return None;
+    }
+    heap.target(m, s)
+}
