@@ -3,7 +3,7 @@ ghost use Rattle.std.specs.Prelude.{◌≡◌};
 use gc_along::Standing;
 use gc_check::Checks;
 use gc_copy::{LogEntry, Step, StepReply};
-use gc_core::{CollectedHeap, NewSpace};
+use gc_core::{CollectedHeap, NewSpace, SlotRow};
 use gc_graph::{NoMemory, Number, Op, Reply, Slot};
 use gc_heap::{Fetched, Heap, HeapOptions};
 use gc_words::{ImageRef, OldAddr};
@@ -68,17 +68,15 @@ impl Model for LiveHeap {
 
 impl LiveHeap {
     ghost use Rattle.std.specs.Prelude.{◌≡◌, ◌≤◌, IfOk, is_some, ◌<◌, ◌∷◌, [], OnErr, IsSome, length, map, ◌≢◌, ◌-◌, slice_get};
-    ghost use Rattle.gc_graph.specs.Limits.{most_mutators, lengths};
+    ghost use Rattle.gc_graph.specs.Limits.{most_mutators};
     ghost use Rattle.gc_copy.specs.State.{opening_state, opening_state_with, extra_roots_of, heap_end};
     ghost use Rattle.gc_heap.specs.ExtraRoots.{CanOpen, extra_slot};
     ghost use Rattle.gc_core.specs.ExtraRoots.{clear_step};
     ghost use Rattle.gc_copy.specs.Steps.{useful_step, mutate, WritesField, collect};
     ghost use Rattle.gc_copy.specs.Runs.{IsStep};
     ghost use Rattle.gc_heap.specs.Heap.{roomy_in};
-    ghost use Rattle.std.specs.List.{AllByRecursion};
     ghost use Rattle.gc_graph.specs.declared.command.Op.{Op};
     ghost use Rattle.gc_core.specs.CollectedHeap.{Fetches, new_from_step, Allocates};
-    ghost use Rattle.gc_core.specs.Slots.{slot_numbers, numbered_slot};
     ghost use Rattle.gc_copy.specs.declared.step.Step.{Step};
     ghost use Rattle.gc_copy.specs.declared.step.StepReply.{StepReply};
     ghost use Rattle.gc_live.specs.Sure.{IsSure};
@@ -310,16 +308,21 @@ impl LiveHeap {
         Ok(reply)
     }
 
-    /// Makes an object of this kind and sets `d` to a reference to it. `fields` has a slot number for each field, which
-    /// takes what that slot holds. This is a `new_object` followed by a `put` for each field, in one call. Returns
-    /// `Made`, or `Full` if there is no room; then nothing has changed. `d` is set first, so a field filled from slot
-    /// `d` refers to the object itself. Returns `NoMemory` only while a collection is open; the heap is then unchanged.
-    pub fn new_from(&mut self, m: u8, d: Slot, kind: u8, fields: &[u8]) -> Result<Reply, NoMemory>
+    /// Makes an object of this kind and sets `d` to a reference to it. `fields` has a slot for each field, which takes
+    /// what that slot holds. This is a `new_object` followed by a `put` for each field, in one call. Returns `Made`, or
+    /// `Full` if there is no room; then nothing has changed. `d` is set first, so a field filled from slot `d` refers to
+    /// the object itself. Returns `NoMemory` only while a collection is open; the heap is then unchanged.
+    pub fn new_from<R: SlotRow>(
+        &mut self,
+        m: u8,
+        d: Slot,
+        kind: u8,
+        fields: &R,
+    ) -> Result<Reply, NoMemory>
         requires mutator { m < self.old.mutators }
-        requires few { length fields.now < lengths }
-        requires slots { AllByRecursion (λ n. n < slot_numbers) fields.now }
+        requires row { R.is_row fields.now }
         ensures step { IfOk result (λ reply.
-            new_from_step self.old m d kind (map numbered_slot fields.now) ≡ (reply, self.new)) }
+            new_from_step self.old m d kind (R.slots fields.now) ≡ (reply, self.new)) }
         ensures refused { OnErr result (self.new ≡ self.old) }
         ensures open { OnErr result (IsSome self.old.collection) }
         ensures mutators { self.new.mutators ≡ self.old.mutators }

@@ -1,7 +1,6 @@
-use Rattle.std.proofs.Common.{◌≡◌, ◌∷◌, [], map, ap, subst}
+use Rattle.std.proofs.Common.{◌≡◌, ◌∷◌, [], ap, subst}
 use Rattle.gc_words.specs.Image.{Image}
 use Rattle.gc_core.specs.Readings.{links_of}
-use Rattle.gc_core.specs.Slots.{numbered_slot}
 use Rattle.gc_along.specs.Events.{Made}
 use Rattle.gc_live.proofs.Filled.{lives_filled}
 use Rattle.gc_live.proofs.live_heap.LiveHeap.cons.Goals as goal

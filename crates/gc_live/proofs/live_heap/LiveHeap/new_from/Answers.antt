@@ -1,12 +1,11 @@
-use Rattle.std.proofs.Common.{◌≡◌, ◌∷◌, [], map, ap, subst}
+use Rattle.std.proofs.Common.{◌≡◌, ap, subst}
 use Rattle.gc_words.specs.Image.{Image}
 use Rattle.gc_core.specs.Readings.{links_of}
-use Rattle.gc_core.specs.Slots.{numbered_slot}
 use Rattle.gc_along.specs.Events.{Made}
 use Rattle.gc_live.proofs.Filled.{lives_filled}
 use Rattle.gc_live.proofs.live_heap.LiveHeap.new_from.Goals as goal
 
 pub invariant_of-self-2 : goal.invariant_of-self-2
-invariant_of-self-2 c = lives_filled c.self.inside.inner c.args.m c.args.d c.args.kind (map numbered_slot c.args.fields.now) c.is_sound.ensures.heap c.new_from.new.self _ c.self.inside.watch c.made.new.self (links_of c.new_from.new.self.collection)
+invariant_of-self-2 g c = lives_filled c.self.inside.inner c.args.m c.args.d c.args.kind (g.R.SlotRow.slots c.args.fields.now) c.is_sound.ensures.heap c.new_from.new.self _ c.self.inside.watch c.made.new.self (links_of c.new_from.new.self.collection)
     c.is_sound.ensures.open c.in_ok-reply.ensures.step c.is_sound-2.ensures.heap c.made.ensures.lost
     (λ n. subst (λ (image : Image). Made image.words c.self.inside.watch c.made.new.self) c.image.ensures (c.made.ensures.made n)) c.self.invariant
