@@ -36,6 +36,7 @@ public class App {
             if (i % 11 == 0) odd[random.nextInt(odd.length)] = p;
             if (i % 12 == 0) references.add(new WeakReference<>(i % 24 == 0 ? p : new Point(i, 0, 0, self)));
             if (i % 15 == 0) references.add(new SoftReference<>(new StringBuilder(key)));
+            if (i % 16 == 0) references.add(new SoftReference<>(new Object[] {new WeakReference<>(p)}));
             if (i % 17 == 0) references.add(new PhantomReference<>(i % 34 == 0 ? p : new Object(), queue));
             bytes[i % bytes.length] ^= (byte) i;
         }

@@ -3,7 +3,8 @@
 
 The roots are the static fields of the classes whose names begin with CLASS. What they reach becomes two images, whose pairs are inferred, so no
 collector needs to say where it moved what. Prints 'yes N', or the refusal with the classes and fields on a path to the place. The
-status is 0 for a yes and 1 for a refusal. --self-test flips so many bits of the second dump, one at a time, and prints which were not refused.
+status is 0 for a yes and 1 for a refusal. --self-test flips so many bits of the second dump, one at a time, exchanges classes of objects, and prints
+what was not refused.
 
 The referent of a java.lang.ref.Reference is weak. If it is null after the collection, it counts as null before it, unless the object that it
 referred to has a replica, which is refused. If not, it counts as a reference in both dumps. The other fields of that class are the
@@ -210,37 +211,81 @@ def described(old, compared):
 
 
 def bits_of(view):
-    """Yields where the bytes of each object that was reached are in the dump, and the reason for which some make no difference."""
+    """Yields where the bytes of each object that was reached are in the dump, what they are, and the reason for which some make no
+    difference."""
     for address in view.at:
         tag, record = view.dump.where[address]
         if tag == INSTANCE:
-            layout = view.dump.layout(struct.unpack_from(">Q", view.dump.data, record + 12)[0])
-            for (_, kind, owner), start in zip(layout.fields, layout.starts):
-                yield record + 24 + start, SIZES[kind], "a field of the collector's own" if owner == COLLECTOR else None
+            of_class = struct.unpack_from(">Q", view.dump.data, record + 12)[0]
+            layout = view.dump.layout(of_class)
+            for (name, kind, owner), start in zip(layout.fields, layout.starts):
+                yield record + 24 + start, SIZES[kind], (of_class, name, start), "a field of the collector's own" if owner == COLLECTOR else None
         else:
-            count = struct.unpack_from(">I", view.dump.data, record + 12)[0]
-            size = SIZES[view.dump.data[record + 16]] if tag == NUMBERS else 8
-            yield record + (17 if tag == NUMBERS else 24), count * size, None
+            count, kind = struct.unpack_from(">IB", view.dump.data, record + 12)
+            yield record + 15, 1, (tag, count), None  # the last byte of the length
+            yield record + (17 if tag == NUMBERS else 24), count * (SIZES[kind] if tag == NUMBERS else 8), (tag, count > MOST_FIELDS, "elements"), None
 
 
-def self_test(before, after, prefix, numbers, flips):
-    """Flips bits of the second dump, asks again, and returns whether each one that was spared has a reason."""
-    pieces = [piece for piece in bits_of(View(after, prefix, numbers)) if piece[1]]
-    choose, refused, reasons = random.Random(1), 0, {}
-    for at, size, reason in choose.choices(pieces, [size for _, size, _ in pieces], k=flips):
-        at, bit = at + choose.randrange(size), 1 << choose.randrange(8)
-        after.data[at] ^= bit
-        is_refused = Comparison(View(before, prefix, numbers), View(after, prefix, numbers)).is_refused()
-        after.data[at] ^= bit
-        if is_refused:
-            refused += 1
-        else:
-            reasons[reason] = reasons.get(reason, 0) + 1
-    for reason, count in reasons.items():
-        print("spared %d: %s" % (count, reason or "for no reason"))
-    print("flipped %d bits: refused %d, explained %d, unexplained %d"
-          % (flips, refused, sum(count for reason, count in reasons.items() if reason), reasons.get(None, 0)))
-    return None not in reasons
+def classes_of(view):
+    """Yields where the class of an object is in the dump, and another class whose fields have the same kinds."""
+    found = {}
+    for address in view.at:
+        tag, record = view.dump.where[address]
+        if tag == INSTANCE:
+            of_class = struct.unpack_from(">Q", view.dump.data, record + 12)[0]
+            kinds = tuple((kind, owner) for _, kind, owner in view.dump.layout(of_class).fields)
+            found.setdefault(kinds, {}).setdefault(of_class, record + 12)
+    for classes in found.values():
+        numbers, places = list(classes), list(classes.values())
+        yield from [(place, struct.pack(">Q", numbers[i - 1])) for i, place in enumerate(places) if len(places) > 1]
+
+
+class SelfTest:
+    """Changes the second dump, asks again, and puts it right."""
+
+    def __init__(self, before, after, prefix, numbers):
+        self.before, self.after, self.prefix, self.numbers = before, after, prefix, numbers
+
+    def view(self, dump):
+        return View(dump, self.prefix, self.numbers)
+
+    def is_refused(self, at, new):
+        """Returns whether the dump is refused, or cannot be read, with these bytes."""
+        old = self.after.data[at:at + len(new)]
+        self.after.data[at:at + len(new)] = new
+        try:
+            return Comparison(self.view(self.before), self.view(self.after)).is_refused()
+        except (KeyError, struct.error):
+            return True
+        finally:
+            self.after.data[at:at + len(new)] = old
+
+    def run(self, flips):
+        """Flips bits of each field of each class in turn, in some object: the first bit, then the last one, then any. Then exchanges classes.
+        Returns whether each change that was spared has a reason."""
+        choose, refused, reasons, pieces = random.Random(1), 0, {}, {}
+        for at, size, what, reason in bits_of(self.view(self.after)):
+            if size:
+                pieces.setdefault(what, []).append((at, size, reason))
+        order = list(pieces.values())
+        choose.shuffle(order)
+        for i in range(flips):
+            at, size, reason = choose.choice(order[i % len(order)])
+            bit = (0, 8 * size - 1, choose.randrange(8 * size))[min(i // len(order), 2)]
+            at += bit // 8
+            if self.is_refused(at, bytes([self.after.data[at] ^ 128 >> bit % 8])):
+                refused += 1
+            else:
+                reasons[reason] = reasons.get(reason, 0) + 1
+        exchanges = list(classes_of(self.view(self.after)))
+        spared = sum(not self.is_refused(at, new) for at, new in exchanges)
+        for reason, count in reasons.items():
+            print("spared %d: %s" % (count, reason or "for no reason"))
+        print("%d fields and lengths" % len(order))
+        print("flipped %d bits: refused %d, explained %d, unexplained %d"
+              % (flips, refused, sum(count for reason, count in reasons.items() if reason), reasons.get(None, 0)))
+        print("exchanged %d classes: spared %d" % (len(exchanges), spared))
+        return None not in reasons and spared == 0
 
 
 def main():
@@ -254,7 +299,7 @@ def main():
     before, after = Dump(words.before), Dump(words.after)
     read = time.time()
     if words.self_test:
-        return 0 if self_test(before, after, words.prefix, numbers, words.self_test) else 1
+        return 0 if SelfTest(before, after, words.prefix, numbers).run(words.self_test) else 1
     old, new = View(before, words.prefix, numbers), View(after, words.prefix, numbers)
     built = time.time()
     compared = Comparison(old, new)

@@ -148,8 +148,9 @@ def jvm(result, folder):
     for name in filter(runtimes.has_collector, runtimes.COLLECTORS):
         collector(result, app, name)
         dumps, _ = app.dumps(name, "20", "1")
-        _, lines = app.certified(dumps, 0, "--self-test", FLIPS["jvm"])
+        status, lines = app.certified(dumps, 0, "--self-test", FLIPS["jvm"])
         add_self_test(result, name, "\n".join(lines))
+        result.require("%s, classes that are exchanged" % name, status == 0 and runtimes.number_before("classes: spared 0", lines) > 1, "\n".join(lines))
     by_valgrind(result, app)
 
 

@@ -137,14 +137,14 @@ def jvm(_program, folder, size="1000", rounds=2):
         yield from faults_found(app, collector)
 
 
-def jvm_self_test(_program, folder, flips=40):
-    """Flips bits of a dump in turn."""
+def jvm_self_test(_program, folder, flips=200):
+    """Flips bits of a dump in turn, and exchanges classes."""
     app = java(folder)
     if app is None:
         return
     dumps, why = app.dumps("Serial", "20", "1")
     status, lines = app.certified(dumps, 0, "--self-test", str(flips))
-    told = "flipped %d bits: " % flips in "".join(lines) and "unexplained 0" in "".join(lines)
+    told = "flipped %d bits: " % flips in "".join(lines) and "unexplained 0" in "".join(lines) and number_before("classes: spared 0", lines) > 1
     yield "the self-test of examples/jvm", why or (None if status == 0 and told else "\n".join(lines))
 
 
