@@ -158,7 +158,8 @@ typedef struct gcflip_names {
 } gcflip_names;
 
 /* Prints the verdict of the last check in the runtime's words: the line of `gcflip check`, the place with the addresses of the object and of its
- * replica, both values, and a shortest path from a root, where there is one. For a fault it prints a line about that. `names` may be NULL. */
+ * replica, both values, and a shortest path from a root, where there is one. A field that is followed several times in a row is named once. For a
+ * fault it prints a line about that. `names` may be NULL. */
 void gcflip_collection_explain(gcflip_collection *collection, const gcflip_verdict *verdict, const gcflip_names *names, FILE *file);
 
 /* What gcflip_collection_write wrote. */

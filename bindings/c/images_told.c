@@ -88,7 +88,53 @@ static void print_values(const gcflip_collection *c, const gcflip_names *names, 
     }
 }
 
-/* Prints a shortest path to an object of the view before. Two steps to a part are one of the runtime's. */
+/* A step of a path: a field of an object of this kind, and how often it is taken one after the other. */
+struct step {
+    uint64_t field;
+    uint32_t kind;
+    size_t times;
+};
+
+static uint32_t kind_at(const gcflip_view *view, uint64_t place)
+{
+    return (uint32_t)(view->words[place] / 65536 % 256);
+}
+
+/* Makes the steps of a path. Two steps to a part are one of the runtime's. Returns how many there are. */
+static size_t steps_of(const gcflip_view *view, uint64_t root, const uint64_t *fields, size_t count, struct step *steps)
+{
+    size_t made = 0;
+    uint64_t at = view->roots[root] / 2, first = 0;
+    for (size_t i = 0; i < count; at = view->words[at + 2 + fields[i]] / 2, i++) {
+        const struct object *object = gcflip_inside_object(view, at);
+        bool in_part = object->form == PART;
+        if (object->form == LARGE)
+            first = fields[i] * PART_FIELDS;
+        if (!in_part && object->form != FIELDS)
+            continue;
+        struct step step = {fields[i] + (in_part ? first : 0), kind_at(view, in_part ? object->owner : at), 1};
+        if (made != 0 && steps[made - 1].kind == step.kind && steps[made - 1].field == step.field)
+            steps[made - 1].times++;
+        else
+            steps[made++] = step;
+    }
+    return made;
+}
+
+static void print_steps(const gcflip_names *names, uint64_t root, const struct step *steps, size_t count, FILE *file)
+{
+    fprintf(file, "  reached by ");
+    print_root(names, root, file);
+    for (size_t i = 0; i < count; i++) {
+        fprintf(file, " . ");
+        print_field(names, steps[i].kind, steps[i].field, file);
+        if (steps[i].times > 1)
+            fprintf(file, " (%zu times)", steps[i].times);
+    }
+    fprintf(file, "\n");
+}
+
+/* Prints a shortest path to an object of the view before. */
 static void print_path(const gcflip_collection *c, const gcflip_names *names, uint32_t place, FILE *file)
 {
     uint64_t root = 0, none[1] = {0};
@@ -96,29 +142,13 @@ static void print_path(const gcflip_collection *c, const gcflip_names *names, ui
     gcflip_image image = gcflip_view_image(&c->before);
     uint32_t answer = gcflip_path_in(&image, place, &root, none, 0, &count);
     uint64_t *fields = calloc(count + 1, sizeof *fields);
-    if (fields != NULL && answer == GCFLIP_LONG_PATH)
+    struct step *steps = calloc(count + 1, sizeof *steps);
+    if (fields != NULL && steps != NULL && answer == GCFLIP_LONG_PATH)
         answer = gcflip_path_in(&image, place, &root, fields, count, &count);
-    if (fields == NULL || answer != GCFLIP_YES) {
-        free(fields);
-        return;
-    }
-    fprintf(file, "  reached by ");
-    print_root(names, root, file);
-    uint64_t at = image.roots[root] / 2, first = 0;
-    for (size_t i = 0; i < count; i++) {
-        const struct object *object = gcflip_inside_object(&c->before, at);
-        uint32_t kind = (uint32_t)(image.words[at] / 65536 % 256);
-        if (object->form == LARGE)
-            first = fields[i] * PART_FIELDS;
-        if (object->form == PART || object->form == FIELDS) {
-            fprintf(file, " . ");
-            print_field(names, object->form == PART ? (uint32_t)(image.words[object->owner] / 65536 % 256) : kind,
-                        fields[i] + (object->form == PART ? first : 0), file);
-        }
-        at = image.words[at + 2 + fields[i]] / 2;
-    }
-    fprintf(file, "\n");
+    if (fields != NULL && steps != NULL && answer == GCFLIP_YES)
+        print_steps(names, root, steps, steps_of(&c->before, root, fields, count, steps), file);
     free(fields);
+    free(steps);
 }
 
 static void print_line(const gcflip_verdict *verdict, FILE *file)

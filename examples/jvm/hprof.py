@@ -8,8 +8,10 @@ REFERENCE = 2
 INSTANCE, OBJECTS, NUMBERS = 0x21, 0x22, 0x23
 # The bytes of the other records of a heap segment.
 ROOTS = {0xFF: 8, 1: 16, 2: 16, 3: 16, 4: 12, 5: 8, 6: 12, 7: 8, 8: 16}
-# Fields that the collector writes itself.
+# Classes whose fields the collector and its threads write themselves, but for the referent, which is weak.
 OF_COLLECTOR = ("java/lang/ref/Reference", "java/lang/ref/ReferenceQueue")
+# What a field is.
+PROGRAM, COLLECTOR, WEAK = range(3)
 
 
 class Class:
@@ -88,12 +90,12 @@ class Dump:
         return at
 
     def layout(self, of_class):
-        """Returns the layout of a class's objects. A field has a name, a kind, and whether it is the collector's own."""
+        """Returns the layout of a class's objects. A field has a name, a kind, and whose it is."""
         if of_class not in self.layouts:
             fields, above = [], of_class
             while above:
                 own = self.names[above] in OF_COLLECTOR
-                fields += [(name, kind, own) for name, kind in self.classes[above].fields]
+                fields += [(name, kind, PROGRAM if not own else WEAK if name == "referent" else COLLECTOR) for name, kind in self.classes[above].fields]
                 above = self.classes[above].above
             self.layouts[of_class] = Layout(fields)
         return self.layouts[of_class]

@@ -36,7 +36,7 @@ void adapter_forget(void)
 void adapter_add_place(value *at, char what)
 {
     adapter_places = adapter_grown(adapter_places, &place_room, adapter_place_count, sizeof *adapter_places);
-    adapter_places[adapter_place_count++] = (struct place){at, *at, what};
+    adapter_places[adapter_place_count++] = (struct place){at, *at, 0, what};
 }
 
 static uint32_t kind_of(tag_t tag)
@@ -107,7 +107,8 @@ static const char *root_name(void *given, uint64_t root)
                        : place->what == 'F' ? "the remembered field of an old object"
                        : place->what == 'f' ? "the field of an old object, NOT in the remembered set,"
                        : place->what == 'w' ? "the weak field"
-                                            : "the remembered place";
+                       : place->what == 'o' ? "the offset of the weak field"
+                                            : "the value of a finaliser, noted";
     snprintf(text, sizeof text, "%s at %p", what, (void *)place->at);
     return text;
 }

@@ -18,16 +18,18 @@
 #include <gcflip_images.h>
 
 /* Faults that a switch plants. */
-enum fault { NO_FAULT, BIT_FLIPPED, ROOT_MISSED, SLOT_NOT_REMEMBERED, NO_BARRIER, BIT_AFTER_COMPACTION, WEAK_CLEARED };
+enum fault { NO_FAULT, BIT_FLIPPED, ROOT_MISSED, SLOT_NOT_REMEMBERED, NO_BARRIER, BIT_AFTER_COMPACTION, WEAK_CLEARED, OFFSET_LOST, FINALISED_MISSED };
 
 /* Pairs by kind. */
-enum counted { BLOCKS, CLOSURES, INFIX, LAZY, STRINGS, DOUBLES, DOUBLE_ARRAYS, CUSTOM, ABSTRACT, WEAK, COUNTED };
+enum counted { BLOCKS, CLOSURES, INFIX, LAZY, STRINGS, DOUBLES, DOUBLE_ARRAYS, CUSTOM, ABSTRACT, WEAK, WEAK_INFIX, FINALISED, COUNTED };
 
 /* A place that holds a value: a root, or a field of an old object. */
 struct place {
     value *at;
     value before;
-    char what; /* 'r' a root, 'f' a field that the remembered set lacks, 'F' one that it has, 't' in the set alone, 'w' weak */
+    uint32_t offset; /* of a weak pointer into a block of closures, or 0 */
+    char what; /* 'r' a root, 'f' a field that the remembered set lacks, 'F' one that it has, 'w' weak, 'o' the offset of a weak one, 'v' the value
+                  of a finaliser */
 };
 
 struct object {

@@ -35,11 +35,12 @@ static bool is_ephemeron(value v)
     return ephemeron_count != 0 && bsearch(&v, ephemerons, ephemeron_count, sizeof v, by_value) != NULL;
 }
 
-/* Places a block. A weak array has weak fields, although the collector treats it as abstract. */
+/* Places a block. A weak array has weak fields, although the collector treats it as abstract; behind them are their offsets, for pointers into
+ * blocks of closures. */
 static uint32_t placed(gcflip_view *view, value block, header_t header)
 {
     if (is_ephemeron(block))
-        return gcflip_view_object(view, (uint64_t)block, 0, Wosize_hd(header) + 1);
+        return gcflip_view_object(view, (uint64_t)block, 0, 2 * Wosize_hd(header));
     return adapter_place(view, block, header, Wosize_hd(header));
 }
 
@@ -72,7 +73,7 @@ static uint64_t new_word(value v)
     return word_in(new_view, v);
 }
 
-/* The link is the collector's own. One field more than the block has makes it unlike every other object. */
+/* The link is the collector's own. The constant in place of its offset makes the object unlike every other one. Compaction clears no field. */
 static void write_ephemeron(gcflip_view *view, uint32_t place, value block, uint64_t (*word)(value))
 {
     mlsize_t length = Wosize_val(block);
@@ -80,11 +81,13 @@ static void write_ephemeron(gcflip_view *view, uint32_t place, value block, uint
     gcflip_view_set(view, place, length, gcflip_view_constant(view, Abstract_tag));
     for (mlsize_t i = CAML_EPHE_DATA_OFFSET; i < length; i++) {
         value v = Field(block, i);
-        if (v == caml_ephe_none || (is_in_heap(v) && Tag_val(v) != Infix_tag))
-            gcflip_view_set_weak(view, place, i, v == caml_ephe_none ? 0 : (uint64_t)v);
+        uint32_t offset = v != caml_ephe_none && is_in_heap(v) && Tag_val(v) == Infix_tag ? (uint32_t)Infix_offset_val(v) : 0;
+        gcflip_view_set(view, place, length + i, gcflip_view_constant(view, offset));
+        if (v == caml_ephe_none || is_in_heap(v))
+            gcflip_view_set_weak(view, place, i, v == caml_ephe_none ? 0 : (uint64_t)(v - offset));
         else
             gcflip_view_set(view, place, i, word(v));
-        adapter_pairs[WEAK]++;
+        adapter_pairs[offset ? WEAK_INFIX : WEAK]++;
     }
 }
 

@@ -4,7 +4,9 @@
  * all old objects, and not from the remembered set, since a store without its barrier is a fault to be found. What can be reached from there
  * inside the nursery becomes the view before.
  * After: pairs come from the forwarding pointers that the collector left in the nursery. The view after has the promoted objects.
- * A reference to an object that does not move is a constant of its own kind. */
+ * A reference to an object that does not move is a constant of its own kind.
+ * A weak pointer into a block of closures is two roots: a weak one to the block, and the offset.
+ * The collector keeps the values of Gc.finalise in a table of its own. So the linker wraps the call that registers them, which notes them here. */
 #include "adapter.h"
 #include <inttypes.h>
 #include <stdlib.h>
@@ -19,6 +21,8 @@ static double spent[4]; /* in milliseconds: the collection, finding places, both
 static double begun, ended_before;
 static bool fault_done;
 static value kept_by_c = Val_unit;
+static value *finalised; /* young values that a finaliser waits for */
+static size_t finalised_count, finalised_room;
 
 enum { COLLECTING, FINDING, VIEWS, CHECKING };
 
@@ -64,13 +68,19 @@ static uint32_t placed(gcflip_view *view, value block, header_t header)
     return adapter_place(view, block, header, Wosize_hd(header));
 }
 
-static uint64_t inside(value v)
+/* Places the block that a pointer leads into, and notes the pointer. Returns the block. */
+static value with_inner(value v)
 {
     value start = v - Infix_offset_val(v);
     adapter_found(start, placed);
     inners = adapter_grown(inners, &inner_room, inner_count, sizeof *inners);
     inners[inner_count++] = (struct inner){start, 0, (uint32_t)Infix_offset_val(v)};
-    return gcflip_view_inside(old_view, (uint64_t)start, (uint32_t)Infix_offset_val(v));
+    return start;
+}
+
+static uint64_t inside(value v)
+{
+    return gcflip_view_inside(old_view, (uint64_t)with_inner(v), (uint32_t)Infix_offset_val(v));
 }
 
 static uint64_t old_word(value v)
@@ -89,16 +99,22 @@ static int by_now(const void *a, const void *b)
     return (x > y) - (x < y);
 }
 
+/* Returns the offset of a pointer into a promoted block, or 0 for any other value. */
+static uint32_t new_offset(value v)
+{
+    const struct inner key = {0, v, 0}, *found = inner_count ? bsearch(&key, inners, inner_count, sizeof key, by_now) : NULL;
+    return found ? found->offset : 0;
+}
+
 static uint64_t new_word(value v)
 {
     if (!Is_block(v))
         return gcflip_view_constant(new_view, (uint64_t)v);
-    uint32_t place = gcflip_view_find(new_view, (uint64_t)v);
+    uint32_t place = gcflip_view_find(new_view, (uint64_t)v), offset = new_offset(v);
     if (place != 0)
         return 2 * (uint64_t)place;
-    const struct inner key = {0, v, 0}, *found = inner_count ? bsearch(&key, inners, inner_count, sizeof key, by_now) : NULL;
-    if (found != NULL)
-        return gcflip_view_inside(new_view, (uint64_t)(v - found->offset), found->offset);
+    if (offset != 0)
+        return gcflip_view_inside(new_view, (uint64_t)(v - offset), offset);
     if (is_young(v))
         return gcflip_view_doubtful(new_view, (uint64_t)v, "in the nursery, which was emptied");
     return gcflip_view_fixed(new_view, (uint64_t)v);
@@ -127,13 +143,36 @@ static void scan_old_objects(void)
         }
 }
 
+static void add_weak_place(value *at)
+{
+    bool is_inner = Tag_val(*at) == Infix_tag;
+    for (int i = 0; i <= is_inner; i++) {
+        adapter_add_place(at, i == 0 ? 'w' : 'o');
+        adapter_places[adapter_place_count - 1].offset = is_inner ? (uint32_t)Infix_offset_val(*at) : 0;
+    }
+}
+
 /* Keys and data of weak arrays and ephemerons: they are old, and the list has all of them. */
 static void add_weak_places(void)
 {
     for (value ephemeron = caml_ephe_list_head; ephemeron != (value)NULL; ephemeron = Field(ephemeron, CAML_EPHE_LINK_OFFSET))
         for (mlsize_t i = CAML_EPHE_DATA_OFFSET; i < Wosize_val(ephemeron); i++)
-            if (is_young(Field(ephemeron, i)) && Tag_val(Field(ephemeron, i)) != Infix_tag)
-                adapter_add_place(&Field(ephemeron, i), 'w');
+            if (is_young(Field(ephemeron, i)))
+                add_weak_place(&Field(ephemeron, i));
+}
+
+value __real_caml_final_register(value function, value v);
+
+/* Stands for the runtime's call. */
+value __wrap_caml_final_register(value function, value v)
+{
+    bool missed = adapter_fault == FINALISED_MISSED && checked >= 3 && !fault_done;
+    value result = missed ? Val_unit : __real_caml_final_register(function, v);
+    if (caml_minor_gc_begin_hook != NULL && is_young(v) && Tag_val(v) != Infix_tag) {
+        finalised = adapter_grown(finalised, &finalised_room, finalised_count, sizeof *finalised);
+        finalised[finalised_count++] = v;
+    }
+    return result;
 }
 
 static int by_place(const void *a, const void *b)
@@ -183,13 +222,18 @@ static void before(void)
     scan_old_objects();
     mark_remembered(roots);
     add_weak_places();
+    for (size_t i = 0; i < finalised_count; i++)
+        adapter_add_place(&finalised[i], 'v');
     spent[FINDING] += now() - start;
     start = now();
     for (size_t i = 0; i < adapter_place_count; i++) {
         struct place *place = &adapter_places[i];
         if (place->what == 'w') {
-            adapter_found(place->before, placed);
-            gcflip_view_weak_root(old_view, (uint64_t)place->before);
+            value start = place->offset ? with_inner(place->before) : place->before;
+            adapter_found(start, placed);
+            gcflip_view_weak_root(old_view, (uint64_t)start);
+        } else if (place->what == 'o') {
+            gcflip_view_root(old_view, gcflip_view_constant(old_view, place->offset));
         } else {
             gcflip_view_root(old_view, old_word(place->before));
         }
@@ -225,7 +269,9 @@ static bool read_after(void *given, gcflip_collection *collection)
     for (size_t i = 0; i < adapter_place_count; i++) {
         value v = *adapter_places[i].at;
         if (adapter_places[i].what == 'w')
-            gcflip_view_weak_root(new_view, v == caml_ephe_none ? 0 : (uint64_t)v);
+            gcflip_view_weak_root(new_view, v == caml_ephe_none ? 0 : (uint64_t)(v - new_offset(v)));
+        else if (adapter_places[i].what == 'o') /* of a cleared reference there is no offset */
+            gcflip_view_root(new_view, gcflip_view_constant(new_view, v == caml_ephe_none ? adapter_places[i].offset : new_offset(v)));
         else
             gcflip_view_root(new_view, new_word(v));
     }
@@ -242,6 +288,9 @@ static void follow_forwarding(void)
         inners[i].now = Hd_val(inners[i].start) == 0 ? Field(inners[i].start, 0) + inners[i].offset : 0;
     if (inner_count != 0)
         qsort(inners, inner_count, sizeof *inners, by_now);
+    for (size_t i = 0; i < finalised_count; i++)
+        if (Hd_val(finalised[i]) == 0)
+            finalised[i] = Field(finalised[i], 0);
 }
 
 static void plant_after(void)
@@ -251,11 +300,18 @@ static void plant_after(void)
         if (object->now != 0)
             Field(object->now, Wosize_hd(object->header) - 1) ^= 16;
     }
-    for (size_t i = 0; adapter_fault == WEAK_CLEARED && !fault_done && i < adapter_place_count; i++)
-        if (adapter_places[i].what == 'w' && *adapter_places[i].at != caml_ephe_none) {
-            *adapter_places[i].at = caml_ephe_none;
+    for (size_t i = 0; !fault_done && i < adapter_place_count; i++) {
+        struct place *place = &adapter_places[i];
+        if (place->what != 'w' || *place->at == caml_ephe_none)
+            continue;
+        if (adapter_fault == WEAK_CLEARED) {
+            *place->at = caml_ephe_none;
+            fault_done = true;
+        } else if (adapter_fault == OFFSET_LOST && place->offset != 0) {
+            *place->at -= place->offset;
             fault_done = true;
         }
+    }
 }
 
 static void count_pairs(void)
@@ -266,7 +322,8 @@ static void count_pairs(void)
     for (size_t i = 0; i < inner_count; i++)
         adapter_pairs[INFIX] += inners[i].now != 0;
     for (size_t i = 0; i < adapter_place_count; i++)
-        adapter_pairs[WEAK] += adapter_places[i].what == 'w';
+        adapter_pairs[adapter_places[i].offset ? WEAK_INFIX : WEAK] += adapter_places[i].what == 'w';
+    adapter_pairs[FINALISED] += finalised_count;
 }
 
 static void after(void)
@@ -288,6 +345,7 @@ static void after(void)
     checked++;
     pairs += gcflip_collection_pairs(adapter_collection);
     count_pairs();
+    finalised_count = 0;
 }
 
 /* ---- The self-test: flips bits of promoted objects. */
@@ -341,7 +399,8 @@ value certify_start(value planted, value bits)
 value certify_stop(value unit)
 {
     static const char *const names[] = {"blocks",  "closures",         "pointers into closures", "lazy values",     "strings",
-                                        "doubles", "arrays of doubles", "custom blocks",          "abstract blocks", "weak references"};
+                                        "doubles", "arrays of doubles", "custom blocks",          "abstract blocks", "weak references",
+                                        "weak pointers into closures", "values of finalisers"};
     double all = now() - begun;
     caml_minor_gc_begin_hook = caml_minor_gc_end_hook = NULL;
     adapter_pairs[LAZY] += shortcuts;

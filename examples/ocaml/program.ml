@@ -35,6 +35,7 @@ let names = ref Names.empty
 let ring = ref { next = None; value = 0L; label = "first" }
 let weak : string Weak.t = Weak.create 4000
 let strong = Array.make 4000 ""
+let weak_steps : (int -> int) Weak.t = Weak.create 4000
 let finalised = ref 0
 
 (* A block of two closures: a reference to the second one points into the block. *)
@@ -64,6 +65,12 @@ let refer_weakly i key =
   Weak.set weak place (Some key);
   if i mod 2 = 0 then strong.(place) <- key
 
+(* Some of these functions are pointers into a block of closures. *)
+let refer_to_step i entry = Weak.set weak_steps (i mod 4000) (Some entry.step)
+
+(* Nothing but its finaliser keeps this value. *)
+let finalise_alone i key = Gc.finalise (fun node -> if node.label <> key then incr finalised) { next = None; value = Int64.of_int i; label = key }
+
 let link i key =
   let node = { next = Some !ring; value = Int64.of_int (-i); label = key } in
   (match !ring.next with Some other when i mod 22 = 0 -> other.next <- Some node | _ -> ());
@@ -77,7 +84,9 @@ let fill round =
     if i mod 4 = 0 then Hashtbl.replace table key entry;
     if i mod 7 = 0 then names := Names.add key (-i) !names;
     if i mod 9 = 0 then refer_weakly i key;
+    if i mod 9 = 4 then refer_to_step i entry;
     if i mod 11 = 0 then link i key;
+    if i mod 90 = 0 then finalise_alone i key;
     if i mod 100 = 0 then keep_in_c (key, i);
     match entry.shape with Square square when i mod 9 = 1 -> square.side <- 0.0 | _ -> ()
   done

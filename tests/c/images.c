@@ -129,7 +129,11 @@ static void lists(void)
     expect_yes(3);
     EXPECT(gcflip_collection_pairs(c) == 3);
     EXPECT(gcflip_collection_has_replica(c, 300) && !gcflip_collection_has_replica(c, 100));
+    gcflip_view_object(new_view, 500, 4, 0);
+    expect_yes(3);
+    EXPECT(gcflip_collection_has_replica(c, 400) && !gcflip_collection_has_replica(c, 500));
     EXPECT(gcflip_collection_infer(c, &verdict) == GCFLIP_YES && is_verdict(0, 3, 0, 0));
+    expect_refused(GCFLIP_ROOT_DIFFERS, 0, 0); /* pairs that were added are forgotten */
     list();
     gcflip_collection_pair(c, 300, 400); /* no object of the view before */
     expect_refused(GCFLIP_OLD_NOT_START, 2, 0);
@@ -225,13 +229,15 @@ static void write_inside(gcflip_view *view, uint64_t address, uint32_t offset)
 
 static void insides(void)
 {
-    empty();
-    write_inside(old_view, 1000, 24);
-    write_inside(new_view, 2000, 24);
-    EXPECT(gcflip_view_image(old_view).roots[0] == 2 * 3 && gcflip_view_image(old_view).roots[1] == 2 * 3);
-    EXPECT(word_at(old_view, 3) == 16777216 + 65536 * 253 + 2 && word_at(old_view, 5) == NUMBER(24) && word_at(old_view, 6) == 2);
-    gcflip_collection_pair(c, 1000, 2000);
-    expect_yes(3);
+    for (int again = 0; again < 2; again++) {
+        empty();
+        write_inside(old_view, 1000, 24);
+        write_inside(new_view, 2000, 24);
+        EXPECT(gcflip_view_image(old_view).roots[0] == 2 * 3 && gcflip_view_image(old_view).roots[1] == 2 * 3);
+        EXPECT(word_at(old_view, 3) == 16777216 + 65536 * 253 + 2 && word_at(old_view, 5) == NUMBER(24) && word_at(old_view, 6) == 2);
+        gcflip_collection_pair(c, 1000, 2000);
+        expect_yes(3);
+    }
     empty();
     write_inside(old_view, 1000, 24);
     write_inside(new_view, 2000, 32);
@@ -361,6 +367,21 @@ static void texts(void)
     expect_text(GCFLIP_REFUSED, GCFLIP_FIELD_DIFFERS, 0, 1, 1);
 }
 
+/* In a text with 273 roots, which are fields of an object of 275 words in front, references are moved by as many words, and words of raw
+   objects stay. */
+static void moved_text(void)
+{
+    static const uint64_t words[] = {123456};
+    char *text;
+    size_t length;
+    write_roots(273, 273);
+    gcflip_view_words(old_view, 200, 7, words, 1);
+    expect_yes(1);
+    EXPECT(written(&text, &length) == GCFLIP_WROTE_PAIR);
+    EXPECT(strstr(text, "\n552\n552\n") != NULL && strstr(text, "\n123456\nroots 1\n2\n") != NULL && strstr(text, "\npairs 2\n1 1\n276 276\n") != NULL);
+    free(text);
+}
+
 /* Word 0, 15 objects of 65536 words, one of 32768 and one of 32767 are the 1048576 words that fit. */
 static void largest_text(void)
 {
@@ -454,6 +475,29 @@ static void explanations(void)
                 "  after  the constant 0x7\n  reached by root 0\n", false);
 }
 
+/* Paths: through a part of a long object, and along a list. */
+static void paths(void)
+{
+    empty();
+    for (int i = 0; i < 2; i++) {
+        gcflip_view *view = i == 0 ? old_view : new_view;
+        uint32_t at = write_large(view, 1000);
+        for (uint64_t k = 0; k < 5; k++) {
+            gcflip_view_object(view, 2000 + k, 3, 2);
+        }
+        for (uint64_t k = 0; k < 5; k++) {
+            uint32_t cell = gcflip_view_find(view, 2000 + k);
+            bool by_head = k == 3; /* the last cell is the head of the one before */
+            gcflip_view_set(view, cell, by_head, gcflip_view_constant(view, k == 4 ? (uint64_t)i : k));
+            gcflip_view_set(view, cell, !by_head, gcflip_view_reference(view, k == 4 ? 0 : 2001 + k));
+        }
+        gcflip_view_set(view, at, 40000, gcflip_view_reference(view, 2000));
+    }
+    EXPECT(gcflip_collection_infer(c, &verdict) == GCFLIP_REFUSED && verdict.refusal == GCFLIP_FIELD_DIFFERS);
+    expect_told("refused 9 FieldDiffers 8 0\n  the object 0x7d4 (cons, length 2) with the replica 0x7d4 (cons, length 2)\n  head\n"
+                "  before the constant 0x0\n  after  the constant 0x1\n  reached by the global `all` . field 40000 . field 1 (3 times) . head\n", true);
+}
+
 /* ---- The test for adapters: a heap of words. An object is a word 2 * length + 2^32 * kind, then its fields. An odd field is a
    reference: the number of its object's first word, times 8, plus 1. Words behind the end are no part of the heap. */
 
@@ -539,9 +583,11 @@ int main(int count, char **arguments)
     weak();
     weak_in_one_view();
     texts();
+    moved_text();
     if (count == 1)
         largest_text();
     explanations();
+    paths();
     self_test();
     gcflip_collection_close(c);
     gcflip_collection_close(NULL);

@@ -118,7 +118,7 @@ def usable(folder, name, compiler):
 
 
 # Programs that end with status 0 and print nothing.
-PROGRAMS = ["answers.c", "check.c", "refused_check.c", "check_cpp.cpp", "heap.c", "extra_roots.c", "pace.c", "refused_heap.c", "heap_cpp.cpp", "churn.c", "threads.c", "images.c"]
+PROGRAMS = ["answers.c", "check.c", "refused_check.c", "check_cpp.cpp", "heap.c", "extra_roots.c", "pace.c", "refused_heap.c", "heap_cpp.cpp", "churn.c", "threads.c", "images.c", "nursery.c"]
 
 
 def programs(_program, folder):

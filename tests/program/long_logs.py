@@ -8,10 +8,10 @@ from prover.crates import TOP
 
 LOGS = os.path.join(TOP, "tests", "long", "logs")
 # The parts of tests/long/run.
-PARTS = ("random", "churn", "second_compiler", "large")
+PARTS = ("random", "churn", "second_compiler", "large", "runtimes")
 # What each log has to say, and the figure of a part that tells how much it did.
 LINES = ("date", "commit", "minutes", "failed")
-FIGURES = {"random": "calls", "churn": "operations", "second_compiler": "cases passed", "large": "collections"}
+FIGURES = {"random": "calls", "churn": "operations", "second_compiler": "cases passed", "large": "collections", "runtimes": "collections"}
 DAY = 24 * 60 * 60
 
 

@@ -13,9 +13,10 @@ OCAML = os.path.join(TOP, "examples", "ocaml")
 JVM = os.path.join(TOP, "examples", "jvm")
 # The lines that examples/ocaml/check.sh prints where all is well.
 OF_OCAML = (
-    "a million pairs and more, ten kinds, and two compactions", "fault 1, a bit of a promoted object", "fault 2, a root that the collector misses",
+    "a million pairs and more, twelve kinds, and two compactions", "fault 1, a bit of a promoted object", "fault 2, a root that the collector misses",
     "fault 3, a remembered field that it misses", "fault 4, a store without the barrier", "fault 5, a bit after a compaction",
-    "fault 6, a weak reference that is cleared", "the self-test", "under AddressSanitizer", "OCaml's compiler",
+    "fault 6, a weak reference that is cleared", "fault 7, a weak pointer that loses its offset",
+    "fault 8, a value of a finaliser that it misses", "the self-test", "under AddressSanitizer", "OCaml's compiler",
 )
 
 
@@ -50,6 +51,14 @@ def ocaml(_program, folder):
 
 # HotSpot's collectors.
 COLLECTORS = ("Serial", "Parallel", "G1", "Shenandoah", "Z")
+# The faults that App plants, with the first two lines that certify.py prints.
+JVM_FAULTS = {
+    "fault": ("refused 9 FieldDiffers", "the static field App.victim . size of java/util/LinkedList"),
+    "cleared": ("no verdict: a weak reference was cleared, and its target has a replica",
+                "the static field App.toVictim . referent of java/lang/ref/WeakReference"),
+}
+# The cases of a collector: two collections, whether it moves objects, whether it clears weak references, and the faults.
+OF_COLLECTOR = 4 + len(JVM_FAULTS)
 
 
 class App:
@@ -78,7 +87,7 @@ def java(folder):
     """Returns the app, or None, with a line that says how many cases are skipped."""
     missing = [tool for tool in ("java", "javac") if shutil.which(tool) is None]
     if missing:
-        skip("%d cases of examples/jvm" % (4 * len(COLLECTORS) + 2), "no %s" % ", ".join(missing))
+        skip("%d cases of examples/jvm" % (OF_COLLECTOR * len(COLLECTORS) + 2), "no %s" % ", ".join(missing))
         return None
     built = library(folder)
     return built and App(folder, built)
@@ -88,40 +97,54 @@ def has_collector(collector):
     """Returns whether this JVM has the collector. If not, a line says so."""
     if done(["java", "-XX:+Use%sGC" % collector, "-version"]).status == 0:
         return True
-    skip("4 cases of examples/jvm", "this JVM has no %s" % collector)
+    skip("%d cases of examples/jvm" % OF_COLLECTOR, "this JVM has no %s" % collector)
     return False
 
 
+def number_before(what, lines):
+    """Returns the number before these words in what certify.py printed."""
+    found = re.search(r"(\d+) %s" % what, "\n".join(lines))
+    return int(found.group(1)) if found else 0
+
+
+def faults_found(app, collector):
+    """Yields a case for each fault that App plants: it is found at its place."""
+    for fault, wanted in JVM_FAULTS.items():
+        dumps, why = app.dumps(collector, "300", "1", fault)
+        status, lines = app.certified(dumps, 0)
+        found = status == 1 and lines[0].startswith(wanted[0]) and lines[1] == wanted[1]
+        yield "%s, the fault %s" % (collector, fault), why or (None if found else "\n".join(lines))
+
+
 def jvm(_program, folder, size="1000", rounds=2):
-    """Checks collections of each collector of the JVM, and finds a bit that was flipped."""
+    """Checks collections of each collector of the JVM, and finds the faults that are planted."""
     app = java(folder)
     if app is None:
         return
     yield "App.java is compiled", None if app.made.status == 0 else app.made.stderr.decode("utf-8", "replace")
     for collector in filter(has_collector, COLLECTORS):
-        moved = 0
+        moved = cleared = 0
         dumps, why = app.dumps(collector, size, str(rounds))
         for turn in range(rounds):
             status, lines = app.certified(dumps, turn)
             pairs = re.fullmatch(r"yes (\d+)", lines[0])
-            moved += sum(map(int, re.findall(r" (\d+) addresses differ", "".join(lines))))
-            whole = status == 0 and pairs and int(pairs.group(1)) > 5000
+            moved += number_before("addresses differ", lines)
+            cleared += number_before("of them cleared", lines)
+            whole = status == 0 and pairs and int(pairs.group(1)) > 5000 and number_before("weak references", lines) > 100
             yield "%s, collection %d" % (collector, turn), why or (None if whole else "\n".join(lines))
         yield "%s moves objects" % collector, None if moved > 1000 else "it moved %d" % moved
-        dumps, why = app.dumps(collector, "300", "1", "fault")
-        status, lines = app.certified(dumps, 0)
-        found = (status, lines[0][:22], lines[1]) == (1, "refused 9 FieldDiffers", "the static field App.victim . size of java/util/LinkedList")
-        yield "%s, a flipped bit" % collector, why or (None if found else "\n".join(lines))
+        yield "%s clears weak references" % collector, None if cleared > 50 else "it cleared %d" % cleared
+        yield from faults_found(app, collector)
 
 
-def jvm_self_test(_program, folder, flips=40):
-    """Flips bits of a dump in turn."""
+def jvm_self_test(_program, folder, flips=200):
+    """Flips bits of a dump in turn, and exchanges classes."""
     app = java(folder)
     if app is None:
         return
     dumps, why = app.dumps("Serial", "20", "1")
     status, lines = app.certified(dumps, 0, "--self-test", str(flips))
-    told = "flipped %d bits: " % flips in "".join(lines) and "unexplained 0" in "".join(lines)
+    told = "flipped %d bits: " % flips in "".join(lines) and "unexplained 0" in "".join(lines) and number_before("classes: spared 0", lines) > 1
     yield "the self-test of examples/jvm", why or (None if status == 0 and told else "\n".join(lines))
 
 

@@ -4,6 +4,7 @@ mod collected;
 mod commands;
 mod copy;
 mod extra_roots;
+mod generations;
 mod graph;
 mod heap;
 mod par;

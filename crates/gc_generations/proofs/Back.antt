@@ -1,0 +1,183 @@
+-- A certificate of the whole heap in which old objects are their own replicas is one of the minor collection.
+use Rattle.std.proofs.Common.{◌≡◌, ◌≢◌, ◌⊎◌, inl, inr, ℕ, zero, suc, ◌<◌, ◌≤◌, Bool, true, false, cond, ◌&&◌, ◌||◌, ◌==◌, List, [], ◌∷◌, ◌++◌, map, length, get_or, Option, Some, None, is_some, slice_get, refl, ap, sym, ◌∙◌, subst, arith}
+use Rattle.std.specs.Prelude.{IsOk, IsTrue}
+use Rattle.std.specs.List.{All, AllPairs, AllZip, list_any}
+use Rattle.std.proofs.lemmas.Bool.{eqb-true, eq-eqb, and_parts, and_from, or_cases, lt-ltb}
+use Rattle.std.proofs.lemmas.List.Elements.{All-head, All-tail, All-weaker}
+use Rattle.gc_graph.specs.Graph.{Value, Nil, Num, Ref}
+use Rattle.gc_graph.specs.Correspond.{paired, correspond}
+use Rattle.gc_words.specs.Word.{value_of, word_of, is_value, read_correspond, words_correspond, field_words_correspond}
+use Rattle.gc_words.specs.Image.{Block, walk, blocks, block_in, block_at, header_of, field_in}
+use Rattle.gc_words.specs.Certificate.{BlocksCorrespond, Certified}
+use Rattle.gc_words.specs.declared.header.Header.{Header}
+use Rattle.gc_words.proofs.Graphs.{meant}
+use Rattle.gc_words.proofs.Writes.{some_of}
+use Rattle.gc_words.proofs.Fields.{block_of_header}
+use Rattle.gc_generations.specs.Minor.{lies_below, is_old, words_correspond_above, field_words_correspond_above, young_blocks, BlocksCorrespondAbove, MinorCertified, word_or_nil, word_of_field, whole, identity, IsStanding, IsPlainField, IsCandidate}
+use Rattle.gc_generations.proofs.Lists.{or_left, or_right, any_left, paired_all, selves, self_paired, found_left, found_right}
+use Rattle.gc_generations.proofs.Fronts.{whole_blocks, old_below, not_old}
+
+any_cases : {X : Type 0} (p : X → Bool) (xs ys : List X) → list_any p (xs ++ ys) ≡ true → (list_any p xs ≡ true) ⊎ (list_any p ys ≡ true)
+any_cases p [] ys e = inr e
+any_cases p (x ∷ xs) ys e =
+    elim (or_cases (p x) (list_any p (xs ++ ys)) e) [
+      | inl here ↦ inl (or_left (p x) (list_any p xs) here)
+      | inr there ↦ later (any_cases p xs ys there)
+    ]
+  where
+    later : (list_any p xs ≡ true) ⊎ (list_any p ys ≡ true) → ((p x || list_any p xs) ≡ true) ⊎ (list_any p ys ≡ true)
+    later (inl a) = inl (or_right (p x) (list_any p xs) a)
+    later (inr b) = inr b
+
+self_only : (bs : List (ℕ × Block)) (a b : ℕ) → paired (selves bs) a b ≡ true → (a ≡ b) × (is_some (block_in bs a) ≡ true)
+self_only [] a b e = cc
+self_only (x ∷ bs) a b e =
+    elim (or_cases ((x.0 == a) && (x.0 == b)) (paired (selves bs) a b) e) [
+      | inl here ↦ (let both : ((x.0 == a) ≡ true) × ((x.0 == b) ≡ true) = and_parts _ _ here in
+          (sym (eqb-true x.0 a both.0) ∙ eqb-true x.0 b both.1, ap (λ t. is_some (cond t (Some x.1) (block_in bs a))) both.0))
+      | inr there ↦ (let rest : (a ≡ b) × (is_some (block_in bs a) ≡ true) = self_only bs a b there in
+          (rest.0, found_later (x.0 == a) rest.1))
+    ]
+  where
+    found_later : (t : Bool) → is_some (block_in bs a) ≡ true → is_some (cond t (Some x.1) (block_in bs a)) ≡ true
+    found_later true e = refl
+    found_later false e = e
+
+all_right : {X : Type 0} (P : X → Type 0) (xs ys : List X) → All P (xs ++ ys) → All P ys
+all_right P [] ys all = all
+all_right P (x ∷ xs) ys all = all_right P xs ys (All-tail P x (xs ++ ys) all)
+
+pairs_right : {X : Type 0} (R : X → X → Type 0) (xs ys : List X) → AllPairs R (xs ++ ys) → AllPairs R ys
+pairs_right R [] ys all = all
+pairs_right R (x ∷ xs) ys all = pairs_right R xs ys (λ i j d l h. all (suc i) (suc j) d (omega arith) (omega arith))
+
+zip_each : {A B : Type 0} (R S : A → B → Type 0) (xs : List A) (ys : List B) → ((x : A) (y : B) → R x y → S x y) → AllZip R xs ys → AllZip S xs ys
+zip_each R S [] [] h z = tt
+zip_each R S [] (y ∷ ys) h z = absurd z
+zip_each R S (x ∷ xs) [] h z = absurd z
+zip_each R S (x ∷ xs) (y ∷ ys) h z = (h x y z.0, zip_each R S xs ys h z.1)
+
+zip_join : {X A B : Type 0} (R : A → B → Type 0) (f : X → A) (g : X → B) (rs : List X) (xs : List A) (ys : List B) → All (λ r. R (f r) (g r)) rs → AllZip R xs ys → AllZip R (map f rs ++ xs) (map g rs ++ ys)
+zip_join R f g [] xs ys all z = z
+zip_join R f g (r ∷ rs) xs ys all z = (All-head (λ r. R (f r) (g r)) r rs all, zip_join R f g rs xs ys (All-tail (λ r. R (f r) (g r)) r rs all) z)
+
+zip_at : (R : ℕ → ℕ → Type 0) (xs ys : List ℕ) (i : ℕ) → AllZip R xs ys → i < length xs → R (word_or_nil (slice_get xs i)) (word_or_nil (slice_get ys i))
+zip_at R [] ys i z h = absurd (omega arith)
+zip_at R (x ∷ xs) [] i z h = absurd z
+zip_at R (x ∷ xs) (y ∷ ys) zero z h = z.0
+zip_at R (x ∷ xs) (y ∷ ys) (suc i) z h = zip_at R xs ys i z.1 (omega arith)
+
+both_parts : (pairs : List (ℕ × ℕ)) (b c : Bool) (v w : Value) → read_correspond pairs (cond b (Some v) None) (cond c (Some w) None) ≡ true → (b ≡ true) × (c ≡ true) × (correspond pairs v w ≡ true)
+both_parts pairs true true v w e = (refl, refl, e)
+both_parts pairs true false v w e = cc
+both_parts pairs false c v w e = cc
+
+module _ (size : ℕ) (front after young kept roots new_roots : List ℕ) (remembered pairs : List (ℕ × ℕ)) (standing : IsStanding size front young roots remembered)
+    (candidate : IsCandidate size front after kept remembered pairs) (certified : Certified (whole size front young roots) (whole size after kept new_roots) (identity front ++ pairs)) where
+  abbrev all_pairs : List (ℕ × ℕ)
+  all_pairs = identity front ++ pairs
+
+  abbrev Decoded : Value → Value → Type 0
+  Decoded x y = ((lies_below (length front) x ≡ true) × (x ≡ y)) ⊎ (correspond pairs x y ≡ true)
+
+  values : (x y : Value) → correspond all_pairs x y ≡ true → Decoded x y
+  values Nil Nil e = inr refl
+  values Nil (Num b) e = absurd (let no : false ≡ true = e in cc)
+  values Nil (Ref b) e = absurd (let no : false ≡ true = e in cc)
+  values (Num a) Nil e = absurd (let no : false ≡ true = e in cc)
+  values (Num a) (Num b) e = inr e
+  values (Num a) (Ref b) e = absurd (let no : false ≡ true = e in cc)
+  values (Ref a) Nil e = absurd (let no : false ≡ true = e in cc)
+  values (Ref a) (Num b) e = absurd (let no : false ≡ true = e in cc)
+  values (Ref a) (Ref b) e = go (any_cases (λ p. (p.0 == a) && (p.1 == b)) (identity front) pairs e)
+    where
+      go : (paired (identity front) a b ≡ true) ⊎ (paired pairs a b ≡ true) → Decoded (Ref a) (Ref b)
+      go (inl self) =
+          let only : (a ≡ b) × (is_some (block_in (blocks front) a) ≡ true) = self_only (blocks front) a b self in
+          let block : (c : Block) × (block_at front a ≡ Some c) = some_of (block_at front a) only.1 in
+          inl (lt-ltb a (length front) (old_below size front a block.0 standing.shaped block.1), ap (λ n. Ref n) only.0)
+      go (inr there) = inr there
+
+  words : (v w : ℕ) → words_correspond all_pairs v w ≡ true → words_correspond_above (length front) pairs v w ≡ true
+  words v w e = go (values (value_of v) (value_of w) parts.2)
+    where
+      parts : (is_value v ≡ true) × (is_value w ≡ true) × (correspond all_pairs (value_of v) (value_of w) ≡ true)
+      parts = both_parts all_pairs (is_value v) (is_value w) (value_of v) (value_of w) e
+
+      go : Decoded (value_of v) (value_of w) → words_correspond_above (length front) pairs v w ≡ true
+      go (inl same) = or_left (is_old (length front) v && (v == w)) (words_correspond pairs v w)
+          (and_from (is_old (length front) v) (v == w) same.0 (eq-eqb v w (sym (meant v parts.0).0 ∙ ap word_of same.1 ∙ (meant w parts.1).0)))
+      go (inr alike) = or_right (is_old (length front) v && (v == w)) (words_correspond pairs v w)
+          ((λ i. read_correspond pairs (cond (parts.0 i) (Some (value_of v)) None) (cond (parts.1 i) (Some (value_of w)) None)) ∙ alike)
+
+  field_words : (h : Header) (v w : ℕ) → field_words_correspond h all_pairs v w ≡ true → field_words_correspond_above h (length front) pairs v w ≡ true
+  field_words h v w e = go h.raw e
+    where
+      go : (raw : Bool) → cond raw (v == w) (words_correspond all_pairs v w) ≡ true → cond raw (v == w) (words_correspond_above (length front) pairs v w) ≡ true
+      go true e = e
+      go false e = words v w e
+
+  objects_back : (o q : Option Block) → BlocksCorrespond all_pairs o q → BlocksCorrespondAbove (length front) pairs o q
+  objects_back (Some a) (Some b) c = (c.0, zip_each _ _ a.fields b.fields (field_words a.header) c.1)
+  objects_back (Some a) None c = absurd c
+  objects_back None q c = absurd c
+
+  kept_walked : IsOk (walk true 0 (length after) kept)
+  kept_walked = subst (λ n. IsOk (walk true 0 n kept)) (sym candidate.rewritten.as_long) candidate.walked
+
+  young_at : (a : ℕ) → length front ≤ a → block_at (front ++ young) a ≡ block_in (young_blocks (length front) young) a
+  young_at a l = ap (λ bs. block_in bs a) (whole_blocks size front young standing.shaped standing.walked)
+      ∙ found_right (blocks front) (young_blocks (length front) young) a (not_old size front a standing.shaped l)
+
+  kept_at : (b : ℕ) → length front ≤ b → block_at (after ++ kept) b ≡ block_in (young_blocks (length front) kept) b
+  kept_at b l = ap (λ bs. block_in bs b) (whole_blocks size after kept candidate.shaped kept_walked)
+      ∙ found_right (blocks after) (young_blocks (length after) kept) b (not_old size after b candidate.shaped (let n : length after ≡ length front = candidate.rewritten.as_long in omega arith))
+      ∙ ap (λ n. block_in (young_blocks n kept) b) candidate.rewritten.as_long
+
+  abbrev Alike : ℕ × ℕ → Type 0
+  Alike p = BlocksCorrespond all_pairs (block_at (front ++ young) p.0) (block_at (after ++ kept) p.1)
+
+  young_back : (p : ℕ × ℕ) → (length front ≤ p.0) × (length front ≤ p.1) → Alike p → BlocksCorrespondAbove (length front) pairs (block_in (young_blocks (length front) young) p.0) (block_in (young_blocks (length front) kept) p.1)
+  young_back p h c =
+      objects_back (block_in (young_blocks (length front) young) p.0) (block_in (young_blocks (length front) kept) p.1)
+      (subst (λ o. BlocksCorrespond all_pairs o (block_in (young_blocks (length front) kept) p.1)) (young_at p.0 h.0)
+      (subst (λ q. BlocksCorrespond all_pairs (block_at (front ++ young) p.0) q) (kept_at p.1 h.1) c))
+
+  remembered_back : (r : ℕ × ℕ) → IsPlainField front r → words_correspond_above (length front) pairs (word_of_field front r) (word_of_field after r) ≡ true
+  remembered_back r is = words (word_of_field front r) (word_of_field after r) alike
+    where
+      after_block : (c : Block) × (block_at after r.0 ≡ Some c) × (c.header ≡ is.block.header)
+      after_block = block_of_header after r.0 is.block.header (candidate.rewritten.headers r.0 ∙ ap header_of is.found)
+
+      old_there : block_at (front ++ young) r.0 ≡ Some is.block
+      old_there = ap (λ bs. block_in bs r.0) (whole_blocks size front young standing.shaped standing.walked) ∙ found_left (blocks front) (young_blocks (length front) young) r.0 is.block is.found
+
+      new_there : block_at (after ++ kept) r.0 ≡ Some after_block.0
+      new_there = ap (λ bs. block_in bs r.0) (whole_blocks size after kept candidate.shaped kept_walked) ∙ found_left (blocks after) (young_blocks (length after) kept) r.0 after_block.0 after_block.1
+
+      self : paired all_pairs r.0 r.0 ≡ true
+      self = any_left (λ p. (p.0 == r.0) && (p.1 == r.0)) (identity front) pairs (self_paired (blocks front) r.0 is.block is.found)
+
+      blocks_alike : BlocksCorrespond all_pairs (Some is.block) (Some after_block.0)
+      blocks_alike = subst (λ q. BlocksCorrespond all_pairs (Some is.block) q) new_there (subst (λ o. BlocksCorrespond all_pairs o (block_at (after ++ kept) r.0)) old_there (paired_all Alike all_pairs r.0 r.0 self certified.objects))
+
+      at_field : IsTrue (field_words_correspond is.block.header all_pairs (word_or_nil (slice_get is.block.fields r.1)) (word_or_nil (slice_get after_block.0.fields r.1)))
+      at_field = zip_at (λ v w. IsTrue (field_words_correspond is.block.header all_pairs v w)) is.block.fields after_block.0.fields r.1 blocks_alike.1 is.within
+
+      alike : words_correspond all_pairs (word_of_field front r) (word_of_field after r) ≡ true
+      alike =
+          (λ i. words_correspond all_pairs (word_or_nil (field_in (is.found i) r.1)) (word_or_nil (field_in (after_block.1 i) r.1)))
+          ∙ sym (ap (λ t. cond t (word_or_nil (slice_get is.block.fields r.1) == word_or_nil (slice_get after_block.0.fields r.1)) (words_correspond all_pairs (word_or_nil (slice_get is.block.fields r.1)) (word_or_nil (slice_get after_block.0.fields r.1)))) is.plain)
+          ∙ at_field
+
+  pub back : MinorCertified (length front) young kept (map (word_of_field front) remembered ++ roots) (map (word_of_field after) remembered ++ new_roots) pairs
+  back = record {
+    old_walked = standing.walked;
+    new_walked = candidate.walked;
+    objects = λ k d h. young_back (get_or pairs k d) (candidate.young k d h) (all_right Alike (identity front) pairs certified.objects k d h);
+    rising = pairs_right (λ p q. p.1 < q.1) (identity front) pairs certified.rising;
+    once = pairs_right (λ p q. p.0 ≢ q.0) (identity front) pairs certified.once;
+    roots = zip_join (λ v w. IsTrue (words_correspond_above (length front) pairs v w)) (word_of_field front) (word_of_field after) remembered roots new_roots
+        (All-weaker (IsPlainField front) _ remembered_back remembered candidate.fields)
+        (zip_each _ _ roots new_roots words certified.roots);
+  }

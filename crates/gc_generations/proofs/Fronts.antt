@@ -1,0 +1,114 @@
+-- The objects of old and young words together.
+use Rattle.std.proofs.Common.{◌≡◌, ℕ, zero, suc, ◌+◌, ◌-◌, ◌<◌, ◌≤◌, Bool, true, false, List, [], ◌∷◌, ◌++◌, length, take, drop, Option, Some, None, Result, Ok, Err, refl, ap, sym, ◌∙◌, subst, arith, length-append}
+use Rattle.std.specs.Prelude.{IsOk, slice_index}
+use Rattle.std.proofs.lemmas.List.{take-append-le, drop-append-le}
+use Rattle.gc_words.specs.Word.{read_header}
+use Rattle.gc_words.specs.Image.{Block, walk, walk_words, ok_or_nil, blocks, block_in, block_at, HasShape}
+use Rattle.gc_words.specs.Space.{IsSpace}
+use Rattle.gc_words.specs.Walking.{StandsIn}
+use Rattle.gc_words.proofs.Walks.{Walked, First, first, fields_in, object_walked}
+use Rattle.gc_words.proofs.Starts.{StandsAt, stands, ok_is, walked_blocks, stands_in}
+use Rattle.gc_generations.proofs.Lists.{Rising}
+use Rattle.gc_generations.specs.Minor.{young_blocks}
+
+length_drop_one : (xs : List ℕ) → length (drop 1 xs) ≡ length xs - 1
+length_drop_one [] = refl
+length_drop_one (x ∷ xs) = omega arith
+
+-- a walk goes on behind the last object
+pub walk_on : (ws : List ℕ) (inside at : ℕ) (bs : List (ℕ × Block)) (ys : List ℕ) (cs : List (ℕ × Block)) → inside ≤ length ws → Walked inside at ws bs → Walked 0 (at + length ws) ys cs → Walked inside at (ws ++ ys) (bs ++ cs)
+walk_on [] zero at bs ys cs room e f =
+    (let here : at + 0 ≡ at = omega arith in subst (λ n. Walked 0 n ys cs) here f) ∙ (let none : [] ≡ bs = cc in (λ i. Ok (none i ++ cs)))
+walk_on [] (suc inside) at bs ys cs room e f = absurd (omega arith)
+walk_on (w ∷ ws) (suc inside) at bs ys cs room e f =
+    walk_on ws inside (suc at) bs ys cs (omega arith) e (let here : at + suc (length ws) ≡ suc at + length ws = omega arith in subst (λ n. Walked 0 n ys cs) here f)
+walk_on (w ∷ ws) zero at bs ys cs room e f =
+    let g : First at ws bs (read_header w) = first at w ws bs e in
+    let r : g.0.len + 1 ≤ length ws = g.2 in
+    let here : at + suc (length ws) ≡ suc at + length ws = omega arith in
+    let ih : Walked (g.0.len + 1) (suc at) (ws ++ ys) (g.3 ++ cs) = walk_on ws (g.0.len + 1) (suc at) g.3 ys cs g.2 g.4 (subst (λ n. Walked 0 n ys cs) here f) in
+    let longer : length (ws ++ ys) ≡ length ws + length ys = length-append ws ys in
+    let dropped : drop 1 (ws ++ ys) ≡ drop 1 ws ++ ys = drop-append-le 1 ws ys (omega arith) in
+    let kept : fields_in g.0 (ws ++ ys) ≡ fields_in g.0 ws = ap (take g.0.len) dropped ∙ take-append-le g.0.len (drop 1 ws) ys (let d : length (drop 1 ws) ≡ length ws - 1 = length_drop_one ws in omega arith) in
+    object_walked at w (ws ++ ys) g.0 _ g.1 (omega arith) ih
+    ∙ (λ i. Ok ((at, record { header = g.0; fields = kept i }) ∷ (g.3 ++ cs)))
+    ∙ ap (λ bs. Ok (bs ++ cs)) (sym g.5)
+
+-- ---- in a whole space
+
+pub whole_walked : (size : ℕ) (front young : List ℕ) → IsSpace (record { size = size; words = front }) → IsOk (walk true 0 (length front) young)
+    → walk_words (front ++ young) ≡ Ok (blocks front ++ young_blocks (length front) young)
+whole_walked size [] young shaped ok = absurd (let low : 1 ≤ 0 = shaped.end_low in omega arith)
+whole_walked size (x ∷ front) young shaped ok =
+    walk_on front 0 1 (blocks (x ∷ front)) young (young_blocks (length (x ∷ front)) young) (omega arith)
+    (walked_blocks (x ∷ front) shaped.walked)
+    (let here : suc (length front) ≡ 1 + length front = omega arith in
+    subst (λ n. walk true 0 n young ≡ Ok (young_blocks (suc (length front)) young)) here (ok_is (walk true 0 (suc (length front)) young) ok))
+
+pub whole_blocks : (size : ℕ) (front young : List ℕ) → IsSpace (record { size = size; words = front }) → IsOk (walk true 0 (length front) young)
+    → blocks (front ++ young) ≡ blocks front ++ young_blocks (length front) young
+whole_blocks size front young shaped ok = ap ok_or_nil (whole_walked size front young shaped ok)
+
+first_word : (front young : List ℕ) → 1 ≤ length front → slice_index (front ++ young) 0 ≡ slice_index front 0
+first_word [] young low = absurd (omega arith)
+first_word (x ∷ front) young low = refl
+
+pub whole_shaped : (size : ℕ) (front young : List ℕ) → IsSpace (record { size = size; words = front }) → IsOk (walk true 0 (length front) young) → length (front ++ young) ≤ size
+    → HasShape true size (length (front ++ young)) (front ++ young)
+whole_shaped size front young shaped ok fits = record {
+  size_low = shaped.size_low;
+  size_high = shaped.size_high;
+  end_low = (let low : 1 ≤ length front = shaped.end_low in let n : length (front ++ young) ≡ length front + length young = length-append front young in omega arith);
+  end_high = fits;
+  count = refl;
+  reserved = first_word front young shaped.end_low ∙ shaped.reserved;
+  walked = ap is_ok_of (whole_walked size front young shaped ok);
+}
+  where
+    is_ok_of : Result (List (ℕ × Block)) ℕ → Bool
+    is_ok_of (Ok xs) = true
+    is_ok_of (Err at) = false
+
+-- ---- old and young starts
+
+pub old_below : (size : ℕ) (front : List ℕ) (a : ℕ) (b : Block) → IsSpace (record { size = size; words = front }) → block_at front a ≡ Some b → a < length front
+old_below size front a b shaped e =
+    let s : StandsIn front a b = stands_in front a b shaped.walked e in
+    let f : a + (b.header.len + 2) ≤ length front = s.fits in omega arith
+
+pub not_old : (size : ℕ) (front : List ℕ) (a : ℕ) → IsSpace (record { size = size; words = front }) → length front ≤ a → block_at front a ≡ None
+not_old size front a shaped high = go (block_at front a) refl
+  where
+    go : (o : Option Block) → block_at front a ≡ o → o ≡ None
+    go None e = refl
+    go (Some b) e = absurd (let l : a < length front = old_below size front a b shaped e in omega arith)
+
+pub young_above : (base : ℕ) (young : List ℕ) (a : ℕ) (b : Block) → IsOk (walk true 0 base young) → block_in (young_blocks base young) a ≡ Some b → base ≤ a
+young_above base young a b ok e =
+    let s : StandsAt young base a b = stands young 0 base (young_blocks base young) a b (ok_is (walk true 0 base young) ok) e in
+    let p : a ≡ base + s.offset = s.place in omega arith
+
+pub not_young : (base : ℕ) (young : List ℕ) (a : ℕ) → IsOk (walk true 0 base young) → a < base → block_in (young_blocks base young) a ≡ None
+not_young base young a ok low = go (block_in (young_blocks base young) a) refl
+  where
+    go : (o : Option Block) → block_in (young_blocks base young) a ≡ o → o ≡ None
+    go None e = refl
+    go (Some b) e = absurd (let l : base ≤ a = young_above base young a b ok e in omega arith)
+
+-- ---- starts rise
+
+rises : (ws : List ℕ) (inside at : ℕ) (bs : List (ℕ × Block)) → Walked inside at ws bs → Rising (at + inside) bs
+rises [] inside at [] e = tt
+rises [] inside at (b ∷ bs) e = cc
+rises (w ∷ ws) (suc inside) at bs e = (let here : suc at + inside ≡ at + suc inside = omega arith in subst (λ n. Rising n bs) here (rises ws inside (suc at) bs e))
+rises (w ∷ ws) zero at bs e =
+    let f : First at ws bs (read_header w) = first at w ws bs e in
+    subst (Rising (at + 0)) (sym f.5) (omega arith, lower f.3 (suc at + (f.0.len + 1)) (suc at) (omega arith) (rises ws (f.0.len + 1) (suc at) f.3 f.4))
+  where
+    lower : (bs : List (ℕ × Block)) (low less : ℕ) → less ≤ low → Rising low bs → Rising less bs
+    lower [] low less h r = tt
+    lower (x ∷ bs) low less h r = (let l : low ≤ x.0 = r.0 in omega arith, r.1)
+
+pub old_rise : (size : ℕ) (front : List ℕ) → IsSpace (record { size = size; words = front }) → Rising 1 (blocks front)
+old_rise size [] shaped = absurd (let low : 1 ≤ 0 = shaped.end_low in omega arith)
+old_rise size (x ∷ front) shaped = (let here : 1 + 0 ≡ 1 = refl in subst (λ n. Rising n (blocks (x ∷ front))) here (rises front 0 1 (blocks (x ∷ front)) (walked_blocks (x ∷ front) shaped.walked)))

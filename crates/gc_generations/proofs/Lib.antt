@@ -1,0 +1,9 @@
+pub mod Lists
+pub mod Fronts
+pub mod Whole
+pub mod Stands
+pub mod Complete
+pub mod Encoded
+pub mod Commands
+pub mod Back
+pub mod UnderWay

@@ -1,0 +1,261 @@
+-- The certificate of a minor collection, with each old object as its own replica, is a certificate of the whole heap.
+use Rattle.std.proofs.Common.{◌≡◌, ◌≢◌, inl, inr, ℕ, ◌<◌, ◌≤◌, Bool, true, false, cond, ◌&&◌, ◌==◌, List, ◌++◌, length, Option, Some, None, is_some, slice_get, refl, ap, sym, ◌∙◌, subst, arith}
+use Rattle.std.specs.Prelude.{IsOk, IsTrue, nat_le}
+use Rattle.std.specs.List.{All, AllPairs, AllZip}
+use Rattle.std.proofs.lemmas.Bool.{cases_Bool, eqb-true, eq-eqb, and_parts, or_cases, ltb-true, leb-true, leb-false}
+use Rattle.std.proofs.lemmas.List.Elements.{All-weaker}
+use Rattle.gc_graph.specs.Graph.{Value, Nil, Num, Ref}
+use Rattle.gc_graph.specs.Correspond.{paired, correspond}
+use Rattle.gc_words.specs.Word.{value_of, is_value, read_correspond, words_correspond, field_words_correspond}
+use Rattle.gc_words.specs.Image.{Block, walk, blocks, block_in, block_at, header_of, field_in, field_at}
+use Rattle.gc_words.specs.Certificate.{BlocksCorrespond, Certified}
+use Rattle.gc_words.specs.Closed.{RefersToStart, IsRootWord, IsWordOfField, IsFieldWord, HasFieldWords}
+use Rattle.gc_words.specs.declared.header.Header.{Header}
+use Rattle.gc_words.proofs.Starts.{stands_in}
+use Rattle.gc_words.proofs.Writes.{some_of}
+use Rattle.gc_words.proofs.Fields.{block_of_header}
+use Rattle.gc_generations.specs.Minor.{lies_below, lies_above, is_old, is_young, words_correspond_above, field_words_correspond_above, young_blocks, BlocksCorrespondAbove, word_or_nil, word_of_field, whole, identity, IsStanding, IsMinor}
+use Rattle.gc_generations.proofs.Lists.{any_left, any_right, paired_all, all_zip_from, zip_weaker, zip_split, all_at, found_left, found_right, all_found, self_paired, all_selves, selves_rise, starts_found}
+use Rattle.gc_generations.proofs.Fronts.{whole_blocks, whole_shaped, old_below, not_old, young_above, not_young, old_rise}
+
+-- ---- more pairs
+
+correspond_more : (xs ys : List (ℕ × ℕ)) (v w : Value) → correspond ys v w ≡ true → correspond (xs ++ ys) v w ≡ true
+correspond_more xs ys Nil Nil e = refl
+correspond_more xs ys Nil (Num b) e = cc
+correspond_more xs ys Nil (Ref b) e = cc
+correspond_more xs ys (Num a) Nil e = cc
+correspond_more xs ys (Num a) (Num b) e = e
+correspond_more xs ys (Num a) (Ref b) e = cc
+correspond_more xs ys (Ref a) Nil e = cc
+correspond_more xs ys (Ref a) (Num b) e = cc
+correspond_more xs ys (Ref a) (Ref b) e = any_right (λ p. (p.0 == a) && (p.1 == b)) xs ys e
+
+read_more : (xs ys : List (ℕ × ℕ)) (b c : Bool) (v w : Value) → read_correspond ys (cond b (Some v) None) (cond c (Some w) None) ≡ true → read_correspond (xs ++ ys) (cond b (Some v) None) (cond c (Some w) None) ≡ true
+read_more xs ys true true v w e = correspond_more xs ys v w e
+read_more xs ys true false v w e = cc
+read_more xs ys false c v w e = cc
+
+words_more : (xs ys : List (ℕ × ℕ)) (v w : ℕ) → words_correspond ys v w ≡ true → words_correspond (xs ++ ys) v w ≡ true
+words_more xs ys v w e = read_more xs ys (is_value v) (is_value w) (value_of v) (value_of w) e
+
+read_same : (pairs : List (ℕ × ℕ)) (b : Bool) (v : Value) → b ≡ true → correspond pairs v v ≡ true → read_correspond pairs (cond b (Some v) None) (cond b (Some v) None) ≡ true
+read_same pairs true v t e = e
+read_same pairs false v t e = cc
+
+old_is_not_young : (base : ℕ) (v : Value) → lies_below base v ≡ true → lies_above base v ≡ false
+old_is_not_young base Nil e = cc
+old_is_not_young base (Num n) e = cc
+old_is_not_young base (Ref a) e = go (nat_le base a) refl
+  where
+    go : (b : Bool) → nat_le base a ≡ b → b ≡ false
+    go false t = refl
+    go true t = absurd (let l : base ≤ a = leb-true base a t in let h : a < base = ltb-true a base e in omega arith)
+
+module _ (size : ℕ) (front after young kept roots new_roots : List ℕ) (remembered pairs : List (ℕ × ℕ)) (standing : IsStanding size front young roots remembered) (minor : IsMinor size front after young kept roots new_roots remembered pairs) where
+  abbrev all_pairs : List (ℕ × ℕ)
+  all_pairs = identity front ++ pairs
+
+  base : ℕ
+  base = length front
+
+  old_blocks : blocks (front ++ young) ≡ blocks front ++ young_blocks (length front) young
+  old_blocks = whole_blocks size front young standing.shaped standing.walked
+
+  new_blocks : blocks (after ++ kept) ≡ blocks after ++ young_blocks (length front) kept
+  new_blocks = subst (λ n. blocks (after ++ kept) ≡ blocks after ++ young_blocks n kept) minor.rewritten.as_long
+      (whole_blocks size after kept minor.shaped (subst (λ n. IsOk (walk true 0 n kept)) (sym minor.rewritten.as_long) minor.certified.new_walked))
+
+  old_found : (a : ℕ) (b : Block) → block_at front a ≡ Some b → block_at (front ++ young) a ≡ Some b
+  old_found a b e = ap (λ bs. block_in bs a) old_blocks ∙ found_left (blocks front) (young_blocks (length front) young) a b e
+
+  after_found : (a : ℕ) (b : Block) → block_at after a ≡ Some b → block_at (after ++ kept) a ≡ Some b
+  after_found a b e = ap (λ bs. block_in bs a) new_blocks ∙ found_left (blocks after) (young_blocks (length front) kept) a b e
+
+  young_found : (a : ℕ) (b : Block) → block_in (young_blocks (length front) young) a ≡ Some b → block_at (front ++ young) a ≡ Some b
+  young_found a b e =
+      ap (λ bs. block_in bs a) old_blocks
+      ∙ found_right (blocks front) (young_blocks (length front) young) a (not_old size front a standing.shaped (young_above (length front) young a b standing.walked e)) ∙ e
+
+  kept_found : (a : ℕ) (b : Block) → block_in (young_blocks (length front) kept) a ≡ Some b → block_at (after ++ kept) a ≡ Some b
+  kept_found a b e =
+      (let high : length front ≤ a = young_above (length front) kept a b minor.certified.new_walked e in
+      let as_long : length after ≡ length front = minor.rewritten.as_long in
+      ap (λ bs. block_in bs a) new_blocks
+      ∙ found_right (blocks after) (young_blocks (length front) kept) a (not_old size after a minor.shaped (omega arith)) ∙ e)
+
+  -- ---- words
+
+  -- a value of the heap that does not refer to a young object corresponds to itself
+  value_itself : (v : Value) → RefersToStart (front ++ young) v → lies_above (length front) v ≡ false → correspond all_pairs v v ≡ true
+  value_itself Nil start old = refl
+  value_itself (Num n) start old = eq-eqb n n refl
+  value_itself (Ref a) start old = any_left (λ p. (p.0 == a) && (p.1 == a)) (identity front) pairs (self_paired (blocks front) a found.0 found.1)
+    where
+      low : a < length front
+      low = leb-false (length front) a old
+
+      there : is_some (block_in (blocks front ++ young_blocks (length front) young) a) ≡ true
+      there = ap (λ bs. is_some (block_in bs a)) (sym old_blocks) ∙ start
+
+      in_front : (o : Option Block) → block_in (blocks front) a ≡ o → (b : Block) × (block_in (blocks front) a ≡ Some b)
+      in_front (Some b) e = (b, e)
+      in_front None e = absurd (let none : is_some (block_in (young_blocks (length front) young) a) ≡ true = ap is_some (sym (found_right (blocks front) (young_blocks (length front) young) a e)) ∙ there in
+          let no : false ≡ true = ap is_some (sym (not_young (length front) young a standing.walked low)) ∙ none in cc)
+
+      found : (b : Block) × (block_in (blocks front) a ≡ Some b)
+      found = in_front (block_in (blocks front) a) refl
+
+  word_itself : (v : ℕ) → IsRootWord (front ++ young) v → is_young (length front) v ≡ false → words_correspond all_pairs v v ≡ true
+  word_itself v is old = read_same all_pairs (is_value v) (value_of v) is.value (value_itself (value_of v) is.start old)
+
+  word_above : (v w : ℕ) → IsRootWord (front ++ young) v → words_correspond_above (length front) pairs v w ≡ true → words_correspond all_pairs v w ≡ true
+  word_above v w is e =
+      elim (or_cases (is_old (length front) v && (v == w)) (words_correspond pairs v w) e) [
+        | inl both_old ↦ (let both : (is_old (length front) v ≡ true) × ((v == w) ≡ true) = and_parts _ _ both_old in
+            subst (λ w. words_correspond all_pairs v w ≡ true) (eqb-true v w both.1) (word_itself v is (old_is_not_young (length front) (value_of v) both.0)))
+        | inr there ↦ words_more (identity front) pairs v w there
+      ]
+
+  field_above : (h : Header) (v w : ℕ) → IsFieldWord (front ++ young) h v → field_words_correspond_above h (length front) pairs v w ≡ true → field_words_correspond h all_pairs v w ≡ true
+  field_above h v w is e = go h.raw is e
+    where
+      go : (raw : Bool) → IsWordOfField raw (front ++ young) v → cond raw (v == w) (words_correspond_above (length front) pairs v w) ≡ true → cond raw (v == w) (words_correspond all_pairs v w) ≡ true
+      go true is e = e
+      go false is e = word_above v w is e
+
+  -- ---- young objects
+
+  fields_closed : (a : ℕ) (b : Block) → block_at (front ++ young) a ≡ Some b → HasFieldWords (front ++ young) b
+  fields_closed a b e = all_found (HasFieldWords (front ++ young)) (blocks (front ++ young)) a b standing.closed.fields e
+
+  young_alike : (p : ℕ × ℕ) → BlocksCorrespondAbove (length front) pairs (block_in (young_blocks (length front) young) p.0) (block_in (young_blocks (length front) kept) p.1)
+      → BlocksCorrespond all_pairs (block_at (front ++ young) p.0) (block_at (after ++ kept) p.1)
+  young_alike p c = go (block_in (young_blocks (length front) young) p.0) refl (block_in (young_blocks (length front) kept) p.1) refl c
+    where
+      go : (o : Option Block) → block_in (young_blocks (length front) young) p.0 ≡ o → (q : Option Block) → block_in (young_blocks (length front) kept) p.1 ≡ q
+          → BlocksCorrespondAbove (length front) pairs o q → BlocksCorrespond all_pairs (block_at (front ++ young) p.0) (block_at (after ++ kept) p.1)
+      go (Some a) e (Some b) f c =
+          let there : block_at (front ++ young) p.0 ≡ Some a = young_found p.0 a e in
+          let alike : BlocksCorrespond all_pairs (Some a) (Some b) = (c.0, zip_weaker (IsFieldWord (front ++ young) a.header) _ _ a.fields b.fields (fields_closed p.0 a there) (field_above a.header) c.1) in
+          subst (λ o. BlocksCorrespond all_pairs o (block_at (after ++ kept) p.1)) (sym there)
+          (subst (λ q. BlocksCorrespond all_pairs (Some a) q) (sym (kept_found p.1 b f)) alike)
+      go (Some a) e None f c = absurd c
+      go None e q f c = absurd c
+
+  -- ---- old objects
+
+  root_parts : All (λ r. IsTrue (words_correspond_above (length front) pairs (word_of_field front r) (word_of_field after r))) remembered × AllZip (λ v w. IsTrue (words_correspond_above (length front) pairs v w)) roots new_roots
+  root_parts = zip_split (λ v w. IsTrue (words_correspond_above (length front) pairs v w)) (word_of_field front) (word_of_field after) remembered roots new_roots minor.certified.roots
+
+  remembered_field : (a i v w : ℕ) → paired remembered a i ≡ true → field_at front a i ≡ Some v → field_at after a i ≡ Some w → words_correspond_above (length front) pairs v w ≡ true
+  remembered_field a i v w is e f =
+      let there : words_correspond_above (length front) pairs (word_of_field front (a, i)) (word_of_field after (a, i)) ≡ true
+      = paired_all (λ r. IsTrue (words_correspond_above (length front) pairs (word_of_field front r) (word_of_field after r))) remembered a i is root_parts.0 in
+      subst (λ w. words_correspond_above (length front) pairs v w ≡ true) (word_is f) (subst (λ v. words_correspond_above (length front) pairs v (word_of_field after (a, i)) ≡ true) (word_is e) there)
+    where
+      word_is : {o : Option ℕ} {x : ℕ} → o ≡ Some x → word_or_nil o ≡ x
+      word_is e = ap word_or_nil e
+
+  old_field : (a i v w : ℕ) (b : Block) → block_at front a ≡ Some b → b.header.raw ≡ false → slice_get b.fields i ≡ Some v → field_at after a i ≡ Some w → words_correspond all_pairs v w ≡ true
+  old_field a i v w b found plain e f =
+      elim (cases_Bool (paired remembered a i)) [
+        | inl is ↦ word_above v w closed (remembered_field a i v w is there f)
+        | inr other ↦ (let same : v ≡ w = (let s : Some v ≡ Some w = sym there ∙ sym (minor.rewritten.beside a i other) ∙ f in cc) in
+            subst (λ w. words_correspond all_pairs v w ≡ true) same (word_itself v closed (old_word other)))
+      ]
+    where
+      there : field_at front a i ≡ Some v
+      there = ap (λ o. field_in o i) found ∙ e
+
+      closed : IsRootWord (front ++ young) v
+      closed = subst (λ raw. IsWordOfField raw (front ++ young) v) plain (all_at (IsFieldWord (front ++ young) b.header) b.fields i v (fields_closed a b (old_found a b found)) e)
+
+      old_word : paired remembered a i ≡ false → is_young (length front) v ≡ false
+      old_word other = elim (cases_Bool (is_young (length front) v)) [
+        | inl young ↦ absurd (let t : paired remembered a i ≡ true = standing.complete.each a i v b found plain e young in let no : true ≡ false = sym t ∙ other in cc)
+        | inr old ↦ old
+      ]
+
+  old_alike : (a : ℕ) (b : Block) → block_at front a ≡ Some b → BlocksCorrespond all_pairs (block_at (front ++ young) a) (block_at (after ++ kept) a)
+  old_alike a b found =
+      subst (λ o. BlocksCorrespond all_pairs o (block_at (after ++ kept) a)) (sym (old_found a b found))
+      (subst (λ q. BlocksCorrespond all_pairs (Some b) q) (sym (after_found a after_block.0 after_block.1))
+      (sym after_block.2, fields b.header.raw refl))
+    where
+      after_block : (c : Block) × (block_at after a ≡ Some c) × (c.header ≡ b.header)
+      after_block = block_of_header after a b.header (minor.rewritten.headers a ∙ ap header_of found)
+
+      as_many : length b.fields ≡ length after_block.0.fields
+      as_many = (stands_in front a b standing.shaped.walked found).whole.fields ∙ ap (λ h. h.len) (sym after_block.2) ∙ sym (stands_in after a after_block.0 minor.shaped.walked after_block.1).whole.fields
+
+      fields : (raw : Bool) → b.header.raw ≡ raw → AllZip (λ v w. IsTrue (field_words_correspond b.header all_pairs v w)) b.fields after_block.0.fields
+      fields true is =
+          all_zip_from _ b.fields after_block.0.fields as_many (λ i v w e f.
+          (let same_block : b ≡ after_block.0 = (let s : Some b ≡ Some after_block.0 = sym (minor.rewritten.raws a b found is) ∙ after_block.1 in cc) in
+          let same : v ≡ w = (let s : Some v ≡ Some w = sym e ∙ ap (λ (c : Block). slice_get c.fields i) same_block ∙ f in cc) in
+          ap (λ t. cond t (v == w) (words_correspond all_pairs v w)) is ∙ eq-eqb v w same))
+      fields false is =
+          all_zip_from _ b.fields after_block.0.fields as_many (λ i v w e f.
+          ap (λ t. cond t (v == w) (words_correspond all_pairs v w)) is ∙ old_field a i v w b found is e (ap (λ o. field_in o i) after_block.1 ∙ f))
+
+  -- ---- the certificate
+
+  is_in_front : (x : ℕ × Block) → IsTrue (is_some (block_in (blocks front) x.0)) → BlocksCorrespond all_pairs (block_at (front ++ young) x.0) (block_at (after ++ kept) x.0)
+  is_in_front x e = let b : (b : Block) × (block_at front x.0 ≡ Some b) = some_of (block_at front x.0) e in old_alike x.0 b.0 b.1
+
+  objects : All (λ p. BlocksCorrespond all_pairs (block_at (front ++ young) p.0) (block_at (after ++ kept) p.1)) all_pairs
+  objects = all_selves (λ p. BlocksCorrespond all_pairs (block_at (front ++ young) p.0) (block_at (after ++ kept) p.1)) (blocks front) pairs
+      (All-weaker _ _ is_in_front (blocks front) (starts_found (blocks front)))
+      (All-weaker _ _ young_alike pairs minor.certified.objects)
+
+  -- the two places of a pair of young objects
+  pair_high : (p : ℕ × ℕ) → BlocksCorrespondAbove (length front) pairs (block_in (young_blocks (length front) young) p.0) (block_in (young_blocks (length front) kept) p.1) → (length front ≤ p.0) × (length front ≤ p.1)
+  pair_high p c = go (block_in (young_blocks (length front) young) p.0) refl (block_in (young_blocks (length front) kept) p.1) refl c
+    where
+      go : (o : Option Block) → block_in (young_blocks (length front) young) p.0 ≡ o → (q : Option Block) → block_in (young_blocks (length front) kept) p.1 ≡ q
+          → BlocksCorrespondAbove (length front) pairs o q → (length front ≤ p.0) × (length front ≤ p.1)
+      go (Some a) e (Some b) f c = (young_above (length front) young p.0 a standing.walked e, young_above (length front) kept p.1 b minor.certified.new_walked f)
+      go (Some a) e None f c = absurd c
+      go None e q f c = absurd c
+
+  high : All (λ p. (length front ≤ p.0) × (length front ≤ p.1)) pairs
+  high = All-weaker _ _ pair_high pairs minor.certified.objects
+
+  front_low : (x : ℕ × Block) → IsTrue (is_some (block_in (blocks front) x.0)) → x.0 < length front
+  front_low x e = let b : (b : Block) × (block_at front x.0 ≡ Some b) = some_of (block_at front x.0) e in old_below size front x.0 b.0 standing.shaped b.1
+
+  abbrev Highs : ℕ × ℕ → Type 0
+  Highs p = (length front ≤ p.0) × (length front ≤ p.1)
+
+  rises_to : (x : ℕ × Block) → IsTrue (is_some (block_in (blocks front) x.0)) → All (λ (p : ℕ × ℕ). x.0 < p.1) pairs
+  rises_to x e = All-weaker Highs (λ (p : ℕ × ℕ). x.0 < p.1) (λ p h. (let l : x.0 < length front = front_low x e in let m : length front ≤ p.1 = h.1 in omega arith)) pairs high
+
+  differs_from : (x : ℕ × Block) → IsTrue (is_some (block_in (blocks front) x.0)) → All (λ (p : ℕ × ℕ). x.0 ≢ p.0) pairs
+  differs_from x e = All-weaker Highs (λ (p : ℕ × ℕ). x.0 ≢ p.0) (λ p h same. (let l : x.0 < length front = front_low x e in let m : length front ≤ p.0 = h.0 in omega arith)) pairs high
+
+  rising : AllPairs (λ p q. p.1 < q.1) all_pairs
+  rising = selves_rise (λ p q. p.1 < q.1) 1 (blocks front) pairs (λ a b l. l) (old_rise size front standing.shaped)
+      (All-weaker _ _ rises_to (blocks front) (starts_found (blocks front)))
+      minor.certified.rising
+
+  below_differs : (a b : ℕ) → a < b → a ≢ b
+  below_differs a b l same = omega arith
+
+  once : AllPairs (λ p q. p.0 ≢ q.0) all_pairs
+  once = selves_rise (λ p q. p.0 ≢ q.0) 1 (blocks front) pairs below_differs (old_rise size front standing.shaped)
+      (All-weaker _ _ differs_from (blocks front) (starts_found (blocks front)))
+      minor.certified.once
+
+  roots_alike : AllZip (λ v w. IsTrue (words_correspond all_pairs v w)) roots new_roots
+  roots_alike = zip_weaker (IsRootWord (front ++ young)) _ _ roots new_roots standing.closed.roots word_above root_parts.1
+
+  pub certified : Certified (whole size front young roots) (whole size after kept new_roots) all_pairs
+  certified = record {
+    old_shaped = whole_shaped size front young standing.shaped standing.walked standing.fits;
+    new_shaped = whole_shaped size after kept minor.shaped (subst (λ n. IsOk (walk true 0 n kept)) (sym minor.rewritten.as_long) minor.certified.new_walked) minor.fits;
+    objects = objects;
+    rising = rising;
+    once = once;
+    roots = roots_alike;
+  }

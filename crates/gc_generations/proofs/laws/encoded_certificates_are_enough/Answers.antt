@@ -1,0 +1,5 @@
+use Rattle.gc_generations.proofs.Encoded.{enough}
+use Rattle.gc_generations.proofs.laws.encoded_certificates_are_enough.Goals as goal
+
+pub returns : goal.returns
+returns c code size new_size base young kept roots new_roots pairs low ok new_ok can new_can high certified = enough code base low size new_size young kept roots new_roots pairs ok new_ok can new_can high certified

@@ -1,0 +1,14 @@
+use Rattle.std.proofs.Common.{◌++◌, length, map}
+use Rattle.gc_generations.specs.Minor.{word_of_field, IsMinor}
+use Rattle.gc_generations.proofs.laws.encoded_certificates_certify_whole_heaps.Goals as goal
+
+pub returns : goal.returns
+returns c code size old_size new_size front after young kept roots new_roots remembered pairs standing candidate fits can new_can certified =
+    let minor : IsMinor size front after young kept roots new_roots remembered pairs = record {
+      certified = c.encoded_certificates_are_enough.ensures code old_size new_size (length front) young kept (map (word_of_field front) remembered ++ roots) (map (word_of_field after) remembered ++ new_roots) pairs
+          standing.shaped.end_low standing.walked candidate.walked can new_can candidate.young certified;
+      rewritten = candidate.rewritten;
+      shaped = candidate.shaped;
+      fits = fits;
+    } in
+    c.minor_certificates_certify_whole_heaps.ensures.replicated size front after young kept roots new_roots remembered pairs standing minor

@@ -1,0 +1,5 @@
+use Rattle.gc_generations.proofs.Back.{back}
+use Rattle.gc_generations.proofs.laws.minor_certificates_lose_nothing.Goals as goal
+
+pub returns : goal.returns
+returns c size front after young kept roots new_roots remembered pairs standing candidate certified = back size front after young kept roots new_roots remembered pairs standing candidate certified

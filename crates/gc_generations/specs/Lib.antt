@@ -1,0 +1,4 @@
+pub mod Minor
+pub mod Encoding
+pub mod Major
+pub mod Rows
