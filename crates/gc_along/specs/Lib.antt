@@ -2,3 +2,4 @@ pub mod Watch
 pub mod Origins
 pub mod Tables
 pub mod Events
+pub mod Internal

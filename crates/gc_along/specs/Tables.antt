@@ -1,7 +1,7 @@
 -- The tables of a standing checker, and the watch that they hold.
-use Rattle.std.specs.Prelude.{◌≡◌, ◌⊎◌, ◌≤◌, ℕ, Bool, ◌==◌, List, length, map, take, slice_index_or, IsTrue, IsFalse}
+use Rattle.std.specs.Prelude.{ℕ, Bool, ◌==◌, List, length, map, IsFalse}
 use Rattle.std.specs.List.{sum_by}
-use Rattle.gc_words.specs.Image.{Image, is_start}
+use Rattle.gc_words.specs.Image.{Image}
 use Rattle.gc_words.specs.Certificate.{Certified}
 use Rattle.gc_along.specs.Watch.{Watch, Watches, bit}
 use Rattle.gc_along.specs.Origins.{pairs_in}
@@ -27,37 +27,6 @@ missing_in codes = sum_by bit (due_in codes)
 abbrev pub watch_of : Tables → Watch
 watch_of t = record { pairs = pairs_in t.origins; old_seen = length t.olds; new_seen = length t.news; due = due_in t.news }
 
--- what is due is counted
-abbrev pub IsCounted : Tables → Type 0
-IsCounted t = t.missing ≡ missing_in t.news
-
--- The rows agree: the count is right, there is an original or 0 for each new place, and no original has two replicas, since
--- its mark tells that one was seen.
-pub record IsKept (t : Tables) : Type 0 where
-  pub counted : IsCounted t
-  pub few : length t.news ≤ 4294967295
-  pub rows : length t.origins ≡ length t.news
-  pub taken : (b : ℕ) → 1 ≤ slice_index_or t.origins b 0 → slice_index_or t.olds (slice_index_or t.origins b 0) 0 ≡ 2
-
--- lost, or all of it
-abbrev pub IsLostOrKept : Tables → Type 0
-IsLostOrKept t = IsTrue t.lost ⊎ IsKept t
-
 -- what a yes says of both images: nothing was lost, and if the tables tell the truth of their words, the certificate holds
 abbrev pub CertifiedBy : Tables → Image → Image → Type 0
 CertifiedBy t old new = IsFalse t.lost × (Watches old.words new.words (watch_of t) → Certified old new (pairs_in t.origins))
-
--- ---- what the tables tell of the words
-
-abbrev pub IsMark : ℕ → Type 0
-IsMark code = (code ≡ 1) ⊎ (code ≡ 2)
-
--- the marks of a row are starts of objects
-abbrev pub MarksStarts : List ℕ → List ℕ → Type 0
-MarksStarts codes words = (a : ℕ) → IsMark (slice_index_or codes a 0) → IsTrue (is_start (take (length codes) words) a)
-
--- the tables tell the truth of the words of both spaces
-pub record Tells (old new : List ℕ) (t : Tables) : Type 0 where
-  pub watches : Watches old new (watch_of t)
-  pub old_starts : MarksStarts t.olds old
-  pub new_starts : MarksStarts t.news new

@@ -32,7 +32,8 @@ pub struct Standing {
 
 impl Model for Standing {
     ghost use Rattle.std.specs.Prelude.{◌⊎◌, ◌≤◌, IsTrue, vec_capacity};
-    ghost use Rattle.gc_along.specs.Tables.{Tables, IsLostOrKept};
+    ghost use Rattle.gc_along.specs.Tables.{Tables};
+    ghost use Rattle.gc_along.specs.Internal.Tables.{IsLostOrKept};
 
     ghost Value = { Tables };
 

@@ -12,7 +12,7 @@ use Rattle.gc_copy.proofs.Replicas.{pair}
 use Rattle.gc_beside.specs.Stays.{LosesOnly}
 use Rattle.gc_along.specs.Tables.{Tables, watch_of}
 use Rattle.gc_along.specs.Events.{Placed, Looked, Applied as AppliedTo}
-use Rattle.gc_beside.specs.Live.{replica_words}
+use Rattle.gc_beside.specs.Internal.Live.{replica_words}
 use Rattle.gc_beside.proofs.Events.{Goes, roots_copied, field_scanned, replica_passed, entry_applied}
 use Rattle.gc_beside.proofs.Growth.{IsAdded, HasSame, Adds, adds_none, adds_placed, adds_brought, adds_alike}
 use Rattle.gc_beside.proofs.Told.{ShowsReplicas, shows_replicas, Told, told_placed, told_looked, told_applied}

@@ -14,7 +14,7 @@ use Rattle.gc_copy.proofs.Steps.{steps_stay}
 use Rattle.gc_along.specs.Watch.{Watch, opening}
 use Rattle.gc_along.specs.Tables.{Tables, watch_of}
 use Rattle.gc_along.specs.Events.{Placed, Looked, Applied as AppliedTo, Freed, flipped_tables, opening_tables}
-use Rattle.gc_beside.specs.Live.{GoesBeside, IsLive, replica_words}
+use Rattle.gc_beside.specs.Internal.Live.{GoesBeside, IsLive, replica_words}
 use Rattle.gc_beside.proofs.Events.{Goes}
 use Rattle.gc_beside.proofs.Stays.{begun}
 use Rattle.gc_beside.proofs.Beside.{roots_go, scan_go, passed_go, apply_go}

@@ -22,7 +22,7 @@ use Rattle.gc_along.specs.Watch.{Watch, opening}
 use Rattle.gc_beside.specs.Stays.{Fits, MarksWritten}
 use Rattle.gc_along.specs.Tables.{Tables, watch_of}
 use Rattle.gc_along.specs.Events.{Made, Wrote, object_codes}
-use Rattle.gc_beside.specs.Live.{GoesBeside, IsLive, heap_words}
+use Rattle.gc_beside.specs.Internal.Live.{GoesBeside, IsLive, heap_words}
 use Rattle.gc_beside.proofs.Events.{Goes, command_made}
 use Rattle.gc_along.proofs.Kept.{codes_length}
 use Rattle.gc_beside.proofs.Shown.{AreSized, shown_at}

@@ -16,7 +16,7 @@ use Rattle.gc_along.specs.Watch.{opening}
 use Rattle.gc_beside.specs.Stays.{Fits, MarksWritten}
 use Rattle.gc_along.specs.Tables.{Tables, watch_of}
 use Rattle.gc_along.specs.Events.{Wrote}
-use Rattle.gc_beside.specs.Live.{GoesBeside, IsLive}
+use Rattle.gc_beside.specs.Internal.Live.{GoesBeside, IsLive}
 use Rattle.gc_beside.proofs.Events.{Goes, command_evolves}
 use Rattle.gc_beside.proofs.Stays.{sound, commanded, moved_on}
 use Rattle.gc_beside.proofs.Told.{told_wrote}

@@ -1,2 +1,2 @@
 pub mod Stays
-pub mod Live
+pub mod Internal

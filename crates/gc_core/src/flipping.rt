@@ -98,7 +98,8 @@ impl CollectedHeap {
             return Ok(unasked(StepReply::Idle));
         };
         let roots_done = search(collection, &self.heap, self.known).missing.is_none();
-        if !collection.ready_with(&self.heap, roots_done) {
+        let is_ready = collection.ready_with(&self.heap, roots_done);
+        if !is_ready {
             return Ok(unasked(StepReply::NotReady));
         }
         let roots = collection.new_roots(self.alloc, &self.heap)?;

@@ -10,7 +10,7 @@ use Rattle.gc_copy.proofs.Images.{end_is}
 use Rattle.gc_along.specs.Watch.{opening}
 use Rattle.gc_along.specs.Tables.{Tables, watch_of}
 use Rattle.gc_along.specs.Events.{WalkedAnew}
-use Rattle.gc_beside.specs.Live.{GoesBeside, IsLive, heap_words}
+use Rattle.gc_beside.specs.Internal.Live.{GoesBeside, IsLive, heap_words}
 use Rattle.gc_beside.proofs.Lives.{lives_begun}
 
 pub none_open : (o : Option Collection) → is_some o ≡ false → o ≡ None

@@ -10,7 +10,7 @@ use Rattle.gc_core.specs.ExtraRoots.{clear_step}
 use Rattle.gc_along.specs.Watch.{opening}
 use Rattle.gc_along.specs.Tables.{Tables, watch_of}
 use Rattle.gc_beside.specs.Stays.{Fits}
-use Rattle.gc_beside.specs.Live.{IsLive}
+use Rattle.gc_beside.specs.Internal.Live.{IsLive}
 use Rattle.gc_beside.proofs.LivesThrough.{Leads, same_itself, leads_on, leads_one, lives_through, end_by}
 
 abbrev Never : ℕ → ℕ → Type 0

@@ -22,7 +22,7 @@ use Rattle.gc_along.specs.Watch.{Watch, opening}
 use Rattle.gc_beside.specs.Stays.{Fits, MarksWritten}
 use Rattle.gc_along.specs.Tables.{Tables, watch_of}
 use Rattle.gc_along.specs.Events.{Made}
-use Rattle.gc_beside.specs.Live.{IsLive, heap_words}
+use Rattle.gc_beside.specs.Internal.Live.{IsLive, heap_words}
 use Rattle.gc_beside.proofs.LivesOn.{EndsMore, grown}
 use Rattle.gc_beside.proofs.LivesThrough.{Leads, same_itself, leads_on, leads_one, lives_through, put_roots, end_by}
 

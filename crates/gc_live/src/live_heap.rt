@@ -61,7 +61,7 @@ impl Model for LiveHeap {
 
     ghost view = { λ h. h.inner };
 
-    ghost use Rattle.gc_beside.specs.Live.{IsLive};
+    ghost use Rattle.gc_beside.specs.Internal.Live.{IsLive};
 
     ghost invariant = { λ h. IsLive h.inner h.watch };
 }
