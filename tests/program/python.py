@@ -65,9 +65,14 @@ def suites(_program, folder):
     if python is None:
         return
     yield "the package is built", python.why
+    without_numpy = python.run("-c", "import numpy").status != 0
     for name in ("test_checker.py", "test_inference.py", "test_heap.py", "test_explore.py"):
         found = python.run(os.path.join(TESTS, name))
-        yield name, None if found.status == 0 and found.stderr.endswith(b"\nOK\n") else found.stderr.decode()
+        # One test of one file reads arrays of NumPy.
+        skipped = without_numpy and found.stderr.endswith(b"\nOK (skipped=1)\n") and name == "test_checker.py"
+        if skipped:
+            skip("a test of %s" % name, "there is no NumPy")
+        yield name, None if found.status == 0 and (skipped or found.stderr.endswith(b"\nOK\n")) else found.stderr.decode()
     shown = python.run("-m", "doctest", "-v", README)
     last = shown.stdout.decode().strip().split("\n")[-1]
     yield "what README shows", None if shown.status == 0 and last == "Test passed." else shown.stdout.decode()

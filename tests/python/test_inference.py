@@ -164,7 +164,7 @@ class Words(unittest.TestCase):
         first = slots[:32] + [("to", 0)] + slots[33:]
         self.assertEqual(self.explained([(False, 0, [1, ("to", 1)]), (False, 0, [15])], first, [(False, 0, [1, ("to", 1)]), (False, 0, [79])], first),
                          "r0 of mutator 1 (place 32) . field 1 . field 0: old 7, new 39")
-        self.assertEqual(self.explained([], [0] * 3 + [7] + [0] * 28, [], [0] * 32), "g3: old 3, new nil")
+        self.assertEqual(self.explained([], [0] * 3 + [7] + [0] * 28, [], [0] * 32), "g3 (place 3): old 3, new nil")
         self.assertEqual(self.explained([], [7], [], [0]), "root 0: old 3, new nil")
         self.assertEqual(self.explained([], [7], [], []), "the images have different numbers of roots: old 1, new 0")
         self.assertEqual(self.explained([(True, 0, [5])], [("to", 0)], [(True, 0, [6])], [("to", 0)]), "root 0 . field 0: old 5, new 6")
