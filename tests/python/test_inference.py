@@ -169,7 +169,7 @@ class Words(unittest.TestCase):
         self.assertEqual(self.explained([], [7], [], []), "the images have different numbers of roots: old 1, new 0")
         self.assertEqual(self.explained([(True, 0, [5])], [("to", 0)], [(True, 0, [6])], [("to", 0)]), "root 0 . field 0: old 5, new 6")
         self.assertEqual(self.explained([(False, 4, [])], [("to", 0)], [(True, 4, [1])], [("to", 0)]),
-                         "root 0: old an object of kind 4 with 0 fields, new a raw object of kind 4 with 1 fields")
+                         "root 0: old an object of kind 4 with 0 fields, new a raw object of kind 4 with 1 field")
         self.assertEqual(self.explained([(False, 0, [("to", 0)])], [("to", 0)], [(False, 0, [0])], [("to", 0)]), "root 0 . field 0: old a reference to 1, new nil")
 
     def test_shapes(self):
