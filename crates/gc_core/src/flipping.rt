@@ -111,12 +111,7 @@ impl CollectedHeap {
             return self.flip_whole(checker);
         }
         let collection = self.collection.take().unwrap();
-        Ok(unasked(carry_out_along(
-            &mut self.heap,
-            collection,
-            roots,
-            pairs as u32,
-        )))
+        Ok(unasked(carry_out_along(&mut self.heap, collection, roots, pairs as u32)))
     }
 
     // Flips if the open collection is ready and the checker accepts its certificate.

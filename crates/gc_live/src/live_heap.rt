@@ -31,7 +31,10 @@ pub struct FlipChecks {
 impl FlipChecks {
     // With one flip more. A count stays at the largest number that it can hold.
     fn with(self, whole: bool) -> FlipChecks {
-        let FlipChecks { along, whole: wholes } = self;
+        let FlipChecks {
+            along,
+            whole: wholes,
+        } = self;
         if whole {
             FlipChecks {
                 along,

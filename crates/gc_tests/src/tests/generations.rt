@@ -31,7 +31,11 @@ fn the_barrier_remembers_young_words(rt: HostRuntime) {
         (8, 0, false),
         (0, 11, false),
     ] {
-        assert_eq!(rt; must_remember(BASE, old, new), remembers, "at {old} and {new}");
+        assert_eq!(rt;
+            must_remember(BASE, old, new),
+            remembers,
+            "at {old} and {new}"
+        );
     }
 }
 
