@@ -4,6 +4,8 @@
 
 mod laws;
 mod standing;
+#[cfg(test)]
+mod tests;
 mod watcher;
 
 pub use laws::{
