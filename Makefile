@@ -3,8 +3,6 @@
 # Needs the Rattle kit (`rt` on the path), a C compiler with binutils, and Python 3.8 or later.
 
 dist:
-	cd crates/gcflip && rt run < /dev/null
-	$(MAKE) -C bindings/c
-	tools/dist
+	tools/dist --build
 
 .PHONY: dist

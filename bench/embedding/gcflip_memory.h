@@ -1,16 +1,16 @@
-/* The machine on the proved collector: registers are the mutator's own slots, and the stack is an object in slot 16. A
+/* The machine on the proved collector, and on the same heap in plain C: registers are the mutator's own slots, and the stack is an object in slot 16. A
  * collection begins when three quarters of the heap are in use, or, without incremental steps, when the heap is full. The
  * steps for eight objects are made together. */
 #include "gcflip_heap.h"
 #include <malloc.h>
 
-enum { MUST_FREE = 0, KIND = 1, STACK_SLOT = 16, SCRATCH = 15, MOST_WORDS = 1048576, MOST_STEPS = 1 << 30, BATCH = 8 };
+enum { MUST_FREE = 0, KIND = 1, STACK_SLOT = 16, SCRATCH = 15, WORDS_OF_MEGABYTE = 65536, MOST_STEPS = 1 << 30, BATCH = 8 };
 
 static gcflip_heap heap = GCFLIP_NO_HEAP;
 static uint64_t number;
 static unsigned depth, owed; /* owed: objects since the last steps */
 static unsigned long collections;
-static long words_in_use;
+static long space_words, words_in_use;
 static bool is_open;
 
 static inline void expect(uint32_t answer, uint32_t wanted, const char *what)
@@ -35,7 +35,7 @@ static inline void work(uint32_t most)
 /* Performs the steps that are due for an object with this many fields. */
 static inline void pay(int fields)
 {
-    if (options.steps && (is_open || words_in_use > MOST_WORDS / 4 * 3) && ++owed == BATCH) {
+    if (options.steps && (is_open || words_in_use > space_words / 4 * 3) && ++owed == BATCH) {
         owed = 0;
         work((uint32_t)options.steps * BATCH);
     }
@@ -128,13 +128,19 @@ static void open_memory(void)
     /* Lets glibc keep freed blocks, as the Boehm collector does: a new space then costs no page faults. */
     mallopt(M_MMAP_THRESHOLD, 64 << 20);
     mallopt(M_TRIM_THRESHOLD, 128 << 20);
-    const gcflip_options options = gcflip_options_default(MOST_WORDS, 1);
-    if (gcflip_heap_open(&heap, &options) != GCFLIP_DONE)
+    space_words = options.megabytes * WORDS_OF_MEGABYTE;
+    gcflip_options opening = gcflip_options_default((uint32_t)space_words, 1);
+    opening.checking = (uint8_t)options.checking;
+    if (gcflip_heap_open(&heap, &opening) != GCFLIP_DONE)
         give_up("open");
     make(STACK_SLOT, STACK);
 }
 
 static void close_memory(void)
 {
+    gcflip_flip_checks checks = {0, 0};
+    gcflip_heap_flip_checks(&heap, &checks);
+    if (checks.along + checks.whole != collections || (checks.whole == 0) != (options.checking == GCFLIP_ALONG))
+        give_up("checks");
     gcflip_heap_close(&heap);
 }

@@ -69,44 +69,45 @@ uint32_t gcflip_version(void);
 
 /* Checks the certificate `pairs` against two images.
  *
- * In a space of `size` words, at least 1, objects lie back to back from word 1 up to word `end`. `words` are
- * its words 0 to end - 1. An object is a header word, a link word that the checker ignores, and its field words.
- * If `raws` is true, header words of raw objects are valid; the fields of these are plain numbers.
- * docs/FORMATS.md describes the words.
+ * In a space of `size` words, at least 1, objects lie back to back from word 1 up to word `end`. `words` are its words 0 to end - 1. An
+ * object is a header word, a link word that the checker ignores, and its field words. If `raws` is true, there may be raw objects, whose
+ * fields are plain numbers. docs/FORMATS.md describes the words.
  *
- * Answers GCFLIP_YES, GCFLIP_REFUSED, GCFLIP_NO_MEMORY or GCFLIP_TOO_MANY. It writes the verdict only with the first two. */
+ * Returns GCFLIP_YES, GCFLIP_REFUSED, GCFLIP_NO_MEMORY or GCFLIP_TOO_MANY, and writes the verdict only with the first two. */
 uint32_t gcflip_check(uint32_t old_size, uint32_t old_end, bool old_raws, const uint64_t *old_words,
                       size_t old_word_count, const uint64_t *old_roots, size_t old_root_count, uint32_t new_size,
                       uint32_t new_end, bool new_raws, const uint64_t *new_words, size_t new_word_count,
                       const uint64_t *new_roots, size_t new_root_count, const gcflip_pair *pairs,
                       size_t pair_count, gcflip_verdict *verdict);
 
-/* Checks the pair of images in a text of the format `heappair 1` or `heappair 2`. The text needs no zero byte at
- * its end. Answers as gcflip_check does, GCFLIP_TOO_LARGE instead of GCFLIP_TOO_MANY, GCFLIP_BAD_LINE or GCFLIP_ENDS_EARLY. It writes the
- * verdict only with GCFLIP_YES, GCFLIP_REFUSED and GCFLIP_BAD_LINE. */
+/* Checks the pair of images in a text of the format `heappair 1` or `heappair 2`. The text needs no zero byte at its end. Returns what
+ * gcflip_check returns, except that GCFLIP_TOO_LARGE takes the place of GCFLIP_TOO_MANY. If the text is not a pair text, it returns
+ * GCFLIP_BAD_LINE or GCFLIP_ENDS_EARLY. It writes the verdict only with GCFLIP_YES, GCFLIP_REFUSED and GCFLIP_BAD_LINE. */
 uint32_t gcflip_check_text(const uint8_t *text, size_t length, gcflip_verdict *verdict);
 
-/* Finds the pairs that every certificate of two images has, and checks them. So it needs no forwarding table: if its answer is
- * GCFLIP_YES, the pairs are a certificate that holds; if it is GCFLIP_REFUSED, none holds, and the verdict is that of
- * gcflip_check on the pairs. The same path from a root finds both objects of a pair. It writes the pairs, in the order of new addresses, and their number `count`. `room` pairs fit into the
- * array; half as many as the new image has words always suffice. Answers GCFLIP_TOO_MANY if there are more, and
- * GCFLIP_NO_MEMORY if an allocation fails; it then writes nothing. The array is initialized, as all memory that a call is given. */
+/* Finds the pairs that every certificate of two images has, and checks them, so that no forwarding table is needed. After GCFLIP_YES the
+ * pairs are a certificate that holds. After GCFLIP_REFUSED no certificate holds, and the verdict is that of gcflip_check on the pairs. The
+ * same path from a root finds both objects of a pair. The call writes the pairs, in the order of new addresses, and their number `count`.
+ * The array has room for `room` pairs, and half as many as the new image has words always suffice. The call returns GCFLIP_TOO_MANY if there
+ * are more pairs, and GCFLIP_NO_MEMORY if an allocation fails; with both it writes nothing. The array has to be initialized, like all memory
+ * that is passed to a call. */
 uint32_t gcflip_infer(uint32_t old_size, uint32_t old_end, bool old_raws, const uint64_t *old_words,
                       size_t old_word_count, const uint64_t *old_roots, size_t old_root_count, uint32_t new_size,
                       uint32_t new_end, bool new_raws, const uint64_t *new_words, size_t new_word_count,
                       const uint64_t *new_roots, size_t new_root_count, gcflip_pair *pairs, size_t room,
                       size_t *count, gcflip_verdict *verdict);
 
-/* Finds a shortest path from a root to a reference to this address, so that a program can say where a verdict's place is: no path that
+/* Finds a shortest path from a root to a reference to this address, so that a program can say where a verdict's place is. No path that
  * leads there has fewer fields. The address need not be that of an object. With GCFLIP_YES it writes the place of the root in the list of
- * roots, the fields that lead on from it, and their number `count`; an empty path means that the root itself refers to the address.
- * `room` fields fit into the array. Answers GCFLIP_LONG_PATH if the path has more, and then writes their number alone. Otherwise it writes
- * nothing: with GCFLIP_NO_PATH if no path leads to the address or the image is not shaped, and with GCFLIP_NO_MEMORY. The array is initialized. A search visits each reachable object once; it allocates 5 bytes for each word of the image, and 32
- * bytes for each object. */
+ * roots, the fields that lead on from it, and their number `count`; an empty path means that the root itself refers to the address. `room`
+ * fields fit into the array. Returns GCFLIP_LONG_PATH if the path has more, and then writes only their number. Returns
+ * GCFLIP_NO_PATH if no path leads to the address, or if the image has not the shape of a heap, which a check would refuse. With GCFLIP_NO_PATH
+ * and GCFLIP_NO_MEMORY it writes nothing. The array has to be initialized. A search visits each reachable object once; it allocates 5 bytes
+ * for each word of the image, and 32 bytes for each object. */
 uint32_t gcflip_path(uint32_t size, uint32_t end, bool raws, const uint64_t *words, size_t word_count, const uint64_t *roots,
                      size_t root_count, uint32_t address, uint64_t *place, uint64_t *fields, size_t room, size_t *count);
 
-/* ---- Conveniences over the calls above. Nothing is proved of them. */
+/* ---- Conveniences over the calls above. Nothing is proved about them. */
 
 typedef struct gcflip_image {
     uint32_t size;

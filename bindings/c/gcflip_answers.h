@@ -1,15 +1,17 @@
-/* What the calls of gcflip.h and gcflip_heap.h return: one number for each thing, whichever call answers it. Both headers include this one. */
+/* The numbers that the calls of gcflip.h, gcflip_heap.h and gcflip_images.h return. A number means the same from every call. All three headers
+ * include this one. */
 #ifndef GCFLIP_ANSWERS_H
 #define GCFLIP_ANSWERS_H
 
 #include <stdint.h>
 
-/* The version that a program is compiled for: 10000 times the major number, 100 times the minor one, and the patch. The library
- * that it runs with says its own by gcflip_version. docs/EMBEDDING.md says what a later version may change. */
+/* The version that a program is compiled for: 10000 times the major number, 100 times the minor one, and the patch. gcflip_version returns
+ * that of the library that it runs with. docs/EMBEDDING.md says what a later version may change. */
 #define GCFLIP_VERSION 100
 #define GCFLIP_VERSION_TEXT "0.1.0"
 
-/* With 1 to 15 the call was refused and did nothing; GCFLIP_IS_REFUSED is true of these. All others are replies: the call was performed. */
+/* After 1 to 15, for which GCFLIP_IS_REFUSED is true, the call was refused and did nothing. All other numbers are replies of a call that
+ * was performed. */
 enum gcflip_answer {
     GCFLIP_DONE = 0, /* the value was written; from a call without other replies: it was performed */
     GCFLIP_YES = 0,  /* the certificate holds; from gcflip_path: a path leads to the address */
@@ -23,13 +25,15 @@ enum gcflip_answer {
     GCFLIP_FRAME_EMPTY = 6,  /* gcflip_heap_frame_pop only: the frame holds no value */
     GCFLIP_TOO_MANY = 7,     /* gcflip_check: 2^32 pairs or more; gcflip_infer: the array has no room for the pairs */
     GCFLIP_TOO_LARGE = 8,    /* gcflip_check_text only: more than 67108864 bytes */
+    GCFLIP_FAULTY = 9,       /* gcflip_collection_check, _infer and _end only: a snapshot has a fault */
+    GCFLIP_NOT_BEGUN = 10,   /* gcflip_collection_end only: there was no gcflip_collection_begin before it */
 
     /* replies to commands */
     GCFLIP_MADE = 16,      /* the object was made */
     GCFLIP_FULL = 17,      /* the heap has no room for the object; nothing changed */
-    GCFLIP_NO_OBJECT = 18, /* the slot does not refer to an object; nothing changed, except slot t of put_number */
-    GCFLIP_NO_FIELD = 19,  /* the object has no such field; nothing changed, except slot t of put_number */
-    GCFLIP_NO_NUMBER = 20, /* the object is raw and the value is not a number; nothing changed */
+    GCFLIP_NO_OBJECT = 18, /* the slot does not refer to an object; nothing changed, except slot t of put_number and put_nil */
+    GCFLIP_NO_FIELD = 19,  /* the object has no such field; nothing changed, except slot t of put_number and put_nil */
+    GCFLIP_NO_NUMBER = 20, /* the object is raw and the value is not a number; nothing changed, except slot t of put_nil */
     GCFLIP_SAME = 21,      /* both slots hold nil, equal numbers, or references to one object */
     GCFLIP_NOT_SAME = 22,
 
@@ -68,7 +72,7 @@ enum gcflip_answer {
 static inline const char *gcflip_answer_name(uint32_t answer)
 {
     static const char *const names[] = {
-        "done", "no memory", "out of range", "closed", "open", "frame full", "frame empty", "too many", "too large", "", "", "", "",
+        "done", "no memory", "out of range", "closed", "open", "frame full", "frame empty", "too many", "too large", "faulty", "not begun", "", "",
         "", "", "", "made", "full", "no object", "no field", "no number", "same", "not same", "", "nil", "number", "object",
         "raw object", "", "", "", "", "busy", "begun", "idle", "clean", "no room", "copied", "passed", "scanned", "applied",
         "not ready", "flip refused", "flipped", "dropped", "", "", "", "refused", "bad line", "ends early", "no path", "long path"};

@@ -1,31 +1,33 @@
 /* Herbpond's collected heap: objects of words for 1 to 16 mutators, with an incremental, replicating collector whose
- * every flip has to pass the certificate checker.
+ * every flip has to pass a checker.
  *
- * A handle is a gcflip_heap that has no heap before its first use: it is initialized with GCFLIP_NO_HEAP, or its `at` is set to NULL. gcflip_heap_open gives it a heap and
- * gcflip_heap_close frees the heap. Every call takes the handle and returns a number of gcflip_answers.h: the reply, or
- * the reason why the call was refused. A refused call changes nothing, neither the heap nor its output arguments.
+ * A handle is a gcflip_heap. Before its first use it has no heap, so the program initializes it with GCFLIP_NO_HEAP, or sets its `at` to
+ * NULL. gcflip_heap_open gives it a heap and gcflip_heap_close frees the heap. Every call takes the handle and returns a number of
+ * gcflip_answers.h: the reply, or the reason why the call was refused. A refused call changes nothing, neither the heap nor its output
+ * arguments.
  *
  * The promise, proved for the code behind these calls:
  * - each reply and each new state is the one that the definitions of the collector give. So mutators get the
  *   replies of a heap without a collector, except that an allocation may find the heap full;
- * - a flip happens only if its certificate holds, and the flip of a ready collection passes. That each flip asks the checker is
- *   proved one layer below, for CollectedHeap::flip in crates/gc_core;
+ * - a flip happens only if its certificate holds, and the flip of a ready collection passes. That each flip asks a checker is
+ *   proved one layer below, for CollectedHeap::flip_along and flip in crates/gc_core;
  * - no step lacks room if the new space is at least as large as the heap;
- * - only open, step_begin, step_begin_sized, step_flip, work, work_sized and work_paced can return GCFLIP_NO_MEMORY, and, while
- *   a collection is open, put, put_number, new_pair and new_from.
+ * - only open, step_begin, step_begin_sized, step_flip, check, work, work_sized and work_paced can return GCFLIP_NO_MEMORY, and, while
+ *   a collection is open, put, put_number, put_nil, raw_write, new_pair and new_from.
  *
  * What the caller owes, since nothing checks C code:
  * - no pointer is NULL, not even one to an empty array. Each is aligned, and no two pointers of a call overlap;
  * - the memory behind a pointer is initialized, that of an output too, and an array has at least as many elements as its
  *   count says. Nobody else writes this memory during the call;
  * - a handle is not copied, and only these calls write it. It may be moved in memory;
- * - one thread at a time uses a handle. A lock, or the start or join of a thread, orders the uses. Different handles
- *   are independent. This holds of calls with a const handle too, which write neither the handle nor its heap;
+ * - one thread at a time uses a handle, also for calls that take a const handle and write neither the handle nor its heap. A
+ *   lock, or the start or join of a thread, orders the uses. Different handles are independent;
  * - no call is made from a signal handler, or in the forked child of a process with threads.
  */
 #ifndef GCFLIP_HEAP_H
 #define GCFLIP_HEAP_H
 
+#include "gcflip.h"
 #include "gcflip_answers.h"
 
 #include <stddef.h>
@@ -41,6 +43,12 @@ typedef struct gcflip_heap {
 
 #define GCFLIP_NO_HEAP {NULL}
 
+/* When the checker looks at a collection. */
+enum gcflip_checking {
+    GCFLIP_ALONG = 0,  /* at each field when the collector brings it up to date; a flip then looks at a count and the roots */
+    GCFLIP_AT_FLIP = 1 /* at both spaces whole, when the collection flips */
+};
+
 /* What gcflip_heap_open takes. `bytes` is the size of this record, so that a later library can tell which members the program
  * knows. gcflip_options_default sets it. */
 typedef struct gcflip_options {
@@ -48,10 +56,12 @@ typedef struct gcflip_options {
     uint32_t size;        /* the words of the heap, at least 1 */
     uint32_t extra_roots; /* the number of roots beside the slots, at most 1048576 */
     uint8_t mutators;     /* 1 to 16 */
+    uint8_t checking;     /* a gcflip_checking */
+    uint32_t whole_each;  /* with GCFLIP_ALONG: each flip with this number, counted from the last one, checks both spaces whole; 0: none does */
 } gcflip_options;
 
-/* A stack of extra roots: those from `first` on and below `end`. Those below `top` hold its values. An empty frame has `top` equal to
- * `first`. Several frames may lie in one heap, as one for each mutator, if no root is in two of them. */
+/* A stack in the extra roots from `first` on and below `end`. The roots below `top` hold its values, so an empty frame has `top` equal to
+ * `first`. A heap can have several frames, such as one for each mutator, if no root is in two of them. */
 typedef struct gcflip_frame {
     uint32_t first; /* its first root */
     uint32_t end;   /* the root behind its last one */
@@ -60,7 +70,8 @@ typedef struct gcflip_frame {
 
 /* ---- Opening and closing */
 
-/* Returns the options for a heap of `size` words, at least 1, for 1 to 16 mutators, without extra roots. */
+/* Returns the options for a heap of `size` words, at least 1, for 1 to 16 mutators, without extra roots, whose checker goes along with the
+ * collection. */
 static inline gcflip_options gcflip_options_default(uint32_t size, uint8_t mutators)
 {
     gcflip_options options;
@@ -69,10 +80,14 @@ static inline gcflip_options gcflip_options_default(uint32_t size, uint8_t mutat
     options.size = size;
     options.extra_roots = 0;
     options.mutators = mutators;
+    options.checking = GCFLIP_ALONG;
+    options.whole_each = 0;
     return options;
 }
 
-/* Opens an empty heap with these options. All slots and all extra roots hold nil. A record of another size is out of range. */
+/* Opens an empty heap with these options. All slots and all extra roots hold nil. A record of another size is out of range. A checker that
+ * goes along has tables of 6 bytes for each word, which open allocates. Where the system provides pages only when they are first written,
+ * these tables take memory only for words in use. */
 uint32_t gcflip_heap_open(gcflip_heap *heap, const gcflip_options *options);
 
 /* Frees the heap. The handle then has none. */
@@ -107,13 +122,17 @@ uint32_t gcflip_heap_get(gcflip_heap *heap, uint8_t m, uint8_t d, uint8_t s, uin
  * GCFLIP_NO_FIELD or GCFLIP_NO_NUMBER. While a collection is open, the call allocates room in the mutator's log. */
 uint32_t gcflip_heap_put(gcflip_heap *heap, uint8_t m, uint8_t s, uint16_t i, uint8_t t);
 
-/* Puts the number n into slot t, and then writes it into field i of the object that slot s refers to: a num and a put. The reply is
- * that of the put; slot t has the number with any reply. If the call is refused, neither happened. */
+/* Puts the number n into slot t, and then writes it into field i of the object that slot s refers to, as set_number and put do. The reply
+ * is that of the put, and slot t has the number whatever the reply. If the call is refused, neither happened. */
 uint32_t gcflip_heap_put_number(gcflip_heap *heap, uint8_t m, uint8_t s, uint16_t i, uint8_t t, uint64_t n);
 
-/* Makes an object with two fields, which take the values of slots s and t, and puts a reference to it into slot d: a new and two puts.
- * Returns GCFLIP_MADE, or GCFLIP_FULL if nothing changed. Slot d is set first: if s or t is d, that field refers to the object itself.
- * While a collection is open, the call allocates room in the mutator's log. */
+/* Puts nil into slot t, and then writes it into field i of the object that slot s refers to, as set_nil and put do. The reply is that of
+ * the put, GCFLIP_NO_NUMBER if the object is raw, and slot t has nil whatever the reply. If the call is refused, neither happened. */
+uint32_t gcflip_heap_put_nil(gcflip_heap *heap, uint8_t m, uint8_t s, uint16_t i, uint8_t t);
+
+/* Makes an object with two fields, which take the values of slots s and t, and puts a reference to it into slot d, as new_object and two
+ * puts do. Returns GCFLIP_MADE, or GCFLIP_FULL if nothing changed. Slot d is set first: if s or t is d, that field refers to the object
+ * itself. While a collection is open, the call allocates room in the mutator's log. */
 uint32_t gcflip_heap_new_pair(gcflip_heap *heap, uint8_t m, uint8_t d, uint8_t kind, uint8_t s, uint8_t t);
 
 /* The same with `count` fields, at most 65535, which take the values of the slots fields[0] to fields[count - 1]. */
@@ -135,8 +154,9 @@ uint32_t gcflip_heap_look(const gcflip_heap *heap, uint8_t m, uint8_t s, gcflip_
  *
  * They are roots like the slots, numbered from 0, and only these calls name them. Extra root k is root
  * gcflip_heap_root_count(mutators) + k of an image. To load or store one is a move between a slot and that place: it allocates
- * nothing and logs nothing. All mutators share them. A collection reads each extra root in use once or twice, and again if a program
- * stores to it or below it meanwhile. The roots in use end with the last one that was stored to and not cleared since. */
+ * nothing and logs nothing. All mutators share them. In a collection, the searches for roots to copy read each extra root in use once or
+ * twice, and again if a program stores to it or below it meanwhile. The roots in use end with the last one that was stored to and not
+ * cleared since. The flip reads each extra root twice, in use or not: it moves the root, and its checker compares it with the moved one. */
 
 /* Copies the value of extra root k into slot d: GCFLIP_DONE. */
 uint32_t gcflip_heap_root_load(gcflip_heap *heap, uint8_t m, uint8_t d, uint32_t k);
@@ -158,7 +178,7 @@ uint32_t gcflip_heap_frame_pop(gcflip_heap *heap, uint8_t m, uint8_t d, gcflip_f
 /* ---- Collector steps */
 
 /* Opens a collection whose new space is as large as the heap, or has `size` words, at least 1: GCFLIP_BEGUN, or
- * GCFLIP_BUSY if one is open. */
+ * GCFLIP_BUSY if one is open. If the new space is larger than any before, the tables of a checker that goes along grow. */
 uint32_t gcflip_heap_step_begin(gcflip_heap *heap);
 uint32_t gcflip_heap_step_begin_sized(gcflip_heap *heap, uint32_t size);
 
@@ -173,12 +193,28 @@ uint32_t gcflip_heap_step_scan(gcflip_heap *heap);
 /* Applies the oldest entry of mutator m's log: GCFLIP_APPLIED, GCFLIP_CLEAN, GCFLIP_NO_ROOM or GCFLIP_IDLE. */
 uint32_t gcflip_heap_step_apply(gcflip_heap *heap, uint8_t m);
 
-/* Flips if the collection is ready and the checker accepts its certificate: GCFLIP_FLIPPED, GCFLIP_NOT_READY or
- * GCFLIP_IDLE. If it flipped, it writes the number of pairs of the certificate. The checker passes over both spaces. */
+/* Flips if the collection is ready and a checker accepts it: GCFLIP_FLIPPED, GCFLIP_NOT_READY or GCFLIP_IDLE. If it flipped, it writes the
+ * number of pairs of the certificate. A flip whose checker went along allocates the moved roots. Any other one passes over both spaces,
+ * and allocates the certificate and the checker's tables too. */
 uint32_t gcflip_heap_step_flip(gcflip_heap *heap, uint32_t *pairs);
 
 /* Frees the new space and the logs: GCFLIP_DROPPED or GCFLIP_IDLE. */
 uint32_t gcflip_heap_step_give_up(gcflip_heap *heap);
+
+/* ---- Checks */
+
+typedef struct gcflip_flip_checks {
+    uint64_t along; /* the flips that the checker that goes along accepted */
+    uint64_t whole; /* those that were accepted by both spaces whole */
+} gcflip_flip_checks;
+
+/* Reads how many flips each checker has accepted since the heap was opened. */
+uint32_t gcflip_heap_flip_checks(const gcflip_heap *heap, gcflip_flip_checks *checks);
+
+/* Checks both spaces of an open collection whole, if it is ready, and changes nothing: GCFLIP_YES, GCFLIP_REFUSED, GCFLIP_NOT_READY or
+ * GCFLIP_IDLE. It writes the verdict with the first two: the number of pairs, or the first condition that fails. GCFLIP_REFUSED is proved
+ * never to occur, unless other code writes into the heap's memory. The call allocates what a flip that is checked whole does. */
+uint32_t gcflip_heap_check(const gcflip_heap *heap, gcflip_verdict *verdict);
 
 /* The steps, in the order of their calls. */
 enum gcflip_step_name {
@@ -208,13 +244,13 @@ typedef struct gcflip_work {
     uint32_t pairs;  /* the number of pairs if the last step flipped, else 0 */
 } gcflip_work;
 
-/* Performs at most `most` useful steps, each that which gcflip_heap_useful would tell; `most` is not 0. The call ends after
- * a flip, and after a step that finds no room. If an allocation fails, it ends before that step; it returns
- * GCFLIP_NO_MEMORY if that was the first step. Otherwise it writes its report to `work` and returns GCFLIP_DONE. */
+/* Performs at most `most` useful steps, each the one that gcflip_heap_useful would name. `most` is not 0. The call ends after a flip, and
+ * after a step that finds no room. If an allocation fails, it ends before that step; it returns GCFLIP_NO_MEMORY if that was the first
+ * step. Otherwise it writes its report to `work` and returns GCFLIP_DONE. */
 uint32_t gcflip_heap_work(gcflip_heap *heap, uint32_t most, gcflip_work *work);
 
-/* Does the same, but if a step is a begin, the new space gets `size` words, at least 1. It is for a system that refuses a block of memory
- * as large as the heap where less would do. */
+/* Does the same, but if a step is a begin, the new space gets `size` words, at least 1. This serves systems that refuse a block of memory
+ * as large as the heap, although a smaller one would do. */
 uint32_t gcflip_heap_work_sized(gcflip_heap *heap, uint32_t most, uint32_t size, gcflip_work *work);
 
 /* ---- Reading, for a runtime's own decisions */
@@ -257,7 +293,7 @@ static inline gcflip_pace gcflip_pace_default(void)
     return pace;
 }
 
-/* Makes the pace remember the heap as it is, as if it had just flipped. A program calls it before the first paced work on a heap that is
+/* Makes the pace remember the heap as it is, as if the heap had just flipped. A program calls it before the first paced work on a heap that is
  * in use, and after a flip by another call. If the factor is out of range, it returns GCFLIP_OUT_OF_RANGE. */
 uint32_t gcflip_heap_pace(const gcflip_heap *heap, gcflip_pace *pace);
 
@@ -277,7 +313,19 @@ uint32_t gcflip_pace_due(const gcflip_pace *pace, const gcflip_counts *counts, u
 
 /* Performs the useful steps that are due before the program allocates `wanted` words, as gcflip_heap_work does, and writes its report to
  * `work`. If none is due, all members of the report are 0. `wanted` may be 0. It returns GCFLIP_DONE, GCFLIP_OUT_OF_RANGE if the factor
- * is out of range, or GCFLIP_NO_MEMORY if an allocation of the first step fails; then nothing has changed, nor has the pace. */
+ * is out of range, or GCFLIP_NO_MEMORY if an allocation of the first step fails; then nothing has changed, nor has the pace.
+ *
+ * With the counts before the call and those after it:
+ *
+ *     logged after + work->steps <= steps left before
+ *
+ * So many steps are enough for the flip, unless one finds no room or an allocation fails.
+ *
+ * The work that is left is a number above `logged`, and at most `steps left`. Each step lowers it, and a command raises it by the words that it
+ * allocates and the entries that it logs. The call that begins a collection leaves at most `end` of it. While that collection is open, no
+ * call leaves more than the call before, if each performs the steps that are due and finds room. So after each such call all logs
+ * together have fewer entries than `end` was at the begin. All this holds while `logged` is below UINT32_MAX, and if at most UINT32_MAX words
+ * and entries are spent between two calls. */
 uint32_t gcflip_heap_work_paced(gcflip_heap *heap, gcflip_pace *pace, uint32_t wanted, gcflip_work *work);
 
 /* Reads the length of mutator m's log, which is 0 while no collection is open. */
@@ -303,6 +351,23 @@ static inline size_t gcflip_heap_root_count(uint8_t mutators)
 /* Copies the heap's words, links included, and the root words. The counts must be exactly `end` of gcflip_counts, and
  * gcflip_heap_root_count plus the number of extra roots. An original's link is its replica's address; all other links are 0. */
 uint32_t gcflip_heap_image(const gcflip_heap *heap, uint64_t *words, size_t word_count, uint64_t *roots, size_t root_count);
+
+/* Copies the numbers in `count` fields of the raw object that slot s refers to, from field `first` on. Returns GCFLIP_DONE,
+ * GCFLIP_NO_OBJECT if the slot refers to no raw object, or GCFLIP_NO_FIELD if the object has fewer fields; with the last two, `words` stays
+ * as it was. The numbers are those that as many gets would read, but no slot changes, so a recording needs no line for this call. */
+uint32_t gcflip_heap_raw_read(const gcflip_heap *heap, uint8_t m, uint8_t s, uint16_t first, uint64_t *words, size_t count);
+
+/* Copies `count` numbers into the fields of the raw object that slot s refers to, from field `first` on. For each number this is a
+ * gcflip_heap_set_number of slot t and a gcflip_heap_put of slot t, in one call: so slot t keeps the last number, if there is one, and
+ * while a collection is open each field is logged. GCFLIP_DONE, or nothing is written: GCFLIP_NO_OBJECT if slot s refers to no raw object,
+ * GCFLIP_NO_FIELD if the object has fewer fields, GCFLIP_NO_NUMBER if one of the words is 2^63 or more. GCFLIP_OUT_OF_RANGE also if s
+ * and t are one slot. Allocates only while a collection is open. */
+uint32_t gcflip_heap_raw_write(gcflip_heap *heap, uint8_t m, uint8_t s, uint16_t first, uint8_t t, const uint64_t *words, size_t count);
+
+/* Writes the address of the object that slot s refers to: GCFLIP_DONE, or GCFLIP_NO_OBJECT if it refers to none, and `address`
+ * keeps what it holds. An object keeps its address until the next flip, which gives it another one. gcflip_heap_counts does not
+ * show that a flip happened, so a program that keeps a table by address makes it anew after each flip. */
+uint32_t gcflip_heap_address(const gcflip_heap *heap, uint8_t m, uint8_t s, uint32_t *address);
 
 /* Copies the words of the open collection's new space. The count must be exactly `new_end` of gcflip_counts. A
  * replica's link is its original's address. If no collection is open, no count is right: GCFLIP_OUT_OF_RANGE. */

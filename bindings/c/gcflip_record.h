@@ -218,16 +218,44 @@ static inline uint32_t gcflip_record_put(gcflip_heap *heap, uint8_t m, uint8_t s
 }
 
 /* Writes the lines of a num and a put. */
+static inline void gcflip_trace_put_number(uint8_t m, uint8_t s, uint16_t i, uint8_t t, uint64_t n)
+{
+    gcflip_trace_command(m, "num");
+    gcflip_trace_slot(t);
+    gcflip_trace_number(n);
+    gcflip_trace_end();
+    gcflip_trace_put(m, s, i, t);
+}
+
 static inline uint32_t gcflip_record_put_number(gcflip_heap *heap, uint8_t m, uint8_t s, uint16_t i, uint8_t t, uint64_t n)
 {
     uint32_t answer = gcflip_heap_put_number(heap, m, s, i, t, n);
+    if (gcflip_recorded(answer))
+        gcflip_trace_put_number(m, s, i, t, n);
+    return answer;
+}
+
+/* Writes the lines of a nil and a put. */
+static inline uint32_t gcflip_record_put_nil(gcflip_heap *heap, uint8_t m, uint8_t s, uint16_t i, uint8_t t)
+{
+    uint32_t answer = gcflip_heap_put_nil(heap, m, s, i, t);
     if (gcflip_recorded(answer)) {
-        gcflip_trace_command(m, "num");
+        gcflip_trace_command(m, "nil");
         gcflip_trace_slot(t);
-        gcflip_trace_number(n);
         gcflip_trace_end();
         gcflip_trace_put(m, s, i, t);
     }
+    return answer;
+}
+
+/* Writes the lines of a num and a put for each number. What wrote no number has no line. */
+static inline uint32_t gcflip_record_raw_write(gcflip_heap *heap, uint8_t m, uint8_t s, uint16_t first, uint8_t t, const uint64_t *words, size_t count)
+{
+    size_t k;
+    uint32_t answer = gcflip_heap_raw_write(heap, m, s, first, t, words, count);
+    if (gcflip_recorded(answer) && answer == GCFLIP_DONE)
+        for (k = 0; k < count; k++)
+            gcflip_trace_put_number(m, s, (uint16_t)(first + k), t, words[k]);
     return answer;
 }
 
@@ -438,6 +466,8 @@ static inline uint32_t gcflip_record_work_paced(gcflip_heap *heap, gcflip_pace *
 #define gcflip_heap_get gcflip_record_get
 #define gcflip_heap_put gcflip_record_put
 #define gcflip_heap_put_number gcflip_record_put_number
+#define gcflip_heap_put_nil gcflip_record_put_nil
+#define gcflip_heap_raw_write gcflip_record_raw_write
 #define gcflip_heap_new_pair gcflip_record_new_pair
 #define gcflip_heap_new_from gcflip_record_new_from
 #define gcflip_heap_same gcflip_record_same

@@ -356,5 +356,9 @@ void restore_room(void)
 
 struct heap_totals totals_of_heap(void)
 {
+    gcflip_flip_checks checks = {0, 0};
+    EXPECT_REPLY(GCFLIP_DONE, flip_checks, &checks);
+    totals.along = checks.along;
+    totals.whole = checks.whole;
     return totals;
 }

@@ -90,6 +90,8 @@ struct heap_totals {
     uint64_t collections; /* flips */
     uint64_t waits;       /* whole collections that an allocation waited for */
     uint64_t pairs;       /* copied objects of all flips */
+    uint64_t along;       /* flips that the standing checker accepted */
+    uint64_t whole;       /* flips that were accepted by both spaces whole */
 };
 
 struct heap_totals totals_of_heap(void);

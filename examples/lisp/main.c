@@ -158,6 +158,7 @@ static void print_totals(const struct options *options)
 {
     struct heap_totals totals = totals_of_heap();
     print_pauses(stderr);
+    fprintf(stderr, "%" PRIu64 " flips were checked along, and %" PRIu64 " whole\n", totals.along, totals.whole);
     fprintf(stderr, "%" PRIu64 " words were allocated, %.1f times the heap\n", totals.allocated, (double)totals.allocated / options->words);
     fprintf(stderr, "%" PRIu64 " collections copied %" PRIu64 " objects\n", totals.collections, totals.pairs);
     fprintf(stderr, "%" PRIu64 " whole collections held up an allocation\n", totals.waits);

@@ -1,10 +1,23 @@
-/* Measures each call on the heap with the system's clock, and counts it under the least power of two of nanoseconds above its time. */
+/* Measures each call on the heap with the system's clock, and counts it under the least power of two of nanoseconds above its time. For the minimum
+ * mutator utilisation, time is divided into slots of ten microseconds. The last ones are kept, each with the nanoseconds that calls took of it. */
 #define _POSIX_C_SOURCE 200809L
 #include "pauses.h"
 #include <inttypes.h>
+#include <string.h>
 #include <time.h>
 
 enum { BUCKETS = 40, FIRST_BUCKET = 6, WIDEST_BAR = 40 };
+enum { SLOT = 10000, KEPT = 1000, WINDOWS = 2, LEAST_PAUSE = 1000 };
+
+/* A window of time that ends with the slot of now. */
+struct window {
+    const uint64_t slots;
+    uint64_t sum;  /* of the nanoseconds in it that calls took */
+    uint64_t most; /* the largest sum so far */
+};
+
+static struct window windows[WINDOWS] = {{100, 0, 0}, {KEPT, 0, 0}};
+static uint64_t taken[KEPT], slot_now;
 
 static bool measures;
 static uint64_t began;
@@ -26,6 +39,43 @@ static double microseconds(uint64_t nanoseconds)
 void measure_pauses(void)
 {
     measures = true;
+    slot_now = now() / SLOT;
+}
+
+/* Moves the windows to this slot. */
+static void move_windows(uint64_t slot)
+{
+    if (slot >= slot_now + KEPT) { /* no slot is in a window any more */
+        memset(taken, 0, sizeof taken);
+        for (int i = 0; i < WINDOWS; i++)
+            windows[i].sum = 0;
+        slot_now = slot;
+    }
+    for (; slot_now < slot; slot_now++) {
+        for (int i = 0; i < WINDOWS; i++)
+            windows[i].sum -= taken[(slot_now + 1 + KEPT - windows[i].slots) % KEPT];
+        taken[(slot_now + 1) % KEPT] = 0;
+    }
+}
+
+static void add_pause(uint64_t start, uint64_t end)
+{
+    while (start < end) {
+        uint64_t slot = start / SLOT, border = (slot + 1) * SLOT, until = end < border ? end : border;
+        move_windows(slot);
+        taken[slot % KEPT] += until - start;
+        for (int i = 0; i < WINDOWS; i++) {
+            windows[i].sum += until - start;
+            if (windows[i].sum > windows[i].most)
+                windows[i].most = windows[i].sum;
+        }
+        start = until;
+    }
+}
+
+static double utilisation(const struct window *window)
+{
+    return 1 - (double)window->most / (double)(window->slots * SLOT);
 }
 
 void begin_pause(void)
@@ -46,7 +96,9 @@ void end_pause(struct call_times *times, uint32_t flipped)
 {
     if (!measures)
         return;
-    uint64_t nanoseconds = now() - began;
+    uint64_t ended = now(), nanoseconds = ended - began;
+    if (nanoseconds >= LEAST_PAUSE)
+        add_pause(began, ended);
     counts[bucket_of(nanoseconds)]++;
     if (times->calls == 0) {
         times->next = called;
@@ -104,4 +156,5 @@ void print_pauses(FILE *file)
         fputs("the longest call took ", file);
         print_longest(file, longest);
     }
+    fprintf(file, "minimum mutator utilisation: %.3f at 1 ms, %.3f at 10 ms\n", utilisation(&windows[0]), utilisation(&windows[1]));
 }

@@ -1,4 +1,5 @@
-/* The times of calls on the heap: a histogram of all calls, and the longest call of each kind. */
+/* The times of calls on the heap: a histogram of all calls, the longest call of each kind, and the minimum mutator utilisation, which is the
+ * least share of any window of time that was left to the program. Calls below a microsecond do not count against it. */
 #ifndef PAUSES_H
 #define PAUSES_H
 

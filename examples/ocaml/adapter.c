@@ -44,30 +44,30 @@ static uint32_t kind_of(tag_t tag)
     return tag >= No_scan_tag ? FIRST_RAW_KIND + (tag - No_scan_tag) : tag;
 }
 
-uint32_t adapter_place(gcflip_view *view, value block, header_t header, mlsize_t most)
+uint32_t adapter_place(gcflip_snapshot *snapshot, value block, header_t header, mlsize_t most)
 {
     mlsize_t length = Wosize_hd(header);
     if (length > most)
-        return gcflip_view_object(view, (uint64_t)block, kind_of(Tag_hd(header)), most + 1); /* its fields are never set */
+        return gcflip_snapshot_object(snapshot, (uint64_t)block, kind_of(Tag_hd(header)), most + 1); /* its fields are never set */
     if (Tag_hd(header) >= No_scan_tag)
-        return gcflip_view_words(view, (uint64_t)block, kind_of(Tag_hd(header)), (const uint64_t *)block, length);
-    return gcflip_view_object(view, (uint64_t)block, kind_of(Tag_hd(header)), length);
+        return gcflip_snapshot_words(snapshot, (uint64_t)block, kind_of(Tag_hd(header)), (const uint64_t *)block, length);
+    return gcflip_snapshot_object(snapshot, (uint64_t)block, kind_of(Tag_hd(header)), length);
 }
 
-uint32_t adapter_found(value block, uint32_t (*placed)(gcflip_view *view, value block, header_t header))
+uint32_t adapter_found(value block, uint32_t (*placed)(gcflip_snapshot *snapshot, value block, header_t header))
 {
-    gcflip_view *view = gcflip_before(adapter_collection);
-    uint32_t place = gcflip_view_find(view, (uint64_t)block);
+    gcflip_snapshot *snapshot = gcflip_before(adapter_collection);
+    uint32_t place = gcflip_snapshot_find(snapshot, (uint64_t)block);
     if (place != 0)
         return place;
     header_t header = Hd_val(block);
-    place = placed(view, block, header);
+    place = placed(snapshot, block, header);
     adapter_objects = adapter_grown(adapter_objects, &object_room, adapter_object_count, sizeof *adapter_objects);
     adapter_objects[adapter_object_count++] = (struct object){block, 0, header, place};
     return place;
 }
 
-void adapter_write_fields(gcflip_view *view, uint32_t place, value block, header_t header, mlsize_t most, uint64_t (*word)(value))
+void adapter_write_fields(gcflip_snapshot *snapshot, uint32_t place, value block, header_t header, mlsize_t most, uint64_t (*word)(value))
 {
     mlsize_t length = Wosize_hd(header), i = 0;
     if (Tag_hd(header) >= No_scan_tag || length > most)
@@ -75,10 +75,10 @@ void adapter_write_fields(gcflip_view *view, uint32_t place, value block, header
     if (Tag_hd(header) == Closure_tag && length >= 2) {
         mlsize_t environment = Start_env_closinfo(Closinfo_val(block));
         for (; i < environment && i < length; i++) /* code and what describes it */
-            gcflip_view_set(view, place, i, gcflip_view_constant(view, (uint64_t)Field(block, i)));
+            gcflip_snapshot_set(snapshot, place, i, gcflip_snapshot_constant(snapshot, (uint64_t)Field(block, i)));
     }
     for (; i < length; i++)
-        gcflip_view_set(view, place, i, word(Field(block, i)));
+        gcflip_snapshot_set(snapshot, place, i, word(Field(block, i)));
 }
 
 void adapter_count(header_t header)
@@ -124,11 +124,11 @@ static const char *kind_name(void *given, uint32_t kind)
     return text;
 }
 
-void adapter_refused(const gcflip_verdict *verdict)
+void adapter_refused(void)
 {
     const gcflip_names names = {NULL, root_name, kind_name, NULL};
     const char *path = getenv("CERTIFY_TEXT");
-    gcflip_collection_explain(adapter_collection, verdict, &names, stderr);
+    gcflip_collection_explain(adapter_collection, &names, stderr);
     FILE *file = path ? fopen(path, "w") : NULL;
     if (file != NULL) {
         gcflip_collection_write(adapter_collection, file);

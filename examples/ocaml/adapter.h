@@ -18,10 +18,10 @@
 #include <gcflip_images.h>
 
 /* Faults that a switch plants. */
-enum fault { NO_FAULT, BIT_FLIPPED, ROOT_MISSED, SLOT_NOT_REMEMBERED, NO_BARRIER, BIT_AFTER_COMPACTION, WEAK_CLEARED, OFFSET_LOST, FINALISED_MISSED };
+enum fault { NO_FAULT, BIT_FLIPPED, ROOT_MISSED, SLOT_NOT_REMEMBERED, NO_BARRIER, BIT_AFTER_COMPACTION, WEAK_CLEARED, OFFSET_LOST, FINALISED_MISSED, LAST_MISSED };
 
 /* Pairs by kind. */
-enum counted { BLOCKS, CLOSURES, INFIX, LAZY, STRINGS, DOUBLES, DOUBLE_ARRAYS, CUSTOM, ABSTRACT, WEAK, WEAK_INFIX, FINALISED, COUNTED };
+enum counted { BLOCKS, CLOSURES, INFIX, LAZY, STRINGS, DOUBLES, DOUBLE_ARRAYS, CUSTOM, ABSTRACT, WEAK, WEAK_INFIX, FINALISED, LAST, COUNTED };
 
 /* A place that holds a value: a root, or a field of an old object. */
 struct place {
@@ -60,19 +60,19 @@ void adapter_forget(void);
 void adapter_add_place(value *at, char what);
 
 /* Places an object before the collection by this function, unless it has its place. */
-uint32_t adapter_found(value block, uint32_t (*placed)(gcflip_view *view, value block, header_t header));
+uint32_t adapter_found(value block, uint32_t (*placed)(gcflip_snapshot *snapshot, value block, header_t header));
 
 /* Places a block. Its header may be wrong, so it has at most `most` words. Its fields are for write_fields. */
-uint32_t adapter_place(gcflip_view *view, value block, header_t header, mlsize_t most);
+uint32_t adapter_place(gcflip_snapshot *snapshot, value block, header_t header, mlsize_t most);
 
 /* Sets the fields of a block; `word` says what each value becomes. */
-void adapter_write_fields(gcflip_view *view, uint32_t place, value block, header_t header, mlsize_t most, uint64_t (*word)(value));
+void adapter_write_fields(gcflip_snapshot *snapshot, uint32_t place, value block, header_t header, mlsize_t most, uint64_t (*word)(value));
 
 /* Counts a pair by the kind of its block. */
 void adapter_count(header_t header);
 
 /* Prints a refusal, and ends the program with status 3. */
-void adapter_refused(const gcflip_verdict *verdict);
+void adapter_refused(void);
 
 void *adapter_grown(void *array, size_t *room, size_t count, size_t bytes);
 

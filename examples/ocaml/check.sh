@@ -13,8 +13,9 @@ told() {
 "$out/program" > "$text" 2>&1 &&
     awk '/minor collections, .* none refused/ { pairs = $4 } / blocks, .* closures/ { n = split($0, kinds, ", "); for (i = 1; i <= n; i++) if (kinds[i] + 0 < 1000) few = 1 }
          / fields of old objects were not remembered/ { missed = $1 } /^a compaction/ { compactions++ }
-         END { exit !(pairs >= 1000000 && n == 12 && !few && missed == 0 && compactions == 2) }' "$text"
-told $? "a million pairs and more, twelve kinds, and two compactions"
+         /^Gc.finalise_last: .* as many functions/ { died = $2 }
+         END { exit !(pairs >= 1000000 && n == 13 && !few && missed == 0 && compactions == 2 && died >= 1000) }' "$text"
+told $? "a million pairs and more, thirteen kinds, and two compactions"
 cat "$text"
 
 # Each fault is refused, with its place.
@@ -29,9 +30,10 @@ fault 2 "a root that the collector misses" "refused 10 RootDiffers" "  the root 
 fault 3 "a remembered field that it misses" "refused 10 RootDiffers" "  the remembered field of an old object at 0x"
 fault 4 "a store without the barrier" "refused 10 RootDiffers" "  the field of an old object, NOT in the remembered set, at 0x"
 fault 5 "a bit after a compaction" "compaction: refused 9 FieldDiffers" "  the object 0x.* with the replica 0x"
-fault 6 "a weak reference that is cleared" "no verdict: a weak reference was cleared, and its target has a replica: 0x" ""
+fault 6 "a weak reference that is cleared" "no verdict: a weak reference was cleared, and its target has a replica: the weak field at 0x" ""
 fault 7 "a weak pointer that loses its offset" "refused 10 RootDiffers" "  the offset of the weak field at 0x"
 fault 8 "a value of a finaliser that it misses" "refused 10 RootDiffers" "  the value of a finaliser, noted at 0x"
+fault 9 "a value of finalise_last that it misses" "no verdict: Gc.finalise_last: .* young values died, and .* functions were called" ""
 
 "$out/program" 0 2000 20 2000 > "$text" 2>&1 && grep -q "^flipped 2000 bits: .*, unexplained 0$" "$text"
 told $? "the self-test"

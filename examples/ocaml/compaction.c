@@ -1,10 +1,10 @@
-/* Checks Gc.compact of OCaml 4.13. It moves the blocks of the old generation in place and leaves no forwarding pointers, so the view before is
+/* Checks Gc.compact of OCaml 4.13. It moves the blocks of the old generation in place and leaves no forwarding pointers, so the snapshot before is
  * a copy of the heap, and the pairs are inferred. */
 #include "adapter.h"
 #include <inttypes.h>
 #include <stdlib.h>
 
-static gcflip_view *old_view, *new_view;
+static gcflip_snapshot *old_snapshot, *new_snapshot;
 static value *ephemerons; /* sorted */
 static size_t ephemeron_count, ephemeron_room;
 
@@ -37,20 +37,20 @@ static bool is_ephemeron(value v)
 
 /* Places a block. A weak array has weak fields, although the collector treats it as abstract; behind them are their offsets, for pointers into
  * blocks of closures. */
-static uint32_t placed(gcflip_view *view, value block, header_t header)
+static uint32_t placed(gcflip_snapshot *snapshot, value block, header_t header)
 {
     if (is_ephemeron(block))
-        return gcflip_view_object(view, (uint64_t)block, 0, 2 * Wosize_hd(header));
-    return adapter_place(view, block, header, Wosize_hd(header));
+        return gcflip_snapshot_object(snapshot, (uint64_t)block, 0, 2 * Wosize_hd(header));
+    return adapter_place(snapshot, block, header, Wosize_hd(header));
 }
 
-static uint64_t word_in(gcflip_view *view, value v)
+static uint64_t word_in(gcflip_snapshot *snapshot, value v)
 {
     if (!is_in_heap(v))
-        return Is_block(v) ? gcflip_view_fixed(view, (uint64_t)v) : gcflip_view_constant(view, (uint64_t)v);
+        return Is_block(v) ? gcflip_snapshot_fixed(snapshot, (uint64_t)v) : gcflip_snapshot_constant(snapshot, (uint64_t)v);
     if (Tag_val(v) == Infix_tag)
-        return gcflip_view_inside(view, (uint64_t)(v - Infix_offset_val(v)), (uint32_t)Infix_offset_val(v));
-    return gcflip_view_reference(view, (uint64_t)v);
+        return gcflip_snapshot_inside(snapshot, (uint64_t)(v - Infix_offset_val(v)), (uint32_t)Infix_offset_val(v));
+    return gcflip_snapshot_reference(snapshot, (uint64_t)v);
 }
 
 /* Finds the block that a value refers to, and places it before the collection. */
@@ -65,38 +65,38 @@ static void find(value v)
 static uint64_t old_word(value v)
 {
     find(v);
-    return word_in(old_view, v);
+    return word_in(old_snapshot, v);
 }
 
 static uint64_t new_word(value v)
 {
-    return word_in(new_view, v);
+    return word_in(new_snapshot, v);
 }
 
 /* The link is the collector's own. The constant in place of its offset makes the object unlike every other one. Compaction clears no field. */
-static void write_ephemeron(gcflip_view *view, uint32_t place, value block, uint64_t (*word)(value))
+static void write_ephemeron(gcflip_snapshot *snapshot, uint32_t place, value block, uint64_t (*word)(value))
 {
     mlsize_t length = Wosize_val(block);
-    gcflip_view_set(view, place, CAML_EPHE_LINK_OFFSET, 0);
-    gcflip_view_set(view, place, length, gcflip_view_constant(view, Abstract_tag));
+    gcflip_snapshot_set(snapshot, place, CAML_EPHE_LINK_OFFSET, 0);
+    gcflip_snapshot_set(snapshot, place, length, gcflip_snapshot_constant(snapshot, Abstract_tag));
     for (mlsize_t i = CAML_EPHE_DATA_OFFSET; i < length; i++) {
         value v = Field(block, i);
         uint32_t offset = v != caml_ephe_none && is_in_heap(v) && Tag_val(v) == Infix_tag ? (uint32_t)Infix_offset_val(v) : 0;
-        gcflip_view_set(view, place, length + i, gcflip_view_constant(view, offset));
+        gcflip_snapshot_set(snapshot, place, length + i, gcflip_snapshot_constant(snapshot, offset));
         if (v == caml_ephe_none || is_in_heap(v))
-            gcflip_view_set_weak(view, place, i, v == caml_ephe_none ? 0 : (uint64_t)(v - offset));
+            gcflip_snapshot_set_weak(snapshot, place, i, v == caml_ephe_none ? 0 : (uint64_t)(v - offset));
         else
-            gcflip_view_set(view, place, i, word(v));
+            gcflip_snapshot_set(snapshot, place, i, word(v));
         adapter_pairs[offset ? WEAK_INFIX : WEAK]++;
     }
 }
 
-static void write_block(gcflip_view *view, uint32_t place, value block, header_t header, uint64_t (*word)(value))
+static void write_block(gcflip_snapshot *snapshot, uint32_t place, value block, header_t header, uint64_t (*word)(value))
 {
     if (is_ephemeron(block))
-        write_ephemeron(view, place, block, word);
+        write_ephemeron(snapshot, place, block, word);
     else
-        adapter_write_fields(view, place, block, header, Wosize_hd(header), word);
+        adapter_write_fields(snapshot, place, block, header, Wosize_hd(header), word);
 }
 
 static void add_root(value v, value *at)
@@ -111,13 +111,13 @@ static void write_before(void)
     list_ephemerons();
     caml_do_roots(add_root, 1);
     for (size_t i = 0; i < adapter_place_count; i++)
-        gcflip_view_root(old_view, old_word(adapter_places[i].before));
+        gcflip_snapshot_root(old_snapshot, old_word(adapter_places[i].before));
     for (size_t i = 0; i < adapter_object_count; i++) {
         struct object object = adapter_objects[i];
         if (is_ephemeron(object.real))
             for (mlsize_t k = CAML_EPHE_DATA_OFFSET; k < Wosize_hd(object.header); k++)
                 find(Field(object.real, k));
-        write_block(old_view, object.place, object.real, object.header, old_word);
+        write_block(old_snapshot, object.place, object.real, object.header, old_word);
     }
 }
 
@@ -132,12 +132,12 @@ static void each_block(void (*visit)(value block, header_t header))
 
 static void place_new(value block, header_t header)
 {
-    placed(new_view, block, header);
+    placed(new_snapshot, block, header);
 }
 
 static void write_new(value block, header_t header)
 {
-    write_block(new_view, gcflip_view_find(new_view, (uint64_t)block), block, header, new_word);
+    write_block(new_snapshot, gcflip_snapshot_find(new_snapshot, (uint64_t)block), block, header, new_word);
 }
 
 static size_t blocks_seen;
@@ -152,7 +152,7 @@ static uint64_t moved_blocks(void)
 {
     uint64_t moved = 0;
     for (size_t i = 0; i < adapter_object_count; i++)
-        moved += gcflip_view_find(new_view, (uint64_t)adapter_objects[i].real) == 0;
+        moved += gcflip_snapshot_find(new_snapshot, (uint64_t)adapter_objects[i].real) == 0;
     return moved;
 }
 
@@ -166,8 +166,8 @@ static void count_pairs(void)
 value certify_compact(value unit)
 {
     gcflip_verdict verdict = {0, 0, 0, 0};
-    old_view = gcflip_before(adapter_collection);
-    new_view = gcflip_after(adapter_collection);
+    old_snapshot = gcflip_before(adapter_collection);
+    new_snapshot = gcflip_after(adapter_collection);
     caml_empty_minor_heap();
     caml_finish_major_cycle();
     caml_finish_major_cycle();
@@ -181,10 +181,10 @@ value certify_compact(value unit)
     each_block(place_new);
     each_block(write_new);
     for (size_t i = 0; i < adapter_place_count; i++)
-        gcflip_view_root(new_view, new_word(*adapter_places[i].at));
+        gcflip_snapshot_root(new_snapshot, new_word(*adapter_places[i].at));
     if (gcflip_collection_infer(adapter_collection, &verdict) != GCFLIP_YES) {
         fprintf(stderr, "compaction: ");
-        adapter_refused(&verdict);
+        adapter_refused();
     }
     fprintf(stderr, "a compaction, %zu pairs, at least %" PRIu64 " blocks moved\n", gcflip_collection_pairs(adapter_collection), moved_blocks());
     return unit;

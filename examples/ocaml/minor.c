@@ -2,11 +2,13 @@
  *
  * Before: finds the places that refer into the nursery. Roots come from caml_do_roots. Fields of old objects come from a scan of
  * all old objects, and not from the remembered set, since a store without its barrier is a fault to be found. What can be reached from there
- * inside the nursery becomes the view before.
- * After: pairs come from the forwarding pointers that the collector left in the nursery. The view after has the promoted objects.
+ * inside the nursery becomes the snapshot before.
+ * After: pairs come from the forwarding pointers that the collector left in the nursery. The snapshot after has the promoted objects.
  * A reference to an object that does not move is a constant of its own kind.
  * A weak pointer into a block of closures is two roots: a weak one to the block, and the offset.
- * The collector keeps the values of Gc.finalise in a table of its own. So the linker wraps the call that registers them, which notes them here. */
+ * The collector keeps the values of Gc.finalise in a table of its own. So the linker wraps the call that registers them, which notes them here.
+ * Gc.finalise_last keeps no value alive, and its function does not get the value. So the adapter counts the young values that died, and the
+ * program compares that with the number of functions that were called. */
 #include "adapter.h"
 #include <inttypes.h>
 #include <stdlib.h>
@@ -15,16 +17,19 @@
 
 static struct inner *inners;
 static size_t inner_count, inner_room;
-static gcflip_view *old_view, *new_view;
+static gcflip_snapshot *old_snapshot, *new_snapshot;
 static uint64_t checked, pairs, shortcuts, not_remembered;
-static double spent[4]; /* in milliseconds: the collection, finding places, both views, the check */
+static double spent[4]; /* in milliseconds: the collection, finding places, both snapshots, the check */
 static double begun, ended_before;
 static bool fault_done;
 static value kept_by_c = Val_unit;
 static value *finalised; /* young values that a finaliser waits for */
 static size_t finalised_count, finalised_room;
+static value *lasts; /* young values of Gc.finalise_last */
+static size_t last_count, last_room;
+static long last_died;
 
-enum { COLLECTING, FINDING, VIEWS, CHECKING };
+enum { COLLECTING, FINDING, SNAPSHOTS, CHECKING };
 
 static double now(void)
 {
@@ -38,7 +43,7 @@ static bool is_young(value v)
     return Is_block(v) && (value *)v > Caml_state->young_start && (value *)v < Caml_state->young_end;
 }
 
-/* The collector replaces a reference to a computed lazy value by its result, and so does this adapter in the view before. It follows
+/* The collector replaces a reference to a computed lazy value by its result, and so does this adapter in the snapshot before. It follows
  * caml_oldify_one: the result must not be a double or another lazy value. */
 static value shortcut(value v)
 {
@@ -57,15 +62,15 @@ static value shortcut(value v)
     return v;
 }
 
-/* A word of either view that is no reference into the nursery. */
-static uint64_t other_word(gcflip_view *view, value v)
+/* A word of either snapshot that is no reference into the nursery. */
+static uint64_t other_word(gcflip_snapshot *snapshot, value v)
 {
-    return Is_block(v) ? gcflip_view_fixed(view, (uint64_t)v) : gcflip_view_constant(view, (uint64_t)v);
+    return Is_block(v) ? gcflip_snapshot_fixed(snapshot, (uint64_t)v) : gcflip_snapshot_constant(snapshot, (uint64_t)v);
 }
 
-static uint32_t placed(gcflip_view *view, value block, header_t header)
+static uint32_t placed(gcflip_snapshot *snapshot, value block, header_t header)
 {
-    return adapter_place(view, block, header, Wosize_hd(header));
+    return adapter_place(snapshot, block, header, Wosize_hd(header));
 }
 
 /* Places the block that a pointer leads into, and notes the pointer. Returns the block. */
@@ -80,14 +85,14 @@ static value with_inner(value v)
 
 static uint64_t inside(value v)
 {
-    return gcflip_view_inside(old_view, (uint64_t)with_inner(v), (uint32_t)Infix_offset_val(v));
+    return gcflip_snapshot_inside(old_snapshot, (uint64_t)with_inner(v), (uint32_t)Infix_offset_val(v));
 }
 
 static uint64_t old_word(value v)
 {
     v = shortcut(v);
     if (!is_young(v))
-        return other_word(old_view, v);
+        return other_word(old_snapshot, v);
     if (Tag_val(v) == Infix_tag)
         return inside(v);
     return 2 * (uint64_t)adapter_found(v, placed);
@@ -109,15 +114,15 @@ static uint32_t new_offset(value v)
 static uint64_t new_word(value v)
 {
     if (!Is_block(v))
-        return gcflip_view_constant(new_view, (uint64_t)v);
-    uint32_t place = gcflip_view_find(new_view, (uint64_t)v), offset = new_offset(v);
+        return gcflip_snapshot_constant(new_snapshot, (uint64_t)v);
+    uint32_t place = gcflip_snapshot_find(new_snapshot, (uint64_t)v), offset = new_offset(v);
     if (place != 0)
         return 2 * (uint64_t)place;
     if (offset != 0)
-        return gcflip_view_inside(new_view, (uint64_t)(v - offset), offset);
+        return gcflip_snapshot_inside(new_snapshot, (uint64_t)(v - offset), offset);
     if (is_young(v))
-        return gcflip_view_doubtful(new_view, (uint64_t)v, "in the nursery, which was emptied");
-    return gcflip_view_fixed(new_view, (uint64_t)v);
+        return gcflip_snapshot_doubtful(new_snapshot, (uint64_t)v, "in the nursery, which was emptied");
+    return gcflip_snapshot_fixed(new_snapshot, (uint64_t)v);
 }
 
 /* ---- Before. */
@@ -171,6 +176,20 @@ value __wrap_caml_final_register(value function, value v)
     if (caml_minor_gc_begin_hook != NULL && is_young(v) && Tag_val(v) != Infix_tag) {
         finalised = adapter_grown(finalised, &finalised_room, finalised_count, sizeof *finalised);
         finalised[finalised_count++] = v;
+    }
+    return result;
+}
+
+value __real_caml_final_register_called_without_value(value function, value v);
+
+/* Stands for the runtime's call for Gc.finalise_last. */
+value __wrap_caml_final_register_called_without_value(value function, value v)
+{
+    bool missed = adapter_fault == LAST_MISSED && checked >= 3;
+    value result = missed ? Val_unit : __real_caml_final_register_called_without_value(function, v);
+    if (caml_minor_gc_begin_hook != NULL && is_young(v) && Tag_val(v) != Infix_tag) {
+        lasts = adapter_grown(lasts, &last_room, last_count, sizeof *lasts);
+        lasts[last_count++] = v;
     }
     return result;
 }
@@ -231,49 +250,50 @@ static void before(void)
         if (place->what == 'w') {
             value start = place->offset ? with_inner(place->before) : place->before;
             adapter_found(start, placed);
-            gcflip_view_weak_root(old_view, (uint64_t)start);
+            gcflip_snapshot_weak_root(old_snapshot, (uint64_t)start);
         } else if (place->what == 'o') {
-            gcflip_view_root(old_view, gcflip_view_constant(old_view, place->offset));
+            gcflip_snapshot_root(old_snapshot, gcflip_snapshot_constant(old_snapshot, place->offset));
         } else {
-            gcflip_view_root(old_view, old_word(place->before));
+            gcflip_snapshot_root(old_snapshot, old_word(place->before));
         }
     }
     for (size_t i = 0; i < adapter_object_count; i++) {
         struct object object = adapter_objects[i];
-        adapter_write_fields(old_view, object.place, object.real, object.header, Wosize_hd(object.header), old_word);
+        adapter_write_fields(old_snapshot, object.place, object.real, object.header, Wosize_hd(object.header), old_word);
     }
     plant_before();
     ended_before = now();
-    spent[VIEWS] += ended_before - start;
+    spent[SNAPSHOTS] += ended_before - start;
 }
 
 /* ---- After. */
 
-/* Writes the view after, and the pairs. */
+/* Writes the snapshot after, and the pairs. */
 static bool read_after(void *given, gcflip_collection *collection)
 {
     (void)given;
     for (size_t i = 0; i < adapter_object_count; i++) {
         const struct object *object = &adapter_objects[i];
         if (object->now != 0)
-            adapter_place(new_view, object->now, Hd_val(object->now), Wosize_hd(object->header));
+            adapter_place(new_snapshot, object->now, Hd_val(object->now), Wosize_hd(object->header));
     }
     for (size_t i = 0; i < adapter_object_count; i++) {
         const struct object *object = &adapter_objects[i];
         if (object->now == 0)
             continue;
-        uint32_t place = gcflip_view_find(new_view, (uint64_t)object->now);
-        adapter_write_fields(new_view, place, object->now, Hd_val(object->now), Wosize_hd(object->header), new_word);
+        uint32_t place = gcflip_snapshot_find(new_snapshot, (uint64_t)object->now);
+        adapter_write_fields(new_snapshot, place, object->now, Hd_val(object->now), Wosize_hd(object->header), new_word);
         gcflip_collection_pair(collection, (uint64_t)object->real, (uint64_t)object->now);
     }
     for (size_t i = 0; i < adapter_place_count; i++) {
         value v = *adapter_places[i].at;
         if (adapter_places[i].what == 'w')
-            gcflip_view_weak_root(new_view, v == caml_ephe_none ? 0 : (uint64_t)(v - new_offset(v)));
+            gcflip_snapshot_weak_root(new_snapshot, v == caml_ephe_none ? 0 : (uint64_t)(v - new_offset(v)));
         else if (adapter_places[i].what == 'o') /* of a cleared reference there is no offset */
-            gcflip_view_root(new_view, gcflip_view_constant(new_view, v == caml_ephe_none ? adapter_places[i].offset : new_offset(v)));
+            gcflip_snapshot_root(new_snapshot,
+                                 gcflip_snapshot_constant(new_snapshot, v == caml_ephe_none ? adapter_places[i].offset : new_offset(v)));
         else
-            gcflip_view_root(new_view, new_word(v));
+            gcflip_snapshot_root(new_snapshot, new_word(v));
     }
     return true;
 }
@@ -324,6 +344,8 @@ static void count_pairs(void)
     for (size_t i = 0; i < adapter_place_count; i++)
         adapter_pairs[adapter_places[i].offset ? WEAK_INFIX : WEAK] += adapter_places[i].what == 'w';
     adapter_pairs[FINALISED] += finalised_count;
+    for (size_t i = 0; i < last_count; i++)
+        adapter_pairs[LAST] += Hd_val(lasts[i]) == 0;
 }
 
 static void after(void)
@@ -334,18 +356,20 @@ static void after(void)
     follow_forwarding();
     plant_after();
     read_after(NULL, adapter_collection);
-    spent[VIEWS] += now() - start;
+    spent[SNAPSHOTS] += now() - start;
     start = now();
     uint32_t answer = gcflip_collection_check(adapter_collection, &verdict);
     spent[CHECKING] += now() - start;
     if (answer != GCFLIP_YES) {
         fprintf(stderr, "minor collection %" PRIu64 ": ", checked);
-        adapter_refused(&verdict);
+        adapter_refused();
     }
     checked++;
     pairs += gcflip_collection_pairs(adapter_collection);
+    for (size_t i = 0; i < last_count; i++)
+        last_died += Hd_val(lasts[i]) != 0;
     count_pairs();
-    finalised_count = 0;
+    finalised_count = last_count = 0;
 }
 
 /* ---- The self-test: flips bits of promoted objects. */
@@ -372,7 +396,7 @@ static void after_with_flips(void)
             ranges[count++] = (gcflip_range){(uint64_t *)Hp_val(adapter_objects[i].now), Whsize_hd(adapter_objects[i].header)};
         }
     if (checked == 4 && count != 0) {
-        gcflip_self_test test = {NULL, ranges, count, flips, 1, false, read_after, reason};
+        gcflip_self_test test = {NULL, ranges, count, flips, 1, false, read_after, reason, NULL, 0, 0};
         gcflip_collection_self_test(adapter_collection, &test, stderr);
     }
     free(ranges);
@@ -386,8 +410,8 @@ value certify_start(value planted, value bits)
         adapter_collection = gcflip_collection_open();
     if (adapter_collection == NULL)
         exit(3);
-    old_view = gcflip_before(adapter_collection);
-    new_view = gcflip_after(adapter_collection);
+    old_snapshot = gcflip_before(adapter_collection);
+    new_snapshot = gcflip_after(adapter_collection);
     adapter_fault = Int_val(planted);
     flips = (size_t)Int_val(bits);
     begun = now();
@@ -400,7 +424,7 @@ value certify_stop(value unit)
 {
     static const char *const names[] = {"blocks",  "closures",         "pointers into closures", "lazy values",     "strings",
                                         "doubles", "arrays of doubles", "custom blocks",          "abstract blocks", "weak references",
-                                        "weak pointers into closures", "values of finalisers"};
+                                        "weak pointers into closures", "values of finalisers", "values of finalise_last that live on"};
     double all = now() - begun;
     caml_minor_gc_begin_hook = caml_minor_gc_end_hook = NULL;
     adapter_pairs[LAZY] += shortcuts;
@@ -408,9 +432,21 @@ value certify_stop(value unit)
     for (int i = 0; i < COUNTED; i++)
         fprintf(stderr, "%s%" PRIu64 " %s", i ? ", " : "", adapter_pairs[i], names[i]);
     fprintf(stderr, "\n%" PRIu64 " fields of old objects were not remembered\n", not_remembered);
-    fprintf(stderr, "ms: collections %.0f, finding places %.0f, views %.0f, checks %.0f; all %.0f\n", spent[COLLECTING], spent[FINDING],
-            spent[VIEWS], spent[CHECKING], all);
+    fprintf(stderr, "ms: collections %.0f, finding places %.0f, snapshots %.0f, checks %.0f; all %.0f\n", spent[COLLECTING], spent[FINDING],
+            spent[SNAPSHOTS], spent[CHECKING], all);
     return unit;
+}
+
+/* Compares the number of functions of Gc.finalise_last that were called with that of the young values that died. */
+value certify_last(value called)
+{
+    if (Long_val(called) == last_died)
+        fprintf(stderr, "Gc.finalise_last: %ld young values died, and as many functions were called\n", last_died);
+    else {
+        fprintf(stderr, "no verdict: Gc.finalise_last: %ld young values died, and %ld functions were called\n", last_died, (long)Long_val(called));
+        exit(3);
+    }
+    return Val_unit;
 }
 
 /* A bug as in foreign code: a store without caml_modify. */

@@ -3,6 +3,7 @@
 external certify_start : int -> int -> unit = "certify_start"
 external certify_stop : unit -> unit = "certify_stop"
 external certify_compact : unit -> unit = "certify_compact"
+external certify_last : int -> unit = "certify_last"
 external store_without_barrier : 'a array -> 'a -> unit = "store_without_barrier"
 external keep_in_c : 'a -> unit = "keep_in_c"
 
@@ -71,6 +72,15 @@ let refer_to_step i entry = Weak.set weak_steps (i mod 4000) (Some entry.step)
 (* Nothing but its finaliser keeps this value. *)
 let finalise_alone i key = Gc.finalise (fun node -> if node.label <> key then incr finalised) { next = None; value = Int64.of_int i; label = key }
 
+(* The function does not get the value, and does not keep it alive. A third of these values live on. *)
+let last_called = ref 0
+let living = ref []
+
+let finalise_last i key =
+  let node = { next = None; value = Int64.of_int i; label = key } in
+  Gc.finalise_last (fun () -> incr last_called) node;
+  if i mod 270 = 45 then living := node :: !living
+
 let link i key =
   let node = { next = Some !ring; value = Int64.of_int (-i); label = key } in
   (match !ring.next with Some other when i mod 22 = 0 -> other.next <- Some node | _ -> ());
@@ -87,6 +97,7 @@ let fill round =
     if i mod 9 = 4 then refer_to_step i entry;
     if i mod 11 = 0 then link i key;
     if i mod 90 = 0 then finalise_alone i key;
+    if i mod 90 = 45 then finalise_last i key;
     if i mod 100 = 0 then keep_in_c (key, i);
     match entry.shape with Square square when i mod 9 = 1 -> square.side <- 0.0 | _ -> ()
   done
@@ -106,7 +117,11 @@ let () =
     if round mod 4 = 0 then Hashtbl.reset table;
     if round mod 4 = 0 then names := Names.empty
   done;
+  Gc.minor ();
   certify_stop ();
+  Gc.minor ();
+  certify_last !last_called;
+  living := [];
   certify_compact ();
   fill 99;
   forget ();

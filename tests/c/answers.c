@@ -1,7 +1,8 @@
-/* Tests that the numbers of both headers are one row: each answer has one number, refusals lie below 16, and each has its words. */
+/* Tests that the numbers of all headers are one row: each answer has one number, refusals lie below 16, and each has its words. */
 #include "expect.h"
 #include "gcflip.h"
 #include "gcflip_heap.h"
+#include "gcflip_images.h"
 #include <string.h>
 
 static const struct {
@@ -17,6 +18,8 @@ static const struct {
     {GCFLIP_FRAME_EMPTY, 6, "frame empty"},
     {GCFLIP_TOO_MANY, 7, "too many"},
     {GCFLIP_TOO_LARGE, 8, "too large"},
+    {GCFLIP_FAULTY, 9, "faulty"},
+    {GCFLIP_NOT_BEGUN, 10, "not begun"},
     {GCFLIP_MADE, 16, "made"},
     {GCFLIP_FULL, 17, "full"},
     {GCFLIP_NO_OBJECT, 18, "no object"},

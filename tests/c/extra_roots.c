@@ -35,9 +35,9 @@ static void options(void)
 {
     gcflip_options wrong = gcflip_options_default(8, 1);
     EXPECT(wrong.bytes == sizeof wrong && wrong.size == 8 && wrong.extra_roots == 0 && wrong.mutators == 1);
-    wrong.bytes = 12;
+    wrong.bytes = sizeof wrong - 4;
     EXPECT(gcflip_heap_open(&heap, &wrong) == GCFLIP_OUT_OF_RANGE);
-    wrong.bytes = 20;
+    wrong.bytes = sizeof wrong + 4;
     EXPECT(gcflip_heap_open(&heap, &wrong) == GCFLIP_OUT_OF_RANGE);
     wrong = gcflip_options_default(0, 1);
     EXPECT(gcflip_heap_open(&heap, &wrong) == GCFLIP_OUT_OF_RANGE);

@@ -1,7 +1,7 @@
 /* Live objects at the far end of a heap of 2^32 - 1 words: far BLOCKS. Prints the address of one of them.
  *
  * Garbage fills the first BLOCKS blocks of 65536 words, each with one raw object. All of these blocks have the same words, so they can share memory:
- * this program's allocator maps them to few pages, and the tables that the checker keeps of them as well. BLOCKS is a multiple of SHARED. */
+ * this program's allocator maps them to few pages, and the tables that the checkers keep of them as well. BLOCKS is a multiple of SHARED. */
 #define _GNU_SOURCE
 #include "expect.h"
 #include "gcflip_allocator.h"
@@ -28,8 +28,9 @@ static struct {
 /* Returns the bytes that a large allocation has for each word of the heap. */
 static size_t width_of(size_t size)
 {
-    if (size == 8 * (size_t)UINT32_MAX)
-        return 8;
+    for (size_t width = 1; width <= 8; width *= 2)
+        if (size == width * UINT32_MAX)
+            return width;
     EXPECT(size == end || size == 4 * end);
     return size / end;
 }

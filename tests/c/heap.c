@@ -67,6 +67,9 @@ static void commands(void)
     LOOKS(gcflip_heap_look(&heap, 0, 5, &view), GCFLIP_NUMBER, 0, 0, 7);
     REPLIES(gcflip_heap_put_number(&heap, 0, 5, 0, 5, 8), GCFLIP_NO_OBJECT);
     REPLIES(gcflip_heap_put(&heap, 0, G1, 0, 3), GCFLIP_DONE);
+    REPLIES(gcflip_heap_put_nil(&heap, 0, G1, 1, 8), GCFLIP_NO_NUMBER);
+    REPLIES(gcflip_heap_put_nil(&heap, 0, 5, 0, 8), GCFLIP_NO_OBJECT);
+    REPLIES(gcflip_heap_put_nil(&heap, 0, G0, 9999, 8), GCFLIP_NO_FIELD);
     REPLIES(gcflip_heap_new_object(&heap, 0, 0, KIND, 21), GCFLIP_FULL); /* 23 words, but 22 are free */
     REPLIES(gcflip_heap_put_number(&heap, 0, G1, 0, 5, 11), GCFLIP_DONE);
     REPLIES(gcflip_heap_new_pair(&heap, 1, 7, 8, G1, 9), GCFLIP_MADE);
@@ -92,6 +95,83 @@ static void commands(void)
     REPLIES(gcflip_heap_new_from(&heap, 1, 12, 8, from, 0), GCFLIP_FULL);
     LOOKS(gcflip_heap_look(&heap, 1, 12, &view), GCFLIP_NIL, 0, 0, 0);
     close_heap();
+}
+
+/* Tests reads and writes of several numbers at once, and addresses. */
+static void raws(void)
+{
+    uint64_t row[5] = {77, 77, 77, 77, 77};
+    uint32_t address = 77;
+    open_heap(32, 2);
+    REPLIES(gcflip_heap_new_raw(&heap, 1, 3, KIND, 4), GCFLIP_MADE);
+    REPLIES(gcflip_heap_raw_read(&heap, 1, 3, 0, row, 4), GCFLIP_DONE);
+    EXPECT(row[0] == 0 && row[3] == 0 && row[4] == 77);
+    for (uint16_t i = 0; i < 4; i++)
+        REPLIES(gcflip_heap_put_number(&heap, 1, 3, i, 0, 9223372036854775800u + i), GCFLIP_DONE);
+    REPLIES(gcflip_heap_raw_read(&heap, 1, 3, 1, row, 2), GCFLIP_DONE);
+    EXPECT(row[0] == 9223372036854775801u && row[1] == 9223372036854775802u && row[2] == 0);
+    REPLIES(gcflip_heap_raw_read(&heap, 1, 3, 4, row, 0), GCFLIP_DONE);
+    REPLIES(gcflip_heap_raw_read(&heap, 1, 3, 4, row, 1), GCFLIP_NO_FIELD);
+    REPLIES(gcflip_heap_raw_read(&heap, 1, 3, 5, row, 0), GCFLIP_NO_FIELD);
+    REPLIES(gcflip_heap_raw_read(&heap, 1, 3, 0, row, 5), GCFLIP_NO_FIELD);
+    REPLIES(gcflip_heap_raw_read(&heap, 1, 0, 0, row, 1), GCFLIP_NO_OBJECT); /* a number */
+    REPLIES(gcflip_heap_raw_read(&heap, 0, 3, 0, row, 1), GCFLIP_NO_OBJECT); /* another mutator's slot: nil */
+    REPLIES(gcflip_heap_new_object(&heap, 1, G0, KIND, 4), GCFLIP_MADE);
+    REPLIES(gcflip_heap_raw_read(&heap, 1, G0, 0, row, 0), GCFLIP_NO_OBJECT); /* not raw */
+    REPLIES(gcflip_heap_raw_read(&heap, 2, 3, 0, row, 1), GCFLIP_OUT_OF_RANGE);
+    REPLIES(gcflip_heap_raw_read(&heap, 1, 32, 0, row, 1), GCFLIP_OUT_OF_RANGE);
+    EXPECT(row[0] == 9223372036854775801u && row[1] == 9223372036854775802u && row[2] == 0);
+    LOOKS(gcflip_heap_look(&heap, 1, 0, &view), GCFLIP_NUMBER, 0, 0, 9223372036854775803u);
+    REPLIES(gcflip_heap_address(&heap, 1, 3, &address), GCFLIP_DONE);
+    EXPECT(address == 1);
+    REPLIES(gcflip_heap_address(&heap, 0, G0, &address), GCFLIP_DONE);
+    EXPECT(address == 7);
+    REPLIES(gcflip_heap_address(&heap, 1, 0, &address), GCFLIP_NO_OBJECT);
+    REPLIES(gcflip_heap_address(&heap, 0, 3, &address), GCFLIP_NO_OBJECT);
+    REPLIES(gcflip_heap_address(&heap, 2, 3, &address), GCFLIP_OUT_OF_RANGE);
+    REPLIES(gcflip_heap_address(&heap, 1, 32, &address), GCFLIP_OUT_OF_RANGE);
+    EXPECT(address == 7);
+    while (gcflip_heap_work(&heap, 1, &work) == GCFLIP_DONE && work.last != GCFLIP_FLIPPED)
+        ;
+    REPLIES(gcflip_heap_address(&heap, 0, G0, &address), GCFLIP_DONE); /* shared slots are copied first */
+    EXPECT(address == 1);
+    REPLIES(gcflip_heap_address(&heap, 1, 3, &address), GCFLIP_DONE);
+    EXPECT(address == 7);
+    REPLIES(gcflip_heap_raw_read(&heap, 1, 3, 0, row, 4), GCFLIP_DONE);
+    EXPECT(row[0] == 9223372036854775800u && row[3] == 9223372036854775803u);
+    const uint64_t more[] = {5, 9223372036854775807u, 9223372036854775808u};
+    REPLIES(gcflip_heap_raw_write(&heap, 1, 3, 1, 0, more, 2), GCFLIP_DONE);
+    LOOKS(gcflip_heap_look(&heap, 1, 0, &view), GCFLIP_NUMBER, 0, 0, 9223372036854775807u);
+    REPLIES(gcflip_heap_set_number(&heap, 1, 0, 4), GCFLIP_DONE);
+    REPLIES(gcflip_heap_raw_write(&heap, 1, 3, 0, 0, more, 3), GCFLIP_NO_NUMBER);
+    REPLIES(gcflip_heap_raw_write(&heap, 1, 3, 3, 0, more, 2), GCFLIP_NO_FIELD);
+    REPLIES(gcflip_heap_raw_write(&heap, 1, 3, 5, 0, more, 0), GCFLIP_NO_FIELD);
+    REPLIES(gcflip_heap_raw_write(&heap, 1, G0, 0, 0, more, 1), GCFLIP_NO_OBJECT);
+    REPLIES(gcflip_heap_raw_write(&heap, 1, 0, 0, 1, more, 1), GCFLIP_NO_OBJECT);
+    REPLIES(gcflip_heap_raw_write(&heap, 1, 3, 0, 3, more, 1), GCFLIP_OUT_OF_RANGE);
+    REPLIES(gcflip_heap_raw_write(&heap, 2, 3, 0, 0, more, 1), GCFLIP_OUT_OF_RANGE);
+    REPLIES(gcflip_heap_raw_write(&heap, 1, 32, 0, 0, more, 1), GCFLIP_OUT_OF_RANGE);
+    REPLIES(gcflip_heap_raw_write(&heap, 1, 3, 0, 32, more, 1), GCFLIP_OUT_OF_RANGE);
+    REPLIES(gcflip_heap_raw_write(&heap, 1, 3, 4, 0, more, 0), GCFLIP_DONE);
+    LOOKS(gcflip_heap_look(&heap, 1, 0, &view), GCFLIP_NUMBER, 0, 0, 4);
+    REPLIES(gcflip_heap_raw_read(&heap, 1, 3, 0, row, 4), GCFLIP_DONE);
+    EXPECT(row[0] == 9223372036854775800u && row[1] == 5 && row[2] == 9223372036854775807u && row[3] == 9223372036854775803u);
+    /* while a collection is open each field is logged, and the replica takes the numbers; the flip moves the object back to 7 */
+    REPLIES(gcflip_heap_step_begin(&heap), GCFLIP_BEGUN);
+    REPLIES(gcflip_heap_raw_write(&heap, 1, 3, 2, 0, more, 2), GCFLIP_DONE);
+    size_t logged = 77;
+    gcflip_log_entry entry = {77, 77};
+    EXPECT(gcflip_heap_log_length(&heap, 1, &logged) == GCFLIP_DONE && logged == 2);
+    EXPECT(gcflip_heap_log_entry(&heap, 1, 1, &entry) == GCFLIP_DONE && entry.object == 7 && entry.field == 3);
+    while (gcflip_heap_work(&heap, 1, &work) == GCFLIP_DONE && work.last != GCFLIP_FLIPPED)
+        ;
+    REPLIES(gcflip_heap_raw_read(&heap, 1, 3, 0, row, 4), GCFLIP_DONE);
+    EXPECT(row[0] == 9223372036854775800u && row[1] == 5 && row[2] == 5 && row[3] == 9223372036854775807u);
+    row[0] = 9223372036854775800u;
+    close_heap();
+    EXPECT(gcflip_heap_raw_write(&heap, 1, 3, 0, 0, more, 1) == GCFLIP_CLOSED);
+    EXPECT(gcflip_heap_raw_read(&heap, 1, 3, 0, row, 1) == GCFLIP_CLOSED && gcflip_heap_address(&heap, 1, 3, &address) == GCFLIP_CLOSED);
+    EXPECT(row[0] == 9223372036854775800u && address == 7);
 }
 
 /* Tests each step, with an object whose one field two mutators write after it was scanned. */
@@ -329,6 +409,9 @@ static void out_of_range(void)
     EXPECT(gcflip_heap_put_number(&heap, 0, 32, 0, 0, 0) == GCFLIP_OUT_OF_RANGE);
     EXPECT(gcflip_heap_put_number(&heap, 0, 0, 0, 32, 0) == GCFLIP_OUT_OF_RANGE);
     EXPECT(gcflip_heap_put_number(&heap, 0, 0, 0, 0, 9223372036854775808u) == GCFLIP_OUT_OF_RANGE);
+    EXPECT(gcflip_heap_put_nil(&heap, 0, 32, 0, 0) == GCFLIP_OUT_OF_RANGE);
+    EXPECT(gcflip_heap_put_nil(&heap, 0, 0, 0, 32) == GCFLIP_OUT_OF_RANGE);
+    EXPECT(gcflip_heap_put_nil(&heap, 2, 0, 0, 0) == GCFLIP_OUT_OF_RANGE);
     EXPECT(gcflip_heap_same(&heap, 0, 32, 0) == GCFLIP_OUT_OF_RANGE);
     EXPECT(gcflip_heap_same(&heap, 0, 0, 32) == GCFLIP_OUT_OF_RANGE);
     EXPECT(gcflip_heap_look(&heap, 0, 32, &view) == GCFLIP_OUT_OF_RANGE);
@@ -438,6 +521,7 @@ static void closed(void)
     EXPECT(gcflip_heap_new_pair(&heap, 0, 0, 0, 0, 0) == GCFLIP_CLOSED);
     EXPECT(gcflip_heap_new_from(&heap, 0, 0, 0, slots, 1) == GCFLIP_CLOSED);
     EXPECT(gcflip_heap_put_number(&heap, 0, 0, 0, 0, 0) == GCFLIP_CLOSED);
+    EXPECT(gcflip_heap_put_nil(&heap, 0, 0, 0, 0) == GCFLIP_CLOSED);
     EXPECT(gcflip_heap_same(&heap, 0, 0, 0) == GCFLIP_CLOSED);
     EXPECT(gcflip_heap_look(&heap, 0, 0, &view) == GCFLIP_CLOSED);
     EXPECT(gcflip_heap_step_begin(&heap) == GCFLIP_CLOSED);
@@ -478,6 +562,7 @@ int main(void)
 {
     closed();
     commands();
+    raws();
     steps();
     useful_steps();
     useful_step_names();

@@ -1,8 +1,7 @@
-// Calls the heap from C++, and records the run.
+// Calls the heap from C++, and records the run. Keeps a stack in extra roots, with paced work before each allocation.
 #include "expect.h"
 #include "gcflip_heap.h"
 #include "gcflip_record.h"
-#include "open_heap.h"
 
 FILE *gcflip_trace;
 
@@ -10,12 +9,88 @@ namespace {
 
 class Heap {
 public:
-    Heap(uint32_t size, uint8_t mutators) { EXPECT(open_plain_heap(&handle, size, mutators) == GCFLIP_DONE); }
+    explicit Heap(const gcflip_options &options) { EXPECT(gcflip_heap_open(&handle, &options) == GCFLIP_DONE); }
+    Heap(uint32_t size, uint8_t mutators) : Heap(gcflip_options_default(size, mutators)) {}
     ~Heap() { EXPECT(gcflip_heap_close(&handle) == GCFLIP_DONE); }
     Heap(const Heap &) = delete;
     Heap &operator=(const Heap &) = delete;
     gcflip_heap handle = GCFLIP_NO_HEAP;
 };
+
+// A heap with extra roots, a stack in them, and a pace of its own.
+class Stack {
+public:
+    explicit Stack(uint32_t most) : heap(with_roots(16 * most, most)), frame{0, most, 0} { pace.least = most; }
+
+    // Puts a new object with this number into slot 0, after the steps that are due for its three words.
+    void make(uint64_t number)
+    {
+        gcflip_counts counts = {};
+        gcflip_work work = {};
+        EXPECT(gcflip_heap_counts(&heap.handle, &counts) == GCFLIP_DONE);
+        const uint32_t due = gcflip_pace_due(&pace, &counts, 3);
+        EXPECT(gcflip_heap_work_paced(&heap.handle, &pace, 3, &work) == GCFLIP_DONE);
+        EXPECT(work.steps == due || (work.steps < due && work.last == GCFLIP_FLIPPED));
+        flips += work.last == GCFLIP_FLIPPED;
+        EXPECT(gcflip_heap_new_object(&heap.handle, 0, 0, 1, 1) == GCFLIP_MADE);
+        EXPECT(gcflip_heap_put_number(&heap.handle, 0, 0, 0, 1, number) == GCFLIP_DONE);
+    }
+
+    uint32_t push() { return gcflip_heap_frame_push(&heap.handle, 0, 0, &frame); }
+
+    // Returns the number of the object that is popped into slot 2.
+    uint64_t pop()
+    {
+        uint64_t number = 0;
+        EXPECT(gcflip_heap_frame_pop(&heap.handle, 0, 2, &frame) == GCFLIP_DONE);
+        EXPECT(gcflip_heap_get(&heap.handle, 0, 3, 2, 0, &number) == GCFLIP_NUMBER);
+        return number;
+    }
+
+    static gcflip_options with_roots(uint32_t size, uint32_t extra_roots)
+    {
+        gcflip_options options = gcflip_options_default(size, 1);
+        options.extra_roots = extra_roots;
+        return options;
+    }
+
+    Heap heap;
+    gcflip_frame frame;
+    gcflip_pace pace = gcflip_pace_default();
+    unsigned flips = 0;
+};
+
+void stack_of_many()
+{
+    const uint32_t most = 1000;
+    Stack stack(most);
+    for (uint64_t k = 0; k < most; k++) {
+        stack.make(k);
+        EXPECT(stack.push() == GCFLIP_DONE);
+    }
+    EXPECT(stack.push() == GCFLIP_FRAME_FULL);
+    for (uint64_t k = most; k-- > 0;) {
+        for (int garbage = 0; garbage < 10; garbage++)
+            stack.make(garbage);
+        EXPECT(stack.pop() == k);
+    }
+    EXPECT(gcflip_heap_frame_pop(&stack.heap.handle, 0, 2, &stack.frame) == GCFLIP_FRAME_EMPTY);
+    // 33,000 words were allocated, and each flip makes room for less than 16,000
+    EXPECT(stack.flips >= 2);
+}
+
+void single_roots()
+{
+    Heap heap(Stack::with_roots(64, 4));
+    gcflip_view view = {};
+    EXPECT(gcflip_heap_set_number(&heap.handle, 0, 0, 7) == GCFLIP_DONE);
+    EXPECT(gcflip_heap_root_store(&heap.handle, 0, 3, 0) == GCFLIP_DONE);
+    EXPECT(gcflip_heap_root_load(&heap.handle, 0, 1, 3) == GCFLIP_DONE);
+    EXPECT(gcflip_heap_look(&heap.handle, 0, 1, &view) == GCFLIP_NUMBER && view.number == 7);
+    EXPECT(gcflip_heap_root_clear(&heap.handle, 0, 4) == GCFLIP_DONE);
+    EXPECT(gcflip_heap_root_load(&heap.handle, 0, 1, 3) == GCFLIP_DONE);
+    EXPECT(gcflip_heap_look(&heap.handle, 0, 1, &view) == GCFLIP_NIL);
+}
 
 } // namespace
 
@@ -47,5 +122,7 @@ int main()
     EXPECT(gcflip_heap_new_object(&large.handle, 0, 1, 1, 1) == GCFLIP_MADE);
     EXPECT(gcflip_heap_work(&large.handle, UINT32_MAX, &work) == GCFLIP_DONE && work.last == GCFLIP_FLIPPED && work.pairs == 2);
     EXPECT(gcflip_heap_counts(&large.handle, &counts) == GCFLIP_DONE && counts.end == 1 + 65537 + 3);
+    single_roots();
+    stack_of_many();
     return 0;
 }

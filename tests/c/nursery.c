@@ -169,31 +169,31 @@ static uint64_t constant_of(uint64_t n)
     return n < (uint64_t)1 << 61 ? n : n | ~(FIRST_FIXED - 1);
 }
 
-static uint64_t word_in(gcflip_view *view, uint64_t word)
+static uint64_t word_in(gcflip_snapshot *snapshot, uint64_t word)
 {
     if (word % 2 == 1)
-        return gcflip_view_constant(view, constant_of(word / 2));
+        return gcflip_snapshot_constant(snapshot, constant_of(word / 2));
     if (is_reference(word) && !is_young(word))
-        return gcflip_view_fixed(view, address_of(word / 2));
-    return gcflip_view_reference(view, word ? address_of(word / 2) : 0);
+        return gcflip_snapshot_fixed(snapshot, address_of(word / 2));
+    return gcflip_snapshot_reference(snapshot, word ? address_of(word / 2) : 0);
 }
 
-static void read_young(gcflip_view *view, const struct heap *heap)
+static void read_young(gcflip_snapshot *snapshot, const struct heap *heap)
 {
     for (uint32_t k = OLD; k < heap->count; k++) {
         uint32_t at = heap->starts[k], kind = (uint32_t)(heap->words[at] / 65536 % 256);
         if (is_raw(heap, at))
-            gcflip_view_words(view, address_of(at), kind, heap->words + at + 2, length_at(heap, at));
+            gcflip_snapshot_words(snapshot, address_of(at), kind, heap->words + at + 2, length_at(heap, at));
         else
-            gcflip_view_object(view, address_of(at), kind, length_at(heap, at));
+            gcflip_snapshot_object(snapshot, address_of(at), kind, length_at(heap, at));
     }
     for (uint32_t k = OLD; k < heap->count; k++)
         for (uint32_t at = heap->starts[k], i = 0; i < length_at(heap, at) && !is_raw(heap, at); i++)
-            gcflip_view_set(view, gcflip_view_find(view, address_of(at)), i, word_in(view, heap->words[at + 2 + i]));
+            gcflip_snapshot_set(snapshot, gcflip_snapshot_find(snapshot, address_of(at)), i, word_in(snapshot, heap->words[at + 2 + i]));
     for (uint32_t i = 0; i < set.count; i++)
-        gcflip_view_root(view, word_in(view, heap->words[set.at[i]]));
+        gcflip_snapshot_root(snapshot, word_in(snapshot, heap->words[set.at[i]]));
     for (int i = 0; i < ROOTS; i++)
-        gcflip_view_root(view, word_in(view, heap->roots[i]));
+        gcflip_snapshot_root(snapshot, word_in(snapshot, heap->roots[i]));
 }
 
 static bool young_is_certified(void)
@@ -221,13 +221,13 @@ static void expect_encoded_word(const gcflip_image *image, uint64_t found, uint6
         EXPECT(found % 2 == 0 && found / 2 < image->end && (found == 0) == (word == 0));
 }
 
-static void expect_encoded(const gcflip_view *view, const struct heap *heap)
+static void expect_encoded(const gcflip_snapshot *snapshot, const struct heap *heap)
 {
-    gcflip_image image = gcflip_view_image(view);
+    gcflip_image image = gcflip_snapshot_image(snapshot);
     uint32_t place = 1;
     for (uint32_t k = OLD; k < heap->count; k++) {
         uint32_t at = heap->starts[k];
-        EXPECT(gcflip_view_find(view, address_of(at)) == place && image.words[place] == heap->words[at]);
+        EXPECT(gcflip_snapshot_find(snapshot, address_of(at)) == place && image.words[place] == heap->words[at]);
         for (uint32_t i = 0; i < length_at(heap, at); i++) {
             uint64_t found = image.words[place + 2 + i], word = heap->words[at + 2 + i];
             if (is_raw(heap, at))
@@ -274,7 +274,7 @@ static void spoil_words(void)
         spoil(&after.roots[i], value(&after));
 }
 
-/* A field that the write barrier forgot: the views do not have it, so the answer is yes, but the whole heap is wrong. An adapter that
+/* A field that the write barrier forgot: the snapshots do not have it, so the answer is yes, but the whole heap is wrong. An adapter that
    scans the old objects has the field as a root, and is refused. */
 static size_t forgotten;
 

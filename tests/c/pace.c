@@ -144,11 +144,13 @@ static void refusals(void)
     EXPECT(gcflip_heap_close(&heap) == GCFLIP_DONE);
 }
 
-/* Performs paced work, and checks that it performs as many steps as are due, unless it flipped. */
+/* Performs paced work, and checks that it performs as many steps as are due, unless it flipped, and that it leaves no more log entries than
+ * it promises. */
 static void paced(uint32_t wanted)
 {
-    uint32_t steps;
+    uint32_t steps, left;
     read_counts();
+    left = counts.end - counts.scan_place + counts.logged + 1;
     if (counts.logged > most_logged)
         most_logged = counts.logged;
     steps = gcflip_pace_due(&pace, &counts, wanted);
@@ -157,6 +159,8 @@ static void paced(uint32_t wanted)
     flips += work.last == GCFLIP_FLIPPED;
     if (steps > 0 && wanted >= counts.free)
         EXPECT(work.last == GCFLIP_FLIPPED); /* the steps that are left are enough */
+    read_counts();
+    EXPECT(counts.logged + work.steps <= left);
 }
 
 /* Puts a list of this many pairs into slot G0, each with its number. */

@@ -195,6 +195,38 @@ static void new_from(void)
     printf("%s\n", reply(gcflip_heap_new_from(&heap, (uint8_t)a[0], (uint8_t)a[1], (uint8_t)a[2], fields, a[3])));
 }
 
+static void raw_write(void)
+{
+    EXPECT(a[4] < MOST - 5);
+    printf("%s\n", reply(gcflip_heap_raw_write(&heap, (uint8_t)a[0], (uint8_t)a[1], (uint16_t)a[2], (uint8_t)a[3], a + 5, a[4])));
+}
+
+static void raw_read(void)
+{
+    uint64_t words[MOST];
+    EXPECT(a[3] < MOST);
+    for (size_t i = 0; i < MOST; i++)
+        words[i] = 77;
+    uint32_t answer = gcflip_heap_raw_read(&heap, (uint8_t)a[0], (uint8_t)a[1], (uint16_t)a[2], words, a[3]);
+    for (size_t i = answer == GCFLIP_DONE ? a[3] : 0; i < MOST; i++)
+        EXPECT(words[i] == 77);
+    if (answer == GCFLIP_DONE)
+        print_words("read", words, a[3], words, 0);
+    else
+        printf("%s\n", reply(answer));
+}
+
+static void address(void)
+{
+    uint32_t found = 77;
+    uint32_t answer = gcflip_heap_address(&heap, (uint8_t)a[0], (uint8_t)a[1], &found);
+    EXPECT(answer == GCFLIP_DONE || found == 77);
+    if (answer == GCFLIP_DONE)
+        printf("address %u\n", found);
+    else
+        printf("%s\n", reply(answer));
+}
+
 #define IS(text) (strcmp(name, text) == 0)
 
 /* Performs a call that returns a reply and writes nothing. */
@@ -210,6 +242,7 @@ static uint32_t plain(const char *name)
     if (IS("move")) return gcflip_heap_move(&heap, m, d, (uint8_t)a[2]);
     if (IS("put")) return gcflip_heap_put(&heap, m, d, (uint16_t)a[2], (uint8_t)a[3]);
     if (IS("put_number")) return gcflip_heap_put_number(&heap, m, d, (uint16_t)a[2], (uint8_t)a[3], a[4]);
+    if (IS("put_nil")) return gcflip_heap_put_nil(&heap, m, d, (uint16_t)a[2], (uint8_t)a[3]);
     if (IS("cons")) return gcflip_heap_new_pair(&heap, m, d, (uint8_t)a[2], (uint8_t)a[3], (uint8_t)a[4]);
     if (IS("same")) return gcflip_heap_same(&heap, m, d, (uint8_t)a[2]);
     if (IS("begin")) return gcflip_heap_step_begin(&heap);
@@ -234,6 +267,9 @@ static void perform(const char *name)
     else if (IS("image")) image(a[0], a[1]);
     else if (IS("new_words")) new_words(a[0]);
     else if (IS("new_from")) new_from();
+    else if (IS("raw_write")) raw_write();
+    else if (IS("raw_read")) raw_read();
+    else if (IS("address")) address();
     else printf("%s\n", reply(plain(name)));
 }
 

@@ -1,5 +1,6 @@
 /* Records a run until a size that no trace has: record_ends RECORD. The heap goes on without its trace. Then records heaps with extra
- * roots: a recording ends at the first call that names one. */
+ * roots: a recording ends at the first call that names one. Where nothing is recorded, because a recording has ended or because there is no
+ * stream, each call replies as ever and writes nothing. */
 #include "expect.h"
 #include "gcflip_record.h"
 #include "open_heap.h"
@@ -79,11 +80,110 @@ static void name_roots(void)
     gcflip_trace = NULL;
 }
 
+/* Returns whether the stream has grown since this was asked the last time. */
+static bool has_grown(void)
+{
+    static long length;
+    long before = length;
+    length = gcflip_trace == NULL ? 0 : ftell(gcflip_trace);
+    return length > before;
+}
+
+/* A call with this reply. It writes lines if it is recorded. */
+#define REPLIES(call, reply, is_recorded) EXPECT((call) == (reply) && has_grown() == (is_recorded))
+
+/* Opens a heap with extra roots. */
+static void open_with_roots(bool is_recorded)
+{
+    gcflip_options options = gcflip_options_default(256, 1);
+    options.extra_roots = 4;
+    has_grown();
+    REPLIES(gcflip_heap_open(&heap, &options), GCFLIP_DONE, is_recorded);
+}
+
+static void make_commands(bool is_recorded)
+{
+    static const uint64_t numbers[] = {1, 2, 3};
+    static const uint8_t slots[] = {0, 1, 2};
+    uint64_t number = 0;
+    gcflip_view view = {0, 0, 0};
+    REPLIES(gcflip_heap_new_object(&heap, 0, 0, 1, 2), GCFLIP_MADE, is_recorded);
+    REPLIES(gcflip_heap_new_raw(&heap, 0, 1, 1, 3), GCFLIP_MADE, is_recorded);
+    REPLIES(gcflip_heap_set_number(&heap, 0, 2, 7), GCFLIP_DONE, is_recorded);
+    REPLIES(gcflip_heap_set_nil(&heap, 0, 3), GCFLIP_DONE, is_recorded);
+    REPLIES(gcflip_heap_move(&heap, 0, 3, 2), GCFLIP_DONE, is_recorded);
+    REPLIES(gcflip_heap_put(&heap, 0, 0, 0, 2), GCFLIP_DONE, is_recorded);
+    REPLIES(gcflip_heap_put_nil(&heap, 0, 0, 1, 2), GCFLIP_DONE, is_recorded);
+    REPLIES(gcflip_heap_put_number(&heap, 0, 0, 1, 2, 8), GCFLIP_DONE, is_recorded);
+    REPLIES(gcflip_heap_raw_write(&heap, 0, 1, 0, 2, numbers, COUNT(numbers)), GCFLIP_DONE, is_recorded);
+    REPLIES(gcflip_heap_get(&heap, 0, 4, 0, 0, &number), GCFLIP_NUMBER, is_recorded);
+    REPLIES(gcflip_heap_new_pair(&heap, 0, 5, 1, 0, 2), GCFLIP_MADE, is_recorded);
+    REPLIES(gcflip_heap_new_from(&heap, 0, 6, 1, slots, COUNT(slots)), GCFLIP_MADE, is_recorded);
+    REPLIES(gcflip_heap_same(&heap, 0, 2, 3), GCFLIP_NOT_SAME, is_recorded);
+    REPLIES(gcflip_heap_look(&heap, 0, 0, &view), GCFLIP_OBJECT, is_recorded);
+    EXPECT(number == 7 && view.count == 2);
+}
+
+static void make_steps(bool is_recorded)
+{
+    gcflip_pace pace = gcflip_pace_default();
+    gcflip_work work = {0, 0, 0, 0};
+    uint32_t pairs = 0;
+    REPLIES(gcflip_heap_step_begin(&heap), GCFLIP_BEGUN, is_recorded);
+    REPLIES(gcflip_heap_step_roots(&heap), GCFLIP_COPIED, is_recorded);
+    REPLIES(gcflip_heap_step_scan(&heap), GCFLIP_SCANNED, is_recorded);
+    REPLIES(gcflip_heap_step_apply(&heap, 0), GCFLIP_CLEAN, is_recorded);
+    REPLIES(gcflip_heap_step_flip(&heap, &pairs), GCFLIP_NOT_READY, is_recorded);
+    REPLIES(gcflip_heap_step_give_up(&heap), GCFLIP_DROPPED, is_recorded);
+    REPLIES(gcflip_heap_step_begin_sized(&heap, 128), GCFLIP_BEGUN, is_recorded);
+    REPLIES(gcflip_heap_work(&heap, 1, &work), GCFLIP_DONE, is_recorded);
+    REPLIES(gcflip_heap_work_sized(&heap, 1, 128, &work), GCFLIP_DONE, is_recorded);
+    REPLIES(gcflip_heap_work_paced(&heap, &pace, UINT32_MAX, &work), GCFLIP_DONE, is_recorded); /* there is no room, so it flips */
+    EXPECT(work.last == GCFLIP_FLIPPED && work.pairs == 4);
+}
+
+/* Makes the calls that name an extra root. None of them has a line. */
+static void make_moves_of_roots(void)
+{
+    gcflip_frame frame = {0, 4, 0};
+    REPLIES(gcflip_heap_root_store(&heap, 0, 3, 0), GCFLIP_DONE, false);
+    REPLIES(gcflip_heap_root_load(&heap, 0, 1, 3), GCFLIP_DONE, false);
+    REPLIES(gcflip_heap_root_clear(&heap, 0, 4), GCFLIP_DONE, false);
+    REPLIES(gcflip_heap_frame_push(&heap, 0, 0, &frame), GCFLIP_DONE, false);
+    REPLIES(gcflip_heap_frame_pop(&heap, 0, 0, &frame), GCFLIP_DONE, false);
+}
+
+/* Makes each call that a recording knows: while it records, after it has ended, and without a stream. */
+static void make_each_call(void)
+{
+    gcflip_trace = tmpfile();
+    EXPECT(gcflip_trace != NULL);
+    open_with_roots(true);
+    make_commands(true);
+    make_steps(true);
+    EXPECT(gcflip_trace_ended == 0);
+    make_moves_of_roots();
+    EXPECT(gcflip_trace_ended == 1);
+    make_commands(false);
+    make_steps(false);
+    make_moves_of_roots();
+    EXPECT(gcflip_heap_close(&heap) == GCFLIP_DONE);
+    EXPECT(fclose(gcflip_trace) == 0);
+    gcflip_trace = NULL;
+    gcflip_trace_ended = 0;
+    open_with_roots(false);
+    make_commands(false);
+    make_steps(false);
+    make_moves_of_roots();
+    EXPECT(gcflip_trace_ended == 0 && gcflip_heap_close(&heap) == GCFLIP_DONE);
+}
+
 int main(int count, char **names)
 {
     EXPECT(count == 2);
     begin(names[1]);
     open_heaps();
     name_roots();
+    make_each_call();
     return 0;
 }

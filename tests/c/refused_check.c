@@ -70,8 +70,8 @@ int main(void)
     /* The partners by old address, and the starts of both images. A text also has the bytes that wait, two arrays for each image, and the pairs. */
     EXPECT(failures(check_images) == 3);
     EXPECT(failures(check_text) == 9);
-    /* The starts of both images, the partners by old and by new address, the pairs as found and in their order. */
-    EXPECT(failures(infer_images) == 6);
+    /* The starts of both images, the partners by old and by new address, and the pairs. */
+    EXPECT(failures(infer_images) == 5);
     /* The starts, the visits, their numbers by address, and the fields. */
     EXPECT(failures(path_in_image) == 4);
     return 0;

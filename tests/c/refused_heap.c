@@ -3,16 +3,16 @@
 #include "expect.h"
 #include "gcflip_heap.h"
 #include "own_allocator.h"
-#include "open_heap.h"
 #include <string.h>
 
-enum { WORDS = 4096, ROOTS = 32 };
+enum { WORDS = 4096, EXTRA_ROOTS = 4, ROOTS = 32 + EXTRA_ROOTS };
 
 static gcflip_heap heap = GCFLIP_NO_HEAP;
 static gcflip_view view;
 static uint64_t number;
 static uint32_t pairs;
 static gcflip_work work;
+static gcflip_flip_checks checks;
 
 /* All that can be read of a heap. */
 struct picture {
@@ -31,9 +31,15 @@ static void draw(struct picture *picture)
         EXPECT(gcflip_heap_new_words(&heap, picture->new_words, picture->counts.new_end) == GCFLIP_DONE);
 }
 
+/* How flips are checked: a gcflip_checking. */
+static uint8_t checking;
+
 static uint32_t open_heap(void)
 {
-    return open_plain_heap(&heap, WORDS, 1);
+    gcflip_options options = gcflip_options_default(WORDS, 1);
+    options.extra_roots = EXTRA_ROOTS;
+    options.checking = checking;
+    return gcflip_heap_open(&heap, &options);
 }
 
 /* A heap with one object, whose field holds nil. */
@@ -50,6 +56,19 @@ static void set_up_open(void)
     EXPECT(gcflip_heap_step_begin(&heap) == GCFLIP_BEGUN);
 }
 
+/* The same with a raw object in slot 2. */
+static void set_up_raw(void)
+{
+    set_up();
+    EXPECT(gcflip_heap_new_raw(&heap, 0, 2, 1, 40) == GCFLIP_MADE);
+}
+
+static void set_up_raw_open(void)
+{
+    set_up_raw();
+    EXPECT(gcflip_heap_step_begin(&heap) == GCFLIP_BEGUN);
+}
+
 static void set_up_ready(void)
 {
     set_up_open();
@@ -58,15 +77,30 @@ static void set_up_ready(void)
 
 static uint32_t begin(void) { return gcflip_heap_step_begin(&heap); }
 static uint32_t begin_sized(void) { return gcflip_heap_step_begin_sized(&heap, 64); }
+static uint32_t begin_larger(void) { return gcflip_heap_step_begin_sized(&heap, 2 * WORDS); }
 static uint32_t put(void) { return gcflip_heap_put(&heap, 0, 0, 0, 0); }
 static uint32_t put_number(void) { return gcflip_heap_put_number(&heap, 0, 0, 0, 1, 5); }
+static uint32_t put_nil(void) { return gcflip_heap_put_nil(&heap, 0, 0, 0, 1); }
 static uint32_t cons(void) { return gcflip_heap_new_pair(&heap, 0, 1, 1, 0, 0); }
 static uint32_t new_from(void)
 {
     static const uint8_t fields[40] = {0};
     return gcflip_heap_new_from(&heap, 0, 1, 1, fields, 40);
 }
+static uint32_t raw_write(void)
+{
+    static const uint64_t numbers[40] = {1, 2, 3};
+    return gcflip_heap_raw_write(&heap, 0, 2, 0, 1, numbers, 40);
+}
 static uint32_t flip(void) { return gcflip_heap_step_flip(&heap, &pairs); }
+static uint32_t check(void)
+{
+    const gcflip_verdict before = {77, 77, 77, 77};
+    gcflip_verdict verdict = before;
+    uint32_t answer = gcflip_heap_check(&heap, &verdict);
+    EXPECT(GCFLIP_IS_REFUSED(answer) == (memcmp(&verdict, &before, sizeof verdict) == 0));
+    return answer;
+}
 static uint32_t work_1(void) { return gcflip_heap_work(&heap, 1, &work); }
 static uint32_t paced_work(void)
 {
@@ -109,8 +143,8 @@ static int failures(void (*prepare)(void), uint32_t (*call)(void))
     }
 }
 
-/* Checks that an open that fails leaves no heap and no block. */
-static void opening(void)
+/* Checks that an open that fails leaves no heap and no block, and that it allocates as many blocks. */
+static void opening(int wanted)
 {
     int n = 1;
     for (;; n++) {
@@ -120,7 +154,7 @@ static void opening(void)
             break;
         EXPECT(answer == GCFLIP_NO_MEMORY && has_failed() && heap.at == NULL && blocks_in_use() == 0);
     }
-    EXPECT(n - 1 == 3); /* the words, the roots, and the heap itself */
+    EXPECT(n - 1 == wanted);
     free_all();
 }
 
@@ -137,6 +171,35 @@ static void work_before_a_failure(void)
     fail_allocation(0);
     EXPECT(gcflip_heap_work(&heap, 1000, &work) == GCFLIP_DONE && work.steps == 1 && work.last == GCFLIP_FLIPPED);
     free_all();
+}
+
+/* Makes the moves of extra roots. */
+static void move_roots(void)
+{
+    gcflip_frame frame = {1, EXTRA_ROOTS, 1};
+    EXPECT(gcflip_heap_root_store(&heap, 0, 0, 1) == GCFLIP_DONE);
+    EXPECT(gcflip_heap_root_load(&heap, 0, 5, 0) == GCFLIP_DONE);
+    EXPECT(gcflip_heap_frame_push(&heap, 0, 1, &frame) == GCFLIP_DONE);
+    EXPECT(gcflip_heap_frame_pop(&heap, 0, 5, &frame) == GCFLIP_DONE);
+    EXPECT(gcflip_heap_root_clear(&heap, 0, EXTRA_ROOTS) == GCFLIP_DONE);
+}
+
+/* Reads all that can be read while a collection is open, and mutator 0's log has an entry. Slot 2 refers to a raw object. */
+static void read_all(void)
+{
+    static struct picture picture;
+    gcflip_pace pace = gcflip_pace_default();
+    gcflip_step step = {0, 0};
+    gcflip_log_entry entry = {0, 0};
+    uint64_t numbers[4] = {0};
+    uint32_t address = 0;
+    draw(&picture);
+    EXPECT(gcflip_heap_log_entry(&heap, 0, 0, &entry) == GCFLIP_DONE);
+    EXPECT(gcflip_heap_raw_read(&heap, 0, 2, 0, numbers, COUNT(numbers)) == GCFLIP_DONE);
+    EXPECT(gcflip_heap_address(&heap, 0, 2, &address) == GCFLIP_DONE);
+    EXPECT(gcflip_heap_pace(&heap, &pace) == GCFLIP_DONE);
+    EXPECT(gcflip_heap_useful(&heap, &step) == GCFLIP_DONE);
+    EXPECT(gcflip_heap_flip_checks(&heap, &checks) == GCFLIP_DONE);
 }
 
 /* Checks that all other calls do not allocate: each runs while the next allocation would fail. */
@@ -157,34 +220,52 @@ static void calls_that_do_not_allocate(void)
     EXPECT(gcflip_heap_set_nil(&heap, 0, 4) == GCFLIP_DONE);
     EXPECT(gcflip_heap_same(&heap, 0, 3, 4) == GCFLIP_NOT_SAME);
     EXPECT(gcflip_heap_look(&heap, 0, 3, &view) == GCFLIP_NUMBER);
+    move_roots();
+    read_all();
     EXPECT(gcflip_heap_step_roots(&heap) == GCFLIP_COPIED);
     EXPECT(gcflip_heap_step_scan(&heap) == GCFLIP_SCANNED);
     EXPECT(gcflip_heap_step_apply(&heap, 0) == GCFLIP_APPLIED);
     EXPECT(gcflip_heap_step_give_up(&heap) == GCFLIP_DROPPED);
-    EXPECT(!has_failed());
     free_all();
+    EXPECT(!has_failed());
 }
 
-int main(void)
+/* Checks how many allocations of each call can fail. `tables` is how many tables the checker has between two calls, and `flipping` how many
+   allocations a flip makes. */
+static void allocations(int tables, int flipping)
 {
-    opening();
+    opening(3 + tables); /* the words, the roots, and the heap itself */
     EXPECT(failures(set_up, begin) == 2); /* the new space, and the list of logs */
     EXPECT(failures(set_up, begin_sized) == 2);
+    EXPECT(failures(set_up, begin_larger) == 2 + tables); /* the tables grow, too */
     EXPECT(failures(set_up, put) == 0);
     EXPECT(failures(set_up_open, put) == 1);
     EXPECT(failures(set_up, put_number) == 0);
     EXPECT(failures(set_up_open, put_number) == 1);
+    EXPECT(failures(set_up, put_nil) == 0);
+    EXPECT(failures(set_up_open, put_nil) == 1);
     EXPECT(failures(set_up, cons) == 0);
     EXPECT(failures(set_up_open, cons) == 1);
     EXPECT(failures(set_up, new_from) == 0);
     EXPECT(failures(set_up_open, new_from) == 1);
-    EXPECT(failures(set_up_ready, flip) == 5); /* the certificate, the moved roots, the checker's three tables */
+    EXPECT(failures(set_up_raw, raw_write) == 0);
+    EXPECT(failures(set_up_raw_open, raw_write) == 1);
+    EXPECT(failures(set_up_ready, check) == 5);
+    EXPECT(failures(set_up_ready, flip) == flipping);
     EXPECT(failures(set_up, work_1) == 2);
-    EXPECT(failures(set_up_ready, work_1) == 5);
+    EXPECT(failures(set_up_ready, work_1) == flipping);
     EXPECT(failures(set_up, sized_work) == 2);
-    EXPECT(failures(set_up_ready, sized_work) == 5);
-    EXPECT(failures(set_up_ready, paced_work) == 5);
+    EXPECT(failures(set_up_ready, sized_work) == flipping);
+    EXPECT(failures(set_up_ready, paced_work) == flipping);
     work_before_a_failure();
     calls_that_do_not_allocate();
+}
+
+int main(void)
+{
+    checking = GCFLIP_ALONG;
+    allocations(3, 1); /* the moved roots */
+    checking = GCFLIP_AT_FLIP;
+    allocations(0, 5); /* the certificate, the moved roots, and the checker's three tables */
     return 0;
 }

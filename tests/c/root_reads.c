@@ -1,6 +1,6 @@
-/* A collection of many extra roots, for a tool that counts the reads of the block with the roots: root_reads [COMMANDS]. Performs all steps before
- * the flip by calls of one step each; with an argument, a command writes slot 0 before each. Prints how often these calls were made, and how
- * often a command read a root. */
+/* A collection of many extra roots, for a tool that counts the reads of the blocks with the roots: root_reads CHECKING END [COMMANDS]. Performs all
+ * steps before the flip by calls of one step each; with a third argument, a command writes slot 0 before each. Then END says whether the
+ * collection is given up (0) or flips (1). Prints how often `work` was called, and how often a command read a root. */
 #include "expect.h"
 #include "gcflip_heap.h"
 
@@ -13,10 +13,12 @@ int main(int count, char **words)
     gcflip_options options = gcflip_options_default(4 * MANY, 1);
     gcflip_frame stack = {0, MANY, 0};
     gcflip_work work = {0, 0, 0, 0};
-    gcflip_counts counts;
+    gcflip_counts counts = {0, 0, 0, 0, 0, 0, 0, 0, 0, 0, 0};
     unsigned calls = 0, reads = 0;
-    (void)words;
+    uint32_t pairs = 0;
+    EXPECT(count >= 3);
     options.extra_roots = MANY;
+    options.checking = (uint8_t)atoi(words[1]);
     EXPECT(gcflip_heap_open(&heap, &options) == GCFLIP_DONE);
     for (unsigned k = 0; k < MANY; k++, reads++) {
         EXPECT(gcflip_heap_new_object(&heap, 0, 0, 1, 0) == GCFLIP_MADE);
@@ -24,14 +26,17 @@ int main(int count, char **words)
     }
     EXPECT(gcflip_heap_step_begin(&heap) == GCFLIP_BEGUN);
     for (; calls < 2 * MANY; calls++) { /* each object is copied by one step and passed by another */
-        if (count > 1) {
+        if (count > 3) {
             EXPECT(gcflip_heap_move(&heap, 0, 0, 1) == GCFLIP_DONE);
             reads++;
         }
         EXPECT(gcflip_heap_work(&heap, 1, &work) == GCFLIP_DONE && work.last == (calls < MANY ? GCFLIP_COPIED : GCFLIP_PASSED));
     }
     EXPECT(gcflip_heap_counts(&heap, &counts) == GCFLIP_DONE && counts.scan_place == counts.new_end);
-    EXPECT(gcflip_heap_step_give_up(&heap) == GCFLIP_DROPPED);
+    if (atoi(words[2]) == 1)
+        EXPECT(gcflip_heap_step_flip(&heap, &pairs) == GCFLIP_FLIPPED && pairs == MANY);
+    else
+        EXPECT(gcflip_heap_step_give_up(&heap) == GCFLIP_DROPPED);
     EXPECT(gcflip_heap_close(&heap) == GCFLIP_DONE);
     printf("%u %u\n", calls, reads);
     return 0;

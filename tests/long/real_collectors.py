@@ -8,7 +8,7 @@ import subprocess
 import sys
 
 from program import runtimes
-from program.c_library import done, library
+from program.c_builds import done, library
 
 ROUNDS, SIZE = 3, "3000"
 # How many bits the self-tests flip.
@@ -152,6 +152,7 @@ def jvm(result, folder):
         add_self_test(result, name, "\n".join(lines))
         result.require("%s, classes that are exchanged" % name, status == 0 and runtimes.number_before("classes: spared 0", lines) > 1, "\n".join(lines))
     by_valgrind(result, app)
+    under_address_sanitizer(result, app, folder)
 
 
 def by_valgrind(result, app):
@@ -166,6 +167,17 @@ def by_valgrind(result, app):
     result.add("JVM by valgrind, pairs", pairs)
     result.require("certify.py by valgrind", ran.status == 0 and pairs > 0 and "ERROR SUMMARY" in text, text)
     result.require("valgrind and the library", "gcflip" not in "".join(line for line in text.split("\n") if re.search(r"(?:at|by) 0x", line)), text)
+
+
+def under_address_sanitizer(result, app, folder):
+    """Runs certify.py over a library whose C parts are built with AddressSanitizer."""
+    app.environment, why = runtimes.sanitized(folder, library(folder))
+    result.require("the library with AddressSanitizer", why is None, why or "")
+    dumps, _ = app.dumps("Serial", SIZE, "1")
+    status, lines = app.certified(dumps, 0)
+    pairs = numbers(r"^yes (\d+)", lines[0])[0]
+    result.add("JVM under AddressSanitizer, pairs", pairs)
+    result.require("certify.py under AddressSanitizer", status == 0 and pairs > 0, "\n".join(lines))
 
 
 def run(folder):

@@ -1,124 +1,18 @@
-"""Tests of the libraries for C and C++: programs of tests/c that call them, built in every way that the machine allows.
-
-bindings/c builds and installs the library. If a compiler or a sanitizer is missing, that way of building is skipped, and a
-line says so.
-"""
+"""Tests of the libraries for C and C++: programs of tests/c that call them, built in every way that the machine allows."""
 import json
 import os
 import re
 import shutil
-import subprocess
+import time
 
 from . import pairs
+from .c_builds import EXAMPLE_PROGRAMS, SANITIZERS, SOURCES, TOP, VALGRIND, compilers, done, has_valgrind, library, skip, usable
 from .examples import FOLDER as EXAMPLES, content, names_of
-from .harness import Outcome, difference, file_of, run
+from .harness import Outcome, addresses_numbered, difference, file_of, run
 from .traces import PLAYED, trace_and_replies
 
-TOP = os.path.join(os.path.dirname(os.path.abspath(__file__)), "..", "..")
-SOURCES = os.path.join(TOP, "tests", "c")
-EXAMPLE_PROGRAMS = os.path.join(TOP, "bindings", "c", "examples")
-SECONDS = 120
-# Libraries that have changed are proved first.
-PROVING_SECONDS = 3600
-WARNINGS = ["-Wall", "-Wextra", "-Wpedantic", "-Werror"]
-SANITIZERS = ["-g", "-fsanitize=address,undefined", "-fno-sanitize-recover=all"]
-
-
-def skip(what, why):
-    print("SKIPPED %s: %s" % (what, why), flush=True)
-
-
-def done(words, timeout=SECONDS, **more):
-    """Runs a command, and returns its outcome."""
-    ran = subprocess.run(words, stdout=subprocess.PIPE, stderr=subprocess.PIPE, timeout=timeout, **more)
-    return Outcome(ran.stdout, ran.stderr, ran.returncode)
-
-
-def toolchain_clang():
-    """Returns the command for the toolchain's clang, with gcc's headers, which it lacks. None if either is missing."""
-    rt, gcc = shutil.which("rt"), shutil.which("gcc")
-    if not rt or not gcc:
-        return None
-    tools = os.path.join(os.path.dirname(os.path.dirname(os.path.realpath(rt))), "toolchain", "bin")
-    clang, linker = [os.path.join(tools, name) for name in ("clang", "ld.lld")]
-    headers = done([gcc, "-print-file-name=include"]).stdout.decode().strip()
-    return [clang, "--ld-path=" + linker, "-isystem", headers] if os.path.exists(clang) else None
-
-
-def compilers():
-    """Yields the ways to build a program: a name, the command for C, and the command for C++."""
-    clang = toolchain_clang()
-    yield "gcc", ["gcc"], ["g++"]
-    yield "gcc with sanitizers", ["gcc", *SANITIZERS], ["g++", *SANITIZERS]
-    if clang:
-        yield "the toolchain's clang", clang, [*clang, "--driver-mode=g++"]
-    else:
-        skip("the toolchain's clang", "it is missing")
-
-
-class Library:
-    """The library as bindings/c installs it."""
-
-    def __init__(self, folder):
-        self.folder = folder
-        self.prefix = os.path.join(folder, "installed")
-        self.lib = os.path.join(self.prefix, "lib")
-        self.made = self.install(self.prefix)
-
-    def install(self, prefix, target="install"):
-        """Builds the library, and installs it there; or removes it, if that is the target."""
-        words = ["make", "-C", os.path.join(TOP, "bindings", "c"), target, "PREFIX=" + prefix]
-        return done([*words, "OUT=" + os.path.join(self.folder, "out")], timeout=PROVING_SECONDS)
-
-    def flags(self, prefix=None):
-        """Returns what pkg-config says about it."""
-        environment = dict(os.environ, PKG_CONFIG_PATH=os.path.join(prefix or self.prefix, "lib", "pkgconfig"))
-        return done(["pkg-config", "--cflags", "--libs", "gcflip"], env=environment).stdout.decode().split()
-
-    def build(self, compiler, source, linked):
-        """Returns the path of the program, and why it was not built, or None."""
-        program = os.path.join(self.folder, "program")
-        standard = "-std=c++11" if source.endswith(".cpp") else "-std=gnu11"
-        words = [*compiler, standard, "-O2", "-pthread", *WARNINGS, "-I" + os.path.join(self.prefix, "include")]
-        built = done([*words, "-o", program, os.path.join(SOURCES, source), *linked])
-        return program, None if built.status == 0 else "not built: %s" % built.stderr.decode()
-
-    def build_example(self, name, sanitizers=SANITIZERS):
-        """Returns the path of a program of bindings/c/examples, and why it was not built, or None."""
-        program = os.path.join(self.folder, "example")
-        words = ["gcc", "-std=c99", "-pthread", *WARNINGS, *sanitizers, "-I" + os.path.join(self.prefix, "include"), "-o", program]
-        built = done([*words, os.path.join(EXAMPLE_PROGRAMS, name), *self.archive()])
-        return program, None if built.status == 0 else "not built: %s" % built.stderr.decode()
-
-    def archive(self):
-        return [os.path.join(self.lib, "libgcflip.a")]
-
-    def shared(self):
-        return ["-L" + self.lib, "-Wl,-rpath," + self.lib, "-lgcflip"]
-
-
-def library(folder):
-    """Returns the installed library, or None, with a line that says so, if nothing can be built."""
-    missing = [tool for tool in ("make", "gcc", "g++", "ar") if not shutil.which(tool)]
-    if missing:
-        skip("c_library", "no %s" % ", ".join(missing))
-        return None
-    return Library(folder)
-
-
-def usable(folder, name, compiler):
-    """Returns whether programs built in this way run. If they do not, a line says so."""
-    source = file_of(folder, "nothing.c", b"int main(void) { return 0; }\n")
-    program = os.path.join(folder, "nothing")
-    built = done([*compiler, "-o", program, source])
-    if built.status == 0 and done([program]).status == 0:
-        return True
-    skip(name, "it builds no program that runs")
-    return False
-
-
 # Programs that end with status 0 and print nothing.
-PROGRAMS = ["answers.c", "check.c", "refused_check.c", "check_cpp.cpp", "heap.c", "extra_roots.c", "pace.c", "refused_heap.c", "heap_cpp.cpp", "churn.c", "threads.c", "images.c", "nursery.c"]
+PROGRAMS = ["answers.c", "check.c", "refused_check.c", "check_cpp.cpp", "heap.c", "extra_roots.c", "pace.c", "refused_heap.c", "checking.c", "heap_cpp.cpp", "churn.c", "threads.c", "images.c", "adapters.c", "nursery.c"]
 
 
 def programs(_program, folder):
@@ -136,19 +30,56 @@ def programs(_program, folder):
                 yield "%s by %s, %s" % (source, name, kind), why or difference(done([path]), Outcome())
 
 
+def musl(_program, folder):
+    """Links the archive with another libc: the programs in C, without a shared library, and the examples."""
+    built = library(folder)
+    if built is None or not usable(folder, "programs by musl-gcc", ["musl-gcc", "-static"]):
+        return
+    for source in [name for name in PROGRAMS if name.endswith(".c")]:
+        path, why = built.build(["musl-gcc", "-static"], source, built.archive())
+        yield "%s by musl-gcc" % source, why or difference(done([path]), Outcome())
+    for name in sorted(EXAMPLE_OUTPUT):
+        path, why = built.build(["musl-gcc", "-static"], os.path.join(EXAMPLE_PROGRAMS, name), built.archive())
+        yield "%s by musl-gcc" % name, why or difference(printed([path]), Outcome(EXAMPLE_OUTPUT[name]))
+
+
 def images(_program, folder):
     """Tests the library for images with its own source under sanitizers, and by valgrind."""
     built = library(folder)
     if built is None:
         return
-    sources = [os.path.join(TOP, "bindings", "c", name) for name in ("gcflip_images.c", "images_told.c")]
-    for name, more in [("images.c", sources), ("refused_images.c", [])]:
+    sources = [os.path.join(TOP, "bindings", "c", name) for name in ("gcflip_images.c", "images_adapter.c", "images_told.c")]
+    for name, more in [("images.c", sources), ("adapters.c", sources), ("refused_images.c", [])]:
         if usable(folder, "gcflip_images.c with sanitizers", ["gcc", *SANITIZERS]):
             path, why = built.build(["gcc", *SANITIZERS], name, [*more, *built.archive()])
             yield "%s, the source with sanitizers" % name, why or difference(done([path]), Outcome())
         if has_valgrind(name):
             path, why = built.build(["gcc"], name, built.archive())
             yield "%s by valgrind" % name, why or difference(done([*VALGRIND, path, "small"]), Outcome())
+
+
+def objects():
+    """Returns the objects of the library that are compiled from C, by their sources, as the rules of bindings/c/Makefile name them."""
+    with open(os.path.join(TOP, "bindings", "c", "Makefile"), encoding="utf-8") as file:
+        return {source: name for name, source in re.findall(r"(?m)^\$\(OUT\)/(\w+\.o): \$\(HERE\)(\w+\.c) ", file.read())}
+
+
+def rebuilt(_program, folder):
+    """Checks that make compiles an object anew if its source or a header that the source includes has changed."""
+    if not shutil.which("make") or not shutil.which("gcc"):
+        skip("rebuilt", "no make or no gcc")
+        return
+    bindings = os.path.join(TOP, "bindings", "c")
+    yield "each source is compiled", None if sorted(objects()) == sorted(name for name in os.listdir(bindings) if name.endswith(".c")) else str(objects())
+    for source, name in objects().items():
+        target = os.path.join(folder, name)
+        words = ["make", "-C", bindings, "OUT=" + folder, target]
+        read = done(["gcc", "-MM", source], cwd=bindings).stdout.decode().replace("\\\n", " ").split(":")[1].split()
+        made = done(words)
+        yield "%s is compiled" % name, None if made.status == 0 and source in read else made.stderr.decode() or "it reads %s" % read
+        for changed in read:
+            planned = done([*words, "-n", "-W", changed]).stdout.decode()
+            yield "%s is compiled anew for %s" % (name, changed), None if " -c -o %s " % target in planned else "make would run %r" % planned
 
 
 def pkg_config(_program, folder):
@@ -256,8 +187,20 @@ def recorded_work(program, folder):
     yield "recorded work is played", difference(run(program, ["play", record]), Outcome(REPLIES_OF_RECORDED_WORK))
 
 
+def not_in_record_ends():
+    """Returns the calls that a recording knows and that tests/c/record_ends.c does not make."""
+    with open(os.path.join(TOP, "bindings", "c", "gcflip_record.h"), encoding="utf-8") as file:
+        known = re.findall(r"(?m)^#define (gcflip_heap_\w+) gcflip_record_\w+$", file.read())
+    with open(os.path.join(SOURCES, "record_ends.c"), encoding="utf-8") as file:
+        made = re.findall(r"\bREPLIES\((gcflip_heap_\w+)\(", file.read())
+    return sorted(set(known) - set(made)) if known else ["any"]
+
+
 def recording_that_ends(program, folder):
-    """Checks that a recording ends at a size that no trace has and at an extra root, says so, and plays up to that place."""
+    """Checks that a recording ends at a size that no trace has and at an extra root, says so, and plays up to that place; and that then, and without
+    a stream, no call writes anything."""
+    missing = not_in_record_ends()
+    yield "record_ends.c makes each call that a recording knows", None if not missing else "not %s" % ", ".join(missing)
     built = library(folder)
     if built is None:
         return
@@ -265,28 +208,30 @@ def recording_that_ends(program, folder):
     path, why = built.build(["gcc", *SANITIZERS], "record_ends.c", built.archive())
     said = b"gcflip_record.h: the recording ends here: a trace has no size of 1048577 words\n"
     said += said
-    said += b"".join(b"gcflip_record.h: the recording ends here: a trace has no extra root %d\n" % root for root in (3, 3, 0, 0, 1))
+    said += b"".join(b"gcflip_record.h: the recording ends here: a trace has no extra root %d\n" % root for root in (3, 3, 0, 0, 1, 3))
     yield "record_ends.c", why or difference(done([path, record]), Outcome(stderr=said))
     yield "a recording that ended is played", difference(run(program, ["play", record]), Outcome(b"made\nbegun\ndropped\n"))
 
 
 # What root_reads.c makes: extra roots beside the 32 slots of one mutator.
 EXTRA_ROOTS, ROOT_SLOTS = 65536, 32
+ALONG, AT_FLIP, GIVEN_UP, FLIPPED = "0", "1", "0", "1"
 
 
 def reads_of_roots(folder, words):
-    """Runs root_reads.c under valgrind's DHAT, which counts the bytes that are read of each block. Returns the numbers that the program
-    prints, and the number of words that were read of the block with the roots."""
+    """Runs root_reads.c under valgrind's DHAT, which counts the bytes that are read of each block. Returns how often the program called `work`, and
+    the number of words that the collector read of the blocks with the roots: those of the heap, and after a flip the moved ones, too."""
     out = os.path.join(folder, "dhat.out")
     ran = done(["valgrind", "--tool=dhat", "--dhat-out-file=" + out, *words])
     with open(out, encoding="utf-8") as file:
         blocks = [point for point in json.load(file)["pps"] if point["tb"] == 8 * (EXTRA_ROOTS + ROOT_SLOTS)]
-    return [int(number) for number in ran.stdout.split()], sum(point["rb"] for point in blocks) // 8
+    calls, by_commands = [int(number) for number in ran.stdout.split()]
+    return calls, sum(point["rb"] for point in blocks) // 8 - by_commands
 
 
 def root_reads(_program, folder):
-    """Counts how often searches read roots in a collection, up to its flip: an extra root at most twice, and a slot at most once for each
-    command that wrote a slot."""
+    """Counts how often a whole collection reads roots. Searches read an extra root at most twice, and a slot at most once for each command that wrote
+    a slot. The flip reads each root twice, and each moved one once: it moves the root, and its checker compares both."""
     built = library(folder)
     if built is None:
         return
@@ -295,11 +240,13 @@ def root_reads(_program, folder):
         return
     path, why = built.build(["gcc", "-O1"], "root_reads.c", built.archive())
     yield "root_reads.c", why
-    for commands in ([], ["commands"]) if why is None else []:
-        (calls, by_commands), reads = reads_of_roots(folder, [path, *commands])
-        searched = reads - by_commands
+    for checking, commands in [(ALONG, []), (ALONG, ["commands"]), (AT_FLIP, [])] if why is None else []:
+        calls, searched = reads_of_roots(folder, [path, checking, GIVEN_UP, *commands])
         most = 2 * EXTRA_ROOTS + ROOT_SLOTS * (calls if commands else 1)
-        yield "reads of roots, %s" % (commands or "no commands"), None if EXTRA_ROOTS <= searched <= most else "%d reads, at most %d" % (searched, most)
+        case = "checking %s, %s" % (checking, commands or "no commands")
+        yield "reads of roots by searches, %s" % case, None if EXTRA_ROOTS <= searched <= most else "%d reads, at most %d" % (searched, most)
+        flipped, wanted = reads_of_roots(folder, [path, checking, FLIPPED, *commands])[1] - searched, 3 * (EXTRA_ROOTS + ROOT_SLOTS)
+        yield "reads of roots by the flip, %s" % case, None if flipped == wanted else "%d reads, wanted %d" % (flipped, wanted)
 
 
 def long_run(_program, folder):
@@ -311,25 +258,36 @@ def long_run(_program, folder):
     yield "churn of 10000000 operations", why or difference(done([path, "10000000"]), Outcome())
 
 
-# The output of each example.
+def short_soak(_program, folder):
+    """Makes a short run of the program that `tests/long/run soak` runs for long."""
+    built = library(folder)
+    if built is None:
+        return
+    if usable(folder, "soak.c with sanitizers", ["gcc", *SANITIZERS]):
+        seed = os.environ.get("GCFLIP_SEED") or str(int(time.time()))
+        path, why = built.build(["gcc", *SANITIZERS], "soak.c", built.archive())
+        found = done([path, "2", seed]) if why is None else Outcome()
+        yield "soak.c, seed %s" % seed, why or difference(found, Outcome(found.stdout))
+        flips = [int(number) for number in re.findall(rb"(?:flips|images)=(\d+)", found.stdout)]
+        yield "soak.c flips, and compares images", None if len(flips) == 2 and min(flips) > 0 else "printed %r" % found.stdout
+
+
+# The output of each example, with the addresses of the machine replaced by numbers.
 EXAMPLE_OUTPUT = {"extra_roots.c": b"pushed 1000\nflipped 1001\nthe last one popped has kind 0\n", "first_check.c": b"yes 1\n",
-                  "first_collection.c": b"refused 9 FieldDiffers 0 1\n  the object 0x1000 (cons, length 2) with the replica 0x1048 (cons, length 2)\n"
-                                        b"  tail\n  before 0x1030 (cons, length 2)\n  after  0x1030: no object starts there\n"
-                                        b"  reached by root 0\n",
                   "first_heap.c": b"mutators go on\nmutators go on\nflipped 1\nsaw 42\n",
+                  # There are 20 words. Each of the 7 objects has 3 bits of its age, and the string has 3 bytes of padding. A vector is the second
+                  # object that the roots reach.
+                  "semispace.c": b"yes 7\nspared 21: how many collections an object has survived\nspared 24: padding behind a byte string\n"
+                                 b"flipped 1280 bits: refused 1235, explained 45, unexplained 0\nyes 7\nrefused 9 FieldDiffers 1 4\n"
+                                 b"  the object 0x#0 (vector, 5 fields) with the replica 0x#1 (vector, 5 fields)\n  field 4\n"
+                                 b"  before 0x#2 (pair, 2 fields)\n  after  0x#2: no object starts there\n  reached by global 0\n",
                   "shared_heap.c": b"".join(b"mutator %d kept 2000 1999 1998\n" % m for m in range(3))}
 
 
-# Runs a program, and ends it with status 99 if it reads what was never written, or loses a block.
-VALGRIND = ["valgrind", "-q", "--error-exitcode=99", "--leak-check=full"]
-
-
-def has_valgrind(what):
-    """Returns whether valgrind is there. If not, a line says so."""
-    if shutil.which("valgrind") is None:
-        skip("%s by valgrind" % what, "it is missing")
-        return False
-    return True
+def printed(words):
+    """Runs an example, and returns its outcome with numbers for the addresses."""
+    found = done(words)
+    return Outcome(addresses_numbered(found.stdout), found.stderr, found.status)
 
 
 def example_programs(_program, folder):
@@ -339,13 +297,40 @@ def example_programs(_program, folder):
         return
     for name in sorted(os.listdir(EXAMPLE_PROGRAMS)):
         path, why = built.build_example(name)
-        yield name, why or difference(done([path]), Outcome(EXAMPLE_OUTPUT[name]))
+        yield name, why or difference(printed([path]), Outcome(EXAMPLE_OUTPUT[name]))
         path, why = built.build_example(name, [])
         if has_valgrind(name):
-            yield "%s by valgrind" % name, why or difference(done([*VALGRIND, path]), Outcome(EXAMPLE_OUTPUT[name]))
+            yield "%s by valgrind" % name, why or difference(printed([*VALGRIND, path]), Outcome(EXAMPLE_OUTPUT[name]))
             if name == "shared_heap.c":
                 races = done(["valgrind", "-q", "--tool=helgrind", "--error-exitcode=99", path])
                 yield "%s by helgrind" % name, why or difference(races, Outcome(EXAMPLE_OUTPUT[name]))
+
+
+LONG_OBJECTS = os.path.join(TOP, "examples", "long_objects")
+
+
+def long_objects(_program, folder):
+    """The tests of examples/long_objects pass, under sanitizers and by valgrind."""
+    built = library(folder)
+    if built is None:
+        return
+    for name in ("chunked", "rope"):
+        source, test = [os.path.join(LONG_OBJECTS, name + end) for end in (".c", "_test.c")]
+        path, why = built.build(["gcc", *SANITIZERS, "-I" + SOURCES], test, [source, *built.archive()])
+        yield "%s with sanitizers" % os.path.basename(test), why or difference(done([path]), Outcome())
+        if has_valgrind(name):
+            path, why = built.build(["gcc", "-I" + SOURCES], test, [source, *built.archive()])
+            yield "%s by valgrind" % os.path.basename(test), why or difference(done([*VALGRIND, path]), Outcome())
+
+
+def pauses(_program, folder):
+    """The pauses of bench/embedding are merged and summed up as by a direct computation."""
+    built = library(folder)
+    if built is None:
+        return
+    if usable(folder, "pauses.c with sanitizers", ["gcc", *SANITIZERS]):
+        path, why = built.build(["gcc", *SANITIZERS, "-Wno-unused-function"], "pauses.c", [])
+        yield "pauses.c", why or difference(done([path]), Outcome())
 
 
 def large_heaps(_program, folder):
@@ -373,8 +358,38 @@ def live_and_far(_program, folder):
     yield "far.c", why or difference(done([path, "2048"]), Outcome(wanted))
 
 
-# The most instructions that a useful step may take on average. A step that looks at each of 272 roots takes at least twice as many.
-MOST_INSTRUCTIONS = 272
+# What docs/EMBEDDING.md tells in its table of limits, in the order of the arguments of limits.c.
+LIMITS = [r"words of a space \| (\d+),", r"mutators \| (\d+)", r"slots \| (\d+) of each mutator", r"slots \| .* and (\d+) that all share", r"extra roots \| (\d+);",
+          r"fields of an object \| (\d+);", r"kinds \| (\d+)", r"numbers \| below 2\^(\d+)", r"bytes of a pair text, of a trace \| (\d+), "]
+# The address space of the page's example in KiB, the words of a heap that begins only a smaller collection, with a standing checker and without, and
+# the words of that collection.
+EXAMPLE = (r"under `ulimit -v (\d+)`, a heap of (\d+) million words opens and cannot begin a collection of its own size, but can begin one of (\d+) million "
+           r"words\. With `GCFLIP_AT_FLIP` a heap of (\d+) million words does the same; with a standing checker it does not open\.")
+
+
+def limits(_program, folder):
+    """Tests the limits of docs/EMBEDDING.md, and its example of little address space."""
+    with open(os.path.join(TOP, "docs", "EMBEDDING.md"), encoding="utf-8") as file:
+        text = file.read()
+    told = [re.search(r"(?m)^\| %s" % pattern, text) for pattern in LIMITS]
+    example = re.search(EXAMPLE, " ".join(text.split()))
+    yield "docs/EMBEDDING.md tells its limits", None if all(told) and example else "not all of them"
+    built = library(folder)
+    if built is None or not all(told) or example is None:
+        return
+    path, why = built.build(["gcc", "-O1"], "limits.c", built.archive())
+    yield "limits.c", why or difference(done([path, *[found.group(1) for found in told]]), Outcome())
+    space, along, smaller, at_flip = [int(number) for number in example.groups()]
+    path, why = built.build(["gcc", "-O1"], "address_space.c", built.archive())
+    only_smaller = b"done\nno memory\nbegun\nflipped\n"
+    for size, checking, wanted in [(along, 0, only_smaller), (at_flip, 1, only_smaller), (at_flip, 0, b"no memory\n"), (smaller, 0, b"done\nbegun\nbegun\nflipped\n")]:
+        words = ["sh", "-c", "ulimit -v %d; exec \"$0\" \"$@\"" % space, path, str(size * 10 ** 6), str(smaller * 10 ** 6), str(checking)]
+        yield "%d million words, checking %d, in little address space" % (size, checking), why or difference(done(words), Outcome(wanted))
+
+
+# The most instructions that a useful step may take on average, two for each of 272 roots. A step that looks at each of them takes at least
+# six times as many.
+MOST_INSTRUCTIONS = 544
 
 
 def instructions(path, steps, folder):
@@ -400,5 +415,5 @@ def work_remembers(_program, folder):
     yield "instructions of a useful step", why_few or why_many or told
 
 
-GROUPS = [example_programs, programs, images, large_heaps, live_and_far, work_remembers, pkg_config, texts, plays, recorded_work, recording_that_ends, root_reads,
-          long_run]
+GROUPS = [example_programs, long_objects, pauses, programs, musl, images, large_heaps, live_and_far, limits, work_remembers, rebuilt, pkg_config, texts, plays, recorded_work, recording_that_ends, root_reads,
+          long_run, short_soak]

@@ -6,7 +6,7 @@ import os
 import re
 import shutil
 
-from .c_library import TOP, WARNINGS, done, library, skip
+from .c_builds import TOP, WARNINGS, done, library, skip
 from .harness import file_of
 
 BINDINGS = os.path.join(TOP, "bindings")
@@ -62,20 +62,37 @@ def symbols(_program, folder):
         yield "a symbol that is missing in the %s is seen" % what, None if why_not_equal(found[1:], names) else "it is not"
 
 
+# The ways in which a program may compile the headers, all together. In C99 a type has one typedef.
+WAYS = [("C99", ["gcc", "-x", "c", "-std=c99"]), ("C11", ["gcc", "-x", "c", "-std=c11"]), ("C++11", ["g++", "-x", "c++", "-std=c++11"])]
+WRONG_TYPE = "uint32_t gcflip_heap_set_nil(gcflip_heap *heap, uint8_t m, uint16_t d);"
+# A call of an adapter with a pointer to another type.
+CALL_WITH = "uint64_t call(%s *given);\nuint64_t call(%s *given) { return gcflip_snapshot_constant(given, 0); }"
+
+
+def installed_headers():
+    """Returns the headers that bindings/c installs."""
+    return re.search(r"(?m)^HEADERS := \$\(addprefix \$\(HERE\),(.*)\)$", read("bindings", "c", "Makefile")).group(1).split()
+
+
+def why_not_compiled(words, folder, headers, lines):
+    """Returns why a compiler refuses these lines behind the headers, or None. In C++ they are C's, so that no declaration overloads another one."""
+    heads = "".join("#include \"%s\"\n" % header for header in headers)
+    text = heads + "#ifdef __cplusplus\nextern \"C\" {\n#endif\n%s\n#ifdef __cplusplus\n}\n#endif\n" % "\n".join(lines)
+    compiled = done([*words, "-pedantic-errors", "-fsyntax-only", *WARNINGS, "-I" + os.path.join(BINDINGS, "c"), file_of(folder, "types", text.encode())])
+    return None if compiled.status == 0 else compiled.stderr.decode()
+
+
 def types(_program, folder):
-    """Declares each symbol of the list again after the headers: C refuses another type."""
-    heads = "".join("#include \"%s\"\n" % header for header in HEADERS)
-    words = ["gcc", "-std=c11", "-fsyntax-only", *WARNINGS, "-I" + os.path.join(BINDINGS, "c")]
-    if not shutil.which("gcc"):
-        skip("c_symbols.types", "no gcc")
-        return
-
-    def refused(text):
-        return done([*words, file_of(folder, "types.c", (heads + text).encode())]).status != 0
-
-    for line in listed():
-        yield "type of %s" % NAME.search(line).group(), "the headers declare another" if refused(line + ";\n") else None
-    yield "another type is refused", None if refused("uint32_t gcflip_heap_set_nil(gcflip_heap *heap, uint8_t m, uint16_t d);\n") else "it is not"
+    """Declares the list again behind the headers, all in one file: a compiler refuses another type."""
+    for name, words in WAYS:
+        if not shutil.which(words[0]):
+            skip("c_symbols.types in %s" % name, "no %s" % words[0])
+            continue
+        yield "types of the list in %s" % name, why_not_compiled(words, folder, HEADERS, [line + ";" for line in listed()])
+        yield "all headers together in %s" % name, why_not_compiled(words, folder, installed_headers(), ["extern FILE *gcflip_trace;"])
+        yield "a snapshot is one in %s" % name, why_not_compiled(words, folder, HEADERS, [CALL_WITH.replace("%s", "gcflip_snapshot")])
+        for what, line in [("another type", WRONG_TYPE), ("what a look writes, for a snapshot,", CALL_WITH.replace("%s", "gcflip_view"))]:
+            yield "%s is refused in %s" % (what, name), None if why_not_compiled(words, folder, HEADERS, [line]) else "it is not"
 
 
 def versions(_program, _folder):
@@ -87,10 +104,24 @@ def versions(_program, _folder):
     yield "the header's number is that of its text", None if number == 10000 * major + 100 * minor + patch else "it is %d" % number
     places = [("crates/gcflip_c/src/version.rt", r"const VERSION: u32 = (\d+);", str(number)),
               ("bindings/python/pyproject.toml", r"(?m)^version = \"(.*)\"", text), ("bindings/rust/Cargo.toml", r"(?m)^version = \"(.*)\"", text),
+              ("crates/gcflip/src/task.rt", r"\.about\(\"gcflip ([\d.]+):", text), ("bindings/rust/Cargo.lock", r"name = \"gcflip\"\nversion = \"(.*)\"", text),
               ("bindings/python/gcflip/library.py", r"(?m)^VERSION = (\d+)", str(number)), ("CHANGELOG.md", r"(?m)^## (\d+\.\d+\.\d+)", text)]
     for path, pattern, wanted in places:
         found = re.search(pattern, read(*path.split("/")))
         yield "version in %s" % path, None if found and found.group(1) == wanted else "it is %s, wanted %s" % (found and found.group(1), wanted)
+    dates = re.findall(r"(?m)^### (.*)$", read("CHANGELOG.md"))
+    dated = all(re.fullmatch(r"\d{4}-\d\d-\d\d", date) for date in dates)
+    yield "the sections of CHANGELOG.md have dates, newest first", None if dates and dated and dates == sorted(set(dates), reverse=True) else "they have %s" % dates
 
 
-GROUPS = [symbols, types, versions]
+def answers(_program, _folder):
+    """Compares the numbers that calls return, which gcflip_answers.h lists, with the rows of tests/c/answers.c and with Python's."""
+    listed_in_c = read("bindings", "c", "gcflip_answers.h").partition("enum gcflip_answer {")[2].partition("};")[0]
+    numbers = re.findall(r"(?m)^    GCFLIP_(\w+ = \d+)", listed_in_c)
+    rows = re.findall(r"(?m)^    \{GCFLIP_(\w+), (\d+), ", read("tests", "c", "answers.c"))
+    yield "answers that tests/c/answers.c names", why_not_equal(["%s = %s" % row for row in rows] + ["YES = 0"], numbers)
+    python = read("bindings", "python", "gcflip", "library.py").partition("class Answer(enum.IntEnum):")[2].partition("\n\n\n")[0]
+    yield "answers of Python", why_not_equal(re.findall(r"(?m)^    (\w+ = \d+)$", python), numbers)
+
+
+GROUPS = [symbols, types, answers, versions]

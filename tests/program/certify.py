@@ -3,7 +3,7 @@ import glob
 import os
 import re
 
-from .c_library import SANITIZERS, TOP, VALGRIND, WARNINGS, done, has_valgrind, library, usable
+from .c_builds import SANITIZERS, TOP, VALGRIND, WARNINGS, done, has_valgrind, library, usable
 from .harness import Outcome, difference, run
 from .pairs import status_of
 

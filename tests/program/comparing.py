@@ -5,7 +5,7 @@ Verdicts and places follow from docs/FORMATS.md; none was taken from a run.
 import os
 import sys
 
-from .c_library import TOP, done, library
+from .c_builds import TOP, done, library
 from .harness import file_of
 from .pairs import text_of
 

@@ -7,11 +7,13 @@ import resource
 import shutil
 import subprocess
 import sys
+import tarfile
 import tempfile
 import time
 
-from .c_library import TOP, done, library
+from .c_builds import TOP, done, library
 from .harness import Skipped
+from prover.axioms import PRODUCTS, kept
 
 TOOL = os.path.join(TOP, "tools", "dist")
 # A user waits at most so long for the first run from a package.
@@ -45,6 +47,12 @@ def only(folder, ending):
     return found
 
 
+def version():
+    """Returns the version, as the header says it."""
+    with open(os.path.join(TOP, "bindings", "c", "gcflip_answers.h"), encoding="utf-8") as file:
+        return re.search(r"#define GCFLIP_VERSION_TEXT \"([\d.]+)\"", file.read()).group(1)
+
+
 def within(limit, began, why):
     """Returns why a first run is wrong, or that it took too long."""
     took = time.monotonic() - began
@@ -76,6 +84,14 @@ def release(program, folder):
         sums = dict(line.split()[::-1] for line in file)
     found = {name: hashlib.sha256(open(os.path.join(out, name), "rb").read()).hexdigest() for name in os.listdir(out) if name != "SHA256SUMS"}
     yield "checksums", None if sums == found and len(found) == 4 else "they are %s" % found
+    with tarfile.open(only(out, ".tar.gz")) as tar:
+        trust = tar.extractfile("herbpond-%s-linux-x86_64/share/doc/herbpond/TRUST.md" % version()).read().decode()
+    for product in PRODUCTS:
+        verdict = trust.partition("## %s\n" % product)[2].partition("\n## ")[0]
+        if os.path.exists(kept(product)):
+            yield "the verdict of %s in TRUST.md" % product, None if "logic=proved " in verdict and "axioms=" in verdict else "it is %r" % verdict
+        else:
+            yield "the verdict of %s in TRUST.md" % product, Skipped("no verdict was kept: 'make dist' and CI keep it")
     again, _ = packed(program, folder, "again")
     differ = [name for name in found if open(os.path.join(out, name), "rb").read() != open(os.path.join(again, name), "rb").read()]
     yield "packed again, the bytes are the same", None if not differ else ", ".join(differ)
@@ -201,6 +217,44 @@ def crate(program, folder):
     yield "Rust's example", within(3 * SECONDS, began, why)
 
 
+COMPLETE_IN_BASH = """source %s
+COMP_WORDS=("$@"); COMP_CWORD=$(( $# - 1 )); _gcflip; printf '%%s\\n' "${COMPREPLY[@]}"
+"""
+
+
+def completions(program, folder):
+    """Completes words in the shells that are there. The commands are those of the program's help."""
+    place = os.path.join(TOP, "tools", "distribution")
+    helped = done([program, "--help"]).stdout.decode()
+    commands = sorted(re.findall(r"(?m)^  (\w+) +[A-Z]", helped.partition("Commands:")[2].partition("Options:")[0]))
+    yield "the help names the commands", None if len(commands) == 6 else "they are %s" % commands
+    for name in ("a file.trace", "another.trace"):
+        open(os.path.join(folder, name), "w").close()
+    script = os.path.join(folder, "complete")
+    with open(script, "w", encoding="ascii") as file:
+        file.write(COMPLETE_IN_BASH % os.path.join(place, "gcflip.bash"))
+    inner = [name for name in commands if name != "help"]
+    cases = [([""], sorted([*commands, "--help"])), (["p"], ["pair", "play"]), (["help", ""], inner), (["play", "a"], ["a file.trace", "another.trace"]),
+             (["check", "--"], ["--help"]), (["pair", "a", ""], [""]), (["nothing", ""], [""])]
+    for words, wanted in cases:
+        found = sorted(done(["bash", script, "gcflip", *words], cwd=folder).stdout.decode().rstrip("\n").split("\n"))
+        yield "bash completes %s" % words, None if found == wanted else "it gives %s" % found
+    with open(os.path.join(place, "_gcflip"), encoding="ascii") as file:
+        named = sorted(re.findall(r"(?m)^        '(\w+):", file.read()))
+    yield "zsh completes the commands", None if named == commands else "it has %s" % named
+    if shutil.which("zsh"):
+        yield "zsh reads its file", None if done(["zsh", "-n", os.path.join(place, "_gcflip")]).status == 0 else "it does not"
+    else:
+        yield "zsh reads its file", Skipped("there is no zsh on the path")
+    if not shutil.which("fish"):
+        yield "fish completes", Skipped("there is no fish on the path")
+        return
+    for words, wanted in [("", commands), ("p", ["pair", "play"]), ("help ", inner), ("play a", ["a file.trace", "another.trace"])]:
+        line = "source %s; complete -C'gcflip %s'" % (os.path.join(place, "gcflip.fish"), words)
+        found = sorted(word.partition("\t")[0] for word in done(["fish", "--no-config", "-c", line], cwd=folder).stdout.decode().rstrip("\n").split("\n"))
+        yield "fish completes %r" % words, None if found == wanted else "it gives %s" % found
+
+
 def versions(_program, _folder):
     """Checks that the templates of a release have no version of their own."""
     folder = os.path.join(TOP, "tools", "distribution")
@@ -210,4 +264,4 @@ def versions(_program, _folder):
         yield "the version in %s" % name, None if "@VERSION@" in text and not re.search(r"\d+\.\d+\.\d+", text) else "it is written there"
 
 
-GROUPS = [release, archive, wheel, deb, crate, versions]
+GROUPS = [release, archive, wheel, deb, crate, completions, versions]

@@ -11,8 +11,8 @@ from prover.axioms import PRODUCTS, counts_in, lines_to_keep, row_of, verdict_of
 from prover.crates import CRATES, TOP, crates_listed
 from prover.edits import BadEdit, Edit, edits_of
 
-from .c_library import library
-from .harness import Skipped
+from .c_builds import library
+from .harness import Skipped, addresses_numbered
 
 SOURCES = (".rt", ".antt", ".edit", ".py", ".c", ".txt")
 WORD = re.compile(r"[A-Za-z_]\w{3,}")
@@ -114,6 +114,7 @@ STUMBLED_OVER = {
     "proved of the code": "proved for",
     "trust a flip by the checker's theorem alone": "so that trusting a flip requires only the checker's theorem",
     "contract whose conditions no call can meet": "every contract can be met by some call",
+    "no object outside these pairs": "no further pair",
 }
 
 
@@ -178,16 +179,128 @@ def add_contracts(text, found):
             clauses.add(clause.group(1) or "ensures")
 
 
+# ---- calls that can run out of memory
+
+HEAP_CALL = re.compile(r"\bgcflip_heap_(\w+)\(")
+# The sentences that list the calls on a heap which can run out of memory, behind the checker's, and those which can while a collection is open.
+TOLD = {"bindings/c/gcflip_heap.h": r"- only (.*?) can return GCFLIP_NO_MEMORY, and, while a collection is open, (.*?)\.",
+        "docs/EMBEDDING.md": r"can run out of memory: both checks, `infer`, `path`, (.*?), and, while a collection is open, (.*?)\."}
+
+
+def told_in(text, pattern):
+    """Returns the names of both lists of a sentence."""
+    found = re.search(pattern, " ".join(re.sub(r"(?m)^ \*", "", text).split()))
+    return tuple(set(re.findall(r"\w+", row)) - {"and"} for row in found.groups()) if found else None
+
+
+def refused_in(text):
+    """Returns the calls that a program refuses memory in any state, those that it refuses memory only while a collection is open, and those that it
+    makes where no allocation can succeed."""
+    functions = {name: HEAP_CALL.findall(body)[0] for name, body in re.findall(r"(?ms)^static uint32_t (\w+)\(void\)\s*\{(.*?)\}$", text)}
+    tried = re.findall(r"failures\((\w+), (\w+)\) == ([\w +]+)\)", text)
+    only_open = {functions[name] for _, name, count in tried if count == "0"}
+    rest = "".join(re.findall(r"(?ms)^static void (?:draw|move_roots|read_all|calls_that_do_not_allocate|free_all)\(.*?^\}$", text))
+    always = {functions[name] for _, name, _ in tried} | {"open"}
+    return always - only_open, only_open, set(HEAP_CALL.findall(rest)) - always
+
+
+def memory_answers(_program, _folder):
+    """Compares the lists of calls that can run out of memory with the calls that tests/c/refused_heap.c makes run out of it, and requires that this
+    program makes each other call where no allocation can succeed."""
+    always, only_open, never = refused_in(text_of("tests/c/refused_heap.c"))
+    for path, pattern in TOLD.items():
+        told = told_in(text_of(path), pattern)
+        yield "calls that can run out of memory, in %s" % path, None if told == (always, only_open) else "told %s, tried %s" % (told, (always, only_open))
+    known = set(HEAP_CALL.findall(text_of("bindings/c/symbols.txt")))
+    yield "calls that cannot", None if never == known - always - only_open else "tried %s, wanted %s" % (sorted(never), sorted(known - always - only_open))
+
+
+# ---- names of the bindings
+
+NAMES_BEGIN = "| C, after `gcflip_heap_` | Rust | Python |"
+# Public methods that stand for no call of C alone.
+OF_THEIR_OWN = {"Rust": {"mutator", "collect"}, "Python": {"mutator"}}
+
+
+def names_in_cell(cell, of_c):
+    """Returns the names in a cell, without the type before a name and the arguments behind it; those of C if the cell says 'the same'. A class is
+    no name of a call."""
+    names_there = [re.sub(r"^\w+::|\(.*", "", name) for name in re.findall(r"`([^`]+)`", cell)]
+    return of_c if cell.strip() == "the same" else {name for name in names_there if name[0].islower()}
+
+
+def table_of_names():
+    """Returns the names of C, of Rust and of Python in the table of docs/EMBEDDING.md."""
+    told = {"C": set(), "Rust": set(), "Python": set()}
+    for line in text_of("docs/EMBEDDING.md").partition(NAMES_BEGIN)[2].partition("\n\n")[0].split("\n")[2:]:
+        cells = line.strip("|").split(" | ")
+        of_c = names_in_cell(cells[0], set())
+        for language, cell in zip(told, cells):
+            told[language] |= names_in_cell(cell, of_c)
+    return told
+
+
+# What calls on a heap for C were named before they said what they do, and the documents that speak of these calls. Their tables may have these
+# words for other things.
+OLD_NAMES = {"new", "raw", "cons", "num", "nil", "begin", "begin_sized", "roots", "scan", "apply", "flip", "drop"}
+SPEAK_OF_C = ["docs/EMBEDDING.md", "docs/CERTIFY.md", "bench/embedding/README.md", "examples/certify/README.md", "examples/lisp/README.md",
+              "examples/long_objects/README.md"]
+
+
+def old_names(_program, _folder):
+    """Checks that documents name the calls for C by the names that they have."""
+    for document in SPEAK_OF_C:
+        lines = [(number, line) for number, line in enumerate(text_of(document).split("\n"), 1) if not line.startswith("|")]
+        found = ["%s (line %d)" % (name, number) for number, line in lines for name in re.findall(r"`(\w+)`", line) if name in OLD_NAMES]
+        yield "names of C's calls in %s" % document, ", ".join(found) or None
+
+
+def members(path, pattern, member):
+    """Returns the members of the blocks in a file that the pattern finds."""
+    return {name for block in re.findall(pattern, text_of(path)) for name in re.findall(member, block)}
+
+
+def names_of_calls(_program, _folder):
+    """Compares the table of names with the symbols of C and the public methods of Rust and Python. No name is both a step's and an error's."""
+    rust, python, errors = "bindings/rust/src/heap.rs", "bindings/python/gcflip/heap.py", "bindings/python/gcflip/errors.py"
+    found = {"C": {name.replace("gcflip_heap_", "") for name in re.findall(r"gcflip_(?:heap_\w+|pace_due)(?=\()", text_of("bindings/c/symbols.txt"))},
+             "Rust": members(rust, r"(?ms)^impl (?:Heap|Mutator<'_>) \{(.*?)^\}", r"(?m)^    pub fn (\w+)"),
+             "Python": members(python, r"(?ms)^class (?:Heap|Mutator):\n(.*?)(?=^\S|\Z)", r"(?m)^    def ([a-z]\w*)")}
+    for language, told in table_of_names().items():
+        wanted = found[language] - OF_THEIR_OWN.get(language, set())
+        yield "names of %s" % language, None if told == wanted else "beyond the calls: %s; missing: %s" % (sorted(told - wanted), sorted(wanted - told))
+    steps = {"Rust": members(rust, r"(?ms)^pub enum Step \{(.*?)^\}", r"(?m)^    (\w+)"),
+             "Python": {name.title().replace("_", "") for name in members(python, r"(?ms)^class Step\(enum.Enum\):\n(.*?)(?=^\S)", r"(?m)^    ([A-Z_]+) = ")}}
+    refused = {"Rust": members(rust, r"(?ms)^pub enum Error \{(.*?)^\}", r"(?m)^    (\w+)"), "Python": set(re.findall(r"(?m)^class (\w+)", text_of(errors)))}
+    for language, named in steps.items():
+        both = named & refused[language]
+        yield "steps and errors of %s" % language, None if named and refused[language] and not both else "both: %s" % sorted(both)
+
+
 # ---- edits
 
 # A function and its clauses, as the rows of docs/TESTING.md name them.
 CLAUSES_OF = re.compile(r"((?:`[\w:]+`(?: and )?)+), clauses? ((?:`\w+`(?:, | and )?)+)")
 
 
-def undated(line):
-    """Returns whether a row says when it was last seen: by CI if it names an edit, else by hand."""
+def edits_in(line):
+    """Yields the edits that a row of docs/TESTING.md names, and the crates that it names for them."""
+    for quoted, listed in re.findall(r"edits? ((?:`\w+`(?:, )?)+) \(([\w, ]+)\)", line):
+        yield re.findall(r"`(\w+)`", quoted), listed.split(", ")
+
+
+def found_in(edits, crates_named):
+    """Returns the pairs of a crate and an edit of these names that exist."""
+    return {(crate, edit) for crate in crates_named for edit in edits if edit + ".edit" in edits_of(crate)}
+
+
+def undated(line, in_ci):
+    """Returns whether a row does not say when it was last seen: by CI if CI tries all its edits, by long runs if not, and by hand if it names none."""
     last = line.rstrip(" |").split(" | ")[-1]
-    return not (last == "each run of CI" if re.search(r"\bedits? `", line) else re.fullmatch(r"by hand, \d{4}-\d\d-\d\d(?:, .*)?", last))
+    named = {pair for edits, crates_named in edits_in(line) for pair in found_in(edits, crates_named)}
+    if not named:
+        return not re.fullmatch(r"by hand, \d{4}-\d\d-\d\d(?:, .*)?", last)
+    return last != ("each run of CI" if named <= in_ci else "long runs")
 
 
 def unrefused(line, found):
@@ -207,10 +320,8 @@ def unrefused(line, found):
 def unknown_edits(line):
     """Yields the edits and the clauses that a row of docs/TESTING.md names and that do not exist."""
     named = set()
-    for quoted, listed in re.findall(r"edits? ((?:`\w+`(?:, )?)+) \(([\w, ]+)\)", line):
-        crates_named, edits = listed.split(", "), re.findall(r"`(\w+)`", quoted)
-        found = {(crate, edit) for crate in crates_named for edit in edits
-                 if edit + ".edit" in edits_of(crate)}
+    for edits, crates_named in edits_in(line):
+        found = found_in(edits, crates_named)
         yield from ["edit %s" % edit for edit in edits if edit not in {name for _, name in found}]
         yield from ["an edit of %s" % crate for crate in crates_named if crate not in {name for name, _ in found}]
         named |= found
@@ -278,8 +389,48 @@ def edits(_program, _folder):
     unknown = [name for line in text_of("docs/TESTING.md").split("\n") for name in unknown_edits(line)]
     yield "edits of docs/TESTING.md", ", ".join(unknown) or None
     rows = text_of("docs/TESTING.md").partition("## Which goal or test refuses")[2].split("\n")
-    wrong = [line[:60] for line in rows if line.startswith("| ") and not line.startswith("| wrong body |") and undated(line)]
+    in_ci = {tuple(word.split("/")) for word in text_of("tests/edits_in_ci.txt").split()}
+    wrong = [line[:60] for line in rows if line.startswith("| ") and not line.startswith("| wrong body |") and undated(line, in_ci)]
     yield "dates of docs/TESTING.md", ", ".join(wrong) or None
+
+
+# CI tries at least so many edits of a crate, or all if it has fewer.
+LEAST_IN_CI = 4
+
+
+def wrong_in_ci(words, edits_by_crate):
+    """Yields what is wrong with the list of the edits that CI tries, given the edits of each crate."""
+    yield from ["there is no edit %s" % word for word in words if word.partition("/")[2] not in edits_by_crate.get(word.partition("/")[0], [])]
+    yield from ["%s does not stand in order, or twice" % word for before, word in zip(words, words[1:]) if before >= word]
+    for crate, names in sorted(edits_by_crate.items()):
+        listed = sum(word.startswith(crate + "/") for word in words)
+        if listed < min(LEAST_IN_CI, len(names)):
+            yield "%d of the %d edits of %s" % (listed, len(names), crate)
+
+
+# Lists of a crate with the edits a, b, c, d and e, and what is wrong with each.
+LISTS = [("a b c d", []), ("a b c e", []), ("a b c", ["3 of the 5 edits of gc_one"]), ("a c b d", ["gc_one/b does not stand in order, or twice"]),
+         ("a b c c d", ["gc_one/c does not stand in order, or twice"]), ("a b c d f", ["there is no edit gc_one/f"])]
+
+
+def edits_in_ci(_program, _folder):
+    """Checks the list of the edits that CI tries: each exists, and each crate has some."""
+    words = text_of("tests/edits_in_ci.txt").split()
+    of_crates = {crate: [name[:-len(".edit")] for name in edits_of(crate)] for crate in crates_listed() if edits_of(crate)}
+    yield "tests/edits_in_ci.txt", ", ".join(wrong_in_ci(words, of_crates)) or None
+    for names, wanted in LISTS:
+        found = list(wrong_in_ci(["gc_one/" + name for name in names.split()], {"gc_one": list("abcde")}))
+        yield "the list %s" % names, None if found == wanted else "found %s" % found
+
+
+def crates_tried(_program, _folder):
+    """Checks that the crates that CI runs without a proof have tests alone, so that no other code goes unproved."""
+    for crate in text_of("tests/crates_tried.txt").split():
+        folder = os.path.join("crates", crate)
+        others = [os.path.relpath(path, os.path.join(TOP, folder)) for path in glob.glob(os.path.join(TOP, folder, "src", "**", "*.rt"), recursive=True)]
+        others = sorted(path for path in others if not path.startswith("src/tests") and re.search(r"\bfn\b", text_of(os.path.join(folder, path))))
+        is_behind_tests = re.search(r"#\[cfg\(test\)\]\nmod tests;", text_of(os.path.join(folder, "src", "lib.rt")))
+        yield "code of %s" % crate, ", ".join(others) or None if is_behind_tests else "its module of tests is in every build"
 
 
 # ---- quoted code
@@ -309,8 +460,13 @@ def names_in_c(_program, _folder):
             yield "C of %s" % document, ", ".join(sorted(used - known)) or None
 
 
-# Variables that calls write to, declared without a value.
+# Variables that calls write to, declared without a value. A member of a struct has none.
 UNINITIALIZED = re.compile(r"(?m)^ *(?:gcflip_(?:verdict|view|work|counts|log_entry)) \w+;")
+STRUCT = re.compile(r"struct \w* *\{[^{}]*\}")
+
+
+def uninitialized(text):
+    return UNINITIALIZED.findall(STRUCT.sub("", text))
 
 
 def outputs_in_c(_program, _folder):
@@ -322,27 +478,84 @@ def outputs_in_c(_program, _folder):
         for path in sorted(glob.glob(os.path.join(TOP, pattern), recursive=True)):
             with open(path, encoding="utf-8") as file:
                 shown.append((os.path.relpath(path, TOP), file.read()))
-    found = ["%s: %s" % (path, line.strip()) for path, text in shown for line in UNINITIALIZED.findall(text)]
+    found = ["%s: %s" % (path, line.strip()) for path, text in shown for line in uninitialized(text)]
     yield "structs of C are initialized", ", ".join(found) or None
-    yield "a struct without a value is found", None if UNINITIALIZED.search("    gcflip_view view;\n") else "it is not"
+    yield "a struct without a value is found", None if uninitialized("struct a {\n    int b;\n};\n    gcflip_view view;\n") else "it is not"
+    yield "a member of a struct has no value", "one is found" if uninitialized("struct a {\n    gcflip_view view;\n};\n") else None
+
+
+def compiling_line(document):
+    """Returns the line of a document that compiles and starts an example of C, and the path of the example. Both are None if there is no line."""
+    found = re.search(r"(?m)^    (cc .*(bindings/c/examples/\w+\.c).*) && (\./\w+)$", text_of(document))
+    return (found.group(0).strip(), found.group(2)) if found else (None, None)
+
+
+def run_of_c(document, folder):
+    """Runs the document's line that compiles and starts a program, with the library as it is now, and compares what it prints with the only block
+    of text. Addresses of the machine may differ."""
+    line, _ = compiling_line(document)
+    built = library(folder) if line else None
+    if built is None:
+        return Skipped("there is no library") if line else "there is no line that compiles a program"
+    line = line.replace("bindings/c/out/libgcflip.a", built.archive()[0]).replace("bindings/c", os.path.join(TOP, "bindings", "c"))
+    ran = subprocess.run(["bash", "-c", line], cwd=folder, stdout=subprocess.PIPE, stderr=subprocess.STDOUT)
+    shown = ["\n".join(block) + "\n" for block in blocks(document, "text")]
+    same = [addresses_numbered(ran.stdout)] == [addresses_numbered(text.encode()) for text in shown]
+    return None if same and ran.returncode == 0 else "status %d, printed %r, but %r is shown" % (ran.returncode, ran.stdout, shown)
 
 
 def c_of_readme(_program, folder):
-    """Runs README's line that compiles and starts a program, with the library as it is now, and compares what it prints with the block of text
-    behind the line. The line compiles the program whose code README shows."""
-    found = re.search(r"(?m)^    (cc .*) && (\./\w+)$", text_of("README.md"))
-    built = library(folder) if found else None
-    if built is None:
-        yield "C of README.md runs", Skipped("there is no library") if found else "README has no line that compiles a program"
-        return
-    line = found.group(0).replace("bindings/c/out/libgcflip.a", built.archive()[0]).replace("bindings/c", os.path.join(TOP, "bindings", "c"))
-    ran = subprocess.run(["bash", "-c", line.strip()], cwd=folder, stdout=subprocess.PIPE, stderr=subprocess.STDOUT)
-    shown = ["\n".join(block) + "\n" for block in blocks("README.md", "text")]
-    yield "C of README.md runs", None if [ran.stdout.decode("utf-8", "replace")] == shown else "printed %r, but %r is shown" % (ran.stdout, shown)
-    source = re.search(r"bindings/c/examples/\w+\.c", found.group(1)).group(0)
-    code = " ".join(text_of(source).split())
+    """Runs README's line that compiles and starts a program, and compares what it prints with the block of text behind the line. The line
+    compiles the program whose code README shows."""
+    yield "C of README.md runs", run_of_c("README.md", folder)
+    source = compiling_line("README.md")[1]
+    code = " ".join(text_of(source).split()) if source else ""
     missing = [piece[:60] for block in blocks("README.md", "c") for piece in pieces(block) if piece not in code]
     yield "C of README.md is in %s" % source, ", ".join(missing) or None
+
+
+# The page with a whole adapter, the lines of its file between which the adapter is, and the most lines that it may have.
+CERTIFY, ADAPTER_BEGINS, ADAPTER_ENDS, MOST_ADAPTER_LINES = "docs/CERTIFY.md", "/* ---- The adapter. */", "/* ---- The program. */", 150
+
+
+def places_in(block, lines):
+    """Returns the places at which the block is a run of these lines."""
+    return [at for at in range(len(lines) - len(block) + 1) if lines[at:at + len(block)] == block]
+
+
+def wrong_in_adapter(shown, lines):
+    """Yields what is wrong with blocks of C that show an adapter line for line: a block that is in the file at no place or at several, and the first
+    line of the adapter that the blocks do not show in order."""
+    begin, end = lines.index(ADAPTER_BEGINS), lines.index(ADAPTER_ENDS)
+    found = []
+    for block in shown:
+        places = places_in(block, lines)
+        if len(places) != 1:
+            yield "a block is at %d places of the file: %s" % (len(places), block[0])
+        elif begin < places[0] < end:
+            found += [line for line in block if line]
+    wanted = [line for line in lines[begin + 1:end] if line]
+    if found != wanted:
+        differing = next((line for line, other in zip(wanted, found) if line != other), wanted[len(found)] if len(found) < len(wanted) else "")
+        yield "the blocks do not show the adapter in order, from: %s" % differing
+
+
+def adapter_shown(_program, folder):
+    """Checks that docs/CERTIFY.md shows its adapter line for line, says how many lines it has, and shows what it prints."""
+    shown, source = blocks(CERTIFY, "c"), compiling_line(CERTIFY)[1]
+    if source is None:
+        yield "the adapter of %s" % CERTIFY, "there is no line that compiles it"
+        return
+    lines = text_of(source).split("\n")
+    yield "the adapter of %s" % CERTIFY, "; ".join(wrong_in_adapter(shown, lines)) or None
+    count = lines.index(ADAPTER_ENDS) - lines.index(ADAPTER_BEGINS) - 3 # an empty line is on either side
+    said = re.search(r"all (\d+) lines of the adapter", " ".join(text_of(CERTIFY).split()))
+    yield "lines of the adapter", None if said and int(said.group(1)) == count <= MOST_ADAPTER_LINES else "they are %d" % count
+    begun = next(number for number, block in enumerate(shown) if places_in(block, lines)[:1] > [lines.index(ADAPTER_BEGINS)])
+    changed = [block[:-1] + [block[-1] + " "] if number == begun else block for number, block in enumerate(shown)]
+    for what, other in [("changed", changed), ("left out", shown[:begun] + shown[begun + 1:]), ("in another order", shown[:begun] + shown[:begun - 1:-1])]:
+        yield "a block that is %s is found" % what, None if list(wrong_in_adapter(other, lines)) else "it is not"
+    yield "the adapter of %s runs" % CERTIFY, run_of_c(CERTIFY, folder)
 
 
 # What README's first screen has, in this order, and how many lines it is.
@@ -434,6 +647,70 @@ def counts(_program, _folder):
         yield "lines of %s" % (name or "all definitions"), None if found and found.group(1) == wanted else "they are %s" % wanted
 
 
+# ---- the map of docs/ARCHITECTURE.md, and what documents say twice
+
+# Files of definitions that are no notion of their own: lists of imports, examples, what structs of the code mean, the texts of faults.
+NO_NOTION = re.compile(r"(?:Lib|Internal|Views|FaultTexts|\w*Rows)$")
+
+
+def rows_behind(document, heading):
+    """Returns the cells of each row of the first table behind a heading of a document."""
+    table = re.search(r"(?m)^\|.*\n\|---.*\n((?:\|.*\n)+)", text_of(document).partition(heading)[2]).group(1)
+    return [line.strip("|").split(" | ") for line in table.split("\n") if line]
+
+
+def specs_named(cells):
+    """Returns the files of definitions that these cells name: `crate/specs/Name`, and each `Name` behind it."""
+    found, crate = set(), None
+    for name in re.findall(r"`([\w/.]+)`", " ".join(cells)):
+        crate = name.split("/")[0] if "/specs/" in name else crate
+        found.add(name if "/" in name else "%s/specs/%s" % (crate, name))
+    return found
+
+
+def architecture(_program, _folder):
+    """Checks that docs/ARCHITECTURE.md has a job for each crate and a row for each file of public definitions, and that it and the README of
+    gcflip_heap_c tell the number of functions with raw pointers."""
+    jobs = {cells[0].strip(): cells[1:] for cells in rows_behind("docs/ARCHITECTURE.md", "# Architecture")}
+    wrong = [crate for crate in crates_listed() if not (len(jobs.get(crate, [])) == 1 and re.search(r"[a-z]{2}", jobs[crate][0]))]
+    yield "jobs of crates", ", ".join(wrong) or None
+    named = set().union(*[specs_named(cells[1:2]) for cells in rows_behind("docs/ARCHITECTURE.md", "## Where each notion is defined")])
+    meanings = {part for cells in rows_behind("docs/ARCHITECTURE.md", "## Representations") for part in re.findall(r"`(\w+)\.\w+`", cells[2])}
+    specs = [os.path.relpath(path, CRATES)[:-len(".antt")] for path in glob.glob(os.path.join(CRATES, "*", "specs", "*.antt"))]
+    missing = [path for path in sorted(specs) if not NO_NOTION.search(path) and path not in named and path.split("/")[-1] not in meanings]
+    yield "files of public definitions", ", ".join(missing) or None
+    sources_of = [text_of(os.path.join("crates", "gcflip_heap_c", "src", name)) for name in ("handle.rt", "parts.rt")]
+    bodies = [body for text in sources_of for body in re.split(r"\bfn \w+", text)[1:]]
+    count = ["no", "one", "two", "three", "four", "five", "six", "seven", "eight", "nine"][len([body for body in bodies if re.search(r"\bat\b", body)])]
+    for document in ("docs/ARCHITECTURE.md", "crates/gcflip_heap_c/README.md"):
+        yield "functions with raw pointers in %s" % document, None if "%s functions" % count in text_of(document) else "they are %s" % count
+
+
+# Words that the documents use in one sense, beside those that README and docs/EMBEDDING.md introduce.
+IN_ONE_SENSE = {"extra root", "frame", "pace", "standing checker", "snapshot"}
+
+
+def glossary(_program, _folder):
+    """Checks that docs/GLOSSARY.md has each word that README and docs/EMBEDDING.md introduce, and others."""
+    known = {word.strip() for cells in rows_behind("docs/GLOSSARY.md", "# Glossary") for word in re.sub(r"\(.*?\)", "", cells[0]).split(",")}
+    words_in = {word for document in ("README.md", "docs/EMBEDDING.md") for word in re.findall(r"(?<![*\w])\*([a-z][a-z ]+)\*(?!\*)", text_of(document))}
+    missing = [word for word in sorted(words_in) if not {word, word.rstrip("s"), word.split(" ")[-1]} & known]
+    yield "words of docs/GLOSSARY.md", ", ".join(missing + sorted(IN_ONE_SENSE - known)) or None
+
+
+def told_again(_program, _folder):
+    """Compares numbers that documents tell again with the tables that they come from. No document quotes a verdict's count of functions."""
+    ratios = [cells[3].strip() for cells in rows_behind("bench/README.md", "## Pairs that are inferred")]
+    told = "takes %s to %s times as long" % (min(ratios), max(ratios))
+    yield "inferred pairs in examples/certify/README.md", None if told in text_of("examples/certify/README.md") else "it does not say that a check %s" % told
+    rows = dict(line.split()[:2] for line in text_of("bench/embedding/commands.txt").split("\n") if line.startswith("get_"))
+    told = "a `get` takes %s to %s" % (rows["get_object"], rows["get_number"])
+    for document in ("docs/DECISIONS.md", "bench/embedding/README.md"):
+        yield "instructions of a get in %s" % document, None if told in text_of(document).replace("A `get`", "a `get`") else "it does not say that %s" % told
+    quoted = [document for document in documents() if re.search(r"functions=\d", text_of(document))]
+    yield "counts of functions", ", ".join(quoted) or None
+
+
 # ---- axioms
 
 # What a prover prints of a program: its tests' verdict comes first.
@@ -478,4 +755,4 @@ def applied_edits(_program, _folder):
             yield "edit %s/%s" % (crate, name), why_not_applied(crate, name)
 
 
-GROUPS = [names, words, files, edits, hand_tried, applied_edits, quotes, names_in_c, outputs_in_c, c_of_readme, first_screen, commands, commands_of_tables, definitions, counts, axioms]
+GROUPS = [names, words, files, memory_answers, names_of_calls, old_names, edits, edits_in_ci, crates_tried, hand_tried, applied_edits, quotes, names_in_c, outputs_in_c, c_of_readme, adapter_shown, first_screen, commands, commands_of_tables, definitions, counts, architecture, glossary, told_again, axioms]

@@ -9,7 +9,8 @@ import sys
 import xml.etree.ElementTree as ElementTree
 
 from . import pairs
-from .c_library import library
+from .c_builds import library
+from .documents import documents
 from .harness import Skipped, file_of, run
 from .traces import PLAYED, refused_texts, trace_and_replies
 
@@ -21,11 +22,13 @@ sys.path[:0] = [os.path.join(TOP, "tools"), os.path.join(TOP, "bindings", "pytho
 from drawing import crates_picture, svg  # noqa: E402
 from drawing.machine import Machine  # noqa: E402
 from gcflip_drawing import pair_picture, timeline  # noqa: E402
+from gcflip_drawing.excerpt import excerpt_of  # noqa: E402
 from gcflip_drawing.graph_picture import drawn_as_graph  # noqa: E402
 from gcflip_drawing.pair_text import read_pair, written  # noqa: E402
-from gcflip_drawing.picture import text_width  # noqa: E402
+from gcflip_drawing.picture import Picture, text_width  # noqa: E402
 from gcflip_drawing.trace_text import BadTrace, read_trace  # noqa: E402
 from gcflip_drawing.verdicts import MEANINGS, Verdict  # noqa: E402
+from gcflip_drawing.words_picture import drawn_word_by_word, grid_of  # noqa: E402
 
 
 def draw(*words, shared="no library", path=None):
@@ -49,10 +52,18 @@ def shapes_of(picture, role):
     return [shape for shape in picture.shapes if shape["role"] == role]
 
 
+def curve_of(arrow):
+    """Returns points of the curve of an arrow, which is drawn towards its second point."""
+    start, bend, end = arrow["points"]
+    return [tuple((1 - t) ** 2 * a + 2 * t * (1 - t) * b + t * t * c for a, b, c in zip(start, bend, end)) for t in [part / 64 for part in range(65)]]
+
+
 def corners(shape):
     """Returns the points of a shape that have to be inside the frame."""
     if shape["kind"] == "box":
         return [(shape["x"], shape["y"]), (shape["x"] + shape["width"], shape["y"] + shape["height"])]
+    if shape["kind"] == "arrow":
+        return curve_of(shape)
     if shape["kind"] != "text":
         return shape["points"]
     x, y, width = shape["x"], shape["y"], text_width(shape["text"], shape["role"])
@@ -77,6 +88,13 @@ def too_wide(picture):
         if shape["kind"] == "box" and shape["text"] and text_width(shape["text"], "value") > shape["width"] + 1:
             return shape
     return None
+
+
+def overlapping(picture):
+    """Returns two texts on one line that overlap, or None."""
+    texts = [shape for shape in picture.shapes if shape["kind"] == "text" and not shape["turned"]]
+    spans = sorted((shape["y"], min(x for x, _ in corners(shape)), max(x for x, _ in corners(shape)), shape["text"]) for shape in texts)
+    return next(((one[3], other[3]) for one, other in zip(spans, spans[1:]) if one[0] == other[0] and one[2] > other[1] + 1), None)
 
 
 def wrong_drawing(picture):
@@ -140,12 +158,16 @@ def small_pairs(_program, _folder):
         drawn = pair_picture.drawn(read_pair(text.decode()), name, Verdict(verdict))
         yield "drawing of %s" % name, wrong_drawing(drawn)
     for name in COUNTS:
-        yield "drawing of %s" % name, wrong_drawing(drawn_example(name))
+        drawn = drawn_example(name)
+        yield "drawing of %s" % name, wrong_drawing(drawn) or overlapping(drawn) and "overlap: %s, %s" % overlapping(drawn)
     text, verdict = pairs.all_paired(40, 3)
     drawn = pair_picture.drawn(read_pair(text.decode()), "six rows", Verdict(verdict))
     yield "drawing of six rows", wrong_drawing(drawn)
+    for width in (NARROW, 700, 1000):
+        rows = drawn_word_by_word(pair_picture.scene_of(read_pair(text.decode()), "rows", Verdict(verdict)), grid_of(width))
+        yield "labels of rows, %d wide" % width, wrong_drawing(rows) or overlapping(rows) and "overlap: %s, %s" % overlapping(rows)
     # Arrows from roots would cross the rows.
-    yield "counts of six rows", None if counted(drawn) == (80, 0, 0, 40) else "counted %s" % (counted(drawn),)
+    yield "counts of six rows", None if counted(drawn)[:3] == (80, 0, 0) else "counted %s" % (counted(drawn),)
     linked = "heappair 1\nold 200 3\n0\n33488896\n101\nroots 0\nnew 1 1\n0\nroots 0\npairs 0\nend\n"
     drawn = pair_picture.drawn(read_pair(linked), "a long link", None)
     texts = [shape["text"] for shape in drawn.shapes if shape["kind"] == "text"]
@@ -204,7 +226,7 @@ def faults(_program, _folder):
     yield "a field is marked in both heaps", None if found == ["field 1: word 19", "field 1: word 0"] else "marked %s" % found
     text = read_pair(pairs.text_of(pairs.CHECKED["a_root_refers_to_a_field"][0]).decode())
     found = marked(pair_picture.drawn(text, "root", Verdict("refused 10 RootDiffers 0")))
-    yield "a root is marked in both heaps", None if found == ["word 6", "word 6"] else "marked %s" % found
+    yield "a root is marked in both heaps", None if found == ["root 0: word 6", "root 0: word 6"] else "marked %s" % found
     text = read_pair(pairs.text_of(pairs.CHECKED["no_room_for_the_last_link"][0]).decode())
     found = marked(pair_picture.drawn(text, "shape", Verdict("refused 1 OldShape 3")))
     yield "a word that is not a header is marked", None if found == ["word 5"] else "marked %s" % found
@@ -225,6 +247,91 @@ def large_pairs(_program, _folder):
     # Each object takes two words.
     wanted = ["address 8001", "address 8001"]
     yield "the refused objects of a large pair are marked", None if found == wanted else "marked %s" % found
+
+
+def paired(count, columns):
+    """Returns a pair text of objects with two fields, and of replicas in another order: every `columns`-th object first."""
+    order = [k for first in range(columns) for k in range(first, count, columns)]
+    words = "0\n" + "16777218\n0\n1\n1\n" * count
+    lines = "".join("%d %d\n" % (1 + 4 * k, 1 + 4 * at) for at, k in sorted(enumerate(order), key=lambda item: item[1]))
+    space = "%d %d\n%sroots 0\n" % (4 * count + 1, 4 * count + 1, words)
+    return "heappair 1\nold %snew %spairs %d\n%send\n" % (space, space, count, lines)
+
+
+def slanted(picture):
+    """Returns parts of lines of pairs that are not upright beside or behind a row of a space. Those of the legend are level."""
+    rows = [(shape["y"], shape["y"] + shape["height"]) for shape in picture.shapes if shape["kind"] == "box" and "object at " in shape["tip"]]
+    parts = [(start, end) for shape in shapes_of(picture, "pair") if shape["kind"] == "line" for start, end in zip(shape["points"], shape["points"][1:])]
+    return [(start, end) for start, end in parts if start[0] != end[0] and any(max(start[1], end[1]) > top + 1 and min(start[1], end[1]) < bottom - 1 for top, bottom in rows)]
+
+
+def bundles(_program, _folder):
+    """Checks that many pairs are drawn as bundles: each pair has its two ends, the numbers of the bundles and the single lines make
+    all pairs, and no line crosses a row."""
+    for count, columns in [(8, 3), (11, 4), (40, 1), (40, 7), (45, 45)]:
+        name, drawn = "%d pairs in %d columns" % (count, columns), pair_picture.drawn(read_pair(paired(count, columns)), "pairs", None)
+        # The last one is the legend's.
+        lines = [shape["points"] for shape in shapes_of(drawn, "pair") if shape["kind"] == "line"][:-1]
+        ways = [points[1:3] for points in lines if len(points) == 4]
+        ways += [shape["points"][1:3] for shape in shapes_of(drawn, "pair-bundle") if shape["kind"] == "area"]
+        middle = sum(y for way in ways for _, y in way) / max(1, 2 * len(ways))
+        starts = {points[0] for points in lines if points[0][1] < middle}
+        ends = {points[-1] for points in lines if points[-1][1] > middle}
+        yield "drawing of %s" % name, wrong_drawing(drawn)
+        yield "ends of %s" % name, None if len(starts) == len(ends) == count else "%d starts, %d ends" % (len(starts), len(ends))
+        yield "rows of %s" % name, None if not slanted(drawn) else "slanted: %s" % slanted(drawn)
+        inner = {points[-1] for points in lines if len(points) == 3 and points[0] in starts} | {points[0] for points in lines if len(points) == 3 and points[-1] in ends}
+        corners_of = [shape["points"] for shape in shapes_of(drawn, "pair-bundle") if shape["kind"] == "area"]
+        joints = {(round((first[0] + second[0]) / 2), round((first[1] + second[1]) / 2)) for a, b, c, d in corners_of for first, second in ((a, b), (c, d))}
+        loose = [place for place in inner if (round(place[0]), round(place[1])) not in joints]
+        yield "lines of %s meet their bundles" % name, None if not loose else "loose: %s" % loose
+        # Of the rows with an object in the same column, five have lines beside one another.
+        same = max(sum(1 for x, _ in starts if x == at) for at, _ in starts)
+        yield "lines of %s are beside one another" % name, None if same <= -(-count // 20) else "%d at one place" % same
+    drawn = pair_picture.drawn(read_pair(paired(3000, 1)), "3000 pairs", None)
+    told = sum(int(shape["text"]) for shape in shapes_of(drawn, "small") if shape["text"].isdigit())
+    yield "drawing of 3000 pairs", wrong_drawing(drawn)
+    # The replicas keep the order of the objects, so that the lines are in few bundles, each large enough to say its number.
+    yield "bundles of 3000 pairs", None if told == 3000 else "they count %d" % told
+
+
+def wrong(found, wanted):
+    return None if found == wanted else "%s, wanted %s" % (found, wanted)
+
+
+def excerpts(_program, _folder):
+    """Checks excerpts of large heaps: the objects of a range, with their replicas, roots, references, and the place of a refusal."""
+    # Objects of two fields: word 0 is reserved, and object k begins at 1 + 4 k. Of 300, the replicas of 0, 3, 6, .. come first.
+    lines = paired(300, 3).split("\n")
+    at = {k: number for number, k in enumerate([k for first in range(3) for k in range(first, 300, 3)])}
+    # Object 10 refers to object 11 and to object 200, and roots to the objects 12 and 200.
+    lines[2 + 41 + 2], lines[2 + 41 + 3] = str(2 * 45), str(2 * 801)
+    text = "\n".join(lines).replace("roots 0", "roots 3\n0\n%d\n%d" % (2 * 49, 2 * 801), 1)
+    scene = pair_picture.scene_of(read_pair(text), "excerpts", Verdict("refused 9 FieldDiffers 11 1"))
+    drawn = drawn_word_by_word(excerpt_of(scene, True, 44, 49), grid_of(700))
+    tips = [shape["tip"] for shape in drawn.shapes if shape["kind"] == "box" and shape["tip"].startswith("object at ")]
+    wanted = ["object at %d of the old space" % (1 + 4 * k) for k in (10, 11, 12)]
+    wanted += ["object at %d of the new space" % place for place in sorted(1 + 4 * at[k] for k in (10, 11, 12))]
+    yield "drawing of an excerpt", wrong_drawing(drawn)
+    yield "the objects of an excerpt", None if tips == wanted else "they are %s" % tips
+    arrows = [shape["role"] for shape in drawn.shapes if shape["kind"] == "arrow"]
+    yield "the arrows of an excerpt", None if sorted(arrows) == ["rooted", "stale"] else "they are %s" % arrows
+    texts = [shape["text"] for shape in drawn.shapes if shape["kind"] == "box"]
+    yield "a reference that leaves an excerpt", None if "\u2192801" in texts else "the words are %s" % texts
+    yield "the roots of an excerpt", wrong([text for text in texts if "root " in text], ["root 1  \u219249"])
+    found = marked(drawn)
+    yield "the refused place of an excerpt", None if found == ["field 1: word 1", "field 1: word 1"] else "marked %s" % found
+    # An object alone comes with those that it refers to.
+    alone = excerpt_of(scene, True, 41, 41)
+    yield "what an object refers to", None if sorted(alone.old.places) == [41, 45, 801] else "it is %s" % sorted(alone.old.places)
+    replica = 1 + 4 * at[10]
+    found = excerpt_of(scene, False, replica, replica)
+    yield "the original of a replica", None if (list(found.old.places), list(found.new.places)) == ([41], [replica]) else "it is %s" % found.old.places
+    yield "an excerpt without objects", None if not excerpt_of(scene, True, 1300, 1400).old.words else "it has words"
+    long = "heappair 1\nold 200 103\n0\n16777316\n0\n%sroots 0\nnew 1 1\n0\nroots 0\npairs 0\nend\n" % ("1\n" * 100)
+    drawn = drawn_word_by_word(excerpt_of(pair_picture.scene_of(read_pair(long), "long", None), True, 50, 50), grid_of(700))
+    said = [shape["text"] for shape in drawn.shapes if shape["kind"] == "text"]
+    yield "an object of 100 fields is cut", wrong_drawing(drawn) or (None if "1 and 60 more fields" in said else "texts: %s" % said)
 
 
 def written_pairs(_program, _folder):
@@ -303,14 +410,60 @@ def timelines(_program, folder):
 
 # ---- crates
 
+def lines_of(picture, role):
+    """Returns the points of all lines and arrows whose roles begin so."""
+    return [shape["points"] for shape in picture.shapes if shape["kind"] in ("line", "arrow") and shape["role"].startswith(role)]
+
+
+def strictly_within(point, box):
+    return box["x"] < point[0] < box["x"] + box["width"] and box["y"] < point[1] < box["y"] + box["height"]
+
+
+def touches(point, box):
+    """Returns whether a point is at the right side of a box."""
+    return point[0] == box["x"] + box["width"] and box["y"] <= point[1] <= box["y"] + box["height"]
+
+
+def joined_crates(picture, boxes):
+    """Returns the crates that lines join, the upper one of each pair first: from the right side of a crate to an upright line, and from its lower end to the
+    crate at the arrow's head."""
+    lines = [(shape["role"], shape["points"]) for shape in picture.shapes if shape["kind"] == "line" and shape["role"].startswith("uses")]
+    found = set()
+    for arrow in picture.shapes:
+        if arrow["kind"] != "arrow":
+            continue
+        (x, bottom), _, head = arrow["points"]
+        lower = next(name for name, box in boxes.items() if touches(head, box))
+        # The line of the topmost user goes down to the arrow, and the others end at it.
+        top = next(points[1][1] for role, points in lines if points[-1] == (x, bottom))
+        for role, points in lines:
+            if role == arrow["role"] and (points[-1] == (x, bottom) or len(points) == 2 and points[1][0] == x and top < points[1][1] < bottom):
+                found.add((next(name for name, box in boxes.items() if touches(points[0], box)), lower))
+    return found
+
+
 def crates(_program, _folder):
     uses = {"top": ["left", "right", "low"], "left": ["low"], "right": ["low"], "low": []}
     found = sorted(crates_picture.arrows_of(uses))
     wanted = [("left", "low"), ("right", "low"), ("top", "left"), ("top", "right")]
     yield "a crate that is used through another one has no arrow", None if found == wanted else "arrows %s" % found
     yield "drawing of four crates", wrong_drawing(crates_picture.drawn(uses, "four"))
+    many = {"top": list("abcdef"), **{name: [] for name in "abcdef"}}
+    drawn = crates_picture.drawn(many, "many")
+    found = joined_crates(drawn, {shape["text"]: shape for shape in drawn.shapes if shape["kind"] == "box" and shape["text"]})
+    yield "a crate that uses six others", wrong_drawing(drawn) or wrong(found, {("top", name) for name in "abcdef"})
     with open(os.path.join(TOP, "crates.txt"), encoding="utf-8") as file:
-        listed = set(crates_picture.read_crates(file.read()))
+        listed = crates_picture.read_crates(file.read())
+    drawn = crates_picture.drawn(listed, "crates.txt")
+    boxes = {shape["text"]: shape for shape in drawn.shapes if shape["kind"] == "box" and shape["text"]}
+    through = {name for points in lines_of(drawn, "uses") for start, end in zip(points, points[1:]) for part in range(65) for name, box in boxes.items()
+               if strictly_within((start[0] + (end[0] - start[0]) * part / 64, start[1] + (end[1] - start[1]) * part / 64), box)}
+    yield "drawing of crates.txt", wrong_drawing(drawn)
+    yield "no line runs through a crate", None if boxes and not through else "through %s" % sorted(through)
+    found, wanted = joined_crates(drawn, boxes), set(crates_picture.arrows_of(listed))
+    yield "the lines of crates.txt join what its arrows say", None if found == wanted else "too many: %s, missing: %s" % (found - wanted, wanted - found)
+    upward = [(upper, lower) for upper, lower in wanted if boxes[upper]["y"] >= boxes[lower]["y"]]
+    yield "each crate is above those that it uses", None if not upward else "not so: %s" % upward
     grouped = [name for _, members in crates_picture.GROUPS.values() for name in members]
     yield "each crate is in one group", None if sorted(grouped) == sorted(listed) else "in groups: %s" % sorted(grouped)
 
@@ -416,12 +569,13 @@ def tool(program, folder):
 
 
 def kept_pictures():
-    """Yields the pictures in the repository, each with the file from which it is drawn."""
+    """Yields the pictures in the repository, each with the words for tools/draw: the file from which it is drawn, and the width of an example."""
     folder = os.path.join(TOP, "examples", "pictures")
     for name in sorted(os.listdir(folder)):
         stem = os.path.join(TOP, "examples", os.path.splitext(name)[0])
-        yield os.path.join(folder, name), next(stem + ending for ending in (".pair", ".trace") if os.path.exists(stem + ending))
-    yield os.path.join(TOP, "docs", "pictures", "crates.svg"), os.path.join(TOP, "crates.txt")
+        source = next(stem + ending for ending in (".pair", ".trace") if os.path.exists(stem + ending))
+        yield os.path.join(folder, name), ["--width", str(NARROW), os.path.relpath(source, TOP)]
+    yield os.path.join(TOP, "docs", "pictures", "crates.svg"), ["crates.txt"]
 
 
 def kept(program, folder):
@@ -429,12 +583,67 @@ def kept(program, folder):
     shared = shared_library(folder)
     if shared is None:
         return
-    for picture, source in kept_pictures():
-        _, written, _ = draw(source, "--program", program, shared=shared)
+    for picture, words in kept_pictures():
+        _, written, _ = draw(*words[:-1], os.path.join(TOP, words[-1]), "--program", program, shared=shared)
         name = os.path.relpath(picture, TOP)
         with open(picture, encoding="utf-8") as file:
             same = file.read() == written
-        yield "%s is up to date" % name, None if same else "draw it again: tools/draw %s -o %s" % (os.path.relpath(source, TOP), name)
+        yield "%s is up to date" % name, None if same else "draw it again: tools/draw %s -o %s" % (" ".join(words), name)
+
+
+# A phone is 390 pixels wide, and shows a document in a column of 358. Its pictures are drawn for that width, and no text is lower than 9 pixels there.
+NARROW, COLUMN, LEAST_TEXT = 390, 358, 9
+SHOWN = re.compile(r"!\[[^]]*\]\(([^)]*\.svg)\)")
+
+
+def shown_pictures():
+    """Returns the SVG pictures that documents show, and those of the examples."""
+    found = {os.path.join("examples", "pictures", name) for name in os.listdir(os.path.join(TOP, "examples", "pictures"))}
+    for document in documents():
+        with open(os.path.join(TOP, document), encoding="utf-8") as file:
+            found |= {os.path.normpath(os.path.join(os.path.dirname(document), picture)) for picture in SHOWN.findall(file.read())}
+    return sorted(found)
+
+
+def sizes_of_texts(root):
+    """Returns the height of each text of a picture, and of each part with a style of its own, by the rules of its style sheet."""
+    rules = re.findall(r"(?m)^(text|(?:text)?\.[\w-]+) \{ .*?font-size: (\d+)px", root.find(SVG + "style").text)
+    heights = {name.split(".")[-1]: int(size) for name, size in rules}
+    texts = [node for node in root.iter() if node.tag in (SVG + "text", SVG + "tspan") and (node.text or "").strip()]
+    return [(node.text, heights.get(node.get("class"), heights.get("text"))) for node in texts]
+
+
+def legible(_program, _folder):
+    """Checks that each text of a picture in a document can be read on a phone."""
+    pictures = shown_pictures()
+    for name in pictures:
+        root = ElementTree.parse(os.path.join(TOP, name)).getroot()
+        scale = min(1, COLUMN / float(root.get("viewBox").split()[2]))
+        texts = sizes_of_texts(root)
+        small = [text for text, height in texts if height is None or height * scale < LEAST_TEXT]
+        yield "texts of %s" % name, None if texts and not small else "too small: %s" % small
+    yield "pictures are shown", None if len(pictures) > 10 else "only %s" % pictures
+
+
+def widths(program, folder):
+    """Checks pictures of several widths: nothing is outside, they are about as wide as they should be, and the verdict is whole."""
+    for width in (300, NARROW, 700, 1600):
+        for name in ("second_collection.trace", "log_across_two_mutators.trace", "replica_out_of_date.pair", "number_moved_as_a_reference.pair"):
+            case = "%s, %d wide" % (name, width)
+            status, written, said = draw("--json", "--width", str(width), os.path.join(TOP, "examples", name), "--program", program)
+            described = json.loads(written) if status == 0 else {"title": said, "shapes": [], "width": 0, "height": 0}
+            drawn = Picture(described["title"])
+            drawn.shapes, drawn.width, drawn.height = described["shapes"], described["width"], described["height"]
+            # A title or a heading may be longer than a very narrow picture, and rows end with a cell.
+            right = 0.6 * min(width, 1000) <= drawn.width <= max(width, 356)
+            yield case, wrong_drawing(drawn) or (None if right else "it is %d wide" % drawn.width)
+        shown = joined_texts(described, "refusal")
+        yield "verdict, %d wide" % width, None if "refused 9 FieldDiffers 1 0 (in pair 1, field 0 does not correspond)" in shown else shown
+    for word in ("299", "4001", "wide", "-5"):
+        status, written, said = draw("--width", word, os.path.join(TOP, "examples", "second_collection.trace"))
+        yield "the width %s" % word, None if status == 2 and written == "" and "invalid width value" in said else "status %d, said %r" % (status, said)
+    status, written, said = draw("--width", "400", "--graph", os.path.join(TOP, "examples", "replica_out_of_date.pair"))
+    yield "the width of a graph", None if status == 2 and written == "" and "as wide as Graphviz makes it" in said else "status %d, said %r" % (status, said)
 
 
 # Points of a path: of 'M', 'L' and 'C', with absolute coordinates.
@@ -507,5 +716,5 @@ def drawn_by_hand(_program, _folder):
         yield "ends of arrows of docs/pictures/%s.svg" % name, far_ends(root) and "%s ends at nothing" % far_ends(root)
 
 
-GROUPS = [examples, small_pairs, graphs, faults, large_pairs, written_pairs, faults_of_traces, replies, timelines, crates, messages, tool, paths, long_paths, kept,
-          drawn_by_hand]
+GROUPS = [examples, small_pairs, graphs, faults, large_pairs, bundles, excerpts, written_pairs, faults_of_traces, replies, timelines, crates, messages, tool, widths, paths, long_paths, kept,
+          legible, drawn_by_hand]

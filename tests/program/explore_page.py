@@ -47,7 +47,7 @@ def plays(program, folder):
             yield "replies to %s" % name, wrong(found, replies)
             boxes = [shown.run("return document.querySelectorAll('#%s svg rect').length;" % place) for place in ("picture", "timeline")]
             yield "pictures of %s" % name, None if min(boxes) > 0 else "nothing is drawn"
-        # 'Back' plays again from the start.
+        # 'Back' plays again from a checkpoint, here from the start.
         shown.set("#trace-examples", "write_while_scanning")
         shown.wait_for("event", "of 11 events")
         shown.click("play-run")
@@ -205,6 +205,8 @@ def checks(program, folder):
             text = shown.run("return document.querySelector('#pair-editor textarea').value;")
             line = run(program, ["check", file_of(folder, "spoiled", text.encode())]).stdout.decode().strip()
             seen.add(line.split(" ")[0])
+            # The verdict comes from the server, after the words are changed.
+            shown.wait_for("verdict-line", line)
             unmarked = line.startswith("refused") and marks() == 0
             if shown.text("verdict-line").split(" (")[0] != line or unmarked:
                 yield "spoiled pair %d" % number, "%r, wanted %r, %d marks" % (shown.text("verdict-line"), line, marks())
@@ -413,6 +415,8 @@ def roots_are_drawn(_program, folder):
             time.sleep(0.6)
             names = shown.run("return [...document.querySelectorAll('#picture svg text')].map((it) => it.textContent);")
             yield "roots at %d" % width, None if any(name.startswith("r0 ") for name in names) else "drawn: %s" % names
+            if width < 460:
+                yield "the roots of an object at %d" % width, None if "\u2190 r0" in names else "drawn: %s" % names
             shown.click("to-commands")
             top = shown.run("return document.getElementById('steps-body').getBoundingClientRect().bottom;")
             yield "the buttons to act at %d" % width, None if 0 < top <= height else "they end at %s" % top
@@ -421,10 +425,14 @@ def roots_are_drawn(_program, folder):
         top = shown.run("return document.getElementById('commands-title').getBoundingClientRect().bottom;")
         yield "they are in view on a laptop", None if top < 700 else "they begin at %s" % top
         said = shown.run("return [...document.querySelectorAll('#picture-text li')].map((it) => it.textContent);")
-        wanted = {"root r0 (place 16): the object at 1", "object at 1, kind 1, link 1, 1 field: nil"}
+        wanted = {"r0 of mutator 0 (place 16): the object at 1", "object at 1, kind 1, link 1, 1 field: nil"}
         yield "the drawing as text", None if wanted <= set(said) else "said %s" % said
         yield "one name for a root", wrong("r0 of mutator 0 (place 16)" in shown.text("roots-body"), True)
         yield "no complaint", complaints(shown)
+
+
+# The frames of objects that the excerpt of large heaps shows.
+FRAMES = """return [...document.querySelectorAll("#pair-looked .near rect title")].map((it) => it.textContent).filter((it) => it.startsWith("object at"));"""
 
 
 def refused_places(_program, folder):
@@ -447,10 +455,76 @@ def refused_places(_program, folder):
             place = shown.run("""const it = document.querySelector("#pair-editor textarea");
                 return it.value.split("\\n")[%d - 1 - Number(document.querySelector("#pair-editor").dataset.before)];""" % int(rows[0][4]))
             yield "%s: the text in the editor" % name, wrong(place, rows[0][2])
+            # An object without fields takes two words, and is its own replica.
+            both = ["object at %d of the %s space" % (1 + 2 * altered, heap) for heap in ("old", "new")]
+            yield "%s: the refused objects word by word" % name, wrong(shown.run(FRAMES), both)
             shown.run("document.querySelector('#pair-picture rect.garbage').dispatchEvent(new MouseEvent('click', { bubbles: true }));")
             shown.wait("document.querySelector('#pair-looked table')")
+            frames = shown.run(FRAMES)
+            first = int(re.search(r"\d+", frames[0]).group())
+            wanted = ["object at %d of the %s space" % (first + 2 * k, heap) for heap in ("old", "new") for k in range(len(frames) // 2)]
+            yield "%s: the objects of a block word by word" % name, wrong((frames, len(frames) // 2 > 1), (wanted, True))
             looked = shown.run("return [...document.querySelectorAll('#pair-looked tbody tr')].map((it) => [...it.children].map((cell) => cell.innerText));")
             yield "%s: the objects of a block" % name, wrong([row[2] for row in looked], [lines[int(row[4]) - 1] for row in looked])
+            shown.run("""const frame = [...document.querySelectorAll("#pair-looked .near rect")].filter((it) => it.textContent.startsWith("object at"))[1];
+                const { left, top } = frame.getBoundingClientRect();
+                frame.dispatchEvent(new MouseEvent("click", { bubbles: true, clientX: left + 5, clientY: top + 5 }));""")
+            shown.wait("document.querySelectorAll('#pair-looked table').length === 1")
+            wanted = ["object at %d of the %s space" % (first + 2, heap) for heap in ("old", "new")]
+            yield "%s: an object that is clicked" % name, wrong(shown.run(FRAMES), wanted)
+            shown.run("document.querySelector('#pair-looked .near').dataset.old = 'yes';")
+            shown.resize(1100, 900)
+            shown.wait("document.querySelector('#pair-looked .near') && !document.querySelector('#pair-looked .near').dataset.old && document.querySelector('#pair-looked table')")
+            yield "%s: it is there in another width" % name, wrong(shown.run(FRAMES), wanted)
+            shown.resize(1360, 900)
+            time.sleep(1)
+        yield "no complaint", complaints(shown)
+
+
+# Clicks in the middle of the first long run of blocks of the old space, and returns the words that the run has.
+CLICK_A_RUN = """const run = [...document.querySelectorAll("#pair-picture rect")].find((it) => it.textContent.startsWith("old space") && it.width.baseVal.value > 80);
+    const { left, width, top } = run.getBoundingClientRect();
+    run.dispatchEvent(new MouseEvent("click", { bubbles: true, clientX: left + width / 2, clientY: top + 2 }));
+    return run.textContent.match(/\\d+/g).slice(0, 2).map(Number);"""
+
+
+def zooms(_program, folder):
+    """Checks that a long pair text opens as blocks, and that the reader gets to each object: by a click on a block, from page to page, and by the number of a
+    word."""
+    fields = 3
+    size = fields + 2
+    _, text, verdict, count = next(pairs.long_texts(120000, 60000, fields))
+    with page(folder, file_of(folder, "long.pair", text.encode())) as shown:
+        if shown is None:
+            return
+        shown.wait_for("verdict-line", verdict)
+        yield "it opens in the checker's tab", wrong(shown.run("return document.getElementById('panel-checker').hidden;"), False)
+        first, last = shown.run(CLICK_A_RUN)
+        shown.wait("document.querySelector('#pair-looked [role=status]')")
+        said = shown.run("return document.querySelector('#pair-looked [role=status]').textContent;")
+        found = [int(word) for word in re.findall(r"\d+", said)]
+        middle = (first + last) // 2
+        right = said.startswith("The old heap, words ") and first < found[0] <= middle <= found[1] < last
+        yield "a click shows the block there", None if right else "%r, of a run from %d to %d" % (said, first, last)
+        wanted = [1 + size * number for number in range(count) if 1 + size * number <= found[1] and 1 + size * (number + 1) > found[0]]
+        yield "a block has more objects than a page", None if len(wanted) > 8 else "%d" % len(wanted)
+        yield "the objects of the block", wrong(shown.run(FRAMES)[:8], ["object at %d of the old space" % address for address in wanted[:8]])
+        shown.set("#look-word", "30000")
+        shown.set("#look-heap", "new")
+        shown.run("document.querySelector('#look-at button').click();")
+        shown.wait("document.querySelector('#pair-looked [role=status]')?.textContent.startsWith('The new heap, word 30000: 1 object.')")
+        yield "the object with a word", wrong("object at %d of the new space" % (1 + size * ((30000 - 1) // size)) in shown.run(FRAMES), True)
+        # A block has more objects than a page.
+        shown.run(CLICK_A_RUN)
+        shown.wait("document.querySelector('#pair-looked [role=status]')?.textContent.includes('objects 1 to 8 of ')")
+        before = shown.run(FRAMES)
+        shown.run("[...document.querySelectorAll('#pair-looked button')].find((it) => it.textContent === 'Next').click();")
+        shown.wait("document.querySelector('#pair-looked [role=status]')?.textContent.includes('objects 9 to ')")
+        after = [int(re.search(r"\d+", frame).group()) for frame in shown.run(FRAMES)]
+        yield "the next objects of the block", wrong(after[0], int(re.search(r"\d+", before[7]).group()) + size)
+        shown.run("[...document.querySelectorAll('#pair-looked button')].find((it) => it.textContent === 'Previous').click();")
+        shown.wait("document.querySelector('#pair-looked [role=status]')?.textContent.includes('objects 1 to 8 of ')")
+        yield "the previous objects of the block", wrong(shown.run(FRAMES), before)
         yield "no complaint", complaints(shown)
 
 
@@ -567,6 +641,16 @@ def large(program, folder):
         shown.wait_for("event", "Event 19001 of 19001")
         replies = run(program, text=text.encode()).stdout.decode().split("\n")
         yield "the last reply", wrong(shown.replies().get(19003), replies[19000])
+
+        def told():
+            found = [shown.run("return document.getElementById('%s').innerHTML;" % name) for name in ("event", "picture", "picture-text", "timeline", "roots", "certificate")]
+            # Each drawing has names of its own for the heads of its arrows.
+            return [re.sub(r"picture-\d+-", "", html) for html in found]
+
+        shown.click("play-back")
+        shown.wait_for("event", "Event 19000 of 19001")
+        back = told()
+        shown.step(19001, 19001)
         shown.run("window.began = performance.now();")
         shown.click("play-work")
         shown.wait_for("event", "Event 19002 of 19002")
@@ -574,6 +658,14 @@ def large(program, folder):
         yield "a step takes less than 3 seconds", None if took < 3000 else "%.1f s" % (took / 1000)
         count = shown.run("return document.querySelectorAll('*').length;")
         yield "few elements", None if count < 4000 else "%d elements" % count
+        # The page of another tab has no players yet, so that the server plays the trace anew.
+        shown.run("window.isOld = true;")
+        shown.open(shown.server.address)
+        shown.wait("!window.isOld && document.body && document.body.dataset.ready")
+        shown.wait_for("event", "Before the first of 19001 events")
+        shown.set("#play-to", "19000")
+        shown.wait_for("event", "Event 19000 of 19001")
+        yield "a step back shows what playing anew shows", wrong(back, told())
         yield "no complaint", complaints(shown)
 
 
@@ -599,7 +691,8 @@ def looks(_program, folder):
             for tab in ("collector", "checker", "trust"):
                 shown.click("tab-" + tab)
                 time.sleep(0.4)
-                over = shown.run("return document.documentElement.scrollWidth - document.documentElement.clientWidth;")
+                # Room for a scroll bar is reserved, so that the page may be narrower.
+                over = shown.run("return Math.max(0, document.documentElement.scrollWidth - document.documentElement.clientWidth);")
                 yield "%s is not wider than %d" % (tab, width), wrong(over, 0)
         shown.click("tab-collector")
         small = shown.run("""return [...document.querySelectorAll("button, select, input:not([type=file])")].filter((it) => it.offsetParent

@@ -11,7 +11,7 @@ import threading
 import time
 
 from . import pairs
-from .c_library import TOP, done
+from .c_builds import TOP, done
 from .examples import FOLDER as EXAMPLES, content, names_of
 from .harness import file_of
 from .python import PACKAGE, prepared, wrong_libraries
@@ -167,6 +167,45 @@ def sessions(_program, folder):
             yield "the session %r" % name, wrong(server.ask("start", session=name).get("message"), "The name of the session has to be a short text.")
 
 
+# The objects of the long texts have so many fields, so that a block has several of them. They take two words more.
+FIELDS = 3
+OBJECT_WORDS = FIELDS + 2
+
+
+def long_pairs(_program, folder):
+    """Checks long texts of two heaps: the verdict, a picture in blocks with few shapes, and that the objects of a block come page by page, each once, also
+    if the request leaves the text out because the server has it."""
+    with served(folder) as server:
+        if server is None:
+            return
+        for name, text, verdict, count in pairs.long_texts(60000, 60000, FIELDS):
+            found = server.ask("check", text=text, width=900, session="one")
+            yield "verdict on the text that is %s" % name, wrong(found.get("line"), verdict)
+            yield "blocks of the text that is %s" % name, None if found["block"] > 1 and len(found["picture"]["shapes"]) < 400 else "%d words, %d shapes" % (
+                found["block"], len(found["picture"]["shapes"]))
+            yield "all objects of the text that is %s are reachable" % name, wrong([line for line in found["told"] if "unreachable" in line], [])
+            if verdict.startswith("yes"):
+                # Each bundle has about a sixth of the pairs, and says how many.
+                told = [int(shape["text"]) for shape in found["picture"]["shapes"] if shape["role"] == "small" and shape.get("text", "").isdigit()]
+                yield "bundles of the text that is %s" % name, wrong((sum(told), len(told)), (count, 6))
+            # A range of objects, with the words around it that belong to none of them.
+            first, last = 1 + OBJECT_WORDS * (count // 2), OBJECT_WORDS * (count // 2 + 20)
+            seen, pages = [], 0
+            while pages == 0 or len(seen) < found["count"] and pages < 10:
+                found = server.ask("look", heap="new", first=first, last=last, skipped=len(seen), width=900, session="one")
+                tips = {shape.get("tip", "") for shape in found["picture"]["shapes"]}
+                seen += [place["rows"][0]["address"] for place in found["places"]]
+                pages += 1
+                drawn = {"object at %d of the %s space" % (address, heap) for address in seen[found["skipped"]:] for heap in ("old", "new")}
+                yield "page %d of the text that is %s" % (pages, name), None if drawn <= tips else "it lacks %s" % (drawn - tips)
+            yield "objects of the text that is %s" % name, wrong(seen, list(range(first, last, OBJECT_WORDS)))
+            lines = text.split("\n")
+            yield "words of the text that is %s" % name, wrong([row["word"] for row in found["places"][0]["rows"]],
+                                                              [lines[row["line"] - 1] for row in found["places"][0]["rows"]])
+        for request in ("check", "look", "spoil"):
+            yield "%s without a text" % request, wrong(server.ask(request, heap="old", first=0, last=9, width=900, session="two"), {"unknown": True})
+
+
 def is_closed(connection):
     """Returns whether the server closes a connection soon. For a request it would wait longer."""
     connection.settimeout(5)
@@ -213,7 +252,7 @@ def commands(_program, folder):
     cases = {
         "a file that does not exist": ([os.path.join(folder, "nothing")], "No such file or directory"),
         "a folder": ([folder], "Is a directory"),
-        "another text": ([file_of(folder, "text", b"hello\n")], "the first line is neither that of a trace nor that of a pair text"),
+        "another text": ([file_of(folder, "text", b"hello\n")], "the first line is that of no trace, pair text or image text"),
         "a text too large": ([file_of(folder, "large", b"heappair 1\n" + b"x" * 67108864)], "the page takes texts of up to 64 MiB"),
         "a port that is taken": (["--port", str(taken.getsockname()[1])], "Address already in use"),
         "a port that does not exist": (["--port", "65536"], "port 65536"),

@@ -1,5 +1,6 @@
 """Runs the program, and compares its outcome with the expected one."""
 import os
+import re
 import resource
 import subprocess
 
@@ -61,6 +62,13 @@ def difference(found, wanted):
     if found.stdout != wanted.stdout:
         return "standard output %s, wanted %s" % (shown(found.stdout), shown(wanted.stdout))
     return None
+
+
+def addresses_numbered(text):
+    """Returns a text with each address of the machine replaced by a number, in the order in which they first appear. Two runs of a program then
+    print the same."""
+    numbers = {}
+    return re.sub(rb"0x[0-9a-f]{6,16}\b", lambda found: b"0x#%d" % numbers.setdefault(found.group(), len(numbers)), text)
 
 
 def file_of(folder, name, content):

@@ -11,7 +11,7 @@ import subprocess
 import tempfile
 import time
 
-from .c_library import SANITIZERS, SOURCES as C_SOURCES, TOP, VALGRIND, WARNINGS, done, has_valgrind, library, usable
+from .c_builds import SANITIZERS, SOURCES as C_SOURCES, TOP, VALGRIND, WARNINGS, done, has_valgrind, library, usable
 from .documents import blocks
 from .harness import Outcome, difference, file_of, run
 
@@ -388,8 +388,8 @@ def refused_allocations(_program, folder):
     yield "allocations were refused", None if refused > 20 and errors > 0 else "%d, with %d errors" % (refused, errors)
 
 
-# More memory than the program takes with one space of 8 MiB, and less than with two.
-ONE_SPACE = 16 << 20
+# More memory than the program takes with one space of 8 MiB and the checker's tables of 6 MiB, and less than with two spaces.
+ONE_SPACE = 22 << 20
 
 
 def limit_memory():
@@ -431,10 +431,25 @@ def histogram(_program, _folder):
         printed = lisp.run_program("tak", "--heap", "20000", "--pauses").stderr.decode()
         calls = int(re.match(r"(\d+) calls on the heap by their times\n", printed).group(1))
         rows = [int(count) for count in re.findall(r"  below +[\d.]+ us +(\d+) #*\n", printed)]
-        yield "rows of the histogram, %s" % way, None if sum(rows) == calls > 0 else "%d, not %d" % (sum(rows), calls)
+        yield "rows of the histogram, flips_and_pauses, %s" % way, None if sum(rows) == calls > 0 else "%d, not %d" % (sum(rows), calls)
         kinds = re.findall(r"\n  ([\d.]+) us: (gcflip_heap_\w+)", printed)
         longest = re.search(r"\nthe longest call took ([\d.]+) us: (gcflip_heap_\w+)", printed).groups()
         yield "the longest call, %s" % way, None if longest in kinds and float(longest[0]) == max(float(time) for time, _ in kinds) else printed
+
+
+def flips_and_pauses(_program, _folder):
+    """Checks that --pauses tells flips that were all checked along, and a share of time for the program that the longest call allows."""
+    for way, lisp in built_lisps():
+        found = lisp.run_program("churn", "--heap", "20000", "--pauses")
+        printed = found.stderr.decode()
+        along, whole = [int(number) for number in re.search(r"\n(\d+) flips were checked along, and (\d+) whole\n", printed).groups()]
+        _, collections, _, _ = totals(found)
+        yield "flips, %s" % way, None if along == collections > 10 and whole == 0 else "%d along and %d whole of %d" % (along, whole, collections)
+        longest = float(re.search(r"\nthe longest call took ([\d.]+) us: ", printed).group(1))
+        short, long = [float(share) for share in re.search(r"\nminimum mutator utilisation: (-?[\d.]+) at 1 ms, (-?[\d.]+) at 10 ms\n", printed).groups()]
+        # A call of less than 980 us lies in one window of 1 ms. Shares are printed in thousandths.
+        most = 1.001 - min(longest, 980) / 1000
+        yield "utilisation, %s" % way, None if 0 <= short <= min(long, most) and long < 1 else printed
 
 
 def without_counts(line):
@@ -454,4 +469,4 @@ def sessions(_program, _folder):
             yield "session %d of %s" % (number, DOCUMENT), None if is_shown else "printed %s" % printed
 
 
-GROUPS = [programs, by_valgrind, evaluating, command_line, interrupting, pace, limits, refused_allocations, no_collector, traces, histogram, sessions]
+GROUPS = [programs, by_valgrind, evaluating, command_line, interrupting, pace, limits, refused_allocations, no_collector, traces, histogram, flips_and_pauses, sessions]

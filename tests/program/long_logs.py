@@ -2,21 +2,26 @@
 import calendar
 import os
 import re
+import subprocess
 import time
 
-from prover.crates import TOP
+from prover.crates import TOP, crates_listed
+from prover.edits import edits_of, sum_of
 
 LOGS = os.path.join(TOP, "tests", "long", "logs")
 # The parts of tests/long/run.
-PARTS = ("random", "churn", "second_compiler", "large", "runtimes")
+PARTS = ("edits", "tests", "random", "churn", "second_compiler", "large", "soak", "runtimes", "releases", "pages")
 # What each log has to say, and the figure of a part that tells how much it did.
 LINES = ("date", "commit", "minutes", "failed")
-FIGURES = {"random": "calls", "churn": "operations", "second_compiler": "cases passed", "large": "collections", "runtimes": "collections"}
+FIGURES = {"edits": "edits refused", "tests": "tests proved", "random": "calls", "churn": "operations", "second_compiler": "cases passed", "large": "collections", "soak": "commands",
+           "runtimes": "collections", "releases": "files", "pages": "texts"}
+# The folders whose trees in git a log names, so that it says of which code it tells when its commit was merged under another name.
+FOLDERS = ("crates", "bindings")
 DAY = 24 * 60 * 60
 
 
 def values_of(text):
-    return dict(re.findall(r"(?m)^([a-z ]+): (.*)$", text))
+    return dict(re.findall(r"(?m)^([a-z_ ]+): (.*)$", text))
 
 
 def age_of(value, now):
@@ -39,6 +44,24 @@ def fault_of(part, text):
     return None if int(values[FIGURES[part]]) > 0 else "nothing was done"
 
 
+def told_of_edits(values):
+    """Yields a line for each crate whose code, proofs or edits changed after all its edits were tried."""
+    for crate in sorted(name for name in crates_listed() if edits_of(name)):
+        now = "%d edits of %s" % (len(edits_of(crate)), sum_of(crate))
+        if values.get(crate) != now:
+            yield "long: %s changed since all its edits were tried" % crate
+
+
+def changed_folders(values):
+    """Returns the folders that have changed since a log was written, as far as it names them."""
+    changed = []
+    for folder in FOLDERS:
+        now = subprocess.run(["git", "-C", TOP, "rev-parse", "HEAD:" + folder], stdout=subprocess.PIPE, stderr=subprocess.DEVNULL)
+        if values.get("tree of " + folder) != now.stdout.decode().strip():
+            changed.append(folder)
+    return changed
+
+
 def logs(_program, _folder):
     """Each part has a log of a run that passed."""
     for part in PARTS:
@@ -51,8 +74,12 @@ def logs(_program, _folder):
         why = fault_of(part, text)
         if why is None:
             values = values_of(text)
-            print("long: %s ran %.1f days ago, for %s minutes, %s %s, at commit %.12s"
-                  % (part, age_of(values["date"], time.time()), values["minutes"], values[FIGURES[part]], FIGURES[part], values["commit"]), flush=True)
+            changed = changed_folders(values)
+            print("long: %s ran %.1f days ago, for %s minutes, %s %s, at commit %.12s%s"
+                  % (part, age_of(values["date"], time.time()), values["minutes"], values[FIGURES[part]], FIGURES[part], values["commit"],
+                     ", before changes to " + " and ".join(changed) if changed else ""), flush=True)
+            for line in told_of_edits(values) if part == "edits" else []:
+                print(line, flush=True)
         yield "log of %s" % part, why
     known = [part + ".txt" for part in PARTS]
     others = sorted(set(os.listdir(LOGS)) - set(known)) if os.path.isdir(LOGS) else []

@@ -23,7 +23,7 @@ BY_FROM, BY_ARM, BY_HAND = "From", "arm", "by hand"
 # Numbers that calls of the libraries for C return if they did nothing.
 NAMED_ANSWERS = ("NO_MEMORY", "OUT_OF_RANGE", "CLOSED", "OPEN", "TOO_LARGE", "BAD_LINE", "ENDS_EARLY")
 # Crates of tests alone.
-TESTS = ("gc_tests", "growths")
+TESTS = ("gc_test_kit", "gc_tests", "gc_shared_tests", "gc_trace_tests", "growths")
 
 # Each place where such a fault is written: the file, the function, how, and how often. Those by hand have their reasons in BY_HAND_REASONS.
 PLACES = {
@@ -39,12 +39,15 @@ PLACES = {
     "gcflip_c/src/inference.rt": {("gcflip_infer", BY_ARM): 1},
     "gcflip_c/src/path.rt": {("gcflip_path", BY_ARM): 1},
     "gcflip_c/src/text.rt": {("gcflip_check_text", BY_HAND): 1},
-    "gcflip_heap_c/src/commands.rt": {("gcflip_heap_put", BY_ARM): 1, ("gcflip_heap_put_number", BY_ARM): 1, ("gcflip_heap_new_pair", BY_ARM): 1,
-                                      ("gcflip_heap_new_from", BY_ARM): 1},
+    "gcflip_heap_c/src/commands.rt": {("gcflip_heap_put", BY_ARM): 1, ("gcflip_heap_put_number", BY_ARM): 1, ("gcflip_heap_put_nil", BY_ARM): 1,
+                                      ("gcflip_heap_new_pair", BY_ARM): 1, ("gcflip_heap_new_from", BY_ARM): 1},
+    "gcflip_heap_c/src/raws.rt": {("gcflip_heap_raw_write", BY_ARM): 1},
     "gcflip_heap_c/src/opening.rt": {("gcflip_heap_open", BY_ARM): 1},
     "gcflip_heap_c/src/stepping.rt": {("gcflip_heap_step_begin", BY_ARM): 1, ("gcflip_heap_step_begin_sized", BY_ARM): 1, ("gcflip_heap_step_flip", BY_ARM): 1},
     "gcflip_heap_c/src/pace.rt": {("gcflip_heap_work_paced", BY_ARM): 1},
     "gcflip_heap_c/src/work.rt": {("work_sized", BY_ARM): 1},
+    "gcflip_heap_c/src/checking.rt": {("gcflip_heap_check", BY_ARM): 1},
+    "gc_core/src/checking.rt": {("found_by", BY_ARM): 1},
     "gc_core/src/flipping.rt": {("accepts", BY_ARM): 1},
     "gc_shared/src/closing.rt": {("fault", BY_ARM): 1},
     "gc_shared/src/fault.rt": {("from", BY_FROM): 5, ("from", BY_ARM): 1},

@@ -266,6 +266,32 @@ def all_paired(count, roots, altered=()):
     return text.encode(), "refused 8 HeaderDiffers %d" % altered[0] if altered else "yes %d" % count
 
 
+def numbered_image(name, count, fields):
+    """Returns the lines of an image of objects with this many fields. Each refers to the next one; its link and its other fields have twenty digits."""
+    size, words = fields + 2, ["0"]
+    for number in range(count):
+        following = 2 * (1 + size * (number + 1)) if number + 1 < count else 0
+        words += ["%d" % (16777216 + fields), "1844674407370955%04d" % (number % 1000), "%d" % following]
+        words += ["1844674407370%07d" % (2 * (number * fields + field) % 9000000 + 1) for field in range(fields - 1)]
+    return "%s %d %d\n%s\nroots 1\n2\n" % (name, len(words), len(words), "\n".join(words))
+
+
+def long_texts(words, image_words, fields=40):
+    """Yields long texts of two equal heaps: a name, the text, its verdict, and the number of objects. A pair text has spaces of about `words` words, and an
+    image text those of `image_words`. The first pair text holds, and the second one has pairs of no objects behind those that hold, as many as a
+    text may have."""
+    size = fields + 2
+    count = (words - 1) // size
+    heaps = numbered_image("old", count, fields) + numbered_image("new", count, fields)
+    places = ["%d %d" % (1 + size * number, 1 + size * number) for number in range(count)]
+    loose = ["4294967295 4294967295"] * (524287 * words // 1048576 - count)
+    for name, pairs, verdict in (("accepted", places, "yes %d" % count), ("refused", places + loose, "refused 4 OldNotStart %d" % count)):
+        yield name, "heappair 1\n%spairs %d\n%s\nend\n" % (heaps, len(pairs), "\n".join(pairs)), verdict, count
+    count = (image_words - 1) // size
+    heaps = numbered_image("old", count, fields) + numbered_image("new", count, fields)
+    yield "inferred", "heapimages 1\n%send\n" % heaps, "yes %d" % count, count
+
+
 def greatest_text():
     """Returns the text with the most pairs and roots, and its verdict."""
     return all_paired(524287, 272)

@@ -4,7 +4,8 @@ import re
 import shutil
 import sys
 
-from .c_library import TOP, done, library, skip, texts_and_lines, traces_and_replies
+from .c_builds import TOP, done, library, skip
+from .c_library import texts_and_lines, traces_and_replies
 from .examples import names_of
 from .harness import Outcome, Skipped, difference, file_of
 

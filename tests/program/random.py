@@ -9,7 +9,7 @@ import subprocess
 import sys
 import time
 
-from .c_library import SANITIZERS, SOURCES, WARNINGS, done, library
+from .c_builds import SANITIZERS, SOURCES, WARNINGS, done, library
 from .harness import Outcome, difference, file_of, run
 from .python import TESTS, Python, content_of
 from .random_calls import random_calls, traces_of

@@ -9,7 +9,7 @@ EDGES = [0, 1, 2, 1 << 31, (1 << 32) - 1, 1 << 62, (1 << 63) - 1]
 SIZES = [1, 2, 3, 8, 20, 40, 80, 120, 200, 400]
 OUT_OF_RANGE, CLOSED, OPEN = "out of range", "closed", "open"
 # Each call with how often it is made. `session` closes the heap and opens another.
-WEIGHTS = {"new": 8, "raw": 4, "num": 5, "nil": 2, "move": 6, "get": 9, "put": 10, "put_number": 5, "cons": 4, "new_from": 4, "same": 4, "look": 5,
+WEIGHTS = {"new": 8, "raw": 4, "num": 5, "nil": 2, "move": 6, "get": 9, "put": 10, "put_number": 5, "put_nil": 3, "raw_write": 4, "raw_read": 3, "address": 2, "cons": 4, "new_from": 4, "same": 4, "look": 5,
            "begin": 2, "begin_sized": 1, "roots": 7, "scan": 14, "apply": 5, "flip": 4, "drop": 0.4, "work": 4, "useful": 4, "counts": 3, "log": 2,
            "image": 2, "new_words": 2, "wrong": 4, "session": 0.7}
 COMMANDS = ("new", "raw", "num", "nil", "move", "get", "put", "same", "look")
@@ -148,6 +148,60 @@ class Calls:
         made = [self.add_command("num", m, t, n), self.add_command("put", m, s, i, t)]
         self.call(["put_number", m, s, i, t, n], made[1][1], [line for line, _ in made], [reply for _, reply in made])
 
+    def add_put_nil(self):
+        m = self.mutator()
+        s, t = self.filled_slot(m), self.slot()
+        i = self.field(m, s)
+        made = [self.add_command("nil", m, t), self.add_command("put", m, s, i, t)]
+        self.call(["put_nil", m, s, i, t], made[1][1], [line for line, _ in made], [reply for _, reply in made])
+
+    def raw_reply(self, m, s, first, numbers):
+        """Returns the reply to a call that writes these numbers to the object of a slot."""
+        at = self.model.target(m, s)
+        if not at or not self.model.space.is_raw(at):
+            return "no object"
+        if first + len(numbers) > self.model.space.length(at):
+            return "no field"
+        return "done" if all(n < 1 << 63 for n in numbers) else "no number"
+
+    def raw_slot(self, m):
+        """Returns a slot, mostly one that refers to a raw object."""
+        raws = [slot for slot in range(32) if self.model.target(m, slot) and self.model.space.is_raw(self.model.target(m, slot))]
+        return self.chance.choice(raws) if raws and self.chance.random() < 0.9 else self.filled_slot(m)
+
+    def add_raw_read(self):
+        m = self.mutator()
+        s = self.raw_slot(m)
+        first, at = self.field(m, s), self.model.target(m, s)
+        room = max(0, self.model.space.length(at) - first) if at else 3
+        count = min(300, self.chance.choice([0, 1, room, room + 1, self.chance.randrange(room + 1)]))
+        reply = self.raw_reply(m, s, first, [0] * count)
+        if reply == "done":
+            reply = " ".join(["read", *map(str, self.model.space.fields(at)[first:first + count])])
+        self.call(["raw_read", m, s, first, count], reply)
+
+    def add_address(self):
+        m = self.mutator()
+        s = self.filled_slot(m)
+        at = self.model.target(m, s)
+        self.call(["address", m, s], "address %d" % at if at else "no object")
+
+    def add_raw_write(self):
+        m = self.mutator()
+        s = self.raw_slot(m)
+        first = self.field(m, s)
+        at = self.model.target(m, s)
+        room = max(0, self.model.space.length(at) - first) if at else 3
+        numbers = [self.number() for _ in range(min(300, self.chance.choice([0, 1, room, room + 1, self.chance.randrange(room + 1)])))]
+        if numbers and self.chance.random() < 0.1:
+            numbers[self.chance.randrange(len(numbers))] = self.chance.choice([1 << 63, (1 << 64) - 1])
+        t = self.chance.choice([slot for slot in range(32) if slot != s])
+        reply, made = self.raw_reply(m, s, first, numbers), []
+        if reply == "done":
+            for k, n in enumerate(numbers):
+                made += [self.add_command("num", m, t, n), self.add_command("put", m, s, first + k, t)]
+        self.call(["raw_write", m, s, first, t, len(numbers), *numbers], reply, [line for line, _ in made], [reply for _, reply in made])
+
     def from_slots(self, m, d, kind, fields):
         """Makes an object with fields from slots, and returns its lines with their replies."""
         made = [self.add_command("new", m, d, kind, len(fields))]
@@ -225,7 +279,10 @@ class Calls:
             ["num", m, 0, (1 << 64) - 1], ["num", beyond, 0, 1], ["nil", beyond, 0], ["nil", m, slot], ["move", m, 0, slot], ["move", m, slot, 0],
             ["move", beyond, 0, 0], ["get", m, slot, 0, 0], ["get", m, 0, slot, 0], ["get", beyond, 0, 0, 0], ["put", m, slot, 0, 0],
             ["put", m, 0, 0, slot], ["put", beyond, 0, 0, 0], ["put_number", m, slot, 0, 0, 1], ["put_number", m, 0, 0, slot, 1],
-            ["put_number", beyond, 0, 0, 0, 1], ["put_number", m, 0, 0, 0, 1 << 63], ["cons", m, slot, 0, 0, 0], ["cons", m, 0, 0, slot, 0],
+            ["put_number", beyond, 0, 0, 0, 1], ["put_number", m, 0, 0, 0, 1 << 63],
+            ["put_nil", m, slot, 0, 0], ["put_nil", m, 0, 0, slot], ["put_nil", beyond, 0, 0, 0],
+            ["raw_read", beyond, 0, 0, 1], ["raw_read", m, slot, 0, 1], ["address", beyond, 0], ["address", m, slot],
+            ["raw_write", beyond, 0, 0, 1, 1, 5], ["raw_write", m, slot, 0, 1, 1, 5], ["raw_write", m, 0, 0, slot, 1, 5], ["raw_write", m, 3, 0, 3, 0], ["cons", m, slot, 0, 0, 0], ["cons", m, 0, 0, slot, 0],
             ["cons", m, 0, 0, 0, slot], ["cons", beyond, 0, 0, 0, 0], ["new_from", m, 0, 0, 2, 0, slot], ["new_from", beyond, 0, 0, 1, 0],
             ["new_from", m, slot, 0, 0], ["same", m, slot, 0], ["same", m, 0, slot], ["same", beyond, 0, 0], ["look", m, slot], ["look", beyond, 0],
             ["begin_sized", 0], ["apply", beyond], ["log", beyond], ["work", 0]]), OUT_OF_RANGE)

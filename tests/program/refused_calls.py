@@ -29,10 +29,10 @@ EXACTLY = {
     # The same, and an entry of the history.
     "worlds::flip_of_1000_with_a_full_history": 8,
     "worlds::flip_of_1000_with_a_spare_place": 7,
-    # The starts of both images, the partners by old and by new address, and the pairs as they are found and in their order.
-    "checks::pairs_inferred": 6,
-    "checks::images_compared": 6,
-    "checks::images_compared_in_threads": 6,
+    # The starts of both images, the partners by old and by new address, and the pairs.
+    "checks::pairs_inferred": 5,
+    "checks::images_compared": 5,
+    "checks::images_compared_in_threads": 5,
 }
 # From 2,048 pairs on, a flip also asks for threads. A flip that asks the sequential checker makes seven requests.
 AT_LEAST = {

@@ -7,16 +7,16 @@ import subprocess
 import sys
 import tempfile
 
-from .c_library import TOP, done, library, skip
+from .c_builds import SANITIZERS, TOP, done, library, skip, usable
 
 OCAML = os.path.join(TOP, "examples", "ocaml")
 JVM = os.path.join(TOP, "examples", "jvm")
 # The lines that examples/ocaml/check.sh prints where all is well.
 OF_OCAML = (
-    "a million pairs and more, twelve kinds, and two compactions", "fault 1, a bit of a promoted object", "fault 2, a root that the collector misses",
+    "a million pairs and more, thirteen kinds, and two compactions", "fault 1, a bit of a promoted object", "fault 2, a root that the collector misses",
     "fault 3, a remembered field that it misses", "fault 4, a store without the barrier", "fault 5, a bit after a compaction",
     "fault 6, a weak reference that is cleared", "fault 7, a weak pointer that loses its offset",
-    "fault 8, a value of a finaliser that it misses", "the self-test", "under AddressSanitizer", "OCaml's compiler",
+    "fault 8, a value of a finaliser that it misses", "fault 9, a value of finalise_last that it misses", "the self-test", "under AddressSanitizer", "OCaml's compiler",
 )
 
 
@@ -87,7 +87,7 @@ def java(folder):
     """Returns the app, or None, with a line that says how many cases are skipped."""
     missing = [tool for tool in ("java", "javac") if shutil.which(tool) is None]
     if missing:
-        skip("%d cases of examples/jvm" % (OF_COLLECTOR * len(COLLECTORS) + 2), "no %s" % ", ".join(missing))
+        skip("%d cases of examples/jvm" % (OF_COLLECTOR * len(COLLECTORS) + 7), "no %s" % ", ".join(missing))
         return None
     built = library(folder)
     return built and App(folder, built)
@@ -148,6 +148,48 @@ def jvm_self_test(_program, folder, flips=200):
     yield "the self-test of examples/jvm", why or (None if status == 0 and told else "\n".join(lines))
 
 
+# The parts of the library that are C.
+C_PARTS = {"allocator.o": "allocator.c", "images.o": "gcflip_images.c", "images_adapter.o": "images_adapter.c", "images_told.o": "images_told.c"}
+# Writes behind a row that Python got from malloc.
+BEYOND = "import ctypes; row = (ctypes.c_uint64 * 100)(); ctypes.memset(ctypes.addressof(row), 0, 801)"
+
+
+def sanitized(folder, built):
+    """Builds the shared library with its C parts under AddressSanitizer. Returns the environment in which Python loads it, and why there is none, or
+    None. Python then gets each block of memory from malloc, so that a write beyond a row of an image is seen."""
+    rest, path = os.path.join(folder, "rest.a"), os.path.join(folder, "libgcflip_sanitized.so")
+    shutil.copy(built.archive()[0], rest)
+    done(["ar", "d", rest, *C_PARTS])
+    sources = [os.path.join(TOP, "bindings", "c", name) for name in C_PARTS.values()]
+    words = ["gcc", "-shared", "-fPIC", "-O1", *SANITIZERS, "-o", path, *sources, "-Wl,--whole-archive", rest, "-Wl,--no-whole-archive"]
+    linked = done(words)
+    preload = done(["gcc", "-print-file-name=libasan.so"]).stdout.decode().strip()
+    environment = dict(os.environ, GCFLIP_LIBRARY=path, LD_PRELOAD=preload, PYTHONMALLOC="malloc", ASAN_OPTIONS="detect_leaks=0")
+    return environment, None if linked.status == 0 else linked.stderr.decode("utf-8", "replace")
+
+
+def jvm_sanitized(_program, folder):
+    """Runs certify.py over a library whose C parts are built with AddressSanitizer: a collection, and both faults."""
+    app = java(folder)
+    if app is None:
+        return
+    built = library(folder)
+    if built is None or not usable(folder, "examples/jvm under AddressSanitizer", ["gcc", *SANITIZERS]):
+        return
+    app.environment, why = sanitized(folder, built)
+    yield "the library with AddressSanitizer", why
+    if why is not None:
+        return
+    told = done([sys.executable, "-c", BEYOND], env=app.environment)
+    yield "a write beyond a row is seen", None if b"AddressSanitizer" in told.stderr and told.status != 0 else told.stderr.decode("utf-8", "replace")
+    dumps, why = app.dumps("Serial", "300", "1")
+    status, lines = app.certified(dumps, 0)
+    pairs = re.fullmatch(r"yes (\d+)", lines[0])
+    yield "examples/jvm under AddressSanitizer", why or (None if status == 0 and pairs and int(pairs.group(1)) > 1000 else "\n".join(lines)[-3000:])
+    for case, why in faults_found(app, "Serial"):
+        yield "%s, under AddressSanitizer" % case, why
+
+
 def table_of_readme(_program, _folder):
     """Checks that the table of faults has each fault that is tested."""
     with open(os.path.join(OCAML, "README.md"), encoding="utf-8") as file:
@@ -158,4 +200,4 @@ def table_of_readme(_program, _folder):
         yield "row of %s" % line, None if row is None or row in text else "no row %r" % row
 
 
-GROUPS = [ocaml, jvm, jvm_self_test, table_of_readme]
+GROUPS = [ocaml, jvm, jvm_self_test, jvm_sanitized, table_of_readme]

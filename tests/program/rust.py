@@ -2,7 +2,8 @@
 import os
 import shutil
 
-from .c_library import TOP, done, library, skip, texts_and_lines, traces_and_replies
+from .c_builds import TOP, done, library, skip
+from .c_library import texts_and_lines, traces_and_replies
 from .examples import names_of
 from .harness import Outcome, difference, file_of
 from .python import content_of

@@ -1,4 +1,5 @@
 """Must-fail edits: wrong bodies that the prover has to reject. CONTRIBUTING.md says how one is written."""
+import hashlib
 import os
 import re
 
@@ -119,6 +120,23 @@ def edits_of(crate):
     """Returns the names of a crate's edits, in order. A crate may have none."""
     folder = os.path.join(CRATES, crate, "must-fail")
     return sorted(os.listdir(folder)) if os.path.isdir(folder) else []
+
+
+def tried_in(path):
+    """Returns the bytes of a file that count where edits are tried: of an edit, all but its comments."""
+    with open(path, "rb") as file:
+        lines = file.read().split(b"\n")
+    return b"\n".join(line for line in lines if not (path.endswith(".edit") and line.startswith(b"#")))
+
+
+def sum_of(crate):
+    """Returns the first digits of a SHA-256 of what a crate's edits are tried on: its code, definitions and proofs, and the edits."""
+    digest = hashlib.sha256()
+    for part in ("src", "specs", "proofs", "must-fail"):
+        for folder, _, names in sorted(os.walk(os.path.join(CRATES, crate, part))):
+            for path in [os.path.join(folder, name) for name in sorted(names)]:
+                digest.update(("%s\n" % os.path.relpath(path, CRATES)).encode() + hashlib.sha256(tried_in(path)).digest())
+    return digest.hexdigest()[:16]
 
 
 def names_of(edits):

@@ -5,9 +5,10 @@ import gcflip
 from gcflip.heap import Mutator, Step
 
 REPLIES = {gcflip.Full: "full", gcflip.NoObject: "no object", gcflip.NoField: "no field", gcflip.NoNumber: "no number", gcflip.Busy: "busy",
-           gcflip.Idle: "idle", gcflip.NoRoom: "no room", gcflip.NotReady: "not ready", gcflip.OutOfRange: "out of range", gcflip.Closed: "closed",
+           gcflip.Idle: "idle", gcflip.NotReady: "not ready", gcflip.OutOfRange: "out of range", gcflip.Closed: "closed",
            gcflip.OutOfMemory: "no memory"}
-DONE = {"new": "made", "raw": "made", "cons": "made", "num": "done", "nil": "done", "move": "done", "put": "done", "put_number": "done"}
+DONE = {"new": "made", "raw": "made", "cons": "made", "num": "done", "nil": "done", "move": "done", "put": "done", "put_number": "done",
+        "put_nil": "done"}
 
 
 def seen(value):
@@ -34,6 +35,13 @@ def of_mutator(heap, name, numbers):
     if name == "new_from":
         mutator.new_from(*numbers[1:3], numbers[4:])
         return "made"
+    if name == "raw_read":
+        return " ".join(["read", *map(str, mutator.raw_read(*numbers[1:]))])
+    if name == "address":
+        return "address %d" % mutator.address(*numbers[1:])
+    if name == "raw_write":
+        assert mutator.raw_write(*numbers[1:4], numbers[5:]) is None
+        return "done"
     assert getattr(mutator, name)(*numbers[1:]) is None
     return DONE[name]
 

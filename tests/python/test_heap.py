@@ -36,6 +36,42 @@ class WrittenWhileScanning(unittest.TestCase):
             self.assertEqual(mutator.get(own(2), own(0), 0), 9)
 
 
+class Checks(unittest.TestCase):
+    """Which checker accepts flips, and what a check of an open collection finds."""
+
+    def flips(self, **options):
+        with Heap(32, **options) as heap:
+            heap.mutator(0).new(own(0), 1, 1)
+            self.assertEqual(heap.flip_checks(), (0, 0))
+            for _ in range(7):
+                self.assertEqual(heap.work(100).last, Step.FLIPPED)
+            return heap.flip_checks()
+
+    def test_ways_of_checking(self):
+        self.assertEqual(self.flips(), gcflip.FlipChecks(along=7, whole=0))
+        self.assertEqual(self.flips(checking=gcflip.Checking.AT_FLIP), gcflip.FlipChecks(along=0, whole=7))
+        self.assertEqual(self.flips(whole_each=3), gcflip.FlipChecks(along=5, whole=2))
+        with self.assertRaises(gcflip.OutOfRange):
+            self.flips(whole_each=2 ** 32)
+
+    def test_check(self):
+        with Heap(32) as heap:
+            heap.mutator(0).new(own(0), 1, 1)
+            with self.assertRaises(gcflip.Idle):
+                heap.check()
+            heap.begin()
+            with self.assertRaises(gcflip.NotReady):
+                heap.check()
+            while heap.useful().name != "flip":
+                heap.work(1)
+            self.assertEqual(heap.check(), 1)
+            self.assertEqual(heap.flip(), 1)
+        with self.assertRaises(gcflip.Closed):
+            heap.check()
+        with self.assertRaises(gcflip.Closed):
+            heap.flip_checks()
+
+
 class Commands(unittest.TestCase):
     def setUp(self):
         self.heap = Heap(16, mutators=2)
@@ -65,6 +101,25 @@ class Commands(unittest.TestCase):
             self.mutator.put_number(own(2), 0, own(2), 6)
         with self.assertRaises(gcflip.OutOfRange):
             self.mutator.put_number(own(0), 0, own(2), 1 << 63)
+
+    def test_put_nil(self):
+        self.mutator.cons(own(0), 7, own(0), own(0))
+        self.mutator.raw(own(1), 255, 1)
+        self.mutator.num(own(2), 5)
+        self.mutator.put_nil(own(0), 1, own(2))
+        self.assertIsNone(self.mutator.look(own(2)))
+        self.assertIsNone(self.mutator.get(own(3), own(0), 1))
+        self.assertEqual(self.mutator.get(own(3), own(0), 0), Object(7, 2))
+        self.mutator.num(own(2), 5)
+        with self.assertRaises(gcflip.NoNumber):
+            self.mutator.put_nil(own(1), 0, own(2))
+        self.assertIsNone(self.mutator.look(own(2)))
+        with self.assertRaises(gcflip.NoField):
+            self.mutator.put_nil(own(0), 2, own(2))
+        with self.assertRaises(gcflip.NoObject):
+            self.mutator.put_nil(own(2), 0, own(2))
+        with self.assertRaises(gcflip.OutOfRange):
+            self.mutator.put_nil(own(0), 0, 32)
 
     def test_cons(self):
         self.mutator.num(own(1), 5)
@@ -151,7 +206,8 @@ class Commands(unittest.TestCase):
             lambda: self.mutator.num(0, -1), lambda: self.mutator.get(0, 0, 65536), lambda: self.heap.begin(0),
             lambda: self.heap.begin(1 << 32), lambda: self.heap.apply(2), lambda: self.heap.work(0), lambda: self.heap.work(0, size=8),
             lambda: self.heap.work(1, size=0), lambda: self.heap.log_length(2),
-            lambda: self.heap.log_entry(0, 0), lambda: self.heap.new_words(),
+            lambda: self.heap.log_entry(0, 0), lambda: self.heap.new_words(), lambda: self.mutator.raw_read(32, 0, 0),
+            lambda: self.mutator.raw_read(0, 65536, 0), lambda: self.mutator.raw_read(0, 0, 65536), lambda: self.mutator.address(32),
         ]
         for number, call in enumerate(calls):
             with self.subTest(number), self.assertRaises(gcflip.OutOfRange):
@@ -168,9 +224,25 @@ class Steps(unittest.TestCase):
             heap.begin(3)
             with self.assertRaises(gcflip.Busy):
                 heap.begin()
-            with self.assertRaises(gcflip.NoRoom):
-                heap.roots()
-            self.assertEqual(heap.work(5)[:3], (1, 0, Step.NO_ROOM))
+            with self.assertRaises(gcflip.NotReady):
+                heap.flip()
+            self.assertEqual(heap.drop(), Step.DROPPED)
+
+    def test_steps_without_room(self):
+        """The new space has room for the first object alone. The second one is the target of a root, of a field, and of a written field."""
+        with Heap(16) as heap:
+            mutator = heap.mutator(0)
+            mutator.new(own(0), 1, 2)
+            mutator.new(own(1), 1, 0)
+            mutator.put(own(0), 0, own(1))
+            heap.begin(5)
+            self.assertEqual(heap.roots(), Step.COPIED)
+            self.assertEqual(heap.roots(), Step.NO_ROOM)
+            self.assertEqual(heap.scan(), Step.NO_ROOM)
+            mutator.put(own(0), 1, own(1))
+            self.assertEqual(heap.apply(0), Step.NO_ROOM)
+            self.assertEqual(heap.log_length(0), 1)
+            self.assertEqual(heap.work(5), (1, 0, Step.NO_ROOM, 0))
             self.assertEqual(heap.drop(), Step.DROPPED)
 
     def test_work(self):
@@ -202,6 +274,63 @@ class Readings(unittest.TestCase):
             self.assertEqual(list(heap.image().words), [0, header, 1, 0])
             self.assertEqual(list(heap.image().roots), [2] + [0] * 47)
             self.assertEqual(heap.new_words(), array.array("Q", [0, header, 1, 0]))
+
+    def test_numbers_of_raw_objects(self):
+        with Heap(32, 2) as heap:
+            mutator = heap.mutator(1)
+            mutator.raw(own(3), 9, 4)
+            for field in range(4):
+                mutator.put_number(own(3), field, own(0), 10 + field)
+            self.assertEqual(list(mutator.raw_read(own(3), 0, 4)), [10, 11, 12, 13])
+            self.assertEqual(list(mutator.raw_read(own(3), 1, 2)), [11, 12])
+            self.assertEqual(list(mutator.raw_read(own(3), 4, 0)), [])
+            for first, count in ((4, 1), (5, 0), (0, 5), (65535, 65535)):
+                with self.subTest(first=first, count=count), self.assertRaises(gcflip.NoField):
+                    mutator.raw_read(own(3), first, count)
+            mutator.new(own(4), 9, 4)
+            for slot in (own(0), own(1), own(4)):
+                with self.assertRaises(gcflip.NoObject):
+                    mutator.raw_read(slot, 0, 0)
+
+    def test_numbers_are_written_at_once(self):
+        with Heap(32, 2) as heap:
+            mutator = heap.mutator(1)
+            mutator.raw(own(3), 9, 4)
+            for numbers in ([1, 2, (1 << 63) - 1], array.array("Q", [4, 5, 6]), memoryview(array.array("Q", [7, 8, 9])), iter([10, 11, 12])):
+                with self.subTest(numbers):
+                    mutator.raw_write(own(3), 1, own(0), numbers)
+            self.assertEqual(list(mutator.raw_read(own(3), 0, 4)), [0, 10, 11, 12])
+            self.assertEqual(mutator.look(own(0)), 12)
+            mutator.raw_write(own(3), 4, own(0), [])
+            wrong = [(gcflip.NoField, (own(3), 2, own(0), [1, 2, 3])), (gcflip.NoField, (own(3), 5, own(0), [])),
+                     (gcflip.NoNumber, (own(3), 0, own(0), [1, 1 << 63])), (gcflip.NoObject, (own(5), 0, own(0), [1])),
+                     (gcflip.OutOfRange, (own(3), 0, own(3), [1])), (gcflip.OutOfRange, (own(3), 65536, own(0), [])),
+                     (gcflip.OutOfRange, (32, 0, own(0), [])), (gcflip.OutOfRange, (own(3), 0, 32, [])), (OverflowError, (own(3), 0, own(0), [1, 1 << 64])),
+                     (OverflowError, (own(3), 0, own(0), [-1])), (TypeError, (own(3), 0, own(0), array.array("I", [1])))]
+            for error, arguments in wrong:
+                with self.subTest(arguments), self.assertRaises(error):
+                    mutator.raw_write(*arguments)
+            mutator.new(own(4), 9, 4)
+            with self.assertRaises(gcflip.NoObject):
+                mutator.raw_write(own(4), 0, own(0), [1])
+            self.assertEqual(list(mutator.raw_read(own(3), 0, 4)), [0, 10, 11, 12])
+            self.assertEqual(mutator.look(own(0)), 12)
+            heap.begin()
+            mutator.raw_write(own(3), 2, own(0), [20, 21])
+            self.assertEqual([heap.log_entry(1, k) for k in range(heap.log_length(1))], [LogEntry(1, 2), LogEntry(1, 3)])
+
+    def test_addresses(self):
+        with Heap(32) as heap:
+            mutator = heap.mutator(0)
+            mutator.new(own(0), 1, 3)
+            mutator.new(own(1), 1, 0)
+            self.assertEqual((mutator.address(own(0)), mutator.address(own(1))), (1, 6))
+            mutator.nil(own(0))
+            with self.assertRaises(gcflip.NoObject):
+                mutator.address(own(0))
+            while heap.work(1).last != gcflip.Step.FLIPPED:
+                pass
+            self.assertEqual(mutator.address(own(1)), 1)
 
     def test_images_can_be_checked(self):
         with Heap(16) as heap:

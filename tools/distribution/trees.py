@@ -9,6 +9,8 @@ TOP = os.path.normpath(os.path.join(os.path.dirname(os.path.abspath(__file__)), 
 HERE = os.path.dirname(os.path.abspath(__file__))
 SHARED = "libgcflip.so.0"
 DOCUMENTS = ["README.md", "CHANGELOG.md", "docs/FORMATS.md", "docs/EMBEDDING.md", "docs/CERTIFY.md", "docs/GLOSSARY.md", "docs/EXPLORE.md"]
+COMPLETIONS = {"share/bash-completion/completions/gcflip": "gcflip.bash", "share/zsh/site-functions/_gcflip": "_gcflip",
+               "share/fish/vendor_completions.d/gcflip.fish": "gcflip.fish"}
 HEADERS = ["gcflip_answers.h", "gcflip.h", "gcflip_heap.h", "gcflip_images.h", "gcflip_record.h", "gcflip_allocator.h"]
 
 
@@ -82,6 +84,7 @@ def tree(program, libraries, libdir="lib", documents="share/doc/herbpond"):
         "share/man/man1/gcflip.1": Leaf(filled("gcflip.1", libdir)),
         documents + "/TRUST.md": Leaf(verdicts()),
     }
+    found.update({path: Leaf(filled(name, libdir)) for path, name in COMPLETIONS.items()})
     found.update({"include/" + name: Leaf(read("bindings", "c", name)) for name in HEADERS})
     found.update({documents + "/" + os.path.basename(name): Leaf(read(name)) for name in DOCUMENTS})
     examples = list(below("bindings/c/examples")) + list(below("examples", lambda path: path.endswith((".trace", ".replies", ".pair", ".verdict"))))

@@ -1,8 +1,14 @@
-"""Lays out the graph of the crates: each crate above those that it uses, with an arrow to each of them, unless a path leads there too."""
+"""Lays out the graph of the crates: each crate in a row above those that it uses, with an arrow to each of them, unless a path leads there too."""
 from gcflip_drawing.pair_text import Unreadable
 from gcflip_drawing.picture import Picture
 
-BOX_WIDTH, BOX, GAP_X, GAP_Y, LEFT, TOP = 104, 34, 30, 40, 24, 24
+BOX_WIDTH, BOX, GAP, LEFT, TOP = 120, 24, 6, 8, 8
+# The distance of the first track from the boxes, and of a track from the next one.
+FIRST_TRACK, TRACK = 26, 28
+# Where the arrow to a crate ends at its box, below its upper side. Those to the crates that it uses begin below.
+HEAD = 5
+# The size of the dot where an arrow of a further user joins.
+DOT = 5
 # The groups of crates, by the role of their boxes: a name for the legend, and the crates.
 GROUPS = {
     "crate-base": ("objects and words", ["gc_graph", "gc_words"]),
@@ -10,7 +16,7 @@ GROUPS = {
     "crate-checker": ("the checker", ["gc_cert", "gc_check", "gc_par", "gc_along", "gc_beside", "gc_generations"]),
     "crate-run": ("histories, threads, traces, the program", ["gc_world", "gc_shared", "gc_trace", "gcflip"]),
     "crate-c": ("for C", ["gcflip_c", "gcflip_heap_c"]),
-    "crate-tests": ("only tests", ["gc_tests", "growths"]),
+    "crate-tests": ("only tests", ["gc_test_kit", "gc_tests", "gc_shared_tests", "gc_trace_tests", "growths"]),
 }
 
 
@@ -57,26 +63,69 @@ def arrows_of(uses):
     return [(name, use) for name in uses for use in uses[name] if use not in covered(uses, name)]
 
 
-def orders(levels, arrows):
-    """Returns the crates of each level, from the highest down, each near those that it is connected to."""
-    rows = [sorted(name for name in levels if levels[name] == level) for level in range(max(levels.values()) + 1)]
-    for _ in range(8):
-        place = {name: at - len(row) / 2 for row in rows for at, name in enumerate(row)}
-        for row in rows:
-            joined = {name: [place[b] for a, b in arrows if a == name] + [place[a] for a, b in arrows if b == name] for name in row}
-            row.sort(key=lambda name: (sum(joined[name]) / len(joined[name]) if joined[name] else 0, name))
-            place.update({name: at - len(row) / 2 for at, name in enumerate(row)})
-    return rows[::-1]
+def length_of(order, arrows):
+    """Returns how many rows all arrows together go down, if each crate has a row."""
+    rows = {name: row for row, name in enumerate(order)}
+    return sum(rows[lower] - rows[upper] for upper, lower in arrows)
 
 
-def places_of(rows, width):
-    """Returns the middle of each crate's box."""
-    found = {}
-    for line, row in enumerate(rows):
-        start = (width - len(row) * (BOX_WIDTH + GAP_X) + GAP_X) / 2
-        for at, name in enumerate(row):
-            found[name] = start + at * (BOX_WIDTH + GAP_X) + BOX_WIDTH / 2, TOP + line * (BOX + GAP_Y) + BOX / 2
+def ordered(uses, arrows):
+    """Returns the crates from the top row to the bottom one, each above those that it uses. No crate can change its place with the one below so that the
+    arrows get shorter."""
+    levels = levels_of(uses)
+    order = sorted(uses, key=lambda name: (-levels[name], name))
+    is_better = True
+    while is_better:
+        is_better = False
+        for row in range(len(order) - 1):
+            swapped = [*order[:row], order[row + 1], order[row], *order[row + 2:]]
+            if order[row + 1] not in uses[order[row]] and length_of(swapped, arrows) < length_of(order, arrows):
+                order, is_better = swapped, True
+    return order
+
+
+def tracks_of(order, arrows):
+    """Returns the track of each crate that is used, which is an upright line from its topmost user down to its own row. Short ones are at the left, and one
+    track has several if they have no row in common."""
+    rows = {name: row for row, name in enumerate(order)}
+    first = {}
+    for upper, lower in arrows:
+        first[lower] = min(rows[upper], first.get(lower, rows[upper]))
+    tracks, found = [], {}
+    for name in sorted(first, key=lambda name: (rows[name] - first[name], rows[name])):
+        taken = set(range(first[name], rows[name] + 1))
+        track = next((at for at, others in enumerate(tracks) if not others & taken), len(tracks))
+        if track == len(tracks):
+            tracks.append(set())
+        tracks[track] |= taken
+        found[name] = track
     return found
+
+
+def row_top(row):
+    return TOP + row * (BOX + GAP)
+
+
+def branches_of(name, arrows, tracks):
+    """Returns where the arrows of a crate begin, by the crates that it uses. Those with tracks farther to the right begin higher, so that they do not cross
+    the others there."""
+    used = sorted((lower for upper, lower in arrows if upper == name), key=lambda use: -tracks[use])
+    return {use: HEAD + (BOX - HEAD) * at / (len(used) + 1) for at, use in enumerate(used, 1)}
+
+
+def draw_arrows(picture, order, arrows):
+    """Draws for each crate that is used one line with a branch from each user, and with its head at the crate. Returns the right end of the lines."""
+    rows, tracks, right = {name: row for row, name in enumerate(order)}, tracks_of(order, arrows), LEFT + BOX_WIDTH
+    branches = {name: branches_of(name, arrows, tracks) for name in order}
+    for name in sorted(tracks, key=lambda name: rows[name]):
+        x, y, role = right + FIRST_TRACK + tracks[name] * TRACK, row_top(rows[name]) + HEAD, role_of(name).replace("crate", "uses")
+        starts = [row_top(rows[user]) + branches[user][name] for user in order if name in branches[user]]
+        picture.line([(right, starts[0]), (x, starts[0]), (x, y)], role)
+        for start in starts[1:]:
+            picture.line([(right, start), (x, start)], role)
+            picture.box(x - DOT / 2, start - DOT / 2, DOT, DOT, "joint")
+        picture.arrow((x, y), ((x + right) / 2, y), (right, y), role)
+    return right + FIRST_TRACK + max(tracks.values(), default=0) * TRACK
 
 
 def role_of(name):
@@ -96,20 +145,10 @@ def draw_legend(picture, uses, y):
 
 def drawn(uses, title):
     """Returns the picture of the crates. `uses` has the crates that each crate uses."""
-    picture = Picture(title)
-    levels, arrows = levels_of(uses), arrows_of(uses)
-    rows = orders(levels, arrows)
-    room = max([levels[upper] - levels[lower] - 1 for upper, lower in arrows] + [0])
-    width = LEFT * 2 + max(len(row) for row in rows) * (BOX_WIDTH + GAP_X) + min(room, 1) * 3 * BOX_WIDTH
-    places = places_of(rows, width)
-    for upper, lower in arrows:
-        (x, y), (to_x, to_y) = places[upper], places[lower]
-        # An arrow over several levels goes around the boxes between.
-        far = levels[upper] - levels[lower] > 1
-        side = 1 if x + to_x >= width else -1
-        bend = ((x + to_x) / 2 + (side * BOX_WIDTH * 1.2 if far else 0), (y + to_y) / 2)
-        picture.arrow((x, y + BOX / 2), bend, (to_x, to_y - BOX / 2), "uses")
-    for name, (x, y) in places.items():
-        picture.box(x - BOX_WIDTH / 2, y - BOX / 2, BOX_WIDTH, BOX, role_of(name), name)
-    bottom = draw_legend(picture, uses, TOP + len(rows) * (BOX + GAP_Y) - GAP_Y + 18)
-    return picture.sized(width, bottom + 12)
+    picture, arrows = Picture(title), arrows_of(uses)
+    order = ordered(uses, arrows)
+    right = draw_arrows(picture, order, arrows)
+    for row, name in enumerate(order):
+        picture.box(LEFT, row_top(row), BOX_WIDTH, BOX, role_of(name), name)
+    bottom = draw_legend(picture, uses, row_top(len(order)) + 10)
+    return picture.sized(right + LEFT, bottom + 8)

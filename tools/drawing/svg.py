@@ -34,7 +34,16 @@ STYLES = {
     "rooted": "stroke: #8250df; stroke-width: 1.4; fill: none",
     "pair": "stroke: #1a7f37; stroke-width: 1.6; stroke-dasharray: 2 4; fill: none",
     "link": "stroke: #6e7781; stroke-width: 1.6; stroke-dasharray: 2 4; fill: none",
-    "uses": "stroke: #57606a; stroke-width: 1.3; fill: none",
+    "pair-bundle": "fill: #1a7f37; fill-opacity: 0.3",
+    "link-bundle": "fill: #6e7781; fill-opacity: 0.3",
+    "uses": "stroke: #57606a; stroke-width: 1.5; fill: none",
+    "uses-base": "stroke: #57606a; stroke-width: 1.5; fill: none",
+    "uses-collector": "stroke: #0969da; stroke-width: 1.5; fill: none",
+    "uses-checker": "stroke: #1a7f37; stroke-width: 1.5; fill: none",
+    "uses-run": "stroke: #9a6700; stroke-width: 1.5; fill: none",
+    "uses-c": "stroke: #8250df; stroke-width: 1.5; fill: none",
+    "uses-tests": "stroke: #8c959f; stroke-width: 1.5; fill: none",
+    "joint": "fill: #57606a",
     "axis": "stroke: #57606a; fill: none",
     "grid": "stroke: #eaeef2; fill: none",
     "limit": "stroke: #8c959f; stroke-dasharray: 5 4; fill: none",
@@ -51,7 +60,7 @@ STYLES = {
 
 TEXT_COLOURS = {"small": "#57606a", "verdict": "#1a7f37", "refusal": "#cf222e"}
 
-HEADS = ["reference", "stale", "rooted", "uses"]
+HEADS = ["reference", "stale", "rooted", *(role for role in STYLES if role.startswith("uses"))]
 
 
 def number(value):
@@ -95,21 +104,30 @@ def arrow(shape):
 RENDERERS = {"box": box, "text": text, "line": line, "area": area, "arrow": arrow}
 
 
-def style_sheet():
+def style_sheet(shapes):
+    """Returns the rules for the roles that these shapes have."""
+    roles = {"ground"} | {shape["role"] for shape in shapes if shape["kind"] != "text"}
+    texts = {shape["role"] for shape in shapes if shape["kind"] == "text"} | ({"value"} if any(shape["kind"] == "box" and shape["text"] for shape in shapes) else set())
     rules = ["text { %s }" % FONT]
-    rules += [".%s { %s }" % rule for rule in STYLES.items()]
+    rules += [".%s { %s }" % (role, style) for role, style in STYLES.items() if role in roles]
     for role, size in TEXT_SIZES.items():
         bold = "; font-weight: bold" if role in BOLD else ""
         colour = "; fill: %s" % TEXT_COLOURS[role] if role in TEXT_COLOURS else ""
-        rules.append("text.%s { font-size: %dpx%s%s }" % (role, size, bold, colour))
+        # A line that runs behind a small text keeps away from its letters, as in the page.
+        halo = "; stroke: #ffffff; stroke-width: 3px; paint-order: stroke" if role == "small" else ""
+        if role in texts:
+            rules.append("text.%s { font-size: %dpx%s%s%s }" % (role, size, bold, colour, halo))
     return "\n".join(rules)
 
 
-def markers():
+def markers(shapes):
+    """Yields the heads of the arrows among these shapes."""
+    arrows = {shape["role"] for shape in shapes if shape["kind"] == "arrow"}
     for role in HEADS:
         colour = STYLES[role].split("stroke: ")[1].split(";")[0]
-        yield ('<marker id="head-%s" viewBox="0 0 8 8" refX="8" refY="4" markerWidth="7" markerHeight="7" orient="auto">'
-               '<path d="M0,0 L8,4 L0,8 z" style="fill: %s"/></marker>' % (role, colour))
+        if role in arrows:
+            yield ('<marker id="head-%s" viewBox="0 0 8 8" refX="8" refY="4" markerWidth="7" markerHeight="7" orient="auto">'
+                   '<path d="M0,0 L8,4 L0,8 z" style="fill: %s"/></marker>' % (role, colour))
 
 
 def render(picture):
@@ -117,8 +135,10 @@ def render(picture):
     lines = ['<svg xmlns="http://www.w3.org/2000/svg" viewBox="0 0 %s %s" width="%s" height="%s">' % (
         (number(picture.width), number(picture.height)) * 2)]
     lines.append("<title>%s</title>" % escape(picture.title))
-    lines.append("<style>\n%s\n</style>" % style_sheet())
-    lines.append("<defs>\n%s\n</defs>" % "\n".join(markers()))
+    lines.append("<style>\n%s\n</style>" % style_sheet(picture.shapes))
+    heads = list(markers(picture.shapes))
+    if heads:
+        lines.append("<defs>\n%s\n</defs>" % "\n".join(heads))
     lines.append('<rect class="ground" x="0" y="0" width="%s" height="%s"/>' % (number(picture.width), number(picture.height)))
     lines += [RENDERERS[shape["kind"]](shape) for shape in picture.shapes]
     return "\n".join(lines) + "\n</svg>\n"

@@ -6,14 +6,14 @@ package.
 """
 from .checker import Image, Pairs, Row, check, check_text
 from .errors import (BadLine, BadText, Busy, Closed, EndsEarly, FlipRefused, Full, GcflipError, HeapRefused, Idle, NoField, NoNumber,
-                     NoObject, NoRoom, NotReady, OutOfMemory, OutOfRange, Reentered, Refusal, Refused, TextTooLarge, TooManyPairs)
-from .heap import Counts, Heap, LogEntry, Mutator, Object, Pace, Step, Useful, Value, Work, own, shared
+                     NoObject, NotReady, OutOfMemory, OutOfRange, Reentered, Refusal, Refused, TextTooLarge, TooManyPairs)
+from .heap import Checking, Counts, FlipChecks, Heap, LogEntry, Mutator, Object, Pace, Step, Useful, Value, Work, own, shared
 from .inference import Comparison, Path, compare, explained, path_to
 from .library import library_version
 
 __all__ = [
-    "BadLine", "BadText", "Busy", "Closed", "Comparison", "Counts", "EndsEarly", "FlipRefused", "Full", "GcflipError", "Heap",
-    "HeapRefused", "Idle", "Image", "LogEntry", "Mutator", "NoField", "NoNumber", "NoObject", "NoRoom", "NotReady", "Object", "OutOfMemory", "OutOfRange",
+    "BadLine", "BadText", "Busy", "Checking", "Closed", "Comparison", "Counts", "EndsEarly", "FlipChecks", "FlipRefused", "Full", "GcflipError", "Heap",
+    "HeapRefused", "Idle", "Image", "LogEntry", "Mutator", "NoField", "NoNumber", "NoObject", "NotReady", "Object", "OutOfMemory", "OutOfRange",
     "Pace", "Pairs", "Path", "Reentered", "Refusal", "Refused", "Row", "Step", "TextTooLarge", "TooManyPairs", "Useful",
     "Value", "Work", "check", "check_text", "compare", "explained", "library_version", "own", "path_to", "shared",
 ]

@@ -1,4 +1,4 @@
-"""The exceptions of the package. A call that raises one has changed nothing, except `put_number`, as it says."""
+"""The exceptions of the package. A call that raises one has changed nothing, except `put_number` and `put_nil`, as they say."""
 from __future__ import annotations
 
 import enum
@@ -146,12 +146,6 @@ class Idle(HeapRefused):
     """No collection is open."""
 
     reply = "idle"
-
-
-class NoRoom(HeapRefused):
-    """The new space has no room for a replica."""
-
-    reply = "no room"
 
 
 class NotReady(HeapRefused):

@@ -4,6 +4,7 @@ from __future__ import annotations
 import array
 import ctypes
 import enum
+import functools
 import operator
 import os
 import threading
@@ -11,10 +12,10 @@ import weakref
 from typing import Any, Callable, NamedTuple, NoReturn, Sequence, TypeVar, Union
 
 from . import library
-from .checker import Image
-from .errors import (Busy, Closed, FlipRefused, Full, GcflipError, HeapRefused, Idle, NoField, NoNumber, NoObject, NoRoom, NotReady,
+from .checker import Block, Image, Row, _pairs_of
+from .errors import (Busy, Closed, FlipRefused, Full, GcflipError, HeapRefused, Idle, NoField, NoNumber, NoObject, NotReady,
                      OutOfMemory, OutOfRange, Reentered)
-from .library import COUNTS, HEAP, LIBRARY, MUTATOR, SLOT, Answer, StepName, in_range
+from .library import COUNTS, HEAP, LIBRARY, MUTATOR, SLOT, Answer, CheckingNumber, StepName, in_range
 
 SLOTS = 16
 NOTHING_DONE: dict[int, type[GcflipError]] = {
@@ -29,7 +30,6 @@ REFUSED: dict[int, type[HeapRefused]] = {
     Answer.NO_NUMBER: NoNumber,
     Answer.BUSY: Busy,
     Answer.IDLE: Idle,
-    Answer.NO_ROOM: NoRoom,
     Answer.NOT_READY: NotReady,
     Answer.FLIP_REFUSED: FlipRefused,
 }
@@ -84,7 +84,8 @@ class Step(enum.Enum):
     DROPPED = "dropped"
     """The collection was given up."""
     NO_ROOM = "no room"
-    """The new space has no room for a replica. Only `work` returns this; a single step raises NoRoom."""
+    """The new space has no room for a replica, so nothing changed. The collection stays open; `drop` ends it. This never happens if the new space
+    is at least as large as the heap."""
 
 
 def _step_of(answer: int) -> Step:
@@ -153,6 +154,24 @@ class Counts(NamedTuple):
     """The entries in all logs."""
 
 
+class Checking(enum.Enum):
+    """When the checker looks at a collection."""
+
+    ALONG = "along"
+    """At each field when the collector brings it up to date. A flip then looks at a count and at the roots."""
+    AT_FLIP = "at flip"
+    """At both spaces whole, when the collection flips."""
+
+
+class FlipChecks(NamedTuple):
+    """How many flips each checker has accepted since the heap was opened."""
+
+    along: int
+    """The flips that the checker that goes along accepted."""
+    whole: int
+    """Those that were accepted by both spaces whole."""
+
+
 class LogEntry(NamedTuple):
     """A field that a mutator wrote while a collection was open."""
 
@@ -201,10 +220,12 @@ class Heap:
     already, as in a signal handler. A heap cannot be copied or pickled.
     """
 
-    def __init__(self, size: int, mutators: int = 1, extra_roots: int = 0) -> None:
+    def __init__(self, size: int, mutators: int = 1, extra_roots: int = 0, checking: Checking = Checking.ALONG, whole_each: int = 0) -> None:
         """Opens an empty heap of `size` words, 1 to 4294967295, for 1 to 16 mutators, with up to 1048576 extra roots. All roots hold
-        nil. Raises OutOfMemory."""
-        numbers = in_range((size, extra_roots, mutators), [ctypes.c_uint32, ctypes.c_uint32, ctypes.c_uint8])
+        nil. If the checker goes along with the collection, each flip with the number `whole_each`, counted from the last one, checks both
+        spaces whole; with 0 none does. Raises OutOfMemory."""
+        numbers = in_range((size, extra_roots, mutators, CheckingNumber[checking.name], whole_each),
+                           [ctypes.c_uint32, ctypes.c_uint32, ctypes.c_uint8, ctypes.c_uint8, ctypes.c_uint32])
         self._turn = Turn()
         self._handle = library.Handle()
         self._extra_roots = numbers[1]
@@ -242,21 +263,21 @@ class Heap:
         return self._step("begin") if size is None else self._step("begin_sized", size)
 
     def roots(self) -> Step:
-        """Replicates the target of the first root whose target has no replica: COPIED or CLEAN. Raises NoRoom and Idle."""
+        """Replicates the target of the first root whose target has no replica: COPIED, CLEAN or NO_ROOM. Raises Idle."""
         return self._step("roots")
 
     def scan(self) -> Step:
-        """Brings the field at the scan pointer up to date, or moves on to the next replica: SCANNED, PASSED or CLEAN. Raises
-        NoRoom and Idle."""
+        """Brings the field at the scan pointer up to date, or moves on to the next replica: SCANNED, PASSED, CLEAN or NO_ROOM. Raises
+        Idle."""
         return self._step("scan")
 
     def apply(self, mutator: int) -> Step:
-        """Applies the oldest entry of a mutator's log: APPLIED or CLEAN. Raises NoRoom and Idle."""
+        """Applies the oldest entry of a mutator's log: APPLIED, CLEAN or NO_ROOM. Raises Idle."""
         return self._step("apply", mutator)
 
     def flip(self) -> int:
-        """Flips if the collection is ready and the checker accepts its certificate, and returns the number of pairs. Raises
-        NotReady, Idle and OutOfMemory."""
+        """Flips if the collection is ready and a checker accepts it, and returns the number of pairs. Raises NotReady, Idle and
+        OutOfMemory."""
         pairs = ctypes.c_uint32()
         self._call("step_flip", pairs)
         return pairs.value
@@ -264,6 +285,18 @@ class Heap:
     def drop(self) -> Step:
         """Frees the new space and the logs: DROPPED. Raises Idle."""
         return self._step("give_up")
+
+    def flip_checks(self) -> FlipChecks:
+        """Returns how many flips each checker has accepted since the heap was opened."""
+        checks = library.RawFlipChecks()
+        self._call("flip_checks", checks)
+        return FlipChecks(checks.along, checks.whole)
+
+    def check(self) -> int:
+        """Checks both spaces of the open collection whole, and returns the number of pairs. Changes nothing. Raises NotReady, Idle and
+        OutOfMemory. That it raises Refused is proved never to occur, unless other code writes into the heap's memory."""
+        verdict = library.Verdict()
+        return _pairs_of(self._call("check", verdict), verdict)
 
     def useful(self) -> Useful:
         """Returns the useful step, and performs none. It begins a collection if none is open. Otherwise it is the first of roots, scan and
@@ -369,12 +402,31 @@ class Heap:
             raise REFUSED[answer]()
         return answer
 
+    def _prepared(self, name: str, *arguments: Any) -> Callable[[], int]:
+        """Returns a function that makes one call again and again, and returns its answer. It checks the arguments once, and does not wait for other
+        calls: the caller sees to it that only one call at a time uses the heap, and makes none after the heap was closed."""
+        call = getattr(LIBRARY, "gcflip_heap_" + name)
+        return functools.partial(call, self._handle, *in_range(arguments, HEAP[name]))
+
     def _new_from(self, mutator: int, slot: int, kind: int, sources: Sequence[int]) -> None:
         """Makes an object whose fields take the values of slots."""
         sources = list(sources)
         mutator, slot, kind, *slots = in_range((mutator, slot, kind, *sources), (MUTATOR, SLOT, ctypes.c_uint8, *[SLOT] * len(sources)))
         numbers = (ctypes.c_uint8 * max(1, len(slots)))(*slots)
         self._turn.take(lambda: self._made("new_from", mutator, slot, kind, numbers, len(slots)))
+
+    def _raw_read(self, mutator: int, slot: int, first: int, count: int) -> array.array[int]:
+        """Copies numbers of a raw object."""
+        mutator, slot, first, count = in_range((mutator, slot, first, count), (MUTATOR, SLOT, ctypes.c_uint16, ctypes.c_uint16))
+        numbers = _zeros(count)
+        self._turn.take(lambda: self._made("raw_read", mutator, slot, first, numbers.buffer_info()[0], count))
+        return numbers
+
+    def _raw_write(self, mutator: int, slot: int, first: int, source: int, numbers: Row) -> None:
+        """Writes numbers to a raw object."""
+        mutator, slot, first, source = in_range((mutator, slot, first, source), (MUTATOR, SLOT, ctypes.c_uint16, SLOT))
+        words = Block(numbers, "Q")
+        self._turn.take(lambda: self._made("raw_write", mutator, slot, first, source, words.address, words.count))
 
     def _get(self, mutator: int, slot: int, source: int, field: int) -> Value:
         """Reads a field into a slot, and looks at the slot before another thread can change it."""
@@ -434,6 +486,26 @@ class Mutator:
         """Reads a field of the object that slot `source` refers to into the slot, and returns its value. Raises NoObject and NoField."""
         return self.heap._get(self.number, slot, source, field)
 
+    def raw_read(self, slot: int, first: int, count: int) -> array.array[int]:
+        """Copies `count` numbers of the raw object that the slot refers to, those of field `first` and of the fields after it. No slot
+        changes. Raises NoObject if the slot refers to no raw object, and NoField if the object has fewer fields."""
+        return self.heap._raw_read(self.number, slot, first, count)
+
+    def raw_write(self, slot: int, first: int, source: int, numbers: Row) -> None:
+        """Writes numbers to the raw object that the slot refers to, into field `first` and the fields after it. For each number this is a `num`
+        of slot `source` and a `put` of it, in one call, so `source` keeps the last number. A buffer of 64-bit words is read in place. All
+        numbers are written or none. Raises NoObject if the slot refers to no raw object, NoField if the object has fewer fields, NoNumber for
+        a number of 2^63 or more, OutOfRange if `slot` and `source` are one, OverflowError for a number that has no 64 bits, and OutOfMemory
+        while a collection is open."""
+        self.heap._raw_write(self.number, slot, first, source, numbers)
+
+    def address(self, slot: int) -> int:
+        """Returns the address of the object that the slot refers to. The next flip gives objects other addresses. Raises NoObject if it
+        refers to none."""
+        address = ctypes.c_uint32()
+        self._call("address", slot, address)
+        return address.value
+
     def put(self, slot: int, field: int, source: int) -> None:
         """Writes the value of slot `source` into a field of the object that the slot refers to. Raises NoObject, NoField, NoNumber,
         and OutOfMemory while a collection is open."""
@@ -443,6 +515,11 @@ class Mutator:
         """Puts a number below 2^63 into slot `source`, and then writes it into a field like `put`. If the call raises NoObject or NoField,
         slot `source` has the number; if it raises OutOfMemory, nothing changed."""
         self._call("put_number", slot, field, source, number)
+
+    def put_nil(self, slot: int, field: int, source: int) -> None:
+        """Puts nil into slot `source`, and then writes it into a field like `put`. If the call raises NoObject, NoField or NoNumber, slot
+        `source` has nil; if it raises OutOfMemory, nothing changed."""
+        self._call("put_nil", slot, field, source)
 
     def cons(self, slot: int, kind: int, first: int, second: int) -> None:
         """Makes an object with two fields, which take the values of two slots, and puts a reference to it into the slot: a `new` and two

@@ -48,6 +48,8 @@ class Answer(enum.IntEnum):
     FRAME_EMPTY = 6
     TOO_MANY = 7
     TOO_LARGE = 8
+    FAULTY = 9
+    NOT_BEGUN = 10
     MADE = 16
     FULL = 17
     NO_OBJECT = 18
@@ -91,6 +93,13 @@ class StepName(enum.IntEnum):
     GIVE_UP = 7
 
 
+class CheckingNumber(enum.IntEnum):
+    """The numbers that stand for ways of checking."""
+
+    ALONG = 0
+    AT_FLIP = 1
+
+
 COUNTS = ("size", "end", "free", "mutators", "extra_roots", "is_open", "new_size", "new_end", "scan_place", "scan_field", "logged")
 
 
@@ -109,7 +118,12 @@ class RawPace(ctypes.Structure):
 class Options(ctypes.Structure):
     """What a heap is opened with. `bytes` is the size of this record."""
 
-    _fields_ = [("bytes", c_uint32), ("size", c_uint32), ("extra_roots", c_uint32), ("mutators", c_uint8)]
+    _fields_ = [("bytes", c_uint32), ("size", c_uint32), ("extra_roots", c_uint32), ("mutators", c_uint8), ("checking", c_uint8),
+                ("whole_each", c_uint32)]
+
+
+class RawFlipChecks(ctypes.Structure):
+    _fields_ = [("along", c_uint64), ("whole", c_uint64)]
 
 
 IMAGE: List[Any] = [c_uint32, c_uint32, c_bool, c_void_p, c_size_t, c_void_p, c_size_t]
@@ -136,6 +150,7 @@ HEAP: Dict[str, List[Any]] = {
     "get": [MUTATOR, SLOT, SLOT, c_uint16, POINTER(c_uint64)],
     "put": [MUTATOR, SLOT, c_uint16, SLOT],
     "put_number": [MUTATOR, SLOT, c_uint16, SLOT, c_uint64],
+    "put_nil": [MUTATOR, SLOT, c_uint16, SLOT],
     "new_pair": [MUTATOR, SLOT, c_uint8, SLOT, SLOT],
     "new_from": [MUTATOR, SLOT, c_uint8, c_void_p, c_size_t],
     "same": [MUTATOR, SLOT, SLOT],
@@ -150,6 +165,8 @@ HEAP: Dict[str, List[Any]] = {
     "step_apply": [MUTATOR],
     "step_flip": [POINTER(c_uint32)],
     "step_give_up": [],
+    "flip_checks": [POINTER(RawFlipChecks)],
+    "check": [POINTER(Verdict)],
     "useful": [POINTER(RawStep)],
     "work": [c_uint32, POINTER(Work)],
     "pace": [POINTER(RawPace)],
@@ -160,6 +177,9 @@ HEAP: Dict[str, List[Any]] = {
     "log_entry": [MUTATOR, c_size_t, POINTER(LogEntry)],
     "image": [c_void_p, c_size_t, c_void_p, c_size_t],
     "new_words": [c_void_p, c_size_t],
+    "raw_read": [MUTATOR, SLOT, c_uint16, c_void_p, c_size_t],
+    "raw_write": [MUTATOR, SLOT, c_uint16, SLOT, c_void_p, c_size_t],
+    "address": [MUTATOR, SLOT, POINTER(c_uint32)],
 }
 
 

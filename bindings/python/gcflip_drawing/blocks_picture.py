@@ -1,13 +1,15 @@
 """Lays out a scene of large heaps: each space as rows of blocks. Neighbouring blocks of one sort are joined."""
+from collections import Counter
 from typing import NamedTuple
 
+from .bundles import BAND, Line, draw_lines, is_bundled
+from .heap import RAW, length_of
 from .picture import MARGIN, Picture
 from .scene import counted, objects_of
-from .words_picture import LINES, ROOT_X, draw_caption
+from .words_picture import LINES, ROOT_X, bundle_entry, draw_caption
 
 BLOCK, ROW = 8, 10
 MOST_LINES = 64
-BETWEEN = 90
 # If several sorts tie for the most words of a block, the first one in this list wins.
 SORTS = ["unknown", "object", "raw", "garbage", "reserved", "free"]
 
@@ -21,6 +23,11 @@ class Blocks(NamedTuple):
 
     def width(self):
         return self.columns * BLOCK
+
+    def words(self, scene):
+        """Returns the number of words of a block in the picture of a scene."""
+        words = [space.size if self.is_whole else len(space.words) for space, _ in scene.spaces()]
+        return max(1, -(-max(words) // (self.columns * self.rows)))
 
 
 def blocks_of(width):
@@ -36,25 +43,37 @@ class Side:
         self.sorts = self.sorts_of_blocks()
         self.rows = -(-len(self.sorts) // blocks.columns)
 
-    def sorts_of_words(self):
-        end, size = len(self.space.words), self.space.size
-        row = self.blocks.columns * self.scale
-        drawn = max(end, size if self.blocks.is_whole else min(size, -(-end // row) * row))
-        sorts = ["unknown"] * end + ["free"] * (drawn - end)
-        sorts[0] = "reserved"
-        for thing in self.space.objects.values():
-            sorts[thing.start:thing.start + thing.size()] = [self.space.sort(thing)] * thing.size()
-        return sorts
-
     def sorts_of_blocks(self):
         """Returns the most frequent sort of word in each block."""
-        sorts = self.sorts_of_words()
-        parts = [sorts[at:at + self.scale] for at in range(0, len(sorts), self.scale)]
-        return [part[0] if part.count(part[0]) == len(part) else max(SORTS, key=part.count) for part in parts]
+        end, size, scale = len(self.space.words), self.space.size, self.scale
+        row = self.blocks.columns * scale
+        drawn = max(end, size if self.blocks.is_whole else min(size, -(-end // row) * row))
+        counts = [[0] * len(SORTS) for _ in range(-(-drawn // scale))]
+
+        def add(first, count, sort):
+            """Counts words of a sort, which stand one behind the other."""
+            while count > 0:
+                part = min(count, scale - first % scale)
+                counts[first // scale][sort] += part
+                first, count = first + part, count - part
+
+        places = {sort: at for at, sort in enumerate(SORTS)}
+        behind = min(end, 1)
+        add(0, behind, places["reserved"])
+        live, plain, raw, garbage = self.space.live, places["object"], places["raw"], places["garbage"]
+        for start, header in self.space.objects.headers.items():
+            size = length_of(header) + 2
+            add(start, size, garbage if start not in live else raw if header >= RAW else plain)
+            behind = start + size
+        add(behind, end - behind, places["unknown"])
+        add(end, drawn - end, places["free"])
+        return [SORTS[max(range(len(SORTS)), key=count.__getitem__)] for count in counts]
 
     def place(self, address):
         """Returns the middle of the block that has an address."""
-        block = address // self.scale
+        return self.middle(address // self.scale)
+
+    def middle(self, block):
         columns = self.blocks.columns
         return ROOT_X + (block % columns + 0.5) * BLOCK, self.top + (block // columns + 0.5) * ROW
 
@@ -81,17 +100,29 @@ def draw_space(picture, side):
 
 def heading(space):
     roots = sum(1 for word in space.roots if word != 0)
-    return "%s: %s, %d of them free, %s, %s that are not nil" % (
-        space.name, counted(space.size, "word"), space.size - len(space.words), objects_of(space), counted(roots, "root"))
+    return "%s: %s, %d of them free, %s, %s that %s not nil" % (
+        space.name, counted(space.size, "word"), space.size - len(space.words), objects_of(space), counted(roots, "root"), "is" if roots == 1 else "are")
 
 
-def draw_joined(picture, sides, scene):
-    """Draws lines between objects that belong together, evenly spaced and as many as stay readable. Returns their entry in the legend."""
+def lines_between(old, new, joined, step):
+    """Returns the lines between objects at whose addresses there are words: one in `step` by itself, and one for all others from the same block to the
+    same block."""
+    ends, scales = (len(old.space.words), len(new.space.words)), (old.scale, new.scale)
+    drawn = [(first, second) for first, second in joined[::step] if first < ends[0] and second < ends[1]]
+    counts = Counter((first // scales[0], second // scales[1]) for first, second in joined if first < ends[0] and second < ends[1])
+    counts.subtract((first // scales[0], second // scales[1]) for first, second in drawn)
+    return [Line(old.place(first), new.place(second)) for first, second in drawn] + [
+        Line(old.middle(first), new.middle(second), is_drawn=False, count=count) for (first, second), count in counts.items() if count > 0]
+
+
+def draw_joined(picture, sides, scene, width):
+    """Draws lines between objects that belong together, in bundles that count all of them. Beyond their bundles, evenly spaced ones are
+    drawn, as many as stay readable. Returns their entry in the legend, and whether there are bundles."""
     step = max(1, -(-len(scene.joined) // MOST_LINES))
-    for old, new in scene.joined[::step]:
-        if old < len(scene.old.words) and new < len(scene.new.words):
-            picture.line([sides[0].place(old), sides[1].place(new)], scene.joined_as)
-    return "%ss" % scene.joined_as if step == 1 else "one %s in %d" % (scene.joined_as, step)
+    old, new = sides
+    lines = lines_between(old, new, scene.joined, step)
+    draw_lines(picture, lines, width, old.top + old.height(), new.top, scene.joined_as)
+    return "%ss" % scene.joined_as if step == 1 else "one %s in %d" % (scene.joined_as, step), is_bundled(lines)
 
 
 def draw_faults(picture, sides, scene):
@@ -102,7 +133,9 @@ def draw_faults(picture, sides, scene):
         if mark.address < len(side.space.words):
             x, y = side.place(mark.address)
             picture.box(x - 6, y - 8, 12, 16, "fault", tip="address %d" % mark.address)
-            picture.text(min(x + 10, ROOT_X + side.blocks.width() - 60), y - 10 if mark.is_old else y + 20, "word %d" % mark.address, "small")
+            # There is a heading above the first row of the old space.
+            above = mark.is_old and y > side.top + ROW
+            picture.text(min(x + 10, ROOT_X + side.blocks.width() - 60), y - 10 if above else y + 20, "word %d" % mark.address, "small")
             places.append((x, y))
     if len(places) == 2:
         picture.line(places, "fault")
@@ -121,11 +154,11 @@ def draw_scan(picture, side, scan):
     picture.text(x + 9, y - 6, "scan", "small")
 
 
-def draw_legend(picture, scene, y, scale, lines, right):
+def draw_legend(picture, legend, y, scale, lines, right):
     """Draws a sample of each role with its name, in as many lines as needed. Returns the base of the last line."""
     x = ROOT_X
     words = "a block is %s wide" % ("one word" if scale == 1 else "%d words" % scale)
-    for role, name in [item for item in scene.legend if item[0] not in ("root", "changed")] + [("", words)]:
+    for role, name in [item for item in legend if item[0] not in ("root", "changed")] + [("", words)]:
         if role in LINES:
             name = lines + name[len(role):]
         sample = 34 if role in LINES else 18 if role else -6
@@ -143,20 +176,19 @@ def draw_legend(picture, scene, y, scale, lines, right):
 def drawn_in_blocks(scene, blocks=Blocks()):
     """Returns the picture of a scene with too many words to draw one by one."""
     picture, width = Picture(scene.title), ROOT_X * 2 + blocks.width()
-    words = [space.size if blocks.is_whole else len(space.words) for space, _ in scene.spaces()]
-    scale = max(1, -(-max(words) // (blocks.columns * blocks.rows)))
+    scale = blocks.words(scene)
     heading_y = picture.paragraph(ROOT_X, draw_caption(picture, scene, width), heading(scene.old), "label", width)
     sides = [Side(scene.old, True, heading_y + 10, blocks, scale)]
     bottom = sides[0].top + sides[0].height()
     if scene.new:
-        sides.append(Side(scene.new, False, bottom + BETWEEN, blocks, scale))
+        sides.append(Side(scene.new, False, bottom + BAND, blocks, scale))
         bottom = picture.paragraph(ROOT_X, sides[1].top + sides[1].height() + 20, heading(scene.new), "label", width)
     for side in sides:
         draw_space(picture, side)
-    lines = draw_joined(picture, sides, scene)
+    lines, bundled = draw_joined(picture, sides, scene, width) if scene.new else ("", False)
     draw_logged(picture, sides, scene)
     draw_faults(picture, sides, scene)
     if scene.scan is not None:
         draw_scan(picture, sides[1], scene.scan)
-    bottom = draw_legend(picture, scene, bottom + 16, scale, lines, width)
+    bottom = draw_legend(picture, scene.legend + bundle_entry(scene, bundled), bottom + 16, scale, lines, width)
     return picture.sized(width, bottom + 26)

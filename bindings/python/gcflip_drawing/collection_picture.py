@@ -60,7 +60,7 @@ def scan_of(state, objects):
     start, field = state.scan
     if start not in objects:
         return Scan(len(state.new.words) - 1, True)
-    is_behind = field == len(objects[start].fields)
+    is_behind = field == objects[start].count
     return Scan(start + 2 + field - (1 if is_behind else 0), is_behind)
 
 

@@ -92,7 +92,7 @@ def draw_space(picture, scene, space, is_old, top):
             continue
         thing = space.objects[int(name[1:])]
         label = "%d" % thing.start if thing.start not in originals else "%d of %d" % (thing.start, originals[thing.start])
-        tip = "object at %d: kind %d, %s" % (thing.start, thing.kind, counted(len(thing.fields), "field"))
+        tip = "object at %d: kind %d, %s" % (thing.start, thing.kind, counted(thing.count, "field"))
         picture.box(left, upper, wide, high, space.sort(thing), label if len(label) <= 10 else "%d" % thing.start, tip)
         if any(thing.start <= address < thing.start + thing.size() for address in refused):
             picture.box(left - 3, upper - 3, wide + 6, high + 6, "fault")

@@ -1,66 +1,109 @@
 """Decodes the words of a heap image."""
+import collections.abc
 
 PLAIN, RAW, HEADERS = 16777216, 50331648, 16777216
+# References are the even words below the first number, and in a space with more words below the second one.
+REFERENCES, WIDE_REFERENCES = 2097152, 1 << 33
 
 
 class Object:
-    """An object of an image. `fields` are words."""
+    """An object of an image, with the number of its fields. `words` are those of its space."""
 
-    def __init__(self, start, raw, kind, fields):
-        self.start, self.raw, self.kind, self.fields = start, raw, kind, fields
+    __slots__ = ("start", "raw", "kind", "count", "words")
+
+    def __init__(self, start, raw, kind, count, words):
+        self.start, self.raw, self.kind, self.count, self.words = start, raw, kind, count, words
+
+    @property
+    def fields(self):
+        """The words of the fields."""
+        return self.words[self.start + 2:self.start + 2 + self.count]
 
     def size(self):
-        return len(self.fields) + 2
+        return self.count + 2
 
 
 def header_of(word, raws):
     """Returns whether a header word is raw, its kind and its length, or None if the word is not a header."""
-    for least, raw in ((PLAIN, False), (RAW, True)):
-        if least <= word < least + HEADERS and (raws or not raw):
-            return raw, (word - least) // 65536, (word - least) % 65536
+    if PLAIN <= word < PLAIN + HEADERS:
+        return False, word - PLAIN >> 16, length_of(word)
+    if raws and RAW <= word < RAW + HEADERS:
+        return True, word - RAW >> 16, length_of(word)
     return None
+
+
+class Objects(collections.abc.Mapping):
+    """The objects of a space by their starts, in their order. It keeps their header words, and makes an object when it is asked for."""
+
+    def __init__(self, words, headers):
+        self.words, self.headers = words, headers
+
+    def __getitem__(self, start):
+        return Object(start, *header_of(self.headers[start], True), self.words)
+
+    def __contains__(self, start):
+        return start in self.headers
+
+    def __iter__(self):
+        return iter(self.headers)
+
+    def __len__(self):
+        return len(self.headers)
+
+
+def length_of(header):
+    """Returns the number of fields that a header word tells."""
+    return header & 65535
 
 
 def walk(words, raws):
     """Returns the objects of a space by their starts, up to the first word that is not a header or whose object runs past the end."""
-    found, at = {}, 1
-    while at < len(words):
-        header = header_of(words[at], raws)
-        if header is None or at + header[2] + 2 > len(words):
+    headers, at, end = {}, 1, len(words)
+    while at < end:
+        word = words[at]
+        behind = at + length_of(word) + 2
+        if behind > end or not (PLAIN <= word < PLAIN + HEADERS or raws and RAW <= word < RAW + HEADERS):
             break
-        raw, kind, length = header
-        found[at] = Object(at, raw, kind, words[at + 2:at + 2 + length])
-        at += length + 2
-    return found
+        headers[at] = word
+        at = behind
+    return Objects(words, headers)
 
 
-def target(word):
-    """Returns the address that a word refers to, or None."""
-    return word // 2 if word % 2 == 0 and 0 < word < 2097152 else None
+def beyond(words):
+    """Returns the least number that no reference of a space with these words is."""
+    return REFERENCES if 2 * len(words) <= REFERENCES else WIDE_REFERENCES
 
 
-def shown(word):
-    """Returns the meaning of a field or root word."""
+def target(word, limit=REFERENCES):
+    """Returns the address that a word refers to, or None. References are below the limit."""
+    return word // 2 if word % 2 == 0 and 0 < word < limit else None
+
+
+def shown(word, limit=REFERENCES):
+    """Returns the meaning of a field or root word. References are below the limit."""
     if word == 0:
         return "nil"
     if word % 2 == 1:
         return str(word // 2)
-    return "\u2192%d" % (word // 2) if target(word) else "?"
+    return "\u2192%d" % (word // 2) if target(word, limit) else "?"
 
 
-def references(thing):
-    """Returns the numbers of an object's fields that hold references, with the addresses."""
+def references(thing, limit=REFERENCES):
+    """Returns the numbers of an object's fields that hold references, which are below the limit, with the addresses."""
     if thing.raw:
         return []
-    return [(i, target(word)) for i, word in enumerate(thing.fields) if target(word) is not None]
+    return [(i, target(word, limit)) for i, word in enumerate(thing.fields) if target(word, limit) is not None]
 
 
 def reachable(objects, roots):
     """Returns the starts of the objects that the roots reach."""
-    found, waiting = set(), [target(word) for word in roots]
+    headers, words = objects.headers, objects.words
+    most = 2 * len(words)
+    found, waiting = set(), [word >> 1 for word in roots if 0 < word < most and not word & 1]
     while waiting:
         at = waiting.pop()
-        if at in objects and at not in found:
+        if at not in found and at in headers:
             found.add(at)
-            waiting.extend(address for _, address in references(objects[at]))
+            if headers[at] < RAW:
+                waiting += [word >> 1 for word in words[at + 2:at + 2 + length_of(headers[at])] if 0 < word < most and not word & 1]
     return found

@@ -14,7 +14,7 @@ def read_images(text):
     for name in ("old", "new"):
         if lines.peeks("%s " % name):
             found[name] = read_image(lines, name, MOST_WORDS)
-            if any(word > MOST_WORD for word in (*found[name].words, *found[name].roots)):
+            if max([0, *found[name].words, *found[name].roots]) > MOST_WORD:
                 lines.fail("an image of words of 64 bits")
     if not found:
         lines.at += 1

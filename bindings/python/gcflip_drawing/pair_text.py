@@ -54,6 +54,11 @@ class Lines:
         return [int(word) for word, form in zip(words, forms) if form == "#"]
 
     def words(self, count, wanted):
+        """Returns the numbers of the next lines, one in each."""
+        part = self.lines[self.at:self.at + count]
+        if len(part) == count and all(map(NUMBER.fullmatch, part)):
+            self.at += count
+            return list(map(int, part))
         return [self.numbers("#", wanted)[0] for _ in range(count)]
 
 

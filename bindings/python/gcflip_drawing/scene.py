@@ -1,7 +1,8 @@
 """A scene, which a picture of a heap shows: one or two spaces, which objects belong together, and marks."""
+import functools
 from typing import NamedTuple
 
-from .heap import reachable, walk
+from .heap import beyond, reachable, walk
 
 
 class Space:
@@ -10,13 +11,36 @@ class Space:
     def __init__(self, name, image, raws=True, live=None):
         self.name, self.size, self.words, self.roots = name, image.size, image.words, image.roots
         self.objects = walk(image.words, raws)
+        # References are below this word.
+        self.beyond = beyond(image.words)
         self.live = reachable(self.objects, image.roots) if live is None else live
+        # How many words at the start are reserved, and the heading, if it is not the usual one.
+        self.reserved, self.said = 1, None
+        # What follows the address in the tip of an object.
+        self.tail = ""
 
     def sort(self, thing):
         return "garbage" if thing.start not in self.live else "raw" if thing.raw else "object"
 
+    @functools.cached_property
+    def starts(self):
+        """The starts of the objects, in their order."""
+        return list(self.objects)
+
+    def place_of(self, address):
+        """Returns where the word of an address is drawn, or None if it is not."""
+        return address
+
+    def address_of(self, place):
+        """Returns the address of the object that is drawn at a place."""
+        return place
+
+    def more_fields(self, place):
+        """Returns how many fields of the object at a place are not drawn."""
+        return 0
+
     def unreachable(self):
-        return sum(1 for start in self.objects if start not in self.live)
+        return len(self.objects) - sum(map(self.objects.__contains__, self.live))
 
 
 def counted(count, name):

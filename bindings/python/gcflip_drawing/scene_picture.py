@@ -5,11 +5,14 @@ from .words_picture import Grid, drawn_word_by_word, grid_of
 MOST_WORDS = 192
 
 
+def is_in_blocks(scene):
+    """Returns whether the heaps of a scene are too large to draw word by word."""
+    return max(len(space.words) for space, _ in scene.spaces()) > MOST_WORDS
+
+
 def drawn(scene, grid=Grid(), blocks=Blocks()):
     """Returns the picture of a scene."""
-    if max(len(space.words) for space, _ in scene.spaces()) <= MOST_WORDS:
-        return drawn_word_by_word(scene, grid)
-    return drawn_in_blocks(scene, blocks)
+    return drawn_in_blocks(scene, blocks) if is_in_blocks(scene) else drawn_word_by_word(scene, grid)
 
 
 def drawn_in_width(scene, width):

@@ -1,26 +1,27 @@
 """Says in lines of text what the picture of a scene shows, for readers who cannot see it."""
+from gcflip.inference import root_name
+
 from .heap import shown, target
 from .scene import counted
-from .words_picture import heading, root_names
+from .words_picture import heading
 
 # Longer lists are cut.
 MOST_OBJECTS = 100
 
 
-def named(word, objects):
-    """Returns what a root word or a field holds, in words."""
-    address = target(word)
+def named(word, space):
+    """Returns what a root word or a field of a space holds, in words."""
+    address = target(word, space.beyond)
     if address is None:
         return shown(word)
-    return "the object at %d" % address if address in objects else "address %d, where no object starts" % address
+    return "the object at %d" % address if address in space.objects else "address %d, where no object starts" % address
 
 
 def roots_of(space):
     """Yields a line for each root that is not nil."""
-    names = root_names(len(space.roots))
     for place, word in enumerate(space.roots):
         if word != 0:
-            yield "root %s (place %d): %s" % (names[place], place, named(word, space.objects))
+            yield "%s: %s" % (root_name(place, len(space.roots)), named(word, space))
 
 
 def objects_in(space):
@@ -30,10 +31,10 @@ def objects_in(space):
             yield "and %d more" % (len(space.objects) - MOST_OBJECTS)
             return
         sort = {"garbage": "unreachable ", "raw": "raw "}.get(space.sort(thing), "")
-        fields = [str(word) if thing.raw else named(word, space.objects) for word in thing.fields[:16]]
-        rest = ["and %d more" % (len(thing.fields) - 16)] if len(thing.fields) > 16 else []
+        fields = [str(word) if thing.raw else named(word, space) for word in thing.fields[:16]]
+        rest = ["and %d more" % (thing.count - 16)] if thing.count > 16 else []
         yield "%sobject at %d, kind %d, link %d, %s%s" % (
-            sort, thing.start, thing.kind, space.words[thing.start + 1], counted(len(thing.fields), "field"),
+            sort, thing.start, thing.kind, space.words[thing.start + 1], counted(thing.count, "field"),
             ": " + ", ".join(fields + rest) if fields else "")
 
 

@@ -6,7 +6,8 @@ from .picture import Picture
 LEFT, RIGHT = 96, 70
 LOG, LANE = 36, 16
 TOP = 74
-MOST_LABELS = 48
+# So many events have a label each, if each label has so many pixels.
+MOST_LABELS, LABEL_WIDTH = 48, 11
 MOST_LOGS = 4
 LANES = [("flip", "flips"), ("drop", "dropped"), ("full", "full"), ("no-room", "no room")]
 MARKS = {"dropped": "drop", "full": "full", "no room": "no-room"}
@@ -36,6 +37,15 @@ class Frame(NamedTuple):
 
     def top(self):
         return TOP if self.has_texts else 24
+
+    def has_labels(self, count):
+        """Returns whether each of so many events has a label."""
+        return self.has_texts and count <= min(MOST_LABELS, self.width // LABEL_WIDTH)
+
+
+def frame_of(width):
+    """Returns the frame of a picture of this width, at least 300."""
+    return Frame(width - LEFT - RIGHT)
 
 
 class Column:
@@ -67,23 +77,55 @@ class Run:
 
     def __init__(self, mutators, count, measures, frame=Frame()):
         self.frame, self.columns, self.replies, self.mutators, self.played = frame, [], [], mutators, 0
+        # The measure of the last event whose state was added.
+        self.last = None
         self.counts = {name: 0 for name, _ in LANES}
         self.count = count
-        self.labelled = frame.has_texts and count <= MOST_LABELS
+        self.labelled = frame.has_labels(count)
         self.all_columns = min(count, frame.width)
         self.extend(measures)
 
     def extend(self, measures):
         """Adds the measures of further events."""
         for at, measure in enumerate(measures, self.played):
-            if self.count <= self.frame.width or at * self.frame.width // self.count >= len(self.columns):
-                self.columns.append(Column(self.mutators))
+            self.reach(at)
             self.columns[-1].add(measure)
+            self.last = measure
             if mark_of(measure.reply):
                 self.counts[mark_of(measure.reply)] += 1
             if self.labelled:
                 self.replies.append(measure.reply)
             self.played = at + 1
+
+    def column_of(self, at):
+        """Returns the number of the column of an event."""
+        return at if self.count <= self.frame.width else at * self.frame.width // self.count
+
+    def first_event(self, column):
+        """Returns the number of the first event of a column."""
+        return column if self.count <= self.frame.width else -(-column * self.count // self.frame.width)
+
+    def reach(self, at):
+        """Adds the column of an event, if it is not there yet."""
+        if self.column_of(at) >= len(self.columns):
+            self.columns.append(Column(self.mutators))
+
+    def stay(self, end):
+        """Adds the events up to a position, which leave the state as it is and have no mark. Looks only at the columns that they reach."""
+        while self.played < end:
+            before = len(self.columns)
+            self.reach(self.played)
+            if len(self.columns) > before:
+                self.columns[-1].add(self.last._replace(reply=""))
+            # The first event of the next column, or the end.
+            self.played = min(end, self.first_event(len(self.columns)))
+
+    def until(self, column, last, counts):
+        """Returns the run of the events before a column, with the state after them and the counts of their marks. Further events can be added to it."""
+        run = Run(self.mutators, self.count, [], self.frame)
+        run.columns, run.played, run.last, run.counts = self.columns[:column], self.first_event(column), last, counts
+        run.replies = self.replies[:run.played]
+        return run
 
     def step(self):
         """Returns the width of a column."""

@@ -2,6 +2,9 @@
 together."""
 from typing import NamedTuple
 
+from gcflip.inference import root_name
+
+from .bundles import BAND, Line, draw_lines, is_bundled
 from .heap import references, shown, target
 from .picture import MARGIN, Picture, text_width
 from .scene import counted, objects_of
@@ -15,7 +18,8 @@ FREE_HEIGHT, FREE_GAP, LABEL_GAP = 10, 4, 16
 # A caption and a legend need this many columns.
 LEAST_COLUMNS = 11
 MOST_SHOWN_ROOTS = 24
-RIGHT = 24
+# The margin at the right, which is smaller in a picture that is narrow.
+RIGHT, NARROW_RIGHT = 24, 12
 # In a narrower picture the roots are in rows of their own, above the old space and below the new one.
 LEAST_WIDTH_WITH_ROOTS_AT_THE_LEFT = 460
 ROOT_GAP = 8
@@ -35,12 +39,15 @@ class Grid(NamedTuple):
     def left(self):
         return 176 if self.has_roots else ROOT_X
 
+    def right(self):
+        return RIGHT if self.has_roots else NARROW_RIGHT
+
 
 def grid_of(width, is_whole=False):
     """Returns the grid for a picture of about this width. Roots are at the left if enough columns remain."""
     has_roots = width >= LEAST_WIDTH_WITH_ROOTS_AT_THE_LEFT
-    left = Grid(has_roots=has_roots).left()
-    return Grid(max(4, min(24, (width - left - RIGHT) // CELL)), has_roots, is_whole)
+    margins = Grid(has_roots=has_roots).left() + Grid(has_roots=has_roots).right()
+    return Grid(max(4, min(24, (width - margins) // CELL)), has_roots, is_whole)
 
 
 class Side:
@@ -55,11 +62,16 @@ class Side:
         self.changed = {mark.address + i for mark in marks if mark.is_old == is_old and mark.role == "changed" for i in range(mark.size)}
 
     def label(self, thing):
-        """Returns the label of an object: its address, and its roots if there are no arrows from them."""
-        if self.has_arrows:
-            return str(thing.start)
-        names = [name for name, word in zip(root_names(len(self.space.roots)), self.space.roots) if target(word) == thing.start]
-        return "%d \u2190 %s" % (thing.start, short(", ".join(names), 18)) if names else str(thing.start)
+        """Returns the label of an object: its address, and how many fields are left out."""
+        address, more = self.space.address_of(thing.start), self.space.more_fields(thing.start)
+        return "%d and %s" % (address, counted(more, "more field")) if more else str(address)
+
+    def roots_of(self, thing, most):
+        """Returns the names of the roots that refer to an object, as a second label of so many characters, if there are no arrows from them."""
+        address = self.space.address_of(thing.start)
+        names = [] if self.has_arrows else [
+            name for name, word in zip(root_names(len(self.space.roots)), self.space.roots) if target(word, self.space.beyond) == address]
+        return short("\u2190 " + ", ".join(names), most) if names else ""
 
     def drawn_words(self):
         """Returns the number of words that have a cell."""
@@ -109,8 +121,10 @@ class Side:
             start, size = start + count, size - count
 
 
-# A cell has room for so many characters.
-MOST_IN_CELL = 6
+# A cell has room for so many characters, and the names of an object's roots have at least room for so many.
+MOST_IN_CELL, LEAST_OF_ROOTS = 6, 5
+# The distance of a text from an arrow or from a line that may be one of several.
+BESIDE_AN_ARROW = 13
 # An object that goes on in the next row reaches so far beyond the end of its row, and begins as far before the next one.
 BEYOND = 9
 
@@ -138,26 +152,34 @@ def draw_object(picture, side, thing):
         tip = "object at %d" if address == thing.start else "rest of the object at %d"
         before = BEYOND if address != thing.start else 0
         after = BEYOND if address + count < thing.start + thing.size() else 0
-        picture.box(x - before, y, before + count * CELL + after, HEIGHT, side.space.sort(thing), tip=tip % thing.start)
+        picture.box(x - before, y, before + count * CELL + after, HEIGHT, side.space.sort(thing), tip=tip % side.space.address_of(thing.start) + side.space.tail)
     name = "raw" if thing.raw else "kind"
-    draw_word(picture, side, thing.start, "head", "%s %d" % (name, thing.kind), "header: kind %d, %s" % (thing.kind, counted(len(thing.fields), "field")))
+    draw_word(picture, side, thing.start, "head", "%s %d" % (name, thing.kind), "header: kind %d, %s" % (thing.kind, counted(thing.count + side.space.more_fields(thing.start), "field")))
     link = side.space.words[thing.start + 1]
     draw_word(picture, side, thing.start + 1, "head", "link %d" % link, "link word %d" % link)
     for i, word in enumerate(thing.fields):
-        said = str(word) if thing.raw else shown(word)
+        said = str(word) if thing.raw else shown(word, side.space.beyond)
         draw_word(picture, side, thing.start + 2 + i, "cell", said, "field %d: word %d" % (i, word))
     x, y = side.inner_edge(thing.start)
-    picture.text(x - CELL / 2 + 2, y + (11 if side.is_old else -4), side.label(thing), "small")
+    y += 11 if side.is_old else -4
+    label, left = side.label(thing), x - CELL / 2 + 2
+    picture.text(left, y, label, "small")
+    # Arrows and lines that end at the object have their ends between the two labels. The next object has its label behind this one.
+    beside = max(x + BESIDE_AN_ARROW, left + text_width(label + " ", "small"))
+    _, count = next(side.segments(thing.start, thing.size()))
+    roots = side.roots_of(thing, max(LEAST_OF_ROOTS, int((left + count * CELL - beside) / text_width("x", "small"))))
+    if roots:
+        picture.text(beside, y, roots, "small")
 
 
 def draw_rest(picture, side):
     """Draws the reserved word, words that belong to no object, and free words."""
-    words, known = side.space.words, {0}
+    words, known = side.space.words, set(range(side.space.reserved))
     for thing in side.space.objects.values():
         known.update(range(thing.start, thing.start + thing.size()))
-    if len(words) > 0:
+    if side.space.reserved and words:
         draw_word(picture, side, 0, "reserved", str(words[0]), "word 0 is reserved")
-    for address in range(1, len(words)):
+    for address in range(side.space.reserved, len(words)):
         if address not in known:
             draw_word(picture, side, address, "unknown", str(words[address]), "word %d" % words[address])
     free = range(len(words), min(side.space.size, side.drawn_words()))
@@ -172,10 +194,11 @@ def draw_rest(picture, side):
 
 def draw_references(picture, side):
     for thing in side.space.objects.values():
-        for i, address in references(thing):
-            if address in side.space.objects:
+        for i, address in references(thing, side.space.beyond):
+            place = side.space.place_of(address)
+            if place in side.space.objects:
                 role = "reference" if thing.start in side.space.live else "stale"
-                draw_reference(picture, side, thing.start + 2 + i, address, role)
+                draw_reference(picture, side, thing.start + 2 + i, place, role)
 
 
 def draw_reference(picture, side, start, end, role):
@@ -191,7 +214,7 @@ def draw_reference(picture, side, start, end, role):
 
 
 def root_names(count):
-    """Returns the names of the places in a list of roots. They are slots if the length fits some number of mutators."""
+    """Returns names of the places in a list of roots that fit into a box. They are slots if the length fits some number of mutators."""
     if count < 32 or count % 16:
         return ["root %d" % place for place in range(count)]
     shared = ["g%d" % place for place in range(16)]
@@ -223,7 +246,8 @@ def draw_root(picture, side, place, x, y, scene):
     roots = side.space.roots
     word, name = roots[place], root_names(len(roots))[place]
     role = "changed" if (side.is_old, place) in scene.changed_roots else "root"
-    picture.box(x, y, ROOT_WIDTH, HEIGHT - 8, role, "%s  %s" % (name, short(shown(word), 9)), "word %d" % word)
+    tip = "%s: word %d" % (root_name(place, len(roots)), word)
+    picture.box(x, y, ROOT_WIDTH, HEIGHT - 8, role, "%s  %s" % (name, short(shown(word, side.space.beyond), 9)), tip)
     if place == scene.root:
         picture.box(x - 3, y - 3, ROOT_WIDTH + 6, HEIGHT - 2, "fault")
 
@@ -243,9 +267,9 @@ def draw_roots(picture, side, scene):
         y = side.row_top(0) + line * (HEIGHT - 4)
         word = roots[place]
         draw_root(picture, side, place, ROOT_X, y, scene)
-        address = target(word)
-        if address in side.space.objects and side.has_arrows:
-            x, edge_y = side.edge(address)
+        aim = side.space.place_of(target(word, side.space.beyond))
+        if aim in side.space.objects and side.has_arrows:
+            x, edge_y = side.edge(aim)
             start = (ROOT_X + ROOT_WIDTH, y + (HEIGHT - 8) / 2)
             picture.arrow(start, ((start[0] + x) / 2, edge_y + side.away(30)), (x - 12, edge_y), "rooted")
     hidden = sum(1 for word in roots if word != 0) - len(places)
@@ -253,10 +277,11 @@ def draw_roots(picture, side, scene):
         picture.text(ROOT_X, side.row_top(0) + len(places) * (HEIGHT - 4) + 12, "and %d more" % hidden, "small")
 
 
-def draw_joined(picture, sides, scene):
-    for old, new in scene.joined:
-        if old < len(scene.old.words) and new < len(scene.new.words):
-            picture.line([sides[0].inner_edge(old), sides[1].inner_edge(new)], scene.joined_as)
+def joined_lines(sides, scene):
+    """Returns the lines between objects that belong together, at whose addresses there are words."""
+    old, new = sides
+    return [Line(old.inner_edge(first), new.inner_edge(second), first // old.grid.columns, second // new.grid.columns)
+            for first, second in scene.joined if first < len(old.space.words) and second < len(new.space.words)]
 
 
 def draw_marks(picture, side, scene):
@@ -278,7 +303,7 @@ def draw_scan(picture, side, scan):
 
 
 def heading(space):
-    return "%s: %s, end %d, %s" % (space.name, counted(space.size, "word"), len(space.words), objects_of(space))
+    return space.said or "%s: %s, end %d, %s" % (space.name, counted(space.size, "word"), len(space.words), objects_of(space))
 
 
 # Roles that a legend shows by a line.
@@ -301,6 +326,11 @@ def draw_legend(picture, legend, y, right):
     return y
 
 
+def bundle_entry(scene, bundled):
+    """Returns the entry of the legend for bundles, if there are any."""
+    return [(scene.joined_as + "-bundle", "bundle of %ss" % scene.joined_as)] if bundled else []
+
+
 def side_of(scene, space, is_old, top, grid):
     """Returns a side of the picture, and its height with the roots."""
     side = Side(space, is_old, top, grid, scene.marks)
@@ -319,9 +349,9 @@ def draw_side(picture, side, scene):
 
 def width_of(scene, grid):
     """Returns the width of the picture: that of its longest row, or of a caption."""
-    least = LEAST_COLUMNS if scene.caption else 0
+    least = LEAST_COLUMNS if scene.caption or scene.old.said else 0
     longest = max(Side(space, is_old, 0, grid).drawn_words() for space, is_old in scene.spaces())
-    return grid.left() + min(grid.columns, max(least, longest)) * CELL + RIGHT
+    return grid.left() + min(grid.columns, max(least, longest)) * CELL + grid.right()
 
 
 def drawn_word_by_word(scene, grid=Grid()):
@@ -331,13 +361,14 @@ def drawn_word_by_word(scene, grid=Grid()):
     # The rows of roots, if they are not at the left: where they begin, and their height.
     rows = [(heading_y + 10, 0 if grid.has_roots else height_of_root_rows(scene.old, scene.root, width))]
     old, old_height = side_of(scene, scene.old, True, heading_y + 2 + rows[0][1], grid)
-    sides, bottom = [old], old.top + old_height
+    sides, bottom, bundled = [old], old.top + old_height, False
     if scene.new:
-        new, new_height = side_of(scene, scene.new, False, bottom + BETWEEN, grid)
+        bundled = is_bundled(joined_lines([old, Side(scene.new, False, 0, grid)], scene))
+        new, new_height = side_of(scene, scene.new, False, bottom + (BAND if bundled else BETWEEN), grid)
         sides.append(new)
         rows.append((new.top + new_height + 4, 0 if grid.has_roots else height_of_root_rows(scene.new, scene.root, width)))
         bottom = picture.paragraph(ROOT_X, sum(rows[1]) + 14, heading(scene.new), "label", width)
-        draw_joined(picture, sides, scene)
+        draw_lines(picture, joined_lines(sides, scene), width, old.top + old.height(), new.top, scene.joined_as)
     for side, (y, height) in zip(sides, rows):
         draw_side(picture, side, scene)
         if height > 0:
@@ -346,7 +377,7 @@ def drawn_word_by_word(scene, grid=Grid()):
         draw_marks(picture, side, scene)
     if scene.scan is not None:
         draw_scan(picture, sides[1], scene.scan)
-    bottom = draw_legend(picture, scene.legend, bottom + 18, width)
+    bottom = draw_legend(picture, scene.legend + bundle_entry(scene, bundled), bottom + 18, width)
     return picture.sized(width, bottom + 26)
 
 
@@ -355,7 +386,7 @@ def draw_caption(picture, scene, width):
     if not scene.caption:
         return 20
     picture.text(ROOT_X, 26, scene.title, "title")
-    picture.text(ROOT_X, 48, *scene.caption)
-    if not scene.explanation:
-        return 72
-    return picture.paragraph(ROOT_X, 66, scene.explanation, "label", width) + 24
+    bottom = picture.paragraph(ROOT_X, 48, *scene.caption, width)
+    if scene.explanation:
+        bottom = picture.paragraph(ROOT_X, bottom + 18, scene.explanation, "label", width)
+    return bottom + 24

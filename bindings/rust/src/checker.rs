@@ -194,7 +194,7 @@ pub fn check_text(text: &[u8]) -> Result<Yes, TextRefusal> {
     }
 }
 
-fn verdict_of(answer: u32, verdict: &RawVerdict) -> Result<Yes, Refusal> {
+pub(crate) fn verdict_of(answer: u32, verdict: &RawVerdict) -> Result<Yes, Refusal> {
     match answer {
         sys::GCFLIP_YES => Ok(Yes { pairs: verdict.pairs }),
         sys::GCFLIP_REFUSED => Err(refusal_of(verdict)),

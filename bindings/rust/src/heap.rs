@@ -1,7 +1,7 @@
 //! The collected heap: objects of words for 1 to 16 mutators, with an incremental, replicating collector.
 
-use crate::checker::Image;
-use crate::sys::{self, Frame, Handle, LogEntry, Pace, RawOptions, RawWork};
+use crate::checker::{verdict_of, Image, Refusal, Yes};
+use crate::sys::{self, FlipChecks, Frame, Handle, LogEntry, Pace, RawOptions, RawWork};
 use std::fmt;
 use std::ops::Range;
 
@@ -10,7 +10,7 @@ const SLOTS: u8 = 16;
 /// The result of a call on a heap.
 pub type Result<T, E = Error> = std::result::Result<T, E>;
 
-/// Why a call on a heap failed. The heap is then unchanged, except after [`Mutator::put_number`] and [`Heap::collect`], as they say.
+/// Why a call on a heap failed. The heap is then unchanged, except after [`Mutator::put_number`], [`Mutator::put_nil`] and [`Heap::collect`], as they say.
 #[derive(Clone, Copy, Debug, PartialEq, Eq, Hash)]
 pub enum Error {
     /// An allocation failed. The call can be retried.
@@ -33,8 +33,6 @@ pub enum Error {
     Busy,
     /// No collection is open.
     Idle,
-    /// The new space has no room for a replica.
-    NoRoom,
     /// The collection is not ready for its flip.
     NotReady,
     /// The checker refused the certificate of a flip. It is proved that this does not happen.
@@ -54,7 +52,6 @@ impl fmt::Display for Error {
             Error::FrameEmpty => "the frame is empty",
             Error::Busy => "busy",
             Error::Idle => "idle",
-            Error::NoRoom => "no room",
             Error::NotReady => "not ready",
             Error::FlipRefused => "refused",
         })
@@ -170,7 +167,8 @@ pub enum Step {
         /// The number of pairs.
         pairs: u32,
     },
-    /// The new space has no room for a replica. Only [`Heap::work`] returns this; a single step returns [`Error::NoRoom`].
+    /// The new space has no room for a replica, so nothing changed. The collection stays open; [`Heap::give_up`] ends it. This never happens if
+    /// the new space is at least as large as the heap.
     NoRoom,
 }
 
@@ -200,6 +198,30 @@ pub struct Work {
     pub last: Step,
 }
 
+/// When the checker looks at a collection.
+#[derive(Clone, Copy, Debug, PartialEq, Eq, Hash)]
+pub enum Checking {
+    /// At each field when the collector brings it up to date. A flip then looks at a count and at the roots.
+    Along {
+        /// Each flip with this number, counted from the last one, checks both spaces whole. If it is 0, none does.
+        whole_each: u32,
+    },
+    /// At both spaces whole, when the collection flips.
+    AtFlip,
+}
+
+/// What [`Heap::check`] found.
+#[derive(Clone, Copy, Debug, PartialEq, Eq, Hash)]
+pub enum Finding {
+    /// No collection is open.
+    Idle,
+    /// The open collection is not ready for its flip.
+    NotReady,
+    /// The verdict on both spaces of the open collection. That it is a refusal is proved never to occur, unless other code writes into the
+    /// heap's memory.
+    Checked(Result<Yes, Refusal>),
+}
+
 /// How to open a heap: [`Heap::open_with`] takes it.
 #[derive(Clone, Copy, Debug, PartialEq, Eq, Hash)]
 #[non_exhaustive]
@@ -210,17 +232,26 @@ pub struct Options {
     pub mutators: u8,
     /// The number of roots beside the slots, at most 1048576.
     pub extra_roots: u32,
+    /// When the checker looks at a collection.
+    pub checking: Checking,
 }
 
 impl Options {
-    /// Returns the options of a heap of `size` words for this number of mutators, without extra roots.
+    /// Returns the options of a heap of `size` words for this number of mutators, without extra roots, whose checker goes along with the
+    /// collection.
     pub const fn new(size: u32, mutators: u8) -> Options {
-        Options { size, mutators, extra_roots: 0 }
+        Options { size, mutators, extra_roots: 0, checking: Checking::Along { whole_each: 0 } }
     }
 
     /// Returns the same options with this number of extra roots.
     pub const fn extra_roots(mut self, count: u32) -> Options {
         self.extra_roots = count;
+        self
+    }
+
+    /// Returns the same options with this way of checking.
+    pub const fn checking(mut self, checking: Checking) -> Options {
+        self.checking = checking;
         self
     }
 }
@@ -336,9 +367,13 @@ impl Heap {
     ///
     /// Returns `OutOfRange`, or `NoMemory`.
     pub fn open_with(options: Options) -> Result<Heap> {
-        let Options { size, mutators, extra_roots } = options;
+        let Options { size, mutators, extra_roots, checking } = options;
+        let (checking, whole_each) = match checking {
+            Checking::Along { whole_each } => (sys::GCFLIP_ALONG, whole_each),
+            Checking::AtFlip => (sys::GCFLIP_AT_FLIP, 0),
+        };
         let handle = Handle::new();
-        done(handle.open(&RawOptions::new(size, mutators, extra_roots)), Heap { handle, mutators, extra_roots })
+        done(handle.open(&RawOptions::new(size, mutators, extra_roots, checking, whole_each)), Heap { handle, mutators, extra_roots })
     }
 
     /// Returns the mutator with this number, counted from 0.
@@ -354,7 +389,7 @@ impl Heap {
         }
     }
 
-    /// Puts nil into these extra roots. A collection reads the extra roots up to the last one that was stored to and not cleared, so clear those
+    /// Puts nil into these extra roots. A collection searches the extra roots up to the last one that was stored to and not cleared, so clear those
     /// at the end that are no longer in use.
     ///
     /// # Errors
@@ -384,34 +419,34 @@ impl Heap {
         replied(self.handle.begin_sized(size)).map(drop)
     }
 
-    /// Replicates the target of the first root whose target has no replica: `Copied` or `Clean`.
+    /// Replicates the target of the first root whose target has no replica: `Copied`, `Clean` or `NoRoom`.
     ///
     /// # Errors
     ///
-    /// Returns `NoRoom`, or `Idle` if no collection is open.
+    /// Returns `Idle` if no collection is open.
     pub fn roots(&self) -> Result<Step> {
         stepped(self.handle.roots())
     }
 
-    /// Brings the field at the scan pointer up to date, or moves on to the next replica: `Scanned`, `Passed` or `Clean`.
+    /// Brings the field at the scan pointer up to date, or moves on to the next replica: `Scanned`, `Passed`, `Clean` or `NoRoom`.
     ///
     /// # Errors
     ///
-    /// Returns `NoRoom`, or `Idle` if no collection is open.
+    /// Returns `Idle` if no collection is open.
     pub fn scan(&self) -> Result<Step> {
         stepped(self.handle.scan())
     }
 
-    /// Applies the oldest entry of a mutator's log: `Applied` or `Clean`.
+    /// Applies the oldest entry of a mutator's log: `Applied`, `Clean` or `NoRoom`.
     ///
     /// # Errors
     ///
-    /// Returns `NoRoom`, `Idle` if no collection is open, or `OutOfRange`.
+    /// Returns `Idle` if no collection is open, or `OutOfRange`.
     pub fn apply(&self, mutator: u8) -> Result<Step> {
         stepped(self.handle.apply(mutator))
     }
 
-    /// Flips if the collection is ready and the checker accepts its certificate, and returns the number of pairs.
+    /// Flips if the collection is ready and a checker accepts it, and returns the number of pairs.
     ///
     /// # Errors
     ///
@@ -426,8 +461,28 @@ impl Heap {
     /// # Errors
     ///
     /// Returns `Idle` if no collection is open.
-    pub fn drop_collection(&self) -> Result<()> {
+    pub fn give_up(&self) -> Result<()> {
         replied(self.handle.give_up()).map(drop)
+    }
+
+    /// Returns how many flips each checker has accepted since the heap was opened.
+    pub fn flip_checks(&self) -> FlipChecks {
+        self.handle.flip_checks().1
+    }
+
+    /// Checks both spaces of the open collection whole, if it is ready, and changes nothing.
+    ///
+    /// # Errors
+    ///
+    /// Returns `NoMemory` if an allocation fails.
+    pub fn check(&self) -> Result<Finding> {
+        let (answer, verdict) = self.handle.check();
+        match answer {
+            sys::GCFLIP_NO_MEMORY => Err(Error::NoMemory),
+            sys::GCFLIP_IDLE => Ok(Finding::Idle),
+            sys::GCFLIP_NOT_READY => Ok(Finding::NotReady),
+            _ => Ok(Finding::Checked(verdict_of(answer, &verdict))),
+        }
     }
 
     /// Returns the useful step, and performs none.
@@ -496,16 +551,17 @@ impl Heap {
         done(self.handle.pace(pace), ())
     }
 
-    /// Collects garbage: finishes the open collection, or performs a whole one, and returns the number of pairs of its flip.
+    /// Collects garbage: finishes the open collection, or performs a whole one, and returns the number of pairs of its flip. If the new space of
+    /// the open collection is too small, gives that collection up, and performs a whole one.
     ///
     /// # Errors
     ///
-    /// Returns `NoRoom` if the new space of the open collection is too small, or `NoMemory`. The steps before the failure stay done.
+    /// Returns `NoMemory`. The steps before the failure stay done.
     pub fn collect(&self) -> Result<u32> {
         loop {
             match self.work(u32::MAX)?.last {
                 Step::Flipped { pairs } => return Ok(pairs),
-                Step::NoRoom => return Err(Error::NoRoom),
+                Step::NoRoom => self.give_up()?,
                 _ => {}
             }
         }
@@ -699,6 +755,16 @@ impl Mutator<'_> {
         replied(self.heap.handle.put_number(self.number, slot.0, field, source.0, number)).map(drop)
     }
 
+    /// Puts nil into slot `source`, and then writes it into a field like [`Mutator::put`].
+    ///
+    /// # Errors
+    ///
+    /// Returns `NoObject`, `NoField`, or `NoNumber` for a raw object; the slot then has nil. Returns `NoMemory` only while a collection is open;
+    /// then nothing changed.
+    pub fn put_nil(&self, slot: Slot, field: u16, source: Slot) -> Result<()> {
+        replied(self.heap.handle.put_nil(self.number, slot.0, field, source.0)).map(drop)
+    }
+
     /// Makes an object with two fields, which take the values of two slots, and puts a reference to it into the slot: a [`Mutator::make`] and two
     /// [`Mutator::put`]. If `first` or `second` is the slot itself, that field refers to the new object.
     ///
@@ -736,6 +802,38 @@ impl Mutator<'_> {
             number => unreachable!("a look gives no answer {number}"),
         }
     }
+
+    /// Copies numbers of the raw object that the slot refers to: those of field `first` and of the fields after it, as many as `numbers`
+    /// takes. No slot changes.
+    ///
+    /// # Errors
+    ///
+    /// Returns `NoObject` if the slot refers to no raw object, and `NoField` if the object has fewer fields. Then `numbers` is unchanged.
+    pub fn raw_read(&self, slot: Slot, first: u16, numbers: &mut [u64]) -> Result<()> {
+        replied(self.heap.handle.raw_read(self.number, slot.0, first, numbers)).map(drop)
+    }
+
+    /// Writes numbers to the fields of the raw object that the slot refers to, from field `first` on. For each of them this is a `num` of
+    /// slot `source` and a `put` of it, in one call, so `source` keeps the last number. All are written or none.
+    ///
+    /// # Errors
+    ///
+    /// Returns `NoObject` if the slot refers to no raw object, `NoField` if the object has fewer fields, `NoNumber` if one of the words is
+    /// 2^63 or more, `OutOfRange` if the slot and `source` are one, and `NoMemory` only while a collection is open. Then nothing has changed.
+    pub fn raw_write(&self, slot: Slot, first: u16, source: Slot, numbers: &[u64]) -> Result<()> {
+        replied(self.heap.handle.raw_write(self.number, slot.0, first, source.0, numbers)).map(drop)
+    }
+
+    /// Returns the address of the object that the slot refers to, or `None` if it refers to none. The next flip gives objects other
+    /// addresses.
+    pub fn address(&self, slot: Slot) -> Option<u32> {
+        let (answer, address) = self.heap.handle.address(self.number, slot.0);
+        match replied(answer) {
+            Ok(_) => Some(address),
+            Err(Error::NoObject) => None,
+            Err(error) => unreachable!("{error}"),
+        }
+    }
 }
 
 // ---- What the library returns
@@ -767,7 +865,6 @@ fn replied(answer: u32) -> Result<u32> {
         sys::GCFLIP_NO_NUMBER => Err(Error::NoNumber),
         sys::GCFLIP_BUSY => Err(Error::Busy),
         sys::GCFLIP_IDLE => Err(Error::Idle),
-        sys::GCFLIP_NO_ROOM => Err(Error::NoRoom),
         sys::GCFLIP_NOT_READY => Err(Error::NotReady),
         sys::GCFLIP_FLIP_REFUSED => Err(Error::FlipRefused),
         _ => Ok(answer),

@@ -2,7 +2,7 @@
 //!
 //! - [`check`] decides whether one heap image may replace another. A runtime with its own moving collector calls it before it frees the old
 //!   space. [`check_text`] does the same for a pair text. [`compare`] needs no certificate: it infers the pairs. [`path_to`] says where a fault is.
-//! - [`Heap`] is a heap of objects for 1 to 16 mutators, with an incremental, replicating collector whose every flip has to pass the checker.
+//! - [`Heap`] is a heap of objects for 1 to 16 mutators, with an incremental, replicating collector whose every flip has to pass a checker.
 //!
 //! The proofs are about the C library that this crate links. The crate calls it, and turns numbers into types. The documents are in the
 //! repository: `docs/EMBEDDING.md` for both parts, `docs/FORMATS.md` for words, replies and texts.
@@ -56,6 +56,6 @@ mod inference;
 mod sys;
 
 pub use checker::{check, check_text, Image, Refusal, TextRefusal, Yes};
-pub use heap::{Counts, Error, Heap, Mutator, Options, OwnedImage, Result, Slot, Step, Useful, Value, Work};
+pub use heap::{Checking, Counts, Error, Finding, Heap, Mutator, Options, OwnedImage, Result, Slot, Step, Useful, Value, Work};
 pub use inference::{compare, path_to, Comparison, NoMemory, Path};
-pub use sys::{version, Frame, LogEntry, Pace, Pair};
+pub use sys::{version, FlipChecks, Frame, LogEntry, Pace, Pair};

@@ -117,12 +117,24 @@ pub struct RawOptions {
     size: u32,
     extra_roots: u32,
     mutators: u8,
+    checking: u8,
+    whole_each: u32,
 }
 
 impl RawOptions {
-    pub fn new(size: u32, mutators: u8, extra_roots: u32) -> RawOptions {
-        RawOptions { bytes: std::mem::size_of::<RawOptions>() as u32, size, extra_roots, mutators }
+    pub fn new(size: u32, mutators: u8, extra_roots: u32, checking: u32, whole_each: u32) -> RawOptions {
+        RawOptions { bytes: std::mem::size_of::<RawOptions>() as u32, size, extra_roots, mutators, checking: checking as u8, whole_each }
     }
+}
+
+/// How many flips each checker has accepted since the heap was opened.
+#[repr(C)]
+#[derive(Clone, Copy, Debug, Default, PartialEq, Eq, Hash)]
+pub struct FlipChecks {
+    /// The flips that the checker that goes along accepted.
+    pub along: u64,
+    /// Those that were accepted by both spaces whole.
+    pub whole: u64,
 }
 
 /// When a collection begins and how fast it goes on, and what paced work remembers of the call before: [`Heap::work_paced`](crate::Heap::work_paced)
@@ -210,6 +222,8 @@ numbers! {
     GCFLIP_STEP_APPLY = 5,
     GCFLIP_STEP_FLIP = 6,
     GCFLIP_STEP_GIVE_UP = 7,
+    GCFLIP_ALONG = 0,
+    GCFLIP_AT_FLIP = 1,
     GCFLIP_VERSION = 100,
 }
 
@@ -244,6 +258,7 @@ calls! {
     gcflip_heap_get(*mut RawHeap, u8, u8, u8, u16, *mut u64);
     gcflip_heap_put(*mut RawHeap, u8, u8, u16, u8);
     gcflip_heap_put_number(*mut RawHeap, u8, u8, u16, u8, u64);
+    gcflip_heap_put_nil(*mut RawHeap, u8, u8, u16, u8);
     gcflip_heap_new_pair(*mut RawHeap, u8, u8, u8, u8, u8);
     gcflip_heap_new_from(*mut RawHeap, u8, u8, u8, *const u8, usize);
     gcflip_heap_same(*const RawHeap, u8, u8, u8);
@@ -260,6 +275,8 @@ calls! {
     gcflip_heap_step_apply(*mut RawHeap, u8);
     gcflip_heap_step_flip(*mut RawHeap, *mut u32);
     gcflip_heap_step_give_up(*mut RawHeap);
+    gcflip_heap_flip_checks(*const RawHeap, *mut FlipChecks);
+    gcflip_heap_check(*const RawHeap, *mut RawVerdict);
     gcflip_heap_useful(*mut RawHeap, *mut RawStep);
     gcflip_heap_work(*mut RawHeap, u32, *mut RawWork);
     gcflip_heap_work_sized(*mut RawHeap, u32, u32, *mut RawWork);
@@ -271,6 +288,9 @@ calls! {
     gcflip_heap_log_entry(*const RawHeap, u8, usize, *mut LogEntry);
     gcflip_heap_image(*const RawHeap, *mut u64, usize, *mut u64, usize);
     gcflip_heap_new_words(*const RawHeap, *mut u64, usize);
+    gcflip_heap_raw_read(*const RawHeap, u8, u8, u16, *mut u64, usize);
+    gcflip_heap_raw_write(*mut RawHeap, u8, u8, u16, u8, *const u64, usize);
+    gcflip_heap_address(*const RawHeap, u8, u8, *mut u32);
 }
 
 // ---- The checker
@@ -401,6 +421,7 @@ answers! {
     copy: gcflip_heap_move(m: u8, d: u8, s: u8);
     put: gcflip_heap_put(m: u8, s: u8, i: u16, t: u8);
     put_number: gcflip_heap_put_number(m: u8, s: u8, i: u16, t: u8, n: u64);
+    put_nil: gcflip_heap_put_nil(m: u8, s: u8, i: u16, t: u8);
     cons: gcflip_heap_new_pair(m: u8, d: u8, kind: u8, s: u8, t: u8);
     same: gcflip_heap_same(m: u8, s: u8, t: u8);
     load: gcflip_heap_root_load(m: u8, d: u8, k: u32);
@@ -421,6 +442,8 @@ results! {
     get: gcflip_heap_get(m: u8, d: u8, s: u8, i: u16) -> u64;
     look: gcflip_heap_look(m: u8, s: u8) -> RawView;
     flip: gcflip_heap_step_flip() -> u32;
+    flip_checks: gcflip_heap_flip_checks() -> FlipChecks;
+    check: gcflip_heap_check() -> RawVerdict;
     useful: gcflip_heap_useful() -> RawStep;
     work: gcflip_heap_work(most: u32) -> RawWork;
     work_sized: gcflip_heap_work_sized(most: u32, size: u32) -> RawWork;
@@ -428,6 +451,7 @@ results! {
     counts: gcflip_heap_counts() -> RawCounts;
     log_length: gcflip_heap_log_length(m: u8) -> usize;
     log_entry: gcflip_heap_log_entry(m: u8, k: usize) -> LogEntry;
+    address: gcflip_heap_address(m: u8, s: u8) -> u32;
 }
 
 impl Handle {
@@ -445,6 +469,16 @@ impl Handle {
     pub fn new_words(&self, words: &mut [u64]) -> u32 {
         // SAFETY: as in `image`.
         unsafe { gcflip_heap_new_words(self.heap.get(), words.as_mut_ptr(), words.len()) }
+    }
+
+    pub fn raw_read(&self, m: u8, s: u8, first: u16, words: &mut [u64]) -> u32 {
+        // SAFETY: as in `image`.
+        unsafe { gcflip_heap_raw_read(self.heap.get(), m, s, first, words.as_mut_ptr(), words.len()) }
+    }
+
+    pub fn raw_write(&self, m: u8, s: u8, first: u16, t: u8, words: &[u64]) -> u32 {
+        // SAFETY: as in `image`, with a shared slice.
+        unsafe { gcflip_heap_raw_write(self.heap.get(), m, s, first, t, words.as_ptr(), words.len()) }
     }
 }
 

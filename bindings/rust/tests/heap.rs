@@ -1,6 +1,6 @@
 //! Tests each call on a heap, and each error but `FlipRefused`, which is proved never to occur, and `NoMemory` (out_of_memory.rs).
 
-use gcflip::{check, Error, Frame, Heap, LogEntry, Options, Pace, Pair, Slot, Step, Useful, Value};
+use gcflip::{check, Checking, Error, Finding, FlipChecks, Frame, Heap, LogEntry, Options, Pace, Pair, Slot, Step, Useful, Value, Yes};
 
 const A: Slot = Slot::own(0);
 const B: Slot = Slot::own(1);
@@ -72,10 +72,44 @@ fn raw_objects_and_room() {
 }
 
 #[test]
+fn numbers_at_once_and_addresses() {
+    let heap = prepared();
+    let mutator = heap.mutator(0).unwrap();
+    mutator.make_raw(A, 255, 3).unwrap();
+    mutator.put_number(A, 1, B, 5).unwrap();
+    let mut numbers = [7; 3];
+    assert_eq!(mutator.raw_read(A, 1, &mut numbers[..2]), Ok(()));
+    assert_eq!(mutator.raw_read(A, 3, &mut []), Ok(()));
+    assert_eq!(mutator.raw_read(A, 2, &mut numbers[..2]), Err(Error::NoField));
+    assert_eq!(mutator.raw_read(SHARED, 0, &mut numbers[..1]), Err(Error::NoObject));
+    assert_eq!(mutator.raw_read(B, 0, &mut numbers[..1]), Err(Error::NoObject));
+    assert_eq!(numbers, [5, 0, 7]);
+    assert_eq!((mutator.address(SHARED), mutator.address(A), mutator.address(B)), (Some(1), Some(5), None));
+}
+
+#[test]
+fn numbers_are_written_at_once() {
+    let heap = prepared();
+    let mutator = heap.mutator(0).unwrap();
+    mutator.make_raw(A, 255, 3).unwrap();
+    assert_eq!(mutator.raw_write(A, 1, B, &[6, (1 << 63) - 1]), Ok(()));
+    assert_eq!(mutator.look(B), Value::Number((1 << 63) - 1));
+    assert_eq!(mutator.raw_write(A, 2, B, &[1, 2]), Err(Error::NoField));
+    assert_eq!(mutator.raw_write(A, 0, B, &[1, 1 << 63]), Err(Error::NoNumber));
+    assert_eq!(mutator.raw_write(SHARED, 0, B, &[1]), Err(Error::NoObject));
+    assert_eq!(mutator.raw_write(A, 0, A, &[1]), Err(Error::OutOfRange));
+    assert_eq!(mutator.raw_write(A, 3, B, &[]), Ok(()));
+    let mut numbers = [7; 3];
+    assert_eq!(mutator.raw_read(A, 0, &mut numbers), Ok(()));
+    assert_eq!(numbers, [0, 6, (1 << 63) - 1]);
+    assert_eq!(mutator.look(B), Value::Number((1 << 63) - 1));
+}
+
+#[test]
 fn steps() {
     let heap = prepared();
     let mutator = heap.mutator(0).unwrap();
-    for idle in [heap.roots(), heap.scan(), heap.apply(0), heap.drop_collection().map(|()| Step::Clean), heap.flip().map(|_| Step::Clean)] {
+    for idle in [heap.roots(), heap.scan(), heap.apply(0), heap.give_up().map(|()| Step::Clean), heap.flip().map(|_| Step::Clean)] {
         assert_eq!(idle, Err(Error::Idle));
     }
     heap.begin().unwrap();
@@ -106,13 +140,37 @@ fn sizes() {
     let heap = prepared();
     assert_eq!(heap.begin_sized(0), Err(Error::OutOfRange));
     heap.begin_sized(4).unwrap();
-    assert_eq!(heap.roots(), Err(Error::NoRoom));
-    assert_eq!(heap.work(5).unwrap().last, Step::NoRoom);
-    assert_eq!(heap.collect(), Err(Error::NoRoom));
-    heap.drop_collection().unwrap();
+    assert_eq!(heap.roots(), Ok(Step::NoRoom));
+    let worked = heap.work(5).unwrap();
+    assert_eq!((worked.steps, worked.copied, worked.last), (1, 0, Step::NoRoom));
+    heap.give_up().unwrap();
     heap.begin_sized(5).unwrap();
     assert_eq!(heap.collect(), Ok(1));
     assert_eq!((heap.counts().size, heap.counts().free), (5, 0));
+}
+
+#[test]
+fn a_collection_without_room_is_given_up() {
+    let heap = prepared();
+    let size = heap.counts().size;
+    heap.begin_sized(4).unwrap();
+    assert_eq!(heap.collect(), Ok(1));
+    assert_eq!((heap.counts().size, heap.counts().end), (size, 5));
+}
+
+#[test]
+fn each_step_that_copies_may_lack_room() {
+    let heap = prepared();
+    let mutator = heap.mutator(0).unwrap();
+    mutator.make(A, 1, 0).unwrap();
+    mutator.put(SHARED, 0, A).unwrap();
+    heap.begin_sized(5).unwrap();
+    assert_eq!(heap.roots(), Ok(Step::Copied));
+    assert_eq!(heap.roots(), Ok(Step::NoRoom));
+    assert_eq!(heap.scan(), Ok(Step::NoRoom));
+    mutator.put(SHARED, 1, A).unwrap();
+    assert_eq!(heap.apply(0), Ok(Step::NoRoom));
+    assert_eq!(heap.log_length(0), Ok(1));
 }
 
 #[test]
@@ -150,6 +208,40 @@ fn useful_steps_are_named() {
     assert_eq!(heap.apply(0), Ok(Step::Applied));
     assert_eq!((heap.useful(), heap.flip()), (Useful::Flip, Ok(1)));
     assert_eq!(heap.useful(), Useful::Begin);
+}
+
+/// Makes collections of a heap with an object of two fields, and returns which checker accepted them.
+fn checks_of(options: Options, collections: u32) -> FlipChecks {
+    let heap = Heap::open_with(options).unwrap();
+    heap.mutator(0).unwrap().make(SHARED, 7, 2).unwrap();
+    assert_eq!(heap.flip_checks(), FlipChecks { along: 0, whole: 0 });
+    for _ in 0..collections {
+        assert_eq!(heap.work(100).unwrap().last, Step::Flipped { pairs: 1 });
+    }
+    heap.flip_checks()
+}
+
+#[test]
+fn ways_of_checking() {
+    let options = Options::new(16, 2);
+    assert_eq!(options.checking, Checking::Along { whole_each: 0 });
+    assert_eq!(checks_of(options, 7), FlipChecks { along: 7, whole: 0 });
+    assert_eq!(checks_of(options.checking(Checking::AtFlip), 7), FlipChecks { along: 0, whole: 7 });
+    assert_eq!(checks_of(options.checking(Checking::Along { whole_each: 3 }), 7), FlipChecks { along: 5, whole: 2 });
+}
+
+#[test]
+fn an_open_collection_is_checked() {
+    let heap = prepared();
+    assert_eq!(heap.check(), Ok(Finding::Idle));
+    heap.begin().unwrap();
+    assert_eq!(heap.check(), Ok(Finding::NotReady));
+    while heap.useful() != Useful::Flip {
+        heap.work(1).unwrap();
+    }
+    assert_eq!(heap.check(), Ok(Finding::Checked(Ok(Yes { pairs: 1 }))));
+    assert_eq!(heap.flip_checks(), FlipChecks { along: 0, whole: 0 }, "a check is no flip");
+    assert_eq!(heap.flip(), Ok(1));
 }
 
 #[test]
@@ -206,6 +298,11 @@ fn numbers_and_pairs_in_one_call() {
     assert_eq!(mutator.get(seen, list, 0), Ok(Value::Number(7)));
     assert_eq!(mutator.get(seen, list, 1), Ok(Value::Number(8)));
     assert_eq!(mutator.put_number(list, 1, number, 1 << 63), Err(Error::OutOfRange));
+    mutator.put_nil(list, 1, seen).unwrap();
+    assert_eq!(mutator.look(seen), Value::Nil);
+    assert_eq!(mutator.get(seen, list, 1), Ok(Value::Nil));
+    assert_eq!(mutator.put_nil(list, 2, seen), Err(Error::NoField));
+    assert_eq!(mutator.put_nil(number, 0, seen), Err(Error::NoObject));
     mutator.cons(list, 3, list, number).unwrap();
     assert_eq!(mutator.get(seen, list, 0), Ok(Value::Object { kind: 3, fields: 2 }));
     assert!(mutator.same(seen, list));

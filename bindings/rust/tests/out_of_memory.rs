@@ -111,9 +111,10 @@ fn steps() {
     let heap = prepared();
     assert!(refused(Error::NoMemory, || heap.begin()) > 0);
     assert_eq!(heap.work(3).unwrap().last, Step::Passed);
+    assert!(refused(Error::NoMemory, || heap.check()) > 0);
     assert!(refused(Error::NoMemory, || heap.flip()) > 0);
     assert!(refused(Error::NoMemory, || heap.begin_sized(128)) > 0);
-    heap.drop_collection().unwrap();
+    heap.give_up().unwrap();
     assert!(refused(Error::NoMemory, || heap.work(1)) > 0);
     let mutator = heap.mutator(0).unwrap();
     assert!(refused(Error::NoMemory, || mutator.put(SLOT, 0, SLOT)) > 0);

@@ -7,8 +7,8 @@ use Rattle.std.proofs.lemmas.List.{get_or-set_other, get_or-set_same, length-rep
 use Rattle.std.proofs.lemmas.List.Sums.{sum_by-set, sum_by-append}
 use Rattle.gc_words.specs.declared.header.Header.{Header}
 use Rattle.gc_along.specs.Watch.{bit}
-use Rattle.gc_along.specs.Tables.{Tables, due_in, missing_in}
-use Rattle.gc_along.specs.Internal.Tables.{IsKept, IsLostOrKept}
+use Rattle.gc_along.specs.Tables.{Tables, IsKept, due_in, missing_in}
+use Rattle.gc_along.specs.Internal.Tables.{IsLostOrKept}
 use Rattle.gc_along.specs.Events.{code_of, object_codes, with_news, with_due, replica_added, IsClaim, IsCopy, Placed, HasNoReplica}
 use Rattle.gc_along.proofs.Codes.{code_set}
 use Rattle.gc_along.proofs.Within.{at_most}

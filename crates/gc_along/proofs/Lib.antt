@@ -7,3 +7,5 @@ pub mod Within
 pub mod Origins
 pub mod Codes
 pub mod Kept
+pub mod Marks
+pub mod ToldTruth

@@ -130,7 +130,7 @@ words_more pairs more None q h = h
 words_more pairs more (Some v) None h = h
 words_more pairs more (Some v) (Some u) h = values_more pairs more v u h
 
-fields_more : (h : Header) (pairs more : List (ℕ × ℕ)) (v u : ℕ) → field_words_correspond h pairs v u ≡ true → field_words_correspond h (pairs ++ more) v u ≡ true
+pub fields_more : (h : Header) (pairs more : List (ℕ × ℕ)) (v u : ℕ) → field_words_correspond h pairs v u ≡ true → field_words_correspond h (pairs ++ more) v u ≡ true
 fields_more h pairs more v u = elim h.raw as (λ t. cond t (v == u) (words_correspond pairs v u) ≡ true → cond t (v == u) (words_correspond (pairs ++ more) v u) ≡ true) [
   | true ↦ λ g. g
   | false ↦ λ g. words_more pairs more (read_value v) (read_value u) g
@@ -170,7 +170,7 @@ new_goes_on old new w h is next = record {
   once = is.once;
 }
 
-below_seen : (old new : List ℕ) (w : Watch) (p : ℕ × ℕ) → Watches old new w → (o q : Option Block) → seen_at w.new_seen new p.1 ≡ q → IsWatched w p.1 o q → p.1 < w.new_seen
+pub below_seen : (old new : List ℕ) (w : Watch) (p : ℕ × ℕ) → Watches old new w → (o q : Option Block) → seen_at w.new_seen new p.1 ≡ q → IsWatched w p.1 o q → p.1 < w.new_seen
 below_seen old new w p is (Some c) (Some d) e h =
     let s = stands_in (take w.new_seen new) p.1 d is.new_seen.space.walked e in
     let fits : p.1 + (d.header.len + 2) ≤ length (take w.new_seen new) = s.fits in

@@ -1,5 +1,6 @@
 pub mod Watch
 pub mod Origins
 pub mod Tables
+pub mod Telling
 pub mod Events
 pub mod Internal

@@ -1,5 +1,5 @@
 -- The tables of a standing checker, and the watch that they hold.
-use Rattle.std.specs.Prelude.{ℕ, Bool, ◌==◌, List, length, map, IsFalse}
+use Rattle.std.specs.Prelude.{◌≡◌, ◌≤◌, ℕ, Bool, ◌==◌, List, length, map, slice_index_or, IsFalse}
 use Rattle.std.specs.List.{sum_by}
 use Rattle.gc_words.specs.Image.{Image}
 use Rattle.gc_words.specs.Certificate.{Certified}
@@ -23,6 +23,14 @@ due_in codes = map (λ code. code == 3) codes
 -- how many are due
 abbrev pub missing_in : List ℕ → ℕ
 missing_in codes = sum_by bit (due_in codes)
+
+-- The rows agree: the count is right, there is an original or 0 for each new place, and no original has two replicas, since
+-- its mark tells that one was seen.
+pub record IsKept (t : Tables) : Type 0 where
+  pub counted : t.missing ≡ missing_in t.news
+  pub few : length t.news ≤ 4294967295
+  pub rows : length t.origins ≡ length t.news
+  pub taken : (b : ℕ) → 1 ≤ slice_index_or t.origins b 0 → slice_index_or t.olds (slice_index_or t.origins b 0) 0 ≡ 2
 
 abbrev pub watch_of : Tables → Watch
 watch_of t = record { pairs = pairs_in t.origins; old_seen = length t.olds; new_seen = length t.news; due = due_in t.news }

@@ -4,6 +4,7 @@
 
 mod laws;
 mod standing;
+mod telling;
 #[cfg(test)]
 mod tests;
 mod watcher;
@@ -13,4 +14,5 @@ pub use laws::{
     walks_keep_watching, what_is_seen_is_certified, writes_keep_watching,
 };
 pub use standing::Standing;
+pub use telling::{a_yes_is_sound, events_keep_telling, writes_keep_telling};
 pub use watcher::Watcher;

@@ -51,7 +51,7 @@ impl Model for Standing {
 }
 
 impl Standing {
-    ghost use Rattle.std.specs.Prelude.{◌≡◌, ◌<◌, ◌≤◌, ◌==◌, ◌↔◌, ℕ, true, IsTrue, IsFalse, ◌⊎◌, IfOk, OnOk, OnErr, MatchOption, length, slice_index, slice_index_or};
+    ghost use Rattle.std.specs.Prelude.{◌≡◌, ◌<◌, ◌≤◌, ◌==◌, ◌↔◌, ◌∷◌, [], ℕ, true, IsTrue, IsFalse, ◌⊎◌, IfOk, OnOk, OnErr, MatchOption, length, slice_index, slice_index_or};
     ghost use Rattle.gc_graph.specs.Correspond.{paired};
     ghost use Rattle.gc_words.specs.Word.{words_correspond, field_words_correspond};
     ghost use Rattle.gc_words.specs.declared.header.Header.{Header};
@@ -60,6 +60,7 @@ impl Standing {
     ghost use Rattle.gc_along.specs.Origins.{pairs_in};
     ghost use Rattle.gc_along.specs.Watch.{RootsCorrespond};
     ghost use Rattle.gc_along.specs.Tables.{CertifiedBy};
+    ghost use Rattle.gc_along.specs.Telling.{Tells};
     ghost use Rattle.gc_along.specs.Events.{Made, Placed, Looked, Wrote, Applied, Freed, WalkedAnew, IsFieldOf, HasNoReplica, absent_tables, opening_tables, flipped_tables, with_due};
 
     /// Returns a checker for spaces of up to `size` words, at least 1.
@@ -118,6 +119,7 @@ impl Standing {
     pub fn begun(&mut self, old: &[u64])
         ensures kept { IsFalse self.old.lost → self.new ≡ self.old }
         ensures anew { IsTrue self.old.lost → IsFalse self.new.lost → WalkedAnew old.now self.new }
+        ensures tells { IsTrue self.old.lost → IsFalse self.new.lost → slice_index old.now 0 ≡ 0 → Tells old.now (0 ∷ []) self.new }
     {
         if !self.lost || self.room == 0 || old.is_empty() {
             return;

@@ -102,3 +102,242 @@ fn raw_says(alloc: Global, old: &[u64], new: &[u64]) -> Result<bool, Fail> {
     after.end = 6;
     Ok(standing.says_yes(before, after))
 }
+
+/// What a collector made of a heap, and the fields that it lets the checker look at, by place and number.
+#[derive(Clone, Copy, Drop)]
+struct Collected<'a> {
+    old: &'a [u64],
+    new: &'a [u64],
+    old_roots: &'a [u64],
+    new_roots: &'a [u64],
+    fields: &'a [(u32, u16)],
+}
+
+fn whole<'a>(words: &'a [u64], roots: &'a [u64]) -> ImageRef<'a> {
+    let end = words.len().min(32) as u32;
+    ImageRef {
+        size: 32,
+        end,
+        words,
+        roots,
+        raws: true,
+    }
+}
+
+/// Returns whether a checker accepts it that has walked over both spaces and looked at these fields.
+fn is_accepted(alloc: Global, collected: &Collected) -> Result<bool, Fail> {
+    let Collected {
+        old,
+        new,
+        old_roots,
+        new_roots,
+        fields,
+    } = collected;
+    let mut standing = Standing::new(alloc, 32)?;
+    for _ in 0..old.len() {
+        standing.made(old);
+    }
+    for _ in 0..new.len() {
+        standing.placed(old, new);
+    }
+    for (at, i) in *fields {
+        standing.look(old, new, *at, *i);
+    }
+    Ok(standing.says_yes(whole(old, old_roots), whole(new, new_roots)))
+}
+
+/// Returns what the collector makes of `OLD`, if it makes these words and roots of it.
+fn of_old<'a>(new: &'a [u64], new_roots: &'a [u64]) -> Collected<'a> {
+    Collected {
+        old: &OLD,
+        new,
+        old_roots: &[2],
+        new_roots,
+        fields: &[(1, 0), (1, 1)],
+    }
+}
+
+#[test]
+fn a_wrong_field_is_not_accepted(rt: HostRuntime) -> Result<(), Fail> {
+    let alloc = rt.alloc();
+    assert!(rt; is_accepted(alloc, &of_old(&NEW, &[2]))?);
+    let number = [0, PAIR, 1, 10, 17, EMPTY, 5];
+    assert!(rt; !is_accepted(alloc, &of_old(&number, &[2]))?);
+    let nil = [0, PAIR, 1, 10, 0, EMPTY, 5];
+    assert!(rt; !is_accepted(alloc, &of_old(&nil, &[2]))?);
+    Ok(())
+}
+
+#[test]
+fn a_wrong_target_is_not_accepted(rt: HostRuntime) -> Result<(), Fail> {
+    let alloc = rt.alloc();
+    let itself = [0, PAIR, 1, 2, 15, EMPTY, 5];
+    assert!(rt; !is_accepted(alloc, &of_old(&itself, &[2]))?);
+    let no_start = [0, PAIR, 1, 12, 15, EMPTY, 5];
+    assert!(rt; !is_accepted(alloc, &of_old(&no_start, &[2]))?);
+    Ok(())
+}
+
+#[test]
+fn a_replica_with_another_header_is_not_accepted(rt: HostRuntime) -> Result<(), Fail> {
+    let alloc = rt.alloc();
+    // The second replica has kind 1 in place of 0.
+    let kind = [0, PAIR, 1, 10, 15, EMPTY + 65536, 5];
+    assert!(rt; !is_accepted(alloc, &of_old(&kind, &[2]))?);
+    // It is raw.
+    let raw = [0, PAIR, 1, 10, 15, EMPTY + 33554432, 5];
+    assert!(rt; !is_accepted(alloc, &of_old(&raw, &[2]))?);
+    Ok(())
+}
+
+#[test]
+fn a_wrong_back_link_is_not_accepted(rt: HostRuntime) -> Result<(), Fail> {
+    let alloc = rt.alloc();
+    let old = [0, EMPTY, 0, EMPTY, 0];
+    // Root 0 refers to the first object, root 1 to the second one.
+    let right = Collected {
+        old: &old,
+        new: &[0, EMPTY, 1, EMPTY, 3],
+        old_roots: &[2, 6],
+        new_roots: &[2, 6],
+        fields: &[],
+    };
+    assert!(rt; is_accepted(alloc, &right)?);
+    let swapped = Collected {
+        new: &[0, EMPTY, 3, EMPTY, 1],
+        ..right
+    };
+    assert!(rt; !is_accepted(alloc, &swapped)?);
+    let none = Collected {
+        new: &[0, EMPTY, 1, EMPTY, 0],
+        ..right
+    };
+    assert!(rt; !is_accepted(alloc, &none)?);
+    let wild = Collected {
+        new: &[0, EMPTY, 1, EMPTY, 4294967299],
+        ..right
+    };
+    assert!(rt; !is_accepted(alloc, &wild)?);
+    Ok(())
+}
+
+#[test]
+fn a_root_without_a_replica_is_not_accepted(rt: HostRuntime) -> Result<(), Fail> {
+    let alloc = rt.alloc();
+    let old = [0, EMPTY, 0, EMPTY, 0];
+    // The second object has no replica, and root 1 refers to it.
+    let kept = Collected {
+        old: &old,
+        new: &[0, EMPTY, 1],
+        old_roots: &[2, 6],
+        new_roots: &[2, 6],
+        fields: &[],
+    };
+    assert!(rt; !is_accepted(alloc, &kept)?);
+    let forgotten = Collected {
+        new_roots: &[2, 0],
+        ..kept
+    };
+    assert!(rt; !is_accepted(alloc, &forgotten)?);
+    let unreachable = Collected {
+        old_roots: &[2, 0],
+        new_roots: &[2, 0],
+        ..kept
+    };
+    assert!(rt; is_accepted(alloc, &unreachable)?);
+    Ok(())
+}
+
+#[test]
+fn objects_and_replicas_are_one_to_one(rt: HostRuntime) -> Result<(), Fail> {
+    let alloc = rt.alloc();
+    let old = [0, EMPTY, 0, EMPTY, 0];
+    // Both objects become one.
+    let merged = Collected {
+        old: &old,
+        new: &[0, EMPTY, 1],
+        old_roots: &[2, 6],
+        new_roots: &[2, 2],
+        fields: &[],
+    };
+    assert!(rt; !is_accepted(alloc, &merged)?);
+    // One object becomes two.
+    let split = Collected {
+        new: &[0, EMPTY, 1, EMPTY, 1],
+        old_roots: &[2, 2],
+        new_roots: &[2, 6],
+        ..merged
+    };
+    assert!(rt; !is_accepted(alloc, &split)?);
+    Ok(())
+}
+
+#[test]
+fn an_original_starts_an_object(rt: HostRuntime) -> Result<(), Fail> {
+    let alloc = rt.alloc();
+    // The number in the raw object's field looks like the header of an empty object.
+    let old = [0, RAW, 0, EMPTY];
+    let inside = Collected {
+        old: &old,
+        new: &[0, EMPTY, 3],
+        old_roots: &[6],
+        new_roots: &[2],
+        fields: &[],
+    };
+    assert!(rt; !is_accepted(alloc, &inside)?);
+    let outside = Collected {
+        new: &[0, EMPTY, 4],
+        ..inside
+    };
+    assert!(rt; !is_accepted(alloc, &outside)?);
+    let at_start = Collected {
+        new: &[0, RAW, 1, EMPTY],
+        old_roots: &[2],
+        new_roots: &[2],
+        ..inside
+    };
+    assert!(rt; is_accepted(alloc, &at_start)?);
+    Ok(())
+}
+
+#[test]
+fn raw_words_that_differ_are_not_accepted(rt: HostRuntime) -> Result<(), Fail> {
+    let alloc = rt.alloc();
+    let old = [0, RAW, 0, 8];
+    let right = Collected {
+        old: &old,
+        new: &[0, RAW, 1, 8],
+        old_roots: &[2],
+        new_roots: &[2],
+        fields: &[],
+    };
+    assert!(rt; is_accepted(alloc, &right)?);
+    let differs = Collected {
+        new: &[0, RAW, 1, 9],
+        ..right
+    };
+    assert!(rt; !is_accepted(alloc, &differs)?);
+    let looked = Collected {
+        fields: &[(1, 0)],
+        ..differs
+    };
+    assert!(rt; !is_accepted(alloc, &looked)?);
+    Ok(())
+}
+
+#[test]
+fn what_is_lost_walks_anew(rt: HostRuntime) -> Result<(), Fail> {
+    let mut standing = looked(rt.alloc(), &OLD, &NEW)?;
+    standing.lose();
+    assert!(rt; !says(&standing, &OLD, &NEW, 2));
+    standing.look(&OLD, &NEW, 1, 0);
+    assert!(rt; !says(&standing, &OLD, &NEW, 2));
+    standing.begun(&OLD);
+    standing.placed(&OLD, &NEW);
+    standing.placed(&OLD, &NEW);
+    assert!(rt; !says(&standing, &OLD, &NEW, 2));
+    standing.look(&OLD, &NEW, 1, 0);
+    standing.look(&OLD, &NEW, 1, 1);
+    assert!(rt; says(&standing, &OLD, &NEW, 2));
+    Ok(())
+}

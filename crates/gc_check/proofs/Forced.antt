@@ -185,7 +185,7 @@ blocks_cases old new P pairs a b alike other =
       | inr e ↦ subst P (sym (ap (λ t. cond t (met_all old new pairs a.fields b.fields) pairs) e)) (other e)
     ]
 
-met_blocks_grow : (old new : Image) (pairs : List (ℕ × ℕ)) (o q : Option Block) → Grows pairs (met_blocks old new pairs o q)
+pub met_blocks_grow : (old new : Image) (pairs : List (ℕ × ℕ)) (o q : Option Block) → Grows pairs (met_blocks old new pairs o q)
 met_blocks_grow old new pairs (Some a) (Some b) = blocks_cases old new (Grows pairs) pairs a b (λ e. met_all_grows old new pairs a.fields b.fields) (λ e. grows_none pairs)
 met_blocks_grow old new pairs (Some a) None = grows_none pairs
 met_blocks_grow old new pairs None q = grows_none pairs
@@ -284,7 +284,7 @@ roots_met old new = record {
   objects = λ k h l. absurd (omega (arith, h));
 }
 
-same_place : (before after : List (ℕ × ℕ)) (k : ℕ) → Grows before after → k < length before → pair_at after k ≡ pair_at before k
+pub same_place : (before after : List (ℕ × ℕ)) (k : ℕ) → Grows before after → k < length before → pair_at after k ≡ pair_at before k
 same_place before after k g h = ap (λ t. slice_index_or t k (0, 0)) g.1 ∙ get_or_append_left before g.0 (0, 0) k h
 
 pub objects_met : (old new : Image) (pairs : List (ℕ × ℕ)) (done : ℕ) → done < length pairs → MetTo old new pairs done → MetTo old new (met_objects old new pairs (pair_at pairs done)) (done + 1)

@@ -7,22 +7,25 @@ use Rattle.std.proofs.lemmas.List.Elements.{length_all_zip}
 use Rattle.std.proofs.lemmas.List.Folds.{list_any_at}
 use Rattle.gc_graph.specs.Correspond.{paired}
 use Rattle.gc_words.specs.Word.{read_value, words_correspond}
-use Rattle.gc_words.specs.Image.{Image, Block, is_start, block_at}
-use Rattle.gc_words.specs.Certificate.{Certified}
+use Rattle.gc_words.specs.Image.{Image, Block, IsShaped, is_start, block_at}
+use Rattle.gc_words.specs.Certificate.{BlocksCorrespond, Certified}
 use Rattle.gc_words.specs.Fault.{at_place, shape_fault, table_fault, first_fault, AreComparable}
 use Rattle.gc_words.specs.declared.refusal.Refusal.{Refusal}
 use Rattle.gc_words.specs.declared.refusal.Refusal.TheVariants.{OldShape, NewShape}
-use Rattle.gc_words.proofs.Faults.{Later, none_or, none_when, places_hold, no_shape_fault}
+use Rattle.gc_words.proofs.Faults.{Later, none_or, none_when, places_hold, no_shape_fault, shaped}
 use Rattle.gc_words.specs.declared.image.Pair.{Pair}
+use Rattle.gc_words.specs.Views.{addresses}
+use Rattle.std.proofs.lemmas.List.{length-map}
 use Rattle.gc_check.specs.Infer.{is_taken, LeadsToPairs, ObjectsLeadToPairs, AreClosed, Certifiable, Decides}
 use Rattle.gc_check.specs.Internal.Tables.{HoldsPartners, HasTables}
-use Rattle.gc_check.specs.Internal.Meetings.{is_free, AllMet, BlocksMet, ObjectsMet, MetTo, HoldsFound, swapped, risen}
+use Rattle.gc_check.specs.Internal.Meetings.{is_free, AllMet, BlocksMet, ObjectsMet, MetTo, AlikeTo, HoldsFound, swapped, risen}
 use Rattle.gc_check.specs.Headline.{Replicated}
 use Rattle.gc_check.specs.Verdict.{pairs_of, verdict_by, verdict_of, IsRefusalOf}
 use Rattle.gc_check.specs.declared.verdict.Verdict.{Verdict}
 use Rattle.gc_check.specs.declared.meet.Found.{Found}
 use Rattle.gc_check.specs.declared.verdict.CheckFault.{CheckFault}
 use Rattle.gc_check.specs.declared.verdict.CheckFault.TheVariants.{Refused}
+use Rattle.gc_check.proofs.Alike.{or_first, or_second, all_more, blocks_more}
 use Rattle.gc_check.proofs.StartMarks.{low_start}
 use Rattle.gc_check.proofs.Forced.{place_of}
 use Rattle.gc_check.proofs.Inferred.{found_of_risen, risen_of_found, risen_rises, risen_length, held_here, met_here, refused_of_all}
@@ -43,13 +46,6 @@ second_of : (pairs : List (ℕ × ℕ)) (a b : ℕ) → paired pairs a b ≡ tru
 second_of pairs a b e =
     let k : (k : ℕ) × (k < length pairs) × ((d : ℕ × ℕ) → get_or pairs k d ≡ (a, b)) = place_of pairs a b e in
     list_any_at (λ q. q.1 == b) pairs k.0 (a, b) k.1 (eq-eqb _ b (ap (λ (p : ℕ × ℕ). p.1) (k.2 (a, b))))
-
-or_first : (b c : Bool) → b ≡ true → (b || c) ≡ true
-or_first b c e = ap (λ b. b || c) e
-
-or_second : (b c : Bool) → c ≡ true → (b || c) ≡ true
-or_second true c e = refl
-or_second false c e = e
 
 pair_of_first : (pairs : List (ℕ × ℕ)) (a : ℕ) → list_any (λ q. q.0 == a) pairs ≡ true → (b : ℕ) × (paired pairs a b ≡ true)
 pair_of_first [] a e = absurd (let no : false ≡ true = e in cc)
@@ -130,6 +126,22 @@ module _ (old new : Image) (pairs : List (ℕ × ℕ)) (row partners : List ℕ)
     partners = record { pair = λ a b one. table.pair a b one ∙ same_pairs a b; taken = λ a. table.taken a ∙ same_firsts a };
   }
 
+  -- ---- they hold if all words that have met correspond
+
+  pub alike_hold : IsShaped old → IsShaped new → AlikeTo old new pairs (length pairs) → Certified old new now
+  alike_hold old_shaped new_shaped alike = record {
+    old_shaped = old_shaped;
+    new_shaped = new_shaped;
+    objects = λ k d h.
+        let p : ℕ × ℕ = get_or now k d in
+        let j : (j : ℕ) × (j < length pairs) × ((d : ℕ × ℕ) → get_or pairs j d ≡ (p.0, p.1)) = place_of pairs p.0 p.1 (found_of_risen old new pairs row held k d h) in
+        blocks_more pairs now to_now (block_at old.words p.0) (block_at new.words p.1)
+        (subst (λ (p : ℕ × ℕ). BlocksCorrespond pairs (block_at old.words p.0) (block_at new.words p.1)) (j.2 (0, 0)) (alike.objects j.0 j.1 j.1));
+    rising = risen_rises 0 row;
+    once = λ i j d h l. (later i j d h l).0;
+    roots = all_more pairs now to_now old.roots new.roots alike.roots;
+  }
+
   -- ---- they are closed
 
   one_is_taken : (s t x y : Bool) → s ≡ true → t ≡ true → (s && t && not x && not y) ≡ false → (x || y) ≡ true
@@ -186,6 +198,16 @@ module _ (old new old_seen new_seen : Image) (found : Found) (cert : List Pair) 
       let most : length (risen 0 found.originals.items) ≤ length found.originals.items = risen_length 0 found.originals.items in
       subst (λ pairs. HasTables (record { old = old; new = new; pairs = pairs }) found.partners.items) (sym rise)
       (tables_of_found old new (pairs_of found.pairs.items) found.originals.items found.partners.items here.originals here.partners all_met old_low new_low old_shaped new_shaped roots (omega (arith, most, few)))
+
+  pub pairs_hold_if_alike : shape_fault old ≡ None → shape_fault new ≡ None → AlikeTo old_seen new_seen (pairs_of found.pairs.items) (length found.pairs.items) → Certified old new (pairs_of cert)
+  pairs_hold_if_alike old_shaped new_shaped alike = subst (Certified old new) (sym rise)
+      (alike_hold old new (pairs_of found.pairs.items) found.originals.items found.partners.items here.originals here.partners all_met old_low new_low (shaped old old_shaped) (shaped new new_shaped) alike_here)
+    where
+      alike_here : AlikeTo old new (pairs_of found.pairs.items) (length (pairs_of found.pairs.items))
+      alike_here =
+          subst (λ n. AlikeTo old new (pairs_of found.pairs.items) n) (sym (length-map found.pairs.items addresses))
+          (subst (λ image. AlikeTo image new (pairs_of found.pairs.items) (length found.pairs.items)) old_is
+          (subst (λ image. AlikeTo old_seen image (pairs_of found.pairs.items) (length found.pairs.items)) new_is alike))
 
   pub pairs_are_closed : AreClosed old new (pairs_of cert)
   pairs_are_closed = subst (AreClosed old new) (sym rise)

@@ -47,8 +47,8 @@ pub trait Checks {
             (Replicated (image_of old.entry) (image_of new.entry) (pairs_of cert.now)) };
 }
 
-/// Compares the objects of pairs whose addresses are right, in the calling thread or in several. The other half of a check when the
-/// walk that inferred the pairs has filled the tables.
+/// Compares the objects of pairs whose addresses are right, in the calling thread or in several. It names the first fault when the walk that
+/// inferred the pairs has met one, with the tables of that walk.
 pub trait ComparesObjects {
     // What a caller must establish before it asks, as for `Checks`.
     ghost can_compare: { Self → Type 0 } = { λ _. ⊤ };

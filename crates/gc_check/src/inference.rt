@@ -1,6 +1,6 @@
 //! Infers a certificate from two images alone.
 
-ghost use Rattle.std.specs.Prelude.{◌≡◌, ◌<◌, ◌≤◌, ◌^◌, [], length, vec_capacity, Err, IfOk, IfErr};
+ghost use Rattle.std.specs.Prelude.{◌≡◌, ◌<◌, ◌≤◌, ◌^◌, [], length, vec_capacity, Err, IfOk, IfErr, IsTrue};
 ghost use Rattle.gc_words.specs.Certificate.{Certified};
 ghost use Rattle.gc_words.specs.Fault.{AreComparable, table_fault, object_faults, root_fault, ◌or_else◌};
 ghost use Rattle.gc_words.specs.Views.{image_of};
@@ -13,7 +13,7 @@ ghost use Rattle.gc_check.specs.declared.verdict.CheckFault.{CheckFault};
 
 use crate::checks::{ComparesObjects, Sequential};
 use crate::laws::certified_is_replicated;
-use crate::meet::find;
+use crate::meet::{Found, find};
 use crate::starts::Starts;
 use crate::tables::Tables;
 use crate::verdict::{CheckFault, Verdict};
@@ -48,7 +48,8 @@ pub fn compare(alloc: Global, old: ImageRef, new: ImageRef) -> Result<Comparison
     compare_by(&Sequential, alloc, old, new)
 }
 
-/// Decides the same with this comparison of objects, which may use several threads.
+/// Decides the same with this comparison of objects, which may use several threads. It is asked only if the search of the pairs has met words that
+/// do not correspond, to find the first fault.
 pub fn compare_by<C: ComparesObjects>(
     comparer: &C,
     alloc: Global,
@@ -67,7 +68,11 @@ pub fn compare_by<C: ComparesObjects>(
     ensures decides { IfOk result (λ comparison.
         Decides comparison.verdict (image_of old.entry) (image_of new.entry) (pairs_of comparison.pairs.items)) }
 {
-    let Inferred { pairs, partners } = match infer_with_table(alloc, old, new) {
+    let Inferred {
+        pairs,
+        partners,
+        alike,
+    } = match infer_with_table(alloc, old, new) {
         Ok(inferred) => inferred,
         Err(CheckFault::Refused(refusal)) => return Ok(Comparison {
             pairs: Vec::new(alloc),
@@ -80,17 +85,25 @@ pub fn compare_by<C: ComparesObjects>(
     let verdict = verdict_on(
         comparer,
         &Tables::of_partners(old, new, pairs.as_slice(), partners),
+        alike,
     );
     Ok(Comparison { pairs, verdict })
 }
 
-// Returns the verdict on pairs whose addresses are right.
-fn verdict_on<C: ComparesObjects>(comparer: &C, tables: &Tables) -> Verdict
+// Returns the verdict on pairs whose addresses are right. `alike` says that the walk has already compared them, and the roots.
+fn verdict_on<C: ComparesObjects>(comparer: &C, tables: &Tables, alike: bool) -> Verdict
     requires can { C.can_compare comparer.now }
+    requires alike { IsTrue alike → Certified tables.now.old tables.now.new tables.now.pairs }
     ensures { result ≡ verdict_by (length tables.now.pairs)
         (object_faults tables.now.old tables.now.new tables.now.pairs
         or_else root_fault tables.now.old tables.now.new tables.now.pairs) }
 {
+    if alike {
+        no_fault_where_certified();
+        return Verdict::Yes {
+            pairs: tables.count(),
+        };
+    }
     if let Some(refusal) = comparer.object_fault(tables) {
         return Verdict::Refused(refusal);
     }
@@ -133,6 +146,8 @@ struct Inferred {
     pairs: Vec<Pair>,
     /// At each old address: the new address that is paired with it, or 0.
     partners: Vec<u32>,
+    /// The certificate was seen to hold as the pairs were found. If not, the objects are still to be compared.
+    alike: bool,
 }
 
 // Infers pairs as `infer` does. Returns the first fault of shapes or root counts, or `NoMemory`.
@@ -150,6 +165,8 @@ fn infer_with_table(alloc: Global, old: ImageRef, new: ImageRef) -> Result<Infer
       new = image_of new.entry;
       pairs = pairs_of inferred.pairs.items;
     }) inferred.partners.items) }
+    ensures alike { IfOk result (λ inferred. IsTrue inferred.alike
+        → Certified (image_of old.entry) (image_of new.entry) (pairs_of inferred.pairs.items)) }
     ensures refused { IfErr result
         (IsRefusalOf (table_fault (image_of old.entry) (image_of new.entry) [])) }
     ensures impossible { (refusal : Refusal) → result ≡ Err (CheckFault.Refused refusal)
@@ -166,12 +183,20 @@ fn infer_with_table(alloc: Global, old: ImageRef, new: ImageRef) -> Result<Infer
     if old.roots.len() != new.roots.len() {
         return Err(CheckFault::Refused(Refusal::RootCount));
     }
-    let found = find(alloc, &old_starts, &new_starts)?;
-    let mut pairs = Vec::with_capacity(alloc, found.pairs.len())?;
-    enter_rising(found.originals.as_slice(), &mut pairs);
+    let walk = find(alloc, &old_starts, &new_starts)?;
+    let alike = walk.alike;
+    let Found {
+        partners,
+        originals,
+        mut pairs,
+    } = walk.found;
+    // The row has room for all pairs. The walk no longer needs their order.
+    pairs.clear();
+    enter_rising(originals.as_slice(), &mut pairs);
     Ok(Inferred {
         pairs,
-        partners: found.partners,
+        partners,
+        alike,
     })
 }
 

@@ -1,8 +1,11 @@
 //! A walk over two images at once, from their roots, that finds which objects must be pairs.
 
 ghost use Rattle.std.specs.Prelude.{◌≡◌, IfOk, IsOk, IsTrue, length};
-ghost use Rattle.gc_words.specs.Image.{is_start, walk_words};
-ghost use Rattle.gc_check.specs.Internal.Meetings.{met, met_all, met_objects, MetTo, HoldsFound};
+ghost use Rattle.std.specs.List.{AllZip};
+ghost use Rattle.gc_words.specs.Word.{words_correspond};
+ghost use Rattle.gc_words.specs.Image.{is_start, walk_words, block_at};
+ghost use Rattle.gc_words.specs.Certificate.{BlocksCorrespond};
+ghost use Rattle.gc_check.specs.Internal.Meetings.{met, met_all, met_objects, MetTo, AlikeTo, HoldsFound};
 ghost use Rattle.gc_check.specs.Verdict.{pairs_of};
 
 use crate::object::{fields_at, header_word_at};
@@ -21,13 +24,24 @@ pub(crate) struct Found {
     pub(crate) pairs: Vec<Pair>,
 }
 
-/// Finds the pairs of objects that the same path from a root finds in both images. Allocates three times, at the start.
-pub(crate) fn find(alloc: Global, old: &Starts, new: &Starts) -> Result<Found, NoMemory>
+/// The pairs that a walk has found, and whether all words that it met correspond.
+#[derive(Drop)]
+pub(crate) struct Walk {
+    pub(crate) found: Found,
+    pub(crate) alike: bool,
+}
+
+/// Finds the pairs of objects that the same path from a root finds in both images, and compares the words on these paths. Allocates
+/// three times, at the start.
+pub(crate) fn find(alloc: Global, old: &Starts, new: &Starts) -> Result<Walk, NoMemory>
     requires old_walked { IsOk (walk_words old.now.words) }
     requires new_walked { IsOk (walk_words new.now.words) }
     requires roots { length old.now.roots ≡ length new.now.roots }
-    ensures held { IfOk result (λ found. HoldsFound old.now new.now found) }
-    ensures met { IfOk result (λ found. MetTo old.now new.now (pairs_of found.pairs.items) (length found.pairs.items)) }
+    ensures held { IfOk result (λ walk. HoldsFound old.now new.now walk.found) }
+    ensures met { IfOk result (λ walk.
+        MetTo old.now new.now (pairs_of walk.found.pairs.items) (length walk.found.pairs.items)) }
+    ensures alike { IfOk result (λ walk. IsTrue walk.alike
+        → AlikeTo old.now new.now (pairs_of walk.found.pairs.items) (length walk.found.pairs.items)) }
 {
     let partners = vec![in alloc; 0u32; old.places()]?;
     let originals = vec![in alloc; 0u32; new.places()]?;
@@ -37,81 +51,105 @@ pub(crate) fn find(alloc: Global, old: &Starts, new: &Starts) -> Result<Found, N
         originals,
         pairs,
     };
-    meet_all(old, new, &mut found, old.roots(), new.roots());
-    meet_reachable(old, new, &mut found);
-    Ok(found)
+    let roots = meet_all(old, new, &mut found, old.roots(), new.roots());
+    let alike = meet_reachable(old, new, &mut found, roots);
+    Ok(Walk { found, alike })
 }
 
-// Meets the objects of all pairs, also of those that this finds.
-fn meet_reachable(old: &Starts, new: &Starts, found: &mut Found)
+// Meets the objects of all pairs, also of those that this finds. Returns whether the roots are alike and these are too.
+fn meet_reachable(old: &Starts, new: &Starts, found: &mut Found, roots: bool) -> bool
     requires held { HoldsFound old.now new.now found.old }
     requires met { MetTo old.now new.now (pairs_of found.old.pairs.items) 0 }
+    requires roots { IsTrue roots → AlikeTo old.now new.now (pairs_of found.old.pairs.items) 0 }
     ensures held { HoldsFound old.now new.now found.new }
     ensures met { MetTo old.now new.now (pairs_of found.new.pairs.items) (length found.new.pairs.items) }
+    ensures alike { IsTrue result
+        → AlikeTo old.now new.now (pairs_of found.new.pairs.items) (length found.new.pairs.items) }
 {
+    let mut alike = roots;
     for done in 0..old.places() {
         if done >= found.pairs.len() {
-            return;
+            return alike;
         }
         let pair = found.pairs[done];
-        meet_objects(old, new, found, pair);
+        alike = meet_objects(old, new, found, pair) && alike;
     }
     // No more pairs are found than the old image has words.
+    alike
 }
 
-// Meets the fields of the objects of a pair, if their headers are equal and they are not raw.
-fn meet_objects(old: &Starts, new: &Starts, found: &mut Found, pair: Pair)
+// Meets the fields of the objects of a pair, if their headers are equal and they are not raw. If this returns true, the objects correspond.
+fn meet_objects(old: &Starts, new: &Starts, found: &mut Found, pair: Pair) -> bool
     requires old_start { IsTrue (is_start old.now.words pair.old.0) }
     requires new_start { IsTrue (is_start new.now.words pair.new.0) }
     requires held { HoldsFound old.now new.now found.old }
     ensures held { HoldsFound old.now new.now found.new }
     ensures pairs { pairs_of found.new.pairs.items
         ≡ met_objects old.now new.now (pairs_of found.old.pairs.items) (pair.old.0, pair.new.0) }
+    ensures alike { IsTrue result → BlocksCorrespond (pairs_of found.new.pairs.items)
+        (block_at old.now.words pair.old.0) (block_at new.now.words pair.new.0) }
 {
     let word = header_word_at(old.words(), pair.old.0);
     if word != header_word_at(new.words(), pair.new.0) {
-        return;
+        return false;
     }
     let header = Header::read(word).unwrap();
-    if header.is_raw() {
-        return;
-    }
     let originals = fields_at(old.words(), pair.old.0, header);
     let replicas = fields_at(new.words(), pair.new.0, header);
+    if header.is_raw() {
+        return originals == replicas;
+    }
     meet_all(old, new, found, originals, replicas)
 }
 
-// Meets words at the same places of two lists.
-fn meet_all(old: &Starts, new: &Starts, found: &mut Found, originals: &[u64], replicas: &[u64])
+// Meets words at the same places of two lists. If this returns true, they correspond.
+fn meet_all(
+    old: &Starts,
+    new: &Starts,
+    found: &mut Found,
+    originals: &[u64],
+    replicas: &[u64],
+) -> bool
     requires count { length originals.now ≡ length replicas.now }
     requires held { HoldsFound old.now new.now found.old }
     ensures held { HoldsFound old.now new.now found.new }
     ensures pairs { pairs_of found.new.pairs.items
         ≡ met_all old.now new.now (pairs_of found.old.pairs.items) originals.now replicas.now }
+    ensures alike { IsTrue result
+        → AllZip (λ v w. IsTrue (words_correspond (pairs_of found.new.pairs.items) v w)) originals.now replicas.now }
 {
+    let mut alike = true;
     for i in 0..originals.len() {
-        meet(old, new, found, originals[i], replicas[i]);
+        alike = meet(old, new, found, originals[i], replicas[i]) && alike;
     }
+    alike
 }
 
-// Meets two words: if both refer to objects that have no partner yet, these are a pair.
-fn meet(old: &Starts, new: &Starts, found: &mut Found, original: u64, replica: u64)
+// Meets two words: if both refer to objects that have no partner yet, these are a pair. Returns whether they correspond then.
+fn meet(old: &Starts, new: &Starts, found: &mut Found, original: u64, replica: u64) -> bool
     requires held { HoldsFound old.now new.now found.old }
     ensures held { HoldsFound old.now new.now found.new }
     ensures pairs { pairs_of found.new.pairs.items
         ≡ met old.now new.now (pairs_of found.old.pairs.items) original replica }
+    ensures alike { result ≡ words_correspond (pairs_of found.new.pairs.items) original replica }
 {
+    if original == replica && (original == 0 || original % 2 == 1) {
+        return true;
+    }
     let Some(Value::Ref(from)) = decode_wide(original) else {
-        return;
+        return false;
     };
     let Some(Value::Ref(to)) = decode_wide(replica) else {
-        return;
+        return false;
     };
     meet_refs(old, new, found, from, to);
+    is_pair(found, from, to)
 }
 
-ghost use Rattle.std.specs.Prelude.{◌<◌};
+ghost use Rattle.std.specs.Prelude.{◌<◌, ◌≤◌};
+ghost use Rattle.gc_graph.specs.Correspond.{paired};
 ghost use Rattle.gc_check.specs.Internal.Meetings.{met_refs, is_free};
+ghost use Rattle.gc_check.specs.Internal.Tables.{HoldsPartners};
 
 // Enters two addresses as a pair, if objects start there that have no partner yet.
 fn meet_refs(old: &Starts, new: &Starts, found: &mut Found, from: Addr, to: Addr)
@@ -150,4 +188,14 @@ fn is_free(old: &Starts, new: &Starts, found: &Found, from: Addr, to: Addr) -> b
         return false;
     }
     found.originals[to.0 as usize] == 0
+}
+
+// Returns whether the addresses are a pair.
+fn is_pair(found: &Found, from: Addr, to: Addr) -> bool
+    requires address { 1 ≤ to.0 }
+    requires held { HoldsPartners found.now.partners.items (pairs_of found.now.pairs.items) }
+    ensures { result ≡ paired (pairs_of found.now.pairs.items) from.0 to.0 }
+{
+    let place = from.0 as usize;
+    place < found.partners.len() && found.partners[place] == to.0
 }

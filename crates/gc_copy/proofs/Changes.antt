@@ -4,7 +4,7 @@ use Rattle.std.specs.List.{list_all}
 use Rattle.std.proofs.lemmas.Bool.{cond-false, cond_both, and_from, eq-eqb, not-true, not-false}
 use Rattle.gc_copy.specs.State.{Replica, Collection, State, new_end, replica_at}
 use Rattle.gc_copy.specs.Steps.{log_or_nil, log_at, if_room, roots_done, root_target, copy_root, scan_done, scan_replica, scan, apply_log, is_empty, is_ready, passes_check, step_in, collect_with, collect, is_change, first_log, apply_or_flip, useful_with, useful_step}
-use Rattle.gc_copy.specs.Belonging.{IsDue, IsOpen, IsOpened, IsState}
+use Rattle.gc_copy.specs.Belonging.{IsSpaceGraph, IsDue, IsOpen, IsOpened, IsState}
 use Rattle.gc_copy.specs.declared.step.Step.{Step}
 use Rattle.gc_copy.specs.declared.step.Step.TheVariants as steps
 use Rattle.gc_copy.specs.declared.step.StepReply.{StepReply}
@@ -85,22 +85,22 @@ log_brings s c m [] h = absurd cc
 log_brings s c m (entry ∷ rest) h = room_brings s Applied _ refl
 
 -- the first log with an entry has one; if there is no such log, all are empty
-found_log : (logs : List (List (ℕ × ℕ))) (k m : ℕ) → first_log k logs ≡ Some m → (j : ℕ) × (m ≡ k + j) × (is_empty (log_or_nil (slice_get logs j)) ≡ false)
+pub found_log : (logs : List (List (ℕ × ℕ))) (k m : ℕ) → first_log k logs ≡ Some m → (j : ℕ) × (m ≡ k + j) × (is_empty (log_or_nil (slice_get logs j)) ≡ false)
 found_log [] k m h = absurd cc
 found_log ([] ∷ logs) k m h = let r = found_log logs (suc k) m h in (suc r.0, (let e = r.1 in omega arith), r.2)
 found_log ((entry ∷ log) ∷ logs) k m h = (zero, (let e : k ≡ m = cc h in omega arith), refl)
 
-no_log : (logs : List (List (ℕ × ℕ))) (k : ℕ) → first_log k logs ≡ None → list_all is_empty logs ≡ true
+pub no_log : (logs : List (List (ℕ × ℕ))) (k : ℕ) → first_log k logs ≡ None → list_all is_empty logs ≡ true
 no_log [] k h = refl
 no_log ([] ∷ logs) k h = no_log logs (suc k) h
 no_log ((entry ∷ log) ∷ logs) k h = absurd cc
 
-pub useful_brings : (s : State) → IsState s → ((collect s (useful_step s)).0 ≡ NoRoom) ⊎ (is_change (collect s (useful_step s)).0 ≡ true)
-useful_brings s h = go s.collection h.collection
+pub useful_changes : (s : State) → IsSpaceGraph s.size s.heap.free s.heap.graph → IsOpen s s.collection → ((collect s (useful_step s)).0 ≡ NoRoom) ⊎ (is_change (collect s (useful_step s)).0 ≡ true)
+useful_changes s h opened = go s.collection opened
   where
     logs_bring : (c : Collection) → IsOpened s c → scan_done c ≡ true → roots_done c s.heap.graph ≡ true → (o : Option ℕ) → first_log 0 c.logs ≡ o → Brings (step_in s c (apply_or_flip o))
     logs_bring c k scanned replicated None e =
-        inr (ap (λ (next : StepReply × State). is_change next.0) (flips s c h.heap k (and_from _ _ (and_from _ _ (no_log c.logs 0 e) scanned) replicated)))
+        inr (ap (λ (next : StepReply × State). is_change next.0) (flips s c h k (and_from _ _ (and_from _ _ (no_log c.logs 0 e) scanned) replicated)))
     logs_bring c k scanned replicated (Some m) e =
         let found = found_log c.logs 0 m e in
         let same : m ≡ found.0 = let is = found.1 in omega arith in
@@ -113,3 +113,6 @@ useful_brings s h = go s.collection h.collection
         (λ f. cond_both (not (scan_done c)) _ _ (λ step. Brings (step_in s c step))
         (λ t. scan_brings s c k t)
         (λ g. logs_bring c k (not-false (scan_done c) g) (not-false (roots_done c s.heap.graph) f) (first_log 0 c.logs) refl))
+
+pub useful_brings : (s : State) → IsState s → ((collect s (useful_step s)).0 ≡ NoRoom) ⊎ (is_change (collect s (useful_step s)).0 ≡ true)
+useful_brings s h = useful_changes s h.heap h.collection

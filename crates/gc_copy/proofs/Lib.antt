@@ -29,3 +29,4 @@ pub mod Dropping
 pub mod Mutating
 pub mod RootsStay
 pub mod Sizes
+pub mod Progress

@@ -1,8 +1,8 @@
 -- Loops over the objects of a space.
-use Rattle.std.proofs.Common.{◌≡◌, ℕ, ◌+◌, ◌<◌, ◌≤◌, true, List, [], ◌∷◌, ◌++◌, map, length, Some, refl, ap, sym, ◌∙◌, subst, arith, append_assoc, length-append, inl}
-use Rattle.std.specs.Prelude.{◌^◌, IsOk}
-use Rattle.std.proofs.lemmas.List.{map-append, length-map}
-use Rattle.gc_words.specs.Image.{Block, walk_words, blocks, is_start, ok_or_nil}
+use Rattle.std.proofs.Common.{◌≡◌, ℕ, ◌+◌, ◌<◌, ◌≤◌, true, List, [], ◌∷◌, ◌++◌, map, length, Some, refl, ap, sym, ◌∙◌, subst, arith, append_assoc, length-append, length-set, drop, Result, inl}
+use Rattle.std.specs.Prelude.{◌^◌, IsOk, slice_set}
+use Rattle.std.proofs.lemmas.List.{map-append, length-map, drop-set-lt}
+use Rattle.gc_words.specs.Image.{Block, walk, walk_words, blocks, is_start, ok_or_nil}
 use Rattle.gc_words.specs.Spelling.{link_at}
 use Rattle.gc_words.specs.Space.{SpaceWords, IsSpace}
 use Rattle.gc_words.specs.Views.{addresses}
@@ -109,3 +109,25 @@ lists_few space at pairs is k =
     let high = is.end_high in
     let size = is.size_high in
     omega (arith, count, few, within)
+
+-- the walk so far, when the link of an object that was passed is set
+pub counts_unlinked : (words after : List ℕ) (at next count : ℕ) → after ≡ slice_set words (at + 1) 0 → blocks after ≡ blocks words → at + 1 < next → Counts words next count → Counts after next count
+counts_unlinked words after at next count is objects passed (done, m, counted) =
+    let kept : drop next after ≡ drop next words = ap (drop next) is ∙ drop-set-lt next words (at + 1) 0 passed in
+    let same : walk_from after next ≡ walk_from words next = ap (walk true 0 next) kept in (
+      done,
+      record {
+        split = objects ∙ m.split ∙ ap (λ (r : Result (List (ℕ × Block)) ℕ). done ++ ok_or_nil r) (sym same);
+        walked = subst IsOk (sym same) m.walked;
+        few = m.few;
+        within = subst (λ n. next ≤ n) (sym (ap length is ∙ length-set words (at + 1) 0)) m.within;
+      },
+      counted,
+    )
+
+-- where an object is passed its link word is passed too
+pub link_passed : (words : List ℕ) (at next count : ℕ) → Counts words at count → at < length words → next_of words at ≡ Some next → at + 1 < next
+link_passed words at next count k less e =
+    let b : Behind words at next = behind words at next less k.1.walked e in
+    let place = b.step.place in
+    omega arith

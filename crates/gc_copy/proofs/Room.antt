@@ -81,6 +81,13 @@ room_for size free new_size g Due replicas name o h larger k found new =
     let room = h.room in
     omega (arith, fit, all, one, others)
 
+-- all replicas together have at most as many words as the objects
+pub replicas_fit : (size free new_size : ℕ) (g : Graph) (Due : Bool → ℕ → ℕ → ℕ → Type 0) (replicas : List Replica) → IsSpaceGraph size free g → AreReplicas g.objects new_size Due replicas → replicas_end replicas ≤ size - free
+replicas_fit size free new_size g Due replicas h k =
+    let fit = weights_fit 1 g.objects (size - free) (map (λ (r : Replica). r.original) replicas) h.laid k.once in
+    let others = replicas_weigh g.objects 1 replicas (λ r l. let ok = k.each r l in ap weight_of ok.found ∙ ap (λ n. n + 2) (sym ok.len)) in
+    omega (arith, fit, others)
+
 -- ---- no step lacks room
 
 module _ (s : State) (h : IsSpaceGraph s.size s.heap.free s.heap.graph) where

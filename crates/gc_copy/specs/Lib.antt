@@ -5,6 +5,7 @@ pub mod Internal
 pub mod Linked
 pub mod Members
 pub mod Passing
+pub mod Progress
 pub mod Rows
 pub mod Runs
 pub mod State

@@ -1,6 +1,6 @@
 //! Laws that follow from the definitions. Crates that depend on this one use them in proofs by calling these functions.
 
-ghost use Rattle.std.specs.Prelude.{◌≡◌, ◌≢◌, ◌++◌, ◌∷◌, [], ℕ, List, ◌-◌, ◌<◌, ◌≤◌, ◌==◌, length, Some, is_none, ◌⊎◌, IsTrue, IsFalse};
+ghost use Rattle.std.specs.Prelude.{◌≡◌, ◌≢◌, ◌+◌, ◌++◌, ◌∷◌, [], ℕ, List, ◌-◌, ◌<◌, ◌≤◌, ◌==◌, length, Some, is_none, ◌⊎◌, IsTrue, IsFalse};
 ghost use Rattle.gc_graph.specs.Limits.{largest_space};
 ghost use Rattle.gc_graph.specs.Graph.{Value, Ref, Object, Graph, IsUnused, root, set_field};
 ghost use Rattle.gc_graph.specs.Correspond.{Corresponding};
@@ -16,7 +16,7 @@ ghost use Rattle.gc_heap.specs.Commands.{Performs};
 ghost use Rattle.gc_heap.specs.declared.options.HeapOptions.{HeapOptions};
 ghost use Rattle.gc_copy.specs.Words.{CollectionWords, IsCollection, BelongsTo, BelongsToBut, HasNoLinks, collection_in, idle_state, open_state, new_root_words};
 ghost use Rattle.gc_graph.specs.declared.reply.Reply.{Reply};
-ghost use Rattle.gc_copy.specs.State.{Replica, Collection, State, opening_state, opening_state_with, new_objects, new_free, pairs_of, replica_of, replica_at, moved, new_graph};
+ghost use Rattle.gc_copy.specs.State.{Replica, Collection, State, opening_state, opening_state_with, heap_end, new_objects, new_free, pairs_of, replica_of, replica_at, moved, new_graph};
 ghost use Rattle.gc_copy.specs.Linked.{image_of_graph, linked_image, old_links, new_links, old_image, new_image};
 ghost use Rattle.gc_copy.specs.Steps.{written, log_at, with_log, WritesField, with_collection, write_replica, fresh_collection, mutate, collect, is_change, is_ready, useful_step};
 ghost use Rattle.gc_copy.specs.Members.{In};
@@ -24,6 +24,7 @@ ghost use Rattle.gc_copy.specs.Belonging.{HasRawNumbers, IsSpaceGraph, HasField,
 ghost use Rattle.gc_copy.specs.Runs.{HasRange, AreRootEvents, IsStepWithin, IsEventWithin, AreEventsWithin, IsStep, AreEvents, InEveryRun, HasSizesWithin, after, state_after};
 ghost use Rattle.gc_copy.specs.declared.event.Event.{Event};
 ghost use Rattle.gc_copy.specs.Passing.{HasImage, PassesWhereReady, NeverRefused, AlwaysHasRoom, ScansToTheEnd, HasFewPairs};
+ghost use Rattle.gc_copy.specs.Progress.{ChangesLower, Advances, Ends, entries_in, entries_left, work_left};
 ghost use Rattle.gc_copy.specs.Carried.{CarriesOnlyKept, NamesOnlyKept};
 ghost use Rattle.gc_copy.specs.Staying.{KnowsRoot, root_written};
 ghost use Rattle.gc_copy.specs.Rows.{Rows, SizedRows, FlipPairRows};
@@ -246,4 +247,25 @@ pub fn root_replicas_stay()
         → root_written m op ≢ Some p → KnowsRoot s p → KnowsRoot (mutate s m op).1 p }
     ensures values { (s : State) (m : ℕ) (op : Op) (p : ℕ)
         → root_written m op ≢ Some p → root (mutate s m op).1.heap.graph p ≡ root s.heap.graph p }
+{}
+
+/// What a collection has left to do is a number, and each step that changes something lowers it. So one of the next `work_left`
+/// useful steps flips or lacks room, if no command comes between. A command raises the number by the words that it allocates and the
+/// entries that it logs.
+pub fn useful_steps_end()
+    ensures lowers { (s : State) → IsSpaceGraph s.size s.heap.free s.heap.graph → IsOpen s s.collection
+        → ChangesLower s }
+    ensures useful { (s : State) → IsSpaceGraph s.size s.heap.free s.heap.graph → IsOpen s s.collection
+        → Advances s }
+    // No step logs an entry.
+    ensures entries { (s : State) (step : Step) → entries_left (collect s step).1 ≤ entries_left s }
+    ensures ends { (s : State) → IsState s → Ends s }
+    ensures runs { InEveryRun Ends }
+    ensures bounded { (s : State) (c : Collection) → IsSpaceGraph s.size s.heap.free s.heap.graph
+        → IsOpen s s.collection → s.collection ≡ Some c
+        → work_left s ≤ (heap_end s - c.scan_place) + entries_in c.logs + 1 }
+    ensures commands { (s : State) (m : ℕ) (op : Op) → IsSpaceGraph s.size s.heap.free s.heap.graph
+        → IsOpen s s.collection → m < s.mutators
+        → (let t = (mutate s m op).1 in
+        work_left t + heap_end s + entries_left s ≡ work_left s + heap_end t + entries_left t) }
 {}

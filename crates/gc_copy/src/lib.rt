@@ -16,7 +16,7 @@ pub use laws::{
     heaps_have_addresses_as_names, images_have_their_graphs, images_show_links,
     links_tell_replicas, only_kept_is_carried, ready_flips_pass, room_suffices, root_replicas_stay,
     scans_and_pairs_are_bounded, sizes_stay_within, states_are_kept, steps_keep_belonging,
-    worked_rows,
+    useful_steps_end, worked_rows,
 };
 pub use log::LogEntry;
 pub use step::{Step, StepReply};

@@ -2,7 +2,7 @@
 
 ghost use Rattle.std.specs.Prelude.{◌≡◌, ◌<◌, ◌^◌, IfOk, length, map};
 ghost use Rattle.gc_words.specs.Image.{blocks};
-ghost use Rattle.gc_words.specs.Space.{IsSpace};
+ghost use Rattle.gc_words.specs.Space.{IsSpace, without_links};
 ghost use Rattle.gc_words.specs.Views.{addresses};
 ghost use Rattle.gc_copy.specs.State.{Replica};
 ghost use Rattle.gc_copy.specs.Members.{In};
@@ -22,6 +22,23 @@ pub(crate) fn count_objects(space: &Space) -> usize
     while at.0 < space.end() {
         count += 1;
         at = space.next_start(at);
+    }
+    count
+}
+
+/// Sets all links to 0, and returns the number of objects.
+pub(crate) fn clear_and_count(space: &mut Space) -> u32
+    requires { IsSpace space.old }
+    ensures cleared { space.new ≡ without_links space.old }
+    ensures count { result ≡ length (blocks space.old.words) }
+{
+    let mut count = 0;
+    let mut at = Addr(1);
+    while at.0 < space.end() {
+        let next = space.next_start(at);
+        space.set_link(at, 0);
+        count += 1;
+        at = next;
     }
     count
 }

@@ -1,12 +1,12 @@
 -- A watch that goes along with the open collection watches the words of both images.
-use Rattle.std.proofs.Common.{◌≡◌, ◌-◌, arith, Option, Some, None, refl, ap, sym, ◌∙◌, subst}
+use Rattle.std.proofs.Common.{◌≡◌, ◌-◌, arith, Option, Some, None, ap, sym, ◌∙◌, subst}
 use Rattle.std.specs.Option.{option_map}
 use Rattle.gc_words.specs.Image.{Image}
-use Rattle.gc_words.specs.Space.{image_with, end_of}
+use Rattle.gc_words.specs.Space.{end_of}
 use Rattle.gc_heap.specs.Heap.{HeapWords, IsHeap}
 use Rattle.gc_copy.specs.State.{State, Collection, heap_end}
 use Rattle.gc_copy.specs.Linked.{old_image, new_image}
-use Rattle.gc_copy.specs.Words.{CollectionWords, IsCollection, BelongsTo, collection_in, state_of, open_state, new_root_words}
+use Rattle.gc_copy.specs.Words.{CollectionWords, IsCollection, BelongsTo, collection_in, state_of, open_state}
 use Rattle.gc_copy.proofs.LinkedImages.{old_shown, new_shown}
 use Rattle.gc_core.specs.Internal.CollectedHeap.{Fits}
 use Rattle.gc_along.specs.Watch.{Watch, Watches}

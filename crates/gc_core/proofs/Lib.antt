@@ -4,4 +4,5 @@ mod KeptPair
 pub mod LegalRuns
 mod Marks
 mod NewFrom
+mod NumbersPut
 mod OtherCommands

@@ -197,6 +197,14 @@ number_knows known s one new m i n d t first reply low less a b k =
     let numbered : KnowsRoots after one = subst (KnowsRoots after) (ap (λ (x : Reply × State). x.1) a) (slot_command known s m (ops.Num t n) below k) in
     subst (KnowsRoots after) (ap (λ (x : Reply × State). x.1) b) (quiet_command after one m (ops.Put d i t) refl numbered)
 
+pub nil_put_knows : (known : KnownRoots) (s one new : State) (m i : ℕ) (d t : SlotName) (first reply : Reply) → t.index < 16 → m < s.mutators → mutate s m (ops.Nil t) ≡ (first, one) → mutate one m (ops.Put d i t) ≡ (reply, new) → KnowsRoots known s
+    → KnowsRoots (record { slots = 0; extra = known.extra; used = known.used }) new
+nil_put_knows known s one new m i d t first reply low less a b k =
+    let after : KnownRoots = record { slots = 0; extra = known.extra; used = known.used } in
+    let below : WritesBelow (roots_of s.mutators) m (ops.Nil t) = λ q. one_below (place t m) q (roots_of s.mutators) (slot_below t m s.mutators low less) in
+    let emptied : KnowsRoots after one = subst (KnowsRoots after) (ap (λ (x : Reply × State). x.1) a) (slot_command known s m (ops.Nil t) below k) in
+    subst (KnowsRoots after) (ap (λ (x : Reply × State). x.1) b) (quiet_command after one m (ops.Put d i t) refl emptied)
+
 pub put_knows : (known : KnownRoots) (s new : State) (m i : ℕ) (d t : SlotName) (reply : Reply) → mutate s m (ops.Put d i t) ≡ (reply, new) → KnowsRoots known s → KnowsRoots known new
 put_knows known s new m i d t reply steps k = subst (KnowsRoots known) (ap (λ (x : Reply × State). x.1) steps) (quiet_command known s m (ops.Put d i t) refl k)
 

@@ -3,6 +3,7 @@ use crate::fields::{SlotRow, fill, fill_and_log};
 use gc_copy::commands_leave_collections;
 use gc_graph::{NoMemory, Number, Op, Reply, Slot};
 use gc_heap::Fetched;
+use gc_words::OldAddr;
 
 impl CollectedHeap {
     ghost use Rattle.std.specs.Prelude.{◌≡◌, ◌<◌, ◌∷◌, [], IfOk, OnErr, IsSome};
@@ -130,6 +131,7 @@ impl CollectedHeap {
     /// Writes what `t` holds to field `i` of the object that `s` refers to. Returns `Done`, or else `NoObject`,
     /// `NoField` or `NoNumber`. While a collection is open, the field is logged (the write barrier). Only then can the
     /// call return `NoMemory`, and the heap is unchanged.
+    #[inline(always)]
     pub fn put(&mut self, m: u8, s: Slot, i: u16, t: Slot) -> Result<Reply, NoMemory>
         requires { m < self.old.mutators }
         ensures step { IfOk result (λ reply. mutate self.old m (Op.Put s i t) ≡ (reply, self.new)) }
@@ -179,6 +181,31 @@ impl CollectedHeap {
         Ok(collection.put(&mut self.heap, m, s, i, t))
     }
 
+    /// Performs a `nil` and a `put` in one call: sets `t` to nil, and then writes it to field `i` of the object that `s`
+    /// refers to. Returns the reply to the `put`. Returns `NoMemory` only while a collection is open; the heap is then
+    /// unchanged.
+    pub fn put_nil(&mut self, m: u8, s: Slot, i: u16, t: Slot) -> Result<Reply, NoMemory>
+        requires { m < self.old.mutators }
+        ensures step { IfOk result (λ reply. mutate (mutate self.old m (Op.Nil t)).1 m (Op.Put s i t) ≡ (reply, self.new)) }
+        ensures refused { OnErr result (self.new ≡ self.old) }
+        ensures open { OnErr result (IsSome self.old.collection) }
+        ensures mutators { self.new.mutators ≡ self.old.mutators }
+    {
+        commands_leave_collections();
+        // Here the prover learns that the heap is sound, and the slot in range.
+        let _ = self.heap.space();
+        let _ = t.index();
+        let Some(collection) = &mut self.collection else {
+            self.known.slots = 0;
+            let _done = self.heap.nil(m, t);
+            return Ok(self.heap.put(m, s, i, t));
+        };
+        collection.reserve(m)?;
+        self.known.slots = 0;
+        let _done = self.heap.nil(m, t);
+        Ok(collection.put(&mut self.heap, m, s, i, t))
+    }
+
     /// Makes an object of this kind with two fields, which take what `s` and `t` hold, and sets `d` to a reference to
     /// it. This is a `new_object` followed by two `put`s, in one call. Returns `Made`, or `Full` if there is no room;
     /// then nothing has changed. `d` is set first, so a field filled from slot `d` refers to the object itself. Returns
@@ -191,17 +218,17 @@ impl CollectedHeap {
         ensures mutators { self.new.mutators ≡ self.old.mutators }
     {
         commands_leave_collections();
-        // Here the prover learns that the heap is sound, and the slot in range.
-        let _ = self.heap.space();
+        // Here the prover learns that the slot is in range.
         let _ = d.index();
+        let object = OldAddr(self.heap.space().end());
         let Some(collection) = &mut self.collection else {
             self.known.slots = 0;
             let made = self.heap.new_object(m, d, kind, 2);
             if let Reply::Full = made {
                 return Ok(made);
             }
-            let _first = self.heap.put(m, d, 0, s);
-            let _second = self.heap.put(m, d, 1, t);
+            let _first = self.heap.fill_field(m, d, object, 0, s);
+            let _second = self.heap.fill_field(m, d, object, 1, t);
             return Ok(made);
         };
         collection.reserve_more(m, 2)?;
@@ -210,8 +237,8 @@ impl CollectedHeap {
         if let Reply::Full = made {
             return Ok(made);
         }
-        let _first = collection.put(&mut self.heap, m, d, 0, s);
-        let _second = collection.put(&mut self.heap, m, d, 1, t);
+        let _first = collection.fill_field(&mut self.heap, m, d, object, 0, s);
+        let _second = collection.fill_field(&mut self.heap, m, d, object, 1, t);
         Ok(made)
     }
 
@@ -235,9 +262,9 @@ impl CollectedHeap {
         ensures mutators { self.new.mutators ≡ self.old.mutators }
     {
         commands_leave_collections();
-        // Here the prover learns that the heap is sound, and the slot in range.
-        let _ = self.heap.space();
+        // Here the prover learns that the slot is in range.
         let _ = d.index();
+        let object = OldAddr(self.heap.space().end());
         let count = fields.count();
         let Some(collection) = &mut self.collection else {
             self.known.slots = 0;
@@ -245,7 +272,7 @@ impl CollectedHeap {
             if let Reply::Full = made {
                 return Ok(made);
             }
-            fill(&mut self.heap, m, d, fields);
+            fill(&mut self.heap, m, d, object, fields);
             return Ok(made);
         };
         collection.reserve_more(m, usize::from(count))?;
@@ -254,7 +281,7 @@ impl CollectedHeap {
         if let Reply::Full = made {
             return Ok(made);
         }
-        fill_and_log(collection, &mut self.heap, m, d, fields);
+        fill_and_log(collection, &mut self.heap, m, d, object, fields);
         Ok(made)
     }
 

@@ -103,20 +103,16 @@ impl CollectedHeap {
             return Ok(unasked(StepReply::NotReady));
         }
         let roots = collection.new_roots(self.alloc, &self.heap)?;
-        let pairs = collection.count_pairs();
-        if pairs > u32::MAX as usize {
-            return self.flip_whole(checker);
-        }
         if !is_accepted(along, &self.heap, collection, &roots) {
             return self.flip_whole(checker);
         }
         let collection = self.collection.take().unwrap();
-        Ok(unasked(carry_out_along(&mut self.heap, collection, roots, pairs as u32)))
+        Ok(unasked(carry_out_along(&mut self.heap, collection, roots)))
     }
 
-    // Flips if the open collection is ready and the checker accepts its certificate.
+    /// Flips if the open collection is ready and the checker accepts its certificate, as `flip` does. No pair is kept.
     #[inline(never)]
-    fn flip_whole<C: Checks>(&mut self, checker: &C) -> Result<AlongFlip, NoMemory>
+    pub fn flip_whole<C: Checks>(&mut self, checker: &C) -> Result<AlongFlip, NoMemory>
         requires { C.can_check checker.now }
         ensures step { IfOk result (λ flip. collect self.old Step.Flip ≡ (flip.reply, self.new)) }
         ensures whole { IfOk result (λ flip. IsTrue flip.whole) }
@@ -161,22 +157,16 @@ fn is_accepted<W: Watcher>(along: &W, heap: &Heap, collection: &Collection, root
 }
 
 // Carries out a flip that the checker that went along accepted. No pair is kept.
-fn carry_out_along(
-    heap: &mut Heap,
-    collection: Collection,
-    roots: Vec<u64>,
-    pairs: u32,
-) -> StepReply
+fn carry_out_along(heap: &mut Heap, collection: Collection, roots: Vec<u64>) -> StepReply
     requires belongs { BelongsTo heap.old collection }
     requires ready { IsTrue (is_ready (collection_in collection) (graph_in heap.old)) }
     requires roots { roots.items ≡ new_root_words heap.old (collection_in collection) }
-    requires pairs { pairs ≡ length (pairs_of (collection_in collection)) }
     ensures step { collect (open_state heap.old collection) Step.Flip ≡ (result, idle_state heap.new) }
     ensures reply { result ≡ StepReply.Flipped (length (collection_in collection).replicas) }
     ensures links { HasNoLinks heap.new }
     ensures mutators { heap.new.mutators ≡ heap.old.mutators }
 {
-    let _ = collection.flip_into(heap, roots);
+    let (_, _, pairs) = collection.flip_counted(heap, roots);
     StepReply::Flipped { pairs }
 }
 

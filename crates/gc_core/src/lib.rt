@@ -1,6 +1,7 @@
 //! The collected heap: mutator commands, collector steps and checked flips. It keeps no history.
 #![tactic(auto)]
 
+mod checking;
 mod collected_heap;
 mod commands;
 mod extra_roots;
@@ -12,7 +13,9 @@ mod laws;
 mod reading;
 mod steps;
 mod watching;
+mod writing;
 
+pub use checking::Finding;
 pub use collected_heap::CollectedHeap;
 pub use fields::SlotRow;
 pub use flip::{AlongFlip, Flip, Keep};

@@ -2,6 +2,9 @@
 
 ghost use Rattle.std.specs.Prelude.{◌≡◌, ◌<◌, length, slice_get};
 ghost use Rattle.std.specs.Option.{option_map};
+ghost use Rattle.gc_graph.specs.Graph.{name_of, root};
+ghost use Rattle.gc_graph.specs.Slots.{place};
+ghost use Rattle.gc_heap.specs.Raws.{raw_numbers};
 ghost use Rattle.gc_words.specs.Views.{image_of};
 ghost use Rattle.gc_copy.specs.Entries.{entry_in};
 ghost use Rattle.gc_copy.specs.State.{heap_end};
@@ -9,7 +12,8 @@ ghost use Rattle.gc_core.specs.Readings.{heap_image, new_words, new_space, log_o
 
 use crate::collected_heap::CollectedHeap;
 use gc_copy::{LogEntry, images_show_links};
-use gc_words::ImageRef;
+use gc_graph::Slot;
+use gc_words::{ImageRef, OldAddr};
 
 /// The new space of an open collection, and how far the scan has come.
 #[derive(Clone, Copy, Debug, PartialEq, Eq)]
@@ -57,6 +61,23 @@ impl CollectedHeap {
             scan_place: collection.scan_place(),
             scan_field: collection.scan_field(),
         })
+    }
+
+    /// Returns the numbers in the fields of the raw object that mutator `m`'s slot refers to, or `None` if it refers to no raw object.
+    pub fn raw_numbers(&self, m: u8, slot: Slot) -> Option<&[u64]>
+        requires { m < self.now.mutators }
+        ensures { option_map (λ numbers. numbers.now) result ≡ raw_numbers self.now.heap.graph slot m }
+    {
+        self.heap.raw_numbers(m, slot)
+    }
+
+    /// Returns the address of the object that mutator `m`'s slot refers to, or `None` if it refers to none. A flip gives objects
+    /// other addresses.
+    pub fn address(&self, m: u8, slot: Slot) -> Option<OldAddr>
+        requires { m < self.now.mutators }
+        ensures { option_map (λ a. a.0) result ≡ name_of (root self.now.heap.graph (place slot m)) }
+    {
+        self.heap.target(m, slot)
     }
 
     /// Returns the number of entries in mutator `m`'s log: 0 if no collection is open.

@@ -10,8 +10,8 @@ most_words = 1048576
 abbrev pub largest_space : ℕ
 largest_space = 4294967295
 
--- the maximum number of objects in such a space, and so of pairs in a text: each object takes at least two words, and
--- the first word is reserved
+-- the maximum number of objects in a space of `most_words` words, and so of pairs in a text: each object takes at least
+-- two words, and the first word is reserved
 abbrev pub most_pairs : ℕ
 most_pairs = 524287
 

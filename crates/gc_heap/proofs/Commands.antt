@@ -23,7 +23,7 @@ use Rattle.gc_heap.specs.Heap.{HeapWords, IsHeap, graph_in}
 
 -- ---- roots
 
-get_index : (xs : List ℕ) (i : ℕ) → i < length xs → slice_get xs i ≡ Some (slice_index xs i)
+pub get_index : (xs : List ℕ) (i : ℕ) → i < length xs → slice_get xs i ≡ Some (slice_index xs i)
 get_index [] i h = absurd (omega arith)
 get_index (x ∷ xs) zero h = refl
 get_index (x ∷ xs) (suc i) h = get_index xs i (omega arith)

@@ -1,4 +1,6 @@
 pub mod Commands
 pub mod ExtraRoots
+pub mod Filling
 pub mod Heap
-mod Internal
+pub mod Internal
+pub mod Raws

@@ -1,9 +1,10 @@
 ghost use Rattle.std.specs.Prelude.{◌≡◌};
 
 mod commands;
+mod filling;
 
 use crate::options::HeapOptions;
-use crate::reading::{field_word, has_field, root_word};
+use crate::reading::{field_word, has_field, raw_fields, root_word};
 use crate::taken::Taken;
 use gc_graph::{NoMemory, Op, Reply, Slot, root_count};
 use gc_words::{Addr, Header, ImageRef, NewAddr, OldAddr, Space, Value, encode, target_of};
@@ -45,7 +46,7 @@ impl Model for Heap {
 }
 
 impl Heap {
-    ghost use Rattle.std.specs.Prelude.{◌≡◌, ◌<◌, ◌≤◌, IfOk, IfSome, IsTrue, length, slice_set, if◌then◌else◌};
+    ghost use Rattle.std.specs.Prelude.{◌≡◌, ◌≢◌, ◌<◌, ◌≤◌, IfOk, IfSome, IsTrue, IsFalse, length, slice_set, if◌then◌else◌};
     ghost use Rattle.std.specs.Option.{option_map};
     ghost use Rattle.gc_graph.specs.Limits.{most_mutators};
     ghost use Rattle.gc_graph.specs.Slots.{place as place_of};
@@ -60,6 +61,8 @@ impl Heap {
     ghost use Rattle.gc_heap.specs.Internal.Taken.{taken_reply, IsTakenWord};
     ghost use Rattle.gc_heap.specs.Heap.{IsHeap, KeepsLinks, empty_heap, image_of, graph_in, roomy_in, extra_roots_in};
     ghost use Rattle.gc_heap.specs.ExtraRoots.{CanOpen, opening_with};
+    ghost use Rattle.gc_heap.specs.Filling.{TakesFields, TakesNumbers};
+    ghost use Rattle.gc_heap.specs.Raws.{raw_numbers};
 
     /// Returns a heap without objects whose roots are all nil. It has `size` words, at least 1, and 1 to
     /// `MOST_MUTATORS` mutators. It has no extra roots.
@@ -142,6 +145,35 @@ impl Heap {
         Some(OldAddr(at.0))
     }
 
+    /// Returns the numbers in the fields of the raw object that a slot of mutator `m` refers to, or `None` if it refers to no
+    /// raw object.
+    pub fn raw_numbers(&self, m: u8, slot: Slot) -> Option<&[u64]>
+        requires { m < self.now.mutators }
+        ensures { option_map (λ numbers. numbers.now) result ≡ raw_numbers (graph_in self.now) slot m }
+    {
+        let target = self.roots[slot.place(m)];
+        let Some(at) = target_of(target) else {
+            return None;
+        };
+        raw_fields(&self.space, at)
+    }
+
+    /// Returns the raw object that a slot of mutator `m` refers to, and the number of its fields, or `None` if it refers to no raw
+    /// object.
+    pub fn raw_object(&self, m: u8, slot: Slot) -> Option<(OldAddr, u16)>
+        requires { m < self.now.mutators }
+        ensures count { option_map (λ found. found.1) result ≡ option_map length (raw_numbers (graph_in self.now) slot m) }
+        ensures takes { IfSome result (λ found. TakesNumbers self.now (place_of slot m) found.0.0 found.1) }
+        ensures sound { IsHeap self.now }
+    {
+        let at = target_of(self.roots[slot.place(m)])?;
+        let header = self.space.header(at);
+        if !header.is_raw() {
+            return None;
+        }
+        Some((OldAddr(at.0), header.len()))
+    }
+
     /// Performs a command of mutator `m`. Does not allocate.
     pub fn apply(&mut self, m: u8, op: &Op) -> Reply
         requires { m < self.old.mutators }
@@ -203,6 +235,8 @@ impl Heap {
         ensures links { KeepsLinks self.old.space.words self.new.space.words }
         ensures size { self.new.space.size ≡ self.old.space.size }
         ensures mutators { self.new.mutators ≡ self.old.mutators }
+        // Unless there is no room, an object with references takes its fields.
+        ensures fields { result ≢ Reply.Full → IsFalse raw → TakesFields self.new place (end_of self.old.space) len }
         ensures sound { IsHeap self.new }
     {
         if !self.space.has_room(len) {

@@ -1,19 +1,19 @@
 //! Reads words of a space in which every reference refers to a start.
 
-ghost use Rattle.std.specs.Prelude.{◌≡◌, ◌↔◌, Some, IsTrue, IsSome, IfSome, is_none, not, ◌&&◌, ◌<◌, ◌^◌};
+ghost use Rattle.std.specs.Prelude.{◌≡◌, ◌↔◌, Some, None, IsTrue, IsSome, IfSome, is_none, not, ◌&&◌, ◌<◌, ◌^◌, if◌then◌else◌};
 ghost use Rattle.std.specs.Option.{option_map};
 ghost use Rattle.gc_graph.specs.Graph.{Num};
 ghost use Rattle.gc_graph.specs.Machine.{view_of, is_number};
 ghost use Rattle.gc_graph.specs.declared.reply.Reply.TheVariants.{Saw};
 ghost use Rattle.gc_heap.specs.Commands.{fetched_of};
 ghost use Rattle.gc_words.specs.Word.{is_value, value_of, field_value};
-ghost use Rattle.gc_words.specs.Image.{header_at, field_at, objects_of};
+ghost use Rattle.gc_words.specs.Image.{Block, block_at, is_start, header_at, field_at, objects_of};
 ghost use Rattle.gc_words.specs.Space.{IsSpace};
 ghost use Rattle.gc_words.specs.Closed.{IsRootWord, IsFieldWord};
 
 use crate::taken::Fetched;
 use gc_graph::View;
-use gc_words::{Addr, Header, Space, Value, decode_wide};
+use gc_words::{Addr, Header, Space, Value, value_in};
 
 /// Returns whether the object that starts here, and has this header, has a field `i`.
 pub fn has_field(space: &Space, at: Addr, header: Header, i: u16) -> bool
@@ -30,14 +30,11 @@ pub fn view(space: &Space, word: u64) -> View
     requires shaped { IsSpace space.now }
     ensures { result ≡ view_of (objects_of space.now.words) (value_of word) }
 {
-    let Some(value) = decode_wide(word) else {
-        return View::Nil;
-    };
-    match &value {
+    match value_in(word) {
         Value::Nil => View::Nil,
-        Value::Num(n) => View::Num(*n),
+        Value::Num(n) => View::Num(n),
         Value::Ref(at) => {
-            let header = space.header(*at);
+            let header = space.header(at);
             let kind = header.kind();
             let len = header.len();
             if header.is_raw() {
@@ -55,13 +52,23 @@ pub fn fetched(space: &Space, word: u64) -> Fetched
     requires shaped { IsSpace space.now }
     ensures { result ≡ fetched_of (Saw (view_of (objects_of space.now.words) (value_of word))) }
 {
-    let Some(value) = decode_wide(word) else {
-        return Fetched::Nil;
-    };
-    match &value {
+    match value_in(word) {
         Value::Nil => Fetched::Nil,
-        Value::Num(n) => Fetched::Num(*n),
+        Value::Num(n) => Fetched::Num(n),
         Value::Ref(_) => Fetched::Object,
+    }
+}
+
+/// Returns the field words of the object that starts here, if it is raw.
+pub fn raw_fields(space: &Space, at: Addr) -> Option<&[u64]>
+    requires { IsTrue (is_start space.now.words at.0) }
+    ensures { (b : Block) → block_at space.now.words at.0 ≡ Some b
+        → option_map (λ fields. fields.now) result ≡ (if b.header.raw then Some b.fields else None) }
+{
+    if space.header(at).is_raw() {
+        Some(space.fields(at))
+    } else {
+        None
     }
 }
 
@@ -100,8 +107,7 @@ fn number_of(word: u64) -> Option<u64>
     ensures value { IfSome result (λ n. Num n ≡ value_of word) }
     ensures bound { IfSome result (λ n. n < 2 ^ 63) }
 {
-    let value = decode_wide(word)?;
-    match &value {
+    match value_in(word) {
         Value::Num(n) => Some(n.get()),
         _ => None,
     }

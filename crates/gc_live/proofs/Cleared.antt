@@ -1,8 +1,8 @@
 -- A standing checker beside a heap whose extra roots are cleared.
-use Rattle.std.proofs.Common.{◌≡◌, ⊎_elim, ℕ, zero, suc, Option, Some, None, refl, ap, ◌∙◌, subst}
+use Rattle.std.proofs.Common.{◌≡◌, ⊎_elim, ℕ, zero, suc, refl, ap, ◌∙◌, subst}
 use Rattle.gc_graph.specs.declared.command.Op.TheVariants as ops
 use Rattle.gc_heap.specs.ExtraRoots.{extra_slot}
-use Rattle.gc_copy.specs.State.{Collection, State, heap_end}
+use Rattle.gc_copy.specs.State.{State, heap_end}
 use Rattle.gc_copy.specs.Steps.{mutate}
 use Rattle.gc_copy.specs.Belonging.{IsOpen}
 use Rattle.gc_copy.proofs.Commands.{WrittenBy, unchanged}

@@ -1,24 +1,24 @@
 -- A standing checker beside a heap stays lost, or goes along: an object made whose fields take the values of slots.
-use Rattle.std.proofs.Common.{◌≡◌, ◌⊎◌, inl, inr, ⊎_elim, ℕ, zero, suc, ◌+◌, ◌-◌, ◌<◌, ◌≤◌, nat_lt, true, false, List, [], ◌∷◌, ◌++◌, map, length, Option, Some, None, refl, ap, sym, ◌∙◌, subst, arith}
+use Rattle.std.proofs.Common.{◌≡◌, ◌⊎◌, inl, inr, ⊎_elim, ℕ, zero, suc, ◌+◌, ◌-◌, ◌<◌, ◌≤◌, nat_lt, true, false, List, [], ◌∷◌, map, length, refl, ap, sym, ◌∙◌, subst, arith}
 use Rattle.std.specs.Prelude.{slice_get, slice_set}
 use Rattle.std.proofs.lemmas.Bool.{cond_both, ltb-false}
 use Rattle.std.proofs.lemmas.List.{length-replicate}
-use Rattle.gc_graph.specs.Graph.{Value, Nil, Ref, Object, root, value_or_nil, names_of, new_object, first_value, lookup}
+use Rattle.gc_graph.specs.Graph.{Value, Nil, Ref, Object, root, value_or_nil, names_of, new_object, first_value}
 use Rattle.gc_graph.specs.Machine.{Roomy, words_taken}
 use Rattle.gc_graph.specs.Slots.{SlotName, place}
 use Rattle.gc_graph.specs.declared.command.Op.{Op}
 use Rattle.gc_graph.specs.declared.command.Op.TheVariants as ops
 use Rattle.gc_graph.specs.declared.reply.Reply.{Reply}
 use Rattle.gc_graph.specs.declared.reply.Reply.TheVariants as replies
-use Rattle.gc_copy.specs.State.{Replica, Collection, State, heap_end}
-use Rattle.gc_copy.specs.Steps.{mutate, written, logged}
+use Rattle.gc_copy.specs.State.{State, heap_end}
+use Rattle.gc_copy.specs.Steps.{mutate, logged}
 use Rattle.gc_copy.specs.Members.{In}
-use Rattle.gc_copy.specs.Belonging.{IsSpaceGraph, IsOpened, IsOpen, Laid}
+use Rattle.gc_copy.specs.Belonging.{IsSpaceGraph, IsOpen, Laid}
 use Rattle.gc_copy.proofs.Commands.{WrittenBy, unchanged}
 use Rattle.gc_copy.proofs.Heap.{laid_push, laid_range, lookup_in, lookup_laid}
 use Rattle.gc_copy.proofs.Lists.{in_right}
 use Rattle.gc_core.specs.CollectedHeap.{fill_step, filled, new_from_step}
-use Rattle.gc_along.specs.Watch.{Watch, opening}
+use Rattle.gc_along.specs.Watch.{Watch}
 use Rattle.gc_beside.specs.Stays.{Fits, MarksWritten}
 use Rattle.gc_along.specs.Tables.{Tables, watch_of}
 use Rattle.gc_along.specs.Events.{Made}

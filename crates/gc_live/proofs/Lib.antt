@@ -1,3 +1,4 @@
 pub mod Begun
 pub mod Cleared
 pub mod Filled
+pub mod NumbersTold

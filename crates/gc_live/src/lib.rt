@@ -2,5 +2,6 @@
 #![tactic(auto)]
 
 mod live_heap;
+mod writing;
 
 pub use live_heap::{Checking, FlipChecks, LiveHeap};

@@ -3,7 +3,7 @@ ghost use Rattle.std.specs.Prelude.{◌≡◌};
 use gc_along::Standing;
 use gc_check::Checks;
 use gc_copy::{LogEntry, Step, StepReply};
-use gc_core::{CollectedHeap, NewSpace, SlotRow};
+use gc_core::{AlongFlip, CollectedHeap, Finding, NewSpace, SlotRow};
 use gc_graph::{NoMemory, Number, Op, Reply, Slot};
 use gc_heap::{Fetched, Heap, HeapOptions};
 use gc_words::{ImageRef, OldAddr};
@@ -16,7 +16,11 @@ pub enum Checking {
     /// The flip checks both spaces whole.
     AtFlip,
     /// A standing checker looks at each field when the collector brings it up to date. The flip looks at a count and the roots.
-    Along,
+    Along {
+        /// No more flips in a row than this number less one rest on the standing checker: the next one checks both spaces whole. If it is 0,
+        /// any number of flips may.
+        whole_each: u32,
+    },
 }
 
 /// How many flips each checker has accepted since the heap was opened.
@@ -49,12 +53,42 @@ impl FlipChecks {
     }
 }
 
+/// When the next check of both spaces whole is due.
+#[derive(Clone, Copy, Debug, Drop, PartialEq, Eq)]
+struct Turn {
+    /// Each flip with this number is checked whole, counted from the last one that was. If it is 0, none is for its number.
+    each: u32,
+    /// The number of flips since the last one that was checked whole, or since the heap was opened.
+    since: u32,
+}
+
+impl Turn {
+    // Whether the next flip is to be checked whole.
+    fn is_due(self) -> bool {
+        self.each != 0 && self.since >= self.each - 1
+    }
+
+    // After a flip that was checked whole, or was not.
+    fn after(self, whole: bool) -> Turn {
+        let since = if whole {
+            0
+        } else {
+            self.since.saturating_add(1)
+        };
+        Turn {
+            each: self.each,
+            since,
+        }
+    }
+}
+
 /// A collected heap whose checker goes along with the collection.
 #[derive(Debug, Drop)]
 pub struct LiveHeap {
-    inner: CollectedHeap,
-    watch: Standing,
+    pub(crate) inner: CollectedHeap,
+    pub(crate) watch: Standing,
     checks: FlipChecks,
+    turn: Turn,
 }
 
 impl Model for LiveHeap {
@@ -77,13 +111,18 @@ impl LiveHeap {
     ghost use Rattle.gc_core.specs.ExtraRoots.{clear_step};
     ghost use Rattle.gc_copy.specs.Steps.{useful_step, mutate, WritesField, collect};
     ghost use Rattle.gc_copy.specs.Runs.{IsStep};
+    ghost use Rattle.gc_copy.specs.Belonging.{IsSpaceGraph, IsOpen};
     ghost use Rattle.gc_heap.specs.Heap.{roomy_in};
+    ghost use Rattle.gc_heap.specs.Raws.{raw_numbers};
+    ghost use Rattle.gc_graph.specs.Graph.{name_of, root as root_in};
+    ghost use Rattle.gc_graph.specs.Slots.{place};
     ghost use Rattle.gc_graph.specs.declared.command.Op.{Op};
     ghost use Rattle.gc_core.specs.CollectedHeap.{Fetches, new_from_step, Allocates};
     ghost use Rattle.gc_copy.specs.declared.step.Step.{Step};
     ghost use Rattle.gc_copy.specs.declared.step.StepReply.{StepReply};
     ghost use Rattle.gc_live.specs.Sure.{IsSure};
     ghost use Rattle.gc_core.specs.Flip.{FlipsOnly, IsCertified, PassesIfReady, HasRoomIfLarge};
+    ghost use Rattle.gc_core.specs.Checking.{finding, HoldsOnly};
     ghost use Rattle.std.specs.Option.{option_map};
     ghost use Rattle.gc_words.specs.Views.{image_of};
     ghost use Rattle.gc_copy.specs.Entries.{entry_in};
@@ -96,7 +135,8 @@ impl LiveHeap {
         requires few { mutators ≤ most_mutators }
         ensures { IfOk result (λ heap. heap ≡ opening_state size mutators) }
     {
-        LiveHeap::open_with(alloc, &HeapOptions::new(size, mutators), Checking::Along)
+        let checking = Checking::Along { whole_each: 0 };
+        LiveHeap::open_with(alloc, &HeapOptions::new(size, mutators), checking)
     }
 
     /// Returns an empty heap with these options, whose flips are checked in this way. All roots are nil.
@@ -111,12 +151,17 @@ impl LiveHeap {
         let inner = CollectedHeap::open_with(alloc, options)?;
         let watch = match checking {
             Checking::AtFlip => Standing::absent(alloc),
-            Checking::Along => Standing::new(alloc, options.size)?,
+            Checking::Along { .. } => Standing::new(alloc, options.size)?,
+        };
+        let each = match checking {
+            Checking::AtFlip => 1,
+            Checking::Along { whole_each } => whole_each,
         };
         Ok(LiveHeap {
             inner,
             watch,
             checks: FlipChecks { along: 0, whole: 0 },
+            turn: Turn { each, since: 0 },
         })
     }
 
@@ -279,6 +324,31 @@ impl LiveHeap {
     {
         self.inner.is_sound();
         let reply = self.inner.put_number(m, s, i, t, n)?;
+        if !self.inner.is_open() {
+            return Ok(reply);
+        }
+        let Reply::Done = reply else {
+            return Ok(reply);
+        };
+        match target_in(self.inner.heap(), m, s) {
+            None => self.watch.lose(),
+            Some(object) => self.watch.written(self.inner.image().words, object.0, i),
+        }
+        Ok(reply)
+    }
+
+    /// Performs a `nil` and a `put` in one call: sets `t` to nil, and then writes it to field `i` of the object that `s`
+    /// refers to. Returns the reply to the `put`. Returns `NoMemory` only while a collection is open; the heap is then
+    /// unchanged.
+    pub fn put_nil(&mut self, m: u8, s: Slot, i: u16, t: Slot) -> Result<Reply, NoMemory>
+        requires { m < self.old.mutators }
+        ensures step { IfOk result (λ reply. mutate (mutate self.old m (Op.Nil t)).1 m (Op.Put s i t) ≡ (reply, self.new)) }
+        ensures refused { OnErr result (self.new ≡ self.old) }
+        ensures open { OnErr result (IsSome self.old.collection) }
+        ensures mutators { self.new.mutators ≡ self.old.mutators }
+    {
+        self.inner.is_sound();
+        let reply = self.inner.put_nil(m, s, i, t)?;
         if !self.inner.is_open() {
             return Ok(reply);
         }
@@ -532,6 +602,15 @@ impl LiveHeap {
         self.inner.next_useful_step()
     }
 
+    /// Does nothing. Each state of a heap is sound: its objects lie back to back, and an open collection belongs to it.
+    #[inline(always)]
+    pub fn is_sound(&self)
+        ensures heap { IsSpaceGraph self.now.size self.now.heap.free self.now.heap.graph }
+        ensures open { IsOpen self.now self.now.collection }
+    {
+        self.inner.is_sound();
+    }
+
     /// Returns the number of words in the mutators' space.
     pub fn size(&self) -> u32
         ensures { result ≡ self.now.size }
@@ -558,6 +637,23 @@ impl LiveHeap {
         ensures { result ≡ new_space self.now }
     {
         self.inner.new_space()
+    }
+
+    /// Returns the numbers in the fields of the raw object that mutator `m`'s slot refers to, or `None` if it refers to no raw object.
+    pub fn raw_numbers(&self, m: u8, slot: Slot) -> Option<&[u64]>
+        requires { m < self.now.mutators }
+        ensures { option_map (λ numbers. numbers.now) result ≡ raw_numbers self.now.heap.graph slot m }
+    {
+        self.inner.raw_numbers(m, slot)
+    }
+
+    /// Returns the address of the object that mutator `m`'s slot refers to, or `None` if it refers to none. A flip gives objects
+    /// other addresses.
+    pub fn address(&self, m: u8, slot: Slot) -> Option<OldAddr>
+        requires { m < self.now.mutators }
+        ensures { option_map (λ a. a.0) result ≡ name_of (root_in self.now.heap.graph (place slot m)) }
+    {
+        self.inner.address(m, slot)
     }
 
     /// Returns the number of entries in mutator `m`'s log: 0 if no collection is open.
@@ -616,7 +712,22 @@ impl LiveHeap {
         }
     }
 
-    /// Flips.
+    /// Checks the certificate of the open collection, if that is ready, by both spaces whole. Changes nothing. Allocates what a flip that is
+    /// checked whole does, and frees it before it returns.
+    pub fn check<C: Checks>(&self, checker: &C) -> Result<Finding, NoMemory>
+        requires { C.can_check checker.now }
+        ensures finding { IfOk result (λ found. found ≡ finding self.now) }
+        // It finds that the certificate holds only if this checker said yes.
+        ensures asked { IfOk result (HoldsOnly (C.says_yes checker.now) self.now) }
+        ensures sound { IfOk result (HoldsOnly IsCertified self.now) }
+        // Only the check of a ready collection allocates.
+        ensures allocates { OnErr result (Allocates self.now Step.Flip) }
+    {
+        self.inner.check(checker)
+    }
+
+    /// Flips if the open collection is ready and a checker accepts it: the standing checker, or the one that is given, which looks at both
+    /// spaces whole. That one is asked where the standing checker is lost or absent, and where `whole_each` says so.
     pub fn flip<C: Checks>(&mut self, checker: &C) -> Result<StepReply, NoMemory>
         requires { C.can_check checker.now }
         ensures step { IfOk result (λ reply. collect self.old Step.Flip ≡ (reply, self.new)) }
@@ -633,23 +744,31 @@ impl LiveHeap {
     {
         self.inner.is_sound();
         self.inner.is_watched();
-        let flip = self.inner.flip_along(&self.watch, checker)?;
+        let whole = self.turn.is_due();
+        let flip = flip_checked(&mut self.inner, &self.watch, checker, whole)?;
         if let StepReply::Flipped { .. } = flip.reply {
             self.checks = self.checks.with(flip.whole);
+            self.turn = self.turn.after(flip.whole);
             self.watch.flipped();
         }
         Ok(flip.reply)
     }
 }
 
-ghost use Rattle.std.specs.Prelude.{◌≤◌, IfSome, Some};
+ghost use Rattle.std.specs.Prelude.{◌≤◌, ◌≢◌, IfSome, Some, IfOk, OnErr, IsTrue, IsFalse};
+ghost use Rattle.gc_along.specs.Tables.{CertifiedBy};
+ghost use Rattle.gc_copy.specs.Steps.{collect};
+ghost use Rattle.gc_copy.specs.declared.step.Step.{Step};
+ghost use Rattle.gc_copy.specs.declared.step.StepReply.{StepReply};
+ghost use Rattle.gc_core.specs.CollectedHeap.{Allocates};
+ghost use Rattle.gc_core.specs.Flip.{FlipsOnly, HasAccepted, IsCertified, PassesIfReady};
 ghost use Rattle.gc_graph.specs.Graph.{root, Value, Ref};
 ghost use Rattle.gc_graph.specs.Slots.{place};
 ghost use Rattle.gc_heap.specs.Heap.{graph_in};
 
 // The object that the slot refers to.
 #[inline(always)]
-fn target_in(heap: &Heap, m: u8, s: Slot) -> Option<OldAddr>
+pub(crate) fn target_in(heap: &Heap, m: u8, s: Slot) -> Option<OldAddr>
     ensures object { IfSome result (λ a. root (graph_in heap.now) (place s m) ≡ Ref a.0) }
     ensures low { IfSome result (λ a. 1 ≤ a.0) }
 {
@@ -657,4 +776,30 @@ fn target_in(heap: &Heap, m: u8, s: Slot) -> Option<OldAddr>
         return None;
     }
     heap.target(m, s)
+}
+
+// Flips by the standing checker, and by the other one where the first is lost, or by the other one alone.
+fn flip_checked<C: Checks>(
+    heap: &mut CollectedHeap,
+    watch: &Standing,
+    checker: &C,
+    whole: bool,
+) -> Result<AlongFlip, NoMemory>
+    requires { C.can_check checker.now }
+    ensures step { IfOk result (λ flip. collect heap.old Step.Flip ≡ (flip.reply, heap.new)) }
+    ensures along { IfOk result (λ flip. IsFalse flip.whole → FlipsOnly (HasAccepted (CertifiedBy watch.now)) heap.old flip.reply) }
+    ensures asked { IfOk result (λ flip. IsTrue flip.whole → FlipsOnly (C.says_yes checker.now) heap.old flip.reply) }
+    ensures sound { IfOk result (λ flip. IsTrue flip.whole → FlipsOnly IsCertified heap.old flip.reply) }
+    ensures due { IsTrue whole → IfOk result (λ flip. IsTrue flip.whole) }
+    ensures passes { IfOk result (λ flip. PassesIfReady heap.old flip.reply) }
+    ensures never_refused { IfOk result (λ flip. flip.reply ≢ StepReply.Refused) }
+    ensures refused { OnErr result (heap.new ≡ heap.old) }
+    ensures allocates { OnErr result (Allocates heap.old Step.Flip) }
+    ensures mutators { heap.new.mutators ≡ heap.old.mutators }
+{
+    if whole {
+        heap.flip_whole(checker)
+    } else {
+        heap.flip_along(watch, checker)
+    }
 }

@@ -11,8 +11,9 @@ use gc_words::ImageRef;
 use std::alloc::Global;
 use std::thread::Threads;
 
-/// Decides whether any certificate holds of two heap images, as `gc_check::compare` does. The calling thread infers the pairs. If there
-/// are many, several threads compare their objects. Returns `NoMemory` if an allocation fails.
+/// Decides whether any certificate holds of two heap images, as `gc_check::compare` does. The calling thread infers the pairs, and compares
+/// words as it meets them. If some do not correspond and there are many pairs, several threads look for the first fault. Returns `NoMemory` if an
+/// allocation fails.
 pub fn compare_par(
     rt: &(impl Threads + Sync),
     alloc: Global,

@@ -1,15 +1,10 @@
 mod cert;
 mod check;
 mod collected;
-mod commands;
 mod copy;
 mod extra_roots;
 mod generations;
 mod graph;
 mod heap;
-mod par;
-mod shared;
-mod streams;
-mod trace;
 mod words;
 mod world;

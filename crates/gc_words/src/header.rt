@@ -1,4 +1,4 @@
-ghost use Rattle.std.specs.Prelude.{◌≡◌, true, false, Some};
+ghost use Rattle.std.specs.Prelude.{◌≡◌, true, false, Some, IsSome};
 ghost use Rattle.gc_words.specs.Word.{read_header, header_in, header_word};
 
 /// The header of an object: its kind, its number of fields, and whether the object is raw, which means that its fields are
@@ -62,6 +62,20 @@ impl Header {
             })
         } else {
             None
+        }
+    }
+
+    /// Decodes a word that is known to be a header word. It tests less than `read`.
+    pub fn of_word(word: u64) -> Header
+        requires { IsSome (read_header word) }
+        ensures { read_header word ≡ Some result }
+    {
+        let raw = word >= FIRST_RAW;
+        let first = if raw { FIRST_RAW } else { FIRST };
+        Header {
+            raw,
+            kind: ((word - first) / LENGTHS) as u8,
+            len: (word % LENGTHS) as u16,
         }
     }
 

@@ -26,4 +26,4 @@ pub use layout::field_index;
 pub use refusal::Refusal;
 pub use shape::{ShapeFault, next_in, walk};
 pub use space::Space;
-pub use value::{Addr, NewAddr, OldAddr, Value, decode, decode_wide, encode, target_of};
+pub use value::{Addr, NewAddr, OldAddr, Value, decode, decode_wide, encode, target_of, value_in};

@@ -135,7 +135,7 @@ impl Space {
         requires { IsTrue (is_start self.now.words at.0) }
         ensures { header_at self.now.words at.0 ≡ Some result }
     {
-        Header::read(self.words[at.0 as usize]).unwrap()
+        Header::of_word(self.words[at.0 as usize])
     }
 
     /// Returns the address after the object that starts here: the next object's, or the end.

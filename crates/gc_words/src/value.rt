@@ -64,13 +64,28 @@ fn decode_within(size: u32, word: u64) -> Option<Value>
     }
 }
 
+/// Decodes a word that is known to be a value. It tests less than `decode_wide`.
+pub fn value_in(word: u64) -> Value
+    requires { IsTrue (is_value word) }
+    ensures value { graph_value result ≡ value_of word }
+    ensures address { HasAddress (graph_value result) }
+{
+    if word == 0 {
+        Value::Nil
+    } else if word % 2 == 1 {
+        Value::Num(Number::new(word / 2).unwrap())
+    } else {
+        Value::Ref(Addr((word / 2) as u32))
+    }
+}
+
 /// Returns the address that a word refers to, or `None` for nil and numbers.
 pub fn target_of(word: u64) -> Option<Addr>
     requires { IsTrue (is_value word) }
     ensures { option_map (λ a. a.0) result ≡ name_of (value_of word) }
 {
-    match decode_wide(word) {
-        Some(Value::Ref(at)) => Some(at),
+    match value_in(word) {
+        Value::Ref(at) => Some(at),
         _ => None,
     }
 }

@@ -8,8 +8,8 @@ use Rattle.std_alloc.proofs.BoxSteps.Form.{Bx, X}
 use Rattle.std.specs.contracts.alloc.Global as Global
 use Rattle.std.specs.contracts.impls.GlobalAllocator.TheImpl.{ghosts, dict}
 use Rattle.std.proofs.alloc.Global.TheLaws as global
-use Rattle.gc_core.specs.contracts.collected_heap.CollectedHeap as Heap
-use Rattle.gc_core.proofs.collected_heap.CollectedHeap.TheLaws as heap
+use Rattle.gc_live.specs.contracts.live_heap.LiveHeap as Heap
+use Rattle.gc_live.proofs.live_heap.LiveHeap.TheLaws as heap
 use Rattle.gcflip_heap_c.specs.contracts.parts.Parts as Parts
 use Rattle.gcflip_heap_c.specs.contracts.handle.GcflipHeap as Handle
 

@@ -1,13 +1,16 @@
 -- One more useful step.
-use Rattle.std.proofs.Common.{◌≡◌, ℕ, suc, ◌-◌, ◌<◌, Option, true, sym, ap, ◌∙◌, subst, ⊎_elim, arith}
+use Rattle.std.proofs.Common.{◌≡◌, ℕ, suc, ◌-◌, ◌<◌, ◌≤◌, Option, true, false, sym, ap, ◌∙◌, subst, ⊎_elim, arith}
 use Rattle.std.specs.Prelude.{◌≢◌}
-use Rattle.std.proofs.lemmas.Bool.{cases_lt}
+use Rattle.std.proofs.lemmas.Bool.{cases_Bool, cases_lt}
 use Rattle.gc_copy.specs.State.{State}
 use Rattle.gc_copy.specs.Steps.{collect}
+use Rattle.gc_copy.specs.Progress.{work_left}
 use Rattle.gc_copy.specs.declared.step.StepReply.{StepReply}
 use Rattle.gc_copy.specs.declared.step.StepReply.TheVariants.{NoRoom}
+use Rattle.gcflip_heap_c.specs.Internal.Leaving.{LeavesLess}
 use Rattle.gcflip_heap_c.specs.Work.{sized_step, after_useful, useful_reply, goes_on, IsSoundReply, IsLarge, IsRun}
 use Rattle.gcflip_heap_c.proofs.Useful.{large_run, finds_room}
+use Rattle.gcflip_heap_c.proofs.Left.{some_left}
 
 made : (size : Option ℕ) (s : State) (n : ℕ) (t u : State) (reply : StepReply) → t ≡ after_useful size n s → collect t (sized_step size t) ≡ (reply, u)
     → (reply ≡ useful_reply size n s) × (u ≡ after_useful size (suc n) s)
@@ -26,18 +29,41 @@ room_of : (size : Option ℕ) (n : ℕ) (s : State) → SoundBelow size n s → 
 room_of size n s sound going large k less = finds_room size (after_useful size k s) (large_run size n s large going k less) (sound k less).room
 
 -- the first step
-pub first_run : (size : Option ℕ) (s u : State) (reply : StepReply) → collect s (sized_step size s) ≡ (reply, u) → IsSoundReply s reply → IsRun size 1 s u reply
-first_run size s u reply step sound =
+pub first_run : (size : Option ℕ) (s u : State) (reply : StepReply) → collect s (sized_step size s) ≡ (reply, u) → IsSoundReply s reply → LeavesLess s u reply → IsRun size 1 s u reply
+first_run size s u reply step sound leaves =
     let m = made size s 0 s u reply (λ i. s) step in
     let all : SoundBelow size 1 s = λ k less. let none : 0 ≡ k = omega arith in subst (λ (j : ℕ). IsSoundReply (after_useful size j s) (useful_reply size j s)) none (subst (IsSoundReply s) m.0 sound) in
     let going : GoesBelow size 1 s = λ k less. absurd (omega arith) in
-    record { some = omega arith; state = m.1; reply_is = m.0; going = going; sound = all; room = room_of size 1 s all going }
+    let entries = leaves.logs in
+    record {
+      some = omega arith;
+      state = m.1;
+      reply_is = m.0;
+      going = going;
+      sound = all;
+      room = room_of size 1 s all going;
+      falls = λ on. let less = leaves.falls on in omega arith;
+      bounds = omega arith;
+      logs = omega arith;
+    }
 
-pub longer_run : (size : Option ℕ) (s t u : State) (n : ℕ) (before reply : StepReply) → IsRun size n s t before → goes_on before ≡ true → collect t (sized_step size t) ≡ (reply, u) → IsSoundReply t reply → IsRun size (suc n) s u reply
-longer_run size s t u n before reply run on step sound =
+pub longer_run : (size : Option ℕ) (s t u : State) (n : ℕ) (before reply : StepReply) → IsRun size n s t before → goes_on before ≡ true → collect t (sized_step size t) ≡ (reply, u) → IsSoundReply t reply → LeavesLess t u reply → IsRun size (suc n) s u reply
+longer_run size s t u n before reply run on step sound leaves =
     let m = made size s n t u reply run.state step in
     let at : n ≡ suc n - 1 = omega arith in
-    record { some = omega arith; state = m.1; reply_is = subst (λ (j : ℕ). reply ≡ useful_reply size j s) at m.0; going = going; sound = all; room = room_of size (suc n) s all going }
+    let entries = leaves.logs in
+    let left = run.falls on in
+    record {
+      some = omega arith;
+      state = m.1;
+      reply_is = subst (λ (j : ℕ). reply ≡ useful_reply size j s) at m.0;
+      going = going;
+      sound = all;
+      room = room_of size (suc n) s all going;
+      falls = λ goes. let less = leaves.falls goes in omega arith;
+      bounds = omega arith;
+      logs = omega arith;
+    }
   where
     last_sound : IsSoundReply (after_useful size n s) (useful_reply size n s)
     last_sound =
@@ -55,3 +81,10 @@ longer_run size s t u n before reply run on step sound =
         (λ early. run.going k early)
         (λ late. let last : n - 1 ≡ k = omega arith in subst (λ (j : ℕ). goes_on (useful_reply size j s) ≡ true) last (ap goes_on (sym run.reply_is) ∙ on))
         (cases_lt (suc k) n)
+
+-- a run of as many steps as were left has ended
+pub run_ends : (size : Option ℕ) (n : ℕ) (s t : State) (reply : StepReply) → IsRun size n s t reply → work_left s ≤ n → goes_on reply ≡ false
+run_ends size n s t reply run all = ⊎_elim
+    (λ on. let falls = run.falls on in let some = some_left t in absurd (omega (arith, all)))
+    (λ ended. ended)
+    (cases_Bool (goes_on reply))

@@ -5,7 +5,7 @@ use Rattle.gc_graph.specs.declared.command.Op.{Op}
 use Rattle.gc_graph.specs.declared.reply.Reply.{Reply}
 use Rattle.gc_copy.specs.State.{State}
 use Rattle.gc_copy.specs.Steps.{mutate}
-use Rattle.gc_graph.specs.declared.command.Op.TheVariants.{Num, Put}
+use Rattle.gc_graph.specs.declared.command.Op.TheVariants.{Num, Nil, Put}
 use Rattle.gc_core.specs.CollectedHeap.{new_from_step}
 use Rattle.gcflip_heap_c.specs.Slots.{slot_numbers, numbered_slot, AreFields}
 use Rattle.gcflip_heap_c.specs.Replies.{IsRefusal, reply_in_c}
@@ -57,6 +57,21 @@ PutsNumber m s i t n old new answer = ⊥
 
 abbrev pub IsPutNumberCall : ℕ → Option SlotName → ℕ → Option SlotName → Option ℕ → Option State → Option State → ℕ → Type 0
 IsPutNumberCall m s i t n old new answer = IsCall (IsNoPutNumber m s t n) (PutsNumber m s i t n old new answer) old new answer
+
+-- ---- putting nil: the command `Nil t` followed by `Put s i t`, with the reply to the second
+
+-- an argument is out of range, or the state has no mutator m
+abbrev pub IsNoPutNil : ℕ → Option SlotName → Option SlotName → State → Type 0
+IsNoPutNil m (Some s) (Some t) state = state.mutators ≤ m
+IsNoPutNil m s t state = ⊤
+
+abbrev pub PutsNil : ℕ → Option SlotName → ℕ → Option SlotName → Option State → Option State → ℕ → Type 0
+PutsNil m (Some s) i (Some t) (Some old) (Some new) answer =
+    (reply : Reply) × (mutate (mutate old m (Nil t)).1 m (Put s i t) ≡ (reply, new)) × (answer ≡ reply_in_c reply)
+PutsNil m s i t old new answer = ⊥
+
+abbrev pub IsPutNilCall : ℕ → Option SlotName → ℕ → Option SlotName → Option State → Option State → ℕ → Type 0
+IsPutNilCall m s i t old new answer = IsCall (IsNoPutNil m s t) (PutsNil m s i t old new answer) old new answer
 
 -- ---- an object whose fields are filled from slots: the commands of `new_from_step`, with the reply to the first
 

@@ -7,7 +7,7 @@ use Rattle.std.specs.Coded.{coded_option}
 use Rattle.std.specs.Box.Ownership.{box_owns}
 use Rattle.std.specs.declared.alloc.Global.{Global}
 use Rattle.std.specs.contracts.impls.GlobalAllocator.TheImpl.{ghosts}
-use Rattle.gc_core.specs.contracts.collected_heap.CollectedHeap.{the_row}
+use Rattle.gc_live.specs.contracts.live_heap.LiveHeap.{the_row}
 
 abbrev pub owns_heap : Global → Ptr → Option the_row.Denot → Fml
 owns_heap alloc at None = feq Ptr at null_ptr

@@ -7,12 +7,12 @@ use Rattle.gcflip_heap_c.specs.declared.opening.GcflipOptions.{GcflipOptions}
 
 -- the number of bytes of the record of options
 abbrev pub options_bytes : ℕ
-options_bytes = 16
+options_bytes = 20
 
 -- the record is this library's, and its members are in range
 abbrev pub CanOpenWith : GcflipOptions → Type 0
 CanOpenWith options = (options.bytes ≡ options_bytes) × (1 ≤ options.size) × (1 ≤ options.mutators) × (options.mutators ≤ most_mutators)
-    × (options.extra_roots ≤ most_extra_roots)
+    × (options.extra_roots ≤ most_extra_roots) × (options.checking ≤ 1)
 
 abbrev pub options_in : GcflipOptions → HeapOptions
 options_in options = record { size = options.size; mutators = options.mutators; extra_roots = options.extra_roots }

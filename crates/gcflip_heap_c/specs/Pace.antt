@@ -1,7 +1,8 @@
 -- The steps that are due at a call of paced work: a function of the heap's counts and of a pace, which remembers counts of the call before.
-use Rattle.std.specs.Prelude.{◌≡◌, ℕ, ◌+◌, ◌-◌, ◌*◌, ◌/◌, ◌≤◌, ◌↔◌, ◌==◌, nat_lt, min, max, if◌then◌else◌, Option, Some, None, IsSomeAnd}
+use Rattle.std.specs.Prelude.{◌≡◌, ◌≢◌, ◌⊎◌, ℕ, ◌+◌, ◌-◌, ◌*◌, ◌/◌, ◌<◌, ◌≤◌, ◌↔◌, ◌==◌, nat_lt, min, max, if◌then◌else◌, Option, Some, None, IsSomeAnd}
 use Rattle.gc_copy.specs.State.{State}
 use Rattle.gc_copy.specs.Steps.{useful_step}
+use Rattle.gc_copy.specs.Progress.{work_left}
 use Rattle.gc_core.specs.CollectedHeap.{Allocates}
 use Rattle.gcflip_heap_c.specs.Readings.{counts_of}
 use Rattle.gcflip_heap_c.specs.Work.{IsWork}
@@ -64,12 +65,42 @@ pace_after pace work counts = record pace { left = (if work.last == 43 then coun
 abbrev pub no_work : GcflipWork
 no_work = record { steps = 0; copied = 0; last = 0; pairs = 0 }
 
+-- the counts leave no log entry out
+abbrev pub CountsAll : GcflipCounts → Type 0
+CountsAll counts = counts.logged < 4294967295
+
+-- the last step flipped, which 43 stands for, or it found no room, which 36 stands for, or the next step allocates
+abbrev pub HasEnded : State → GcflipWork → Type 0
+HasEnded t work = ((work.last ≡ 43) ⊎ (work.last ≡ 36)) ⊎ Allocates t (useful_step t)
+
+-- a collection was open, the call performed the steps that were due, neither flipped nor lacked room, and the counts are exact
+pub record GoesOn (wanted : ℕ) (s : State) (before : GcflipPace) (work : GcflipWork) : Type 0 where
+  pub collecting : 1 ≤ (counts_of s).is_open
+  pub counted : CountsAll (counts_of s)
+  pub few : spent before (counts_of s) ≤ 4294967295
+  pub performed : work.steps ≡ steps_due before (counts_of s) wanted
+  pub unflipped : work.last ≢ 43
+  pub roomy : work.last ≢ 36
+
+-- besides what was spent since the call before, at most this much work is left
+abbrev pub IsAhead : ℕ → GcflipPace → State → Type 0
+IsAhead most pace s = work_left s ≤ most + spent pace (counts_of s)
+
 -- the useful steps that are due, in order, or none
 pub record IsPacedWork (wanted : ℕ) (s t : State) (before after : GcflipPace) (work : GcflipWork) : Type 0 where
   pub none : steps_due before (counts_of s) wanted ≡ 0 → (t ≡ s) × (work ≡ no_work)
   pub some : 1 ≤ steps_due before (counts_of s) wanted → IsWork None (steps_due before (counts_of s) wanted) s t work
   pub paid : Pays before (counts_of s) (steps_due before (counts_of s) wanted)
   pub pace : after ≡ pace_after before work (counts_of t)
+  -- the entries that remain in all logs, and the steps performed, are at most the steps that were left
+  pub logs : CountsAll (counts_of s) → (counts_of t).logged + work.steps ≤ steps_left (counts_of s)
+  -- as many steps as are left end the collection
+  pub enough : CountsAll (counts_of s) → steps_left (counts_of s) ≤ steps_due before (counts_of s) wanted → HasEnded t work
+  -- The call that begins a collection leaves at most as much work as the heap's end. From then on, no call leaves more than the call before.
+  -- All logs together have fewer entries than that.
+  pub begun : (counts_of s).is_open ≡ 0 → 1 ≤ work.steps → work.last ≢ 43 → work.last ≢ 36 → work_left t ≤ (counts_of s).end
+  pub ahead : (most : ℕ) → GoesOn wanted s before work → IsAhead most before s → IsAhead most after t
+  pub fewer : (counts_of t).logged < work_left t
 
 abbrev pub WorksPaced : ℕ → Option State → Option State → GcflipPace → GcflipPace → GcflipWork → Type 0
 WorksPaced wanted (Some old) (Some new) before after work = IsPacedWork wanted old new before after work

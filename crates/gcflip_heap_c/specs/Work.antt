@@ -1,7 +1,8 @@
 -- Useful steps, performed in order by one call.
-use Rattle.std.specs.Prelude.{◌≡◌, ◌≢◌, ◌⊎◌, ℕ, zero, suc, ◌-◌, ◌<◌, ◌≤◌, ◌↔◌, Bool, true, false, Option, Some, None, IsSomeAnd, ⊤}
+use Rattle.std.specs.Prelude.{◌≡◌, ◌≢◌, ◌⊎◌, ℕ, zero, suc, ◌+◌, ◌-◌, ◌<◌, ◌≤◌, ◌↔◌, Bool, true, false, Option, Some, None, IsSomeAnd, ⊤}
 use Rattle.gc_copy.specs.State.{State, Collection, new_end, heap_end}
 use Rattle.gc_copy.specs.Steps.{collect, useful_step}
+use Rattle.gc_copy.specs.Progress.{work_left, entries_left}
 use Rattle.gc_copy.specs.declared.step.Step.{Step}
 use Rattle.gc_copy.specs.declared.step.Step.TheVariants.{Begin, BeginSized}
 use Rattle.gc_copy.specs.declared.step.StepReply.{StepReply}
@@ -62,6 +63,11 @@ pub record IsRun (size : Option ℕ) (n : ℕ) (s t : State) (reply : StepReply)
   -- each step's reply is sound, and none lacks room if the new space was large at first
   pub sound : (k : ℕ) → k < n → IsSoundReply (after_useful size k s) (useful_reply size k s)
   pub room : IsLarge size s → (k : ℕ) → k < n → useful_reply size k s ≢ NoRoom
+  -- each step lowers the work that is left, unless it ended the work; so there are no more steps than that
+  pub falls : goes_on reply ≡ true → work_left t + n ≤ work_left s
+  pub bounds : n ≤ work_left s
+  -- nor are the steps and the entries that remain in the logs
+  pub logs : entries_left t + n ≤ work_left s
 
 -- Why there was no further step: this reply ended the work, or the allocation of the next step failed. That step opens a
 -- collection or flips.
@@ -90,6 +96,8 @@ pub record IsWork (size : Option ℕ) (most : ℕ) (s t : State) (work : GcflipW
   pub pairs : work.pairs ≡ pairs_after 0 reply
   pub within : work.steps ≤ most
   pub ended : work.steps < most → IsEnd size t reply
+  -- as many steps as work is left are enough
+  pub enough : work_left s ≤ most → IsEnd size t reply
   pub copied : work.copied ≡ words_copied s t reply
 
 abbrev pub Works : Option ℕ → ℕ → Option State → Option State → GcflipWork → Type 0

@@ -4,7 +4,7 @@ ghost use Rattle.std.specs.Prelude.{◌≡◌, ◌≢◌, ◌∷◌, [], IsSomeA
 ghost use Rattle.std.specs.Option.{option_map};
 ghost use Rattle.gc_graph.specs.declared.command.Op.{Op};
 ghost use Rattle.gc_heap.specs.Commands.{fetched_of};
-ghost use Rattle.gcflip_heap_c.specs.Commands.{number_in, with_both, IsCommandCall, IsPutNumberCall, IsNewFromCall};
+ghost use Rattle.gcflip_heap_c.specs.Commands.{number_in, with_both, IsCommandCall, IsPutNumberCall, IsPutNilCall, IsNewFromCall};
 ghost use Rattle.gcflip_heap_c.specs.Replies.{IsRefusal, reply_in_c, fetched_in_c, number_after, view_after};
 ghost use Rattle.gcflip_heap_c.specs.Slots.{slot_at};
 
@@ -222,6 +222,32 @@ pub extern "C" fn gcflip_heap_put_number(
         return OUT_OF_RANGE;
     };
     match heap.put_number(m, s, i, t, n) {
+        Ok(reply) => of_reply(&reply),
+        Err(NoMemory) => NO_MEMORY,
+    }
+}
+
+/// Puts nil into slot `t`, and then writes it to field `i` of the object that slot `s` refers to. This is a
+/// `gcflip_heap_set_nil` followed by a `gcflip_heap_put`, in one call. Allocates only while a collection is open.
+#[unsafe(no_mangle)]
+pub extern "C" fn gcflip_heap_put_nil(heap: &mut GcflipHeap, m: u8, s: u8, i: u16, t: u8) -> u32
+    ensures call { IsPutNilCall m (slot_at s) i (slot_at t) heap.old.state heap.new.state result }
+    ensures memory { result ≡ 1 → IsSomeAnd heap.old.state (λ s. IsSome s.collection) }
+{
+    if heap.is_empty() {
+        return CLOSED;
+    }
+    let heap = heap.heap_mut();
+    if m >= heap.mutators() {
+        return OUT_OF_RANGE;
+    }
+    let Some(s) = slot(s) else {
+        return OUT_OF_RANGE;
+    };
+    let Some(t) = slot(t) else {
+        return OUT_OF_RANGE;
+    };
+    match heap.put_nil(m, s, i, t) {
         Ok(reply) => of_reply(&reply),
         Err(NoMemory) => NO_MEMORY,
     }

@@ -8,7 +8,7 @@ use crate::answer::{CLOSED, DONE, FRAME_EMPTY, FRAME_FULL, OUT_OF_RANGE};
 use crate::handle::GcflipHeap;
 use crate::reply::of_reply;
 use crate::slots::slot;
-use gc_core::CollectedHeap;
+use gc_live::LiveHeap;
 
 /// A frame: the extra roots from `first` on and below `end` as a stack, as C sees it. Those below `top` hold its values.
 #[repr(C)]
@@ -23,7 +23,7 @@ pub struct GcflipFrame {
 }
 
 /// Returns whether the numbers of the frame are in order, and the heap has its roots.
-fn is_frame(heap: &CollectedHeap, frame: &GcflipFrame) -> bool
+fn is_frame(heap: &LiveHeap, frame: &GcflipFrame) -> bool
     ensures { IsTrue result ↔ HasFrame frame.now heap.now }
 {
     frame.first <= frame.top && frame.top <= frame.end && frame.end <= heap.extra_roots()

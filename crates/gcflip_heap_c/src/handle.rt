@@ -6,7 +6,7 @@ ghost use Rattle.gc_copy.specs.State.{State};
 ghost use Rattle.gcflip_heap_c.specs.Handle.{owns_heap, coded_heap};
 
 use crate::parts::Parts;
-use gc_core::CollectedHeap;
+use gc_live::LiveHeap;
 use std::alloc::Global;
 use std::marker::Model;
 use std::mem::replace;
@@ -44,24 +44,24 @@ impl GcflipHeap {
     }
 
     /// Lends the heap.
-    pub(crate) fn heap_mut(&mut self) -> &mut CollectedHeap
+    pub(crate) fn heap_mut(&mut self) -> &mut LiveHeap
         requires { IsSome self.old.state }
         ensures* writes_back { sem 𝓛 (LendsHeap self.entry result) }
         ensures value { self.old.state ≡ Some result.now }
     {
-        let at = self.at as *mut CollectedHeap;
+        let at = self.at as *mut LiveHeap;
         unsafe { &mut *at }
     }
 
     /// Returns a handle that has this heap.
-    pub(crate) fn full(heap: Box<CollectedHeap>) -> GcflipHeap
+    pub(crate) fn full(heap: Box<LiveHeap>) -> GcflipHeap
         ensures { result.state ≡ Some heap.value }
     {
         GcflipHeap::of_parts(Parts::of(heap))
     }
 
     /// Takes the heap out of the handle, if it has one.
-    pub(crate) fn take(&mut self, alloc: Global) -> Option<Box<CollectedHeap>>
+    pub(crate) fn take(&mut self, alloc: Global) -> Option<Box<LiveHeap>>
         ensures heap { MatchOption result (self.old.state ≡ None) (λ heap. self.old.state ≡ Some heap.value) }
         ensures empty { self.new.state ≡ None }
     {
@@ -75,7 +75,7 @@ impl GcflipHeap {
         )
     }
 
-    fn of_parts(parts: Parts<CollectedHeap, Global>) -> GcflipHeap
+    fn of_parts(parts: Parts<LiveHeap, Global>) -> GcflipHeap
         ensures { result.state ≡ Some parts.value }
     {
         let Parts { at, alloc } = parts;
@@ -83,12 +83,12 @@ impl GcflipHeap {
         GcflipHeap { at, alloc }
     }
 
-    fn into_parts(self) -> Parts<CollectedHeap, Global>
+    fn into_parts(self) -> Parts<LiveHeap, Global>
         requires { IsSome self.state }
         ensures { Some result.value ≡ self.state }
     {
         let GcflipHeap { at, alloc } = self;
-        let at = at as *mut CollectedHeap;
+        let at = at as *mut LiveHeap;
         Parts { at, alloc }
     }
 }

@@ -2,30 +2,37 @@
 #![tactic(auto)]
 
 mod answer;
+mod checking;
 mod commands;
 mod frame;
 mod handle;
+mod laws;
 mod opening;
 mod pace;
 mod parts;
+mod raws;
 mod reading;
 mod reply;
 mod slots;
 mod stepping;
 mod work;
 
+pub use checking::{GcflipFlipChecks, GcflipVerdict, gcflip_heap_check, gcflip_heap_flip_checks};
 pub use commands::{
     gcflip_heap_get, gcflip_heap_look, gcflip_heap_move, gcflip_heap_new_from,
     gcflip_heap_new_object, gcflip_heap_new_pair, gcflip_heap_new_raw, gcflip_heap_put,
-    gcflip_heap_put_number, gcflip_heap_same, gcflip_heap_set_nil, gcflip_heap_set_number,
+    gcflip_heap_put_nil, gcflip_heap_put_number, gcflip_heap_same, gcflip_heap_set_nil,
+    gcflip_heap_set_number,
 };
 pub use frame::{
     GcflipFrame, gcflip_heap_frame_pop, gcflip_heap_frame_push, gcflip_heap_root_clear,
     gcflip_heap_root_load, gcflip_heap_root_store,
 };
 pub use handle::GcflipHeap;
+pub use laws::paced_work_bounds_logs;
 pub use opening::{GcflipOptions, gcflip_heap_close, gcflip_heap_open};
 pub use pace::{GcflipPace, gcflip_heap_pace, gcflip_heap_work_paced, gcflip_pace_due};
+pub use raws::{gcflip_heap_address, gcflip_heap_raw_read, gcflip_heap_raw_write};
 pub use reading::{
     GcflipCounts, GcflipLogEntry, gcflip_heap_counts, gcflip_heap_image, gcflip_heap_log_entry,
     gcflip_heap_log_length, gcflip_heap_new_words,

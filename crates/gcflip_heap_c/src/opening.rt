@@ -5,16 +5,23 @@ ghost use Rattle.gc_graph.specs.Limits.{most_mutators};
 ghost use Rattle.gc_heap.specs.ExtraRoots as heaps;
 ghost use Rattle.gc_copy.specs.State.{opening_state_with};
 ghost use Rattle.gcflip_heap_c.specs.Opening.{CanOpenWith, options_in};
+ghost use Rattle.gcflip_heap_c.specs.Internal.Opening.{checking_in};
 
 use crate::answer::{CLOSED, DONE, NO_MEMORY, OPEN, OUT_OF_RANGE};
 use crate::handle::GcflipHeap;
-use gc_core::CollectedHeap;
 use gc_graph::{MOST_MUTATORS, NoMemory};
 use gc_heap::{HeapOptions, MOST_EXTRA_ROOTS};
+use gc_live::{Checking, LiveHeap};
 use std::alloc::Global;
 
 /// The number of bytes of `GcflipOptions`.
-const OPTIONS_BYTES: u32 = 16;
+const OPTIONS_BYTES: u32 = 20;
+
+/// The checker goes along with the collection.
+const ALONG: u8 = 0;
+
+/// Each flip checks both spaces whole.
+const AT_FLIP: u8 = 1;
 
 /// What a heap is opened with, as C sees it.
 #[repr(C)]
@@ -28,6 +35,11 @@ pub struct GcflipOptions {
     pub extra_roots: u32,
     /// The number of mutators, 1 to 16.
     pub mutators: u8,
+    /// 0 if the checker goes along with the collection, 1 if each flip checks both spaces whole.
+    pub checking: u8,
+    /// If the checker goes along: each flip with this number checks both spaces whole, counted from the last one that did; 0 if none does for
+    /// its number.
+    pub whole_each: u32,
 }
 
 /// Opens an empty heap with these options. Returns 0, or 4 if the handle already has a heap, 2 if an option is out of range,
@@ -50,12 +62,13 @@ pub extern "C" fn gcflip_heap_open(
     if !is_fit(options) {
         return OUT_OF_RANGE;
     }
+    let checking = checking_in(options);
     let options = HeapOptions {
         size: options.size,
         mutators: options.mutators,
         extra_roots: options.extra_roots,
     };
-    match boxed_heap(alloc, &options) {
+    match boxed_heap(alloc, &options, checking) {
         Ok(boxed) => {
             *heap = GcflipHeap::full(boxed);
             DONE
@@ -73,14 +86,32 @@ fn is_fit(options: &GcflipOptions) -> bool
         && options.mutators >= 1
         && options.mutators <= MOST_MUTATORS
         && options.extra_roots <= MOST_EXTRA_ROOTS
+        && (options.checking == ALONG || options.checking == AT_FLIP)
 }
 
-// Opens a heap in a box of its own. Allocates the words, the roots and the box.
-fn boxed_heap(alloc: Global, options: &HeapOptions) -> Result<Box<CollectedHeap>, NoMemory>
+// Returns how the flips of a heap with these options are checked.
+fn checking_in(options: &GcflipOptions) -> Checking
+    ensures { result ≡ checking_in options.now }
+{
+    if options.checking == ALONG {
+        Checking::Along {
+            whole_each: options.whole_each,
+        }
+    } else {
+        Checking::AtFlip
+    }
+}
+
+// Opens a heap in a box of its own. Allocates the words, the roots, the standing checker's tables if it has one, and the box.
+fn boxed_heap(
+    alloc: Global,
+    options: &HeapOptions,
+    checking: Checking,
+) -> Result<Box<LiveHeap>, NoMemory>
     requires { heaps.CanOpen options.now }
     ensures { IfOk result (λ heap. heap.value ≡ opening_state_with options.now) }
 {
-    let opened = CollectedHeap::open_with(alloc, options)?;
+    let opened = LiveHeap::open_with(alloc, options, checking)?;
     Ok(Box::new(alloc, opened)?)
 }
 

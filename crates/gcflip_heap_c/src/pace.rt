@@ -12,8 +12,8 @@ use crate::answer::{CLOSED, DONE, NO_MEMORY, OUT_OF_RANGE};
 use crate::handle::GcflipHeap;
 use crate::reading::{GcflipCounts, counts_of};
 use crate::work::{GcflipWork, work_on};
-use gc_core::CollectedHeap;
 use gc_graph::NoMemory;
+use gc_live::LiveHeap;
 
 /// The lowest factor of a pace, in hundredths.
 const LOWEST_FACTOR: u32 = 100;
@@ -192,7 +192,7 @@ fn pace_after(pace: &GcflipPace, work: &GcflipWork, counts: &GcflipCounts) -> Gc
 }
 
 /// Performs this many useful steps, or none.
-fn work_due(heap: &mut CollectedHeap, due: u32) -> Result<GcflipWork, NoMemory>
+fn work_due(heap: &mut LiveHeap, due: u32) -> Result<GcflipWork, NoMemory>
     ensures none { due ≡ 0 → IfOk result (λ work. (heap.new ≡ heap.old) × (work ≡ paces.no_work)) }
     ensures some { 1 ≤ due → IfOk result (IsWork None due heap.old heap.new) }
     ensures refused { OnErr result (heap.new ≡ heap.old) }
@@ -210,13 +210,15 @@ fn work_due(heap: &mut CollectedHeap, due: u32) -> Result<GcflipWork, NoMemory>
 }
 
 /// Performs the useful steps that are due.
-fn work_at_pace(heap: &mut CollectedHeap, pace: &GcflipPace, wanted: u32) -> Result<Paced, NoMemory>
+fn work_at_pace(heap: &mut LiveHeap, pace: &GcflipPace, wanted: u32) -> Result<Paced, NoMemory>
     ensures done { IfOk result (λ made. IsPacedWork wanted heap.old heap.new pace.now made.pace made.work) }
     ensures refused { OnErr result (heap.new ≡ heap.old) }
     ensures allocates { OnErr result (Allocates heap.old (useful_step heap.old)) }
 {
+    heap.is_sound();
     let due = gcflip_pace_due(pace, &counts_of(heap), wanted);
     let work = work_due(heap, due)?;
+    heap.is_sound();
     let pace = pace_after(pace, &work, &counts_of(heap));
     Ok(Paced { work, pace })
 }

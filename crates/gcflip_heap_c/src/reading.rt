@@ -6,7 +6,7 @@ ghost use Rattle.gcflip_heap_c.specs.Readings.{counts_of, logged_in, entries_of,
 
 use crate::answer::{CLOSED, DONE, OUT_OF_RANGE};
 use crate::handle::GcflipHeap;
-use gc_core::CollectedHeap;
+use gc_live::LiveHeap;
 
 /// The sizes of a heap, and how far its open collection has come, as C sees them. Sizes and addresses are in words.
 #[repr(C)]
@@ -47,7 +47,7 @@ pub struct GcflipLogEntry {
 }
 
 /// Returns the number of entries in all logs, up to the largest `u32`.
-fn logged_in(heap: &CollectedHeap) -> u32
+fn logged_in(heap: &LiveHeap) -> u32
     ensures { result ≡ logged_in heap.now }
 {
     let mut total: u128 = 0;
@@ -58,7 +58,7 @@ fn logged_in(heap: &CollectedHeap) -> u32
 }
 
 /// Reads the counts.
-pub(crate) fn counts_of(heap: &CollectedHeap) -> GcflipCounts
+pub(crate) fn counts_of(heap: &LiveHeap) -> GcflipCounts
     ensures { result ≡ counts_of heap.now }
 {
     let mut counts = GcflipCounts {
@@ -122,7 +122,7 @@ pub extern "C" fn gcflip_heap_log_length(heap: &mut GcflipHeap, m: u8, count: &m
 }
 
 /// Writes entry `k` of mutator `m`'s log to `entry` if it exists. Returns whether it exists.
-fn copy_entry(heap: &CollectedHeap, m: u8, k: usize, entry: &mut GcflipLogEntry) -> bool
+fn copy_entry(heap: &LiveHeap, m: u8, k: usize, entry: &mut GcflipLogEntry) -> bool
     ensures found { IsTrue result → entry_at heap.now m k ≡ Some entry.new }
     ensures none { IsFalse result → (entry_at heap.now m k ≡ None) × (entry.new ≡ entry.old) }
 {
@@ -165,7 +165,7 @@ pub extern "C" fn gcflip_heap_log_entry(
 }
 
 /// Copies the image if the arrays are as long as its words and roots. Returns whether they are.
-fn copy_image(heap: &CollectedHeap, words: &mut [u64], roots: &mut [u64]) -> bool
+fn copy_image(heap: &LiveHeap, words: &mut [u64], roots: &mut [u64]) -> bool
     ensures fits { IsTrue result ↔ FitsImage words.old roots.old heap.now }
     ensures copied { IsTrue result → (words.new ≡ (heap_image heap.now).words) × (roots.new ≡ (heap_image heap.now).roots) }
     ensures kept { IsFalse result → (words.new ≡ words.old) × (roots.new ≡ roots.old) }
@@ -206,7 +206,7 @@ pub extern "C" fn gcflip_heap_image(
 }
 
 /// Copies the words of the new space if the array has that length. Returns whether it has.
-fn copy_new_words(heap: &CollectedHeap, words: &mut [u64]) -> bool
+fn copy_new_words(heap: &LiveHeap, words: &mut [u64]) -> bool
     ensures fits { IsTrue result ↔ FitsNew words.old (new_words heap.now) }
     ensures copied { IsTrue result → new_words heap.now ≡ Some words.new }
     ensures kept { IsFalse result → words.new ≡ words.old }

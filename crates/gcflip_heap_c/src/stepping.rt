@@ -11,7 +11,6 @@ use crate::handle::GcflipHeap;
 use crate::reply::{of_step, pairs_of};
 use gc_check::Sequential;
 use gc_copy::Step;
-use gc_core::Keep;
 use gc_graph::NoMemory;
 
 /// A step as C sees it.
@@ -127,8 +126,8 @@ pub extern "C" fn gcflip_heap_step_apply(heap: &mut GcflipHeap, m: u8) -> u32
     of_step(heap.apply_log(m))
 }
 
-/// Flips if the open collection is ready and the checker accepts its certificate. Then writes the number of pairs to
-/// `pairs`. Allocates the certificate, the moved roots and the checker's tables, and frees them before it returns.
+/// Flips if the open collection is ready and a checker accepts it. Then writes the number of pairs to `pairs`. Allocates the moved roots. If
+/// both spaces are checked whole, it also allocates the certificate and the checker's tables, and frees them before it returns.
 #[unsafe(no_mangle)]
 pub extern "C" fn gcflip_heap_step_flip(heap: &mut GcflipHeap, pairs: &mut u32) -> u32
     ensures call { IsStepCall Step.Flip
@@ -140,10 +139,10 @@ pub extern "C" fn gcflip_heap_step_flip(heap: &mut GcflipHeap, pairs: &mut u32) 
     if heap.is_empty() {
         return CLOSED;
     }
-    match heap.heap_mut().flip(&Sequential, Keep::Nothing) {
-        Ok(flip) => {
-            *pairs = pairs_of(flip.reply, *pairs);
-            of_step(flip.reply)
+    match heap.heap_mut().flip(&Sequential) {
+        Ok(reply) => {
+            *pairs = pairs_of(reply, *pairs);
+            of_step(reply)
         }
         Err(NoMemory) => NO_MEMORY,
     }

@@ -4,16 +4,18 @@ ghost use Rattle.std.specs.Prelude.{◌≡◌, ◌⊎◌, ◌<◌, ◌≤◌, �
 ghost use Rattle.gc_copy.specs.State.{State};
 ghost use Rattle.gc_copy.specs.Steps.{collect};
 ghost use Rattle.gc_copy.specs.Runs.{IsStep};
+ghost use Rattle.gc_copy.specs.Progress.{work_left};
 ghost use Rattle.gc_core.specs.CollectedHeap.{Allocates};
+ghost use Rattle.gcflip_heap_c.specs.Internal.Leaving.{LeavesLess};
 ghost use Rattle.gcflip_heap_c.specs.Work.{IsSoundReply, IsRun, IsWork, IsWorkCall, with_size, sized_step, goes_on, end_in, end_after};
 
 use crate::answer::{CLOSED, DONE, NO_MEMORY, OUT_OF_RANGE};
 use crate::handle::GcflipHeap;
 use crate::reply::{of_step, pairs_of};
 use gc_check::Sequential;
-use gc_copy::{Step, StepReply};
-use gc_core::CollectedHeap;
+use gc_copy::{Step, StepReply, useful_steps_end};
 use gc_graph::NoMemory;
+use gc_live::LiveHeap;
 
 /// What a call of work did, as C sees it.
 #[repr(C)]
@@ -50,13 +52,16 @@ fn sized(step: Step, size: Option<u32>) -> Step
 
 /// Performs the useful step. If that is a begin, the new space gets `size` words, or as many as the heap has.
 #[inline(always)]
-fn one_step(heap: &mut CollectedHeap, size: Option<u32>) -> Result<StepReply, NoMemory>
+fn one_step(heap: &mut LiveHeap, size: Option<u32>) -> Result<StepReply, NoMemory>
     requires { IfSome size (λ words. 1 ≤ words) }
     ensures step { IfOk result (λ reply. collect heap.old (sized_step size heap.old) ≡ (reply, heap.new)) }
     ensures sound { IfOk result (IsSoundReply heap.old) }
+    ensures leaves { IfOk result (LeavesLess heap.old heap.new) }
     ensures refused { OnErr result (heap.new ≡ heap.old) }
     ensures allocates { OnErr result (Allocates heap.old (sized_step size heap.old)) }
 {
+    heap.is_sound();
+    useful_steps_end();
     let step = sized(heap.next_useful_step(), size);
     heap.collect(&Sequential, step)
 }
@@ -67,10 +72,11 @@ trait Performs {
     // Holds of a state in which an allocation of the useful step failed.
     ghost failed: { Self → Option ℕ → State → Type 0 };
 
-    fn perform(&self, heap: &mut CollectedHeap, size: Option<u32>) -> Result<StepReply, NoMemory>
+    fn perform(&self, heap: &mut LiveHeap, size: Option<u32>) -> Result<StepReply, NoMemory>
         requires { IfSome size (λ words. 1 ≤ words) }
         ensures step { IfOk result (λ reply. collect heap.old (sized_step size heap.old) ≡ (reply, heap.new)) }
         ensures sound { IfOk result (IsSoundReply heap.old) }
+        ensures leaves { IfOk result (LeavesLess heap.old heap.new) }
         ensures refused { OnErr result (heap.new ≡ heap.old) }
         ensures failed { OnErr result (failed self.now size heap.old) };
 }
@@ -82,7 +88,7 @@ impl Performs for Useful {
     ghost failed = { λ _ size s. Allocates s (sized_step size s) };
 
     #[inline(always)]
-    fn perform(&self, heap: &mut CollectedHeap, size: Option<u32>) -> Result<StepReply, NoMemory> {
+    fn perform(&self, heap: &mut LiveHeap, size: Option<u32>) -> Result<StepReply, NoMemory> {
         one_step(heap, size)
     }
 }
@@ -98,7 +104,7 @@ fn can_go_on(reply: StepReply) -> bool
 /// stops before that step, and returns `NoMemory` only if that was the first step.
 fn useful_steps<P: Performs>(
     performs: &P,
-    heap: &mut CollectedHeap,
+    heap: &mut LiveHeap,
     size: Option<u32>,
     most: u32,
 ) -> Result<Run, NoMemory>
@@ -108,6 +114,9 @@ fn useful_steps<P: Performs>(
     ensures within { IfOk result (λ run. run.steps ≤ most) }
     // It stops early only after such a reply, or because a step failed for lack of memory.
     ensures ended { IfOk result (λ run. run.steps < most
+        → (goes_on run.reply ≡ false) ⊎ P.failed performs.now size heap.new) }
+    // It makes no more than the steps that are left, so as many are enough.
+    ensures enough { IfOk result (λ run. work_left heap.old ≤ most
         → (goes_on run.reply ≡ false) ⊎ P.failed performs.now size heap.new) }
     ensures refused { OnErr result (heap.new ≡ heap.old) }
     ensures failed { OnErr result (P.failed performs.now size heap.old) }
@@ -126,7 +135,7 @@ fn useful_steps<P: Performs>(
 }
 
 /// Returns the first word of the open collection's new space that no replica takes, or 1 if none is open.
-fn end_of_new(heap: &CollectedHeap) -> u32
+fn end_of_new(heap: &LiveHeap) -> u32
     ensures { result ≡ end_in heap.now.collection }
 {
     match heap.new_space() {
@@ -136,7 +145,7 @@ fn end_of_new(heap: &CollectedHeap) -> u32
 }
 
 /// Returns the same after a step with this reply. After a flip, the new space is the heap's.
-fn end_behind(heap: &CollectedHeap, reply: StepReply) -> u32
+fn end_behind(heap: &LiveHeap, reply: StepReply) -> u32
     ensures { result ≡ end_after heap.now reply }
 {
     match reply {
@@ -147,7 +156,7 @@ fn end_behind(heap: &CollectedHeap, reply: StepReply) -> u32
 
 /// Performs useful steps and reports them.
 pub(crate) fn work_on(
-    heap: &mut CollectedHeap,
+    heap: &mut LiveHeap,
     size: Option<u32>,
     most: u32,
 ) -> Result<GcflipWork, NoMemory>

@@ -15,7 +15,7 @@ from .server import MOST_TEXT, Server
 
 def arguments() -> argparse.Namespace:
     parser = argparse.ArgumentParser(prog="python3 -m gcflip.explore", description="Shows the collector and the checker in a web page.")
-    parser.add_argument("file", metavar="FILE", nargs="?", help="a trace or a pair text to open")
+    parser.add_argument("file", metavar="FILE", nargs="?", help="a trace, a pair text or an image text to open")
     parser.add_argument("--no-browser", action="store_true", help="only print the address")
     parser.add_argument("--port", type=int, default=0, help="the port on 127.0.0.1; any free one by default")
     return parser.parse_args()
@@ -33,8 +33,8 @@ def opened(path: str) -> dict[str, str]:
     text = data.decode("utf-8", "replace")
     kind = kind_of(text)
     if kind is None:
-        sys.exit("explore: %s: the first line is neither that of a trace nor that of a pair text" % path)
-    return {"kind": kind[4:], "name": os.path.basename(path), "text": text}
+        sys.exit("explore: %s: the first line is that of no trace, pair text or image text" % path)
+    return {"kind": kind, "name": os.path.basename(path), "text": text}
 
 
 def main() -> None:

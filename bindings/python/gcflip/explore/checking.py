@@ -1,20 +1,25 @@
 """Checks pair texts and image texts, draws them, and spoils pairs."""
 from __future__ import annotations
 
+import copy
+import functools
 import random
 from typing import Any, NamedTuple
 
 import gcflip
 from gcflip import BadText, Refused, check_text, compare, explained
 from gcflip.inference import root_name
-from gcflip_drawing.heap import header_of, shown, walk
+from gcflip_drawing.blocks_picture import blocks_of
+from gcflip_drawing.excerpt import MOST_OBJECTS, excerpt_of, starts_between
+from gcflip_drawing.heap import beyond, header_of, shown, walk
 from gcflip_drawing.images_text import read_images
 from gcflip_drawing.pair_picture import scene_of
-from gcflip_drawing.pair_text import Image, PairText, Unreadable, read_accepted, read_pair, written
-from gcflip_drawing.scene import counted
-from gcflip_drawing.scene_picture import drawn_in_width
+from gcflip_drawing.pair_text import Image, PairText, Unreadable, read_accepted, written
+from gcflip_drawing.scene import Scene, counted
+from gcflip_drawing.scene_picture import drawn_in_width, is_in_blocks
 from gcflip_drawing.scene_text import told
 from gcflip_drawing.verdicts import Verdict
+from gcflip_drawing.words_picture import drawn_word_by_word, grid_of
 
 
 class Place(NamedTuple):
@@ -29,36 +34,59 @@ HEADING = b"heapimages "
 INFERRED = "The pairs were found from the two images."
 
 
+class Opened(NamedTuple):
+    """A text that was read and checked: its pair, the verdict, where a refusal is, and the scene."""
+
+    pair: PairText
+    verdict: Verdict
+    where: str
+    scene: Scene
+
+
+@functools.lru_cache(maxsize=1)
+def opened(text: bytes) -> Opened:
+    """Reads and checks a pair text, or an image text, whose pairs are inferred. What it returns is kept for later requests about the same text, so nobody
+    may change it. Raises BadText or Unreadable."""
+    pair, refused = compared(text) if text.startswith(HEADING) else read_and_checked(text)
+    verdict = Verdict(str(refused) if refused else "yes %d" % len(pair.pairs))
+    scene = scene_of(pair, "The pair of heaps", verdict)
+    # The page shows the verdict above the picture.
+    scene.caption = None
+    place = where(pair, refused)
+    if text.startswith(HEADING):
+        place = "%s %s" % (INFERRED, place) if place else INFERRED
+    return Opened(pair, verdict, place, scene)
+
+
 def checked(text: bytes, width: int, changed: Place | None = None) -> dict[str, Any]:
     """Returns the line that the checker prints for a text, its meaning, where a refusal is, and the picture if the text is a pair text or
-    an image text. For an image text the pairs are inferred. Marks a changed word in the picture."""
-    if text.startswith(HEADING):
-        return compared(text, width)
-    refused = None
+    an image text. Marks a changed word in the picture."""
     try:
-        verdict = Verdict("yes %d" % check_text(text))
+        return drawn(opened(text), width, changed)
     except BadText as fault:
         return {"line": str(fault), "fault": True, "bad_line": getattr(fault, "line", None)}
-    except Refused as refusal:
-        verdict, refused = Verdict(str(refusal)), refusal
-    pair = read_accepted(text.decode("ascii"))
-    return {**drawn(pair, verdict, width, changed), "where": where(pair, refused)}
+    except Unreadable as unreadable:
+        return {"line": "images: %s" % unreadable, "fault": True, "bad_line": None}
 
 
-def compared(text: bytes, width: int) -> dict[str, Any]:
-    """Returns the same for an image text, with the pairs that are found."""
+def read_and_checked(text: bytes) -> tuple[PairText, Refused | None]:
+    """Returns the pair of a text, and the checker's refusal, or None if it says yes. Raises BadText."""
+    refused = None
     try:
-        found = read_images(text.decode("ascii", "replace"))
-    except Unreadable as fault:
-        return {"line": "images: %s" % fault, "fault": True, "bad_line": None}
-    missing = [name for name in ("old", "new") if name not in found]
-    if missing:
-        return {"line": "images: there is no %s image" % missing[0], "fault": True, "bad_line": None}
+        check_text(text)
+    except Refused as refusal:
+        refused = refusal
+    return read_accepted(text.decode("ascii")), refused
+
+
+def compared(text: bytes) -> tuple[PairText, Refused | None]:
+    """Returns the same for an image text, with the pairs that are found. Raises Unreadable."""
+    found = read_images(text.decode("ascii", "replace"))
+    for name in ("old", "new"):
+        if name not in found:
+            raise Unreadable("there is no %s image" % name)
     comparison = compare(*(image_of(found[name], True) for name in ("old", "new")))
-    pair = PairText(True, found["old"], found["new"], comparison.pairs)
-    verdict = Verdict(str(comparison.refused) if comparison.refused else "yes %d" % len(comparison.pairs))
-    place = where(pair, comparison.refused)
-    return {**drawn(pair, verdict, width), "where": "%s %s" % (INFERRED, place) if place else INFERRED}
+    return PairText(True, found["old"], found["new"], comparison.pairs), comparison.refused
 
 
 def image_of(image: Image, raws: bool) -> gcflip.Image:
@@ -70,16 +98,39 @@ def where(pair: PairText, refused: Refused | None) -> str:
     return explained(image_of(pair.old, pair.raws), image_of(pair.new, pair.raws), pair.pairs, refused) if refused else ""
 
 
-def drawn(pair: PairText, verdict: Verdict, width: int, changed: Place | None = None) -> dict[str, Any]:
-    """Returns the verdict on a pair, and its picture."""
-    scene = scene_of(pair, "The pair of heaps", verdict)
-    # The page shows the verdict above the picture.
-    scene.caption = None
-    if changed:
-        scene.note_changed(changed.heap == "old", changed.row, changed.at)
-        scene.legend = [*scene.legend, ("changed", "just changed")]
-    return {"line": verdict.line, "fault": False, "refused": verdict.refusal is not None, "meaning": verdict.meaning(),
-            "picture": drawn_in_width(scene, width).described(), "told": told(scene), "place": place_of(pair, verdict)}
+def with_change(scene: Scene, changed: Place) -> Scene:
+    """Returns a scene with a mark of a word that was just changed."""
+    marked = copy.copy(scene)
+    marked.marks, marked.changed_roots = list(scene.marks), set(scene.changed_roots)
+    marked.note_changed(changed.heap == "old", changed.row, changed.at)
+    marked.legend = [*scene.legend, ("changed", "just changed")]
+    return marked
+
+
+def drawn(found: Opened, width: int, changed: Place | None = None) -> dict[str, Any]:
+    """Returns the verdict on a pair, and its picture. `block` is the number of words of a block, if the picture is one of blocks."""
+    pair, verdict = found.pair, found.verdict
+    scene = with_change(found.scene, changed) if changed else found.scene
+    return {"line": verdict.line, "fault": False, "refused": verdict.refusal is not None, "meaning": verdict.meaning(), "where": found.where,
+            "picture": drawn_in_width(scene, width).described(), "told": told(scene), "place": place_of(pair, verdict),
+            "block": blocks_of(width).words(scene) if is_in_blocks(scene) else None,
+            "near": near(scene, pair, verdict, width) if is_in_blocks(scene) else None}
+
+
+def near(scene: Scene, pair: PairText, verdict: Verdict, width: int) -> dict[str, Any] | None:
+    """Returns the picture of the refused objects of a scene that is drawn in blocks, if objects are refused."""
+    for is_old in (True, False):
+        address = verdict.address(is_old, pair.pairs)
+        if address is not None:
+            return zoomed(scene, is_old, address, address, width)
+    return None
+
+
+def zoomed(scene: Scene, is_old: bool, first: int, last: int, width: int, skipped: int = 0) -> dict[str, Any] | None:
+    """Returns the picture of the first objects with a word from `first` to `last`, behind those that are skipped, word by word, with their replicas or
+    originals. None if there is no object."""
+    excerpt = excerpt_of(scene, is_old, first, last, skipped)
+    return drawn_word_by_word(excerpt, grid_of(width)).described() if excerpt.old.words or excerpt.new.words else None
 
 
 # Of a large object, so many words are shown before and after the refused one.
@@ -96,33 +147,24 @@ def place_of(pair: PairText, verdict: Verdict) -> list[dict[str, Any]]:
         address = verdict.address(is_old, pair.pairs)
         if verdict.root() is not None and verdict.root() < len(image.roots):
             word = image.roots[verdict.root()]
-            row = row_of_place(root_name(verdict.root(), len(image.roots)), None, word, shown(word), first + 1 + len(image.words) + 1 + verdict.root(), True)
+            row = row_of_place(root_name(verdict.root(), len(image.roots)), None, word, shown(word, beyond(image.words)), first + 1 + len(image.words) + 1 + verdict.root(), True)
             found.append({"heading": "%s heap" % heap, "rows": [row]})
         elif address is not None and address < len(image.words):
             found.append({"heading": "%s heap" % heap, "rows": object_rows(image, pair.raws, address, verdict.field(), first)})
     return found
 
 
-# So many objects of a block are shown.
-MOST_LOOKED_AT = 8
-
-
-def objects_between(text: str, heap: str, first: int, last: int) -> list[dict[str, Any]]:
-    """Returns the first objects of a heap with a word from `first` to `last`, each with a heading and its first rows. Raises BadText."""
-    try:
-        check_text(text.encode("utf-8", "surrogatepass"))
-    except Refused:
-        pass
-    pair = read_accepted(text)
+def objects_between(text: bytes, heap: str, first: int, last: int, width: int, skipped: int = 0) -> dict[str, Any]:
+    """Returns some objects of a heap with a word from `first` to `last`, behind those that are skipped: tables of the first words of each, their picture,
+    and how many objects the range has. Raises BadText or Unreadable."""
+    pair, _, _, scene = opened(text)
     image: Image = getattr(pair, heap)
-    found = []
-    for start, thing in walk(image.words, pair.raws).items():
-        if start > last or len(found) == MOST_LOOKED_AT:
-            break
-        if start + thing.size() > first:
-            rows = object_rows(image, pair.raws, start, None, first_line(pair, heap), False)
-            found.append({"heading": "object at %d of the %s heap" % (start, heap), "rows": rows})
-    return found
+    starts = starts_between(scene.old if heap == "old" else scene.new, first, last)
+    shown_ones = starts[skipped:skipped + MOST_OBJECTS]
+    tables = [{"heading": "object at %d of the %s heap" % (start, heap),
+               "rows": object_rows(image, pair.raws, start, None, first_line(pair, heap), False)} for start in shown_ones]
+    return {"places": tables, "picture": zoomed(scene, heap == "old", first, last, width, skipped), "count": len(starts), "skipped": skipped,
+            "shown": len(shown_ones)}
 
 
 def first_line(pair: PairText, heap: str) -> int:
@@ -144,7 +186,7 @@ def object_rows(image: Image, raws: bool, address: int, field: int | None, first
     for at in range(max(0, refused - AROUND), min(size, refused + AROUND + 1)):
         word = image.words[address + at]
         part = ("header" if header else "no header", "link")[at] if at < 2 else "field %d" % (at - 2)
-        meaning = described_header(header) if at == 0 else "" if at == 1 else str(word) if header and header[0] else shown(word)
+        meaning = described_header(header) if at == 0 else "" if at == 1 else str(word) if header and header[0] else shown(word, beyond(image.words))
         rows.append(row_of_place(part, address + at, word, meaning, first + 1 + address + at, is_refused and at == refused))
     return rows
 
@@ -196,13 +238,14 @@ def places_to_spoil(pair: PairText, chosen: random.Random) -> list[Place]:
     return roots if roots and chosen.randrange(4) == 0 else words
 
 
+def copied(pair: PairText) -> PairText:
+    """Returns a pair whose words can be changed."""
+    return PairText(pair.raws, *(Image(image.size, list(image.words), list(image.roots)) for image in (pair.old, pair.new)), pair.pairs)
+
+
 def spoiled(text: bytes, width: int, chosen: random.Random) -> dict[str, Any]:
     """Changes one random word of a pair text. Returns the new text, the change, and what the checker says. Raises BadText."""
-    try:
-        check_text(text)
-    except Refused:
-        pass
-    pair = read_pair(text.decode("ascii"))
+    pair = copied(read_and_checked(text)[0])
     place = chosen.choice(places_to_spoil(pair, chosen))
     name, row = name_of(pair, place), row_of(pair, place.heap, place.row)
     before, after = row[place.at], chosen.choice(other_words(row[place.at], chosen))

@@ -1,121 +1,135 @@
-"""Plays traces through the binding. Each reply is the shared library's, written as the line that `gcflip play` prints."""
+"""Plays traces through the binding. Each reply is the shared library's, written as the line that `gcflip play` prints.
+
+A heap only goes forward. To go back, a player makes a heap from the nearest checkpoint, and plays the events behind it. What a tab of the browser
+keeps is bounded: at most MOST_PLAYERS players, each with a heap, the line and the reply of each event, the states of the timeline, and checkpoints of
+at most 32 MiB (MOST_WORDS of `record`).
+"""
 from __future__ import annotations
 
-from typing import Iterable, NamedTuple
+import contextlib
+from typing import Callable, Iterable, Iterator, NamedTuple
 
-from gcflip import Heap, HeapRefused, Image, Mutator, Object, Step, Value
+from gcflip import Heap
 from gcflip_drawing.collection_picture import Changed
-from gcflip_drawing.timeline import Frame, Measure, Run
-from gcflip_drawing.trace_text import Event, Trace, event_of
+from gcflip_drawing.trace_text import Event, Trace
+
+from .checkpoints import Checkpoint, rebuilt
+from .record import Record
+from .stage import Stage, Words
 
 MOST_PLAYERS = 4
 # Changes are found by comparing the images before and after an event, for heaps up to this size.
 MOST_COMPARED_WORDS = 192
 
 
-def value_line(value: Value) -> str:
-    if value is None:
-        return "saw nil"
-    if isinstance(value, Object):
-        return "saw %s %d %d" % ("raw" if value.raw else "obj", value.kind, value.length)
-    return "saw num %d" % value
-
-
-def command_line(mutator: Mutator, event: Event) -> str:
-    """Performs a command, and returns the line of its reply."""
-    returned = getattr(mutator, event.name)(*event.numbers)
-    if event.name in ("get", "look"):
-        return value_line(returned)
-    if event.name == "same":
-        return "yes" if returned else "no"
-    return "made" if event.name in ("new", "raw") else "done"
-
-
-def step_line(heap: Heap, event: Event) -> str:
-    """Performs a step of the collector, and returns the line of its reply."""
-    returned = getattr(heap, event.name)(*event.numbers)
-    return returned.value if isinstance(returned, Step) else "flipped %d" % returned
-
-
-class Words(NamedTuple):
-    """The words of both spaces and the root words. `new` is None while no collection is open."""
-
-    old: Image
-    new: Image | None
-
-
 class Player:
-    """A heap, and the events that were played on it: their lines, and a measure after each one."""
+    """A heap on which the first events of a trace were played, and the record of all events that ever were."""
 
-    def __init__(self, size: int, mutators: int) -> None:
-        self.heap = Heap(size, mutators)
-        self.size = size
-        self.mutators = [self.heap.mutator(number) for number in range(mutators)]
-        self.lines: list[str] = []
-        self.measures: list[Measure] = []
+    def __init__(self, record: Record, stage: Stage, position: int = 0) -> None:
+        self.record, self.stage, self.position = record, stage, position
+        # What the last event changed.
         self.changed: list[Changed] = []
-        # The summary of the measures for the timeline: for how many events and for which frame, and itself.
-        self.summary: tuple[int, Frame, Run] | None = None
+
+    @property
+    def heap(self) -> Heap:
+        return self.stage.heap
+
+    def replies(self, first: int = 0) -> list[str]:
+        """Returns the replies to the events that were played, from one of them on."""
+        return self.record.replies[first:self.position]
 
     def play(self, event: Event) -> str:
-        """Performs an event, and returns the line of its reply. Raises OutOfMemory; the event is then not performed."""
-        try:
-            reply = step_line(self.heap, event) if event.mutator is None else command_line(self.mutators[event.mutator], event)
-        except HeapRefused as refusal:
-            reply = str(refusal)
-        self.lines.append(event.line)
-        last = self.measures[-1] if self.measures else None
-        if last is None or event.mutator is None or event.name in ("new", "raw") or event.name == "put" and last.is_open:
-            self.measures.append(self.measured(reply))
-        else:
-            self.measures.append(last._replace(reply=reply))
+        """Performs the next event, and returns the line of its reply. Raises OutOfMemory; the event is then not performed."""
+        reply = self.stage.acts.of(event)()
+        if self.position == len(self.record.lines):
+            self.record.add(event, reply, self.stage)
+        self.position += 1
         return reply
 
     def play_to(self, trace: Trace, position: int) -> None:
         """Plays the remaining events of a trace up to a position, and notes what the last one changed."""
-        for event in trace.events[len(self.lines):position]:
-            before = self.words() if len(self.lines) == position - 1 else None
-            self.play(event)
-            self.changed = [] if before is None else list(changes(before, self.words()))
+        if self.position < position:
+            self.changed = []
+            for event in trace.events[self.position:position - 1]:
+                self.play(event)
+            before = self.stage.words() if self.is_compared() else None
+            self.play(trace.events[position - 1])
+            self.changed = list(changes(before, self.stage.words())) if before else []
 
-    def play_useful(self) -> str:
-        """Performs the useful step of the collector, as the library names it, and returns its line."""
-        before = self.words()
+    def is_compared(self) -> bool:
+        """Returns whether the heap is small enough to compare its words before and after an event."""
+        state = self.record.state_after(self.position)
+        return state is None or max(state.used, state.copied) <= MOST_COMPARED_WORDS
+
+    def play_to_flip(self, trace: Trace, number: int) -> bool:
+        """Plays on, and stops before the event that makes the flip with this number, counted from the start. Plays to the end if there is none. Returns
+        whether there is one."""
+        for at in flip_events(trace, self.position):
+            self.play_to(trace, at)
+            if self.flips() + 1 == number and self.would_flip():
+                return True
+        self.play_to(trace, len(trace.events))
+        return False
+
+    def flips(self) -> int:
+        """Returns the number of flips up to this position."""
+        return self.record.flips(self.position)
+
+    def would_flip(self) -> bool:
+        """Returns whether a flip would pass now, which it does exactly if no other step has anything left to do."""
+        return self.heap.useful().name == "flip"
+
+    def useful_line(self) -> str:
+        """Returns the line of the collector's useful step, as the library names it."""
         step = self.heap.useful()
-        line = "c " + step.name if step.mutator is None else "c %s %d" % step
-        event = event_of(line)
-        assert event is not None
-        self.play(event)
-        self.changed = list(changes(before, self.words()))
-        return line
+        return "c " + step.name if step.mutator is None else "c %s %d" % step
 
-    def measured(self, reply: str) -> Measure:
-        counts = self.heap.counts()
-        entries = tuple(self.heap.log_length(mutator.number) for mutator in self.mutators)
-        return Measure(reply, counts.size, counts.end, counts.new_end, counts.is_open, entries)
+    def ways(self, trace: Trace, position: int) -> Iterable[Way]:
+        """Yields the ways from here to a position of a trace: from this heap, and from the nearest checkpoint. The event before the position is played in any
+        case, because the page shows what it changed. A record of which the trace does not have all events stays as it is; another player then branches off."""
+        record = self.record
+        if (record.size, record.mutators) != (trace.size, trace.mutators):
+            return
+        common = record.common(trace)
+        is_followed = common >= min(position, len(record.lines))
+        if is_followed and self.position <= position:
+            yield Way(position - self.position, lambda: self)
+        checkpoint = record.checkpoint_before(min(common, max(0, position - 1)))
+        # To make a word of a heap takes about as long as to play an event.
+        yield Way(position - checkpoint.position + checkpoint.size(), lambda: self.back_at(checkpoint) if is_followed else self.branch(checkpoint))
 
-    def run_of(self, count: int, frame: Frame) -> Run:
-        """Returns the summary of the events that were played, of a trace of `count` events."""
-        if self.summary is None or self.summary[:2] != (count, frame):
-            self.summary = count, frame, Run(len(self.mutators), count, [], frame)
-        run = self.summary[2]
-        run.extend(self.measures[run.played:])
-        return run
+    def back_at(self, checkpoint: Checkpoint) -> Player:
+        """Goes to a checkpoint, and returns this player. Raises OutOfMemory; the player then stays where it is."""
+        stage = rebuilt(checkpoint)
+        self.close()
+        self.stage, self.position, self.changed = stage, checkpoint.position, []
+        return self
 
-    def words(self) -> Words:
-        counts = self.heap.counts()
-        new = Image(self.heap.new_words(), [], counts.new_size) if counts.is_open else None
-        return Words(self.heap.image(), new)
+    def branch(self, checkpoint: Checkpoint) -> Player:
+        """Returns another player at a checkpoint, which knows no later events. Raises OutOfMemory."""
+        return Player(self.record.first(checkpoint.position), rebuilt(checkpoint), checkpoint.position)
 
-    def logs(self) -> list[list[tuple[int, int]]]:
-        """Returns the entries of each mutator's log, as objects and fields."""
-        lengths = [self.heap.log_length(mutator.number) for mutator in self.mutators]
-        return [[tuple(self.heap.log_entry(mutator, number)) for number in range(length)] for mutator, length in enumerate(lengths)]
+    def close(self) -> None:
+        self.heap.close()
 
-    def has_played(self, trace: Trace, position: int) -> bool:
-        """Returns whether the events played so far are the first events of this trace, and at most up to the position."""
-        return (self.size, len(self.mutators)) == (trace.size, trace.mutators) and len(self.lines) <= position and all(
-            line == event.line for line, event in zip(self.lines, trace.events))
+
+class Way(NamedTuple):
+    """A way to a position of a trace."""
+
+    events: int
+    """How many events could be played in the time that it takes."""
+    begun: Callable[[], Player]
+    """Returns the player that is to play the remaining events. Raises OutOfMemory."""
+
+
+def opened(size: int, mutators: int) -> Player:
+    """Returns a player that has played nothing."""
+    return Player(Record(size, mutators), Stage(Heap(size, mutators)))
+
+
+def flip_events(trace: Trace, first: int) -> list[int]:
+    """Returns the positions before the events, from a position on, that flip if the collection is ready."""
+    return [at for at, event in enumerate(trace.events[first:], first) if event.name == "flip"]
 
 
 def changes(before: Words, after: Words) -> Iterable[Changed]:
@@ -132,22 +146,46 @@ def changes(before: Words, after: Words) -> Iterable[Changed]:
 
 
 class Players:
-    """The players of the last requests. A player only goes forward; to go back, a trace is played from the start."""
+    """The players of the last requests, the last one first."""
 
     def __init__(self) -> None:
         self.players: list[Player] = []
 
     def at(self, trace: Trace, position: int) -> Player:
-        """Returns a player that has played a trace up to a position. Raises OutOfMemory."""
-        fitting = [player for player in self.players if player.has_played(trace, position)]
-        player = max(fitting, key=lambda player: len(player.lines), default=None)
-        if player is None:
-            player = Player(trace.size, trace.mutators)
-        else:
+        """Returns a player that has played a trace up to a position. Raises MemoryError."""
+        player = self.nearest(trace, position)
+        with self.kept(player):
+            player.play_to(trace, position)
+        return player
+
+    def before_flip(self, trace: Trace, number: int) -> Player | None:
+        """Returns a player that has played a trace up to before the flip with this number, counted from 1, or None if there is none. Of the events that were
+        never played, each is played once. Raises MemoryError."""
+        for player in self.players:
+            at = player.record.flip(trace, number)
+            if at is not None:
+                return self.at(trace, at)
+        player = self.nearest(trace, len(trace.events))
+        with self.kept(player):
+            return player if player.play_to_flip(trace, number) else None
+
+    @contextlib.contextmanager
+    def kept(self, player: Player) -> Iterator[None]:
+        """Gives a player up if it runs out of memory while it plays, since its record may lack the last event. What it took is then free."""
+        try:
+            yield
+        except MemoryError:
             self.players.remove(player)
-        self.players = [player, *self.players]
+            player.close()
+            raise
+
+    def nearest(self, trace: Trace, position: int) -> Player:
+        """Returns the player that gets to a position of a trace soonest. Raises MemoryError; all players then stay where they are."""
+        ways = [way for player in self.players for way in player.ways(trace, position)]
+        ways.append(Way(position, lambda: opened(trace.size, trace.mutators)))
+        player = min(ways, key=lambda way: way.events).begun()
+        self.players = [player, *(other for other in self.players if other is not player)]
         for closed in self.players[MOST_PLAYERS:]:
-            closed.heap.close()
+            closed.close()
         del self.players[MOST_PLAYERS:]
-        player.play_to(trace, position)
         return player

@@ -9,49 +9,55 @@ import threading
 from typing import Any, Callable
 
 from gcflip import BadText
+from gcflip_drawing.images_text import MOST_WORDS
+from gcflip_drawing.pair_text import Unreadable
 from gcflip_drawing.trace_text import MOST_BYTES, BadTrace, Event, Trace, event_of, heading, read_trace, version_of
 
 from . import checking, state
-from .playing import Player, Players
+from .playing import Player, Players, flip_events
 
 MOST_SESSIONS = 8
 HERE = os.path.dirname(os.path.abspath(__file__))
 # An installed package has copies of the examples. In the repository they are at the top.
 PLACES = (os.path.join(HERE, "examples"), os.path.join(HERE, "..", "..", "..", "..", "examples"))
 EXAMPLES = next((place for place in PLACES if os.path.isdir(place)), PLACES[0])
-TRACE, PAIR = "heaptrace", "heappair"
+KINDS = {"heaptrace": "trace", "heappair": "pair", "heapimages": "pair"}
 
 
 class BadRequest(Exception):
     """Why a request cannot be answered."""
 
 
+class Unknown(Exception):
+    """The request leaves its text out, and the server does not have it. The page then sends the text."""
+
+
 class Session:
-    """What the server keeps for a tab of the browser."""
+    """What the server keeps for a tab of the browser. The page sends a long text once, and later requests are about the last one."""
 
     def __init__(self) -> None:
         self.players = Players()
         self.lock = threading.Lock()
         self.chosen = random.Random()
-        self.flips: tuple[Trace, list[int]] | None = None
+        # The text that was checked last, and the trace that was played last.
+        self.checked: bytes | None = None
+        self.trace: Trace | None = None
 
-    def positions_before_flips(self, trace: Trace) -> list[int]:
-        """Returns the positions before the flips of a trace, which is played to its end unless it was the last one."""
-        if self.flips is None or self.flips[0] is not trace:
-            player = self.players.at(trace, len(trace.events))
-            self.flips = trace, [at for at, measure in enumerate(player.measures) if measure.reply.startswith("flipped")]
-        return self.flips[1]
+    def before_next_flip(self, trace: Trace, position: int) -> Player:
+        """Returns a player that has played up to before the next flip after a position, or up to the position if there is none."""
+        if not flip_events(trace, position + 1):
+            return self.players.at(trace, position)
+        player = self.players.at(trace, position)
+        is_before_one = trace.events[position].name == "flip" and player.would_flip()
+        return self.players.before_flip(trace, player.flips() + (2 if is_before_one else 1)) or self.players.at(trace, position)
 
-    def before_flip(self, trace: Trace, position: int) -> int:
-        """Returns the position before the next flip after a position, or the position if there is none."""
-        return min([at for at in self.positions_before_flips(trace) if at > position], default=position)
-
-    def before_flip_number(self, trace: Trace, number: int) -> int:
-        """Returns the position before the flip with this number, counted from 1. Raises BadRequest if there is none."""
-        flips = self.positions_before_flips(trace)
-        if not 1 <= number <= len(flips):
-            raise BadRequest("This trace has %s." % ("no flip" if not flips else "1 flip" if len(flips) == 1 else "%d flips" % len(flips)))
-        return flips[number - 1]
+    def before_flip_number(self, trace: Trace, number: int) -> Player:
+        """Returns a player that has played up to before the flip with this number, counted from 1. Raises BadRequest if there is none."""
+        player = self.players.before_flip(trace, number)
+        if player is None:
+            flips = self.players.at(trace, len(trace.events)).flips()
+            raise BadRequest("This trace has %s." % ("no flip" if flips == 0 else "1 flip" if flips == 1 else "%d flips" % flips))
+        return player
 
 
 class Asked:
@@ -85,9 +91,22 @@ class Asked:
     def width(self) -> int:
         return self.number("width", 4000)
 
+    def checked(self) -> bytes:
+        """Returns the text of the request, or else the one that was checked last. Raises Unknown."""
+        if "text" in self.data:
+            self.session.checked = self.text().encode("utf-8", "surrogatepass")
+        if self.session.checked is None:
+            raise Unknown
+        return self.session.checked
+
     def trace(self) -> Trace:
-        """Returns the trace of the request. Raises BadTrace."""
-        return read(self.text())
+        """Returns the trace of the request, or else the one that was played last. Raises BadTrace and Unknown."""
+        if "text" in self.data:
+            self.session.trace = None
+            self.session.trace = read(self.text())
+        if self.session.trace is None:
+            raise Unknown
+        return self.session.trace
 
     def position(self, trace: Trace) -> int:
         return self.number("position", len(trace.events))
@@ -117,6 +136,8 @@ class Desk:
                 return self.answers[name](asked)
             except BadTrace as fault:
                 return {"fault": {"message": str(fault), "line": fault.line}}
+            except Unknown:
+                return {"unknown": True}
             except MemoryError:
                 raise BadRequest("Out of memory. The request can be tried again.") from None
 
@@ -138,63 +159,65 @@ class Desk:
         """Plays a trace up to a position, or up to the next flip after it."""
         trace = asked.trace()
         position = asked.position(trace)
-        players = asked.session.players
         if asked.data.get("to_flip"):
-            position = asked.session.before_flip(trace, position)
+            player = asked.session.before_next_flip(trace, position)
         elif asked.data.get("flip") is not None:
-            position = asked.session.before_flip_number(trace, asked.number("flip", MOST_BYTES))
-        player = players.at(trace, position)
+            player = asked.session.before_flip_number(trace, asked.number("flip", MOST_BYTES))
+        else:
+            player = asked.session.players.at(trace, position)
         return self.told(player, trace, asked)
 
     def told(self, player: Player, trace: Trace, asked: Asked) -> dict[str, Any]:
         """Describes a player, with the replies that the page does not have yet."""
         known = asked.number("known", MOST_BYTES)
-        replies = [measure.reply for measure in player.measures]
-        return {**state.described(player, trace, asked.width()), "known": min(known, len(replies)), "replies": replies[known:]}
+        return {**state.described(player, trace, asked.width()), "known": min(known, player.position), "replies": player.replies(known)}
 
     def insert(self, asked: Asked) -> dict[str, Any]:
         """Inserts an event after the last one that was played, and plays it. Without a line, the event is the collector's useful step."""
         trace = asked.trace()
         position = asked.position(trace)
-        if asked.data.get("line") is None:
-            line = asked.session.players.at(trace, position).play_useful()
-        else:
-            line = asked.text("line")
+        line = asked.text("line") if asked.data.get("line") is not None else asked.session.players.at(trace, position).useful_line()
         event = event_of(line)
         if event is None:
             raise BadRequest("'%s' is no event." % line)
         text = with_event(trace, position, event)
         # The longer trace may be refused: the event's mutator may not exist.
         longer = read(text)
-        return {"text": text, **self.told(asked.session.players.at(longer, position + 1), longer, asked)}
+        told = self.told(asked.session.players.at(longer, position + 1), longer, asked)
+        asked.session.trace = longer
+        return {"text": text, **told}
 
     def pair(self, asked: Asked) -> dict[str, Any]:
         """Returns the certificate of an open collection as a pair text."""
         trace = asked.trace()
-        words = asked.session.players.at(trace, asked.position(trace)).words()
+        words = asked.session.players.at(trace, asked.position(trace)).stage.words()
         if words.new is None:
             raise BadRequest("No collection is open, so there is no certificate.")
         return {"text": state.Certificate(words).text()}
 
     def check(self, asked: Asked) -> dict[str, Any]:
-        return checking.checked(asked.text().encode("utf-8", "surrogatepass"), asked.width())
+        return checking.checked(asked.checked(), asked.width())
 
     def spoil(self, asked: Asked) -> dict[str, Any]:
         """Changes one random word of a pair text."""
         try:
-            return checking.spoiled(asked.text().encode("utf-8", "surrogatepass"), asked.width(), asked.session.chosen)
+            found = checking.spoiled(asked.checked(), asked.width(), asked.session.chosen)
         except BadText as fault:
             raise BadRequest("Only a pair text can be spoiled: %s." % fault) from None
+        asked.session.checked = found["text"].encode()
+        return found
 
     def look(self, asked: Asked) -> dict[str, Any]:
-        """Returns the objects of a heap of a pair text that have words in a range."""
-        heap = asked.text("heap")
+        """Returns the objects of a heap of a pair text, or of an image text, that have words in a range."""
+        heap, text = asked.text("heap"), asked.checked()
         if heap not in ("old", "new"):
             raise BadRequest("'heap' has to be old or new.")
+        first, last = asked.number("first", MOST_WORDS), asked.number("last", MOST_WORDS)
+        skipped = asked.number("skipped", MOST_WORDS) if "skipped" in asked.data else 0
         try:
-            return {"places": checking.objects_between(asked.text(), heap, asked.number("first", 1 << 20), asked.number("last", 1 << 20))}
-        except BadText as fault:
-            raise BadRequest("Only a pair text has objects: %s." % fault) from None
+            return checking.objects_between(text, heap, first, last, asked.width(), skipped)
+        except (BadText, Unreadable) as fault:
+            raise BadRequest("Only a text of two heaps has objects: %s." % fault) from None
 
 
 def with_event(trace: Trace, position: int, event: Event) -> str:
@@ -205,8 +228,8 @@ def with_event(trace: Trace, position: int, event: Event) -> str:
 
 
 def kind_of(text: str) -> str | None:
-    """Returns the kind of a text by its first word: TRACE, PAIR or None."""
-    return next((kind for kind in (TRACE, PAIR) if text.startswith(kind + " ")), None)
+    """Returns the kind of a text by its first word: trace, pair or None. An image text is shown as a pair, whose pairs are inferred."""
+    return next((KINDS[word] for word in KINDS if text.startswith(word + " ")), None)
 
 
 @functools.lru_cache(maxsize=1)

@@ -15,7 +15,8 @@ from gcflip_drawing.scene_text import told
 from gcflip_drawing.trace_text import Trace
 from gcflip_drawing.verdicts import Verdict
 
-from .playing import Player, Words
+from .playing import Player
+from .stage import Words
 
 # Longer lists are cut, and the page gets their length.
 MOST_LISTED = 200
@@ -61,14 +62,14 @@ def conditions(player: Player, words: Words) -> list[dict[str, Any]]:
     return [
         {"text": "each root's target has a replica", "holds": targets <= originals},
         {"text": "the scan pointer is at the end", "holds": counts.scan_place == counts.new_end},
-        {"text": "all logs are empty", "holds": not any(player.heap.log_length(mutator.number) for mutator in player.mutators)},
+        {"text": "all logs are empty", "holds": counts.logged == 0},
     ]
 
 
 def roots(player: Player, words: Words) -> list[dict[str, Any]]:
     """Returns the roots that are not nil, by their owners."""
     count = len(words.old.roots)
-    owners = ["all mutators"] + ["mutator %d" % mutator.number for mutator in player.mutators]
+    owners = ["all mutators"] + ["mutator %d" % number for number in range(player.record.mutators)]
     changed = {change.address for change in player.changed if change.row == "roots"}
     return [{"owner": owner, "slots": [
         {"name": root_name(place, count), "value": shown(words.old.roots[place]), "changed": place in changed}
@@ -90,28 +91,24 @@ def collection(player: Player, words: Words) -> dict[str, Any]:
     }
 
 
-def logs(player: Player) -> list[dict[str, Any]]:
-    return [{"mutator": mutator, "entries": log[:MOST_LISTED], "count": len(log)} for mutator, log in enumerate(player.logs())]
-
-
 def described(player: Player, trace: Trace, width: int) -> dict[str, Any]:
     """Returns what the page shows of a player that has played the first events of a trace."""
-    words, counts = player.words(), player.heap.counts()
+    words, counts, position = player.stage.words(), player.heap.counts(), player.position
     opened = collection(player, words) if words.new else None
-    state = State(words.old, words.new, (counts.scan_place, counts.scan_field), player.logs(), bool(opened and opened["ready"]),
-                  tuple(player.changed))
+    logs = [list(zip(log[::2], log[1::2])) for log in player.stage.logs()]
+    state = State(words.old, words.new, player.stage.scan(), logs, bool(opened and opened["ready"]), tuple(player.changed))
     frame = timeline.Frame(max(160, width - timeline.LEFT - timeline.RIGHT), TIMELINE_HEIGHT, False)
-    scene = collection_picture.scene_of(state, "The heap after %s" % counted(len(player.lines), "event"))
+    scene = collection_picture.scene_of(state, "The heap after %s" % counted(position, "event"))
     return {
-        "position": len(player.lines),
+        "position": position,
         "total": len(trace.events),
         "picture": drawn_in_width(scene, width).described(),
         "told": told(scene),
         # Where the events are in the timeline: the left end of the first one, and the width of all.
         "span": [timeline.LEFT, frame.width],
-        "timeline": timeline.drawn_run(trace, player.run_of(len(trace.events), frame), "Words in use").described(),
+        "timeline": timeline.drawn_run(trace, player.record.run_of(position, frame, len(trace.events)), "Words in use").described(),
         "roots": roots(player, words),
-        "logs": logs(player),
+        "logs": [{"mutator": mutator, "entries": log[:MOST_LISTED], "count": len(log)} for mutator, log in enumerate(logs)],
         "collection": opened,
         "size": counts.size,
         "mutators": counts.mutators,

@@ -1,10 +1,11 @@
 -- The pairs that a walk over two images from their roots finds: words that stand at the same place are met, and two
 -- references that meet are a pair, unless one of them has a partner.
 use Rattle.std.specs.Prelude.{◌≡◌, ℕ, suc, ◌<◌, ◌≤◌, ◌==◌, Bool, true, false, not, vec_capacity, ◌&&◌, if◌then◌else◌, List, [], ◌∷◌, ◌++◌, length, map, slice_index, Option, Some, None, IsTrue, IsOk, ⊤}
-use Rattle.std.specs.List.{All, list_any}
+use Rattle.std.specs.List.{All, AllZip, list_any}
 use Rattle.gc_graph.specs.Graph.{Value, Nil, Num, Ref}
-use Rattle.gc_words.specs.Word.{read_value}
+use Rattle.gc_words.specs.Word.{read_value, words_correspond}
 use Rattle.gc_words.specs.Image.{Image, Block, walk_words, is_start, block_at}
+use Rattle.gc_words.specs.Certificate.{BlocksCorrespond}
 use Rattle.gc_words.specs.Fault.{same_header}
 use Rattle.gc_check.specs.Infer.{AreForced, AreTogether}
 use Rattle.gc_check.specs.Internal.Starts.{starts_from}
@@ -81,6 +82,20 @@ pub record MetTo (old new : Image) (pairs : List (ℕ × ℕ)) (done : ℕ) : Ty
   pub together : AreTogether old new pairs
   pub roots : AllMet old new pairs old.roots new.roots
   pub objects : (k : ℕ) → k < done → k < length pairs → ObjectsMet old new pairs (pair_at pairs k)
+
+-- ---- words that correspond
+
+-- whether the words at each place of two lists correspond once they have met
+abbrev pub alike_all : Image → Image → List (ℕ × ℕ) → List ℕ → List ℕ → Bool
+alike_all old new pairs [] [] = true
+alike_all old new pairs [] (w ∷ ws) = false
+alike_all old new pairs (v ∷ vs) [] = false
+alike_all old new pairs (v ∷ vs) (w ∷ ws) = words_correspond (met old new pairs v w) v w && alike_all old new (met old new pairs v w) vs ws
+
+-- the roots correspond, and so do the objects of the first `done` pairs
+pub record AlikeTo (old new : Image) (pairs : List (ℕ × ℕ)) (done : ℕ) : Type 0 where
+  pub roots : AllZip (λ v w. IsTrue (words_correspond pairs v w)) old.roots new.roots
+  pub objects : (k : ℕ) → k < done → k < length pairs → BlocksCorrespond pairs (block_at old.words (pair_at pairs k).0) (block_at new.words (pair_at pairs k).1)
 
 -- ---- tables
 

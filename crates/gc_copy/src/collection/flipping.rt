@@ -9,7 +9,7 @@ ghost use Rattle.gc_copy.specs.declared.step.Step.{Step};
 ghost use Rattle.gc_copy.specs.declared.step.StepReply.{StepReply};
 
 use super::Collection;
-use crate::pairs::{count_objects, linked_pairs};
+use crate::pairs::{clear_and_count, count_objects, linked_pairs};
 use gc_graph::NoMemory;
 use gc_heap::Heap;
 use gc_words::{Addr, ImageRef, NewAddr, OldAddr, Pair, Space};
@@ -53,11 +53,30 @@ impl Collection {
         ensures roots { result.1.items ≡ heap.old.roots }
         ensures sound { IsHeap heap.new }
     {
+        let (space, roots, _) = self.flip_counted(heap, roots);
+        (space, roots)
+    }
+
+    /// Does what `flip_into` does, and also returns the number of pairs, which it counts while it clears the links.
+    pub fn flip_counted(self, heap: &mut Heap, roots: Vec<u64>) -> (Space, Vec<u64>, u32)
+        requires belongs { BelongsTo heap.old self }
+        requires ready { IsTrue (is_ready (collection_in self) (graph_in heap.old)) }
+        requires roots { roots.items ≡ new_root_words heap.old (collection_in self) }
+        ensures step { collect (open_state heap.old self) Step.Flip
+            ≡ (StepReply.Flipped (length (pairs_of (collection_in self))), idle_state heap.new) }
+        ensures heap { heap.new ≡ record heap.old { space = without_links self.space; roots = roots.items } }
+        ensures links { HasNoLinks heap.new }
+        ensures space { result.0 ≡ heap.old.space }
+        ensures roots { result.1.items ≡ heap.old.roots }
+        ensures count { result.2 ≡ length (pairs_of (collection_in self)) }
+        ensures sound { IsHeap heap.new }
+    {
         // Here the prover learns that the heap is sound.
         let _ = heap.space();
         let Collection { mut space, .. } = self;
-        space.clear_links();
-        heap.replace(space, roots)
+        let pairs = clear_and_count(&mut space);
+        let (old_space, old_roots) = heap.replace(space, roots);
+        (old_space, old_roots, pairs)
     }
 
     /// Ends the collection without a flip: frees the new space (to-space) and the logs, and clears the old space's

@@ -1,9 +1,11 @@
 //! One call for each mutator command, with that command's contract. `Heap::apply` calls them. None allocates.
 
-ghost use Rattle.std.specs.Prelude.{◌≡◌, ◌<◌, ◌+◌};
-ghost use Rattle.gc_graph.specs.Slots.{roots_of};
+ghost use Rattle.std.specs.Prelude.{◌≡◌, ◌≢◌, ◌<◌, ◌+◌};
+ghost use Rattle.gc_graph.specs.Slots.{roots_of, place};
 ghost use Rattle.gc_graph.specs.declared.command.Op.{Op};
+ghost use Rattle.gc_words.specs.Space.{end_of};
 ghost use Rattle.gc_heap.specs.ExtraRoots.{extra_slot};
+ghost use Rattle.gc_heap.specs.Filling.{TakesFields};
 ghost use Rattle.gc_heap.specs.Heap.{IsHeap, extra_roots_in};
 ghost use Rattle.gc_heap.specs.Commands.{Performs, Fetches};
 ghost use Rattle.gc_heap.specs.Internal.Taken.{taken_reply, IsTakenWord};
@@ -19,6 +21,8 @@ impl Heap {
     pub fn new_object(&mut self, m: u8, d: Slot, kind: u8, len: u16) -> Reply
         requires { m < self.old.mutators }
         ensures performs { Performs self.old m (Op.New d kind len) result self.new }
+        // Unless there was no room, the object takes its fields.
+        ensures fields { result ≢ Reply.Full → TakesFields self.new (place d m) (end_of self.old.space) len }
         ensures sound { IsHeap self.new }
     {
         // Here the prover learns how many roots there are.

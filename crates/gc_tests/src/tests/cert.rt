@@ -1,6 +1,6 @@
-use crate::tests::streams::{End, Narrow, Same, Slow};
 use gc_cert::{PairFault, WriteFault, pair_fits, read_pair, write_pair};
 use gc_graph::{Sink, Source};
+use gc_test_kit::streams::{End, Narrow, Same, Slow};
 use gc_words::{ImageRef, NewAddr, OldAddr, Pair};
 use std::alloc::Global;
 use std::io::Read;

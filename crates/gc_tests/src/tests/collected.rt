@@ -2,11 +2,11 @@ mod rows;
 
 ghost use Rattle.std.specs.Prelude.{◌≡◌, IfOk};
 
-use crate::tests::commands::{get, new, num, own, put, saw};
 use gc_check::Sequential;
 use gc_copy::{LogEntry, Step, StepReply};
 use gc_core::{CollectedHeap, Keep, NewSpace};
 use gc_graph::{NoMemory, Reply};
+use gc_test_kit::commands::{get, new, num, own, put, saw};
 use gc_words::{NewAddr, OldAddr, Pair};
 use rows::{Row, play};
 use std::alloc::Global;
@@ -17,12 +17,12 @@ use std::test::Fail;
 fn written_while_scanning(rt: &impl Abort, alloc: Global) -> Result<CollectedHeap, NoMemory>
     ensures { IfOk result (λ heap. heap.mutators ≡ 1) }
 {
-    let r0 = own(rt, 0);
-    let r1 = own(rt, 1);
+    let r0 = own(0);
+    let r1 = own(1);
     let mut heap = CollectedHeap::open(alloc, 32, 1)?;
     let rows = [
         Row::Command(new(r0, 1, 1), Reply::Made),
-        Row::Command(num(rt, r1, 9), Reply::Done),
+        Row::Command(num(r1, 9), Reply::Done),
         Row::Call(Step::Begin, StepReply::Begun),
         Row::Call(Step::Roots, StepReply::Copied),
         Row::Call(Step::Scan, StepReply::Scanned),
@@ -53,8 +53,8 @@ fn flip_and_keep(
 
 #[test]
 fn write_while_scanning(rt: HostRuntime) -> Result<(), Fail> {
-    let r0 = own(&rt, 0);
-    let r1 = own(&rt, 1);
+    let r0 = own(0);
+    let r1 = own(1);
     let mut heap = written_while_scanning(&rt, rt.alloc())?;
     let early = flip_and_keep(&mut heap)?;
     assert!(rt; early == (StepReply::NotReady, None));
@@ -70,7 +70,7 @@ fn write_while_scanning(rt: HostRuntime) -> Result<(), Fail> {
     let flipped = flip_and_keep(&mut heap)?;
     let kept = Some((1, Some(copied), Some(2)));
     assert!(rt; flipped == (StepReply::Flipped { pairs: 1 }, kept));
-    let read = [Row::Command(get(r1, r0, 0), saw(&rt, 9))];
+    let read = [Row::Command(get(r1, r0, 0), saw(9))];
     play(&rt, &mut heap, &read)?;
     Ok(())
 }
@@ -148,7 +148,7 @@ fn steps_without_a_collection(rt: HostRuntime) -> Result<(), Fail> {
 
 #[test]
 fn dropped_and_begun_once_more(rt: HostRuntime) -> Result<(), Fail> {
-    let r0 = own(&rt, 0);
+    let r0 = own(0);
     let mut heap = CollectedHeap::open(rt.alloc(), 16, 1)?;
     let rows = [
         Row::Command(new(r0, 2, 1), Reply::Made),
@@ -173,8 +173,8 @@ fn dropped_and_begun_once_more(rt: HostRuntime) -> Result<(), Fail> {
 
 #[test]
 fn a_command_makes_the_roots_be_tested_again(rt: HostRuntime) -> Result<(), Fail> {
-    let r0 = own(&rt, 0);
-    let r1 = own(&rt, 1);
+    let r0 = own(0);
+    let r1 = own(1);
     let mut heap = CollectedHeap::open(rt.alloc(), 16, 1)?;
     let rows = [
         Row::Command(new(r0, 0, 0), Reply::Made),

@@ -4,10 +4,10 @@ ghost use Rattle.std.specs.Prelude.{◌≡◌, ◌≤◌, IfOk};
 ghost use Rattle.gc_graph.specs.Limits.{most_words, most_mutators};
 ghost use Rattle.gc_copy.specs.Words.{BelongsTo, HasNoLinks};
 
-use crate::tests::commands::{get, new, num, own, put, saw};
 use gc_copy::{Collection, StepReply};
 use gc_graph::{NoMemory, Op, Reply, Slot, View};
 use gc_heap::Heap;
+use gc_test_kit::commands::{get, new, num, own, put, saw};
 use gc_words::{NewAddr, OldAddr, Pair};
 use rows::{Row, play, play_idle};
 use std::alloc::Global;
@@ -66,11 +66,11 @@ fn play_and_drop(
 
 #[test]
 fn write_while_scanning(rt: HostRuntime) -> Result<(), Fail> {
-    let r0 = own(&rt, 0);
-    let r1 = own(&rt, 1);
-    let r2 = own(&rt, 2);
+    let r0 = own(0);
+    let r1 = own(1);
+    let r2 = own(2);
     let mut heap = empty(rt.alloc(), 32, 1)?;
-    let made = [(new(r0, 1, 1), Reply::Made), (num(&rt, r1, 9), Reply::Done)];
+    let made = [(new(r0, 1, 1), Reply::Made), (num(r1, 9), Reply::Done)];
     play_idle(&rt, &mut heap, &made);
     let collection = Collection::begin(rt.alloc(), &heap)?;
     let rows = [
@@ -88,7 +88,7 @@ fn write_while_scanning(rt: HostRuntime) -> Result<(), Fail> {
         new: NewAddr(1),
     };
     assert_eq!(rt; flipped, (1, Some(copied), Some(2)));
-    play_idle(&rt, &mut heap, &[(get(r2, r0, 0), saw(&rt, 9))]);
+    play_idle(&rt, &mut heap, &[(get(r2, r0, 0), saw(9))]);
     Ok(())
 }
 
@@ -104,7 +104,7 @@ fn raw_eight(rt: &impl Abort, alloc: Global, r0: Slot, r1: Slot) -> Result<Heap,
     };
     let rows = [
         (new_raw, Reply::Made),
-        (num(rt, r1, 8), Reply::Done),
+        (num(r1, 8), Reply::Done),
         (put(r0, 0, r1), Reply::Done),
     ];
     let mut heap = empty(alloc, 16, 1)?;
@@ -114,13 +114,13 @@ fn raw_eight(rt: &impl Abort, alloc: Global, r0: Slot, r1: Slot) -> Result<Heap,
 
 #[test]
 fn raw_object_is_written_while_it_is_copied(rt: HostRuntime) -> Result<(), Fail> {
-    let r0 = own(&rt, 0);
-    let r1 = own(&rt, 1);
+    let r0 = own(0);
+    let r1 = own(1);
     let mut heap = raw_eight(&rt, rt.alloc(), r0, r1)?;
     let collection = Collection::begin(rt.alloc(), &heap)?;
     let rows = [
         Row::Roots(StepReply::Copied),
-        Row::Command(0, num(&rt, r1, 10), Reply::Done),
+        Row::Command(0, num(r1, 10), Reply::Done),
         Row::Command(0, put(r0, 1, r1), Reply::Done),
         Row::Scan(StepReply::Passed),
         Row::Scan(StepReply::Clean),
@@ -129,19 +129,16 @@ fn raw_object_is_written_while_it_is_copied(rt: HostRuntime) -> Result<(), Fail>
     ];
     let (_, _, root) = play_and_flip(&rt, rt.alloc(), collection, &mut heap, &rows)?;
     assert_eq!(rt; root, Some(2));
-    let read = [
-        (get(r1, r0, 0), saw(&rt, 8)),
-        (get(r1, r0, 1), saw(&rt, 10)),
-    ];
+    let read = [(get(r1, r0, 0), saw(8)), (get(r1, r0, 1), saw(10))];
     play_idle(&rt, &mut heap, &read);
     Ok(())
 }
 
 #[test]
 fn refused_write_to_a_raw_object_is_not_logged(rt: HostRuntime) -> Result<(), Fail> {
-    let r0 = own(&rt, 0);
-    let r1 = own(&rt, 1);
-    let r2 = own(&rt, 2);
+    let r0 = own(0);
+    let r1 = own(1);
+    let r2 = own(2);
     let mut heap = raw_eight(&rt, rt.alloc(), r0, r1)?;
     let mut collection = Collection::begin(rt.alloc(), &heap)?;
     let rows = [
@@ -155,8 +152,8 @@ fn refused_write_to_a_raw_object_is_not_logged(rt: HostRuntime) -> Result<(), Fa
 #[test]
 fn log_across_two_mutators(rt: HostRuntime) -> Result<(), Fail> {
     let g0 = Slot::shared(0).expect(&rt, "a slot");
-    let r0 = own(&rt, 0);
-    let r1 = own(&rt, 1);
+    let r0 = own(0);
+    let r1 = own(1);
     let mut heap = empty(rt.alloc(), 32, 2)?;
     play_idle(&rt, &mut heap, &[(new(g0, 1, 1), Reply::Made)]);
     let collection = Collection::begin(rt.alloc(), &heap)?;
@@ -164,10 +161,10 @@ fn log_across_two_mutators(rt: HostRuntime) -> Result<(), Fail> {
         Row::Roots(StepReply::Copied),
         Row::Scan(StepReply::Scanned),
         Row::Scan(StepReply::Passed),
-        Row::Command(0, num(&rt, r0, 7), Reply::Done),
+        Row::Command(0, num(r0, 7), Reply::Done),
         Row::Command(0, put(g0, 0, r0), Reply::Done),
         Row::Command(1, Op::Look { s: r0 }, Reply::Saw(View::Nil)),
-        Row::Command(1, num(&rt, r0, 8), Reply::Done),
+        Row::Command(1, num(r0, 8), Reply::Done),
         Row::Command(1, put(g0, 0, r0), Reply::Done),
         Row::NextLog(Some(0)),
         // The later write is applied first, and applying the earlier one does not undo it.
@@ -178,13 +175,13 @@ fn log_across_two_mutators(rt: HostRuntime) -> Result<(), Fail> {
     ];
     let (pairs, _, _) = play_and_flip(&rt, rt.alloc(), collection, &mut heap, &rows)?;
     assert_eq!(rt; pairs, 1);
-    play_idle(&rt, &mut heap, &[(get(r1, g0, 0), saw(&rt, 8))]);
+    play_idle(&rt, &mut heap, &[(get(r1, g0, 0), saw(8))]);
     Ok(())
 }
 
 #[test]
 fn link_left_over(rt: HostRuntime) -> Result<(), Fail> {
-    let r0 = own(&rt, 0);
+    let r0 = own(0);
     let mut heap = empty(rt.alloc(), 16, 1)?;
     play_idle(&rt, &mut heap, &[(new(r0, 2, 1), Reply::Made)]);
     let copied_and_logged = [
@@ -210,8 +207,8 @@ fn link_left_over(rt: HostRuntime) -> Result<(), Fail> {
 
 #[test]
 fn entry_stays_without_room(rt: HostRuntime) -> Result<(), Fail> {
-    let r0 = own(&rt, 0);
-    let r1 = own(&rt, 1);
+    let r0 = own(0);
+    let r1 = own(1);
     let mut heap = empty(rt.alloc(), 16, 1)?;
     play_idle(&rt, &mut heap, &[(new(r0, 1, 1), Reply::Made)]);
     let collection = Collection::begin_sized(rt.alloc(), &heap, 5)?;
@@ -238,7 +235,7 @@ fn entry_stays_without_room(rt: HostRuntime) -> Result<(), Fail> {
 
 #[test]
 fn too_small_for_a_replica(rt: HostRuntime) -> Result<(), Fail> {
-    let r0 = own(&rt, 0);
+    let r0 = own(0);
     let mut heap = empty(rt.alloc(), 7, 1)?;
     play_idle(&rt, &mut heap, &[(new(r0, 3, 4), Reply::Made)]);
     let full = [Row::Roots(StepReply::NoRoom), Row::Ready(false)];

@@ -1,12 +1,12 @@
 ghost use Rattle.std.specs.Prelude.{◌≤◌};
 ghost use Rattle.gc_heap.specs.ExtraRoots.{CanOpen, most_extra_roots};
 
-use crate::tests::commands::own;
 use gc_check::Sequential;
 use gc_copy::StepReply;
 use gc_core::{CollectedHeap, Keep};
 use gc_graph::{Reply, Slot, View};
 use gc_heap::{Heap, HeapOptions};
+use gc_test_kit::commands::own;
 use std::process::Abort;
 use std::test::Fail;
 
@@ -59,8 +59,8 @@ fn object(kind: u8) -> Reply {
 #[test]
 fn extra_roots_survive_a_flip(rt: HostRuntime) -> Result<(), Fail> {
     let _named = View::Nil;
-    let r0 = own(&rt, 0);
-    let r1 = own(&rt, 1);
+    let r0 = own(0);
+    let r1 = own(1);
     let mut heap = CollectedHeap::open_with(rt.alloc(), &with_extra_roots(3))?;
     assert_eq!(rt; heap.extra_roots(), 3);
     make(&rt, &mut heap, 0, r0, 7);
@@ -90,7 +90,7 @@ fn extra_roots_survive_a_flip(rt: HostRuntime) -> Result<(), Fail> {
 
 #[test]
 fn extra_roots_of_a_heap(rt: HostRuntime) -> Result<(), Fail> {
-    let r0 = own(&rt, 0);
+    let r0 = own(0);
     let mut heap = Heap::open_with(rt.alloc(), &with_extra_roots(2))?;
     assert_eq!(rt; heap.extra_roots(), 2);
     assert_eq!(rt; heap.roots().len(), 50);

@@ -2,9 +2,9 @@ ghost use Rattle.std.specs.Prelude.{◌≡◌, ◌≤◌, ◌<◌, IfOk};
 ghost use Rattle.gc_graph.specs.Limits.{most_words};
 ghost use Rattle.gc_graph.specs.Machine.{HasMutator};
 
-use crate::tests::commands::new;
 use gc_graph::{NoMemory, Number, Op, Plain, Reply, Slot, View};
 use gc_heap::Heap;
+use gc_test_kit::commands::new;
 use gc_words::{NewAddr, OldAddr, Space};
 use std::alloc::Global;
 use std::process::Abort;

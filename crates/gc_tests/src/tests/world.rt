@@ -1,9 +1,9 @@
 mod entries;
 mod rows;
 
-use crate::tests::commands::new;
 use gc_copy::{Step, StepReply};
 use gc_graph::{Number, Op, Reply, Slot, View};
+use gc_test_kit::commands::new;
 use gc_words::{NewAddr, OldAddr, Pair};
 use gc_world::World;
 use rows::{Row, play};

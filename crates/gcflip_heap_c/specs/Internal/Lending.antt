@@ -3,7 +3,7 @@ use Rattle.std.specs.Prelude.{Some}
 use Rattle.std.specs.Borrow.{Lends, MutBor, Fml}
 use Rattle.gcflip_heap_c.specs.declared.handle.GcflipHeap.{GcflipHeap}
 use Rattle.gcflip_heap_c.specs.contracts.handle.GcflipHeap.{the_row}
-use Rattle.gc_core.specs.contracts.collected_heap.CollectedHeap as Heap
+use Rattle.gc_live.specs.contracts.live_heap.LiveHeap as Heap
 
 -- the handle after its heap became this one
 abbrev pub with_heap : GcflipHeap → Heap.the_row.Denot → GcflipHeap

@@ -6,7 +6,7 @@ import { byId, fill, make, save } from "./elements.js";
 import { showCertificate, showLogs, showRoots } from "./lists.js";
 import { meaning, plural } from "./meanings.js";
 import { render } from "./picture.js";
-import { ask, say } from "./server.js";
+import { LastText, say } from "./server.js";
 
 // The first event is in this line.
 const FIRST = 3;
@@ -26,6 +26,7 @@ export class Collector {
     this.position = 0;
     this.turn = Promise.resolve();
     this.past = [];
+    this.last = new LastText();
     this.name = "";
     this.editor = new Editor(byId("trace-editor"), "The trace, one event a line", (text) => this.edit(text), (line) => this.goTo(line - FIRST + 1));
     this.buttons = new CommandButtons((line) => {
@@ -117,8 +118,7 @@ export class Collector {
   // Shows a text at a position. A name is that of an example, or empty.
   shown({ text, name, position }) {
     this.named(name);
-    this.text = text;
-    this.replies = [];
+    this.take(text);
     this.position = 0;
     this.editor.show(text);
     return this.asked(position, {});
@@ -160,16 +160,21 @@ export class Collector {
     this.stop();
     return this.then(() => {
       this.remember();
-      const lines = this.text.split("\n");
-      const others = text.split("\n");
-      const same = others.findIndex((line, at) => line !== lines[at]);
-      const kept = Math.max(0, (same < 0 ? others.length : same + 1) - FIRST);
       this.named("");
-      this.text = text;
-      this.position = Math.min(this.position, kept);
-      this.replies.length = Math.min(this.replies.length, this.position);
+      this.position = Math.min(this.position, this.take(text));
       return this.asked(this.position, {});
     });
+  }
+
+  // Takes another text in place of this one. Returns how many of the first events are the same; their replies stay known.
+  take(text) {
+    const lines = this.text.split("\n");
+    const others = text.split("\n");
+    const same = others.findIndex((line, at) => line !== lines[at]);
+    const kept = Math.max(0, (same < 0 ? others.length : same + 1) - FIRST);
+    this.text = text;
+    this.replies.length = Math.min(this.replies.length, kept);
+    return kept;
   }
 
   // ---- playing
@@ -219,7 +224,8 @@ export class Collector {
         say(`There is no such mutator in this trace: ${line}`);
       } else {
         this.remember();
-        this.text = answer.text;
+        this.text = this.last.sent = answer.text;
+        this.replies.length = Math.min(this.replies.length, this.position);
         this.editor.show(answer.text);
         this.named("");
         this.show(answer);
@@ -239,7 +245,7 @@ export class Collector {
   answered(name, position, more) {
     say("");
     const known = Math.min(this.replies.length, position);
-    return ask(name, { text: this.text, position, known, width: this.width(), ...more });
+    return this.last.ask(name, this.text, { position, known, width: this.width(), ...more });
   }
 
   width() {
@@ -282,15 +288,15 @@ export class Collector {
   // ---- what is shown
 
   show(answer) {
-    this.replies.length = answer.known;
-    for (const reply of answer.replies) {
-      this.replies.push(reply);
+    // Replies to later events stay known, until the trace changes before them.
+    for (const [at, reply] of answer.replies.entries()) {
+      this.replies[answer.known + at] = reply;
     }
     this.position = answer.position;
-    this.replies.length = this.position;
     this.total = answer.total;
     this.drawnWidth = this.width();
-    this.editor.note((line) => this.replies[line - FIRST], this.position > 0 ? this.position + FIRST - 1 : null, null);
+    const played = (line) => (line - FIRST < this.position ? this.replies[line - FIRST] : undefined);
+    this.editor.note(played, this.position > 0 ? this.position + FIRST - 1 : null, null);
     byId("trace-fault").textContent = "";
     byId("trace-fault").hidden = true;
     this.showEvent(answer);
@@ -307,13 +313,21 @@ export class Collector {
     this.onShow();
   }
 
+  // Returns a line of the trace, whose lines are counted from 1.
+  line(number) {
+    if (this.split?.text !== this.text) {
+      this.split = { text: this.text, lines: this.text.split("\n") };
+    }
+    return this.split.lines[number - 1];
+  }
+
   showEvent({ collection, position, total }) {
     const event = byId("event");
     if (position === 0) {
       event.replaceChildren(make("strong", {}, `Before the first of ${plural(total, "event")}.`), " All slots hold nil, and the space is empty.");
       return;
     }
-    const line = this.text.split("\n")[position + FIRST - 2];
+    const line = this.line(position + FIRST - 1);
     const reply = this.replies[position - 1];
     event.replaceChildren(
       make("span", { className: "place" }, `Event ${position} of ${total}`), " ", make("code", {}, line), " \u2192 ",
@@ -348,7 +362,7 @@ export class Collector {
 
   certificate() {
     return this.then(async () => {
-      const { text } = await ask("pair", { text: this.text, position: this.position });
+      const { text } = await this.last.ask("pair", this.text, { position: this.position });
       this.onPair(text);
     });
   }

@@ -39,6 +39,6 @@ export function showRoots({ roots }) {
   const lists = roots.map(({ owner, slots }) => make("div", { className: "owner" },
     make("h3", {}, owner === "all mutators" ? "Shared by all mutators" : `M${owner.slice(1)}`),
     slots.length === 0 ? make("p", {}, "all nil") : make("dl", {}, ...slots.flatMap(({ name, value, changed }) => [
-      make("dt", {}, name), make("dd", { className: changed ? "just" : "" }, value.replace("\u2192", "the object at "))]))));
+      make("dt", {}, name), make("dd", { className: changed ? "just" : "" }, value.replace("\u2192", "the object at\u00a0"))]))));
   byId("roots-body").replaceChildren(...lists);
 }

@@ -63,7 +63,7 @@ function listenToFiles(tabs) {
     onFiles(byId(input), byId(area), async (file) => {
       try {
         const text = await textOf(file);
-        const shown = text.startsWith("heaptrace ") ? "collector" : text.startsWith("heappair ") ? "checker" : tab;
+        const shown = text.startsWith("heaptrace ") ? "collector" : /^heap(pair|images) /.test(text) ? "checker" : tab;
         show(shown);
         tabs[shown].open(text);
       } catch (error) {

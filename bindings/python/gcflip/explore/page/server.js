@@ -23,6 +23,20 @@ export async function ask(name, data) {
   return answer;
 }
 
+// Asks about a text. The server keeps the last one of each tab of the page, so that a long text is sent once.
+export class LastText {
+  async ask(name, text, data) {
+    const known = this.sent === text ? await ask(name, data) : { unknown: true };
+    if (!known.unknown) {
+      return known;
+    }
+    this.sent = undefined;
+    const answer = await ask(name, { ...data, text });
+    this.sent = answer.fault ? undefined : text;
+    return answer;
+  }
+}
+
 // Shows a message above the page, or hides the last one.
 export function say(text) {
   const message = document.getElementById("message");

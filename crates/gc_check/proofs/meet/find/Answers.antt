@@ -5,18 +5,23 @@ use Rattle.gc_check.specs.Internal.Meetings.{met_all, MetTo}
 use Rattle.gc_check.specs.Verdict.{pairs_of}
 use Rattle.gc_check.specs.declared.meet.Found.{Found}
 use Rattle.gc_check.proofs.Meetings.{held_none}
+use Rattle.gc_check.proofs.Alike.{alike_roots}
 use Rattle.gc_check.proofs.Forced.{roots_met}
 use Rattle.gc_check.proofs.meet.find.Goals as goal
 
-pub meet_all-requires-clause-held : goal.meet_all-requires-clause-held
-meet_all-requires-clause-held c =
+pub meet_all-roots-requires-clause-held : goal.meet_all-roots-requires-clause-held
+meet_all-roots-requires-clause-held c =
     let empty : Found = record { partners = c.in_ok-partners.partners; originals = c.in_ok-originals.originals; pairs = c.in_ok-pairs.pairs } in
     let partners : c.in_ok-partners.partners.items ≡ replicate (length c.args.old.now.words) 0 = search rules in
     let originals : c.in_ok-originals.originals.items ≡ replicate (length c.args.new.now.words) 0 = search rules in
     let capacity : vec_capacity c.in_ok-pairs.pairs ≡ starts_from c.args.old.now.words 0 (length c.args.old.now.words) = search rules in
     held_none c.args.old.now c.args.new.now empty c.requires.old_walked c.requires.new_walked partners originals c.in_ok-pairs.ensures.items capacity
 
-pub meet_reachable-requires-clause-met : goal.meet_reachable-requires-clause-met
-meet_reachable-requires-clause-met c =
-    let found : pairs_of c.meet_all.new.found.pairs.items ≡ met_all c.args.old.now c.args.new.now [] c.args.old.now.roots c.args.new.now.roots = search rules in
+pub meet_reachable-alike-requires-clause-met : goal.meet_reachable-alike-requires-clause-met
+meet_reachable-alike-requires-clause-met c =
+    let found : pairs_of c.meet_all-roots.new.found.pairs.items ≡ met_all c.args.old.now c.args.new.now [] c.args.old.now.roots c.args.new.now.roots = search rules in
     subst (λ pairs. MetTo c.args.old.now c.args.new.now pairs 0) (sym found) (roots_met c.args.old.now c.args.new.now)
+
+pub meet_reachable-alike-requires-clause-roots : goal.meet_reachable-alike-requires-clause-roots
+meet_reachable-alike-requires-clause-roots c = λ alike.
+    alike_roots c.args.old.now c.args.new.now (pairs_of c.meet_all-roots.new.found.pairs.items) (search rules)

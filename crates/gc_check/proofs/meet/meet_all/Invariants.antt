@@ -1,5 +1,5 @@
-use Rattle.std.proofs.Common.{◌≡◌, drop}
-use Rattle.gc_check.specs.Internal.Meetings.{met_all, HoldsFound}
+use Rattle.std.proofs.Common.{◌≡◌, drop, IsTrue}
+use Rattle.gc_check.specs.Internal.Meetings.{met_all, alike_all, HoldsFound}
 use Rattle.gc_check.specs.Verdict.{pairs_of}
 use Rattle.gc_check.proofs.meet.meet_all.Given as goal
 
@@ -8,4 +8,5 @@ abbrev pub invariant-loop-i : goal.invariant-loop-i
 invariant-loop-i l = record {
   held : HoldsFound l.old l.new l.found;
   same : met_all l.old l.new (pairs_of l.initial.found.pairs.items) l.originals l.replicas ≡ met_all l.old l.new (pairs_of l.found.pairs.items) (drop l.i l.originals) (drop l.i l.replicas);
+  alike : IsTrue l.alike → alike_all l.old l.new (pairs_of l.initial.found.pairs.items) l.originals l.replicas ≡ alike_all l.old l.new (pairs_of l.found.pairs.items) (drop l.i l.originals) (drop l.i l.replicas);
 }

@@ -1,12 +1,14 @@
-use Rattle.std.proofs.Common.{rules, ◌≡◌, ◌<◌, length, IsTrue, sym, ◌∙◌, ap, subst, ℕ, ◌+◌, ◌≤◌, arith}
+use Rattle.std.proofs.Common.{rules, ◌≡◌, ◌<◌, length, true, IsTrue, sym, ◌∙◌, ap, subst, ℕ, ◌+◌, ◌≤◌, arith}
 use Rattle.std.proofs.lemmas.List.{length-map}
-use Rattle.gc_words.specs.Image.{is_start}
+use Rattle.gc_words.specs.Certificate.{BlocksCorrespond}
+use Rattle.gc_words.specs.Image.{is_start, block_at}
 use Rattle.gc_words.specs.Views.{addresses}
 use Rattle.gc_check.specs.Tables.{pair_at}
-use Rattle.gc_check.specs.Internal.Meetings.{met_objects, MetTo}
+use Rattle.gc_check.specs.Internal.Meetings.{met_objects, MetTo, AlikeTo}
 use Rattle.gc_check.specs.Verdict.{pairs_of}
 use Rattle.gc_check.proofs.Meetings.{pair_is, few_found}
 use Rattle.gc_check.proofs.Forced.{objects_met, all_done}
+use Rattle.gc_check.proofs.Alike.{objects_alike, all_alike}
 use Rattle.gc_check.proofs.meet.meet_reachable.Goals as goal
 
 pub meet_objects-requires-clause-old_start : goal.meet_objects-requires-clause-old_start
@@ -33,6 +35,14 @@ loop-done-preserved c =
       held = c.meet_objects.ensures.held;
       met = subst (λ pairs. MetTo c.args.old.now c.args.new.now pairs (c.loop-done.done + 1)) (sym (now ∙ ap (met_objects c.args.old.now c.args.new.now (pairs_of c.loop-done.found.pairs.items)) (sym is)))
           (objects_met c.args.old.now c.args.new.now (pairs_of c.loop-done.found.pairs.items) c.loop-done.done within c.loop-done.invariant.met);
+      alike = λ still.
+          let parts : (c.meet_objects.result ≡ true) × (c.loop-done.alike ≡ true) = search rules in
+          let pairs : pairs_of c.meet_objects.new.found.pairs.items ≡ met_objects c.args.old.now c.args.new.now (pairs_of c.loop-done.found.pairs.items) (pair_at (pairs_of c.loop-done.found.pairs.items) c.loop-done.done)
+          = now ∙ ap (met_objects c.args.old.now c.args.new.now (pairs_of c.loop-done.found.pairs.items)) (sym is) in
+          subst (λ pairs. AlikeTo c.args.old.now c.args.new.now pairs (c.loop-done.done + 1)) (sym pairs)
+          (objects_alike c.args.old.now c.args.new.now (pairs_of c.loop-done.found.pairs.items) c.loop-done.done within (c.loop-done.invariant.alike parts.1)
+          (subst (λ (p : ℕ × ℕ). BlocksCorrespond (met_objects c.args.old.now c.args.new.now (pairs_of c.loop-done.found.pairs.items) (pair_at (pairs_of c.loop-done.found.pairs.items) c.loop-done.done)) (block_at c.args.old.now.words p.0) (block_at c.args.new.now.words p.1)) (sym is)
+          (subst (λ pairs. BlocksCorrespond pairs (block_at c.args.old.now.words (addresses c.index-pair.result.now).0) (block_at c.args.new.now.words (addresses c.index-pair.result.now).1)) pairs (c.meet_objects.ensures.alike parts.0))));
     }
 
 pub returns-clause-met : goal.returns-clause-met
@@ -41,3 +51,16 @@ returns-clause-met c =
     let few : length pairs ≤ length c.args.old.now.words = few_found c.args.old.now c.args.new.now c.loop-done.found c.loop-done.invariant.held in
     let past : length c.args.old.now.words ≤ c.loop-done.done = search rules in
     all_done c.args.old.now c.args.new.now (pairs_of pairs) c.loop-done.done (length pairs) (omega (arith, few, past, length-map pairs addresses)) c.loop-done.invariant.met
+
+pub returns-clause-alike : goal.returns-clause-alike
+returns-clause-alike c = λ alike.
+    let pairs = c.loop-done.found.pairs.items in
+    let few : length pairs ≤ length c.args.old.now.words = few_found c.args.old.now c.args.new.now c.loop-done.found c.loop-done.invariant.held in
+    let past : length c.args.old.now.words ≤ c.loop-done.done = search rules in
+    all_alike c.args.old.now c.args.new.now (pairs_of pairs) c.loop-done.done (length pairs) (omega (arith, few, past, length-map pairs addresses)) (c.loop-done.invariant.alike alike)
+
+pub returns-then-done-len-clause-alike : goal.returns-then-done-len-clause-alike
+returns-then-done-len-clause-alike c = λ alike.
+    let pairs = c.loop-done.found.pairs.items in
+    let past : length pairs ≤ c.loop-done.done = search rules in
+    all_alike c.args.old.now c.args.new.now (pairs_of pairs) c.loop-done.done (length pairs) (omega (arith, past, length-map pairs addresses)) (c.loop-done.invariant.alike alike)

@@ -1,4 +1,6 @@
 use Rattle.std.proofs.Common.{◌≡◌, ◌≤◌, ◌+◌, length, drop}
+use Rattle.gc_graph.specs.Slots.{place}
+use Rattle.gc_heap.specs.Filling.{TakesFields}
 use Rattle.gc_copy.specs.Words.{open_state, BelongsTo, spare_of}
 use Rattle.gc_core.specs.CollectedHeap.{fill_step}
 use Rattle.gc_core.proofs.fields.fill_and_log.Given as goal
@@ -10,4 +12,5 @@ invariant-loop-i g l = record {
   belongs : BelongsTo l.heap l.collection;
   room : length (g.R.SlotRow.slots l.fields) ≤ spare_of l.collection l.m + l.i;
   mutators : l.heap.mutators ≡ l.fn.heap.mutators;
+  takes : TakesFields l.heap (place l.d l.m) l.object.0 (length (g.R.SlotRow.slots l.fields));
 }

@@ -10,7 +10,7 @@ use Rattle.gc_words.specs.Views.{graph_value}
 use Rattle.gc_words.proofs.Writes.{some_of}
 use Rattle.gc_heap.specs.Commands.{fetched_of}
 use Rattle.gc_heap.specs.declared.taken.Fetched.TheVariants.{Object}
-use Rattle.gc_heap.proofs.Views.{shown, meaning}
+use Rattle.gc_heap.proofs.Views.{shown}
 use Rattle.gc_heap.proofs.reading.fetched.Goals as goal
 
 raw_or_not : (raw : Bool) (kind len : ℕ) → fetched_of (Saw (cond raw (RawObj kind len) (Obj kind len))) ≡ Object
@@ -21,7 +21,7 @@ pub returns-in-Ref : goal.returns-in-Ref
 returns-in-Ref c =
     let words = c.args.space.now.words in
     let a : ℕ = c.in-Ref.field-0.0 in
-    let value : value_of c.args.word ≡ Ref a = meaning c.args.word (graph_value c.in-Some.value) (sym c.in-Some.ensures.value) ∙ ap graph_value c.in-Ref.is in
+    let value : value_of c.args.word ≡ Ref a = sym c.value_in.ensures.value ∙ ap graph_value c.in-Ref.is in
     let b : (b : Block) × (block_at words a ≡ Some b) = some_of (block_at words a) (subst (RefersToStart words) value c.requires.word.start) in
     sym (ap (λ v. fetched_of (Saw (view_of (objects_of words) v))) value
     ∙ ap (λ view. fetched_of (Saw view)) (shown c.args.space.now a b.0.header c.requires.shaped (ap header_of b.1))

@@ -2,24 +2,24 @@ use Rattle.std.proofs.Common.{◌≡◌, ℕ, cond, Some, ap, ◌∙◌, sym}
 use Rattle.gc_graph.specs.Graph.{Value, Ref}
 use Rattle.gc_graph.specs.Machine.{view_of}
 use Rattle.gc_graph.specs.declared.reply.View.TheVariants.{Obj, RawObj}
-use Rattle.gc_words.specs.Word.{read_value, value_of}
+use Rattle.gc_words.specs.Word.{value_of}
 use Rattle.gc_words.specs.Image.{header_at, objects_of}
 use Rattle.gc_words.specs.Space.{SpaceWords, IsSpace}
 use Rattle.gc_words.specs.declared.header.Header.{Header}
 use Rattle.gc_words.specs.Views.{graph_value}
-use Rattle.gc_heap.proofs.Views.{shown, meaning}
+use Rattle.gc_heap.proofs.Views.{shown}
 use Rattle.gc_heap.proofs.reading.view.Goals as goal
 
 -- an object is seen by its header
-seen : (s : SpaceWords) (w a : ℕ) (v : Value) (h : Header) → IsSpace s → Some v ≡ read_value w → v ≡ Ref a → header_at s.words a ≡ Some h → cond h.raw (RawObj h.kind h.len) (Obj h.kind h.len) ≡ view_of (objects_of s.words) (value_of w)
-seen s w a v h space read is header = sym (ap (view_of (objects_of s.words)) (meaning w v (sym read) ∙ is) ∙ shown s a h space header)
+seen : (s : SpaceWords) (w a : ℕ) (v : Value) (h : Header) → IsSpace s → v ≡ value_of w → v ≡ Ref a → header_at s.words a ≡ Some h → cond h.raw (RawObj h.kind h.len) (Obj h.kind h.len) ≡ view_of (objects_of s.words) (value_of w)
+seen s w a v h space read is header = sym (ap (view_of (objects_of s.words)) (sym read ∙ is) ∙ shown s a h space header)
 
 pub returns-then-is_raw : goal.returns-then-is_raw
 returns-then-is_raw c =
     (λ i. cond ((sym c.if-is_raw.true ∙ c.is_raw.ensures) i) (RawObj (c.kind-kind.ensures i) (c.len-len.ensures i)) (Obj (c.kind-kind.ensures i) (c.len-len.ensures i)))
-    ∙ seen c.args.space.now c.args.word c.in-Ref.at.0 (graph_value c.in-Some.value) c.header-header.result c.requires.shaped c.in-Some.ensures.value (ap graph_value c.in-Ref.is) c.header-header.ensures
+    ∙ seen c.args.space.now c.args.word c.in-Ref.at.0 (graph_value c.value_in.result) c.header-header.result c.requires.shaped c.value_in.ensures.value (ap graph_value c.in-Ref.is) c.header-header.ensures
 
 pub returns-else-is_raw : goal.returns-else-is_raw
 returns-else-is_raw c =
     (λ i. cond ((sym c.if-is_raw.false ∙ c.is_raw.ensures) i) (RawObj (c.kind-kind.ensures i) (c.len-len.ensures i)) (Obj (c.kind-kind.ensures i) (c.len-len.ensures i)))
-    ∙ seen c.args.space.now c.args.word c.in-Ref.at.0 (graph_value c.in-Some.value) c.header-header.result c.requires.shaped c.in-Some.ensures.value (ap graph_value c.in-Ref.is) c.header-header.ensures
+    ∙ seen c.args.space.now c.args.word c.in-Ref.at.0 (graph_value c.value_in.result) c.header-header.result c.requires.shaped c.value_in.ensures.value (ap graph_value c.in-Ref.is) c.header-header.ensures

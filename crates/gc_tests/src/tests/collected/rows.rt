@@ -3,11 +3,11 @@
 ghost use Rattle.std.specs.Prelude.{◌≡◌, ◌<◌};
 ghost use Rattle.gc_copy.specs.Runs.{IsStep};
 
-use crate::tests::commands::is_possible;
 use gc_check::Sequential;
 use gc_copy::{Step, StepReply};
 use gc_core::{CollectedHeap, Keep};
 use gc_graph::{NoMemory, Op, Reply};
+use gc_test_kit::commands::is_possible;
 use std::fmt::Debug;
 use std::process::Abort;
 

@@ -4,9 +4,9 @@ ghost use Rattle.std.specs.Prelude.{◌≡◌, ◌<◌};
 ghost use Rattle.gc_graph.specs.Limits.{most_words};
 ghost use Rattle.gc_copy.specs.Runs.{IsStepWithin};
 
-use crate::tests::commands::is_possible;
 use gc_copy::{Step, StepReply};
 use gc_graph::{MOST_WORDS, NoMemory, Op, Reply};
+use gc_test_kit::commands::is_possible;
 use gc_world::World;
 use std::process::Abort;
 use std::thread::Threads;

@@ -1,5 +1,6 @@
 use Rattle.std.proofs.Common.{◌∙◌, ap}
 use Rattle.gcflip_heap_c.specs.Work.{with_size}
+use Rattle.gcflip_heap_c.proofs.Left.{leaves_reply}
 use Rattle.gcflip_heap_c.proofs.Useful.{sound_reply}
 use Rattle.gcflip_heap_c.proofs.work.one_step.Goals as goal
 
@@ -8,3 +9,11 @@ returns-clause-sound c =
     sound_reply c.args.size c.args.heap.now c.next_useful_step.new.self c.sized-step.result c.collect.result c.next_useful_step.ensures.same
     (c.sized-step.ensures.step ∙ ap (with_size c.args.size) c.next_useful_step.ensures.useful)
     c.collect.ensures.sound c.collect.ensures.never_refused c.collect.ensures.passes c.collect.ensures.room
+
+pub returns-clause-leaves : goal.returns-clause-leaves
+returns-clause-leaves c =
+    let sound = c.is_sound.ensures in
+    let laws = c.useful_steps_end.ensures in
+    leaves_reply c.args.size c.args.heap.now c.next_useful_step.new.self c.collect.new.self c.sized-step.result c.collect.result c.next_useful_step.ensures.same
+    (c.sized-step.ensures.step ∙ ap (with_size c.args.size) c.next_useful_step.ensures.useful)
+    (laws.lowers c.args.heap.now sound.heap sound.open) (laws.useful c.args.heap.now sound.heap sound.open) (laws.entries c.args.heap.now) c.collect.ensures.step

@@ -2,8 +2,7 @@ use Rattle.std.proofs.Common.{◌≡◌, ◌+◌, ◌<◌, ◌≤◌, ◌++◌, 
 use Rattle.std.specs.Prelude.{slice_index, vec_len, if◌then◌else◌}
 use Rattle.gc_words.specs.Layout.{link_place}
 use Rattle.gc_along.specs.Watch.{IsNext}
-use Rattle.gc_along.specs.Tables.{Tables}
-use Rattle.gc_along.specs.Internal.Tables.{IsKept}
+use Rattle.gc_along.specs.Tables.{Tables, IsKept}
 use Rattle.gc_along.specs.Events.{object_codes, IsClaim, IsCopy}
 use Rattle.gc_along.proofs.Kept.{kept_of, few_missing, kept_replica, replica_written, placed_at}
 use Rattle.gc_along.proofs.standing.Standing.placed.Goals as goal

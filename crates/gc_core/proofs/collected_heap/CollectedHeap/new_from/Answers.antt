@@ -1,4 +1,7 @@
-use Rattle.std.proofs.Common.{◌≡◌, ◌<◌, refl, sym, ap, ◌∙◌, subst, arith, None}
+use Rattle.std.proofs.Common.{◌≡◌, ◌<◌, length, refl, sym, ap, ◌∙◌, subst, arith, None}
+use Rattle.gc_graph.specs.Slots.{place}
+use Rattle.gc_words.specs.Space.{end_of}
+use Rattle.gc_heap.specs.Filling.{TakesFields}
 use Rattle.gc_copy.specs.State.{State}
 use Rattle.std.specs.Option.{option_map}
 use Rattle.gc_copy.specs.Words.{collection_in, state_of, open_state, idle_state}
@@ -45,7 +48,11 @@ fill_and_log-requires g c =
     let mutator = c.requires.mutator in
     let same = c.count-count.ensures in let from = c.from.ensures in
     let room = c.in_ok-reserve_more.ensures.room in
-    record { belongs = made.1; mutator = omega (arith, count, mutator); row = c.requires.row; room = omega (arith, same, from, room) }
+    let at : end_of c.self.inside.heap.space ≡ c.end.result = sym (c.end.ensures.value ∙ ap end_of c.space.ensures.value) in
+    let takes : TakesFields c.new_object-made-2.new.self (place c.args.d c.args.m) c.end.result (length (g.R.SlotRow.slots c.args.fields.now))
+    = subst (λ n. TakesFields c.new_object-made-2.new.self (place c.args.d c.args.m) c.end.result n) same
+    (subst (λ a. TakesFields c.new_object-made-2.new.self (place c.args.d c.args.m) a c.count-count.result) at (c.new_object-made-2.ensures.fields c.in_default-made-2.not-Full)) in
+    record { belongs = made.1; mutator = omega (arith, count, mutator); row = c.requires.row; takes = takes; room = omega (arith, same, from, room) }
 
 pub returns : goal.returns
 returns g c =

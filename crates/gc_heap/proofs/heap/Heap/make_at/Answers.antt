@@ -1,11 +1,13 @@
-use Rattle.std.proofs.Common.{◌≡◌, ◌*◌, ap, ◌∙◌, sym, subst, arith}
+use Rattle.std.proofs.Common.{◌≡◌, ◌*◌, ◌<◌, length, ap, ◌∙◌, sym, subst, arith}
 use Rattle.std.specs.Prelude.{slice_set}
 use Rattle.gc_graph.specs.Graph.{Ref}
 use Rattle.gc_words.specs.Word.{word_of}
 use Rattle.gc_words.specs.Space.{SpaceWords, CanPlace, end_of, with_object}
 use Rattle.gc_words.specs.declared.header.Header.{Header}
 use Rattle.gc_heap.specs.Heap.{HeapWords, IsHeap, KeepsLinks}
+use Rattle.gc_heap.specs.Filling.{TakesFields}
 use Rattle.gc_heap.proofs.Commands.{made_heap}
+use Rattle.gc_heap.proofs.Filling.{new_takes}
 use Rattle.gc_heap.proofs.Steps.{MakesAtEnd, made, with_new}
 use Rattle.gc_graph.specs.declared.reply.Reply.TheVariants.{Made}
 use Rattle.gc_heap.proofs.Links.{links_placed}
@@ -58,3 +60,17 @@ returns-clause-step c =
     let is : with_new h c.args.place header ≡ after = λ i. record { space = sym space i; roots = slice_set h.roots c.args.place (sym word i); mutators = h.mutators } in
     subst (λ h. MakesAtEnd h c.args.place c.args.raw c.args.kind c.args.len Made after) c.self.view_is
     (subst (MakesAtEnd h c.args.place c.args.raw c.args.kind c.args.len Made) is (made h c.args.place c.args.raw c.args.kind c.args.len c.self.invariant can))
+
+pub returns-clause-fields : goal.returns-clause-fields
+returns-clause-fields c = λ made plain.
+    let s : SpaceWords = c.self.inside.space in
+    let header : Header = record { raw = c.args.raw; kind = c.args.kind; len = c.args.len } in
+    let can : CanPlace s header = record { shaped = c.self.invariant.space; header = record { kind = omega arith; len = omega arith }; room = c.has_room.ensures.0 c.if-not-has_room.false } in
+    let space : c.place-at.new.self ≡ with_object s header = c.place-at.ensures.words ∙ ap (with_object s) c.header_of.ensures in
+    let word : c.encode.result ≡ word_of (Ref (end_of s)) = c.encode.ensures.word ∙ ap (λ n. 2 * n) c.place-at.ensures.at in
+    let h : HeapWords = record { space = s; roots = c.self.inside.roots.items; mutators = c.self.inside.mutators } in
+    let after : HeapWords = record { space = c.place-at.new.self; roots = slice_set h.roots c.args.place c.encode.result; mutators = h.mutators } in
+    let is : with_new h c.args.place header ≡ after = λ i. record { space = sym space i; roots = slice_set h.roots c.args.place (sym word i); mutators = h.mutators } in
+    let inside : c.args.place < length h.roots = subst (λ (h : HeapWords). c.args.place < length h.roots) (sym c.self.view_is) c.requires in
+    subst (λ (h : HeapWords). TakesFields after c.args.place (end_of h.space) c.args.len) c.self.view_is
+    (subst (λ after. TakesFields after c.args.place (end_of s) c.args.len) is (new_takes h c.args.place header c.self.invariant can inside plain))

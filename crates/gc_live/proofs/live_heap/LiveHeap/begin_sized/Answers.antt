@@ -1,6 +1,5 @@
-use Rattle.std.proofs.Common.{◌≡◌, Option, None, Bool, true, is_some, List, ℕ, sym, ap, subst, ◌∙◌, false}
+use Rattle.std.proofs.Common.{sym, ap, ◌∙◌}
 use Rattle.gc_words.specs.Image.{Image}
-use Rattle.gc_copy.specs.State.{Collection}
 use Rattle.gc_core.specs.Readings.{links_of}
 use Rattle.gc_live.proofs.Begun.{lives_begun_anew, none_open}
 use Rattle.gc_live.proofs.live_heap.LiveHeap.begin_sized.Goals as goal

@@ -1,4 +1,4 @@
-use Rattle.std.proofs.Common.{◌≡◌, ap, subst}
+use Rattle.std.proofs.Common.{subst}
 use Rattle.gc_words.specs.Image.{Image}
 use Rattle.gc_core.specs.Readings.{links_of}
 use Rattle.gc_along.specs.Events.{Made}

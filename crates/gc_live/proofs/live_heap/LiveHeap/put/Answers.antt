@@ -1,13 +1,12 @@
-use Rattle.std.proofs.Common.{◌≡◌, ◌∷◌, [], ℕ, List, Option, Some, None, is_some, true, false, map, refl, sym, ap, subst, ◌∙◌}
-use Rattle.std.specs.Option.{option_map}
+use Rattle.std.proofs.Common.{◌≡◌, ℕ, Option, is_some, true, false, map, refl, sym, ap, ◌∙◌}
 use Rattle.gc_graph.specs.Graph.{Value, Ref, root, names_of}
 use Rattle.gc_graph.specs.Slots.{place}
 use Rattle.gc_graph.specs.Machine.{Roomy}
 use Rattle.gc_graph.specs.declared.reply.Reply.{Reply}
 use Rattle.gc_graph.specs.declared.reply.Reply.TheVariants as replies
 use Rattle.gc_graph.specs.declared.command.Op.TheVariants as ops
-use Rattle.gc_copy.specs.State.{State, Collection}
-use Rattle.gc_beside.proofs.LivesOn.{lives_written}
+use Rattle.gc_copy.specs.State.{Collection}
+use Rattle.gc_beside.proofs.LivesOn.{lives_put_quiet, lives_written}
 use Rattle.gc_live.proofs.live_heap.LiveHeap.put.Goals as goal
 
 pub invariant_of-self-in-Some : goal.invariant_of-self-in-Some
@@ -17,3 +16,7 @@ invariant_of-self-in-Some c =
     lives_written c.self.inside.inner c.put-2.new.self c.args.m (ops.Put c.args.s c.args.i c.args.t) replies.Done c.self.inside.watch c.written.new.self c.is_sound.ensures.open (c.in_ok-reply.ensures.step ∙ ap (λ (r : Reply). (r, c.put-2.new.self)) c.in-Done.is) a c.args.i refl c.in-Some.ensures.low
     (ap (λ (v : Value). map (λ (name : ℕ). (name, c.args.i)) (names_of v)) root_is)
     (λ e. (let no : true ≡ false = sym c.if-not-is_open.false ∙ (c.is_open.ensures ∙ ap (λ (o : Option Collection). is_some o) e) in cc)) c.written.ensures.lost c.written.ensures.wrote c.self.invariant
+
+pub invariant_of-self-in_default : goal.invariant_of-self-in_default
+invariant_of-self-in_default c =
+    lives_put_quiet c.self.inside.inner c.put-2.new.self c.args.m (ops.Put c.args.s c.args.i c.args.t) c.in_ok-reply.reply c.self.inside.watch c.is_sound.ensures.open c.in_ok-reply.ensures.step refl c.in_default.not-Done c.self.invariant

@@ -1,5 +1,5 @@
-use Rattle.std.proofs.Common.{◌≡◌, ◌∷◌, [], ℕ, List, Option, Some, None, is_some, true, false, inr, map, refl, sym, ap, subst, ◌∙◌}
-use Rattle.gc_graph.specs.Graph.{Value, Ref, Graph, root, names_of, value_or_nil}
+use Rattle.std.proofs.Common.{◌≡◌, ℕ, List, Option, None, is_some, true, false, inr, map, refl, sym, ap, ◌∙◌}
+use Rattle.gc_graph.specs.Graph.{Value, Ref, root, names_of, value_or_nil}
 use Rattle.gc_graph.specs.Slots.{place}
 use Rattle.gc_graph.specs.Machine.{Roomy}
 use Rattle.gc_graph.specs.declared.reply.Reply.{Reply}

@@ -11,14 +11,14 @@ index-requires c =
     let r : HeaderRead c.args.self.now.words c.args.at.0 = header_seen _ _ c.args.at.0 c.self.view_is c.self.invariant.0 c.requires in
     omega (arith, c.self.inside.words.ok.0, ap (λ (s : SpaceWords). length s.words) c.self.view_is, r.within)
 
-pub unwrap-requires : goal.unwrap-requires
-unwrap-requires c =
+pub of_word-requires : goal.of_word-requires
+of_word-requires c =
     let r : HeaderRead c.args.self.now.words c.args.at.0 = header_seen _ _ c.args.at.0 c.self.view_is c.self.invariant.0 c.requires in
     let word : c.index.result.now ≡ slice_index c.args.self.now.words c.args.at.0 = word_seen _ _ c.args.at.0 _ c.self.view_is (omega (arith, r.within)) c.index.ensures in
-    subst IsSome (sym (c.read.ensures ∙ ap read_header word ∙ r.word)) refl
+    subst IsSome (sym (ap read_header word ∙ r.word)) refl
 
 pub returns : goal.returns
 returns c =
     let r : HeaderRead c.args.self.now.words c.args.at.0 = header_seen _ _ c.args.at.0 c.self.view_is c.self.invariant.0 c.requires in
     let word : c.index.result.now ≡ slice_index c.args.self.now.words c.args.at.0 = word_seen _ _ c.args.at.0 _ c.self.view_is (omega (arith, r.within)) c.index.ensures in
-    r.found ∙ sym r.word ∙ sym (c.read.ensures ∙ ap read_header word) ∙ c.unwrap.ensures
+    r.found ∙ sym r.word ∙ sym (ap read_header word) ∙ c.of_word.ensures

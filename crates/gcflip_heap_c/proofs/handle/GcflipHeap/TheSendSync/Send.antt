@@ -12,8 +12,8 @@ use Rattle.std.proofs.Crossing.{frees}
 use Rattle.std_alloc.proofs.SendSync.{quiet, lies}
 use Rattle.std.proofs.alloc.Global.TheSendSync as handle
 use Rattle.gcflip_heap_c.specs.Handle.{owns_heap}
-use Rattle.gc_core.specs.contracts.collected_heap.CollectedHeap as Row
-use Rattle.gc_core.proofs.collected_heap.CollectedHeap.TheSendSync.{the_send as heap_send}
+use Rattle.gc_live.specs.contracts.live_heap.LiveHeap as Row
+use Rattle.gc_live.proofs.live_heap.LiveHeap.TheSendSync.{the_send as heap_send}
 use Rattle.gcflip_heap_c.specs.contracts.handle.GcflipHeap.{the_row, the_type}
 
 keyless : (alloc : Global) (at : Ptr) (row : Option Row.the_row.Denot) → Keyless (owns_heap alloc at row)

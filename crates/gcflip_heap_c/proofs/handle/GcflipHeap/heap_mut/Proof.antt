@@ -27,7 +27,7 @@ use Rattle.std.proofs.raw_atomic.Walks.{proved}
 use Rattle.std_alloc.proofs.BoxSteps.Form.{D, X, B, R, τ, word, handle}
 use Rattle.std_alloc.proofs.BoxSteps.Steps.{box_out, box_in}
 use Rattle.gcflip_heap_c.proofs.HeapBox.{heap_box, there}
-use Rattle.gc_core.specs.contracts.collected_heap.CollectedHeap as Heap
+use Rattle.gc_live.specs.contracts.live_heap.LiveHeap as Heap
 use Rattle.gcflip_heap_c.specs.Internal.Lending.{with_heap}
 use Rattle.gcflip_heap_c.specs.contracts.handle.GcflipHeap.heap_mut as f
 use Rattle.gcflip_heap_c.specs.contracts.handle.GcflipHeap.{the_row as Handle}

@@ -1,0 +1,521 @@
+-- The tables tell the truth of the words, whatever happens.
+use Rattle.std.proofs.Common.{◌≡◌, ◌≢◌, ◌⊎◌, inl, inr, ⊎_elim, ℕ, zero, suc, ◌+◌, ◌-◌, ◌<◌, ◌≤◌, ◌==◌, Bool, true, false, not, cond, List, [], ◌∷◌, ◌++◌, length, map, set, get_or, take, drop, replicate, Option, Some, None, is_some, All, AllPairs, refl, sym, ◌∙◌, ap, subst, arith, length-append, length-set, length-take, set-set}
+use Rattle.std.specs.Prelude.{slice_get, slice_set, slice_index, IsSome}
+use Rattle.std.proofs.lemmas.Bool.{cases_eq, cases_lt, eq-eqb}
+use Rattle.std.proofs.lemmas.List.{take-append-le, drop-take, take-take, get_or-take, get_or-append-add, get_or-replicate, get_or_default, get_or-set_same, length-replicate, length-map}
+use Rattle.std.proofs.lemmas.List.Elements.{All-push}
+use Rattle.std.proofs.lemmas.List.Quantifiers.{all_pairs_push}
+use Rattle.std.proofs.lemmas.Option.{slice_get_within, slice_get-get_or}
+use Rattle.gc_words.specs.Word.{read_header, words_correspond, field_words_correspond}
+use Rattle.gc_words.specs.Image.{Image, Block, block_at, header_of, header_at, is_start, field_in, field_at}
+use Rattle.gc_words.specs.Walking.{StandsIn, block_from}
+use Rattle.gc_words.specs.Certificate.{Certified}
+use Rattle.gc_words.specs.Layout.{field_place, fields_place, link_place}
+use Rattle.gc_words.specs.declared.header.Header.{Header}
+use Rattle.gc_words.proofs.Starts.{stands_in}
+use Rattle.gc_words.proofs.Writes.{header_read, field_read, space_of, some_of}
+use Rattle.gc_along.specs.Watch.{Watch, IsSeen, IsNext, IsWatched, Watches, OldIsDue, NewIsDue, mark, is_due, pair_at, seen_at, looked, old_walked, opening}
+use Rattle.gc_along.specs.Watch.{placed as placed_watch}
+use Rattle.gc_along.specs.Origins.{pairs_in, pairs_from}
+use Rattle.gc_along.specs.Tables.{Tables, IsKept, CertifiedBy, watch_of, due_in, missing_in}
+use Rattle.gc_along.specs.Telling.{IsMark, MarksStarts, Tells}
+use Rattle.gc_along.specs.Events.{code_of, object_codes, with_news, with_due, old_added, replica_added, IsClaim, IsCopy, Made, Placed, IsFieldOf, Looked, IsReplicaAt, HasNoReplica, Wrote, Applied, Freed, opening_tables, flipped_tables}
+use Rattle.gc_along.proofs.Codes.{code_set}
+use Rattle.gc_along.proofs.Kept.{kept_due, kept_old, kept_replica, map_append, codes_length, code_is}
+use Rattle.gc_along.proofs.Origins.{placed as pairs_placed}
+use Rattle.gc_along.proofs.Looks.{watched_by, taken_for_due, compared, set_true}
+use Rattle.gc_along.proofs.Walked.{begun, old_goes_on, paired_next, seen_next, kept, came, grown, true_stays, fields_more, below_seen}
+use Rattle.gc_along.proofs.Written.{old_field, new_field, old_link, new_link}
+use Rattle.gc_along.proofs.Marks.{no_zero, no_code, none_yet, marks_more, marks_set, marks_taken, marks_written, marks_linked, marks_behind}
+
+-- ---- the pairs of a row of originals
+
+-- each pair is an original of the row
+pub pair_told : (at : ℕ) (xs : List ℕ) (k : ℕ) (d : ℕ × ℕ) → k < length (pairs_from at xs)
+    → (b : ℕ) × (1 ≤ (get_or (pairs_from at xs) k d).0) × ((get_or (pairs_from at xs) k d).1 ≡ at + b) × (get_or xs b 0 ≡ (get_or (pairs_from at xs) k d).0)
+pair_told at [] k d l = absurd (omega arith)
+pair_told at (zero ∷ xs) k d l =
+    let h = pair_told (suc at) xs k d l in
+    (suc h.0, h.1, (let e : (get_or (pairs_from (suc at) xs) k d).1 ≡ suc at + h.0 = h.2 in omega arith), h.3)
+pair_told at (suc c ∷ xs) zero d l = (0, omega arith, omega arith, refl)
+pair_told at (suc c ∷ xs) (suc k) d l =
+    let h = pair_told (suc at) xs k d (omega arith) in
+    (suc h.0, h.1, (let e : (get_or (pairs_from (suc at) xs) k d).1 ≡ suc at + h.0 = h.2 in omega arith), h.3)
+
+-- each original of the row is in a pair
+pub listed : (at : ℕ) (xs : List ℕ) (a b : ℕ) → 1 ≤ a → get_or xs b 0 ≡ a → (k : ℕ) × (k < length (pairs_from at xs)) × (get_or (pairs_from at xs) k (0, 0) ≡ (a, at + b))
+listed at [] a b low e = absurd (let z : 0 ≡ a = e in omega arith)
+listed at (zero ∷ xs) a zero low e = absurd (let z : 0 ≡ a = e in omega arith)
+listed at (zero ∷ xs) a (suc b) low e =
+    let h = listed (suc at) xs a b low e in
+    let there : suc at + b ≡ at + suc b = omega arith in
+    (h.0, h.1, h.2 ∙ ap (λ n. (a, n)) there)
+listed at (suc c ∷ xs) a zero low e = (0, omega arith, (let there : at ≡ at + 0 = omega arith in λ i. (e i, there i)))
+listed at (suc c ∷ xs) a (suc b) low e =
+    let h = listed (suc at) xs a b low e in
+    let there : suc at + b ≡ at + suc b = omega arith in
+    (suc h.0, (let l : h.0 < length (pairs_from (suc at) xs) = h.1 in omega arith), h.2 ∙ ap (λ n. (a, n)) there)
+
+module _ (t : Tables) (k : ℕ) (d : ℕ × ℕ) (l : k < length (pairs_in t.origins)) where
+  origin_of : (1 ≤ (get_or (pairs_in t.origins) k d).0) × (get_or t.origins (get_or (pairs_in t.origins) k d).1 0 ≡ (get_or (pairs_in t.origins) k d).0)
+  origin_of =
+      let h = pair_told 0 t.origins k d l in
+      let at : h.0 ≡ (get_or (pairs_in t.origins) k d).1 = (let e : (get_or (pairs_in t.origins) k d).1 ≡ 0 + h.0 = h.2 in omega arith) in
+      (h.1, ap (λ b. get_or t.origins b 0) (sym at) ∙ h.3)
+
+-- ---- a yes
+
+pub sound : (old new : Image) (t : Tables) → Tells old.words new.words t → CertifiedBy t old new → Certified old new (pairs_in t.origins)
+sound old new t tells said = said.1 tells.watches
+
+-- ---- nothing is seen of a new space
+
+none_kept : (t : Tables) (olds : List ℕ) → IsKept (record t { olds = olds; news = 0 ∷ []; origins = 0 ∷ []; missing = 0 })
+none_kept t olds = record {
+  counted = refl;
+  few = omega arith;
+  rows = refl;
+  taken = λ b low. absurd (none b low);
+}
+  where
+    none : (b : ℕ) → 1 ≤ get_or {A = ℕ} (0 ∷ []) b 0 → ⊥
+    none zero low = absurd (let l : 1 ≤ 0 = low in omega arith)
+    none (suc b) low = absurd (let l : 1 ≤ 0 = low in omega arith)
+
+emptied : (old : List ℕ) (t : Tables) (olds : List ℕ) → IsSeen (length olds) old → MarksStarts olds old → Tells old (0 ∷ []) (record t { olds = olds; news = 0 ∷ []; origins = 0 ∷ []; missing = 0 })
+emptied old t olds seen starts = record {
+  kept = none_kept t olds;
+  watches = begun old (length olds) seen;
+  old_starts = starts;
+  new_starts = none_yet (0 ∷ []);
+}
+
+seen_one : (old : List ℕ) → 1 ≤ length old → slice_index old 0 ≡ 0 → IsSeen 1 old
+seen_one [] low reserved = absurd (omega arith)
+seen_one (w ∷ ws) low reserved = record { within = omega arith; space = (space_of 4294967295 (w ∷ []) [] (omega arith) (omega arith) (omega arith) reserved refl).0 }
+
+pub opening_tells : (old : List ℕ) (room : ℕ) → 1 ≤ length old → slice_index old 0 ≡ 0 → Tells old (0 ∷ []) (opening_tables room)
+opening_tells old room low reserved = emptied old (opening_tables room) (0 ∷ []) (seen_one old low reserved) (none_yet old)
+
+pub flipped_tells : (old new : List ℕ) (t : Tables) → Tells old new t → Tells new (0 ∷ []) (flipped_tables t)
+flipped_tells old new t tells = emptied new t t.news tells.watches.new_seen tells.new_starts
+
+pub dropped_tells : (old new : List ℕ) (t after : Tables) → Tells old new t → Freed t after → Tells old (0 ∷ []) after
+dropped_tells old new t after tells freed =
+    subst (Tells old (0 ∷ [])) (sym freed.rest) (emptied old t after.olds (subst (λ n. IsSeen n old) (sym freed.count) tells.watches.old_seen) starts)
+  where
+    starts : MarksStarts after.olds old
+    starts a m = subst (λ n. is_start (take n old) a ≡ true) (sym freed.count) (⊎_elim
+        (λ e. tells.old_starts a (subst IsMark e m))
+        (λ e. tells.old_starts a (inr e.0))
+        (freed.codes a))
+
+-- ---- an old object more
+
+pub made_tells : (old new : List ℕ) (t after : Tables) → Tells old new t → Made old t after → Tells old new after
+made_tells old new t after tells made = ⊎_elim
+    (λ less. (let m = made.more less in subst (Tells old new) (sym m.2) (added m.0 m.1)))
+    (λ past. subst (Tells old new) (sym (made.at_end (omega arith))) tells)
+    (cases_lt (length t.olds) (length old))
+  where
+    added : (h : Header) → IsNext (length t.olds) old h → Tells old new (old_added t h)
+    added h next =
+        let longer : length t.olds + (h.len + 2) ≡ length (t.olds ++ object_codes h.len 0) = omega (arith, length-append t.olds (object_codes h.len 0), codes_length h.len 0) in
+        record {
+          kept = kept_old t h tells.kept;
+          watches = subst (λ n. Watches old new (record (watch_of t) { old_seen = n })) longer (old_goes_on old new (watch_of t) h tells.watches next);
+          old_starts = marks_more t.olds old h 0 no_zero tells.watches.old_seen next tells.old_starts;
+          new_starts = tells.new_starts;
+        }
+
+-- ---- a replica more
+
+-- the watch with a replica more, whose fields are due or not
+abbrev replicated : Watch → ℕ → Header → Bool → Watch
+replicated w a h due = record {
+  pairs = w.pairs ++ (a, w.new_seen) ∷ [];
+  old_seen = w.old_seen;
+  new_seen = w.new_seen + (h.len + 2);
+  due = w.due ++ false ∷ false ∷ replicate h.len due;
+}
+
+codes_due : (n : ℕ) (due : Bool) → due_in (replicate n (code_of due)) ≡ replicate n due
+codes_due zero due = refl
+codes_due (suc n) due = λ i. code_is due i ∷ codes_due n due i
+
+watch_added : (t : Tables) (h : Header) (a : ℕ) (due : Bool) → 1 ≤ a → length t.origins ≡ length t.news → watch_of (replica_added t h a due) ≡ replicated (watch_of t) a h due
+watch_added t h a due low rows =
+    let pairs : pairs_in (t.origins ++ a ∷ 0 ∷ replicate h.len 0) ≡ pairs_in t.origins ++ (a, length t.news) ∷ [] = pairs_placed t.origins a (suc h.len) low ∙ ap (λ n. pairs_in t.origins ++ (a, n) ∷ []) rows in
+    let olds : length (set t.olds a 2) ≡ length t.olds = length-set t.olds a 2 in
+    let news : length (t.news ++ object_codes h.len (code_of due)) ≡ length t.news + (h.len + 2) = omega (arith, length-append t.news (object_codes h.len (code_of due)), codes_length h.len (code_of due)) in
+    let dues : due_in (t.news ++ object_codes h.len (code_of due)) ≡ due_in t.news ++ false ∷ false ∷ replicate h.len due
+    = map_append t.news (object_codes h.len (code_of due)) ∙ ap (λ ds. due_in t.news ++ false ∷ false ∷ ds) (codes_due h.len due) in
+    λ i. record { pairs = pairs i; old_seen = olds i; new_seen = news i; due = dues i }
+
+-- an original that was copied whole
+module _ (old new : List ℕ) (w : Watch) (a : ℕ) (h : Header) (is : Watches old new w) (found : header_at (take w.old_seen old) a ≡ Some h) (once : All (λ p. p.0 ≢ a) w.pairs) (next : IsNext w.new_seen new h)
+    (raw : h.raw ≡ true) (same : (c : Block) → seen_at w.old_seen old a ≡ Some c → c.fields ≡ take h.len (drop (w.new_seen + 2) new)) where
+  the_copy : (o : Option Block) → seen_at w.old_seen old a ≡ o → header_of o ≡ Some h → IsWatched (replicated w a h false) w.new_seen o (Some (block_from new w.new_seen h))
+  the_copy None at e = absurd (let no : None ≡ Some h = e in cc)
+  the_copy (Some c) at e =
+      let header : c.header ≡ h = (let s : Some c.header ≡ Some h = e in cc) in (
+        header,
+        λ i v u k l.
+            let read : slice_get c.fields i ≡ Some u = ap (λ xs. slice_get xs i) (same c at) ∙ l in
+            let equal : v ≡ u = (let s : Some v ≡ Some u = sym k ∙ read in cc) in
+            inr (ap (λ (t : Bool). cond t (v == u) (words_correspond (replicated w a h false).pairs v u)) (ap (λ (h : Header). h.raw) header ∙ raw) ∙ eq-eqb v u equal),
+      )
+
+  pub copied_next : Watches old new (replicated w a h false)
+  copied_next = record {
+    old_seen = is.old_seen;
+    new_seen = seen_next w.new_seen new h is.new_seen next;
+    pairs = All-push (λ (p : ℕ × ℕ). IsWatched (replicated w a h false) p.1 (seen_at w.old_seen old p.0) (seen_at (w.new_seen + (h.len + 2)) new p.1)) w.pairs (a, w.new_seen)
+        (λ k d l. let p = get_or w.pairs k d in
+        grown (replicated w a h false) p.1 (seen_at w.old_seen old p.0) (seen_at w.new_seen new p.1) _ _ (λ c e. e) (λ c e. kept w.new_seen new h is.new_seen next p.1 c e)
+        (watched_by w (replicated w a h false) p.1 _ _ (λ c d e f i v u x y. ⊎_elim (λ t. inl (true_stays w.due _ (field_place p.1 i) t)) (λ t. inr (fields_more c.header w.pairs ((a, w.new_seen) ∷ []) v u t))) (is.pairs k d l)))
+        (subst (IsWatched (replicated w a h false) w.new_seen (seen_at w.old_seen old a)) (sym (came w.new_seen new h is.new_seen next)) (the_copy (seen_at w.old_seen old a) refl found));
+    row =
+        length-append w.due (false ∷ false ∷ replicate h.len false)
+        ∙ (let r : length w.due ≡ w.new_seen = is.row in let n : length (replicate h.len false) ≡ h.len = length-replicate h.len false in omega arith);
+    rising = all_pairs_push (λ p q. p.1 < q.1) w.pairs (a, w.new_seen) is.rising (λ k d l. below_seen old new w (get_or w.pairs k d) is _ _ refl (is.pairs k d l));
+    once = all_pairs_push (λ p q. p.0 ≢ q.0) w.pairs (a, w.new_seen) is.once once;
+  }
+
+module _ (old new : List ℕ) (t : Tables) (h : Header) (a : ℕ) (tells : Tells old new t) (claim : IsClaim old new t h a) where
+  start_at : is_start (take (length t.olds) old) a ≡ true
+  start_at = tells.old_starts a (inl claim.start)
+
+  the_block : (b : Block) × (seen_at (length t.olds) old a ≡ Some b)
+  the_block = some_of (seen_at (length t.olds) old a) start_at
+
+  stands_there : StandsIn (take (length t.olds) old) a the_block.0
+  stands_there = stands_in (take (length t.olds) old) a the_block.0 tells.watches.old_seen.space.walked the_block.1
+
+  fits : a + (the_block.0.header.len + 2) ≤ length t.olds
+  fits = let f : a + (the_block.0.header.len + 2) ≤ length (take (length t.olds) old) = stands_there.fits in omega (arith, length-take (length t.olds) old)
+
+  its_header : the_block.0.header ≡ h
+  its_header =
+      let word : get_or (take (length t.olds) old) a 0 ≡ slice_index new (length t.news) = get_or-take (length t.olds) old a 0 (omega (arith, fits)) ∙ claim.header in
+      let s : Some the_block.0.header ≡ Some h = sym stands_there.header ∙ ap read_header word ∙ claim.next.header in
+      cc
+
+  found_header : header_at (take (length t.olds) old) a ≡ Some h
+  found_header = ap header_of the_block.1 ∙ ap Some its_header
+
+  not_paired : All (λ p. p.0 ≢ a) (pairs_in t.origins)
+  not_paired k d l e =
+      let o = origin_of t k d l in
+      let two : get_or t.olds (get_or t.origins (get_or (pairs_in t.origins) k d).1 0) 0 ≡ 2 = tells.kept.taken (get_or (pairs_in t.origins) k d).1 (omega (arith, o.0, o.1)) in
+      let one : get_or t.olds (get_or t.origins (get_or (pairs_in t.origins) k d).1 0) 0 ≡ 1 = ap (λ x. get_or t.olds x 0) (o.1 ∙ e) ∙ claim.start in
+      absurd (omega (arith, two, one))
+
+  bound : length t.news + (h.len + 2) ≤ 4294967295
+  bound = claim.next.bound
+
+  its_kept : (due : Bool) → IsKept (replica_added t h a due)
+  its_kept due = kept_replica t h a due bound claim.start tells.kept
+
+  added_tells : (due : Bool) → Watches old new (replicated (watch_of t) a h due) → Tells old new (replica_added t h a due)
+  added_tells due watches = record {
+    kept = its_kept due;
+    watches = subst (Watches old new) (sym (watch_added t h a due claim.low tells.kept.rows)) watches;
+    old_starts = marks_taken t.olds old a 2 start_at tells.old_starts;
+    new_starts = marks_more t.news new h (code_of due) (no_code due) tells.watches.new_seen claim.next tells.new_starts;
+  }
+
+  pub due_tells : Tells old new (replica_added t h a true)
+  due_tells = added_tells true (paired_next old new (watch_of t) a h tells.watches found_header not_paired claim.next)
+
+  pub copy_tells : IsCopy old new h a (length t.news) → Tells old new (replica_added t h a false)
+  copy_tells copy = added_tells false (copied_next old new (watch_of t) a h tells.watches found_header not_paired claim.next copy.raw (λ c at.
+      let one : the_block.0 ≡ c = (let s : Some the_block.0 ≡ Some c = sym the_block.1 ∙ at in cc) in
+      let len : the_block.0.header.len ≡ h.len = ap (λ (h : Header). h.len) its_header in
+      let rest : a + 2 + (length t.olds - (a + 2)) ≡ length t.olds = omega (arith, fits) in
+      let front : drop (a + 2) (take (length t.olds) old) ≡ take (length t.olds - (a + 2)) (drop (a + 2) old) = ap (λ n. drop (a + 2) (take n old)) (sym rest) ∙ drop-take (a + 2) (length t.olds - (a + 2)) old in
+      let small : h.len ≤ length t.olds - (a + 2) = omega (arith, fits, len) in
+      ap (λ (b : Block). b.fields) (sym one)
+      ∙ stands_there.fields
+      ∙ (λ i. take (len i) (front i))
+      ∙ take-take h.len (length t.olds - (a + 2)) (drop (a + 2) old) small
+      ∙ copy.fields))
+
+pub placed_tells : (old new : List ℕ) (t after : Tables) → Tells old new t → Placed old new t after → Tells old new after
+placed_tells old new t after tells is = ⊎_elim
+    (λ less. (let m = is.more less in ⊎_elim
+    (λ e. subst (Tells old new) (sym e) (due_tells old new t m.0 m.1 tells m.2))
+    (λ e. subst (Tells old new) (sym e.1) (copy_tells old new t m.0 m.1 tells m.2 e.0))
+    m.3))
+    (λ past. subst (Tells old new) (sym (is.at_end (omega arith))) tells)
+    (cases_lt (length t.news) (length new))
+
+-- ---- a field due or not
+
+marked_at : (t : Tables) (place : ℕ) (due : Bool) → watch_of (with_due t place due) ≡ mark (watch_of t) place due
+marked_at t place due =
+    let row : due_in (set t.news place (code_of due)) ≡ set (due_in t.news) place due = code_set t.news place (code_of due) ∙ ap (set (due_in t.news) place) (code_is due) in
+    let seen : length (set t.news place (code_of due)) ≡ length t.news = length-set t.news place (code_of due) in
+    λ i. record { pairs = pairs_in t.origins; old_seen = length t.olds; new_seen = seen i; due = row i }
+
+-- the words are watched with this mark
+with_mark : (old new : List ℕ) (t : Tables) (place : ℕ) (due : Bool) → Tells old new t → Watches old new (mark (watch_of t) place due) → Tells old new (with_due t place due)
+with_mark old new t place due tells watches = record {
+  kept = kept_due t place due tells.kept;
+  watches = subst (Watches old new) (sym (marked_at t place due)) watches;
+  old_starts = tells.old_starts;
+  new_starts = marks_set t.news new place (code_of due) (no_code due) tells.new_starts;
+}
+
+due_told : (old new : List ℕ) (t : Tables) (place : ℕ) → Tells old new t → Tells old new (with_due t place true)
+due_told old new t place tells = with_mark old new t place true tells (taken_for_due old new (watch_of t) place tells.watches)
+
+-- ---- the field of a replica
+
+module _ (old new : List ℕ) (t : Tables) (a b : ℕ) (tells : Tells old new t) (low : 1 ≤ a) (origin : get_or t.origins b 0 ≡ a) where
+  place_of : (k : ℕ) × (k < length (pairs_in t.origins)) × (pair_at (watch_of t) k ≡ (a, b))
+  place_of =
+      let l = listed 0 t.origins a b low origin in
+      let zero_on : 0 + b ≡ b = omega arith in
+      (l.0, l.1, l.2 ∙ ap (λ n. (a, n)) zero_on)
+
+  both_there : IsWatched (watch_of t) b (seen_at (length t.olds) old a) (seen_at (length t.news) new b)
+  both_there = subst (λ (p : ℕ × ℕ). IsWatched (watch_of t) p.1 (seen_at (length t.olds) old p.0) (seen_at (length t.news) new p.1)) place_of.2 (tells.watches.pairs place_of.0 (0, 0) place_of.1)
+
+  pub record Blocks : Type 0 where
+    pub one : Block
+    pub other : Block
+    pub one_at : seen_at (length t.olds) old a ≡ Some one
+    pub other_at : seen_at (length t.news) new b ≡ Some other
+    pub headers : one.header ≡ other.header
+
+  its_blocks : Blocks
+  its_blocks = go (seen_at (length t.olds) old a) (seen_at (length t.news) new b) refl refl both_there
+    where
+      go : (o q : Option Block) → seen_at (length t.olds) old a ≡ o → seen_at (length t.news) new b ≡ q → IsWatched (watch_of t) b o q → Blocks
+      go (Some x) (Some y) e f h = record { one = x; other = y; one_at = e; other_at = f; headers = h.0 }
+      go (Some x) None e f h = absurd h
+      go None q e f h = absurd h
+
+-- a field of an object that was seen
+module _ (n : ℕ) (words : List ℕ) (a i : ℕ) (b : Block) (seen : IsSeen n words) (at : seen_at n words a ≡ Some b) where
+  stands_at : StandsIn (take n words) a b
+  stands_at = stands_in (take n words) a b seen.space.walked at
+
+  inside_of : a + (b.header.len + 2) ≤ n
+  inside_of = let f : a + (b.header.len + 2) ≤ length (take n words) = stands_at.fits in omega (arith, length-take n words)
+
+  pub header_word : read_header (slice_index words a) ≡ Some b.header
+  header_word = ap read_header (sym (get_or-take n words a 0 (omega (arith, inside_of)))) ∙ stands_at.header
+
+  module _ (small : i < b.header.len) where
+    pub has_field : IsSome (field_at (take n words) a i)
+    has_field =
+        let len : length b.fields ≡ b.header.len = stands_at.whole.fields in
+        ap (λ o. is_some (field_in o i)) at ∙ ap is_some (slice_get-get_or b.fields i 0 (omega (arith, len)))
+
+    pub field_word : field_at (take n words) a i ≡ Some (slice_index words (field_place a i))
+    field_word = (field_read (take n words) a i seen.space.walked has_field).word ∙ ap Some (get_or-take n words (field_place a i) 0 (omega (arith, inside_of)))
+
+-- the field of a replica, and that of its original
+module _ (old new : List ℕ) (t : Tables) (h : Header) (a b i : ℕ) (tells : Tells old new t) (is : IsFieldOf new t h a b i) where
+  its : Blocks old new t a b tells is.low is.origin
+  its = its_blocks old new t a b tells is.low is.origin
+
+  other_header : its.other.header ≡ h
+  other_header = let s : Some its.other.header ≡ Some h = sym (header_word (length t.news) new b i its.other tells.watches.new_seen its.other_at) ∙ is.header in cc
+
+  one_header : its.one.header ≡ h
+  one_header = its.headers ∙ other_header
+
+  looked_watches : Watches old new (mark (watch_of t) (field_place b i) (not (field_words_correspond h (pairs_in t.origins) (slice_index old (field_place a i)) (slice_index new (field_place b i)))))
+  looked_watches =
+      let at = place_of old new t a b tells is.low is.origin in
+      let v = slice_index old (field_place a i) in
+      let u = slice_index new (field_place b i) in
+      let small_one : i < its.one.header.len = subst (λ (g : Header). i < g.len) (sym one_header) is.has_field in
+      let small_other : i < its.other.header.len = subst (λ (g : Header). i < g.len) (sym other_header) is.has_field in
+      let he : header_at (take (length t.olds) old) a ≡ Some h = ap header_of its.one_at ∙ ap Some one_header in
+      let fv : field_at (take (length t.olds) old) a i ≡ Some v = field_word (length t.olds) old a i its.one tells.watches.old_seen its.one_at small_one in
+      let fu : field_at (take (length t.news) new) b i ≡ Some u = field_word (length t.news) new b i its.other tells.watches.new_seen its.other_at small_other in
+      subst (λ (p : ℕ × ℕ). Watches old new (looked (watch_of t) h p.1 i v u)) at.2
+      (compared old new (watch_of t) at.0 i v u h tells.watches at.1
+      (ap (λ (p : ℕ × ℕ). header_at (take (length t.olds) old) p.0) at.2 ∙ he)
+      (ap (λ (p : ℕ × ℕ). field_at (take (length t.olds) old) p.0 i) at.2 ∙ fv)
+      (ap (λ (p : ℕ × ℕ). field_at (take (length t.news) new) p.1 i) at.2 ∙ fu))
+
+pub looked_tells : (old new : List ℕ) (t after : Tables) (b i : ℕ) → Tells old new t → Looked old new b i t after → Tells old new after
+looked_tells old new t after b i tells is =
+    subst (Tells old new) (sym is.5)
+    (with_mark old new t (field_place b i) (not (field_words_correspond is.0 (pairs_in t.origins) (slice_index old (field_place is.1 i)) (slice_index new (field_place b i)))) tells
+    (looked_watches old new t is.0 is.1 b i tells is.2))
+
+pub applied_tells : (old new : List ℕ) (t after : Tables) (a i : ℕ) → Tells old new t → Applied old new a i t after → Tells old new after
+applied_tells old new t after a i tells (inl h) = subst (Tells old new) (sym h.1) tells
+applied_tells old new t after a i tells (inr (b, at, look)) = looked_tells old new t after b i tells look
+
+-- ---- words written
+
+due_here : (t : Tables) (b i : ℕ) → field_place b i < length t.news → is_due (watch_of (with_due t (field_place b i) true)) b i ≡ true
+due_here t b i within =
+    ap (λ w. is_due w b i) (marked_at t (field_place b i) true)
+    ∙ get_or-set_same (due_in t.news) (field_place b i) true false (omega (arith, length-map t.news (λ code. code == 3)))
+
+pub due_tells_written : (old new : List ℕ) (t : Tables) (b i x : ℕ) → Tells old new t → IsSome (field_at (take (length t.news) new) b i) → NewIsDue (watch_of t) b i → Tells old (slice_set new (field_place b i) x) t
+due_tells_written old new t b i x tells some due = record {
+  kept = tells.kept;
+  watches = new_field old new (watch_of t) b i x tells.watches some due;
+  old_starts = tells.old_starts;
+  new_starts = marks_written t.news new b i x tells.watches.new_seen some tells.new_starts;
+}
+
+pub brought_tells : (old new : List ℕ) (t after : Tables) (b i x : ℕ) → Tells old new t → Looked old (slice_set new (field_place b i) x) b i t after → Tells old (slice_set new (field_place b i) x) after
+brought_tells old new t after b i x tells is =
+    subst (Tells old written) (sym is.5)
+    (subst (Tells old written) twice
+    (looked_tells old written marked (with_due marked place due) b i told
+    (is.0, is.1, record { header = is.2.header; has_field = is.2.has_field; origin = is.2.origin; low = is.2.low; within = omega (arith, is.2.within, rows) }, is.3, is.4, refl)))
+  where
+    place : ℕ
+    place = field_place b i
+
+    written : List ℕ
+    written = slice_set new place x
+
+    due : Bool
+    due = not (field_words_correspond is.0 (pairs_in t.origins) (slice_index old (field_place is.1 i)) (slice_index written place))
+
+    marked : Tables
+    marked = with_due t place true
+
+    rows : length marked.news ≡ length t.news
+    rows = length-set t.news place 3
+
+    twice : with_due marked place due ≡ with_due t place due
+    twice = ap (with_news t) (set-set t.news place 3 (code_of due))
+
+    same_word : slice_index new b ≡ slice_index written b
+    same_word = sym (Rattle.std.proofs.lemmas.List.get_or-set_other new place b x 0 (λ e. let f : b ≡ field_place b i = e in omega arith))
+
+    blocks : Blocks old new t is.1 b tells is.2.low is.2.origin
+    blocks = its_blocks old new t is.1 b tells is.2.low is.2.origin
+
+    its_header : blocks.other.header ≡ is.0
+    its_header = let s : Some blocks.other.header ≡ Some is.0 = sym (header_word (length t.news) new b i blocks.other tells.watches.new_seen blocks.other_at) ∙ ap read_header same_word ∙ is.2.header in cc
+
+    some : IsSome (field_at (take (length t.news) new) b i)
+    some = has_field (length t.news) new b i blocks.other tells.watches.new_seen blocks.other_at (subst (λ (g : Header). i < g.len) (sym its_header) is.2.has_field)
+
+    told : Tells old written marked
+    told = due_tells_written old new marked b i x (due_told old new t place tells)
+        (subst (λ n. IsSome (field_at (take n new) b i)) (sym rows) some)
+        (λ k d l e. due_here t b i is.2.within)
+
+same_once : (pairs : List (ℕ × ℕ)) → AllPairs (λ p q. p.0 ≢ q.0) pairs → (k l : ℕ) (d : ℕ × ℕ) → k < length pairs → l < length pairs → (get_or pairs k d).0 ≡ (get_or pairs l d).0 → k ≡ l
+same_once pairs once k l d m n same =
+    elim (cases_eq k l) [
+      | inl is ↦ is
+      | inr other ↦ elim (cases_lt k l) [
+        | inl less ↦ absurd (once k l d less n same)
+        | inr more ↦ absurd (once l k d (omega arith) m (sym same))
+      ]
+    ]
+
+module _ (old new : List ℕ) (a i x : ℕ) where
+  old_written : (t : Tables) → Tells old new t → IsSome (field_at (take (length t.olds) old) a i) → OldIsDue (watch_of t) a i → Tells (slice_set old (field_place a i) x) new t
+  old_written t tells some due = record {
+    kept = tells.kept;
+    watches = old_field old new (watch_of t) a i x tells.watches some due;
+    old_starts = marks_written t.olds old a i x tells.watches.old_seen some tells.old_starts;
+    new_starts = tells.new_starts;
+  }
+
+  no_replica : (t : Tables) → HasNoReplica t a → OldIsDue (watch_of t) a i
+  no_replica t none k d l e =
+      let o = origin_of t k d l in
+      absurd (none (get_or (pairs_in t.origins) k d).1 (subst (λ n. 1 ≤ n) (sym o.1) o.0) (o.1 ∙ e))
+
+  its_replica : (t : Tables) (b : ℕ) → Tells old new t → IsReplicaAt t a b → field_place b i < length t.news → OldIsDue (watch_of (with_due t (field_place b i) true)) a i
+  its_replica t b tells at within l d n e =
+      let p = place_of old new t a b tells at.low at.origin in
+      let here : get_or (pairs_in t.origins) l d ≡ get_or (pairs_in t.origins) l (0, 0) = get_or_default (pairs_in t.origins) l d (0, 0) n in
+      let same : p.0 ≡ l = same_once (pairs_in t.origins) tells.watches.once p.0 l (0, 0) p.1 n (ap (λ (p : ℕ × ℕ). p.0) p.2 ∙ sym e ∙ ap (λ (p : ℕ × ℕ). p.0) here) in
+      let place : b ≡ (get_or (pairs_in t.origins) l d).1 = sym (ap (λ (p : ℕ × ℕ). p.1) p.2) ∙ ap (λ k. (get_or (pairs_in t.origins) k (0, 0)).1) same ∙ sym (ap (λ (p : ℕ × ℕ). p.1) here) in
+      subst (λ q. is_due (watch_of (with_due t (field_place b i) true)) q i ≡ true) place (due_here t b i within)
+
+  pub written_tells : (t after : Tables) → Tells old new t → IsSome (field_at (take (length t.olds) old) a i) → Wrote a i t after → Tells (slice_set old (field_place a i) x) new after
+  written_tells t after tells some (inl h) = subst (Tells (slice_set old (field_place a i) x) new) (sym h.1) (old_written t tells some (no_replica t h.0))
+  written_tells t after tells some (inr (b, at, within, is)) =
+      subst (Tells (slice_set old (field_place a i) x) new) (sym is)
+      (old_written (with_due t (field_place b i) true) (due_told old new t (field_place b i) tells) some (its_replica t b tells at within))
+
+pub old_link_tells : (old new : List ℕ) (t : Tables) (a x : ℕ) → Tells old new t → is_start (take (length t.olds) old) a ≡ true → Tells (slice_set old (link_place a) x) new t
+old_link_tells old new t a x tells start = record {
+  kept = tells.kept;
+  watches = old_link old new (watch_of t) a x tells.watches start;
+  old_starts = marks_linked t.olds old a x tells.watches.old_seen start tells.old_starts;
+  new_starts = tells.new_starts;
+}
+
+pub new_link_tells : (old new : List ℕ) (t : Tables) (b x : ℕ) → Tells old new t → is_start (take (length t.news) new) b ≡ true → Tells old (slice_set new (link_place b) x) t
+new_link_tells old new t b x tells start = record {
+  kept = tells.kept;
+  watches = new_link old new (watch_of t) b x tells.watches start;
+  old_starts = tells.old_starts;
+  new_starts = marks_linked t.news new b x tells.watches.new_seen start tells.new_starts;
+}
+
+-- words behind the last
+module _ (n : ℕ) (words more : List ℕ) (seen : IsSeen n words) where
+  same_front : take n (words ++ more) ≡ take n words
+  same_front = take-append-le n words more seen.within
+
+  seen_more : IsSeen n (words ++ more)
+  seen_more = record {
+    within = (let w : n ≤ length words = seen.within in omega (arith, length-append words more));
+    space = subst (λ ws. Rattle.gc_words.specs.Space.IsSpace (record { size = 4294967295; words = ws })) (sym same_front) seen.space;
+  }
+
+  same_seen : (c : ℕ) → seen_at n words c ≡ seen_at n (words ++ more) c
+  same_seen c = ap (λ ws. block_at ws c) (sym same_front)
+
+pub old_more_tells : (old new more : List ℕ) (t : Tables) → Tells old new t → Tells (old ++ more) new t
+old_more_tells old new more t tells = record {
+  kept = tells.kept;
+  watches = record {
+    old_seen = seen_more (length t.olds) old more tells.watches.old_seen;
+    new_seen = tells.watches.new_seen;
+    pairs = λ k d l. let p = get_or (pairs_in t.origins) k d in
+        subst (λ o. IsWatched (watch_of t) p.1 o (seen_at (length t.news) new p.1)) (same_seen (length t.olds) old more tells.watches.old_seen p.0) (tells.watches.pairs k d l);
+    row = tells.watches.row;
+    rising = tells.watches.rising;
+    once = tells.watches.once;
+  };
+  old_starts = marks_behind t.olds old more tells.watches.old_seen.within tells.old_starts;
+  new_starts = tells.new_starts;
+}
+
+pub new_more_tells : (old new more : List ℕ) (t : Tables) → Tells old new t → Tells old (new ++ more) t
+new_more_tells old new more t tells = record {
+  kept = tells.kept;
+  watches = record {
+    old_seen = tells.watches.old_seen;
+    new_seen = seen_more (length t.news) new more tells.watches.new_seen;
+    pairs = λ k d l. let p = get_or (pairs_in t.origins) k d in
+        subst (IsWatched (watch_of t) p.1 (seen_at (length t.olds) old p.0)) (same_seen (length t.news) new more tells.watches.new_seen p.1) (tells.watches.pairs k d l);
+    row = tells.watches.row;
+    rising = tells.watches.rising;
+    once = tells.watches.once;
+  };
+  old_starts = tells.old_starts;
+  new_starts = marks_behind t.news new more tells.watches.new_seen.within tells.new_starts;
+}
+
+-- ---- a walk over the old space anew
+
+pub walked_on : (old : List ℕ) (t after : Tables) → Made old t after → t ≡ record (opening_tables t.room) { olds = t.olds } → after ≡ record (opening_tables after.room) { olds = after.olds }
+walked_on old t after made h = ⊎_elim
+    (λ less. (let m = made.more less in
+    subst (λ (x : Tables). x ≡ record (opening_tables x.room) { olds = x.olds }) (sym m.2) (ap (λ (x : Tables). record x { olds = t.olds ++ object_codes m.0.len 0 }) h)))
+    (λ past. subst (λ (x : Tables). x ≡ record (opening_tables x.room) { olds = x.olds }) (sym (made.at_end (omega arith))) h)
+    (cases_lt (length t.olds) (length old))

@@ -1,0 +1,5 @@
+use Rattle.gc_along.proofs.ToldTruth.{sound}
+use Rattle.gc_along.proofs.telling.a_yes_is_sound.Goals as goal
+
+pub returns : goal.returns
+returns c = sound

@@ -1,0 +1,13 @@
+use Rattle.gc_along.proofs.ToldTruth.{opening_tells, made_tells, placed_tells, looked_tells, applied_tells, flipped_tells, dropped_tells}
+use Rattle.gc_along.proofs.telling.events_keep_telling.Goals as goal
+
+pub returns : goal.returns
+returns c = record {
+  opening = opening_tells;
+  made = made_tells;
+  placed = placed_tells;
+  looked = looked_tells;
+  applied = applied_tells;
+  flipped = flipped_tells;
+  dropped = dropped_tells;
+}

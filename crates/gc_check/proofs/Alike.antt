@@ -1,0 +1,149 @@
+-- Words that correspond as they meet still correspond when more pairs are found.
+use Rattle.std.proofs.Common.{◌≡◌, ℕ, ◌+◌, ◌<◌, ◌≤◌, Bool, true, false, cond, ◌&&◌, ◌||◌, ◌==◌, List, [], ◌∷◌, ◌++◌, length, drop, Option, Some, None, refl, sym, ap, subst, inl, inr, arith}
+use Rattle.std.specs.Prelude.{IsTrue}
+use Rattle.std.specs.List.{AllZip}
+use Rattle.std.proofs.lemmas.Bool.{eq-eqb, cases_order, and_parts, or_cases}
+use Rattle.std.proofs.lemmas.List.{drop_all}
+use Rattle.gc_graph.specs.Graph.{Value, Nil, Num, Ref}
+use Rattle.gc_graph.specs.Correspond.{paired}
+use Rattle.gc_words.specs.Word.{read_value, read_correspond, words_correspond, field_words_correspond}
+use Rattle.gc_words.specs.Image.{Image, Block, block_at}
+use Rattle.gc_words.specs.Certificate.{BlocksCorrespond}
+use Rattle.gc_words.specs.declared.header.Header.{Header}
+use Rattle.gc_check.specs.Tables.{pair_at}
+use Rattle.gc_check.specs.Internal.Meetings.{met, met_all, met_objects, alike_all, AlikeTo}
+use Rattle.gc_check.proofs.Forced.{Grows, met_all_grows, met_blocks_grow, same_place}
+
+-- ---- more pairs
+
+pub or_first : (b c : Bool) → b ≡ true → (b || c) ≡ true
+or_first b c e = ap (λ b. b || c) e
+
+pub or_second : (b c : Bool) → c ≡ true → (b || c) ≡ true
+or_second true c e = refl
+or_second false c e = e
+
+module _ (before after : List (ℕ × ℕ)) (more : (a b : ℕ) → paired before a b ≡ true → paired after a b ≡ true) where
+  values_more : (o q : Option Value) → read_correspond before o q ≡ true → read_correspond after o q ≡ true
+  values_more None q e = e
+  values_more (Some v) None e = e
+  values_more (Some Nil) (Some Nil) e = e
+  values_more (Some Nil) (Some (Num n)) e = e
+  values_more (Some Nil) (Some (Ref b)) e = e
+  values_more (Some (Num m)) (Some Nil) e = e
+  values_more (Some (Num m)) (Some (Num n)) e = e
+  values_more (Some (Num m)) (Some (Ref b)) e = e
+  values_more (Some (Ref a)) (Some Nil) e = e
+  values_more (Some (Ref a)) (Some (Num n)) e = e
+  values_more (Some (Ref a)) (Some (Ref b)) e = more a b e
+
+  pub words_more : (v w : ℕ) → words_correspond before v w ≡ true → words_correspond after v w ≡ true
+  words_more v w e = values_more (read_value v) (read_value w) e
+
+  pub all_more : (vs ws : List ℕ) → AllZip (λ v w. words_correspond before v w ≡ true) vs ws → AllZip (λ v w. words_correspond after v w ≡ true) vs ws
+  all_more [] [] z = tt
+  all_more [] (w ∷ ws) z = absurd z
+  all_more (v ∷ vs) [] z = absurd z
+  all_more (v ∷ vs) (w ∷ ws) z = (words_more v w z.0, all_more vs ws z.1)
+
+  field_more : (raw : Bool) (v w : ℕ) → cond raw (v == w) (words_correspond before v w) ≡ true → cond raw (v == w) (words_correspond after v w) ≡ true
+  field_more true v w e = e
+  field_more false v w e = words_more v w e
+
+  fields_more : (h : Header) (vs ws : List ℕ) → AllZip (λ v w. field_words_correspond h before v w ≡ true) vs ws → AllZip (λ v w. field_words_correspond h after v w ≡ true) vs ws
+  fields_more h [] [] z = tt
+  fields_more h [] (w ∷ ws) z = absurd z
+  fields_more h (v ∷ vs) [] z = absurd z
+  fields_more h (v ∷ vs) (w ∷ ws) z = (field_more h.raw v w z.0, fields_more h vs ws z.1)
+
+  pub blocks_more : (o q : Option Block) → BlocksCorrespond before o q → BlocksCorrespond after o q
+  blocks_more (Some a) (Some b) c = (c.0, fields_more a.header a.fields b.fields c.1)
+  blocks_more (Some a) None c = absurd c
+  blocks_more None q c = absurd c
+
+paired_append : (pairs more : List (ℕ × ℕ)) (a b : ℕ) → paired pairs a b ≡ true → paired (pairs ++ more) a b ≡ true
+paired_append [] more a b e = absurd (let no : false ≡ true = e in cc)
+paired_append (p ∷ pairs) more a b e =
+    elim (or_cases ((p.0 == a) && (p.1 == b)) (paired pairs a b) e) [
+      | inl here ↦ or_first _ _ here
+      | inr later ↦ or_second ((p.0 == a) && (p.1 == b)) _ (paired_append pairs more a b later)
+    ]
+
+grows_paired : (before after : List (ℕ × ℕ)) → Grows before after → (a b : ℕ) → paired before a b ≡ true → paired after a b ≡ true
+grows_paired before after g a b e = subst (λ pairs. paired pairs a b ≡ true) (sym g.1) (paired_append before g.0 a b e)
+
+-- ---- words that have met
+
+pub alike_zip : (old new : Image) (pairs : List (ℕ × ℕ)) (vs ws : List ℕ) → alike_all old new pairs vs ws ≡ true → AllZip (λ v w. words_correspond (met_all old new pairs vs ws) v w ≡ true) vs ws
+alike_zip old new pairs [] [] e = tt
+alike_zip old new pairs [] (w ∷ ws) e = absurd (let no : false ≡ true = e in cc)
+alike_zip old new pairs (v ∷ vs) [] e = absurd (let no : false ≡ true = e in cc)
+alike_zip old new pairs (v ∷ vs) (w ∷ ws) e =
+    let now : List (ℕ × ℕ) = met old new pairs v w in
+    let parts : (words_correspond now v w ≡ true) × (alike_all old new now vs ws ≡ true) = and_parts _ _ e in
+    (words_more now (met_all old new now vs ws) (grows_paired now (met_all old new now vs ws) (met_all_grows old new now vs ws)) v w parts.0, alike_zip old new now vs ws parts.1)
+
+-- nothing is left to meet
+pub all_ended : (old new : Image) (pairs : List (ℕ × ℕ)) (i : ℕ) (vs ws : List ℕ) → length vs ≤ i → length vs ≡ length ws → alike_all old new pairs (drop i vs) (drop i ws) ≡ true
+all_ended old new pairs i vs ws past same = λ j. alike_all old new pairs (drop_all i vs past j) (drop_all i ws (omega (arith, past, same)) j)
+
+pub met_ended : (old new : Image) (pairs : List (ℕ × ℕ)) (i : ℕ) (vs ws : List ℕ) → length vs ≤ i → met_all old new pairs (drop i vs) (drop i ws) ≡ pairs
+met_ended old new pairs i vs ws past = ap (λ vs. met_all old new pairs vs (drop i ws)) (drop_all i vs past)
+
+-- ---- objects
+
+equal_raw : (vs : List ℕ) → AllZip (λ v w. (v == w) ≡ true) vs vs
+equal_raw [] = tt
+equal_raw (v ∷ vs) = (eq-eqb v v refl, equal_raw vs)
+
+pub raw_correspond : (pairs : List (ℕ × ℕ)) (o q : Option Block) (h : Header) (vs ws : List ℕ) → o ≡ Some (record { header = h; fields = vs }) → q ≡ Some (record { header = h; fields = ws }) → h.raw ≡ true → vs ≡ ws → BlocksCorrespond pairs o q
+raw_correspond pairs o q h vs ws o_is q_is raw same =
+    subst (λ o. BlocksCorrespond pairs o q) (sym o_is) (subst (λ q. BlocksCorrespond pairs (Some (record { header = h; fields = vs })) q) (sym q_is)
+    (refl, subst (λ b. AllZip (λ v w. cond b (v == w) (words_correspond pairs v w) ≡ true) vs ws) (sym raw) (subst (λ ws. AllZip (λ v w. (v == w) ≡ true) vs ws) same (equal_raw vs))))
+
+pub values_correspond : (pairs : List (ℕ × ℕ)) (o q : Option Block) (h : Header) (vs ws : List ℕ) → o ≡ Some (record { header = h; fields = vs }) → q ≡ Some (record { header = h; fields = ws }) → h.raw ≡ false
+    → AllZip (λ v w. words_correspond pairs v w ≡ true) vs ws → BlocksCorrespond pairs o q
+values_correspond pairs o q h vs ws o_is q_is raw z =
+    subst (λ o. BlocksCorrespond pairs o q) (sym o_is) (subst (λ q. BlocksCorrespond pairs (Some (record { header = h; fields = vs })) q) (sym q_is)
+    (refl, subst (λ b. AllZip (λ v w. cond b (v == w) (words_correspond pairs v w) ≡ true) vs ws) (sym raw) z))
+
+-- ---- the walk
+
+pub alike_roots : (old new : Image) (pairs : List (ℕ × ℕ)) → AllZip (λ v w. IsTrue (words_correspond pairs v w)) old.roots new.roots → AlikeTo old new pairs 0
+alike_roots old new pairs z = record { roots = z; objects = λ k h l. absurd (omega (arith, h)) }
+
+pub objects_alike : (old new : Image) (pairs : List (ℕ × ℕ)) (done : ℕ) → done < length pairs → AlikeTo old new pairs done
+    → BlocksCorrespond (met_objects old new pairs (pair_at pairs done)) (block_at old.words (pair_at pairs done).0) (block_at new.words (pair_at pairs done).1) → AlikeTo old new (met_objects old new pairs (pair_at pairs done)) (done + 1)
+objects_alike old new pairs done inside m c = record {
+  roots = all_more pairs now more old.roots new.roots m.roots;
+  objects = objects;
+}
+  where
+    p : ℕ × ℕ
+    p = pair_at pairs done
+
+    now : List (ℕ × ℕ)
+    now = met_objects old new pairs p
+
+    grows : Grows pairs now
+    grows = met_blocks_grow old new pairs (block_at old.words p.0) (block_at new.words p.1)
+
+    more : (a b : ℕ) → paired pairs a b ≡ true → paired now a b ≡ true
+    more = grows_paired pairs now grows
+
+    Alike : ℕ × ℕ → Type 0
+    Alike p = BlocksCorrespond now (block_at old.words p.0) (block_at new.words p.1)
+
+    objects : (k : ℕ) → k < done + 1 → k < length now → Alike (pair_at now k)
+    objects k h l =
+        let low : k < length pairs = omega arith in
+        subst Alike (sym (same_place pairs now k grows low))
+        (elim (cases_order k done) [
+          | inl same ↦ subst (λ j. Alike (pair_at pairs j)) (sym same) c
+          | inr (inl less) ↦ blocks_more pairs now more (block_at old.words (pair_at pairs k).0) (block_at new.words (pair_at pairs k).1) (m.objects k less low)
+          | inr (inr more) ↦ absurd (omega arith)
+        ])
+
+-- the objects of all pairs are alike
+pub all_alike : (old new : Image) (pairs : List (ℕ × ℕ)) (done n : ℕ) → length pairs ≤ done → AlikeTo old new pairs done → AlikeTo old new pairs n
+all_alike old new pairs done n most m = record { roots = m.roots; objects = λ k h l. m.objects k (omega arith) l }

@@ -1,0 +1,63 @@
+-- Numbers that are written to a raw object in one call.
+use Rattle.std.proofs.Common.{◌≡◌, ◌<◌, ◌≤◌, ◌+◌, ℕ, suc, cond, true, List, [], ◌∷◌, length, Option, Some, None, refl, ap, subst, ◌∙◌, arith}
+use Rattle.std.specs.List.{list_all}
+use Rattle.std.specs.Option.{option_map}
+use Rattle.std.proofs.lemmas.Bool.{le-leb}
+use Rattle.gc_graph.specs.Slots.{SlotName}
+use Rattle.gc_graph.specs.declared.command.Op.TheVariants as ops
+use Rattle.gc_graph.specs.declared.reply.Reply.{Reply}
+use Rattle.gc_graph.specs.declared.reply.Reply.TheVariants.{Done, NoField, NoNumber}
+use Rattle.gc_heap.specs.Heap.{HeapWords, IsHeap}
+use Rattle.gc_heap.specs.Filling.{WritesNumbers}
+use Rattle.gc_heap.specs.Raws.{raw_numbers}
+use Rattle.gc_copy.specs.State.{State}
+use Rattle.gc_copy.specs.Steps.{mutate}
+use Rattle.gc_copy.specs.Words.{idle_state, HasNoLinks}
+use Rattle.gc_copy.proofs.Mutating.{idle_left}
+use Rattle.gc_core.specs.Internal.KnownRoots.{KnowsRoots}
+use Rattle.gc_core.specs.Writing.{is_number_word, numbers_step, numbers_reply, numbers_after, put_numbers_step}
+use Rattle.gc_core.specs.declared.known.KnownRoots.{KnownRoots}
+use Rattle.gc_core.proofs.Marks.{number_knows}
+
+-- ---- what is known of the roots
+
+forgotten : (known : KnownRoots) (s : State) → KnowsRoots known s → KnowsRoots (record { slots = 0; extra = known.extra; used = known.used }) s
+forgotten known s k = record {
+  slots_high = omega arith;
+  extra_high = k.extra_high;
+  used_high = k.used_high;
+  slots = λ p less. absurd (omega arith);
+  extra = k.extra;
+  unused = k.unused;
+}
+
+pub numbers_know : (numbers : List ℕ) (known : KnownRoots) (s : State) (m i : ℕ) (d t : SlotName) → t.index < 16 → m < s.mutators → KnowsRoots known s → KnowsRoots (record { slots = 0; extra = known.extra; used = known.used }) (numbers_step s m d t i numbers)
+numbers_know [] known s m i d t low less k = forgotten known s k
+numbers_know (n ∷ rest) known s m i d t low less k =
+    let one = mutate s m (ops.Num t n) in
+    let two = mutate one.1 m (ops.Put d i t) in
+    numbers_know rest (record { slots = 0; extra = known.extra; used = known.used }) two.1 m (suc i) d t low less (number_knows known s one.1 two.1 m i n d t one.0 two.0 low less refl refl k)
+
+-- ---- while no collection is open
+
+pub idle_written : (numbers : List ℕ) (heap new : HeapWords) (m i : ℕ) (s t : SlotName) → IsHeap heap → HasNoLinks heap → WritesNumbers heap m s t i numbers new → (numbers_step (idle_state heap) m s t i numbers ≡ idle_state new) × HasNoLinks new
+idle_written [] heap new m i s t is links same = (ap idle_state same, subst HasNoLinks same links)
+idle_written (n ∷ rest) heap new m i s t is links (next, w, further) =
+    let one = idle_left heap w.between m (ops.Num t n) Done is links w.sets in
+    let two = idle_left w.between next m (ops.Put s i t) Done w.sound.0 one.1 w.puts in
+    let all = idle_written rest next new m (suc i) s t w.sound.1 two.1 further in
+    (ap (λ (x : Reply × State). numbers_step (mutate x.1 m (ops.Put s i t)).1 m s t (suc i) rest) one.0 ∙ ap (λ (x : Reply × State). numbers_step x.1 m s t (suc i) rest) two.0 ∙ all.0, all.1)
+
+-- ---- the reply
+
+reply_is : (first count : ℕ) (words : List ℕ) (o : Option (List ℕ)) → Some count ≡ option_map length o → first + length words ≤ count → list_all is_number_word words ≡ true → numbers_reply first words o ≡ Done
+reply_is first count words None same fits numbers = absurd (let no : Some count ≡ None = same in cc)
+reply_is first count words (Some fields) same fits numbers =
+    let long : count ≡ length fields = cc in
+    ap (λ b. cond b (cond (list_all is_number_word words) Done NoNumber) NoField) (le-leb (first + length words) (length fields) (omega (arith, fits, long)))
+    ∙ ap (λ b. cond b Done NoNumber) numbers
+
+pub numbers_done : (old new : State) (m first count : ℕ) (s t : SlotName) (words : List ℕ) → Some count ≡ option_map length (raw_numbers old.heap.graph s m) → first + length words ≤ count → list_all is_number_word words ≡ true
+    → numbers_step old m s t first words ≡ new → put_numbers_step old m s first t words ≡ (Done, new)
+numbers_done old new m first count s t words same fits numbers steps =
+    ap (λ reply. (reply, numbers_after reply old (numbers_step old m s t first words))) (reply_is first count words (raw_numbers old.heap.graph s m) same fits numbers) ∙ ap (λ (x : State). (Done, x)) steps

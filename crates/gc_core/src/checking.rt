@@ -1,0 +1,88 @@
+ghost use Rattle.std.specs.Prelude.{◌≡◌, ◌<◌, ◌^◌, IfOk, IsTrue, OnErr, length};
+ghost use Rattle.gc_heap.specs.Heap.{graph_in};
+ghost use Rattle.gc_copy.specs.Steps.{is_ready};
+ghost use Rattle.gc_copy.specs.Words.{BelongsTo, collection_in, open_state};
+ghost use Rattle.gc_core.specs.Flip.{flip_pair, IsCertified};
+ghost use Rattle.gc_core.specs.Internal.Flip.{IsDraft};
+ghost use Rattle.gc_core.specs.declared.checking.Finding.{Finding};
+
+use crate::collected_heap::CollectedHeap;
+use crate::flip::Draft;
+use crate::known::search;
+use gc_check::{CheckFault, Checks};
+use gc_copy::{Collection, images_show_links};
+use gc_graph::NoMemory;
+use gc_heap::Heap;
+use gc_words::{Refusal, no_fault_where_certified};
+use std::alloc::Global;
+
+/// What a check of the open collection finds.
+#[derive(Clone, Copy, Debug, PartialEq, Eq)]
+pub enum Finding {
+    /// No collection is open.
+    Idle,
+    /// The open collection is not ready for its flip.
+    NotReady,
+    /// The certificate of the open collection holds. It has this many pairs.
+    Holds { pairs: u32 },
+    /// The first condition of the certificate that fails. This is proved never to occur, unless somebody else writes into the heap's memory.
+    Refused(Refusal),
+}
+
+impl CollectedHeap {
+    ghost use Rattle.gc_core.specs.CollectedHeap.{Allocates};
+    ghost use Rattle.gc_core.specs.Checking.{finding, HoldsOnly};
+    ghost use Rattle.gc_copy.specs.declared.step.Step.{Step};
+
+    /// Checks the certificate of the open collection, if that is ready, by both spaces whole. Changes nothing. Allocates what a checked flip
+    /// does, and frees it before it returns.
+    pub fn check<C: Checks>(&self, checker: &C) -> Result<Finding, NoMemory>
+        requires { C.can_check checker.now }
+        ensures finding { IfOk result (λ found. found ≡ finding self.now) }
+        // It finds that the certificate holds only if this checker said yes.
+        ensures asked { IfOk result (HoldsOnly (C.says_yes checker.now) self.now) }
+        ensures sound { IfOk result (HoldsOnly IsCertified self.now) }
+        // Only the check of a ready collection allocates.
+        ensures allocates { OnErr result (Allocates self.now Step.Flip) }
+    {
+        let Some(collection) = &self.collection else {
+            return Ok(Finding::Idle);
+        };
+        let roots_done = search(collection, &self.heap, self.known).missing.is_none();
+        if !collection.ready_with(&self.heap, roots_done) {
+            return Ok(Finding::NotReady);
+        }
+        let draft = Draft::new(self.alloc, &self.heap, collection)?;
+        found_by(checker, self.alloc, &self.heap, collection, &draft)
+    }
+}
+
+// Asks the checker about the certificate of a ready collection, which always holds.
+fn found_by<C: Checks>(
+    checker: &C,
+    alloc: Global,
+    heap: &Heap,
+    collection: &Collection,
+    draft: &Draft,
+) -> Result<Finding, NoMemory>
+    requires can { C.can_check checker.now }
+    requires belongs { BelongsTo heap.now collection.now }
+    requires ready { IsTrue (is_ready (collection_in collection.now) (graph_in heap.now)) }
+    requires draft { IsDraft heap.now collection.now draft.now }
+    requires few { length draft.now.pairs.items < 2 ^ 32 }
+    ensures holds { IfOk result (λ found. found ≡ Finding.Holds (length (collection_in collection.now).replicas)) }
+    ensures asked { IfOk result (λ found. C.says_yes checker.now
+        (flip_pair (open_state heap.now collection.now) (collection_in collection.now))) }
+    ensures certified { IfOk result (λ found. IsCertified
+        (flip_pair (open_state heap.now collection.now) (collection_in collection.now))) }
+{
+    images_show_links();
+    no_fault_where_certified();
+    let old = heap.image();
+    let new = collection.new_image(&draft.roots);
+    match checker.check(alloc, old, new, &draft.pairs) {
+        Ok(yes) => Ok(Finding::Holds { pairs: yes.pairs }),
+        Err(CheckFault::Refused(refusal)) => Ok(Finding::Refused(refusal)),
+        Err(CheckFault::NoMemory) => Err(NoMemory),
+    }
+}

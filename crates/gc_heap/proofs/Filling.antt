@@ -1,0 +1,85 @@
+-- An object that takes any value into its fields.
+use Rattle.std.proofs.Common.{◌≡◌, ℕ, ◌<◌, ◌≤◌, List, length, is_some, false, cond, sym, ◌∙◌, ap, subst, arith}
+use Rattle.std.specs.Prelude.{IsSome, IsFalse, slice_get, slice_index, slice_set, not, ◌&&◌}
+use Rattle.std.proofs.lemmas.List.{length-set, length-replicate, get_or-set_same}
+use Rattle.gc_graph.specs.Graph.{Graph, Num, Ref, object_of, field_of, root}
+use Rattle.gc_graph.specs.Machine.{put_field, is_number}
+use Rattle.gc_graph.specs.declared.reply.Reply.{Reply}
+use Rattle.gc_graph.specs.declared.reply.Reply.TheVariants.{Done}
+use Rattle.gc_words.specs.Word.{value_of, word_of, field_value}
+use Rattle.gc_words.specs.Image.{field_at, field_in, object_of_block, fresh_block}
+use Rattle.gc_words.specs.Layout.{field_place}
+use Rattle.gc_words.specs.Space.{CanPlace, end_of, with_word}
+use Rattle.gc_words.specs.Closed.{IsRootWord, IsFieldWord, IsWordOfField}
+use Rattle.gc_words.proofs.Blocks.{field_block, placed_block}
+use Rattle.gc_words.specs.declared.header.Header.{Header}
+use Rattle.gc_words.proofs.Graphs.{object_found, value_read_back}
+use Rattle.std.specs.Option.{option_map}
+use Rattle.gc_heap.specs.Heap.{HeapWords, IsHeap, KeepsLinks, graph_in}
+use Rattle.gc_heap.specs.Filling.{TakesFields}
+use Rattle.gc_heap.proofs.Commands.{Points, get_index, root_word, at_root, put_done, written_heap}
+use Rattle.gc_heap.proofs.Links.{links_written}
+use Rattle.gc_heap.proofs.Steps.{with_new}
+use Rattle.gc_heap.proofs.Views.{meaning}
+
+abbrev pub points_to : (h : HeapWords) (p a len : ℕ) → TakesFields h p a len → Points h p a
+points_to h p a len t = record {
+  block = t.block;
+  found = t.found;
+  target = t.target;
+  object = ap (object_of (graph_in h).objects) t.target ∙ object_found h.space.words a ∙ ap (option_map object_of_block) t.found;
+}
+
+-- a new object takes its fields
+pub new_takes : (h : HeapWords) (p : ℕ) (header : Header) → IsHeap h → CanPlace h.space header → p < length h.roots → IsFalse header.raw → TakesFields (with_new h p header) p (end_of h.space) header.len
+new_takes h p header heap can inside plain =
+    let low : 1 ≤ length h.space.words = heap.space.end_low in
+    let high : h.space.size ≤ 4294967295 = heap.space.size_high in
+    let w : ℕ = word_of (Ref (end_of h.space)) in
+    let value : value_of w ≡ Ref (end_of h.space) = meaning w (Ref (end_of h.space)) (value_read_back (Ref (end_of h.space)) (low, omega arith)) in
+    record {
+      block = fresh_block header;
+      found = placed_block h.space header can;
+      plain = plain;
+      long = length-replicate header.len 0;
+      target = at_root (with_new h p header) p w (sym (get_or-set_same h.roots p w 0 inside)) ∙ value;
+    }
+
+pub some_at : (xs : List ℕ) (i : ℕ) → i < length xs → IsSome (slice_get xs i)
+some_at xs i less = ap is_some (get_index xs i less)
+
+-- what a write of root t's word to a field of that object leaves
+pub record Fills (h : HeapWords) (s a i t w : ℕ) (new : HeapWords) : Type 0 where
+  pub field : IsSome (field_at h.space.words a i)
+  pub heap : IsHeap new
+  pub graph : let object = object_of (graph_in h).objects (root (graph_in h) s) in
+      ◌≡◌ {A = Reply × Graph} (Done, graph_in new) (put_field (graph_in h) (root (graph_in h) s) object (field_of object i) i (root (graph_in h) t))
+  pub links : KeepsLinks h.space.words new.space.words
+  pub fields : (len : ℕ) → TakesFields h s a len → TakesFields new s a len
+
+pub there : (h : HeapWords) (s a i len : ℕ) → TakesFields h s a len → i < len → IsSome (field_at h.space.words a i)
+there h s a i len takes less = subst (λ o. IsSome (field_in o i)) (sym takes.found) (some_at takes.block.fields i (omega (arith, takes.long)))
+
+pub fills : (h : HeapWords) (s a i len t w : ℕ) → IsHeap h → TakesFields h s a len → i < len → t < length h.roots → w ≡ slice_index h.roots t
+    → Fills h s a i t w (record h { space = with_word h.space (field_place a i) w })
+fills h s a i len t w heap takes less inside read =
+    let some : IsSome (field_at h.space.words a i) = there h s a i len takes less in
+    let p : Points h s a = points_to h s a len takes in
+    let value : root (graph_in h) t ≡ value_of w = at_root h t w read in
+    let means : root (graph_in h) t ≡ field_value takes.block.header w = value ∙ sym (ap (λ raw. cond raw (Num w) (value_of w)) takes.plain) in
+    let word : IsFieldWord h.space.words takes.block.header w
+    = subst (λ raw. IsWordOfField raw h.space.words w) (sym takes.plain) (subst (IsRootWord h.space.words) (sym read) (root_word h t heap inside)) in
+    let taken : (takes.block.header.raw && not (is_number (root (graph_in h) t))) ≡ false = ap (λ raw. raw && not (is_number (root (graph_in h) t))) takes.plain in
+    record {
+      field = some;
+      heap = written_heap h a i w takes.block heap takes.found some word;
+      graph = put_done h s a i w (root (graph_in h) t) p heap some taken means;
+      links = links_written h.space a i w heap.space some;
+      fields = λ n t. record {
+        block = record t.block { fields = slice_set t.block.fields i w };
+        found = field_block h.space a i w t.block heap.space some t.found;
+        plain = t.plain;
+        long = length-set t.block.fields i w ∙ t.long;
+        target = t.target;
+      };
+    }

@@ -1,0 +1,27 @@
+use Rattle.std.proofs.Common.{◌<◌, ◌≤◌, ◌+◌, ◌-◌, ◌*◌, length, subst, sym, arith}
+use Rattle.std.specs.Prelude.{get_or, slice_set}
+use Rattle.gc_graph.specs.Slots.{roots_of}
+use Rattle.gc_heap.specs.Heap.{HeapWords}
+use Rattle.gc_heap.proofs.Numbers.{Leaves, all_left}
+use Rattle.gc_heap.proofs.heap.Heap.fill_numbers.Goals as goal
+
+-- what the call leaves, if there are numbers
+left : (c : goal.After-self-then-numbers-gt0-1) → Leaves c.args.self.now c.args.m c.args.s c.args.t c.args.object.0 c.args.first c.args.numbers.now (record { space = c.write_fields.new.space; roots = slice_set c.self.inside.roots.items c.place.result (2 * get_or c.args.numbers.now (length c.args.numbers.now - 1) 0 + 1); mutators = c.self.inside.mutators })
+left c =
+    let h : HeapWords = record { space = c.self.inside.space; roots = c.self.inside.roots.items; mutators = c.self.inside.mutators } in
+    let mutator : c.args.m < h.mutators = subst (λ (g : HeapWords). c.args.m < g.mutators) (sym c.self.view_is) c.requires.mutator in
+    let roots : roots_of h.mutators ≤ length h.roots = c.self.invariant.roots in
+    let inside : c.place.result < length h.roots = omega (arith, c.place.ensures.bound, mutator, roots) in
+    all_left h c.args.self.now c.write_fields.new.space c.args.m c.args.s c.args.t c.args.object.0 c.args.first c.requires.fields.0 c.place.result c.args.numbers.now c.self.view_is c.self.invariant c.requires.fields.1 c.requires.apart c.place.ensures.value inside c.requires.fields.2 c.requires.numbers c.if-numbers-gt0.true c.write_fields.ensures
+
+pub invariant_of-self : goal.invariant_of-self
+invariant_of-self c = (left c).heap
+
+pub returns-then-numbers-gt0-clause-writes : goal.returns-then-numbers-gt0-clause-writes
+returns-then-numbers-gt0-clause-writes c = (left c).writes
+
+pub returns-then-numbers-gt0-clause-fields : goal.returns-then-numbers-gt0-clause-fields
+returns-then-numbers-gt0-clause-fields c = (left c).takes
+
+pub returns-then-numbers-gt0-clause-sound : goal.returns-then-numbers-gt0-clause-sound
+returns-then-numbers-gt0-clause-sound c = (left c).heap

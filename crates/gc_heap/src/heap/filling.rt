@@ -1,0 +1,96 @@
+//! Fills the fields of a new object, and those of a raw one.
+
+ghost use Rattle.std.specs.Prelude.{◌≡◌, ◌≢◌, ◌<◌, ◌≤◌, ◌+◌, ◌^◌, ℕ, length};
+ghost use Rattle.std.specs.List.{All};
+ghost use Rattle.gc_graph.specs.Graph.{object_of, field_of, root};
+ghost use Rattle.gc_graph.specs.Machine.{put_field};
+ghost use Rattle.gc_graph.specs.Slots.{place};
+ghost use Rattle.gc_graph.specs.declared.command.Op.{Op};
+ghost use Rattle.gc_heap.specs.Heap.{IsHeap, KeepsLinks, graph_in};
+ghost use Rattle.gc_heap.specs.Commands.{Performs};
+ghost use Rattle.gc_words.specs.Space.{IsSpace};
+ghost use Rattle.gc_heap.specs.Filling.{TakesFields, TakesNumbers, WritesNumbers};
+ghost use Rattle.gc_heap.specs.Internal.Written.{HasFields, with_fields};
+
+use super::Heap;
+use gc_graph::{Reply, Slot};
+use gc_words::{Addr, OldAddr, Space};
+
+impl Heap {
+    /// Performs a `Put` of `t` into field `i` of the object that `d` refers to. The object is known to take it, so neither `d` nor
+    /// the object is read, and the reply is `Done`.
+    #[inline(always)]
+    pub fn fill_field(&mut self, m: u8, d: Slot, object: OldAddr, i: u16, t: Slot) -> Reply
+        requires mutator { m < self.old.mutators }
+        requires field { (len : ℕ) × TakesFields self.old (place d m) object.0 len × (i < len) }
+        ensures done { result ≡ Reply.Done }
+        ensures performs { Performs self.old m (Op.Put d i t) result self.new }
+        ensures fields { (len : ℕ) → TakesFields self.old (place d m) object.0 len → TakesFields self.new (place d m) object.0 len }
+        ensures sound { IsHeap self.new }
+    {
+        // Here the prover learns how many roots there are.
+        let _ = &self.roots;
+        self.fill_at(d.place(m), object, i, t.place(m))
+    }
+
+    // Writes the value of root `t` to field `i` of the object that root `s` refers to, and does not read root `s`.
+    #[inline(always)]
+    fn fill_at(&mut self, s: usize, object: OldAddr, i: u16, t: usize) -> Reply
+        requires giver { t < length self.old.roots }
+        requires field { (len : ℕ) × TakesFields self.old s object.0 len × (i < len) }
+        ensures done { result ≡ Reply.Done }
+        ensures graph { let object = object_of (graph_in self.old).objects (root (graph_in self.old) s) in
+            (result, graph_in self.new) ≡ put_field (graph_in self.old) (root (graph_in self.old) s) object (field_of object i) i (root (graph_in self.old) t) }
+        ensures links { KeepsLinks self.old.space.words self.new.space.words }
+        ensures end { length self.new.space.words ≡ length self.old.space.words }
+        ensures size { self.new.space.size ≡ self.old.space.size }
+        ensures mutators { self.new.mutators ≡ self.old.mutators }
+        ensures fields { (len : ℕ) → TakesFields self.old s object.0 len → TakesFields self.new s object.0 len }
+        ensures sound { IsHeap self.new }
+    {
+        self.space.set_field(Addr(object.0), i, self.roots[t]);
+        Reply::Done
+    }
+
+    /// Writes these numbers to the fields of the raw object that `s` refers to, from field `first` on, as a `Num` of `t` and a `Put` of
+    /// `t` for each of them do. The object is known to have these fields, so it is not read. `t` keeps the last number.
+    pub fn fill_numbers(
+        &mut self,
+        m: u8,
+        s: Slot,
+        object: OldAddr,
+        first: u16,
+        t: Slot,
+        numbers: &[u64],
+    )
+        requires mutator { m < self.old.mutators }
+        requires apart { place t m ≢ place s m }
+        requires fields { (len : ℕ) × TakesNumbers self.old (place s m) object.0 len × (first + length numbers.now ≤ len) }
+        requires few { first + length numbers.now ≤ 65535 }
+        requires numbers { All (λ n. n < 2 ^ 63) numbers.now }
+        ensures writes { WritesNumbers self.old m s t first numbers.now self.new }
+        ensures fields { (len : ℕ) → TakesNumbers self.old (place s m) object.0 len → TakesNumbers self.new (place s m) object.0 len }
+        ensures mutators { self.new.mutators ≡ self.old.mutators }
+        ensures sound { IsHeap self.new }
+    {
+        // Here the prover learns how many roots there are.
+        let _ = &self.roots;
+        write_fields(&mut self.space, Addr(object.0), first, numbers);
+        if numbers.len() > 0 {
+            let last = numbers[numbers.len() - 1];
+            self.roots[t.place(m)] = 2 * last + 1;
+        }
+    }
+}
+
+// Writes these words to the fields of the object that starts here, from field `first` on.
+fn write_fields(space: &mut Space, at: Addr, first: u16, words: &[u64])
+    requires shaped { IsSpace space.old }
+    requires fields { HasFields space.old at.0 first (length words.now) }
+    requires few { first + length words.now ≤ 65535 }
+    ensures { space.new ≡ with_fields space.old at.0 first words.now }
+{
+    for k in 0..words.len() {
+        space.set_field(at, first + k as u16, words[k]);
+    }
+}

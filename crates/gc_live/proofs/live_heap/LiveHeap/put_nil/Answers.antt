@@ -1,0 +1,26 @@
+use Rattle.std.proofs.Common.{◌≡◌, ℕ, List, Option, None, is_some, true, false, inr, map, refl, sym, ap, ◌∙◌}
+use Rattle.gc_graph.specs.Graph.{Value, Ref, root, names_of, value_or_nil}
+use Rattle.gc_graph.specs.Slots.{place}
+use Rattle.gc_graph.specs.Machine.{Roomy}
+use Rattle.gc_graph.specs.declared.reply.Reply.{Reply}
+use Rattle.gc_graph.specs.declared.reply.Reply.TheVariants as replies
+use Rattle.gc_graph.specs.declared.command.Op.TheVariants as ops
+use Rattle.std.specs.Prelude.{slice_get}
+use Rattle.gc_copy.specs.State.{State, Collection}
+use Rattle.gc_copy.specs.Steps.{mutate}
+use Rattle.gc_beside.proofs.LivesThrough.{lives_number, put_roots, was_open}
+use Rattle.gc_live.proofs.live_heap.LiveHeap.put_nil.Goals as goal
+
+pub invariant_of-self-in-Some : goal.invariant_of-self-in-Some
+invariant_of-self-in-Some c =
+    let a = c.in-Some.object.0 in
+    let s : State = c.self.inside.inner in
+    let s' : State = c.put_nil.new.self in
+    let first = mutate s c.args.m (ops.Nil c.args.t) in
+    let said : mutate first.1 c.args.m (ops.Put c.args.s c.args.i c.args.t) ≡ (replies.Done, s') = c.in_ok-reply.ensures.step ∙ ap (λ (r : Reply). (r, c.put_nil.new.self)) c.in-Done.is in
+    let there : root s'.heap.graph (place c.args.s c.args.m) ≡ Ref a = ap (λ (r : Roomy). root r.graph (place c.args.s c.args.m)) (sym c.heap.ensures) ∙ c.in-Some.ensures.object in
+    let root_is : root first.1.heap.graph (place c.args.s c.args.m) ≡ Ref a = ap (λ (rs : List Value). value_or_nil (slice_get rs (place c.args.s c.args.m))) (sym (put_roots first.1 s' c.args.m c.args.s c.args.i c.args.t replies.Done said)) ∙ there in
+    let later : s'.collection ≡ None → ⊥ = (λ e. (let no : true ≡ false = sym c.if-not-is_open.false ∙ (c.is_open.ensures ∙ ap (λ (o : Option Collection). is_some o) e) in absurd cc)) in
+    lives_number s first.1 s' c.args.m (ops.Nil c.args.t) first.0 replies.Done (ops.Put c.args.s c.args.i c.args.t) c.self.inside.watch c.written.new.self a c.args.i c.is_sound.ensures.open refl refl refl said refl
+    (inr (c.in-Some.ensures.low, ap (λ (v : Value). map (λ (name : ℕ). (name, c.args.i)) (names_of v)) root_is, (c.written.ensures.lost, c.written.ensures.wrote)))
+    (was_open s first.1 s' c.args.m (ops.Nil c.args.t) first.0 replies.Done (ops.Put c.args.s c.args.i c.args.t) refl said later) c.self.invariant

@@ -1,0 +1,2 @@
+mod par;
+mod trace;

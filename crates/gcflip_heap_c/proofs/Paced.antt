@@ -1,0 +1,145 @@
+-- What paced work leaves in the logs, and that it stays ahead of the mutators.
+use Rattle.std.proofs.Common.{◌≡◌, ◌≢◌, ◌⊎◌, inl, inr, ⊎_elim, ℕ, zero, suc, ◌+◌, ◌≤◌, true, false, Option, Some, None, refl, ap, ◌∙◌, subst, arith}
+use Rattle.std.specs.Prelude.{min}
+use Rattle.gc_copy.specs.State.{Collection, State, heap_end}
+use Rattle.gc_copy.specs.Belonging.{IsSpaceGraph, IsOpen}
+use Rattle.gc_copy.specs.Progress.{work_with, work_left}
+use Rattle.gc_copy.specs.declared.step.StepReply.{StepReply}
+use Rattle.gc_copy.specs.declared.step.StepReply.TheVariants as replies
+use Rattle.gc_copy.proofs.Progress.{left_bounded}
+use Rattle.gcflip_heap_c.specs.Replies.{step_reply_in_c}
+use Rattle.gcflip_heap_c.specs.Readings.{counts_with, counts_of}
+use Rattle.gcflip_heap_c.specs.Work.{IsWork, goes_on}
+use Rattle.gcflip_heap_c.specs.Pace.{steps_left, spent, steps_due, Pays, pace_after, no_work, CountsAll, HasEnded, IsPacedWork}
+use Rattle.gcflip_heap_c.specs.declared.pace.GcflipPace.{GcflipPace}
+use Rattle.gcflip_heap_c.specs.declared.reading.GcflipCounts.{GcflipCounts}
+use Rattle.gcflip_heap_c.specs.declared.work.GcflipWork.{GcflipWork}
+use Rattle.gcflip_heap_c.proofs.Left.{some_left, entries_low, end_at, logged_low, counts_bound}
+
+-- ---- replies as numbers
+
+-- a reply that is no flip and found room does not end the work
+on_of : (reply : StepReply) → step_reply_in_c reply ≢ 43 → step_reply_in_c reply ≢ 36 → goes_on reply ≡ true
+on_of replies.Busy flip room = refl
+on_of replies.Begun flip room = refl
+on_of replies.Idle flip room = refl
+on_of replies.Clean flip room = refl
+on_of replies.NoRoom flip room = absurd (room refl)
+on_of replies.Copied flip room = refl
+on_of replies.Passed flip room = refl
+on_of replies.Scanned flip room = refl
+on_of replies.Applied flip room = refl
+on_of replies.NotReady flip room = refl
+on_of replies.Refused flip room = refl
+on_of (replies.Flipped pairs) flip room = absurd (flip refl)
+on_of replies.Dropped flip room = refl
+
+off_of : (reply : StepReply) → goes_on reply ≡ false → (step_reply_in_c reply ≡ 43) ⊎ (step_reply_in_c reply ≡ 36)
+off_of replies.Busy off = absurd cc
+off_of replies.Begun off = absurd cc
+off_of replies.Idle off = absurd cc
+off_of replies.Clean off = absurd cc
+off_of replies.NoRoom off = inr refl
+off_of replies.Copied off = absurd cc
+off_of replies.Passed off = absurd cc
+off_of replies.Scanned off = absurd cc
+off_of replies.Applied off = absurd cc
+off_of replies.NotReady off = absurd cc
+off_of replies.Refused off = absurd cc
+off_of (replies.Flipped pairs) off = inl refl
+off_of replies.Dropped off = absurd cc
+
+-- ---- the work of one call
+
+-- the steps lowered the work that is left by their number
+work_falls : (size : Option ℕ) (most : ℕ) (s t : State) (work : GcflipWork) → IsWork size most s t work → work.last ≢ 43 → work.last ≢ 36 → work_left t + work.steps ≤ work_left s
+work_falls size most s t work done flip room = done.run.falls (on_of done.reply (λ e. flip (done.last ∙ e)) (λ e. room (done.last ∙ e)))
+
+work_ends : (most : ℕ) (s t : State) (work : GcflipWork) → IsWork None most s t work → work_left s ≤ most → HasEnded t work
+work_ends most s t work done low = ⊎_elim
+    (λ off. inl (⊎_elim (λ e. inl (done.last ∙ e)) (λ e. inr (done.last ∙ e)) (off_of done.reply off)))
+    (λ fails. inr fails)
+    (done.enough low)
+
+idle_left : (s : State) → (counts_of s).is_open ≡ 0 → work_left s ≡ heap_end s + 1
+idle_left s idle = go s.collection idle
+  where
+    go : (o : Option Collection) → (counts_with s o).is_open ≡ 0 → work_with s o ≡ heap_end s + 1
+    go None e = refl
+    go (Some c) e = absurd cc
+
+module _ (s t : State) (before : GcflipPace) (work : GcflipWork) (due : ℕ)
+    (heap : IsSpaceGraph s.size s.heap.free s.heap.graph) (opened : IsOpen s s.collection) (still : IsOpen t t.collection)
+    (none : due ≡ 0 → (t ≡ s) × (work ≡ no_work)) (some : 1 ≤ due → IsWork None due s t work) where
+  -- no step was due, or some were performed
+  split : (due ≡ 0) ⊎ (1 ≤ due)
+  split = go due refl
+    where
+      go : (n : ℕ) → due ≡ n → (due ≡ 0) ⊎ (1 ≤ due)
+      go zero e = inl e
+      go (suc n) e = inr (omega arith)
+
+  bound : CountsAll (counts_of s) → work_left s ≤ steps_left (counts_of s)
+  bound all = counts_bound s (λ c is. left_bounded s c heap opened is) opened all
+
+  logs_of : CountsAll (counts_of s) → (counts_of t).logged + work.steps ≤ steps_left (counts_of s)
+  logs_of all = ⊎_elim
+      (λ idle. let same = none idle in
+      let steps : work.steps ≡ 0 = ap (λ (w : GcflipWork). w.steps) same.1 in
+      let logged : (counts_of t).logged ≡ (counts_of s).logged = ap (λ (x : State). (counts_of x).logged) same.0 in
+      omega arith)
+      (λ busy. let run = (some busy).run.logs in omega (arith, run, logged_low t still, bound all))
+      split
+
+  enough_of : CountsAll (counts_of s) → steps_left (counts_of s) ≤ due → HasEnded t work
+  enough_of all most = work_ends due s t work (some (omega (arith, most, some_left s, bound all))) (omega (arith, most, bound all))
+
+  begun_of : (counts_of s).is_open ≡ 0 → 1 ≤ work.steps → work.last ≢ 43 → work.last ≢ 36 → work_left t ≤ (counts_of s).end
+  begun_of idle steps flip room = ⊎_elim
+      (λ quiet. let none_made : work.steps ≡ 0 = ap (λ (w : GcflipWork). w.steps) (none quiet).1 in absurd (omega (arith, steps)))
+      (λ busy. omega (arith, work_falls None due s t work (some busy) flip room, steps, idle_left s idle, end_at s))
+      split
+
+  -- the work after the call
+  ahead_of : (most gone : ℕ) → min (min gone (steps_left (counts_of s))) 4294967295 ≤ due → gone ≤ 4294967295 → CountsAll (counts_of s) → work.steps ≡ due → work.last ≢ 43 → work.last ≢ 36
+      → work_left s ≤ most + gone → work_left t ≤ most
+  ahead_of most gone pays few all made flip room low = ⊎_elim
+      (λ quiet. let same : work_left t ≡ work_left s = ap work_left (none quiet).0 in omega (arith, low, quiet, pays, few, some_left s, bound all))
+      (λ busy. omega (arith, work_falls None due s t work (some busy) flip room, low, made, pays, few, some_left t, bound all))
+      split
+
+pub paced_work : (wanted : ℕ) (s t : State) (before after : GcflipPace) (work : GcflipWork)
+    → IsSpaceGraph s.size s.heap.free s.heap.graph → IsOpen s s.collection → IsOpen t t.collection
+    → (steps_due before (counts_of s) wanted ≡ 0 → (t ≡ s) × (work ≡ no_work))
+    → (1 ≤ steps_due before (counts_of s) wanted → IsWork None (steps_due before (counts_of s) wanted) s t work)
+    → Pays before (counts_of s) (steps_due before (counts_of s) wanted) → after ≡ pace_after before work (counts_of t)
+    → IsPacedWork wanted s t before after work
+paced_work wanted s t before after work heap opened still none some paid pace = record {
+  none = none;
+  some = some;
+  paid = paid;
+  pace = pace;
+  logs = logs_of s t before work (steps_due before (counts_of s) wanted) heap opened still none some;
+  enough = enough_of s t before work (steps_due before (counts_of s) wanted) heap opened still none some;
+  begun = begun_of s t before work (steps_due before (counts_of s) wanted) heap opened still none some;
+  ahead = λ most on low.
+      let left = ahead_of s t before work (steps_due before (counts_of s) wanted) heap opened still none some most (spent before (counts_of s)) (paid on.collecting) on.few on.counted on.performed on.unflipped on.roomy low in
+      omega (arith, left);
+  fewer = omega (arith, logged_low t still, entries_low t);
+}
+
+-- the same, as the call finds the counts and the steps that are due
+pub paced_call : (wanted due : ℕ) (s t : State) (before after : GcflipPace) (work : GcflipWork) (counts later : GcflipCounts)
+    → due ≡ steps_due before counts wanted → Pays before counts due
+    → (due ≡ 0 → (t ≡ s) × (work ≡ no_work)) → (1 ≤ due → IsWork None due s t work)
+    → after ≡ pace_after before work later
+    → counts ≡ counts_of s → later ≡ counts_of t
+    → IsSpaceGraph s.size s.heap.free s.heap.graph → IsOpen s s.collection → IsOpen t t.collection
+    → IsPacedWork wanted s t before after work
+paced_call wanted due s t before after work counts later is pays none some pace at then heap opened still =
+    let same : due ≡ steps_due before (counts_of s) wanted = is ∙ ap (λ (n : GcflipCounts). steps_due before n wanted) at in
+    paced_work wanted s t before after work heap opened still
+    (subst (λ (n : ℕ). n ≡ 0 → (t ≡ s) × (work ≡ no_work)) same none)
+    (subst (λ (n : ℕ). 1 ≤ n → IsWork None n s t work) same some)
+    (subst (λ (n : ℕ). Pays before (counts_of s) n) same (subst (λ (n : GcflipCounts). Pays before n due) at pays))
+    (pace ∙ ap (pace_after before work) then)

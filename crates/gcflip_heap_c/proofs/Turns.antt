@@ -1,0 +1,108 @@
+-- Paced work stays ahead of the mutators through many calls.
+use Rattle.std.proofs.Common.{◌≡◌, ℕ, zero, suc, ◌+◌, ◌-◌, ◌<◌, ◌≤◌, nat_lt, List, [], ◌∷◌, ◌++◌, set, slice_get, Option, Some, None, refl, ap, sym, subst, arith}
+use Rattle.std.proofs.lemmas.Bool.{cond_both}
+use Rattle.std.proofs.lemmas.List.{length-append}
+use Rattle.gc_graph.specs.Machine.{Roomy, words_taken}
+use Rattle.gc_graph.specs.declared.command.Op.{Op}
+use Rattle.gc_graph.specs.declared.reply.Reply.{Reply}
+use Rattle.gc_copy.specs.State.{Collection, State, heap_end}
+use Rattle.gc_copy.specs.Belonging.{IsState}
+use Rattle.gc_copy.specs.Steps.{log_or_nil, logged, written, mutate, useful_step}
+use Rattle.gc_copy.specs.Progress.{entries_in, work_left, entries_with, entries_left}
+use Rattle.gc_copy.proofs.Steps.{collect_keeps, mutate_keeps}
+use Rattle.gc_copy.proofs.Progress.{useful_ranges, command_raises}
+use Rattle.gcflip_heap_c.specs.Readings.{counts_of}
+use Rattle.gcflip_heap_c.specs.Work.{after_useful}
+use Rattle.gcflip_heap_c.specs.Pace.{steps_due, CountsAll, IsAhead, IsPacedWork}
+use Rattle.gcflip_heap_c.specs.Turns.{Turn, after_commands, AreCommands, AreTurns, after_turns, Remembers}
+use Rattle.gcflip_heap_c.specs.declared.pace.GcflipPace.{GcflipPace}
+use Rattle.gcflip_heap_c.specs.declared.work.GcflipWork.{GcflipWork}
+use Rattle.gcflip_heap_c.proofs.Left.{entries_low, end_at, logged_low, logged_all}
+
+-- ---- commands take no word and no entry away
+
+entries_more : (logs : List (List (ℕ × ℕ))) (m : ℕ) (more : List (ℕ × ℕ)) → entries_in logs ≤ entries_in (set logs m (log_or_nil (slice_get logs m) ++ more))
+entries_more [] m more = omega arith
+entries_more (log ∷ logs) zero more = let len = length-append log more in omega arith
+entries_more (log ∷ logs) (suc m) more = let others = entries_more logs m more in omega arith
+
+entries_grow : (o : Option Collection) (m : ℕ) (more : List (ℕ × ℕ)) → entries_with o ≤ entries_with (logged o m more)
+entries_grow None m more = omega arith
+entries_grow (Some c) m more = entries_more c.logs m more
+
+end_grows : (s : State) (m : ℕ) (op : Op) → heap_end s ≤ heap_end (mutate s m op).1
+end_grows s m op = cond_both (nat_lt s.heap.free (words_taken op)) _ _ (λ (next : Reply × Roomy). s.size - s.heap.free ≤ s.size - next.1.free)
+    (λ full. omega arith) (λ fits. omega arith)
+
+-- what commands made of the state s
+record IsRaised (s t : State) : Type 0 where
+  pub state : IsState t
+  pub end : heap_end s ≤ heap_end t
+  pub entries : entries_left s ≤ entries_left t
+  pub work : work_left t + heap_end s + entries_left s ≡ work_left s + heap_end t + entries_left t
+
+raised : (s : State) (commands : List (ℕ × Op)) → IsState s → AreCommands s.mutators commands → IsRaised s (after_commands s commands)
+raised s [] h k = record { state = h; end = omega arith; entries = omega arith; work = refl }
+raised s (command ∷ rest) h k =
+    let next = (mutate s command.0 command.1).1 in
+    let later = raised next rest (mutate_keeps s command.0 command.1 h k.0.0 k.0.1) k.1 in
+    let work = command_raises s command.0 command.1 h.heap h.collection k.0.0 in
+    let end = end_grows s command.0 command.1 in
+    let entries = entries_grow s.collection command.0 (written s.heap.graph command.0 command.1 (mutate s command.0 command.1).0) in
+    let later_end = later.end in
+    let later_entries = later.entries in
+    let later_work = later.work in
+    record { state = later.state; end = omega arith; entries = omega arith; work = omega arith }
+
+ahead_before : (s t : State) (pace : GcflipPace) (most : ℕ) → IsState s → IsRaised s t → Remembers pace s → CountsAll (counts_of t) → work_left s ≤ most → IsAhead most pace t
+ahead_before s t pace most h k remembers all low =
+    let end = remembers.end in
+    let logged = remembers.logged in
+    let more = k.end in
+    let entries = k.entries in
+    let work = k.work in
+    let now : (counts_of t).logged ≡ entries_left t = logged_all t (k.state).collection all in
+    let was : (counts_of s).logged ≤ entries_left s = logged_low s h.collection in
+    omega (arith, end_at s, end_at t, low)
+
+-- ---- calls
+
+useful_keep : (n : ℕ) (s : State) → IsState s → IsState (after_useful None n s)
+useful_keep zero s h = h
+useful_keep (suc n) s h =
+    let now = useful_keep n s h in
+    collect_keeps (after_useful None n s) (useful_step (after_useful None n s)) now (useful_ranges (after_useful None n s) now.collection)
+
+call_keeps : (wanted : ℕ) (s t : State) (before after : GcflipPace) (work : GcflipWork) → IsPacedWork wanted s t before after work → IsState s → IsState t
+call_keeps wanted s t before after work paced h = go (steps_due before (counts_of s) wanted) refl
+  where
+    go : (n : ℕ) → steps_due before (counts_of s) wanted ≡ n → IsState t
+    go zero e = subst IsState (sym (paced.none e).0) h
+    go (suc n) e = let done = paced.some (omega (arith, e)) in subst IsState (sym (done.run).state) (useful_keep work.steps s h)
+
+call_remembers : (wanted : ℕ) (s t : State) (before after : GcflipPace) (work : GcflipWork) → IsPacedWork wanted s t before after work → Remembers after t
+call_remembers wanted s t before after work paced = record {
+  end = ap (λ (p : GcflipPace). p.end) paced.pace;
+  logged = ap (λ (p : GcflipPace). p.logged) paced.pace;
+}
+
+pub turns_ahead : (s : State) (pace : GcflipPace) (turns : List Turn) (most : ℕ) → IsState s → Remembers pace s → AreTurns s pace turns → work_left s ≤ most → IsState (after_turns s turns) × (work_left (after_turns s turns) ≤ most)
+turns_ahead s pace [] most h remembers k low = (h, low)
+turns_ahead s pace (turn ∷ turns) most h remembers k low =
+    let one = k.0 in
+    let now = raised s turn.commands h one.commands in
+    let ahead = (one.work).ahead most one.goes_on (ahead_before s (after_commands s turn.commands) pace most h now remembers (one.goes_on).counted low) in
+    let kept = call_remembers turn.wanted (after_commands s turn.commands) turn.state pace turn.pace turn.work one.work in
+    let end = kept.end in
+    let logged = kept.logged in
+    turns_ahead turn.state turn.pace turns most
+    (call_keeps turn.wanted (after_commands s turn.commands) turn.state pace turn.pace turn.work one.work now.state)
+    kept k.1 (omega (arith, ahead))
+
+pub turns_work : (s : State) (pace : GcflipPace) (turns : List Turn) (most : ℕ) → IsState s → Remembers pace s → AreTurns s pace turns → work_left s ≤ most → work_left (after_turns s turns) ≤ most
+turns_work s pace turns most h remembers k low = (turns_ahead s pace turns most h remembers k low).1
+
+pub turns_logs : (s : State) (pace : GcflipPace) (turns : List Turn) (most : ℕ) → IsState s → Remembers pace s → AreTurns s pace turns → work_left s ≤ most → (counts_of (after_turns s turns)).logged < most
+turns_logs s pace turns most h remembers k low =
+    let last = turns_ahead s pace turns most h remembers k low in
+    omega (arith, last.1, logged_low (after_turns s turns) (last.0).collection, entries_low (after_turns s turns))

@@ -1,0 +1,5 @@
+use Rattle.gcflip_heap_c.proofs.Turns.{turns_work, turns_logs}
+use Rattle.gcflip_heap_c.proofs.laws.paced_work_bounds_logs.Goals as goal
+
+pub returns : goal.returns
+returns c = record { work = turns_work; logs = turns_logs }

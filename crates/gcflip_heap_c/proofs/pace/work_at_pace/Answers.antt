@@ -1,0 +1,9 @@
+use Rattle.gcflip_heap_c.proofs.Paced.{paced_call}
+use Rattle.gcflip_heap_c.proofs.pace.work_at_pace.Goals as goal
+
+pub returns-clause-done : goal.returns-clause-done
+returns-clause-done c =
+    paced_call c.args.wanted c.gcflip_pace_due-due.result c.args.heap.now c.work_due.new.heap c.args.pace.now c.pace_after-pace.result c.in_ok-work.work
+    c.counts_of.result c.counts_of-2.result c.gcflip_pace_due-due.ensures.due c.gcflip_pace_due-due.ensures.paid
+    c.in_ok-work.ensures.none c.in_ok-work.ensures.some c.pace_after-pace.ensures c.counts_of.ensures c.counts_of-2.ensures
+    c.is_sound.ensures.heap c.is_sound.ensures.open c.is_sound-2.ensures.open

@@ -1,0 +1,46 @@
+-- Many calls of paced work, with commands of mutators between them.
+use Rattle.std.specs.Prelude.{◌≡◌, ℕ, ◌<◌, List, [], ◌∷◌, ⊤}
+use Rattle.gc_graph.specs.declared.command.Op.{Op}
+use Rattle.gc_copy.specs.State.{State}
+use Rattle.gc_copy.specs.Steps.{mutate}
+use Rattle.gc_copy.specs.Runs.{HasRange}
+use Rattle.gcflip_heap_c.specs.Pace.{GoesOn, IsPacedWork}
+use Rattle.gcflip_heap_c.specs.Readings.{counts_of}
+use Rattle.gcflip_heap_c.specs.declared.pace.GcflipPace.{GcflipPace}
+use Rattle.gcflip_heap_c.specs.declared.work.GcflipWork.{GcflipWork}
+
+-- Commands, each with its mutator, and then a call of paced work: the words wanted, what it did, and the state and the pace after it.
+pub record Turn : Type 0 where
+  pub commands : List (ℕ × Op)
+  pub wanted : ℕ
+  pub work : GcflipWork
+  pub state : State
+  pub pace : GcflipPace
+
+abbrev pub after_commands : State → List (ℕ × Op) → State
+after_commands s [] = s
+after_commands s (command ∷ rest) = after_commands (mutate s command.0 command.1).1 rest
+
+-- each mutator exists, and each command's numbers are in range
+abbrev pub AreCommands : ℕ → List (ℕ × Op) → Type 0
+AreCommands mutators [] = ⊤
+AreCommands mutators (command ∷ rest) = ((command.0 < mutators) × HasRange command.1) × AreCommands mutators rest
+
+-- the turn begins in this state and with this pace; the collection is open before and after its call
+pub record IsTurn (s : State) (pace : GcflipPace) (turn : Turn) : Type 0 where
+  pub commands : AreCommands s.mutators turn.commands
+  pub work : IsPacedWork turn.wanted (after_commands s turn.commands) turn.state pace turn.pace turn.work
+  pub goes_on : GoesOn turn.wanted (after_commands s turn.commands) pace turn.work
+
+abbrev pub AreTurns : State → GcflipPace → List Turn → Type 0
+AreTurns s pace [] = ⊤
+AreTurns s pace (turn ∷ turns) = IsTurn s pace turn × AreTurns turn.state turn.pace turns
+
+abbrev pub after_turns : State → List Turn → State
+after_turns s [] = s
+after_turns s (turn ∷ turns) = after_turns turn.state turns
+
+-- the pace remembers the counts of this state
+pub record Remembers (pace : GcflipPace) (s : State) : Type 0 where
+  pub end : pace.end ≡ (counts_of s).end
+  pub logged : pace.logged ≡ (counts_of s).logged

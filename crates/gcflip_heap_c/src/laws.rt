@@ -1,0 +1,20 @@
+//! A law about many calls of paced work.
+
+ghost use Rattle.std.specs.Prelude.{◌<◌, ◌≤◌, ℕ, List};
+ghost use Rattle.gc_copy.specs.State.{State};
+ghost use Rattle.gc_copy.specs.Belonging.{IsState};
+ghost use Rattle.gc_copy.specs.Progress.{work_left};
+ghost use Rattle.gcflip_heap_c.specs.Readings.{counts_of};
+ghost use Rattle.gcflip_heap_c.specs.Turns.{Turn, AreTurns, Remembers, after_turns};
+ghost use Rattle.gcflip_heap_c.specs.declared.pace.GcflipPace.{GcflipPace};
+
+/// If calls of paced work alone keep a collection going, with commands between them, then after each call all logs together have fewer
+/// entries than work was left at first. After the begin that is at most the heap's end.
+pub fn paced_work_bounds_logs()
+    ensures work { (s : State) (pace : GcflipPace) (turns : List Turn) (most : ℕ)
+        → IsState s → Remembers pace s → AreTurns s pace turns → work_left s ≤ most
+        → work_left (after_turns s turns) ≤ most }
+    ensures logs { (s : State) (pace : GcflipPace) (turns : List Turn) (most : ℕ)
+        → IsState s → Remembers pace s → AreTurns s pace turns → work_left s ≤ most
+        → (counts_of (after_turns s turns)).logged < most }
+{}

@@ -1,0 +1,125 @@
+"""Builds programs over the libraries for C and C++, for the tests that need them.
+
+bindings/c builds and installs the library. If a compiler or a sanitizer is missing, that way of building is skipped, and a
+line says so.
+"""
+import os
+import shutil
+import subprocess
+
+from .harness import Outcome, file_of
+
+TOP = os.path.join(os.path.dirname(os.path.abspath(__file__)), "..", "..")
+SOURCES = os.path.join(TOP, "tests", "c")
+EXAMPLE_PROGRAMS = os.path.join(TOP, "bindings", "c", "examples")
+SECONDS = 120
+# Libraries that have changed are proved first.
+PROVING_SECONDS = 3600
+WARNINGS = ["-Wall", "-Wextra", "-Wpedantic", "-Werror"]
+SANITIZERS = ["-g", "-fsanitize=address,undefined", "-fno-sanitize-recover=all"]
+# Runs a program, and ends it with status 99 if it reads what was never written, or loses a block.
+VALGRIND = ["valgrind", "-q", "--error-exitcode=99", "--leak-check=full"]
+
+
+def skip(what, why):
+    print("SKIPPED %s: %s" % (what, why), flush=True)
+
+
+def done(words, timeout=SECONDS, **more):
+    """Runs a command, and returns its outcome."""
+    ran = subprocess.run(words, stdout=subprocess.PIPE, stderr=subprocess.PIPE, timeout=timeout, **more)
+    return Outcome(ran.stdout, ran.stderr, ran.returncode)
+
+
+def toolchain_clang():
+    """Returns the command for the toolchain's clang, with gcc's headers, which it lacks. None if either is missing."""
+    rt, gcc = shutil.which("rt"), shutil.which("gcc")
+    if not rt or not gcc:
+        return None
+    tools = os.path.join(os.path.dirname(os.path.dirname(os.path.realpath(rt))), "toolchain", "bin")
+    clang, linker = [os.path.join(tools, name) for name in ("clang", "ld.lld")]
+    headers = done([gcc, "-print-file-name=include"]).stdout.decode().strip()
+    return [clang, "--ld-path=" + linker, "-isystem", headers] if os.path.exists(clang) else None
+
+
+def compilers():
+    """Yields the ways to build a program: a name, the command for C, and the command for C++."""
+    clang = toolchain_clang()
+    yield "gcc", ["gcc"], ["g++"]
+    yield "gcc with sanitizers", ["gcc", *SANITIZERS], ["g++", *SANITIZERS]
+    if clang:
+        yield "the toolchain's clang", clang, [*clang, "--driver-mode=g++"]
+    else:
+        skip("the toolchain's clang", "it is missing")
+
+
+class Library:
+    """The library as bindings/c installs it."""
+
+    def __init__(self, folder):
+        self.folder = folder
+        self.prefix = os.path.join(folder, "installed")
+        self.lib = os.path.join(self.prefix, "lib")
+        self.made = self.install(self.prefix)
+
+    def install(self, prefix, target="install"):
+        """Builds the library, and installs it there; or removes it, if that is the target."""
+        words = ["make", "-C", os.path.join(TOP, "bindings", "c"), target, "PREFIX=" + prefix]
+        return done([*words, "OUT=" + os.path.join(self.folder, "out")], timeout=PROVING_SECONDS)
+
+    def flags(self, prefix=None):
+        """Returns what pkg-config says about it."""
+        environment = dict(os.environ, PKG_CONFIG_PATH=os.path.join(prefix or self.prefix, "lib", "pkgconfig"))
+        return done(["pkg-config", "--cflags", "--libs", "gcflip"], env=environment).stdout.decode().split()
+
+    def build(self, compiler, source, linked):
+        """Returns the path of the program, and why it was not built, or None."""
+        program = os.path.join(self.folder, "program")
+        standard = "-std=c++11" if source.endswith(".cpp") else "-std=gnu11"
+        words = [*compiler, standard, "-O2", "-pthread", *WARNINGS, "-I" + os.path.join(self.prefix, "include")]
+        built = done([*words, "-o", program, os.path.join(SOURCES, source), *linked])
+        return program, None if built.status == 0 else "not built: %s" % built.stderr.decode()
+
+    def build_example(self, name, sanitizers=SANITIZERS):
+        """Returns the path of a program of bindings/c/examples, and why it was not built, or None."""
+        program = os.path.join(self.folder, "example")
+        words = ["gcc", "-std=c99", "-pthread", *WARNINGS, *sanitizers, "-I" + os.path.join(self.prefix, "include"), "-o", program]
+        built = done([*words, os.path.join(EXAMPLE_PROGRAMS, name), *self.archive()])
+        return program, None if built.status == 0 else "not built: %s" % built.stderr.decode()
+
+    def archive(self):
+        return [os.path.join(self.lib, "libgcflip.a")]
+
+    def shared(self):
+        return ["-L" + self.lib, "-Wl,-rpath," + self.lib, "-lgcflip"]
+
+
+def library(folder):
+    """Returns the installed library, or None, with a line that says so, if nothing can be built."""
+    missing = [tool for tool in ("make", "gcc", "g++", "ar") if not shutil.which(tool)]
+    if missing:
+        skip("the libraries for C", "no %s" % ", ".join(missing))
+        return None
+    return Library(folder)
+
+
+def usable(folder, name, compiler):
+    """Returns whether programs built in this way run. If they do not, a line says so."""
+    if not shutil.which(compiler[0]):
+        skip(name, "no %s" % compiler[0])
+        return False
+    source = file_of(folder, "nothing.c", b"int main(void) { return 0; }\n")
+    program = os.path.join(folder, "nothing")
+    built = done([*compiler, "-o", program, source])
+    if built.status == 0 and done([program]).status == 0:
+        return True
+    skip(name, "it builds no program that runs")
+    return False
+
+
+def has_valgrind(what):
+    """Returns whether valgrind is there. If not, a line says so."""
+    if shutil.which("valgrind") is None:
+        skip("%s by valgrind" % what, "it is missing")
+        return False
+    return True
