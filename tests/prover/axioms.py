@@ -28,10 +28,15 @@ def lines_to_keep(output):
 
 
 def keep(name, output):
-    """Keeps the verdict in the prover's output."""
+    """Keeps the verdict in the prover's output. Where it has none, as when 'rt ci' took the proof from an earlier run, none is kept."""
+    lines = lines_to_keep(output)
+    if not lines:
+        if os.path.exists(kept(name)):
+            os.remove(kept(name))
+        return
     os.makedirs(os.path.dirname(kept(name)), exist_ok=True)
     with open(kept(name), "w", encoding="utf-8") as file:
-        file.write("".join(line + "\n" for line in lines_to_keep(output)))
+        file.write("".join(line + "\n" for line in lines))
 
 
 def counts_in(text):
