@@ -9,6 +9,7 @@ import sys
 
 from prover.axioms import PRODUCTS, counts_in, lines_to_keep, row_of, verdict_of
 from prover.crates import CRATES, TOP, crates_listed
+from prover.doors import faults, imports_of, rows
 from prover.edits import BadEdit, Edit, edits_of
 
 from .c_builds import library
@@ -433,6 +434,24 @@ def crates_tried(_program, _folder):
         yield "code of %s" % crate, ", ".join(others) or None if is_behind_tests else "its module of tests is in every build"
 
 
+# ---- what proofs cite of other crates
+
+# Sources of gc_heap, with the imports across crates that are found in them.
+IMPORTS = [("use Rattle.gc_words.proofs.Walks.{a, b as c}", [("gc_words", "Walks", ["a", "b"])]),
+           ("use Rattle.gc_words.proofs.Walks as walks", [("gc_words", "Walks", None)]),
+           ("#[tactic(auto, using(gc_words::proofs::Walks::a))]", [("gc_words", "Walks", ["a"])]),
+           ("use Rattle.gc_heap.proofs.Commands.{a}\nuse Rattle.std.proofs.Common.{a}", []), ("use Rattle.gc_words.proofs.space.Space.TheLaws as laws", [])]
+
+
+def doors(_program, _folder):
+    """Proofs cite other crates' proofs through proofs/Public.antt alone, which passes on nothing that no crate cites."""
+    yield "doors", "; ".join(list(faults())[:10]) or None
+    yield "crates with a door", None if list(rows()) else "none"
+    for text, wanted in IMPORTS:
+        found = list(imports_of("gc_heap", text))
+        yield "imports in %r" % text, None if found == wanted else "found %s" % found
+
+
 # ---- quoted code
 
 def pieces(block):
@@ -755,4 +774,4 @@ def applied_edits(_program, _folder):
             yield "edit %s/%s" % (crate, name), why_not_applied(crate, name)
 
 
-GROUPS = [names, words, files, memory_answers, names_of_calls, old_names, edits, edits_in_ci, crates_tried, hand_tried, applied_edits, quotes, names_in_c, outputs_in_c, c_of_readme, adapter_shown, first_screen, commands, commands_of_tables, definitions, counts, architecture, glossary, told_again, axioms]
+GROUPS = [names, words, files, memory_answers, names_of_calls, old_names, edits, edits_in_ci, crates_tried, hand_tried, doors, applied_edits, quotes, names_in_c, outputs_in_c, c_of_readme, adapter_shown, first_screen, commands, commands_of_tables, definitions, counts, architecture, glossary, told_again, axioms]

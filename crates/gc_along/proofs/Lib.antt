@@ -9,3 +9,4 @@ pub mod Codes
 pub mod Kept
 pub mod Marks
 pub mod ToldTruth
+pub mod Public

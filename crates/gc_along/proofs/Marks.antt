@@ -6,7 +6,7 @@ use Rattle.std.proofs.lemmas.List.{get_or-set_other, take-append-le}
 use Rattle.gc_words.specs.Image.{Block, is_start, field_at}
 use Rattle.gc_words.specs.Layout.{field_place, link_place}
 use Rattle.gc_words.specs.declared.header.Header.{Header}
-use Rattle.gc_words.proofs.Writes.{some_of}
+use Rattle.gc_words.proofs.Public.{some_of}
 use Rattle.gc_along.specs.Watch.{IsSeen, IsNext, seen_at}
 use Rattle.gc_along.specs.Events.{code_of, object_codes}
 use Rattle.gc_along.specs.Telling.{IsMark, MarksStarts}

@@ -9,7 +9,7 @@ use Rattle.std.proofs.lemmas.List.Elements.{All-weaker}
 use Rattle.gc_words.specs.Word.{field_words_correspond}
 use Rattle.gc_words.specs.Image.{Image, Block, HasShape, IsShaped, block_at}
 use Rattle.gc_words.specs.Certificate.{BlocksCorrespond, Certified}
-use Rattle.gc_words.proofs.Starts.{stands_in}
+use Rattle.gc_words.proofs.Public.{stands_in}
 use Rattle.gc_along.specs.Watch.{Watch, IsSeen, IsWatched, Watches, HasSeenAll, IsSized, RootsCorrespond, is_due, seen_at, bit}
 
 pub all_of : (n : ℕ) (words : List ℕ) → n ≡ length words → take n words ≡ words

@@ -12,8 +12,7 @@ use Rattle.gc_words.specs.Walking.{StandsIn, block_from}
 use Rattle.gc_words.specs.Certificate.{Certified}
 use Rattle.gc_words.specs.Layout.{field_place, fields_place, link_place}
 use Rattle.gc_words.specs.declared.header.Header.{Header}
-use Rattle.gc_words.proofs.Starts.{stands_in}
-use Rattle.gc_words.proofs.Writes.{header_read, field_read, space_of, some_of}
+use Rattle.gc_words.proofs.Public.{stands_in, header_read, field_read, space_of, some_of}
 use Rattle.gc_along.specs.Watch.{Watch, IsSeen, IsNext, IsWatched, Watches, OldIsDue, NewIsDue, mark, is_due, pair_at, seen_at, looked, old_walked, opening}
 use Rattle.gc_along.specs.Watch.{placed as placed_watch}
 use Rattle.gc_along.specs.Origins.{pairs_in, pairs_from}

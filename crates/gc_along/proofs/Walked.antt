@@ -15,10 +15,7 @@ use Rattle.gc_words.specs.Walking.{block_from}
 use Rattle.gc_words.specs.Space.{IsSpace}
 use Rattle.gc_words.specs.Layout.{field_place}
 use Rattle.gc_words.specs.declared.header.Header.{Header}
-use Rattle.gc_words.proofs.Walks.{walk_placed, written_back}
-use Rattle.gc_words.proofs.Starts.{stands_in, walked_blocks}
-use Rattle.gc_words.proofs.Writes.{space_of}
-use Rattle.gc_words.proofs.Blocks.{none_at_end}
+use Rattle.gc_words.proofs.Public.{walk_placed, written_back, stands_in, walked_blocks, space_of, none_at_end}
 use Rattle.gc_along.specs.Watch.{Watch, IsSeen, IsNext, IsWatched, Watches, is_due, seen_at, front, old_walked, new_walked, placed, opening}
 use Rattle.gc_along.proofs.Looks.{watched_by}
 

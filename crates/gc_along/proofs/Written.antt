@@ -6,8 +6,7 @@ use Rattle.std.proofs.Math.Seq.{take-set-lt}
 use Rattle.gc_words.specs.Image.{Block, block_at, is_start, field_at, with_field_word, block_in}
 use Rattle.gc_words.specs.Space.{IsSpace}
 use Rattle.gc_words.specs.Layout.{field_place, link_place}
-use Rattle.gc_words.proofs.Writes.{field_read, field_written, link_written, header_read}
-use Rattle.gc_words.proofs.Blocks.{field_block, field_beside}
+use Rattle.gc_words.proofs.Public.{field_read, field_written, link_written, header_read, field_block, field_beside}
 use Rattle.gc_along.specs.Watch.{Watch, IsSeen, IsWatched, Watches, OldIsDue, NewIsDue, is_due, seen_at, front}
 
 -- the element at place j after a write at place i

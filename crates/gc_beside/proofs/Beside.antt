@@ -7,8 +7,7 @@ use Rattle.gc_copy.specs.Members.{In}
 use Rattle.gc_copy.specs.Belonging.{IsOpened, IsSpaceGraph}
 use Rattle.gc_copy.specs.declared.step.StepReply.{StepReply}
 use Rattle.gc_copy.specs.declared.step.StepReply.TheVariants.{Clean, NoRoom, Copied, Passed, Scanned, Applied}
-use Rattle.gc_copy.proofs.Lists.{in_map, in_map_from, find_some, in_left}
-use Rattle.gc_copy.proofs.Replicas.{pair}
+use Rattle.gc_copy.proofs.Public.{in_map, in_map_from, find_some, in_left, pair}
 use Rattle.gc_beside.specs.Stays.{LosesOnly}
 use Rattle.gc_along.specs.Tables.{Tables, watch_of}
 use Rattle.gc_along.specs.Events.{Placed, Looked, Applied as AppliedTo}

@@ -11,10 +11,8 @@ use Rattle.gc_copy.specs.Members.{In}
 use Rattle.gc_copy.specs.Belonging.{IsOpened}
 use Rattle.gc_copy.specs.declared.step.StepReply.{StepReply}
 use Rattle.gc_copy.specs.declared.step.StepReply.TheVariants.{Clean, NoRoom, Copied, Passed, Scanned, Applied}
-use Rattle.gc_copy.proofs.Commands.{Evolves, WrittenBy, unchanged, step_evolves}
-use Rattle.gc_copy.proofs.Replicas.{AreReplicas, replicas_due}
-use Rattle.gc_copy.proofs.Steps.{unreplicated_some, no_replica}
-use Rattle.gc_heap.proofs.Commands.{none_of}
+use Rattle.gc_copy.proofs.Public.{Evolves, WrittenBy, unchanged, step_evolves, AreReplicas, replicas_due, unreplicated_some, no_replica}
+use Rattle.gc_heap.proofs.Public.{none_of}
 use Rattle.gc_along.specs.Watch.{Watch}
 use Rattle.gc_beside.specs.Stays.{DueFor, Fits, GoesAlong, LosesOnly, LosesNone, MarksWritten}
 use Rattle.gc_beside.proofs.Stays.{Sound, sound, watched, brought, placed_next, commanded, moved_on}

@@ -9,3 +9,4 @@ pub mod Beside
 pub mod Lives
 pub mod LivesOn
 pub mod LivesThrough
+pub mod Public

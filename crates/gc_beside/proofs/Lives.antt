@@ -10,7 +10,7 @@ use Rattle.gc_copy.specs.declared.step.Step.{Step}
 use Rattle.gc_copy.specs.declared.step.Step.TheVariants as steps
 use Rattle.gc_copy.specs.declared.step.StepReply.{StepReply}
 use Rattle.gc_copy.specs.declared.step.StepReply.TheVariants.{Clean, Copied, Passed, Scanned, Applied, Busy, Begun}
-use Rattle.gc_copy.proofs.Steps.{steps_stay}
+use Rattle.gc_copy.proofs.Public.{steps_stay}
 use Rattle.gc_along.specs.Watch.{Watch, opening}
 use Rattle.gc_along.specs.Tables.{Tables, watch_of}
 use Rattle.gc_along.specs.Events.{Placed, Looked, Applied as AppliedTo, Freed, flipped_tables, opening_tables}

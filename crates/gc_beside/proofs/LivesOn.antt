@@ -16,15 +16,14 @@ use Rattle.gc_copy.specs.Linked.{object_header}
 use Rattle.gc_copy.specs.Steps.{mutate, written, log_at, with_log, logged}
 use Rattle.gc_copy.specs.Members.{In}
 use Rattle.gc_copy.specs.Belonging.{IsSpaceGraph, IsOpened, IsOpen}
-use Rattle.gc_copy.proofs.Images.{end_is}
-use Rattle.gc_copy.proofs.Lists.{in_right}
+use Rattle.gc_copy.proofs.Public.{end_is, in_right}
 use Rattle.gc_along.specs.Watch.{Watch, opening}
 use Rattle.gc_beside.specs.Stays.{Fits, MarksWritten}
 use Rattle.gc_along.specs.Tables.{Tables, watch_of}
 use Rattle.gc_along.specs.Events.{Made, Wrote, object_codes}
 use Rattle.gc_beside.specs.Internal.Live.{GoesBeside, IsLive, heap_words}
 use Rattle.gc_beside.proofs.Events.{Goes, command_made}
-use Rattle.gc_along.proofs.Kept.{codes_length}
+use Rattle.gc_along.proofs.Public.{codes_length}
 use Rattle.gc_beside.proofs.Shown.{AreSized, shown_at}
 use Rattle.gc_beside.proofs.Told.{told_wrote}
 use Rattle.gc_beside.proofs.Lives.{or_lost}

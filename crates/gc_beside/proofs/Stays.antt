@@ -7,8 +7,7 @@ use Rattle.gc_copy.specs.State.{Collection, new_objects, new_end, replica_of}
 use Rattle.gc_copy.specs.Steps.{place_replica, bring_up_to_date, fresh_collection}
 use Rattle.gc_copy.specs.Members.{In, Distinct}
 use Rattle.gc_copy.specs.Belonging.{Laid, HasRawNumbers, IsReplica, Belongs}
-use Rattle.gc_copy.proofs.Commands.{Evolves}
-use Rattle.gc_copy.proofs.Replicas.{pair, replicas_end, AreReplicas, replicas_due, replicas_evolve}
+use Rattle.gc_copy.proofs.Public.{Evolves, pair, replicas_end, AreReplicas, replicas_due, replicas_evolve}
 use Rattle.gc_along.specs.Watch.{Watch, is_due, opening}
 use Rattle.gc_beside.specs.Stays.{DueFor, Fits, GoesAlong, LosesOnly, LosesNone, MarksWritten}
 use Rattle.gc_beside.proofs.Bringing.{Grown, placing, bringing}

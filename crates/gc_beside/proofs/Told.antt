@@ -11,21 +11,13 @@ use Rattle.gc_copy.specs.Linked.{object_header, linked_space, new_links, origina
 use Rattle.gc_copy.specs.State.{Replica, Collection, State, new_end, new_objects, pairs_of}
 use Rattle.gc_copy.specs.Members.{In, Distinct}
 use Rattle.gc_copy.specs.Belonging.{Laid, IsOpened, IsState, IsSpaceGraph}
-use Rattle.gc_copy.proofs.Heap.{laid_range, laid_apart, lookup_in}
-use Rattle.gc_copy.proofs.Links.{found_by_place}
-use Rattle.gc_copy.proofs.Lists.{in_map, in_map_from}
-use Rattle.gc_copy.proofs.Replicas.{pair, placed, paired_in, in_paired}
-use Rattle.gc_copy.proofs.Steps.{same_place}
+use Rattle.gc_copy.proofs.Public.{laid_range, laid_apart, lookup_in, found_by_place, in_map, in_map_from, pair, placed, paired_in, in_paired, same_place}
 use Rattle.gc_along.specs.Watch.{Watch, is_due}
 use Rattle.gc_beside.specs.Stays.{Fits, LosesOnly, LosesNone, MarksWritten}
 use Rattle.gc_along.specs.Origins.{pairs_in}
 use Rattle.gc_along.specs.Tables.{Tables, watch_of, due_in}
 use Rattle.gc_along.specs.Events.{code_of, object_codes, IsClaim, Placed, replica_added, with_due, Looked, Wrote, Applied, IsReplicaAt}
-use Rattle.gc_along.proofs.Origins.{placed as pairs_placed, told}
-use Rattle.gc_along.proofs.Codes.{code_set}
-use Rattle.gc_along.proofs.Looks.{set_true}
-use Rattle.gc_along.proofs.Walked.{true_stays}
-use Rattle.gc_along.proofs.Kept.{map_append, codes_length, code_is}
+use Rattle.gc_along.proofs.Public.{placed as pairs_placed, told, code_set, set_true, true_stays, map_append, codes_length, code_is}
 use Rattle.gc_beside.proofs.Shown.{Shows, AreSized, shown_at, shown_length}
 use Rattle.gc_beside.proofs.Growth.{IsAdded, HasSame, Adds}
 

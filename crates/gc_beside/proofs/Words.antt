@@ -10,23 +10,17 @@ use Rattle.gc_words.specs.Word.{value_of, is_value, read_correspond, words_corre
 use Rattle.gc_words.specs.Image.{Block, HasShape, block_at, objects_of, object_of_block}
 use Rattle.gc_words.specs.Space.{SpaceWords, IsSpace, end_of}
 use Rattle.gc_words.specs.declared.header.Header.{Header}
-use Rattle.gc_words.proofs.Graphs.{object_found}
+use Rattle.gc_words.proofs.Public.{object_found, fields_counted, stands_in}
 use Rattle.std.proofs.lemmas.Option.{slice_get-map, slice_get-get_or}
-use Rattle.gc_words.proofs.Ends.{fields_counted}
-use Rattle.gc_words.proofs.Starts.{stands_in}
 use Rattle.gc_heap.specs.Heap.{HeapWords, IsHeap, graph_in}
 use Rattle.gc_copy.specs.State.{Replica, pairs_of}
 use Rattle.gc_copy.specs.Members.{In, Distinct}
 use Rattle.gc_copy.specs.Belonging.{Laid}
 use Rattle.gc_copy.specs.Words.{CollectionWords, IsCollection, collection_in, BelongsTo}
-use Rattle.gc_copy.proofs.Lists.{in_map, in_map_from, get_in, all_from_in}
-use Rattle.gc_copy.proofs.Replicas.{pair, placed, replicas_end, paired_in}
-use Rattle.gc_copy.proofs.Heap.{laid_range}
-use Rattle.gc_copy.proofs.OpenCollection.{replica_object}
-use Rattle.gc_copy.proofs.Spaces.{new_end_is}
+use Rattle.gc_copy.proofs.Public.{in_map, in_map_from, get_in, all_from_in, pair, placed, replicas_end, paired_in, laid_range, replica_object, new_end_is}
 use Rattle.gc_along.specs.Watch.{Watch, IsSeen, IsWatched, Watches, seen_at}
 use Rattle.gc_beside.specs.Stays.{GoesAlong}
-use Rattle.gc_along.proofs.Seen.{all_of}
+use Rattle.gc_along.proofs.Public.{all_of}
 
 -- ---- a whole space is seen
 

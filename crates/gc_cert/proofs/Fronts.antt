@@ -3,7 +3,7 @@ use Rattle.std.proofs.Common.{◌≡◌, ◌≢◌, ℕ, ◌≤◌, List, ◌∷
 use Rattle.std.specs.Fmt.{decimal}
 use Rattle.gc_graph.specs.Fronts.{BeginsWithNumber}
 use Rattle.gc_graph.specs.Lines.{newline, space}
-use Rattle.gc_graph.proofs.Decimals.{one_front}
+use Rattle.gc_graph.proofs.Public.{one_front}
 use Rattle.gc_cert.specs.Grammar.{pair_line, IsWord, AreAddresses}
 use Rattle.gc_cert.specs.declared.fault.PairFault.{PairFault}
 use Rattle.gc_cert.specs.declared.fault.PairFault.TheVariants.{Read, TooLarge, BadLine, EndsEarly, NoMemory}

@@ -7,7 +7,7 @@ use Rattle.gc_cert.specs.Grammar.{CertifiedPair, lines_of, spelling, HasText, Is
 use Rattle.gc_cert.specs.Faults.{AreFirst, AreWhole, HasWrongLine, HasByteBehind, IsCutOff, IsPairFaultOf, IsReadAsPair}
 use Rattle.gc_cert.specs.declared.fault.PairFault.{PairFault}
 use Rattle.gc_cert.specs.declared.fault.PairFault.TheVariants.{Read, TooLarge, BadLine, EndsEarly, NoMemory}
-use Rattle.gc_graph.proofs.LineLemmas.{not_cut, one_cut}
+use Rattle.gc_graph.proofs.Public.{not_cut, one_cut}
 use Rattle.gc_cert.proofs.SameLines.{AreLines, All-front, are_lines, lines_same}
 
 text_more : (l : List ℕ) (ls : List (List ℕ)) (x : List ℕ) → text_of (l ∷ ls) ++ x ≡ l ++ newline ∷ (text_of ls ++ x)

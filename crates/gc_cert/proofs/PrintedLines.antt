@@ -5,7 +5,7 @@ use Rattle.std.proofs.lemmas.List.Concat.{flat_map-append}
 use Rattle.std.specs.Io.KnownBytes.{Appends}
 use Rattle.gc_graph.specs.Lines.{ended, text_of}
 use Rattle.gc_graph.specs.Streams.{SendsFront, HasSent}
-use Rattle.gc_graph.proofs.SentText.{nothing_sent, sent_then, front_sent, sent_at_last}
+use Rattle.gc_graph.proofs.Public.{nothing_sent, sent_then, front_sent, sent_at_last}
 use Rattle.gc_cert.specs.Internal.PrintedLines.{Prints, PrintsFront}
 
 abbrev Lines : Type 0

@@ -14,7 +14,7 @@ use Rattle.gc_cert.specs.Sections.{Place, HasTaken, start}
 use Rattle.gc_cert.specs.declared.fault.PairFault.{PairFault}
 use Rattle.gc_cert.specs.declared.fault.PairFault.TheVariants.{Read, TooLarge, BadLine, EndsEarly, NoMemory}
 use Rattle.gc_cert.specs.declared.pair_reader.PairReader.{PairReader}
-use Rattle.gc_graph.proofs.PieceSteps.{within_all, ends_there}
+use Rattle.gc_graph.proofs.Public.{within_all, ends_there}
 use Rattle.gc_cert.proofs.Parts.{TextSection}
 use Rattle.gc_cert.proofs.Stops.{Delimits, BeginsWith, stop_within}
 use Rattle.gc_cert.proofs.Total.{stopped, went_on}

@@ -8,7 +8,7 @@ use Rattle.gc_graph.specs.Lines.{newline}
 use Rattle.gc_cert.specs.Grammar.{heading, pair_line, count_line, image_lines, certificate_lines, lines_of, spelling, HasImageText, HasText}
 use Rattle.gc_cert.specs.Faults.{limit, AreFirst, AreWhole}
 use Rattle.gc_cert.specs.Rows.{least_image, least, least_with_raws, Rows}
-use Rattle.gc_graph.proofs.LineLemmas.{HasNo-lacks}
+use Rattle.gc_graph.proofs.Public.{HasNo-lacks}
 use Rattle.gc_cert.proofs.SameLines.{lines_same, lines_more, image_same, certificate_more, head_of, heading_same, count_same}
 
 short : (text : List ℕ) → leb (length text) limit ≡ true → length text ≤ limit

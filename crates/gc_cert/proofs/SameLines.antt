@@ -8,7 +8,7 @@ use Rattle.std.proofs.lemmas.Fmt.{decimal_injective}
 use Rattle.gc_graph.specs.Lines.{HasNo, space, newline}
 use Rattle.gc_words.specs.Image.{Image}
 use Rattle.gc_cert.specs.Grammar.{CertifiedPair, heading, pair_line, count_line, size_line, image_lines, certificate_lines, lines_of, IsWord, AreAddresses, HasImageText, HasText}
-use Rattle.gc_graph.proofs.LineLemmas.{HasNo-decimal, HasNo-lacks, HasNo-joined, lacks, one_cut}
+use Rattle.gc_graph.proofs.Public.{HasNo-decimal, HasNo-lacks, HasNo-joined, lacks, one_cut}
 
 abbrev pub AreLines : List (List ℕ) → Type 0
 AreLines lines = AllByRecursion (HasNo newline) lines

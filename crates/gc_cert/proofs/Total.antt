@@ -6,7 +6,7 @@ use Rattle.std.specs.List.{AllByRecursion}
 use Rattle.std.proofs.lemmas.Bool.{leb-true}
 use Rattle.std.proofs.lemmas.List.{append-nil}
 use Rattle.gc_graph.specs.Lines.{text_of, tokens_of}
-use Rattle.gc_graph.proofs.LineLemmas.{Cut, cut}
+use Rattle.gc_graph.proofs.Public.{Cut, cut, all_push}
 use Rattle.gc_cert.specs.Grammar.{CertifiedPair, heading, pair_line, count_line, size_line, certificate_lines, lines_of, spelling, IsWord, AreAddresses, AreSizes, IsCertificate, HasText, IsTextOf}
 use Rattle.gc_cert.specs.Internal.Grammar.{image_alone, IsImageBy}
 use Rattle.gc_cert.specs.Faults.{limit, AreFirst, AreWhole, HasWrongLine, HasByteBehind, IsCutOff, IsPairFaultOf, IsReadAsPair, MayFail}
@@ -19,7 +19,6 @@ use Rattle.gc_cert.proofs.Stops.{Delimits, BeginsWith, taken_then, wrong_within,
 use Rattle.gc_cert.proofs.Forms.{IsForm, alone_delimits, all_delimit, line_wrong, line_cut, line_taken, begins_with_one, push_taken}
 use Rattle.gc_cert.proofs.LineForms.{fixed_form, heading_form, word_form, count_form, size_form, pair_form}
 use Rattle.gc_cert.proofs.Parts.{none_taken, ImageSection, made_image, image_sizes, image_words, image_count, up_to_count, image_roots, image_taken, image_delimits, CertificateSection, pairs_line, certificate_count, certificate_pairs, up_to_end, certificate_end, certificate_taken, certificate_delimits, TextSection, made_pair, text_heading, text_old, text_new, both_images, text_certificate, text_taken}
-use Rattle.gc_graph.proofs.Bounds.{all_push}
 
 -- the section has a wrong line, or the text is cut off in it
 Stops : Section → Place → Type 0

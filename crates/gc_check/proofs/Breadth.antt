@@ -7,7 +7,7 @@ use Rattle.gc_graph.specs.Graph.{Value, Nil, Num, Ref, Object, Graph, lookup, fi
 use Rattle.gc_words.specs.Word.{value_of, field_value}
 use Rattle.gc_words.specs.Image.{Image, Block, blocks, block_at, header_of, header_at, is_start, graph_of, walk_words}
 use Rattle.gc_words.specs.declared.header.Header.{Header}
-use Rattle.gc_words.proofs.Certified.{object_option, lookup_of_blocks}
+use Rattle.gc_words.proofs.Public.{object_option, lookup_of_blocks}
 use Rattle.gc_check.specs.Internal.Starts.{starts_from}
 use Rattle.gc_check.specs.Internal.Meetings.{taken_in}
 use Rattle.gc_check.specs.Internal.Visits.{fields_of, values_of, RefersAt, references, IsNode, along, roots_visit, visit_at, IsFoundBy, IsFound, AreVisits, Visited, LeadsToVisits, AreAllVisited, AreWithin, Continues, HasReferences, NoneRefers, IsFirstReference, HoldsVisits, HoldsWalk}

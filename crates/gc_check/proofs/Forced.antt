@@ -13,8 +13,7 @@ use Rattle.gc_words.specs.Image.{Image, Block, blocks, is_start, block_at, graph
 use Rattle.gc_words.specs.Certificate.{BlocksCorrespond, Certified}
 use Rattle.gc_words.specs.Fault.{same_header}
 use Rattle.gc_words.specs.declared.header.Header.{Header}
-use Rattle.gc_words.proofs.Faults.{same_header_of, header_same}
-use Rattle.gc_words.proofs.Certified.{object_option, lookup_of_blocks}
+use Rattle.gc_words.proofs.Public.{same_header_of, header_same, object_option, lookup_of_blocks}
 use Rattle.gc_check.specs.Infer.{Together, AreTogether}
 use Rattle.gc_check.specs.Tables.{pair_at}
 use Rattle.gc_check.specs.Internal.Meetings.{is_free, met_refs, met_values, met, met_all, met_blocks, met_objects, HaveMet, AllMet, BlocksMet, ObjectsMet, MetTo}

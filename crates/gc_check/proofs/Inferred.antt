@@ -11,13 +11,12 @@ use Rattle.gc_words.specs.Word.{read_value, read_correspond, words_correspond}
 use Rattle.gc_words.specs.Image.{Image, Block, is_start, block_at, graph_of}
 use Rattle.gc_words.specs.Certificate.{BlocksCorrespond, Certified}
 use Rattle.gc_words.specs.declared.header.Header.{Header}
-use Rattle.gc_words.proofs.Certified.{corresponding}
+use Rattle.gc_words.proofs.Public.{corresponding, no_fault_of_certified}
 use Rattle.std.proofs.lemmas.List.{length-map}
 use Rattle.gc_words.specs.Views.{addresses}
 use Rattle.gc_words.specs.Fault.{first_fault}
 use Rattle.gc_words.specs.declared.image.Pair.{Pair}
 use Rattle.gc_words.specs.declared.refusal.Refusal.{Refusal}
-use Rattle.gc_words.proofs.Faults.{no_fault_of_certified}
 use Rattle.gc_check.specs.Infer.{Certifiable, AreForced, Together, AreTogether}
 use Rattle.gc_check.specs.Verdict.{pairs_of}
 use Rattle.gc_check.specs.declared.meet.Found.{Found}

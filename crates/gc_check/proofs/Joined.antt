@@ -12,7 +12,7 @@ use Rattle.gc_words.specs.Certificate.{BlocksCorrespond, Certified}
 use Rattle.gc_words.specs.Fault.{at_place, shape_fault, table_fault, first_fault, AreComparable}
 use Rattle.gc_words.specs.declared.refusal.Refusal.{Refusal}
 use Rattle.gc_words.specs.declared.refusal.Refusal.TheVariants.{OldShape, NewShape}
-use Rattle.gc_words.proofs.Faults.{Later, none_or, none_when, places_hold, no_shape_fault, shaped}
+use Rattle.gc_words.proofs.Public.{Later, none_or, none_when, places_hold, no_shape_fault, shaped}
 use Rattle.gc_words.specs.declared.image.Pair.{Pair}
 use Rattle.gc_words.specs.Views.{addresses}
 use Rattle.std.proofs.lemmas.List.{length-map}

@@ -15,7 +15,7 @@ use Rattle.gc_words.specs.declared.refusal.Refusal.TheVariants.{OldNotStart, New
 use Rattle.gc_check.specs.Internal.Tables.{HoldsPartners, entry_fault}
 use Rattle.gc_check.specs.Verdict.{pairs_of}
 use Rattle.gc_check.proofs.StartMarks.{start_within}
-use Rattle.gc_words.proofs.Faults.{or_none, when_none}
+use Rattle.gc_words.proofs.Public.{or_none, when_none}
 
 -- ---- the table of partners
 

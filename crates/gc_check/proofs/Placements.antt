@@ -12,8 +12,7 @@ use Rattle.gc_words.specs.Fault.{◌or_else◌, when, at_place, shape_fault, fir
 use Rattle.gc_words.specs.declared.image.Pair.{Pair}
 use Rattle.gc_words.specs.declared.refusal.Refusal.{Refusal}
 use Rattle.gc_words.specs.declared.refusal.Refusal.TheVariants.{OldShape, NewShape, RootCount, OldNotStart, NewNotStart, NotRising, Twice}
-use Rattle.gc_words.proofs.Faults.{shaped, or_none, when_none, at_place_none}
-use Rattle.gc_words.proofs.Walks.{same_walk}
+use Rattle.gc_words.proofs.Public.{shaped, or_none, when_none, at_place_none, same_walk}
 use Rattle.gc_check.specs.Verdict.{pairs_of, IsRefusalOf}
 use Rattle.gc_check.specs.declared.verdict.CheckFault.{CheckFault}
 use Rattle.gc_check.specs.declared.verdict.CheckFault.TheVariants.{Refused, NoMemory}

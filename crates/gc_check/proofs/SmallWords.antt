@@ -6,13 +6,11 @@ use Rattle.std.proofs.lemmas.Bool.{cases_Bool, cond-true, cond-false, or_cases, 
 use Rattle.std.proofs.lemmas.List.Elements.{All-head, All-tail}
 use Rattle.gc_graph.specs.Graph.{Value, Nil, Num, Ref}
 use Rattle.gc_graph.specs.Correspond.{paired}
-use Rattle.gc_graph.proofs.Lookups.{paired_cases}
+use Rattle.gc_graph.proofs.Public.{paired_cases}
 use Rattle.gc_words.specs.Word.{value_of, is_value_within, is_value, read_value_within, read_value, read_correspond, words_correspond}
 use Rattle.gc_words.specs.Image.{Image, Block, IsShaped, walk_words, block_at, is_start}
 use Rattle.gc_words.specs.Walking.{StandsIn}
-use Rattle.gc_words.proofs.Starts.{stands_in}
-use Rattle.gc_words.proofs.Walks.{same_walk}
-use Rattle.gc_words.proofs.Writes.{some_of}
+use Rattle.gc_words.proofs.Public.{stands_in, same_walk, some_of}
 use Rattle.gc_check.specs.Profile.{words_correspond_within, MeanTheSame}
 
 -- ---- words

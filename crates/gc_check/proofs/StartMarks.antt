@@ -8,9 +8,7 @@ use Rattle.gc_words.specs.Image.{Block, walk, walk_all, walk_words, with_front, 
 use Rattle.gc_words.specs.Fault.{fault_of_walk}
 use Rattle.gc_words.specs.Walking.{next_after, next_in, next_of, walk_on, walk_from, block_from, StandsIn}
 use Rattle.gc_words.specs.declared.header.Header.{Header}
-use Rattle.gc_words.proofs.Steps.{step, at_end, Behind, behind, has_start_from}
-use Rattle.gc_words.proofs.Starts.{stands_in}
-use Rattle.gc_words.proofs.Walks.{header_counted, same_walk}
+use Rattle.gc_words.proofs.Public.{step, at_end, Behind, behind, has_start_from, stands_in, header_counted, same_walk}
 use Rattle.gc_check.specs.Internal.Starts.{starts_from}
 use Rattle.gc_check.specs.Internal.Tables.{MarksStarts}
 

@@ -25,7 +25,7 @@ use Rattle.gc_copy.proofs.Heap.{laid_range, lookup_in, lookup_laid, set_from, wr
 use Rattle.gc_copy.proofs.Replicas.{pair, replica_in}
 use Rattle.gc_copy.proofs.Steps.{unreplicated_some}
 use Rattle.gc_copy.proofs.Runs.{Reached, opening_ok, event_keeps}
-use Rattle.gc_words.proofs.Writes.{some_of}
+use Rattle.gc_words.proofs.Public.{some_of}
 
 -- ---- commands
 

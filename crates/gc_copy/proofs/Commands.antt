@@ -14,7 +14,7 @@ use Rattle.gc_graph.specs.declared.command.Op.{Op}
 use Rattle.gc_graph.specs.declared.command.Op.TheVariants as ops
 use Rattle.gc_graph.specs.declared.reply.Reply.{Reply}
 use Rattle.gc_graph.specs.declared.reply.Reply.TheVariants.{Full, Done, NoObject, NoField, NoNumber}
-use Rattle.gc_graph.proofs.Lookups.{lookup_set_none}
+use Rattle.gc_graph.proofs.Public.{lookup_set_none}
 use Rattle.gc_copy.proofs.Lists.{in_left, in_right, in_push, in_set, in_replicate, get_in, get_past}
 use Rattle.gc_copy.proofs.Heap.{refers_map, laid_push, laid_set, lookup_in, lookup_left, lookup_written, pushed_last, set_from, named_set, written_entry, written_length, written_kind, written_raw, written_in, written_here, written_get}
 

@@ -9,11 +9,7 @@ use Rattle.gc_words.specs.Layout.{link_place}
 use Rattle.gc_words.specs.Spelling.{link_at, spelled, no_links}
 use Rattle.gc_words.specs.Space.{IsSpace, with_word, without_links}
 use Rattle.gc_words.specs.Walking.{next_of, walk_from, block_from}
-use Rattle.gc_words.proofs.Steps.{Behind, behind, at_end, has_next}
-use Rattle.gc_words.proofs.Writes.{some_of}
-use Rattle.gc_words.proofs.Links.{link_written_there, link_written_beside}
-use Rattle.gc_words.proofs.Graphs.{object_found}
-use Rattle.gc_words.proofs.Spelled.{spelled_words}
+use Rattle.gc_words.proofs.Public.{Behind, behind, at_end, has_next, some_of, link_written_there, link_written_beside, object_found, spelled_words}
 use Rattle.gc_heap.specs.Heap.{HeapWords, IsHeap}
 use Rattle.gc_copy.specs.State.{Replica, replica_of}
 use Rattle.gc_copy.specs.Linked.{place_or_zero}

@@ -13,11 +13,7 @@ use Rattle.gc_words.specs.Image.{field_in, block_at, Block, blocks, block_in, is
 use Rattle.gc_words.specs.Spelling.{link_at}
 use Rattle.gc_words.specs.Space.{SpaceWords, IsSpace, end_of, free_in, without_links}
 use Rattle.gc_words.specs.Closed.{IsWordOfField, RefersToStart, IsRootWord, IsFieldWord, HasFieldWords}
-use Rattle.gc_words.proofs.Graphs.{object_found, graph_cleared, meaning_back}
-use Rattle.gc_words.proofs.Spelled.{cleared}
-use Rattle.gc_words.proofs.Links.{link_cleared}
-use Rattle.gc_words.proofs.Ends.{end_cleared}
-use Rattle.gc_words.proofs.References.{closed_field_read, closed_objects}
+use Rattle.gc_words.proofs.Public.{object_found, graph_cleared, meaning_back, cleared, link_cleared, end_cleared, closed_field_read, closed_objects}
 use Rattle.gc_heap.specs.Heap.{HeapWords, IsHeap, graph_in}
 use Rattle.gc_copy.specs.State.{Collection, State, new_objects, new_end, new_free, new_graph, moved, pairs_of}
 use Rattle.gc_copy.specs.Steps.{is_ready, flip, flipped, with_collection}

@@ -26,8 +26,7 @@ use Rattle.gc_copy.proofs.Steps.{IsReady, roots_replicated, place_named, ready_p
 use Rattle.gc_copy.proofs.Images.{graph_back, IsAddress, read_back, image_shaped, block_is, named_address}
 use Rattle.gc_words.specs.Image.{graph_of}
 use Rattle.gc_graph.specs.Correspond.{Corresponding}
-use Rattle.gc_words.proofs.Certified.{corresponding}
-use Rattle.gc_words.proofs.Faults.{no_fault_of_certified}
+use Rattle.gc_words.proofs.Public.{corresponding, no_fault_of_certified}
 use Rattle.gc_words.specs.Spelling.{no_links}
 
 -- ---- words of values that correspond

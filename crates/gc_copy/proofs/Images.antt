@@ -8,8 +8,7 @@ use Rattle.gc_words.specs.Word.{value_of, read_value, word_of, field_value, HasA
 use Rattle.gc_words.specs.Image.{walk_words, IsShaped, ok_or_nil, blocks, block_in, block_at, object_entry, graph_of}
 use Rattle.gc_words.specs.Spelling.{block_words, spelled_from, LaidOut}
 use Rattle.gc_words.specs.declared.header.Header.{Header}
-use Rattle.gc_words.proofs.Graphs.{value_read_back, meaning_back}
-use Rattle.gc_words.proofs.Spelled.{walk_spelled}
+use Rattle.gc_words.proofs.Public.{value_read_back, meaning_back, walk_spelled}
 use Rattle.gc_copy.specs.Linked.{object_header, number_of, field_word, object_block, block_entry, linked_space, linked_image}
 use Rattle.gc_copy.specs.Members.{In}
 use Rattle.gc_copy.specs.Belonging.{Laid, IsNamed, RefersTo, IsSpaceGraph}

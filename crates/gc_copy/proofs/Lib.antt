@@ -30,3 +30,4 @@ pub mod Mutating
 pub mod RootsStay
 pub mod Sizes
 pub mod Progress
+pub mod Public

@@ -10,7 +10,7 @@ use Rattle.gc_words.specs.Image.{Block, blocks, block_at, is_start, objects_of, 
 use Rattle.gc_words.specs.Spelling.{block_words, spelled, no_links, link_at}
 use Rattle.gc_words.specs.Space.{SpaceWords, IsSpace, end_of, free_in, image_with}
 use Rattle.gc_words.specs.Certificate.{Certified}
-use Rattle.gc_words.proofs.Graphs.{object_found}
+use Rattle.gc_words.proofs.Public.{object_found}
 use Rattle.gc_heap.specs.Heap.{HeapWords, IsHeap, KeepsLinks, image_of, graph_in, roomy_in}
 use Rattle.gc_copy.specs.State.{Replica, pairs_of, replica_of}
 use Rattle.gc_copy.specs.Linked.{image_of_graph, block_entry, place_or_zero, original_or_zero, old_links, new_links, old_image, new_image}

@@ -8,8 +8,7 @@ use Rattle.gc_words.specs.Space.{SpaceWords, IsSpace}
 use Rattle.gc_words.specs.Views.{addresses}
 use Rattle.gc_words.specs.Walking.{next_of, walk_from, block_from}
 use Rattle.gc_words.specs.declared.image.Pair.{Pair}
-use Rattle.gc_words.proofs.Steps.{Behind, behind, has_next}
-use Rattle.gc_words.proofs.Writes.{some_of}
+use Rattle.gc_words.proofs.Public.{Behind, behind, has_next, some_of}
 use Rattle.gc_copy.specs.State.{Replica}
 use Rattle.gc_copy.specs.Members.{In}
 use Rattle.gc_copy.specs.Words.{replica_entry, replicas_in}

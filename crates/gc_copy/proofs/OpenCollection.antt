@@ -1,13 +1,12 @@
 -- The state of a heap of words with its open collection, and the invariant that ties them together.
-use Rattle.gc_words.proofs.Blocks.{block_there}
+use Rattle.gc_words.proofs.Public.{block_there, closed_field_read, stands_in, CanPlaceBlock, some_of, can_place_fresh, link_written, link_written_there, link_written_beside, object_found, field_found, graph_link, meaning_back, block_of_header, fields_counted, end_written}
 use Rattle.std.proofs.Common.{◌≡◌, ◌≢◌, ⊎_elim, inl, ℕ, ◌+◌, ◌-◌, ◌<◌, ◌≤◌, ◌==◌, nat_lt, Bool, true, false, cond, List, [], ◌∷◌, ◌++◌, map, length, Option, Some, None, Result, Ok, Err, is_some, refl, ap, sym, ◌∙◌, subst, arith}
 use Rattle.std.specs.List.{find}
 use Rattle.std.proofs.lemmas.Bool.{cases_Bool, cases_lt, cond-true, cond-false, cond_both, eqb-true, eqb-false, eq-eqb, ne_eqb, le-ltb, lt-ltb}
 use Rattle.std.proofs.lemmas.List.{length-map}
 use Rattle.std.specs.Option.{option_map}
 use Rattle.std.specs.Prelude.{IsOk, ◌^◌, IsSome, OnOk, OnErr, slice_get}
-use Rattle.gc_words.proofs.References.{closed_field_read}
-use Rattle.gc_heap.proofs.Commands.{none_of, named}
+use Rattle.gc_heap.proofs.Public.{none_of, named}
 use Rattle.gc_graph.specs.Graph.{Value, Nil, Num, Ref, Object, Graph, lookup, field_of}
 use Rattle.gc_words.specs.Word.{HasAddress, word_of, field_value}
 use Rattle.gc_words.specs.Word.{value_of}
@@ -18,12 +17,6 @@ use Rattle.gc_words.specs.Space.{SpaceWords, IsSpace, HasRoomFor, end_of, free_i
 use Rattle.gc_words.specs.Closed.{RefersToStart, IsRootWord, IsWordOfField}
 use Rattle.gc_words.specs.declared.header.Header.{Header}
 use Rattle.gc_words.specs.Walking.{StandsIn}
-use Rattle.gc_words.proofs.Starts.{stands_in}
-use Rattle.gc_words.proofs.Writes.{CanPlaceBlock, some_of, can_place_fresh, link_written}
-use Rattle.gc_words.proofs.Links.{link_written_there, link_written_beside}
-use Rattle.gc_words.proofs.Graphs.{object_found, field_found, graph_link, meaning_back}
-use Rattle.gc_words.proofs.Fields.{block_of_header}
-use Rattle.gc_words.proofs.Ends.{fields_counted, end_written}
 use Rattle.gc_graph.specs.Graph.{name_of}
 use Rattle.gc_heap.specs.Heap.{HeapWords, IsHeap, graph_in}
 use Rattle.gc_copy.specs.State.{Replica, Collection, State, new_objects, new_end, new_free, replica_of, moved, moved_name}

@@ -20,7 +20,7 @@ use Rattle.gc_copy.proofs.Heap.{lookup_here, lookup_there, lookup_named, lookup_
 use Rattle.gc_copy.proofs.Replicas.{placed, replicas_end, AreReplicas}
 use Rattle.gc_copy.proofs.Words.{heap_graph}
 use Rattle.gc_copy.proofs.Steps.{its_replicas, unnamed, unreplicated_some}
-use Rattle.gc_heap.proofs.Commands.{none_of}
+use Rattle.gc_heap.proofs.Public.{none_of}
 
 abbrev weight_of : Option Object → ℕ
 weight_of None = 0

@@ -11,7 +11,7 @@ use Rattle.gc_graph.specs.Machine.{Roomy, words_taken, step, get_field, is_numbe
 use Rattle.gc_graph.specs.declared.command.Op.{Op}
 use Rattle.gc_graph.specs.declared.command.Op.TheVariants as ops
 use Rattle.gc_graph.specs.declared.reply.Reply.{Reply}
-use Rattle.gc_graph.proofs.Stepping.{step_roots}
+use Rattle.gc_graph.proofs.Public.{step_roots}
 use Rattle.gc_copy.specs.State.{Replica, Collection, State, heap_end, new_end, new_free, replica_of, replica_at, moved}
 use Rattle.gc_copy.specs.Steps.{mutate, written as written_by, logged, log_at, with_log, fresh_replica, place_replica, with_replica, write_replica, copy_value, bring_value, bring_up_to_date, if_room, first_unreplicated, root_target, copy_root, next_object, next_field, scan_replica, scan_done, apply_entry, apply_log, is_ready, passes_check, flip, step_in, collect_with, collect}
 use Rattle.gc_copy.specs.Staying.{HasReplicaOf, IsMissing, KnowsRoot, root_written}

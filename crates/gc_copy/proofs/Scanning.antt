@@ -1,5 +1,5 @@
 -- The code of the scan.
-use Rattle.gc_words.proofs.Starts.{stands_in}
+use Rattle.gc_words.proofs.Public.{stands_in, block_of_header, fields_counted, object_found}
 use Rattle.std.proofs.Common.{◌≡◌, ⊎_elim, ℕ, suc, ◌+◌, ◌<◌, ◌≤◌, ◌==◌, ◌||◌, ◌⊎◌, Bool, true, false, length, Some, None, refl, ap, sym, ◌∙◌, subst, arith}
 use Rattle.std.specs.Prelude.{◌^◌, IsSome}
 use Rattle.std.specs.Option.{option_map}
@@ -8,9 +8,6 @@ use Rattle.gc_graph.specs.Graph.{Object, lookup}
 use Rattle.gc_words.specs.Image.{Block, block_at, is_start, header_at, field_at, object_of_block, objects_of}
 use Rattle.gc_words.specs.Spelling.{link_at}
 use Rattle.gc_words.specs.declared.header.Header.{Header}
-use Rattle.gc_words.proofs.Fields.{block_of_header}
-use Rattle.gc_words.proofs.Ends.{fields_counted}
-use Rattle.gc_words.proofs.Graphs.{object_found}
 use Rattle.gc_heap.specs.Heap.{HeapWords, graph_in}
 use Rattle.gc_copy.specs.State.{Replica, new_end, replica_of, replica_at}
 use Rattle.gc_copy.specs.Steps.{scan_done, scan, scan_replica, next_object, next_field, if_room, bring_up_to_date, with_collection}

@@ -9,12 +9,7 @@ use Rattle.gc_words.specs.Image.{Block, blocks, block_in, block_at, is_start, fi
 use Rattle.gc_words.specs.Spelling.{link_at, IsBlock}
 use Rattle.gc_words.specs.Layout.{link_place, field_place}
 use Rattle.gc_words.specs.Space.{SpaceWords, IsSpace, end_of, free_in, with_block, with_word}
-use Rattle.gc_words.proofs.Walks.{objects_set}
-use Rattle.gc_words.proofs.Writes.{CanPlaceBlock, block_placed, field_written, link_written}
-use Rattle.gc_words.proofs.Blocks.{none_at_end, block_there}
-use Rattle.gc_words.proofs.Links.{link_placed_beside, link_beside_field, link_written_there, link_written_beside}
-use Rattle.gc_words.proofs.Graphs.{object_found}
-use Rattle.gc_words.proofs.Graphs.{fresh_object as new_block_object}
+use Rattle.gc_words.proofs.Public.{objects_set, CanPlaceBlock, block_placed, field_written, link_written, none_at_end, block_there, link_placed_beside, link_beside_field, link_written_there, link_written_beside, object_found, fresh_object as new_block_object}
 use Rattle.gc_copy.specs.State.{Replica, Collection, new_objects, new_end, replica_of, fresh_object}
 use Rattle.gc_copy.specs.Steps.{with_written, write_replica}
 use Rattle.gc_copy.specs.Words.{CollectionWords, replica_entry, replicas_in, collection_in}

@@ -26,9 +26,9 @@ use Rattle.gc_copy.proofs.Heap.{refers_map, laid_range, laid_apart, laid_end, lo
 use Rattle.gc_copy.proofs.Commands.{Evolves, unchanged, step_keeps, step_evolves, field_stays, written_there, full_writes_nothing}
 use Rattle.gc_copy.proofs.Numbers.{step_small, small_corresponding, small_moved}
 use Rattle.gc_copy.proofs.Replicas.{pair, placed, replicas_end, IsPlace, AreReplicas, HasReplica, refers_corresponding, replicas_evolve, replicas_due, replicas_place, replicas_write, with_written_pair, with_written_length, pairs_written, moved_corresponds, replica_exists}
-use Rattle.gc_graph.proofs.Stepping.{step_roots}
-use Rattle.gc_words.proofs.Writes.{some_of}
-use Rattle.gc_heap.proofs.Commands.{none_of}
+use Rattle.gc_graph.proofs.Public.{step_roots}
+use Rattle.gc_words.proofs.Public.{some_of}
+use Rattle.gc_heap.proofs.Public.{none_of}
 
 -- ---- what belonging means for replicas
 

@@ -12,8 +12,7 @@ use Rattle.gc_words.specs.Closed.{RefersToStart, IsRootWord, IsWordOfField, IsFi
 use Rattle.gc_words.specs.declared.header.Header.{Header}
 use Rattle.std.specs.Option.{option_map}
 use Rattle.gc_graph.specs.Machine.{is_number}
-use Rattle.gc_words.proofs.Graphs.{object_found}
-use Rattle.gc_words.proofs.Spelled.{spelled_words, laid_out_words}
+use Rattle.gc_words.proofs.Public.{object_found, spelled_words, laid_out_words}
 use Rattle.gc_heap.specs.Heap.{HeapWords, IsHeap, image_of, graph_in}
 use Rattle.gc_copy.specs.Linked.{number_of, field_word, object_header, block_entry, linked_image}
 use Rattle.gc_copy.specs.Members.{In}

@@ -7,11 +7,11 @@ use Rattle.gc_heap.specs.Heap.{HeapWords, IsHeap}
 use Rattle.gc_copy.specs.State.{State, Collection, heap_end}
 use Rattle.gc_copy.specs.Linked.{old_image, new_image}
 use Rattle.gc_copy.specs.Words.{CollectionWords, IsCollection, BelongsTo, collection_in, state_of, open_state}
-use Rattle.gc_copy.proofs.LinkedImages.{old_shown, new_shown}
+use Rattle.gc_copy.proofs.Public.{old_shown, new_shown}
 use Rattle.gc_core.specs.Internal.CollectedHeap.{Fits}
 use Rattle.gc_along.specs.Watch.{Watch, Watches}
 use Rattle.gc_beside.specs.Stays.{GoesAlong}
-use Rattle.gc_beside.proofs.Words.{watches}
+use Rattle.gc_beside.proofs.Public.{watches}
 
 -- the heap's end
 end_is : (heap : HeapWords) → IsHeap heap → heap.space.size - (heap.space.size - end_of heap.space) ≡ end_of heap.space

@@ -9,10 +9,7 @@ use Rattle.gc_graph.specs.declared.command.Op.{Op}
 use Rattle.gc_graph.specs.declared.command.Op.TheVariants as ops
 use Rattle.gc_graph.specs.declared.reply.Reply.{Reply}
 use Rattle.gc_graph.specs.declared.reply.Reply.TheVariants.{Full}
-use Rattle.gc_graph.proofs.Matching.{Matched}
-use Rattle.gc_graph.proofs.Matched.{AlikeAfter, step_alike, matched_of}
-use Rattle.gc_graph.proofs.Replies.{own_pairs, matched_itself, fresh_unused}
-use Rattle.gc_graph.proofs.Compose.{joined, composed}
+use Rattle.gc_graph.proofs.Public.{Matched, AlikeAfter, step_alike, matched_of, own_pairs, matched_itself, fresh_unused, joined, composed}
 use Rattle.gc_copy.specs.State.{Collection, State, opening_state, opening_state_with, heap_end, pairs_of, new_graph}
 use Rattle.gc_copy.specs.Steps.{is_ready, passes_check, flip, collect_with, collect}
 use Rattle.gc_copy.specs.Belonging.{IsOpened, IsOpen, IsState}
@@ -24,10 +21,7 @@ use Rattle.gc_copy.specs.declared.event.Event.TheVariants.{Mutate, Collect}
 use Rattle.gc_copy.specs.declared.step.Step.{Step}
 use Rattle.gc_copy.specs.declared.step.Step.TheVariants as steps
 use Rattle.gc_copy.specs.declared.step.StepReply.{StepReply}
-use Rattle.gc_copy.proofs.Steps.{steps_stay, ready_parts}
-use Rattle.gc_copy.proofs.Flips.{corresponding_graphs}
-use Rattle.gc_copy.proofs.Unused.{end_unused}
-use Rattle.gc_copy.proofs.Runs.{Reached, opening_ok, opening_with_ok, root_events, root_event_keeps}
+use Rattle.gc_copy.proofs.Public.{steps_stay, ready_parts, corresponding_graphs, end_unused, Reached, opening_ok, opening_with_ok, root_events, root_event_keeps}
 use Rattle.gc_core.specs.Replies.{told_in}
 
 -- ---- after a step, no command can tell the graph from the one before

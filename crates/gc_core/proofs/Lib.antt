@@ -6,3 +6,4 @@ mod Marks
 mod NewFrom
 mod NumbersPut
 mod OtherCommands
+pub mod Public

@@ -8,7 +8,7 @@ use Rattle.gc_graph.specs.Graph.{Value, Nil, Ref, lookup, root, value_or_nil, se
 use Rattle.gc_graph.specs.Machine.{Roomy}
 use Rattle.gc_heap.specs.ExtraRoots.{extra_slot}
 use Rattle.gc_heap.specs.declared.options.HeapOptions.{HeapOptions}
-use Rattle.gc_heap.proofs.ExtraRoots.{extra_place}
+use Rattle.gc_heap.proofs.Public.{extra_place}
 use Rattle.gc_core.specs.ExtraRoots.{clear_step}
 use Rattle.std.proofs.lemmas.List.{length-replicate}
 use Rattle.gc_graph.specs.declared.command.Op.{Op}
@@ -23,9 +23,7 @@ use Rattle.gc_copy.specs.declared.step.Step.TheVariants as steps
 use Rattle.gc_copy.specs.declared.step.StepReply.{StepReply}
 use Rattle.gc_copy.specs.declared.step.StepReply.TheVariants.{Clean, NoRoom, Copied}
 use Rattle.gc_copy.specs.declared.collection.roots.MissingRoot.{MissingRoot}
-use Rattle.gc_copy.proofs.OpenCollection.{placed_has}
-use Rattle.gc_copy.proofs.Steps.{steps_stay}
-use Rattle.gc_copy.proofs.RootsStay.{collect_stays, mutate_stays, root_kept, roots_counted, flip_nil, flip_count}
+use Rattle.gc_copy.proofs.Public.{placed_has, steps_stay, collect_stays, mutate_stays, root_kept, roots_counted, flip_nil, flip_count}
 use Rattle.gc_core.specs.CollectedHeap.{fill_step, filled, new_from_step}
 use Rattle.gc_core.specs.Internal.KnownRoots.{KnowsRoots, FindsFirst, next_place}
 use Rattle.gc_core.specs.declared.known.KnownRoots.{KnownRoots}

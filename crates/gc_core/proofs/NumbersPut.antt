@@ -13,7 +13,7 @@ use Rattle.gc_heap.specs.Raws.{raw_numbers}
 use Rattle.gc_copy.specs.State.{State}
 use Rattle.gc_copy.specs.Steps.{mutate}
 use Rattle.gc_copy.specs.Words.{idle_state, HasNoLinks}
-use Rattle.gc_copy.proofs.Mutating.{idle_left}
+use Rattle.gc_copy.proofs.Public.{idle_left}
 use Rattle.gc_core.specs.Internal.KnownRoots.{KnowsRoots}
 use Rattle.gc_core.specs.Writing.{is_number_word, numbers_step, numbers_reply, numbers_after, put_numbers_step}
 use Rattle.gc_core.specs.declared.known.KnownRoots.{KnownRoots}

@@ -9,7 +9,7 @@ use Rattle.gc_heap.specs.Heap.{HeapWords, IsHeap, graph_in}
 use Rattle.gc_heap.specs.Commands.{Performs}
 use Rattle.gc_copy.specs.Steps.{WritesField, mutate}
 use Rattle.gc_copy.specs.Words.{CollectionWords, collection_in, state_of}
-use Rattle.gc_copy.proofs.Mutating.{open_left, idle_left}
+use Rattle.gc_copy.proofs.Public.{open_left, idle_left}
 use Rattle.gc_copy.specs.State.{State}
 use Rattle.gc_copy.specs.Staying.{root_written}
 use Rattle.gc_core.specs.Internal.CollectedHeap.{Fits}

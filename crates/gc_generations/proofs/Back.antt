@@ -10,9 +10,7 @@ use Rattle.gc_words.specs.Word.{value_of, word_of, is_value, read_correspond, wo
 use Rattle.gc_words.specs.Image.{Block, walk, blocks, block_in, block_at, header_of, field_in}
 use Rattle.gc_words.specs.Certificate.{BlocksCorrespond, Certified}
 use Rattle.gc_words.specs.declared.header.Header.{Header}
-use Rattle.gc_words.proofs.Graphs.{meant}
-use Rattle.gc_words.proofs.Writes.{some_of}
-use Rattle.gc_words.proofs.Fields.{block_of_header}
+use Rattle.gc_words.proofs.Public.{meant, some_of, block_of_header}
 use Rattle.gc_generations.specs.Minor.{lies_below, is_old, words_correspond_above, field_words_correspond_above, young_blocks, BlocksCorrespondAbove, MinorCertified, word_or_nil, word_of_field, whole, identity, IsStanding, IsPlainField, IsCandidate}
 use Rattle.gc_generations.proofs.Lists.{or_left, or_right, any_left, paired_all, selves, self_paired, found_left, found_right}
 use Rattle.gc_generations.proofs.Fronts.{whole_blocks, old_below, not_old}

@@ -11,10 +11,7 @@ use Rattle.gc_words.specs.Space.{IsSpace, CanPlace}
 use Rattle.gc_words.specs.Closed.{IsClosed, IsRootWord, IsFieldWord}
 use Rattle.gc_words.specs.Walking.{StandsIn}
 use Rattle.gc_words.specs.declared.header.Header.{Header}
-use Rattle.gc_words.proofs.Walks.{Walked, walk_placed, walk_field, BlockHasField}
-use Rattle.gc_words.proofs.Starts.{ok_is, stands_in, stands, StandsAt}
-use Rattle.gc_words.proofs.Writes.{field_written}
-use Rattle.gc_words.proofs.References.{closed_field, closed_root, closed_placed, placed_reference}
+use Rattle.gc_words.proofs.Public.{Walked, walk_placed, walk_field, BlockHasField, ok_is, stands_in, stands, StandsAt, field_written, closed_field, closed_root, closed_placed, placed_reference}
 use Rattle.gc_generations.specs.Minor.{young_blocks, IsStanding, remember}
 use Rattle.gc_generations.proofs.Fronts.{whole_blocks, whole_shaped, not_old, young_above}
 use Rattle.gc_generations.proofs.Lists.{found_left, found_right}

@@ -6,7 +6,7 @@ use Rattle.gc_graph.specs.Correspond.{paired}
 use Rattle.gc_words.specs.Layout.{field_place}
 use Rattle.gc_words.specs.Image.{Block, block_at, field_in, field_at, with_field_word}
 use Rattle.gc_words.specs.Space.{IsSpace}
-use Rattle.gc_words.proofs.Blocks.{field_block, field_beside}
+use Rattle.gc_words.proofs.Public.{field_block, field_beside}
 use Rattle.gc_generations.specs.Minor.{is_young, IsComplete, remember}
 use Rattle.gc_generations.proofs.Lists.{or_left, or_right, get_set_here, get_set_other}
 

@@ -13,9 +13,7 @@ use Rattle.gc_words.specs.Image.{Block, walk, ok_or_nil, blocks, block_in, block
 use Rattle.gc_words.specs.Certificate.{BlocksCorrespond, Certified}
 use Rattle.gc_words.specs.Spelling.{LaidOut, no_links}
 use Rattle.gc_words.specs.declared.header.Header.{Header}
-use Rattle.gc_words.proofs.Graphs.{value_read_back, IsWordOf, meant}
-use Rattle.gc_words.proofs.Spelled.{laid_out, walk_spelled}
-use Rattle.gc_words.proofs.Starts.{ok_is}
+use Rattle.gc_words.proofs.Public.{value_read_back, IsWordOf, meant, laid_out, walk_spelled, ok_is}
 use Rattle.gc_generations.specs.Minor.{lies_below, is_old, words_correspond_above, field_words_correspond_above, young_blocks, BlocksCorrespondAbove, MinorCertified}
 use Rattle.gc_generations.specs.Encoding.{encoded_value, encoded, encoded_fields, encoded_block, encoded_blocks, rebased, young_words, young_image, IsCode, IsApart, CanEncode, FieldsCanEncode, IsEncoded}
 use Rattle.gc_generations.proofs.Lists.{or_left, or_right, all_found}

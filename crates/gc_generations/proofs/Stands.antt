@@ -12,9 +12,7 @@ use Rattle.gc_words.specs.Space.{IsSpace}
 use Rattle.gc_words.specs.Certificate.{BlocksCorrespond, Certified}
 use Rattle.gc_words.specs.Closed.{IsClosed, RefersToStart, IsRootWord, IsWordOfField, IsFieldWord, HasFieldWords}
 use Rattle.gc_words.specs.declared.header.Header.{Header}
-use Rattle.gc_words.proofs.Fields.{block_of_header}
-use Rattle.gc_words.proofs.Writes.{some_of}
-use Rattle.gc_words.proofs.References.{closed_empty}
+use Rattle.gc_words.proofs.Public.{block_of_header, some_of, closed_empty}
 use Rattle.gc_generations.specs.Minor.{lies_above, young_blocks, IsComplete, whole, identity, IsStanding, IsMinor, AreReplicas}
 use Rattle.gc_generations.proofs.Lists.{any_left, any_right, paired_all, zip_right, all_at, all_found, self_paired, found_right, entries_found, pair_of_right}
 use Rattle.gc_generations.proofs.Fronts.{whole_blocks, whole_shaped, old_below, old_rise}

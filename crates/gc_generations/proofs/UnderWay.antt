@@ -6,7 +6,7 @@ use Rattle.std.proofs.lemmas.Bool.{cases_Bool}
 use Rattle.gc_graph.specs.Correspond.{paired}
 use Rattle.gc_words.specs.Word.{words_correspond}
 use Rattle.gc_words.specs.Image.{Block, walk, blocks, block_in, block_at, header_of, field_in, field_at}
-use Rattle.gc_words.proofs.Fields.{block_of_header}
+use Rattle.gc_words.proofs.Public.{block_of_header}
 use Rattle.gc_generations.specs.Minor.{is_young, young_blocks, IsStanding, IsMinor}
 use Rattle.gc_generations.specs.Major.{IsUnderWay}
 use Rattle.gc_generations.proofs.Lists.{any_left, any_right, paired_all, found_left, found_right}

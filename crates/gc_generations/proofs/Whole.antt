@@ -11,9 +11,7 @@ use Rattle.gc_words.specs.Image.{Block, walk, blocks, block_in, block_at, header
 use Rattle.gc_words.specs.Certificate.{BlocksCorrespond, Certified}
 use Rattle.gc_words.specs.Closed.{RefersToStart, IsRootWord, IsWordOfField, IsFieldWord, HasFieldWords}
 use Rattle.gc_words.specs.declared.header.Header.{Header}
-use Rattle.gc_words.proofs.Starts.{stands_in}
-use Rattle.gc_words.proofs.Writes.{some_of}
-use Rattle.gc_words.proofs.Fields.{block_of_header}
+use Rattle.gc_words.proofs.Public.{stands_in, some_of, block_of_header}
 use Rattle.gc_generations.specs.Minor.{lies_below, lies_above, is_old, is_young, words_correspond_above, field_words_correspond_above, young_blocks, BlocksCorrespondAbove, word_or_nil, word_of_field, whole, identity, IsStanding, IsMinor}
 use Rattle.gc_generations.proofs.Lists.{any_left, any_right, paired_all, all_zip_from, zip_weaker, zip_split, all_at, found_left, found_right, all_found, self_paired, all_selves, selves_rise, starts_found}
 use Rattle.gc_generations.proofs.Fronts.{whole_blocks, whole_shaped, old_below, not_old, young_above, not_young, old_rise}

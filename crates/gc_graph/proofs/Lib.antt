@@ -12,3 +12,4 @@ pub mod SentText
 pub mod PieceSteps
 pub mod LineLemmas
 pub mod TokenParsers
+pub mod Public

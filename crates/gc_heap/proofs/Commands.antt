@@ -14,9 +14,7 @@ use Rattle.gc_words.specs.Layout.{field_place}
 use Rattle.gc_words.specs.Space.{with_object, with_word, end_of, CanPlace}
 use Rattle.gc_words.specs.declared.header.Header.{Header}
 use Rattle.gc_words.specs.Closed.{IsRootWord, IsFieldWord, RefersToStart}
-use Rattle.gc_words.proofs.Graphs.{object_found, field_found, root_value, graph_field, graph_root, word_read_back}
-use Rattle.gc_words.proofs.References.{closed_root_read, closed_field, closed_root, closed_placed, placed_reference}
-use Rattle.gc_words.proofs.Writes.{some_of, field_written, placed}
+use Rattle.gc_words.proofs.Public.{object_found, field_found, root_value, graph_field, graph_root, word_read_back, closed_root_read, closed_field, closed_root, closed_placed, placed_reference, some_of, field_written, placed}
 use Rattle.std.proofs.lemmas.List.{length-set}
 use Rattle.gc_graph.specs.Graph.{name_of}
 use Rattle.gc_heap.specs.Heap.{HeapWords, IsHeap, graph_in}

@@ -11,9 +11,8 @@ use Rattle.gc_words.specs.Image.{field_at, field_in, object_of_block, fresh_bloc
 use Rattle.gc_words.specs.Layout.{field_place}
 use Rattle.gc_words.specs.Space.{CanPlace, end_of, with_word}
 use Rattle.gc_words.specs.Closed.{IsRootWord, IsFieldWord, IsWordOfField}
-use Rattle.gc_words.proofs.Blocks.{field_block, placed_block}
+use Rattle.gc_words.proofs.Public.{field_block, placed_block, object_found, value_read_back}
 use Rattle.gc_words.specs.declared.header.Header.{Header}
-use Rattle.gc_words.proofs.Graphs.{object_found, value_read_back}
 use Rattle.std.specs.Option.{option_map}
 use Rattle.gc_heap.specs.Heap.{HeapWords, IsHeap, KeepsLinks, graph_in}
 use Rattle.gc_heap.specs.Filling.{TakesFields}

@@ -5,3 +5,4 @@ pub mod Links
 pub mod Numbers
 pub mod Steps
 pub mod Views
+pub mod Public

@@ -7,8 +7,7 @@ use Rattle.gc_words.specs.Spelling.{link_at}
 use Rattle.gc_words.specs.Layout.{field_place}
 use Rattle.gc_words.specs.Space.{SpaceWords, IsSpace, CanPlace, end_of, with_object, with_word}
 use Rattle.gc_words.specs.declared.header.Header.{Header}
-use Rattle.gc_words.proofs.Blocks.{placed_beside, field_beside}
-use Rattle.gc_words.proofs.Links.{link_placed, link_placed_beside, link_beside_field}
+use Rattle.gc_words.proofs.Public.{placed_beside, field_beside, link_placed, link_placed_beside, link_beside_field}
 use Rattle.gc_heap.specs.Heap.{KeepsLinks}
 
 -- if the objects are the same, so are the starts

@@ -16,12 +16,10 @@ use Rattle.gc_words.specs.Layout.{field_place}
 use Rattle.gc_words.specs.Space.{SpaceWords, IsSpace, with_field_at}
 use Rattle.gc_words.specs.Space.{end_of, free_in}
 use Rattle.gc_words.specs.Closed.{IsWordOfField, IsFieldWord}
-use Rattle.gc_words.proofs.Blocks.{field_block}
-use Rattle.gc_words.proofs.Graphs.{object_found, root_value, value_read_back}
-use Rattle.gc_words.proofs.References.{value_refers}
+use Rattle.gc_words.proofs.Public.{field_block, object_found, root_value, value_read_back, value_refers, fields_counted}
 use Rattle.gc_words.specs.Image.{object_of_block}
 use Rattle.gc_graph.specs.Graph.{object_of}
-use Rattle.gc_graph.proofs.Stepping.{in_place, with_free}
+use Rattle.gc_graph.proofs.Public.{in_place, with_free}
 use Rattle.std.specs.Option.{option_map}
 use Rattle.std.proofs.lemmas.List.{get_or-set_other, set-set}
 use Rattle.std.proofs.lemmas.List.Elements.{All-head, All-tail}
@@ -29,7 +27,6 @@ use Rattle.gc_heap.specs.Heap.{HeapWords, IsHeap, graph_in, roomy_in}
 use Rattle.gc_heap.specs.Commands.{Performs}
 use Rattle.gc_heap.specs.Filling.{TakesNumbers, WritesNumbers}
 use Rattle.gc_heap.specs.Internal.Written.{HasFields, with_fields}
-use Rattle.gc_words.proofs.Ends.{fields_counted}
 use Rattle.gc_words.specs.Image.{header_at}
 use Rattle.gc_heap.proofs.Commands.{Points, points, read_root, header_is, at_root, put_done, written_heap, taken_heap}
 use Rattle.gc_heap.proofs.Links.{links_written}

@@ -11,12 +11,11 @@ use Rattle.gc_graph.specs.declared.command.Op.TheVariants as ops
 use Rattle.gc_graph.specs.declared.reply.Reply.{Reply}
 use Rattle.gc_graph.specs.declared.reply.Reply.TheVariants.{Full, Made, Done, Saw}
 use Rattle.gc_graph.specs.declared.reply.View.{View}
-use Rattle.gc_graph.proofs.Stepping.{in_place, with_free, new_command, new_step}
+use Rattle.gc_graph.proofs.Public.{in_place, with_free, new_command, new_step}
 use Rattle.gc_words.specs.Word.{value_of, word_of}
 use Rattle.gc_words.specs.Space.{CanPlace, end_of, free_in, with_object}
 use Rattle.gc_words.specs.declared.header.Header.{Header}
-use Rattle.gc_words.proofs.Graphs.{graph_root, graph_placed, value_read_back}
-use Rattle.gc_words.proofs.Ends.{free_placed}
+use Rattle.gc_words.proofs.Public.{graph_root, graph_placed, value_read_back, free_placed}
 use Rattle.gc_heap.proofs.Views.{meaning}
 use Rattle.gc_heap.specs.Heap.{HeapWords, IsHeap, graph_in, roomy_in}
 use Rattle.gc_heap.specs.Commands.{Performs}

@@ -8,9 +8,7 @@ use Rattle.gc_words.specs.Word.{is_value, read_value, value_of}
 use Rattle.gc_words.specs.Image.{Block, block_at, header_at, objects_of, object_of_block}
 use Rattle.gc_words.specs.Space.{SpaceWords, IsSpace}
 use Rattle.gc_words.specs.declared.header.Header.{Header}
-use Rattle.gc_words.proofs.Ends.{fields_counted}
-use Rattle.gc_words.proofs.Fields.{block_of_header}
-use Rattle.gc_words.proofs.Graphs.{object_found}
+use Rattle.gc_words.proofs.Public.{fields_counted, block_of_header, object_found}
 
 pub shown : (s : SpaceWords) (a : ℕ) (h : Header) → IsSpace s → header_at s.words a ≡ Some h → view_of (objects_of s.words) (Ref a) ≡ cond h.raw (RawObj h.kind h.len) (Obj h.kind h.len)
 shown s a h space e =

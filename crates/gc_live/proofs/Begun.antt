@@ -6,12 +6,12 @@ use Rattle.gc_copy.specs.Steps.{collect, collect_with, with_collection, fresh_co
 use Rattle.gc_copy.specs.declared.step.Step.TheVariants as steps
 use Rattle.gc_copy.specs.declared.step.StepReply.{StepReply}
 use Rattle.gc_copy.specs.Belonging.{IsSpaceGraph}
-use Rattle.gc_copy.proofs.Images.{end_is}
+use Rattle.gc_copy.proofs.Public.{end_is}
 use Rattle.gc_along.specs.Watch.{opening}
 use Rattle.gc_along.specs.Tables.{Tables, watch_of}
 use Rattle.gc_along.specs.Events.{WalkedAnew}
 use Rattle.gc_beside.specs.Internal.Live.{GoesBeside, IsLive, heap_words}
-use Rattle.gc_beside.proofs.Lives.{lives_begun}
+use Rattle.gc_beside.proofs.Public.{lives_begun}
 
 pub none_open : (o : Option Collection) → is_some o ≡ false → o ≡ None
 none_open None e = Rattle.std.proofs.Common.refl

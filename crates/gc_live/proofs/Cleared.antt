@@ -5,13 +5,13 @@ use Rattle.gc_heap.specs.ExtraRoots.{extra_slot}
 use Rattle.gc_copy.specs.State.{State, heap_end}
 use Rattle.gc_copy.specs.Steps.{mutate}
 use Rattle.gc_copy.specs.Belonging.{IsOpen}
-use Rattle.gc_copy.proofs.Commands.{WrittenBy, unchanged}
+use Rattle.gc_copy.proofs.Public.{WrittenBy, unchanged}
 use Rattle.gc_core.specs.ExtraRoots.{clear_step}
 use Rattle.gc_along.specs.Watch.{opening}
 use Rattle.gc_along.specs.Tables.{Tables, watch_of}
 use Rattle.gc_beside.specs.Stays.{Fits}
 use Rattle.gc_beside.specs.Internal.Live.{IsLive}
-use Rattle.gc_beside.proofs.LivesThrough.{Leads, same_itself, leads_on, leads_one, lives_through, end_by}
+use Rattle.gc_beside.proofs.Public.{Leads, same_itself, leads_on, leads_one, lives_through, end_by}
 
 abbrev Never : ℕ → ℕ → Type 0
 Never a i = ⊥

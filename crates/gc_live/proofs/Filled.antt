@@ -14,17 +14,14 @@ use Rattle.gc_copy.specs.State.{State, heap_end}
 use Rattle.gc_copy.specs.Steps.{mutate, logged}
 use Rattle.gc_copy.specs.Members.{In}
 use Rattle.gc_copy.specs.Belonging.{IsSpaceGraph, IsOpen, Laid}
-use Rattle.gc_copy.proofs.Commands.{WrittenBy, unchanged}
-use Rattle.gc_copy.proofs.Heap.{laid_push, laid_range, lookup_in, lookup_laid}
-use Rattle.gc_copy.proofs.Lists.{in_right}
+use Rattle.gc_copy.proofs.Public.{WrittenBy, unchanged, laid_push, laid_range, lookup_in, lookup_laid, in_right}
 use Rattle.gc_core.specs.CollectedHeap.{fill_step, filled, new_from_step}
 use Rattle.gc_along.specs.Watch.{Watch}
 use Rattle.gc_beside.specs.Stays.{Fits, MarksWritten}
 use Rattle.gc_along.specs.Tables.{Tables, watch_of}
 use Rattle.gc_along.specs.Events.{Made}
 use Rattle.gc_beside.specs.Internal.Live.{IsLive, heap_words}
-use Rattle.gc_beside.proofs.LivesOn.{EndsMore, grown}
-use Rattle.gc_beside.proofs.LivesThrough.{Leads, same_itself, leads_on, leads_one, lives_through, put_roots, end_by}
+use Rattle.gc_beside.proofs.Public.{EndsMore, grown, Leads, same_itself, leads_on, leads_one, lives_through, put_roots, end_by}
 
 -- only fields of this object
 abbrev Of : ℕ → ℕ → ℕ → Type 0

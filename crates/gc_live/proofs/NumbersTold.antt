@@ -14,16 +14,14 @@ use Rattle.gc_copy.specs.State.{Collection, State, heap_end}
 use Rattle.gc_copy.specs.Steps.{mutate}
 use Rattle.gc_copy.specs.Members.{In, Distinct}
 use Rattle.gc_copy.specs.Belonging.{IsOpen}
-use Rattle.gc_copy.proofs.Commands.{WrittenBy, unchanged}
-use Rattle.gc_copy.proofs.Lists.{get_set_other}
+use Rattle.gc_copy.proofs.Public.{WrittenBy, unchanged, get_set_other}
 use Rattle.gc_core.specs.Writing.{numbers_step, numbers_reply, numbers_after, put_numbers_step}
 use Rattle.gc_along.specs.Watch.{opening}
 use Rattle.gc_along.specs.Tables.{Tables, watch_of}
 use Rattle.gc_along.specs.Events.{Wrote}
 use Rattle.gc_beside.specs.Stays.{Fits, MarksWritten}
 use Rattle.gc_beside.specs.Internal.Live.{IsLive}
-use Rattle.gc_beside.proofs.LivesThrough.{Leads, same_itself, leads_on, leads_one, lives_through, end_by, put_roots}
-use Rattle.gc_beside.proofs.Told.{told_wrote}
+use Rattle.gc_beside.proofs.Public.{Leads, same_itself, leads_on, leads_one, lives_through, end_by, put_roots, told_wrote}
 use Rattle.gc_live.specs.Internal.Told.{ToldWritten}
 
 -- field j is one of so many, from i on, of the object at a

@@ -9,7 +9,7 @@ use Rattle.gc_graph.specs.declared.command.Op.{Op}
 use Rattle.gc_graph.specs.declared.command.Op.TheVariants as ops
 use Rattle.gc_graph.specs.Limits.{most_words}
 use Rattle.gc_copy.specs.Runs.{IsStepWithin}
-use Rattle.gc_graph.proofs.LineLemmas.{HasNo-name, HasNo-decimal, AllHaveNo, HasNo-joined, tokens_of-joined}
+use Rattle.gc_graph.proofs.Public.{HasNo-name, HasNo-decimal, AllHaveNo, HasNo-joined, tokens_of-joined}
 use Rattle.gc_copy.specs.declared.step.Step.{Step}
 use Rattle.gc_copy.specs.declared.step.Step.TheVariants as steps
 use Rattle.gc_copy.specs.declared.event.Event.{Event}

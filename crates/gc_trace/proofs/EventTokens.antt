@@ -10,8 +10,7 @@ use Rattle.gc_graph.specs.declared.command.Op.{Op}
 use Rattle.gc_graph.specs.declared.command.Op.TheVariants as ops
 use Rattle.gc_graph.specs.Limits.{most_words}
 use Rattle.gc_copy.specs.Runs.{IsStepWithin}
-use Rattle.gc_graph.proofs.Decimals.{number_again}
-use Rattle.gc_graph.proofs.TokenParsers.{number_at_again, token_at_again, end_again}
+use Rattle.gc_graph.proofs.Public.{number_again, number_at_again, token_at_again, end_again}
 use Rattle.gc_copy.specs.declared.step.Step.{Step}
 use Rattle.gc_copy.specs.declared.step.Step.TheVariants as steps
 use Rattle.gc_copy.specs.declared.event.Event.{Event}

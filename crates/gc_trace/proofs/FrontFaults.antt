@@ -6,7 +6,7 @@ use Rattle.gc_trace.specs.Grammar.{event_tokens, version_tokens, size_tokens, he
 use Rattle.gc_trace.specs.Faults.{HasNoHeading, BeginsWithNoEvent}
 use Rattle.gc_trace.proofs.EventTokens.{event_again, version_again, sizes_again}
 use Rattle.gc_trace.proofs.EventLines.{tokens_of-event, HasNo-event, heading_lines}
-use Rattle.gc_graph.proofs.LineLemmas.{one_cut, not_cut}
+use Rattle.gc_graph.proofs.Public.{one_cut, not_cut}
 use Rattle.gc_trace.proofs.OneReading.{event_line-more, heading-more}
 
 pub no_line : (version : ℕ) (rest : List ℕ) → HasNo newline rest → BeginsWithNoEvent version rest

@@ -13,7 +13,7 @@ use Rattle.gc_trace.specs.declared.fault.TraceFault.{TraceFault}
 use Rattle.gc_trace.specs.declared.fault.TraceFault.TheVariants.{Read, TooLarge, BadHeader, BadLine, NoSuchMutator, NoMemory}
 use Rattle.gc_trace.proofs.EventTokens.{event_again, version_again, sizes_again}
 use Rattle.gc_trace.proofs.EventLines.{tokens_of-event, HasNo-event, heading_lines}
-use Rattle.gc_graph.proofs.LineLemmas.{one_cut}
+use Rattle.gc_graph.proofs.Public.{one_cut}
 
 pub event_line-more : (event : Event) (more : List ℕ) → event_line event ++ more ≡ joined (event_tokens event) ++ newline ∷ more
 unfolding event_line

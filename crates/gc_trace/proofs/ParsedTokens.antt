@@ -11,8 +11,7 @@ use Rattle.gc_graph.specs.declared.command.Op.{Op}
 use Rattle.gc_graph.specs.declared.command.Op.TheVariants as ops
 use Rattle.gc_graph.specs.Limits.{most_words}
 use Rattle.gc_copy.specs.Runs.{IsStepWithin}
-use Rattle.gc_graph.proofs.Decimals.{number_found}
-use Rattle.gc_graph.proofs.TokenParsers.{bind_some, some, some_is, onto, number_at_found, token_at_found, end_found, name_case, positive}
+use Rattle.gc_graph.proofs.Public.{number_found, bind_some, some, some_is, onto, number_at_found, token_at_found, end_found, name_case, positive}
 use Rattle.gc_copy.specs.declared.step.Step.{Step}
 use Rattle.gc_copy.specs.declared.step.Step.TheVariants as steps
 use Rattle.gc_copy.specs.declared.event.Event.{Event}

@@ -6,7 +6,7 @@ use Rattle.std.specs.List.{flat_map}
 use Rattle.std.proofs.lemmas.List.Concat.{flat_map-append, flat_map-cons}
 use Rattle.std.proofs.lemmas.List.Folds.{flat_map-map}
 use Rattle.gc_graph.specs.Streams.{SendsFront, HasSent}
-use Rattle.gc_graph.proofs.SentText.{sent_then, sent_at_last, front_sent}
+use Rattle.gc_graph.proofs.Public.{sent_then, sent_at_last, front_sent}
 use Rattle.gc_world.specs.History.{events_of}
 use Rattle.gc_world.specs.declared.entry.Entry.{Entry}
 use Rattle.gc_trace.specs.Grammar.{event_line, heading, spelling, least_version, written}

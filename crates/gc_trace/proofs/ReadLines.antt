@@ -12,7 +12,7 @@ use Rattle.gc_trace.specs.declared.fault.TraceFault.TheVariants.{TooLarge}
 use Rattle.gc_trace.specs.Internal.Faults.{fault_of_reading}
 use Rattle.gc_trace.specs.Internal.Reading.{IsReading, HasRead, read_so_far}
 use Rattle.gc_trace.specs.declared.event_reader.EventReader.{EventReader}
-use Rattle.gc_graph.proofs.Bounds.{all_push}
+use Rattle.gc_graph.proofs.Public.{all_push}
 use Rattle.gc_trace.proofs.EventFronts.{line_takes}
 use Rattle.gc_trace.proofs.Total.{made_of, good_start, good_more}
 

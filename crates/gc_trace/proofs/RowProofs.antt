@@ -9,7 +9,7 @@ use Rattle.gc_graph.specs.Slots.{own_slot, shared_slot}
 use Rattle.gc_graph.specs.Tokens.{number_of, number_at, token_at, if_all_taken}
 use Rattle.gc_graph.specs.declared.command.Op.TheVariants as ops
 use Rattle.gc_copy.specs.declared.step.Step.TheVariants as steps
-use Rattle.gc_graph.proofs.LineLemmas.{lacks, HasNo-lacks}
+use Rattle.gc_graph.proofs.Public.{lacks, HasNo-lacks}
 use Rattle.gc_copy.specs.declared.event.Event.TheVariants.{Mutate, Collect}
 use Rattle.gc_trace.specs.Grammar.{Recording, slot, op_tokens, step_tokens, event_tokens, event_line, version_tokens, size_tokens, heading, spelling, IsTextOf}
 use Rattle.gc_trace.specs.Faults.{limit, BeginsWithNoEvent, IsTraceFaultOf}

@@ -8,8 +8,7 @@ use Rattle.gc_copy.specs.State.{State}
 use Rattle.gc_copy.specs.Runs.{IsStepWithin, IsEventWithin, IsStep, IsEvent, HasSizesWithin, after}
 use Rattle.gc_copy.specs.declared.event.Event.{Event}
 use Rattle.gc_copy.specs.declared.step.Step.{Step}
-use Rattle.gc_copy.proofs.Sizes.{wider_step, wider_event}
-use Rattle.gc_copy.proofs.Sizes as sizes
+use Rattle.gc_copy.proofs.Public.{wider_step, wider_event, event_within as sizes_stay}
 
 pub heap_step : (mutators : ℕ) (step : Step) → IsStepWithin most_words mutators step → IsStep mutators step
 heap_step mutators step within = wider_step most_words mutators step (omega arith) within
@@ -19,7 +18,7 @@ heap_event mutators event within = wider_event most_words mutators event (omega 
 
 -- the event keeps the spaces small enough for a text
 pub event_within : (mutators : ℕ) (s : State) (event : Event) → HasSizesWithin most_words s → IsEventWithin most_words mutators event → HasSizesWithin most_words (after s event)
-event_within mutators s event small within = sizes.event_within most_words mutators s event small within
+event_within mutators s event small within = sizes_stay most_words mutators s event small within
 
 -- the heap after a step that happened
 pub next_within : (result : Result (Option PairFile) NoMemory) (s next : State) → HasSizesWithin most_words s → OnOk result (next ≡ s) → OnOk result (HasSizesWithin most_words next)

@@ -7,7 +7,7 @@ use Rattle.std.proofs.lemmas.List.Concat.{flat_map-append, flat_map-cons}
 use Rattle.gc_graph.specs.Lines.{newline, joined, tokens_of}
 use Rattle.gc_graph.specs.Limits.{most_words}
 use Rattle.gc_copy.specs.Runs.{IsStepWithin}
-use Rattle.gc_graph.proofs.LineLemmas.{Cut, cut, joined-tokens_of}
+use Rattle.gc_graph.proofs.Public.{Cut, cut, joined-tokens_of, all_push}
 use Rattle.gc_copy.specs.declared.step.Step.{Step}
 use Rattle.gc_copy.specs.declared.step.Step.TheVariants as steps
 use Rattle.gc_copy.specs.declared.event.Event.{Event}
@@ -20,7 +20,6 @@ use Rattle.gc_trace.specs.declared.fault.TraceFault.TheVariants.{TooLarge, BadHe
 use Rattle.gc_trace.proofs.ParsedTokens.{event_found, version_found, sizes_found}
 use Rattle.gc_trace.proofs.FrontFaults.{no_line, no_event, no_first, no_version, no_second, no_sizes}
 use Rattle.gc_trace.proofs.OneReading.{event_line-more, heading-more}
-use Rattle.gc_graph.proofs.Bounds.{all_push}
 
 dec_le : (m n : ℕ) → (m ≤ n) ⊎ (m ≤ n → ⊥)
 dec_le m n = at (leb m n) refl

@@ -15,3 +15,4 @@ pub mod FirstFault
 pub mod FoundFault
 pub mod FaultPlace
 pub mod Certified
+pub mod Public

@@ -11,10 +11,7 @@ use Rattle.gc_copy.specs.declared.event.Event.TheVariants.{Mutate, Collect}
 use Rattle.gc_copy.specs.declared.event.Answer.TheVariants.{Collector}
 use Rattle.gc_copy.specs.Carried.{OnlyKeptIsPaired, base_of_run}
 use Rattle.gc_copy.specs.declared.step.StepReply.TheVariants.{Refused}
-use Rattle.gc_copy.proofs.Runs.{Reached, opening_ok, event_keeps, run_keeps}
-use Rattle.gc_copy.proofs.Sizes.{run_within, wider_events}
-use Rattle.gc_copy.proofs.StateLaws.{never_refused}
-use Rattle.gc_copy.proofs.Carried.{carries_only_kept}
+use Rattle.gc_copy.proofs.Public.{Reached, opening_ok, event_keeps, run_keeps, run_within, wider_events, never_refused, carries_only_kept}
 use Rattle.gc_world.specs.History.{unmarked, events_of, answers_of, RunsFrom, state_after, IsHistory}
 use Rattle.gc_world.specs.declared.entry.Entry.{Entry}
 

@@ -10,8 +10,8 @@ use Rattle.gc_copy.specs.declared.event.Event.TheVariants.{Mutate, Collect}
 use Rattle.gc_copy.specs.declared.event.Answer as answered
 use Rattle.gc_copy.specs.declared.event.Answer.TheVariants.{Mutator, Collector, Useful}
 use Rattle.gc_core.specs.Replies.{told_in}
-use Rattle.gc_core.proofs.LegalRuns.{run_is_legal}
-use Rattle.gc_copy.proofs.Sizes.{wider_events}
+use Rattle.gc_core.proofs.Public.{run_is_legal}
+use Rattle.gc_copy.proofs.Public.{wider_events}
 use Rattle.gc_world.specs.History.{unmarked, events_of, answers_of, RunsFrom, told_by, told_of, IsHistory}
 use Rattle.gc_world.specs.declared.entry.Entry.{Entry}
 

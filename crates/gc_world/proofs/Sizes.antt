@@ -9,7 +9,7 @@ use Rattle.gc_copy.specs.Steps.{roots_done, scan_done, first_log, apply_or_flip,
 use Rattle.gc_copy.specs.Runs.{IsStepWithin, IsStep, HasSizesWithin}
 use Rattle.gc_copy.specs.declared.step.Step.{Step}
 use Rattle.gc_copy.specs.declared.step.Step.TheVariants as steps
-use Rattle.gc_copy.proofs.Sizes.{wider_step}
+use Rattle.gc_copy.proofs.Public.{wider_step}
 use Rattle.gc_copy.specs.declared.step.StepReply.{StepReply}
 use Rattle.gc_copy.specs.declared.step.StepReply.TheVariants.{Busy, Begun, Idle, Clean, NoRoom, Copied, Passed, Scanned, Applied, NotReady, Refused, Flipped, Dropped}
 use Rattle.gc_core.specs.Flip.{flip_pair, open_pair, kept_after}

@@ -6,7 +6,7 @@ use Rattle.gc_copy.specs.Belonging.{IsSpaceGraph, IsOpen}
 use Rattle.gc_copy.specs.Progress.{work_with, work_left}
 use Rattle.gc_copy.specs.declared.step.StepReply.{StepReply}
 use Rattle.gc_copy.specs.declared.step.StepReply.TheVariants as replies
-use Rattle.gc_copy.proofs.Progress.{left_bounded}
+use Rattle.gc_copy.proofs.Public.{left_bounded}
 use Rattle.gcflip_heap_c.specs.Replies.{step_reply_in_c}
 use Rattle.gcflip_heap_c.specs.Readings.{counts_with, counts_of}
 use Rattle.gcflip_heap_c.specs.Work.{IsWork, goes_on}

@@ -9,8 +9,7 @@ use Rattle.gc_copy.specs.State.{Collection, State, heap_end}
 use Rattle.gc_copy.specs.Belonging.{IsState}
 use Rattle.gc_copy.specs.Steps.{log_or_nil, logged, written, mutate, useful_step}
 use Rattle.gc_copy.specs.Progress.{entries_in, work_left, entries_with, entries_left}
-use Rattle.gc_copy.proofs.Steps.{collect_keeps, mutate_keeps}
-use Rattle.gc_copy.proofs.Progress.{useful_ranges, command_raises}
+use Rattle.gc_copy.proofs.Public.{collect_keeps, mutate_keeps, useful_ranges, command_raises}
 use Rattle.gcflip_heap_c.specs.Readings.{counts_of}
 use Rattle.gcflip_heap_c.specs.Work.{after_useful}
 use Rattle.gcflip_heap_c.specs.Pace.{steps_due, CountsAll, IsAhead, IsPacedWork}

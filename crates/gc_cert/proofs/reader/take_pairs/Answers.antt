@@ -4,7 +4,7 @@ use Rattle.std.proofs.lemmas.List.{map-append}
 use Rattle.std.proofs.lemmas.Result.{err_from_is_err_and}
 use Rattle.gc_graph.specs.Lines.{tokens_of}
 use Rattle.gc_graph.specs.Streams.{source_failed}
-use Rattle.gc_graph.proofs.Bounds.{all_push}
+use Rattle.gc_graph.proofs.Public.{all_push}
 use Rattle.gc_words.specs.Views.{addresses}
 use Rattle.gc_cert.specs.Grammar.{pair_line, AreAddresses}
 use Rattle.gc_cert.specs.Internal.Parsers.{pair_of}

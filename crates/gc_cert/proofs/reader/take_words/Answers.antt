@@ -3,7 +3,7 @@ use Rattle.std.specs.Fmt.{decimal}
 use Rattle.std.specs.Result.{is_ok}
 use Rattle.std.proofs.lemmas.Result.{err_from_is_err_and}
 use Rattle.gc_graph.specs.Streams.{source_failed}
-use Rattle.gc_graph.proofs.Bounds.{all_push}
+use Rattle.gc_graph.proofs.Public.{all_push}
 use Rattle.gc_cert.specs.Grammar.{IsWord}
 use Rattle.gc_cert.specs.Internal.Parsers.{word_in}
 use Rattle.gc_cert.specs.Internal.Sections.{alone, AreAll, Spelled}

@@ -1,5 +1,5 @@
 use Rattle.std.proofs.Common.{sym, ◌∙◌}
-use Rattle.gc_words.proofs.Steps.{same_fault}
+use Rattle.gc_words.proofs.Public.{same_fault}
 use Rattle.gc_check.proofs.StartMarks.{marks_next, all_marked}
 use Rattle.gc_check.proofs.starts.mark_starts.Goals as goal
 

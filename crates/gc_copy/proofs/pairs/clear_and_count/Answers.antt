@@ -1,7 +1,7 @@
 use Rattle.std.proofs.Common.{◌≡◌, ◌<◌, ◌+◌, length, sym, ap, ◌∙◌, subst}
 use Rattle.std.specs.Prelude.{slice_set}
 use Rattle.gc_words.specs.Space.{SpaceWords}
-use Rattle.gc_words.proofs.Steps.{cleared_step, cleared_from}
+use Rattle.gc_words.proofs.Public.{cleared_step, cleared_from}
 use Rattle.gc_copy.proofs.ObjectWalks.{start_met, counts_more, counts_unlinked, link_passed}
 use Rattle.gc_copy.proofs.pairs.clear_and_count.Goals as goal
 

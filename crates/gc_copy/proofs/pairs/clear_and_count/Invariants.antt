@@ -2,7 +2,7 @@ use Rattle.std.proofs.Common.{◌≡◌, ◌-◌, length}
 use Rattle.gc_words.specs.Image.{blocks}
 use Rattle.gc_words.specs.Space.{IsSpace}
 use Rattle.gc_words.specs.Spelling.{spelled, no_links}
-use Rattle.gc_words.proofs.Steps.{cleared_from}
+use Rattle.gc_words.proofs.Public.{cleared_from}
 use Rattle.gc_copy.proofs.ObjectWalks.{Counts}
 use Rattle.gc_copy.proofs.pairs.clear_and_count.Given as goal
 

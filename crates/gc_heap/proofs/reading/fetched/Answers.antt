@@ -7,7 +7,7 @@ use Rattle.gc_words.specs.Word.{value_of}
 use Rattle.gc_words.specs.Image.{Block, block_at, header_of, objects_of}
 use Rattle.gc_words.specs.Closed.{RefersToStart}
 use Rattle.gc_words.specs.Views.{graph_value}
-use Rattle.gc_words.proofs.Writes.{some_of}
+use Rattle.gc_words.proofs.Public.{some_of}
 use Rattle.gc_heap.specs.Commands.{fetched_of}
 use Rattle.gc_heap.specs.declared.taken.Fetched.TheVariants.{Object}
 use Rattle.gc_heap.proofs.Views.{shown}

@@ -1,7 +1,7 @@
 use Rattle.std.proofs.Common.{◌≡◌, true, false, is_some, inl, inr, ap, sym, ◌∙◌, arith}
 use Rattle.std.specs.Prelude.{nat_lt}
 use Rattle.std.proofs.lemmas.Bool.{cases_Bool, ltb-true, ltb-false}
-use Rattle.gc_words.proofs.Fields.{field_within, field_past}
+use Rattle.gc_words.proofs.Public.{field_within, field_past}
 use Rattle.gc_heap.proofs.reading.has_field.Goals as goal
 
 pub returns : goal.returns

@@ -4,7 +4,7 @@ use Rattle.gc_copy.specs.State.{State}
 use Rattle.gc_graph.specs.Limits.{most_words}
 use Rattle.gc_copy.specs.Belonging.{IsState}
 use Rattle.gc_copy.specs.Runs.{HasSizesWithin}
-use Rattle.gc_copy.proofs.Sizes.{opening_within}
+use Rattle.gc_copy.proofs.Public.{opening_within}
 use Rattle.std.specs.Option.{option_map}
 use Rattle.gc_cert.specs.Views.{pair_in}
 use Rattle.gc_trace.specs.Flips.{nth_flip, flips}

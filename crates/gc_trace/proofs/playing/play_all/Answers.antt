@@ -2,7 +2,7 @@ use Rattle.std.proofs.Common.{◌∙◌}
 use Rattle.gc_trace.specs.Faults.{IsReadAsTrace}
 use Rattle.gc_trace.specs.Internal.Reading.{read_so_far}
 use Rattle.gc_trace.specs.Plays.{opening}
-use Rattle.gc_graph.proofs.PieceSteps.{if_known}
+use Rattle.gc_graph.proofs.Public.{if_known}
 use Rattle.gc_trace.proofs.playing.play_all.Goals as goal
 
 pub returns-in-Ok-clause-played : goal.returns-in-Ok-clause-played

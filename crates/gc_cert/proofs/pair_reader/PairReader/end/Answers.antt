@@ -1,7 +1,7 @@
 use Rattle.std.proofs.Common.{rules, arith, ◌≡◌, ◌≢◌, [], false, length, sym, ◌∙◌}
 use Rattle.std.proofs.lemmas.Result.{err_from_is_err_and}
 use Rattle.gc_graph.specs.Streams.{source_failed}
-use Rattle.gc_graph.proofs.PieceSteps.{all_waits, no_byte}
+use Rattle.gc_graph.proofs.Public.{all_waits, no_byte}
 use Rattle.gc_cert.proofs.ReadPieces.{cannot_go_on}
 use Rattle.gc_cert.proofs.pair_reader.PairReader.end.Goals as goal
 

@@ -7,7 +7,7 @@ use Rattle.gc_heap.specs.Filling.{TakesFields}
 use Rattle.gc_heap.specs.Heap.{HeapWords}
 use Rattle.gc_copy.specs.State.{State}
 use Rattle.gc_copy.specs.Words.{collection_in, state_of, open_state}
-use Rattle.gc_copy.proofs.Mutating.{open_left}
+use Rattle.gc_copy.proofs.Public.{open_left}
 use Rattle.gc_core.specs.Internal.CollectedHeap.{Fits}
 use Rattle.gc_core.specs.Internal.KnownRoots.{KnowsRoots}
 use Rattle.gc_core.proofs.Marks.{from_knows}

@@ -6,7 +6,7 @@ use Rattle.gc_copy.specs.State.{State}
 use Rattle.std.specs.Option.{option_map}
 use Rattle.gc_copy.specs.Words.{collection_in, state_of, open_state, idle_state}
 use Rattle.gc_core.specs.declared.known.KnownRoots.{KnownRoots}
-use Rattle.gc_copy.proofs.Mutating.{idle_left, open_left}
+use Rattle.gc_copy.proofs.Public.{idle_left, open_left}
 use Rattle.gc_core.specs.Internal.CollectedHeap.{Fits}
 use Rattle.gc_core.specs.Internal.KnownRoots.{KnowsRoots}
 use Rattle.gc_core.proofs.Marks.{from_knows}

@@ -7,7 +7,7 @@ use Rattle.gc_heap.specs.Heap.{graph_in}
 use Rattle.gc_copy.specs.State.{State, extra_roots_of}
 use Rattle.gc_copy.specs.Steps.{mutate}
 use Rattle.gc_copy.specs.Words.{collection_in, state_of}
-use Rattle.gc_heap.proofs.ExtraRoots.{extra_place}
+use Rattle.gc_heap.proofs.Public.{extra_place}
 use Rattle.gc_core.specs.Internal.CollectedHeap.{Fits}
 use Rattle.gc_core.specs.Internal.KnownRoots.{KnowsRoots}
 use Rattle.gc_core.specs.declared.known.KnownRoots.{KnownRoots}

@@ -1,7 +1,7 @@
 use Rattle.std.proofs.Common.{◌≡◌, ◌+◌, ◌-◌, replicate, ◌∙◌, ap}
 use Rattle.gc_graph.specs.Slots.{roots_of}
 use Rattle.gc_heap.specs.Heap.{roomy_in}
-use Rattle.gc_words.proofs.Graphs.{graph_empty}
+use Rattle.gc_words.proofs.Public.{graph_empty}
 use Rattle.gc_heap.proofs.heap.Heap.open_with.Goals as goal
 
 pub returns-clause-empty : goal.returns-clause-empty

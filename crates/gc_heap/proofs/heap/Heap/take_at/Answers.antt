@@ -8,7 +8,7 @@ use Rattle.gc_words.specs.Word.{value_of, field_value}
 use Rattle.gc_words.specs.Image.{header_at, field_at}
 use Rattle.gc_words.specs.declared.header.Header.{Header}
 use Rattle.gc_words.specs.Closed.{IsFieldWord}
-use Rattle.gc_words.proofs.References.{closed_field_read}
+use Rattle.gc_words.proofs.Public.{closed_field_read}
 use Rattle.gc_heap.specs.Heap.{HeapWords, IsHeap, graph_in}
 use Rattle.gc_heap.proofs.Commands.{Points, points, header_is, read_root, not_there, got_no_field, got, taken_heap}
 use Rattle.gc_heap.proofs.heap.Heap.take_at.Goals as goal

@@ -4,7 +4,7 @@ use Rattle.std.specs.Option.{option_map}
 use Rattle.gc_copy.specs.State.{State, Collection}
 use Rattle.gc_copy.specs.Steps.{log_at}
 use Rattle.gc_core.specs.Readings.{log_of, log_in}
-use Rattle.gc_beside.proofs.Lives.{lives_applied}
+use Rattle.gc_beside.proofs.Public.{lives_applied}
 use Rattle.gc_live.proofs.live_heap.LiveHeap.apply_log.Goals as goal
 
 log_is : (s : State) (m : ℕ) (entry : ℕ × ℕ) → Some entry ≡ slice_get (log_of s m) 0 → (c : Collection) → s.collection ≡ Some c → (rest : List (ℕ × ℕ)) × (log_at c m ≡ entry ∷ rest)

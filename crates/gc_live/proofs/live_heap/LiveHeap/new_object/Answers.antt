@@ -2,7 +2,7 @@ use Rattle.std.proofs.Common.{false, refl, subst}
 use Rattle.gc_words.specs.Image.{Image}
 use Rattle.gc_core.specs.Readings.{links_of}
 use Rattle.gc_along.specs.Events.{Made}
-use Rattle.gc_beside.proofs.LivesOn.{lives_new}
+use Rattle.gc_beside.proofs.Public.{lives_new}
 use Rattle.gc_live.proofs.live_heap.LiveHeap.new_object.Goals as goal
 
 pub invariant_of-self : goal.invariant_of-self

@@ -1,5 +1,5 @@
 use Rattle.std.proofs.Common.{sym}
-use Rattle.gc_beside.proofs.Lives.{lives_roots}
+use Rattle.gc_beside.proofs.Public.{lives_roots}
 use Rattle.gc_live.proofs.live_heap.LiveHeap.roots.Goals as goal
 
 pub invariant_of-self-in-Some : goal.invariant_of-self-in-Some

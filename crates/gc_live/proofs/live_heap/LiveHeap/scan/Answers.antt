@@ -4,7 +4,7 @@ use Rattle.gc_copy.specs.State.{State, Collection}
 use Rattle.gc_core.specs.Readings.{new_space, new_space_in}
 use Rattle.gc_core.specs.declared.reading.NewSpace.{NewSpace}
 use Rattle.gc_along.specs.Events.{Looked}
-use Rattle.gc_beside.proofs.Lives.{lives_scanned, lives_scan_other}
+use Rattle.gc_beside.proofs.Public.{lives_scanned, lives_scan_other}
 use Rattle.gc_live.proofs.live_heap.LiveHeap.scan.Goals as goal
 
 pub invariant_of-self : goal.invariant_of-self

@@ -5,7 +5,7 @@ use Rattle.gc_trace.specs.Grammar.{Recording, IsTextOf}
 use Rattle.gc_trace.specs.Internal.Reading.{read_so_far}
 use Rattle.gc_trace.specs.declared.event_reader.EventReader.{EventReader}
 use Rattle.gc_trace.proofs.Total.{good_end}
-use Rattle.gc_graph.proofs.PieceSteps.{all_waits, ends_there, no_byte}
+use Rattle.gc_graph.proofs.Public.{all_waits, ends_there, no_byte}
 use Rattle.gc_trace.proofs.ReadLines.{within_taken, event_taken, stranger_taken, still_counted, bad_line}
 use Rattle.gc_trace.proofs.event_reader.EventReader.next.Goals as goal
 

@@ -1,0 +1,7 @@
+-- What proofs of other crates cite of this crate, passed on from one place. Declares nothing.
+pub use Rattle.gc_along.proofs.Codes.{code_set}
+pub use Rattle.gc_along.proofs.Kept.{code_is, codes_length, map_append}
+pub use Rattle.gc_along.proofs.Looks.{set_true}
+pub use Rattle.gc_along.proofs.Origins.{placed, told}
+pub use Rattle.gc_along.proofs.Seen.{all_of}
+pub use Rattle.gc_along.proofs.Walked.{true_stays}

@@ -1,0 +1,2 @@
+-- What proofs of other crates cite of this crate, passed on from one place. Declares nothing.
+pub use Rattle.gc_check.proofs.Sizes.{small_fault}
