@@ -5,14 +5,14 @@ use Rattle.gc_graph.specs.Graph.{lookup, names_of}
 use Rattle.gc_graph.specs.Machine.{Roomy, words_taken, roomy_step}
 use Rattle.gc_graph.specs.declared.command.Op.{Op}
 use Rattle.gc_graph.specs.declared.reply.Reply.{Reply}
-use Rattle.gc_copy.specs.State.{Replica, Collection, State, heap_end, new_end, replica_of, replica_at}
-use Rattle.gc_copy.specs.Steps.{written, log_at, with_log, mutate, place_replica, bring_up_to_date, with_collection, if_room, root_target, copy_root, scan_done, scan, scan_replica, next_object, next_field, apply_entry, apply_log}
-use Rattle.gc_copy.specs.Members.{In}
-use Rattle.gc_copy.specs.Belonging.{IsOpened}
-use Rattle.gc_copy.specs.declared.step.StepReply.{StepReply}
-use Rattle.gc_copy.specs.declared.step.StepReply.TheVariants.{Clean, NoRoom, Copied, Passed, Scanned, Applied}
-use Rattle.gc_copy.proofs.Public.{Evolves, WrittenBy, unchanged, step_evolves, AreReplicas, replicas_due, unreplicated_some, no_replica}
-use Rattle.gc_heap.proofs.Public.{none_of}
+use Rattle.gc_plan.specs.State.{Replica, Collection, State, heap_end, new_end, replica_of, replica_at}
+use Rattle.gc_plan.specs.Steps.{written, log_at, with_log, mutate, place_replica, bring_up_to_date, with_collection, if_room, root_target, copy_root, scan_done, scan, scan_replica, next_object, next_field, apply_entry, apply_log}
+use Rattle.gc_plan.specs.Members.{In}
+use Rattle.gc_plan.specs.Belonging.{IsOpened}
+use Rattle.gc_plan.specs.declared.step.StepReply.{StepReply}
+use Rattle.gc_plan.specs.declared.step.StepReply.TheVariants.{Clean, NoRoom, Copied, Passed, Scanned, Applied}
+use Rattle.gc_plan.proofs.Public.{Evolves, WrittenBy, unchanged, step_evolves, AreReplicas, replicas_due, unreplicated_some, no_replica}
+use Rattle.gc_words.proofs.Public.{none_of}
 use Rattle.gc_along.specs.Watch.{Watch}
 use Rattle.gc_beside.specs.Stays.{DueFor, Fits, GoesAlong, LosesOnly, LosesNone, MarksWritten}
 use Rattle.gc_beside.proofs.Stays.{Sound, sound, watched, brought, placed_next, commanded, moved_on}
@@ -24,9 +24,9 @@ Goes s c w = GoesAlong s.heap.graph.objects (heap_end s) c w
 -- what fits a collection fits one with the same replicas
 refit : (end : ℕ) (c next : Collection) (w : Watch) → next.replicas ≡ c.replicas → Fits end next w → Fits end c w
 refit end c next w same f = record {
-  pairs = f.pairs ∙ ap (Rattle.std.proofs.Common.map Rattle.gc_copy.proofs.Replicas.pair) same;
+  pairs = f.pairs ∙ ap (Rattle.std.proofs.Common.map Rattle.gc_plan.proofs.Replicas.pair) same;
   old_seen = f.old_seen;
-  new_seen = f.new_seen ∙ ap Rattle.gc_copy.proofs.Replicas.replicas_end same;
+  new_seen = f.new_seen ∙ ap Rattle.gc_plan.proofs.Replicas.replicas_end same;
   row = f.row;
 }
 
@@ -140,7 +140,7 @@ command_made s s' c next m op reply w later k h before said is fits marks =
     let reply_is : made.0 ≡ reply = ap (λ (x : Reply × State). x.0) said in
     let heap_is : made.1 ≡ s'.heap = ap (λ (x : Reply × State). x.1.heap) said in
     let same : Some (with_log c m (Rattle.std.proofs.Common.◌++◌ (log_at c m) (written s.heap.graph m op made.0))) ≡ Some next
-    = ap (λ o. Rattle.gc_copy.specs.Steps.logged o m (written s.heap.graph m op made.0)) (sym before) ∙ (ap (λ (x : Reply × State). x.1.collection) said ∙ is) in
+    = ap (λ o. Rattle.gc_plan.specs.Steps.logged o m (written s.heap.graph m op made.0)) (sym before) ∙ (ap (λ (x : Reply × State). x.1.collection) said ∙ is) in
     let one : with_log c m (Rattle.std.proofs.Common.◌++◌ (log_at c m) (written s.heap.graph m op made.0)) ≡ next = cc same in
     let rs : next.replicas ≡ c.replicas = sym (ap (λ (x : Collection). x.replicas) one) in
     let evolves : Evolves s.heap.graph.objects s'.heap.graph.objects (WrittenBy s.heap.graph m op reply)

@@ -2,15 +2,15 @@
 use Rattle.std.proofs.Common.{◌≡◌, ◌⊎◌, inl, inr, ⊎_elim, ℕ, ◌-◌, ◌≤◌, ◌==◌, ◌||◌, Bool, true, false, cond, List, [], ◌∷◌, length, Option, Some, None, refl, ap, sym, ◌∙◌, subst, arith}
 use Rattle.std.specs.Option.{option_map}
 use Rattle.std.proofs.lemmas.Bool.{cases_Bool}
-use Rattle.gc_copy.specs.State.{Replica, Collection, State, heap_end, new_end, replica_at}
+use Rattle.gc_plan.specs.State.{Replica, Collection, State, heap_end, new_end, replica_at}
 use Rattle.gc_graph.specs.Graph.{lookup}
-use Rattle.gc_copy.specs.Steps.{log_at, with_log, with_collection, if_room, place_replica, copy_root, root_target, scan, scan_done, scan_replica, next_object, next_field, bring_up_to_date, apply_entry, apply_log, collect, collect_with, step_in, fresh_collection}
-use Rattle.gc_copy.specs.Belonging.{IsSpaceGraph, IsOpened, IsOpen}
-use Rattle.gc_copy.specs.declared.step.Step.{Step}
-use Rattle.gc_copy.specs.declared.step.Step.TheVariants as steps
-use Rattle.gc_copy.specs.declared.step.StepReply.{StepReply}
-use Rattle.gc_copy.specs.declared.step.StepReply.TheVariants.{Clean, Copied, Passed, Scanned, Applied, Busy, Begun}
-use Rattle.gc_copy.proofs.Public.{steps_stay}
+use Rattle.gc_plan.specs.Steps.{log_at, with_log, with_collection, if_room, place_replica, copy_root, root_target, scan, scan_done, scan_replica, next_object, next_field, bring_up_to_date, apply_entry, apply_log, collect, collect_with, step_in, fresh_collection}
+use Rattle.gc_plan.specs.Belonging.{IsSpaceGraph, IsOpened, IsOpen}
+use Rattle.gc_plan.specs.declared.step.Step.{Step}
+use Rattle.gc_plan.specs.declared.step.Step.TheVariants as steps
+use Rattle.gc_plan.specs.declared.step.StepReply.{StepReply}
+use Rattle.gc_plan.specs.declared.step.StepReply.TheVariants.{Clean, Copied, Passed, Scanned, Applied, Busy, Begun}
+use Rattle.gc_plan.proofs.Public.{steps_stay}
 use Rattle.gc_along.specs.Watch.{Watch, opening}
 use Rattle.gc_along.specs.Tables.{Tables, watch_of}
 use Rattle.gc_along.specs.Events.{Placed, Looked, Applied as AppliedTo, Freed, flipped_tables, opening_tables}
@@ -108,7 +108,7 @@ lives_applied s s' m entry old words t mid after heap is_open is_open' log said 
 
 -- ---- the beginning and the end
 
-pub lives_opened : (size mutators : ℕ) → 1 ≤ size → IsLive (Rattle.gc_copy.specs.State.opening_state size mutators) (opening_tables size)
+pub lives_opened : (size mutators : ℕ) → 1 ≤ size → IsLive (Rattle.gc_plan.specs.State.opening_state size mutators) (opening_tables size)
 lives_opened size mutators low = inr (let e : 1 ≡ size - (size - 1) = omega arith in ap opening e)
 
 pub lives_begun : (s s' : State) (t : Tables) (size : ℕ) → s.collection ≡ None → s' ≡ with_collection s (Some (fresh_collection s.mutators size)) → IsLive s t → IsLive s' t
@@ -128,7 +128,7 @@ lives_dropped s s' t after is lost freed = or_lost s s' t after lost (λ n goes.
     old_end None w = ap (λ (w : Watch). w.old_seen) w
     old_end (Some c) g = g.fits.old_seen
 
-pub lives_flipped : (s s' : State) (c : Collection) (t after : Tables) → s.collection ≡ Some c → IsOpened s c → s' ≡ Rattle.gc_copy.specs.Steps.flipped s c → (t.lost ≡ true → after.lost ≡ true) → (after.lost ≡ false → after ≡ flipped_tables t) → IsLive s t → IsLive s' after
+pub lives_flipped : (s s' : State) (c : Collection) (t after : Tables) → s.collection ≡ Some c → IsOpened s c → s' ≡ Rattle.gc_plan.specs.Steps.flipped s c → (t.lost ≡ true → after.lost ≡ true) → (after.lost ≡ false → after ≡ flipped_tables t) → IsLive s t → IsLive s' after
 lives_flipped s s' c t after first k is lost flips = or_lost s s' t after lost (λ n goes.
     let g : Goes s c (watch_of t) = subst (λ o. GoesBeside s o (watch_of t)) first goes in
     let seen : length t.news ≡ new_end c = g.fits.new_seen in

@@ -11,12 +11,12 @@ use Rattle.gc_graph.specs.declared.reply.Reply.{Reply}
 use Rattle.gc_graph.specs.declared.reply.Reply.TheVariants as replies
 use Rattle.gc_words.specs.Word.{read_header}
 use Rattle.gc_words.specs.declared.header.Header.{Header}
-use Rattle.gc_copy.specs.State.{Collection, State, heap_end}
-use Rattle.gc_copy.specs.Linked.{object_header}
-use Rattle.gc_copy.specs.Steps.{mutate, written, log_at, with_log, logged}
-use Rattle.gc_copy.specs.Members.{In}
-use Rattle.gc_copy.specs.Belonging.{IsSpaceGraph, IsOpened, IsOpen}
-use Rattle.gc_copy.proofs.Public.{end_is, in_right}
+use Rattle.gc_plan.specs.State.{Collection, State, heap_end}
+use Rattle.gc_plan.specs.Linked.{object_header}
+use Rattle.gc_plan.specs.Steps.{mutate, written, log_at, with_log, logged}
+use Rattle.gc_plan.specs.Members.{In}
+use Rattle.gc_plan.specs.Belonging.{IsSpaceGraph, IsOpened, IsOpen}
+use Rattle.gc_plan.proofs.Public.{end_is, in_right}
 use Rattle.gc_along.specs.Watch.{Watch, opening}
 use Rattle.gc_beside.specs.Stays.{Fits, MarksWritten}
 use Rattle.gc_along.specs.Tables.{Tables, watch_of}

@@ -7,11 +7,11 @@ use Rattle.gc_graph.specs.Slots.{SlotName}
 use Rattle.gc_graph.specs.declared.command.Op.{Op}
 use Rattle.gc_graph.specs.declared.command.Op.TheVariants as ops
 use Rattle.gc_graph.specs.declared.reply.Reply.{Reply}
-use Rattle.gc_copy.specs.State.{Collection, State, heap_end}
-use Rattle.gc_copy.specs.Steps.{mutate, written, logged}
-use Rattle.gc_copy.specs.Members.{In}
-use Rattle.gc_copy.specs.Belonging.{IsOpened, IsOpen}
-use Rattle.gc_copy.proofs.Public.{Evolves, WrittenBy}
+use Rattle.gc_plan.specs.State.{Collection, State, heap_end}
+use Rattle.gc_plan.specs.Steps.{mutate, written, logged}
+use Rattle.gc_plan.specs.Members.{In}
+use Rattle.gc_plan.specs.Belonging.{IsOpened, IsOpen}
+use Rattle.gc_plan.proofs.Public.{Evolves, WrittenBy}
 use Rattle.gc_along.specs.Watch.{opening}
 use Rattle.gc_beside.specs.Stays.{Fits, MarksWritten}
 use Rattle.gc_along.specs.Tables.{Tables, watch_of}

@@ -3,11 +3,11 @@ use Rattle.std.proofs.Common.{◌≡◌, ◌⊎◌, inl, inr, ⊎_elim, ℕ, ◌
 use Rattle.std.specs.Prelude.{IsTrue}
 use Rattle.std.proofs.lemmas.Bool.{cases_eq}
 use Rattle.gc_graph.specs.Graph.{Object, Graph, lookup}
-use Rattle.gc_copy.specs.State.{Collection, new_objects, new_end, replica_of}
-use Rattle.gc_copy.specs.Steps.{place_replica, bring_up_to_date, fresh_collection}
-use Rattle.gc_copy.specs.Members.{In, Distinct}
-use Rattle.gc_copy.specs.Belonging.{Laid, HasRawNumbers, IsReplica, Belongs}
-use Rattle.gc_copy.proofs.Public.{Evolves, pair, replicas_end, AreReplicas, replicas_due, replicas_evolve}
+use Rattle.gc_plan.specs.State.{Collection, new_objects, new_end, replica_of}
+use Rattle.gc_plan.specs.Steps.{place_replica, bring_up_to_date, fresh_collection}
+use Rattle.gc_plan.specs.Members.{In, Distinct}
+use Rattle.gc_plan.specs.Belonging.{Laid, HasRawNumbers, IsReplica, Belongs}
+use Rattle.gc_plan.proofs.Public.{Evolves, pair, replicas_end, AreReplicas, replicas_due, replicas_evolve}
 use Rattle.gc_along.specs.Watch.{Watch, is_due, opening}
 use Rattle.gc_beside.specs.Stays.{DueFor, Fits, GoesAlong, LosesOnly, LosesNone, MarksWritten}
 use Rattle.gc_beside.proofs.Bringing.{Grown, placing, bringing}

@@ -7,11 +7,11 @@ use Rattle.gc_graph.specs.Graph.{Object}
 use Rattle.gc_words.specs.Word.{read_header}
 use Rattle.gc_words.specs.Layout.{field_place, link_place}
 use Rattle.gc_words.specs.declared.header.Header.{Header}
-use Rattle.gc_copy.specs.Linked.{object_header, linked_space, new_links, original_or_zero}
-use Rattle.gc_copy.specs.State.{Replica, Collection, State, new_end, new_objects, pairs_of}
-use Rattle.gc_copy.specs.Members.{In, Distinct}
-use Rattle.gc_copy.specs.Belonging.{Laid, IsOpened, IsState, IsSpaceGraph}
-use Rattle.gc_copy.proofs.Public.{laid_range, laid_apart, lookup_in, found_by_place, in_map, in_map_from, pair, placed, paired_in, in_paired, same_place}
+use Rattle.gc_plan.specs.Linked.{object_header, linked_space, new_links, original_or_zero}
+use Rattle.gc_plan.specs.State.{Replica, Collection, State, new_end, new_objects, pairs_of}
+use Rattle.gc_plan.specs.Members.{In, Distinct}
+use Rattle.gc_plan.specs.Belonging.{Laid, IsOpened, IsState, IsSpaceGraph}
+use Rattle.gc_plan.proofs.Public.{laid_range, laid_apart, lookup_in, found_by_place, in_map, in_map_from, pair, placed, paired_in, in_paired, same_place}
 use Rattle.gc_along.specs.Watch.{Watch, is_due}
 use Rattle.gc_beside.specs.Stays.{Fits, LosesOnly, LosesNone, MarksWritten}
 use Rattle.gc_along.specs.Origins.{pairs_in}
@@ -28,7 +28,7 @@ pub record ShowsReplicas (c : Collection) (words : List ℕ) : Type 0 where
   pub each : (r : Replica) → In r c.replicas → Shows words r.original r.place r.object
 
 link_of : (s : State) (c : Collection) (r : Replica) → IsOpened s c → In r c.replicas → new_links c r.place ≡ r.original
-link_of s c r k there = ap original_or_zero (found_by_place (Rattle.gc_copy.specs.Belonging.IsDue c) s.heap.graph.objects c k.belongs r there)
+link_of s c r k there = ap original_or_zero (found_by_place (Rattle.gc_plan.specs.Belonging.IsDue c) s.heap.graph.objects c k.belongs r there)
 
 pub shows_replicas : (s : State) (c : Collection) → IsSpaceGraph s.size s.heap.free s.heap.graph → IsOpened s c → ShowsReplicas c (linked_space (new_links c) c.size (new_objects c)).words
 shows_replicas s c h k = record {

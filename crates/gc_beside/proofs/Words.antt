@@ -13,11 +13,12 @@ use Rattle.gc_words.specs.declared.header.Header.{Header}
 use Rattle.gc_words.proofs.Public.{object_found, fields_counted, stands_in}
 use Rattle.std.proofs.lemmas.Option.{slice_get-map, slice_get-get_or}
 use Rattle.gc_heap.specs.Heap.{HeapWords, IsHeap, graph_in}
-use Rattle.gc_copy.specs.State.{Replica, pairs_of}
-use Rattle.gc_copy.specs.Members.{In, Distinct}
-use Rattle.gc_copy.specs.Belonging.{Laid}
+use Rattle.gc_plan.specs.State.{Replica, pairs_of}
+use Rattle.gc_plan.specs.Members.{In, Distinct}
+use Rattle.gc_plan.specs.Belonging.{Laid}
 use Rattle.gc_copy.specs.Words.{CollectionWords, IsCollection, collection_in, BelongsTo}
-use Rattle.gc_copy.proofs.Public.{in_map, in_map_from, get_in, all_from_in, pair, placed, replicas_end, paired_in, laid_range, replica_object, new_end_is}
+use Rattle.gc_plan.proofs.Public.{in_map, in_map_from, get_in, all_from_in, pair, placed, replicas_end, paired_in, laid_range}
+use Rattle.gc_copy.proofs.Public.{replica_object, new_end_is}
 use Rattle.gc_along.specs.Watch.{Watch, IsSeen, IsWatched, Watches, seen_at}
 use Rattle.gc_beside.specs.Stays.{GoesAlong}
 use Rattle.gc_along.proofs.Public.{all_of}

@@ -8,12 +8,12 @@ ghost use Rattle.gc_graph.specs.declared.command.Op.{Op};
 ghost use Rattle.gc_graph.specs.declared.reply.Reply.{Reply};
 ghost use Rattle.gc_words.specs.Space.{end_of};
 ghost use Rattle.gc_heap.specs.Heap.{HeapWords, IsHeap, graph_in};
-ghost use Rattle.gc_copy.specs.Members.{In};
-ghost use Rattle.gc_copy.specs.State.{State, Collection, Replica, heap_end, new_end, replica_at};
-ghost use Rattle.gc_copy.specs.Steps.{collect, mutate, written, log_at, root_target, copy_root, scan, apply_log, fresh_collection};
-ghost use Rattle.gc_copy.specs.Belonging.{IsOpened};
+ghost use Rattle.gc_plan.specs.Members.{In};
+ghost use Rattle.gc_plan.specs.State.{State, Collection, Replica, heap_end, new_end, replica_at};
+ghost use Rattle.gc_plan.specs.Steps.{collect, mutate, written, log_at, root_target, copy_root, scan, apply_log, fresh_collection};
+ghost use Rattle.gc_plan.specs.Belonging.{IsOpened};
 ghost use Rattle.gc_copy.specs.Words.{CollectionWords, IsCollection, BelongsTo, collection_in};
-ghost use Rattle.gc_copy.specs.declared.step.StepReply.{StepReply};
+ghost use Rattle.gc_plan.specs.declared.step.StepReply.{StepReply};
 ghost use Rattle.gc_along.specs.Watch.{Watch, Watches, opening};
 ghost use Rattle.gc_beside.specs.Stays.{Fits, GoesAlong, LosesOnly, LosesNone, MarksWritten};
 

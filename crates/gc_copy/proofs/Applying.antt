@@ -6,13 +6,13 @@ use Rattle.std.specs.Option.{option_map}
 use Rattle.gc_graph.specs.Graph.{Value, Nil, Num, Ref, Object, Graph, lookup, field_of}
 use Rattle.gc_words.specs.Image.{field_at}
 use Rattle.gc_heap.specs.Heap.{HeapWords, graph_in}
-use Rattle.gc_copy.specs.State.{Collection, new_end, new_free, replica_of, moved}
-use Rattle.gc_copy.specs.Steps.{log_at, with_log, is_empty, first_log, fresh_replica, place_replica, with_replica, write_replica, copy_value, bring_value, bring_up_to_date, apply_entry, apply_log, if_room, scan_done, roots_done, is_ready}
+use Rattle.gc_plan.specs.State.{Collection, new_end, new_free, replica_of, moved}
+use Rattle.gc_plan.specs.Steps.{log_at, with_log, is_empty, first_log, fresh_replica, place_replica, with_replica, write_replica, copy_value, bring_value, bring_up_to_date, apply_entry, apply_log, if_room, scan_done, roots_done, is_ready}
 use Rattle.gc_copy.specs.Internal.Entries.{oldest}
 use Rattle.gc_copy.specs.Words.{Log, CollectionWords, IsCollection, entries_of, collection_in, open_state, BelongsTo}
 use Rattle.gc_copy.specs.Internal.Words.{KeepsGraph, KeepsRest}
-use Rattle.gc_copy.specs.declared.step.Step.TheVariants as steps
-use Rattle.gc_copy.specs.declared.step.StepReply.TheVariants.{Applied, NoRoom}
+use Rattle.gc_plan.specs.declared.step.Step.TheVariants as steps
+use Rattle.gc_plan.specs.declared.step.StepReply.TheVariants.{Applied, NoRoom}
 use Rattle.gc_copy.proofs.Logs.{entries_at, entry_dropped}
 use Rattle.gc_copy.proofs.OpenCollection.{state_kept, after_step, field_present}
 
@@ -72,7 +72,7 @@ oldest_first (d ∷ rest) entry e = let same : d ≡ entry = (let f : Some entry
 
 module _ (heap : HeapWords) (x : CollectionWords) (m : ℕ) (log : Log) (there : slice_get x.logs m ≡ Some log) where
   entries_are : log_at (collection_in x) m ≡ log.entries
-  entries_are = ap Rattle.gc_copy.specs.Steps.log_or_nil (entries_at x.logs m log there)
+  entries_are = ap Rattle.gc_plan.specs.Steps.log_or_nil (entries_at x.logs m log there)
 
   module _ (entry : ℕ × ℕ) (first : Some entry ≡ oldest log.entries) where
     entries_split : log_at (collection_in x) m ≡ entry ∷ drop 1 log.entries
@@ -81,7 +81,7 @@ module _ (heap : HeapWords) (x : CollectionWords) (m : ℕ) (log : Log) (there :
     -- the entry names a field of the heap
     pub field_there : BelongsTo heap x → IsSome (field_at heap.space.words entry.0 entry.1)
     field_there k =
-        let f = (k.belongs).entries entry.0 entry.1 (m, subst (Rattle.gc_copy.specs.Members.In entry) (sym entries_split) (inl refl)) in
+        let f = (k.belongs).entries entry.0 entry.1 (m, subst (Rattle.gc_plan.specs.Members.In entry) (sym entries_split) (inl refl)) in
         field_present heap.space.words entry.0 entry.1 f.0 f.1 f.2
 
     steps_are : apply_log (open_state heap x) (collection_in x) m (log_at (collection_in x) m) ≡ if_room (open_state heap x) Applied (relogged m (drop 1 log.entries) (apply_entry (collection_in x) (graph_in heap) entry))
@@ -96,7 +96,7 @@ module _ (heap : HeapWords) (x : CollectionWords) (m : ℕ) (log : Log) (there :
         → apply_log (open_state heap x) (collection_in x) m (log_at (collection_in x) m) ≡ (Applied, open_state new (record after { logs = slice_set after.logs m later }))
     applied new after last later graph rest done has less =
         let same : last ≡ log = (let f : Some last ≡ Some log = sym has ∙ ap (λ ls. slice_get ls m) rest.logs ∙ there in cc) in
-        let log_is : drop 1 (log_at (collection_in after) m) ≡ drop 1 log.entries = ap (λ ls. drop 1 (Rattle.gc_copy.specs.Steps.log_or_nil (slice_get (map entries_of ls) m))) rest.logs ∙ ap (drop 1) entries_are in
+        let log_is : drop 1 (log_at (collection_in after) m) ≡ drop 1 log.entries = ap (λ ls. drop 1 (Rattle.gc_plan.specs.Steps.log_or_nil (slice_get (map entries_of ls) m))) rest.logs ∙ ap (drop 1) entries_are in
         let dropped : collection_in (record after { logs = slice_set after.logs m later }) ≡ with_log (collection_in after) m (drop 1 log.entries) = entry_dropped after m last later has less ∙ ap (with_log (collection_in after) m) log_is in
         steps_are
         ∙ ap (λ o. if_room (open_state heap x) Applied (relogged m (drop 1 log.entries) o)) done

@@ -3,12 +3,12 @@ use Rattle.std.proofs.Common.{◌≡◌, ℕ, ◌≤◌, List, [], map, length, 
 use Rattle.std.proofs.lemmas.List.{length-map, length-replicate}
 use Rattle.gc_words.specs.Space.{SpaceWords, empty_space}
 use Rattle.gc_heap.specs.Heap.{HeapWords, graph_in}
-use Rattle.gc_copy.specs.State.{Collection}
-use Rattle.gc_copy.specs.Steps.{fresh_collection}
-use Rattle.gc_copy.specs.Linked.{old_links}
-use Rattle.gc_copy.specs.Belonging.{Belongs}
+use Rattle.gc_plan.specs.State.{Collection}
+use Rattle.gc_plan.specs.Steps.{fresh_collection}
+use Rattle.gc_plan.specs.Linked.{old_links}
+use Rattle.gc_plan.specs.Belonging.{Belongs}
 use Rattle.gc_copy.specs.Words.{Log, replicas_in, entries_of, collection_in, HasNoLinks, BelongsTo}
-use Rattle.gc_copy.proofs.Steps.{begun_belongs}
+use Rattle.gc_plan.proofs.Public.{begun_belongs}
 use Rattle.gc_copy.proofs.Words.{words_numbers}
 
 pub begun : (heap : HeapWords) (space : SpaceWords) (logs : List Log) (size : ℕ) → HasNoLinks heap → 1 ≤ size → space ≡ empty_space size → map entries_of logs ≡ replicate heap.mutators []

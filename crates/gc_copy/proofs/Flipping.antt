@@ -1,6 +1,5 @@
 -- The code of a flip.
-use Rattle.gc_copy.proofs.Numbers.{small_corresponding}
-use Rattle.gc_copy.proofs.Replicas.{placed}
+use Rattle.gc_plan.proofs.Public.{small_corresponding, placed, in_get, in_map, in_map_from, all_from_in, replica_field, IsReady, ready_parts, new_heap, named_address, flips}
 use Rattle.std.specs.Prelude.{◌^◌}
 use Rattle.std.specs.Option.{option_map}
 use Rattle.gc_words.specs.declared.header.Header.{Header}
@@ -15,18 +14,14 @@ use Rattle.gc_words.specs.Space.{SpaceWords, IsSpace, end_of, free_in, without_l
 use Rattle.gc_words.specs.Closed.{IsWordOfField, RefersToStart, IsRootWord, IsFieldWord, HasFieldWords}
 use Rattle.gc_words.proofs.Public.{object_found, graph_cleared, meaning_back, cleared, link_cleared, end_cleared, closed_field_read, closed_objects}
 use Rattle.gc_heap.specs.Heap.{HeapWords, IsHeap, graph_in}
-use Rattle.gc_copy.specs.State.{Collection, State, new_objects, new_end, new_free, new_graph, moved, pairs_of}
-use Rattle.gc_copy.specs.Steps.{is_ready, flip, flipped, with_collection}
-use Rattle.gc_copy.specs.Members.{In}
-use Rattle.gc_copy.specs.Belonging.{IsSmall, IsNamed, RefersTo, IsSpaceGraph}
+use Rattle.gc_plan.specs.State.{Collection, State, new_objects, new_end, new_free, new_graph, moved, pairs_of}
+use Rattle.gc_plan.specs.Steps.{is_ready, flip, flipped, with_collection}
+use Rattle.gc_plan.specs.Members.{In}
+use Rattle.gc_plan.specs.Belonging.{IsSmall, IsNamed, RefersTo, IsSpaceGraph}
 use Rattle.gc_copy.specs.Words.{CollectionWords, IsCollection, collection_in, idle_state, open_state, BelongsTo, HasNoLinks, new_root_words}
-use Rattle.gc_copy.specs.declared.step.StepReply.{StepReply}
-use Rattle.gc_copy.specs.declared.step.StepReply.TheVariants.{Flipped, Dropped}
-use Rattle.gc_copy.proofs.Lists.{in_get, in_map, in_map_from, all_from_in}
+use Rattle.gc_plan.specs.declared.step.StepReply.{StepReply}
+use Rattle.gc_plan.specs.declared.step.StepReply.TheVariants.{Flipped, Dropped}
 use Rattle.gc_copy.proofs.Words.{heap_graph}
-use Rattle.gc_copy.proofs.Steps.{replica_field, IsReady, ready_parts, new_heap}
-use Rattle.gc_copy.proofs.Images.{named_address}
-use Rattle.gc_copy.proofs.Flips.{flips}
 use Rattle.gc_copy.proofs.Spaces.{in_start, new_objects_are, new_end_is}
 use Rattle.gc_copy.proofs.OpenCollection.{opened}
 
@@ -180,6 +175,6 @@ module _ (heap : HeapWords) (x : CollectionWords) (heap_is : IsHeap heap) (is : 
 
   pub flip_is : flip (open_state heap x) (collection_in x) ≡ (Flipped (length (pairs_of (collection_in x))), idle_state (record heap { space = without_links x.space; roots = new_root_words heap (collection_in x) }))
   flip_is =
-      let count : length (pairs_of (collection_in x)) ≡ length (collection_in x).replicas = length-map (collection_in x).replicas (λ (r : Rattle.gc_copy.specs.State.Replica). (r.original, r.place)) in
+      let count : length (pairs_of (collection_in x)) ≡ length (collection_in x).replicas = length-map (collection_in x).replicas (λ (r : Rattle.gc_plan.specs.State.Replica). (r.original, r.place)) in
       let state = state_after in
       flips (open_state heap x) (collection_in x) old_ok (opened heap x is k) ready ∙ (λ i. (Flipped (sym count i), state i))

@@ -12,18 +12,13 @@ use Rattle.gc_words.specs.Space.{SpaceWords, IsSpace, end_of, free_in, image_wit
 use Rattle.gc_words.specs.Certificate.{Certified}
 use Rattle.gc_words.proofs.Public.{object_found}
 use Rattle.gc_heap.specs.Heap.{HeapWords, IsHeap, KeepsLinks, image_of, graph_in, roomy_in}
-use Rattle.gc_copy.specs.State.{Replica, pairs_of, replica_of}
-use Rattle.gc_copy.specs.Linked.{image_of_graph, block_entry, place_or_zero, original_or_zero, old_links, new_links, old_image, new_image}
-use Rattle.gc_copy.specs.Steps.{written, is_ready}
-use Rattle.gc_copy.specs.Members.{In}
-use Rattle.gc_copy.specs.Belonging.{IsDue, Belongs, BelongsBut}
+use Rattle.gc_plan.specs.State.{Replica, pairs_of, replica_of}
+use Rattle.gc_plan.specs.Linked.{image_of_graph, block_entry, place_or_zero, original_or_zero, old_links, new_links, old_image, new_image}
+use Rattle.gc_plan.specs.Steps.{written, is_ready}
+use Rattle.gc_plan.specs.Members.{In}
+use Rattle.gc_plan.specs.Belonging.{IsDue, Belongs, BelongsBut}
 use Rattle.gc_copy.specs.Words.{CollectionWords, IsCollection, replica_entry, collection_in, open_state, LinksReplicas, BelongsTo, BelongsToBut, HasNoLinks, new_root_words}
-use Rattle.gc_copy.proofs.Lists.{in_map}
-use Rattle.gc_copy.proofs.Replicas.{replica_in, replicas_due}
-use Rattle.gc_copy.proofs.Steps.{its_replicas, belongs_from, ready_parts}
-use Rattle.gc_copy.proofs.Links.{found_by_place}
-use Rattle.gc_copy.proofs.StateLaws.{command_kept}
-use Rattle.gc_copy.proofs.Flips.{certified}
+use Rattle.gc_plan.proofs.Public.{in_map, replica_in, replicas_due, its_replicas, belongs_from, ready_parts, found_by_place, command_kept, certified}
 use Rattle.gc_copy.proofs.Words.{heap_graph, space_blocks, space_spelled, words_back}
 use Rattle.gc_copy.proofs.Spaces.{in_start, new_objects_are}
 

@@ -6,12 +6,12 @@ use Rattle.std.specs.Option.{option_map}
 use Rattle.std.proofs.lemmas.Bool.{cond-true, cond-false}
 use Rattle.std.proofs.lemmas.List.{drop_all, length-map}
 use Rattle.gc_heap.specs.Heap.{HeapWords, graph_in}
-use Rattle.gc_copy.specs.Steps.{log_or_nil, log_at, with_log, is_empty, first_log}
-use Rattle.gc_copy.specs.Belonging.{HasField, Belongs}
+use Rattle.gc_plan.specs.Steps.{log_or_nil, log_at, with_log, is_empty, first_log}
+use Rattle.gc_plan.specs.Belonging.{HasField, Belongs}
 use Rattle.gc_copy.specs.Words.{Log, CollectionWords, entries_of, collection_in, spare_in, spare_of, LinksReplicas, BelongsTo, BelongsToBut}
 use Rattle.gc_graph.specs.Graph.{Object}
-use Rattle.gc_copy.specs.Members.{In}
-use Rattle.gc_copy.proofs.Steps.{belongs_noted}
+use Rattle.gc_plan.specs.Members.{In}
+use Rattle.gc_plan.proofs.Public.{belongs_noted}
 
 entries_set : (logs : List Log) (m : ℕ) (log : Log) → map entries_of (slice_set logs m log) ≡ slice_set (map entries_of logs) m log.entries
 entries_set [] m log = refl

@@ -11,14 +11,14 @@ use Rattle.gc_graph.specs.declared.reply.Reply.TheVariants as replies
 use Rattle.gc_words.specs.Space.{end_of}
 use Rattle.gc_heap.specs.Heap.{HeapWords, IsHeap, KeepsLinks, graph_in, roomy_in}
 use Rattle.gc_heap.specs.Commands.{Performs}
-use Rattle.gc_copy.specs.State.{Collection, State}
-use Rattle.gc_copy.specs.Steps.{log_or_nil, log_at, with_log, WritesField, written, mutate}
+use Rattle.gc_plan.specs.State.{Collection, State}
+use Rattle.gc_plan.specs.Steps.{log_or_nil, log_at, with_log, WritesField, written, mutate}
 use Rattle.gc_graph.specs.Slots.{SlotName}
 use Rattle.gc_copy.specs.Internal.Entries.{if_done}
-use Rattle.gc_copy.specs.Members.{In}
-use Rattle.gc_copy.specs.Belonging.{HasField}
+use Rattle.gc_plan.specs.Members.{In}
+use Rattle.gc_plan.specs.Belonging.{HasField}
 use Rattle.gc_copy.specs.Words.{CollectionWords, collection_in, idle_state, open_state, HasNoLinks, BelongsTo, BelongsToBut}
-use Rattle.gc_copy.proofs.StateLaws.{field_there}
+use Rattle.gc_plan.proofs.Public.{field_there}
 use Rattle.gc_copy.proofs.LinkedImages.{command_leaves, nothing_left, no_links_kept}
 
 -- appending nothing does not change a log

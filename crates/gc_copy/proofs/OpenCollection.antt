@@ -1,12 +1,12 @@
 -- The state of a heap of words with its open collection, and the invariant that ties them together.
-use Rattle.gc_words.proofs.Public.{block_there, closed_field_read, stands_in, CanPlaceBlock, some_of, can_place_fresh, link_written, link_written_there, link_written_beside, object_found, field_found, graph_link, meaning_back, block_of_header, fields_counted, end_written}
+use Rattle.gc_words.proofs.Public.{block_there, closed_field_read, stands_in, CanPlaceBlock, some_of, can_place_fresh, link_written, link_written_there, link_written_beside, object_found, field_found, graph_link, meaning_back, block_of_header, fields_counted, end_written, none_of}
 use Rattle.std.proofs.Common.{◌≡◌, ◌≢◌, ⊎_elim, inl, ℕ, ◌+◌, ◌-◌, ◌<◌, ◌≤◌, ◌==◌, nat_lt, Bool, true, false, cond, List, [], ◌∷◌, ◌++◌, map, length, Option, Some, None, Result, Ok, Err, is_some, refl, ap, sym, ◌∙◌, subst, arith}
 use Rattle.std.specs.List.{find}
 use Rattle.std.proofs.lemmas.Bool.{cases_Bool, cases_lt, cond-true, cond-false, cond_both, eqb-true, eqb-false, eq-eqb, ne_eqb, le-ltb, lt-ltb}
 use Rattle.std.proofs.lemmas.List.{length-map}
 use Rattle.std.specs.Option.{option_map}
 use Rattle.std.specs.Prelude.{IsOk, ◌^◌, IsSome, OnOk, OnErr, slice_get}
-use Rattle.gc_heap.proofs.Public.{none_of, named}
+use Rattle.gc_heap.proofs.Public.{named}
 use Rattle.gc_graph.specs.Graph.{Value, Nil, Num, Ref, Object, Graph, lookup, field_of}
 use Rattle.gc_words.specs.Word.{HasAddress, word_of, field_value}
 use Rattle.gc_words.specs.Word.{value_of}
@@ -19,21 +19,18 @@ use Rattle.gc_words.specs.declared.header.Header.{Header}
 use Rattle.gc_words.specs.Walking.{StandsIn}
 use Rattle.gc_graph.specs.Graph.{name_of}
 use Rattle.gc_heap.specs.Heap.{HeapWords, IsHeap, graph_in}
-use Rattle.gc_copy.specs.State.{Replica, Collection, State, new_objects, new_end, new_free, replica_of, moved, moved_name}
-use Rattle.gc_copy.specs.Linked.{place_or_zero, old_links}
-use Rattle.gc_copy.specs.Steps.{fresh_replica, place_replica, with_replica, with_written, write_replica, copy_value, bring_value, bring_up_to_date, collect}
-use Rattle.gc_copy.specs.Members.{In}
-use Rattle.gc_copy.proofs.Lists.{in_push, in_right, in_map, in_map_from, find_exists, get_within, get_past}
-use Rattle.gc_copy.proofs.Heap.{laid_range, lookup_laid}
-use Rattle.gc_copy.specs.Belonging.{IsDue, Belongs, IsOpen, IsOpened}
-use Rattle.gc_copy.proofs.Replicas.{placed, with_written_pair, replica_in}
+use Rattle.gc_plan.specs.State.{Replica, Collection, State, new_objects, new_end, new_free, replica_of, moved, moved_name}
+use Rattle.gc_plan.specs.Linked.{place_or_zero, old_links}
+use Rattle.gc_plan.specs.Steps.{fresh_replica, place_replica, with_replica, with_written, write_replica, copy_value, bring_value, bring_up_to_date, collect}
+use Rattle.gc_plan.specs.Members.{In}
+use Rattle.gc_plan.proofs.Public.{in_push, in_right, in_map, in_map_from, find_exists, get_within, get_past, laid_range, lookup_laid, placed, place_written, with_written_pair, replica_in, open_keeps, placing_keeps, bringing_keeps}
+use Rattle.gc_plan.specs.Belonging.{IsDue, Belongs, IsOpen, IsOpened}
 use Rattle.gc_copy.specs.Words.{CollectionWords, IsCollection, entries_of, replicas_in, collection_in, state_of, open_state, LinksReplicas, BelongsTo}
-use Rattle.gc_copy.specs.Staying.{HasReplicaOf}
+use Rattle.gc_plan.specs.Staying.{HasReplicaOf}
 use Rattle.gc_copy.specs.Internal.Words.{replica_block, KeepsGraph, KeepsRest}
-use Rattle.gc_copy.specs.declared.step.Step.{Step}
-use Rattle.gc_copy.specs.declared.step.Step.TheVariants as steps
-use Rattle.gc_copy.specs.declared.step.StepReply.{StepReply}
-use Rattle.gc_copy.proofs.Steps.{open_keeps, placing_keeps, bringing_keeps}
+use Rattle.gc_plan.specs.declared.step.Step.{Step}
+use Rattle.gc_plan.specs.declared.step.Step.TheVariants as steps
+use Rattle.gc_plan.specs.declared.step.StepReply.{StepReply}
 use Rattle.gc_copy.proofs.Words.{word_back}
 use Rattle.gc_copy.proofs.Spaces.{replica_at_end, replica_block_object, space_placed, space_written, new_objects_are, new_end_is}
 
@@ -110,23 +107,6 @@ find_push_other p (x ∷ xs) y is = ⊎_elim
     (cases_Bool (p x))
 
 -- a replica is found at the same place after a write
-pub place_written : (replicas : List Replica) (name i a : ℕ) (v : Value) → option_map (λ r. r.place) (find (λ r. r.original == a) (map (with_written name i v) replicas)) ≡ option_map (λ r. r.place) (find (λ (r : Replica). r.original == a) replicas)
-place_written [] name i a v = refl
-place_written (r ∷ rs) name i a v =
-    let pair_is = with_written_pair name i v r in
-    let same : (with_written name i v r).original ≡ r.original = λ j. (pair_is j).0 in
-    let place : (with_written name i v r).place ≡ r.place = λ j. (pair_is j).1 in
-    ⊎_elim
-    (λ t.
-    ap (option_map (λ (r : Replica). r.place)) (cond-true ((with_written name i v r).original == a) (Some (with_written name i v r)) (find (λ (r : Replica). r.original == a) (map (with_written name i v) rs)) (ap (λ n. n == a) same ∙ t))
-    ∙ ap Some place
-    ∙ sym (ap (option_map (λ (r : Replica). r.place)) (cond-true (r.original == a) (Some r) (find (λ (r : Replica). r.original == a) rs) t)))
-    (λ f.
-    ap (option_map (λ (r : Replica). r.place)) (cond-false ((with_written name i v r).original == a) (Some (with_written name i v r)) (find (λ (r : Replica). r.original == a) (map (with_written name i v) rs)) (ap (λ n. n == a) same ∙ f))
-    ∙ place_written rs name i a v
-    ∙ sym (ap (option_map (λ (r : Replica). r.place)) (cond-false (r.original == a) (Some r) (find (λ (r : Replica). r.original == a) rs) f)))
-    (cases_Bool (r.original == a))
-
 zero_of_none : (o : Option Replica) (p : Option Replica) → option_map (λ r. r.place) o ≡ option_map (λ (r : Replica). r.place) p → place_or_zero o ≡ place_or_zero p
 zero_of_none None None e = refl
 zero_of_none None (Some q) e = absurd (let no : None ≡ Some q.place = e in cc)

@@ -1,17 +1,18 @@
 -- Walks over the root words.
-use Rattle.std.proofs.Common.{◌≡◌, ℕ, suc, zero, ◌<◌, ◌≤◌, true, List, [], ◌∷◌, ◌++◌, map, drop, length, get_or, slice_get, is_some, refl, ap, sym, ◌∙◌, subst, arith, append-nil, inl, inr}
+use Rattle.std.proofs.Common.{Option, Some, None, arith, ◌≡◌, ℕ, suc, zero, ◌<◌, ◌≤◌, true, List, [], ◌∷◌, ◌++◌, map, drop, length, get_or, slice_get, is_some, refl, ap, sym, ◌∙◌, subst, append-nil, inl, inr}
 use Rattle.std.proofs.lemmas.List.{drop_all}
-use Rattle.gc_graph.specs.Graph.{Value, Nil, Num, Ref, root, value_or_nil}
+use Rattle.std.specs.Prelude.{IfSome}
+use Rattle.std.specs.Option.{option_map}
+use Rattle.gc_graph.specs.Graph.{Value, Nil, Num, Ref, Graph, root, value_or_nil}
 use Rattle.gc_words.specs.Word.{value_of, word_of}
 use Rattle.gc_heap.specs.Heap.{HeapWords, graph_in}
-use Rattle.gc_copy.specs.State.{Collection, moved}
-use Rattle.gc_copy.specs.Steps.{roots_done}
-use Rattle.gc_copy.specs.Members.{In}
-use Rattle.gc_copy.proofs.Replicas.{HasReplica}
+use Rattle.gc_plan.specs.State.{Collection, moved}
+use Rattle.gc_plan.specs.Steps.{root_target, roots_done}
+use Rattle.gc_plan.specs.Members.{In}
+use Rattle.gc_plan.proofs.Public.{HasReplica, in_map, roots_replicated, all_replicated, first_missing}
 use Rattle.gc_copy.specs.Words.{new_root_words}
-use Rattle.gc_copy.specs.Staying.{HasReplicaOf}
-use Rattle.gc_copy.proofs.Lists.{in_map}
-use Rattle.gc_copy.proofs.Steps.{roots_replicated}
+use Rattle.gc_copy.specs.declared.collection.roots.MissingRoot.{MissingRoot}
+use Rattle.gc_plan.specs.Staying.{HasReplicaOf, IsMissing}
 
 -- the value of a root, read from its word
 pub value_at : (words : List ℕ) (i : ℕ) → i < length words → value_or_nil (slice_get (map value_of words) i) ≡ value_of (get_or words i 0)
@@ -57,3 +58,11 @@ moved_all heap c words done i same h e =
     ∙ e
     ∙ ap (map (moved_to c)) same
     ∙ all_moved heap c
+
+-- ---- searching them
+
+-- a search of all roots finds the root that a step would
+pub search_finds : (c : Collection) (g : Graph) (to : ℕ) (found : Option MissingRoot) → to ≡ length g.roots
+    → (found ≡ None → (p : ℕ) → 0 ≤ p → p < to → HasReplicaOf c (root g p)) → IfSome found (λ r. IsMissing c g 0 to r.place r.target.0) → option_map (λ (r : MissingRoot). r.target.0) found ≡ root_target c g
+search_finds c g to None same none some = sym (all_replicated c g (λ p l. none refl p (omega arith) (omega (arith, l, same))))
+search_finds c g to (Some r) same none some = sym (first_missing c g to r.place r.target.0 some)

@@ -10,17 +10,14 @@ use Rattle.gc_words.specs.Spelling.{link_at, IsBlock}
 use Rattle.gc_words.specs.Layout.{link_place, field_place}
 use Rattle.gc_words.specs.Space.{SpaceWords, IsSpace, end_of, free_in, with_block, with_word}
 use Rattle.gc_words.proofs.Public.{objects_set, CanPlaceBlock, block_placed, field_written, link_written, none_at_end, block_there, link_placed_beside, link_beside_field, link_written_there, link_written_beside, object_found, fresh_object as new_block_object}
-use Rattle.gc_copy.specs.State.{Replica, Collection, new_objects, new_end, replica_of, fresh_object}
-use Rattle.gc_copy.specs.Steps.{with_written, write_replica}
+use Rattle.gc_plan.specs.State.{Replica, Collection, new_objects, new_end, replica_of, fresh_object}
+use Rattle.gc_plan.specs.Steps.{with_written, write_replica}
 use Rattle.gc_copy.specs.Words.{CollectionWords, replica_entry, replicas_in, collection_in}
 use Rattle.gc_copy.specs.Internal.Words.{replica_block}
 use Rattle.std.specs.Option.{option_map}
-use Rattle.gc_copy.specs.Members.{In}
-use Rattle.gc_copy.specs.Belonging.{BelongsBy}
-use Rattle.gc_copy.proofs.Lists.{map_same, in_map, in_map_from}
-use Rattle.gc_copy.proofs.Heap.{laid_end_is, lookup_laid}
-use Rattle.gc_copy.proofs.Replicas.{placed, with_written_pair, replica_in}
-use Rattle.gc_copy.proofs.Links.{write_is_set}
+use Rattle.gc_plan.specs.Members.{In}
+use Rattle.gc_plan.specs.Belonging.{BelongsBy}
+use Rattle.gc_plan.proofs.Public.{map_same, in_map, in_map_from, laid_end_is, lookup_laid, placed, with_written_pair, replica_in, write_is_set}
 use Rattle.gc_copy.proofs.Words.{objects_laid}
 
 -- ---- lists
@@ -63,7 +60,7 @@ new_objects_are c = placed_at c.space.words (blocks c.space.words)
 
 pub new_end_is : (c : CollectionWords) → IsSpace c.space → new_end (collection_in c) ≡ end_of c.space
 new_end_is c is =
-    let ends = ap (λ os. Rattle.gc_copy.specs.State.objects_end 1 os) (new_objects_are c) ∙ laid_end_is 1 (objects_of c.space.words) (c.space.size - free_in c.space) (objects_laid c.space is) in
+    let ends = ap (λ os. Rattle.gc_plan.specs.State.objects_end 1 os) (new_objects_are c) ∙ laid_end_is 1 (objects_of c.space.words) (c.space.size - free_in c.space) (objects_laid c.space is) in
     let high = is.end_high in
     omega (arith, ends)
 

@@ -14,10 +14,10 @@ use Rattle.std.specs.Option.{option_map}
 use Rattle.gc_graph.specs.Machine.{is_number}
 use Rattle.gc_words.proofs.Public.{object_found, spelled_words, laid_out_words}
 use Rattle.gc_heap.specs.Heap.{HeapWords, IsHeap, image_of, graph_in}
-use Rattle.gc_copy.specs.Linked.{number_of, field_word, object_header, block_entry, linked_image}
-use Rattle.gc_copy.specs.Members.{In}
-use Rattle.gc_copy.specs.Belonging.{Laid, IsNamed, RefersTo, IsObject, HasRawNumbers, IsSpaceGraph}
-use Rattle.gc_copy.proofs.Lists.{in_map, in_map_from, in_get, get_past}
+use Rattle.gc_plan.specs.Linked.{number_of, field_word, object_header, block_entry, linked_image}
+use Rattle.gc_plan.specs.Members.{In}
+use Rattle.gc_plan.specs.Belonging.{Laid, IsNamed, RefersTo, IsObject, HasRawNumbers, IsSpaceGraph}
+use Rattle.gc_plan.proofs.Public.{in_map, in_map_from, in_get, get_past}
 
 -- what holds of all elements holds of each
 pub in_all : {X : Type 0} (P : X → Type 0) (xs : List X) (x : X) → All P xs → In x xs → P x

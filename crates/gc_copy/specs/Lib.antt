@@ -1,14 +1,4 @@
-pub mod Belonging
-pub mod Carried
 pub mod Entries
 pub mod Internal
-pub mod Linked
-pub mod Members
-pub mod Passing
-pub mod Progress
-pub mod Rows
-pub mod Runs
-pub mod State
-pub mod Staying
-pub mod Steps
 pub mod Words
+pub mod Opening

@@ -6,10 +6,10 @@ use Rattle.gc_words.specs.Image.{Block, blocks, is_start, object_of_block}
 use Rattle.gc_words.specs.Spelling.{link_at}
 use Rattle.gc_words.specs.Space.{SpaceWords, IsSpace}
 use Rattle.gc_heap.specs.Heap.{HeapWords, graph_in, roomy_in}
-use Rattle.gc_copy.specs.State.{Replica, Collection, State, new_graph}
-use Rattle.gc_copy.specs.Linked.{old_links}
-use Rattle.gc_copy.specs.Members.{In}
-use Rattle.gc_copy.specs.Belonging.{Belongs, BelongsBut}
+use Rattle.gc_plan.specs.State.{Replica, Collection, State, new_graph}
+use Rattle.gc_plan.specs.Linked.{old_links}
+use Rattle.gc_plan.specs.Members.{In}
+use Rattle.gc_plan.specs.Belonging.{Belongs, BelongsBut}
 
 -- the fields that a mutator wrote, oldest first, and the number of further entries that need no allocation
 pub record Log : Type 0 where

@@ -1,13 +1,10 @@
-//! Laws that follow from the definitions. Crates that depend on this one use them in proofs by calling these functions.
+//! Laws that follow from the definitions, for heaps and collections of words. Crates that depend on this one use them in proofs by calling these functions.
 
-ghost use Rattle.std.specs.Prelude.{◌≡◌, ◌≢◌, ◌+◌, ◌++◌, ◌∷◌, [], ℕ, List, ◌-◌, ◌<◌, ◌≤◌, ◌==◌, length, Some, is_none, ◌⊎◌, IsTrue, IsFalse};
+ghost use Rattle.std.specs.Prelude.{◌≡◌, ◌≢◌, [], ℕ, List, ◌-◌, ◌≤◌, IsTrue};
 ghost use Rattle.gc_graph.specs.Limits.{largest_space};
-ghost use Rattle.gc_graph.specs.Graph.{Value, Ref, Object, Graph, IsUnused, root, set_field};
-ghost use Rattle.gc_graph.specs.Correspond.{Corresponding};
-ghost use Rattle.gc_graph.specs.Machine.{Roomy, roomy_step};
-ghost use Rattle.gc_graph.specs.Range.{IsCommand};
+ghost use Rattle.gc_graph.specs.Graph.{Graph, IsUnused, root};
+ghost use Rattle.gc_graph.specs.Machine.{roomy_step};
 ghost use Rattle.gc_graph.specs.declared.command.Op.{Op};
-ghost use Rattle.gc_words.specs.Image.{IsShaped, graph_of, roomy_of};
 ghost use Rattle.gc_words.specs.Spelling.{link_at};
 ghost use Rattle.gc_words.specs.Space.{free_in, end_of, image_with};
 ghost use Rattle.gc_words.specs.Certificate.{Certified};
@@ -16,102 +13,15 @@ ghost use Rattle.gc_heap.specs.Commands.{Performs};
 ghost use Rattle.gc_heap.specs.declared.options.HeapOptions.{HeapOptions};
 ghost use Rattle.gc_copy.specs.Words.{CollectionWords, IsCollection, BelongsTo, BelongsToBut, HasNoLinks, collection_in, idle_state, open_state, new_root_words};
 ghost use Rattle.gc_graph.specs.declared.reply.Reply.{Reply};
-ghost use Rattle.gc_copy.specs.State.{Replica, Collection, State, opening_state, opening_state_with, heap_end, new_objects, new_free, pairs_of, replica_of, replica_at, moved, new_graph};
-ghost use Rattle.gc_copy.specs.Linked.{image_of_graph, linked_image, old_links, new_links, old_image, new_image};
-ghost use Rattle.gc_copy.specs.Steps.{written, log_at, with_log, WritesField, with_collection, write_replica, fresh_collection, mutate, collect, is_change, is_ready, useful_step};
-ghost use Rattle.gc_copy.specs.Members.{In};
-ghost use Rattle.gc_copy.specs.Belonging.{HasRawNumbers, IsSpaceGraph, HasField, Belongs, BelongsBut, IsOpened, IsOpen, IsState};
-ghost use Rattle.gc_copy.specs.Runs.{HasRange, AreRootEvents, IsStepWithin, IsEventWithin, AreEventsWithin, IsStep, AreEvents, InEveryRun, HasSizesWithin, after, state_after};
-ghost use Rattle.gc_copy.specs.declared.event.Event.{Event};
-ghost use Rattle.gc_copy.specs.Passing.{HasImage, PassesWhereReady, NeverRefused, AlwaysHasRoom, ScansToTheEnd, HasFewPairs};
-ghost use Rattle.gc_copy.specs.Progress.{ChangesLower, Advances, Ends, entries_in, entries_left, work_left};
-ghost use Rattle.gc_copy.specs.Carried.{CarriesOnlyKept, NamesOnlyKept};
-ghost use Rattle.gc_copy.specs.Staying.{KnowsRoot, root_written};
-ghost use Rattle.gc_copy.specs.Rows.{Rows, SizedRows, FlipPairRows};
-ghost use Rattle.gc_copy.specs.declared.step.Step.{Step};
-ghost use Rattle.gc_copy.specs.declared.step.StepReply.TheVariants.{NoRoom};
-
-/// The worked examples hold of the definitions, by computation.
-pub fn worked_rows()
-    ensures answers { Rows }
-    ensures sized { SizedRows }
-    ensures kept { FlipPairRows }
-{}
-
-/// A collection that has just begun belongs to its heap. A command keeps the heap sound, and the collection belongs to it except
-/// for the field that the command wrote. A log entry for this field restores that.
-pub fn belonging_is_kept()
-    ensures begins { (objects : List (ℕ × Object)) (mutators size : ℕ) → HasRawNumbers objects
-        → 1 ≤ size → Belongs objects (fresh_collection mutators size) }
-    ensures heaps { (size : ℕ) (heap : Roomy) (m : ℕ) (op : Op)
-        → IsSpaceGraph size heap.free heap.graph → IsCommand op
-        → (let next = roomy_step heap m op (size - heap.free) in
-        IsSpaceGraph size next.1.free next.1.graph) }
-    ensures commands { (heap : Roomy) (c : Collection) (m : ℕ) (op : Op) (name : ℕ)
-        → Belongs heap.graph.objects c
-        → (let next = roomy_step heap m op name in
-        BelongsBut (λ a i. In (a, i) (written heap.graph m op next.0)) next.1.graph.objects c) }
-    ensures fields { (heap : Roomy) (m : ℕ) (op : Op) (name a i : ℕ)
-        → (let next = roomy_step heap m op name in
-        In (a, i) (written heap.graph m op next.0) → HasField next.1.graph.objects a i) }
-    ensures notes { (objects : List (ℕ × Object)) (c : Collection) (m a i : ℕ)
-        → m < length c.logs → HasField objects a i
-        → BelongsBut (λ b j. (b ≡ a) × (j ≡ i)) objects c
-        → Belongs objects (with_log c m (log_at c m ++ (a, i) ∷ [])) }
-{}
-
-/// Every step except a flip changes only the collection, which still belongs to the heap.
-pub fn steps_keep_belonging()
-    ensures heap { (s : State) (step : Step) → step ≢ Step.Flip
-        → (collect s step).1 ≡ with_collection s (collect s step).1.collection }
-    ensures collection { (s : State) (c : Collection) (step : Step) → step ≢ Step.Flip
-        → s.collection ≡ Some c → IsOpened s c → IsOpen s (collect s step).1.collection }
-{}
-
-/// Commands and steps keep the heap sound, and an open collection still belongs to it.
-pub fn states_are_kept()
-    ensures opening { (size mutators : ℕ)
-        → 1 ≤ size → size ≤ largest_space → IsState (opening_state size mutators) }
-    ensures opening_with { (options : HeapOptions)
-        → 1 ≤ options.size → options.size ≤ largest_space → IsState (opening_state_with options) }
-    ensures commands { (s : State) (m : ℕ) (op : Op)
-        → IsState s → m < s.mutators → IsCommand op → IsState (mutate s m op).1 }
-    ensures steps { (s : State) (step : Step)
-        → IsState s → IsStep s.mutators step → IsState (collect s step).1 }
-    ensures runs { InEveryRun IsState }
-    // A command may name any root, and so an extra one.
-    ensures root_commands { (s : State) (m : ℕ) (op : Op)
-        → IsState s → m < s.mutators → HasRange op → IsState (mutate s m op).1 }
-    ensures root_runs { (options : HeapOptions) (events : List Event)
-        → 1 ≤ options.size → options.size ≤ largest_space → AreRootEvents options.mutators events
-        → IsState (state_after (opening_state_with options) events) }
-{}
-
-/// In a run whose opening and begins are within a limit, so are the sizes of all spaces. A step or an event that is within a limit
-/// is one of a heap.
-pub fn sizes_stay_within()
-    ensures events { (most mutators : ℕ) (s : State) (event : Event)
-        → HasSizesWithin most s → IsEventWithin most mutators event → HasSizesWithin most (after s event) }
-    ensures runs { (most size mutators : ℕ) (events : List Event)
-        → size ≤ most → AreEventsWithin most mutators events
-        → HasSizesWithin most (state_after (opening_state size mutators) events) }
-    ensures steps { (most mutators : ℕ) (step : Step)
-        → most ≤ largest_space → IsStepWithin most mutators step → IsStep mutators step }
-    ensures wider { (most mutators : ℕ) (events : List Event)
-        → most ≤ largest_space → AreEventsWithin most mutators events → AreEvents mutators events }
-{}
-
-/// A heap is the graph of its image, whatever the links are.
-pub fn images_have_their_graphs()
-    ensures shaped { (links : ℕ → ℕ) (size free : ℕ) (g : Graph)
-        → IsSpaceGraph size free g → IsShaped (linked_image links size g) }
-    ensures graph { (links : ℕ → ℕ) (size free : ℕ) (g : Graph)
-        → IsSpaceGraph size free g → graph_of (linked_image links size g) ≡ g }
-    ensures roomy { (links : ℕ → ℕ) (size free : ℕ) (g : Graph)
-        → IsSpaceGraph size free g
-        → roomy_of (linked_image links size g) ≡ record { graph = g; free = free } }
-    ensures runs { InEveryRun HasImage }
-{}
+ghost use Rattle.gc_plan.specs.State.{pairs_of};
+ghost use Rattle.gc_copy.specs.Opening.{opening_state_with};
+ghost use Rattle.gc_plan.specs.Linked.{image_of_graph, linked_image, old_image, new_image};
+ghost use Rattle.gc_plan.specs.Steps.{written, WritesField, mutate, collect, is_ready};
+ghost use Rattle.gc_plan.specs.Belonging.{IsSpaceGraph, IsState};
+ghost use Rattle.gc_plan.specs.Runs.{AreRootEvents, state_after};
+ghost use Rattle.gc_plan.specs.declared.event.Event.{Event};
+ghost use Rattle.gc_plan.specs.declared.step.Step.{Step};
+ghost use Rattle.gc_plan.specs.declared.step.StepReply.TheVariants.{NoRoom};
 
 /// The names in the graph of a heap of words are addresses, and the heap's image is the image of this graph with the heap's
 /// links. No object has the heap's end as its name.
@@ -123,76 +33,6 @@ pub fn heaps_have_addresses_as_names()
         ≡ linked_image (link_at heap.space.words) heap.space.size (graph_in heap) }
     ensures unused { (size free : ℕ) (g : Graph)
         → IsSpaceGraph size free g → IsUnused g (size - free) }
-{}
-
-/// The link of an object in the old space is its replica's address, or 0 if it has none. The link of a replica is its original's
-/// address. Writing a field at a replica's address changes that replica.
-pub fn links_tell_replicas()
-    ensures by_name { (objects : List (ℕ × Object)) (c : Collection) (r : Replica)
-        → Belongs objects c → In r c.replicas → replica_of c r.original ≡ Some r }
-    ensures by_place { (objects : List (ℕ × Object)) (c : Collection) (r : Replica)
-        → Belongs objects c → In r c.replicas → replica_at c r.place ≡ Some r }
-    ensures zero { (objects : List (ℕ × Object)) (c : Collection) (a : ℕ)
-        → Belongs objects c → (old_links c a == 0) ≡ is_none (replica_of c a) }
-    ensures moved { (objects : List (ℕ × Object)) (c : Collection) (a : ℕ) (r : Replica)
-        → Belongs objects c → replica_of c a ≡ Some r → moved c (Ref a) ≡ Ref (old_links c a) }
-    ensures back { (objects : List (ℕ × Object)) (c : Collection) (a : ℕ) (r : Replica)
-        → Belongs objects c → replica_of c a ≡ Some r → new_links c (old_links c a) ≡ a }
-    ensures writes { (objects : List (ℕ × Object)) (c : Collection) (a i : ℕ) (v : Value) (r : Replica)
-        → Belongs objects c → replica_of c a ≡ Some r
-        → new_objects (write_replica c a i v) ≡ set_field (new_objects c) r.place i v }
-{}
-
-/// The certificate of a ready collection holds, whatever the links are. Its new space is a heap whose graph corresponds to the old
-/// one. So its flip passes the check, and no flip is ever refused.
-pub fn ready_flips_pass()
-    ensures certified { (links others : ℕ → ℕ) (size free : ℕ) (g : Graph) (c : Collection)
-        → IsSpaceGraph size free g → Belongs g.objects c → c.size ≤ largest_space → IsTrue (is_ready c g)
-        → Certified (linked_image links size g) (linked_image others c.size (new_graph c g.roots)) (pairs_of c) }
-    ensures heap { (size free : ℕ) (g : Graph) (c : Collection)
-        → IsSpaceGraph size free g → Belongs g.objects c → c.size ≤ largest_space → IsTrue (is_ready c g)
-        → IsSpaceGraph c.size (new_free c) (new_graph c g.roots) }
-    ensures corresponding { (size free : ℕ) (g : Graph) (c : Collection)
-        → IsSpaceGraph size free g → Belongs g.objects c → c.size ≤ largest_space → IsTrue (is_ready c g)
-        → Corresponding (pairs_of c) g (new_graph c g.roots) }
-    ensures passes { (s : State) → IsState s → PassesWhereReady s }
-    ensures never_refused { (s : State) → IsState s → NeverRefused s }
-    ensures runs { InEveryRun PassesWhereReady }
-    ensures runs_never_refused { InEveryRun NeverRefused }
-{}
-
-/// A step whose reply means no change leaves the state unchanged. The useful step changes something unless it replies `NoRoom`.
-pub fn answers_tell_changes()
-    ensures quiet { (s : State) (step : Step)
-        → IsFalse (is_change (collect s step).0) → (collect s step).1 ≡ s }
-    ensures useful { (s : State) → IsState s
-        → (let answer = (collect s (useful_step s)).0 in
-        (answer ≡ NoRoom) ⊎ IsTrue (is_change answer)) }
-{}
-
-/// In every run, each original of an open collection was reachable when the collection began, or was made
-/// later. The same is true of each object that a root, or a field of such an object, refers to.
-pub fn only_kept_is_carried()
-    ensures pairs { CarriesOnlyKept }
-    ensures names { NamesOnlyKept }
-{}
-
-/// If the new space is at least as large as the old one, no step lacks room.
-pub fn room_suffices()
-    ensures states { (s : State) → IsState s → AlwaysHasRoom s }
-    ensures runs { InEveryRun AlwaysHasRoom }
-    ensures words { (heap : HeapWords) (c : CollectionWords) (step : Step)
-        → IsHeap heap → IsCollection c → BelongsTo heap c → heap.space.size ≤ c.space.size
-        → (collect (open_state heap c) step).0 ≢ NoRoom }
-{}
-
-/// `Scan` replies `Clean` exactly if the scan pointer is at the new end. Twice the pairs of a collection are fewer than the words of
-/// its new space.
-pub fn scans_and_pairs_are_bounded()
-    ensures scans { (s : State) → IsState s → ScansToTheEnd s }
-    ensures pairs { (s : State) → IsState s → HasFewPairs s }
-    ensures run_scans { InEveryRun ScansToTheEnd }
-    ensures run_pairs { InEveryRun HasFewPairs }
 {}
 
 /// Says what the images of a heap and of the collection that belongs to it are, with their links. If the collection is ready, its
@@ -238,34 +78,18 @@ pub fn commands_leave_collections()
         → (mutate (idle_state heap) m op ≡ (reply, idle_state new)) × HasNoLinks new }
 {}
 
-/// Once the target of a root has a replica, it keeps it: no step removes a replica. A command changes no root but the one that it
-/// writes.
-pub fn root_replicas_stay()
-    ensures steps { (s : State) (c : Collection) (step : Step) (p : ℕ)
-        → s.collection ≡ Some c → KnowsRoot s p → KnowsRoot (collect s step).1 p }
-    ensures commands { (s : State) (m : ℕ) (op : Op) (p : ℕ)
-        → root_written m op ≢ Some p → KnowsRoot s p → KnowsRoot (mutate s m op).1 p }
-    ensures values { (s : State) (m : ℕ) (op : Op) (p : ℕ)
-        → root_written m op ≢ Some p → root (mutate s m op).1.heap.graph p ≡ root s.heap.graph p }
+/// A heap that was opened with extra roots is well formed, and so is every state that a run leads it to. A command may name an extra root.
+pub fn extra_roots_are_kept()
+    ensures opening { (options : HeapOptions)
+        → 1 ≤ options.size → options.size ≤ largest_space → IsState (opening_state_with options) }
+    ensures runs { (options : HeapOptions) (events : List Event)
+        → 1 ≤ options.size → options.size ≤ largest_space → AreRootEvents options.mutators events
+        → IsState (state_after (opening_state_with options) events) }
 {}
 
-/// What a collection has left to do is a number, and each step that changes something lowers it. So one of the next `work_left`
-/// useful steps flips or lacks room, if no command comes between. A command raises the number by the words that it allocates and the
-/// entries that it logs.
-pub fn useful_steps_end()
-    ensures lowers { (s : State) → IsSpaceGraph s.size s.heap.free s.heap.graph → IsOpen s s.collection
-        → ChangesLower s }
-    ensures useful { (s : State) → IsSpaceGraph s.size s.heap.free s.heap.graph → IsOpen s s.collection
-        → Advances s }
-    // No step logs an entry.
-    ensures entries { (s : State) (step : Step) → entries_left (collect s step).1 ≤ entries_left s }
-    ensures ends { (s : State) → IsState s → Ends s }
-    ensures runs { InEveryRun Ends }
-    ensures bounded { (s : State) (c : Collection) → IsSpaceGraph s.size s.heap.free s.heap.graph
-        → IsOpen s s.collection → s.collection ≡ Some c
-        → work_left s ≤ (heap_end s - c.scan_place) + entries_in c.logs + 1 }
-    ensures commands { (s : State) (m : ℕ) (op : Op) → IsSpaceGraph s.size s.heap.free s.heap.graph
-        → IsOpen s s.collection → m < s.mutators
-        → (let t = (mutate s m op).1 in
-        work_left t + heap_end s + entries_left s ≡ work_left s + heap_end t + entries_left t) }
+/// If a new space of words is at least as large as the old one, no step lacks room.
+pub fn new_spaces_have_room()
+    ensures { (heap : HeapWords) (c : CollectionWords) (step : Step)
+        → IsHeap heap → IsCollection c → BelongsTo heap c → heap.space.size ≤ c.space.size
+        → (collect (open_state heap c) step).0 ≢ NoRoom }
 {}

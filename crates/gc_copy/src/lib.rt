@@ -3,20 +3,14 @@
 #![tactic(auto)]
 
 mod collection;
-mod event;
 mod laws;
 mod log;
 mod pairs;
-mod step;
 
 pub use collection::{Collection, MissingRoot};
-pub use event::{Answer, Event};
+pub use gc_plan::{Step, StepReply};
 pub use laws::{
-    answers_tell_changes, belonging_is_kept, commands_keep_collections, commands_leave_collections,
-    heaps_have_addresses_as_names, images_have_their_graphs, images_show_links,
-    links_tell_replicas, only_kept_is_carried, ready_flips_pass, room_suffices, root_replicas_stay,
-    scans_and_pairs_are_bounded, sizes_stay_within, states_are_kept, steps_keep_belonging,
-    useful_steps_end, worked_rows,
+    commands_keep_collections, commands_leave_collections, extra_roots_are_kept,
+    heaps_have_addresses_as_names, images_show_links, new_spaces_have_room,
 };
 pub use log::LogEntry;
-pub use step::{Step, StepReply};

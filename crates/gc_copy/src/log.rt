@@ -36,7 +36,7 @@ impl Model for MutationLog {
 impl MutationLog {
     ghost use Rattle.std.specs.Prelude.{◌≡◌, ◌≤◌, ◌-◌, ◌++◌, ◌∷◌, [], drop, length, slice_get, OnOk, Some, None};
     ghost use Rattle.std.specs.Option.{option_map};
-    ghost use Rattle.gc_copy.specs.Steps.{is_empty};
+    ghost use Rattle.gc_plan.specs.Steps.{is_empty};
     ghost use Rattle.gc_copy.specs.Entries.{entry_in};
     ghost use Rattle.gc_copy.specs.Internal.Entries.{oldest};
 

@@ -4,8 +4,8 @@ ghost use Rattle.std.specs.Prelude.{◌≡◌, ◌<◌, ◌^◌, IfOk, length, m
 ghost use Rattle.gc_words.specs.Image.{blocks};
 ghost use Rattle.gc_words.specs.Space.{IsSpace, without_links};
 ghost use Rattle.gc_words.specs.Views.{addresses};
-ghost use Rattle.gc_copy.specs.State.{Replica};
-ghost use Rattle.gc_copy.specs.Members.{In};
+ghost use Rattle.gc_plan.specs.State.{Replica};
+ghost use Rattle.gc_plan.specs.Members.{In};
 ghost use Rattle.gc_copy.specs.Words.{replicas_in};
 
 use gc_graph::NoMemory;

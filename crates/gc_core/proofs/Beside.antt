@@ -4,8 +4,8 @@ use Rattle.std.specs.Option.{option_map}
 use Rattle.gc_words.specs.Image.{Image}
 use Rattle.gc_words.specs.Space.{end_of}
 use Rattle.gc_heap.specs.Heap.{HeapWords, IsHeap}
-use Rattle.gc_copy.specs.State.{State, Collection, heap_end}
-use Rattle.gc_copy.specs.Linked.{old_image, new_image}
+use Rattle.gc_plan.specs.State.{State, Collection, heap_end}
+use Rattle.gc_plan.specs.Linked.{old_image, new_image}
 use Rattle.gc_copy.specs.Words.{CollectionWords, IsCollection, BelongsTo, collection_in, state_of, open_state}
 use Rattle.gc_copy.proofs.Public.{old_shown, new_shown}
 use Rattle.gc_core.specs.Internal.CollectedHeap.{Fits}

@@ -6,10 +6,10 @@ use Rattle.gc_words.specs.Certificate.{Certified}
 use Rattle.gc_heap.specs.Heap.{HeapWords}
 use Rattle.gc_cert.specs.Grammar.{CertifiedPair}
 use Rattle.std.specs.Prelude.{IfSome}
-use Rattle.gc_copy.specs.State.{State}
+use Rattle.gc_plan.specs.State.{State}
 use Rattle.gc_copy.specs.Words.{CollectionWords, collection_in, state_of, open_state}
-use Rattle.gc_copy.specs.declared.step.StepReply.{StepReply}
-use Rattle.gc_copy.specs.declared.step.StepReply.TheVariants.{Flipped}
+use Rattle.gc_plan.specs.declared.step.StepReply.{StepReply}
+use Rattle.gc_plan.specs.declared.step.StepReply.TheVariants.{Flipped}
 use Rattle.gc_core.specs.Flip.{flip_pair, kept_after, replaced}
 
 pub same_image : (size end s e : ℕ) (words roots w r : List ℕ) (raws : Bool) → size ≡ s → end ≡ e → words ≡ w → roots ≡ r → raws ≡ true

@@ -15,15 +15,17 @@ use Rattle.gc_graph.specs.declared.command.Op.{Op}
 use Rattle.gc_graph.specs.declared.command.Op.TheVariants as ops
 use Rattle.gc_graph.specs.declared.reply.Reply.{Reply}
 use Rattle.gc_graph.specs.declared.reply.Reply.TheVariants as replies
-use Rattle.gc_copy.specs.State.{Collection, State, opening_state_with}
-use Rattle.gc_copy.specs.Staying.{HasReplicaOf, KnowsRoot, root_written}
-use Rattle.gc_copy.specs.Steps.{mutate, collect, collect_with, with_collection, root_target, copy_root, place_replica, if_room}
-use Rattle.gc_copy.specs.declared.step.Step.{Step}
-use Rattle.gc_copy.specs.declared.step.Step.TheVariants as steps
-use Rattle.gc_copy.specs.declared.step.StepReply.{StepReply}
-use Rattle.gc_copy.specs.declared.step.StepReply.TheVariants.{Clean, NoRoom, Copied}
+use Rattle.gc_plan.specs.State.{Collection, State}
+use Rattle.gc_copy.specs.Opening.{opening_state_with}
+use Rattle.gc_plan.specs.Staying.{HasReplicaOf, KnowsRoot, root_written}
+use Rattle.gc_plan.specs.Steps.{mutate, collect, collect_with, with_collection, root_target, copy_root, place_replica, if_room}
+use Rattle.gc_plan.specs.declared.step.Step.{Step}
+use Rattle.gc_plan.specs.declared.step.Step.TheVariants as steps
+use Rattle.gc_plan.specs.declared.step.StepReply.{StepReply}
+use Rattle.gc_plan.specs.declared.step.StepReply.TheVariants.{Clean, NoRoom, Copied}
 use Rattle.gc_copy.specs.declared.collection.roots.MissingRoot.{MissingRoot}
-use Rattle.gc_copy.proofs.Public.{placed_has, steps_stay, collect_stays, mutate_stays, root_kept, roots_counted, flip_nil, flip_count}
+use Rattle.gc_copy.proofs.Public.{placed_has}
+use Rattle.gc_plan.proofs.Public.{steps_stay, collect_stays, mutate_stays, root_kept, roots_counted, flip_nil, flip_count}
 use Rattle.gc_core.specs.CollectedHeap.{fill_step, filled, new_from_step}
 use Rattle.gc_core.specs.Internal.KnownRoots.{KnowsRoots, FindsFirst, next_place}
 use Rattle.gc_core.specs.declared.known.KnownRoots.{KnownRoots}

@@ -6,9 +6,9 @@ use Rattle.gc_graph.specs.declared.command.Op.TheVariants.{New, Put}
 use Rattle.gc_graph.specs.declared.reply.Reply.{Reply}
 use Rattle.gc_graph.specs.declared.reply.Reply.TheVariants as replies
 use Rattle.gc_heap.specs.Heap.{HeapWords}
-use Rattle.gc_copy.specs.State.{Collection, State}
+use Rattle.gc_plan.specs.State.{Collection, State}
 use Rattle.gc_copy.specs.Words.{CollectionWords, collection_in, state_of, open_state}
-use Rattle.gc_copy.specs.Steps.{mutate}
+use Rattle.gc_plan.specs.Steps.{mutate}
 use Rattle.gc_core.specs.CollectedHeap.{fill_step, filled, new_from_step}
 
 filled_is : (reply : Reply) (made : State) (m : ℕ) (d : SlotName) (fields : List SlotName) → (reply ≡ replies.Full → ⊥) → filled reply made m d fields ≡ fill_step made m d 0 fields

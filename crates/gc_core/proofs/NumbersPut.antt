@@ -10,8 +10,8 @@ use Rattle.gc_graph.specs.declared.reply.Reply.TheVariants.{Done, NoField, NoNum
 use Rattle.gc_heap.specs.Heap.{HeapWords, IsHeap}
 use Rattle.gc_heap.specs.Filling.{WritesNumbers}
 use Rattle.gc_heap.specs.Raws.{raw_numbers}
-use Rattle.gc_copy.specs.State.{State}
-use Rattle.gc_copy.specs.Steps.{mutate}
+use Rattle.gc_plan.specs.State.{State}
+use Rattle.gc_plan.specs.Steps.{mutate}
 use Rattle.gc_copy.specs.Words.{idle_state, HasNoLinks}
 use Rattle.gc_copy.proofs.Public.{idle_left}
 use Rattle.gc_core.specs.Internal.KnownRoots.{KnowsRoots}

@@ -7,11 +7,11 @@ use Rattle.gc_graph.specs.declared.command.Op.{Op}
 use Rattle.gc_graph.specs.declared.reply.Reply.{Reply}
 use Rattle.gc_heap.specs.Heap.{HeapWords, IsHeap, graph_in}
 use Rattle.gc_heap.specs.Commands.{Performs}
-use Rattle.gc_copy.specs.Steps.{WritesField, mutate}
+use Rattle.gc_plan.specs.Steps.{WritesField, mutate}
 use Rattle.gc_copy.specs.Words.{CollectionWords, collection_in, state_of}
 use Rattle.gc_copy.proofs.Public.{open_left, idle_left}
-use Rattle.gc_copy.specs.State.{State}
-use Rattle.gc_copy.specs.Staying.{root_written}
+use Rattle.gc_plan.specs.State.{State}
+use Rattle.gc_plan.specs.Staying.{root_written}
 use Rattle.gc_core.specs.Internal.CollectedHeap.{Fits}
 use Rattle.gc_core.specs.Internal.KnownRoots.{KnowsRoots}
 use Rattle.gc_core.specs.declared.known.KnownRoots.{KnownRoots}

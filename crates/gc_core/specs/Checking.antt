@@ -1,8 +1,8 @@
 -- What a check of the open collection finds.
 use Rattle.std.specs.Prelude.{◌≡◌, ℕ, if◌then◌else◌, length, Option, Some, None, IfSome}
 use Rattle.gc_cert.specs.Grammar.{CertifiedPair}
-use Rattle.gc_copy.specs.State.{State, Collection}
-use Rattle.gc_copy.specs.Steps.{is_ready}
+use Rattle.gc_plan.specs.State.{State, Collection}
+use Rattle.gc_plan.specs.Steps.{is_ready}
 use Rattle.gc_core.specs.Flip.{flip_pair}
 use Rattle.gc_core.specs.declared.checking.Finding.{Finding}
 use Rattle.gc_core.specs.declared.checking.Finding.TheVariants.{Idle, NotReady, Holds}

@@ -3,11 +3,11 @@ use Rattle.std.specs.Prelude.{◌≡◌, ◌≢◌, ◌≤◌, ℕ, length, Opti
 use Rattle.gc_words.specs.Image.{Image}
 use Rattle.gc_words.specs.Certificate.{Certified}
 use Rattle.gc_cert.specs.Grammar.{CertifiedPair}
-use Rattle.gc_copy.specs.State.{State, Collection, pairs_of}
-use Rattle.gc_copy.specs.Steps.{is_ready}
-use Rattle.gc_copy.specs.Linked.{old_image, new_image}
-use Rattle.gc_copy.specs.declared.step.StepReply.{StepReply}
-use Rattle.gc_copy.specs.declared.step.StepReply.TheVariants.{NoRoom, Flipped}
+use Rattle.gc_plan.specs.State.{State, Collection, pairs_of}
+use Rattle.gc_plan.specs.Steps.{is_ready}
+use Rattle.gc_plan.specs.Linked.{old_image, new_image}
+use Rattle.gc_plan.specs.declared.step.StepReply.{StepReply}
+use Rattle.gc_plan.specs.declared.step.StepReply.TheVariants.{NoRoom, Flipped}
 
 -- ---- the pair of a flip
 

@@ -3,9 +3,9 @@ use Rattle.std.specs.Prelude.{ℕ, List, [], Option, Some, None}
 use Rattle.std.specs.Option.{option_map}
 use Rattle.gc_words.specs.Image.{Image}
 use Rattle.gc_words.specs.Spelling.{no_links}
-use Rattle.gc_copy.specs.State.{State, Collection, new_end}
-use Rattle.gc_copy.specs.Linked.{linked_image, old_links, new_image}
-use Rattle.gc_copy.specs.Steps.{log_at}
+use Rattle.gc_plan.specs.State.{State, Collection, new_end}
+use Rattle.gc_plan.specs.Linked.{linked_image, old_links, new_image}
+use Rattle.gc_plan.specs.Steps.{log_at}
 use Rattle.gc_core.specs.declared.reading.NewSpace.{NewSpace}
 
 -- the links in the mutators' space: those of the open collection's originals, or none

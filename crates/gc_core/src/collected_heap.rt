@@ -21,7 +21,7 @@ pub struct CollectedHeap {
 
 impl Model for CollectedHeap {
     ghost use Rattle.std.specs.Option.{option_map};
-    ghost use Rattle.gc_copy.specs.State.{State};
+    ghost use Rattle.gc_plan.specs.State.{State};
     ghost use Rattle.gc_copy.specs.Words.{collection_in, state_of};
     ghost use Rattle.gc_core.specs.Internal.CollectedHeap.{Fits};
     ghost use Rattle.gc_core.specs.Internal.KnownRoots.{KnowsRoots};
@@ -36,10 +36,11 @@ impl Model for CollectedHeap {
 impl CollectedHeap {
     ghost use Rattle.std.specs.Prelude.{◌≡◌, ◌≤◌, IfOk, is_some};
     ghost use Rattle.gc_graph.specs.Limits.{most_mutators};
-    ghost use Rattle.gc_copy.specs.State.{opening_state, opening_state_with};
+    ghost use Rattle.gc_plan.specs.State.{opening_state};
+    ghost use Rattle.gc_copy.specs.Opening.{opening_state_with};
     ghost use Rattle.gc_heap.specs.ExtraRoots.{CanOpen};
-    ghost use Rattle.gc_copy.specs.Steps.{useful_step};
-    ghost use Rattle.gc_copy.specs.Runs.{IsStep};
+    ghost use Rattle.gc_plan.specs.Steps.{useful_step};
+    ghost use Rattle.gc_plan.specs.Runs.{IsStep};
     ghost use Rattle.gc_heap.specs.Heap.{roomy_in};
 
     /// Returns an empty heap of `size` words, at least 1, for 1 to 16 mutators.

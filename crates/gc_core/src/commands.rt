@@ -7,7 +7,7 @@ use gc_words::OldAddr;
 
 impl CollectedHeap {
     ghost use Rattle.std.specs.Prelude.{◌≡◌, ◌<◌, ◌∷◌, [], IfOk, OnErr, IsSome};
-    ghost use Rattle.gc_copy.specs.Steps.{mutate, WritesField};
+    ghost use Rattle.gc_plan.specs.Steps.{mutate, WritesField};
     ghost use Rattle.gc_graph.specs.declared.command.Op.{Op};
     ghost use Rattle.gc_core.specs.CollectedHeap.{Fetches, new_from_step};
 

@@ -1,5 +1,5 @@
 ghost use Rattle.std.specs.Prelude.{◌≡◌, ◌<◌, ◌^◌, None, IfOk, IfSome, IsSome, length};
-ghost use Rattle.gc_copy.specs.Steps.{is_ready};
+ghost use Rattle.gc_plan.specs.Steps.{is_ready};
 ghost use Rattle.gc_copy.specs.Words.{BelongsTo, collection_in};
 ghost use Rattle.gc_heap.specs.Heap.{graph_in};
 ghost use Rattle.std.specs.Prelude.{IsTrue};

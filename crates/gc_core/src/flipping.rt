@@ -2,11 +2,11 @@ ghost use Rattle.std.specs.Prelude.{◌≡◌, ◌≢◌, ◌<◌, ◌^◌, Some
 ghost use Rattle.std.specs.Option.{option_map};
 ghost use Rattle.gc_cert.specs.Views.{pair_in};
 ghost use Rattle.gc_heap.specs.Heap.{graph_in};
-ghost use Rattle.gc_copy.specs.Steps.{collect, is_ready};
+ghost use Rattle.gc_plan.specs.Steps.{collect, is_ready};
 ghost use Rattle.gc_copy.specs.Words.{BelongsTo, HasNoLinks, collection_in, idle_state, new_root_words, open_state};
-ghost use Rattle.gc_copy.specs.State.{pairs_of};
-ghost use Rattle.gc_copy.specs.declared.step.Step.{Step};
-ghost use Rattle.gc_copy.specs.declared.step.StepReply.{StepReply};
+ghost use Rattle.gc_plan.specs.State.{pairs_of};
+ghost use Rattle.gc_plan.specs.declared.step.Step.{Step};
+ghost use Rattle.gc_plan.specs.declared.step.StepReply.{StepReply};
 ghost use Rattle.gc_core.specs.Flip.{flip_pair, IsCertified};
 ghost use Rattle.gc_core.specs.Internal.Flip.{IsDraft, AreCopies};
 

@@ -6,9 +6,9 @@ ghost use Rattle.gc_graph.specs.Graph.{root, Nil};
 ghost use Rattle.gc_graph.specs.Slots.{roots_of};
 ghost use Rattle.gc_heap.specs.Heap.{graph_in};
 ghost use Rattle.gc_words.specs.Image.{is_start};
-ghost use Rattle.gc_copy.specs.State.{State};
-ghost use Rattle.gc_copy.specs.Staying.{KnowsRoot};
-ghost use Rattle.gc_copy.specs.Steps.{root_target};
+ghost use Rattle.gc_plan.specs.State.{State};
+ghost use Rattle.gc_plan.specs.Staying.{KnowsRoot};
+ghost use Rattle.gc_plan.specs.Steps.{root_target};
 ghost use Rattle.gc_copy.specs.Words.{collection_in, open_state, BelongsTo};
 ghost use Rattle.gc_core.specs.Internal.KnownRoots.{KnowsRoots, FindsFirst, next_place};
 

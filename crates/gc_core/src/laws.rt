@@ -5,9 +5,10 @@ ghost use Rattle.gc_graph.specs.Legal.{IsLegal, IsLegalFrom};
 ghost use Rattle.gc_graph.specs.Limits.{largest_space};
 ghost use Rattle.gc_heap.specs.ExtraRoots.{opening_with};
 ghost use Rattle.gc_heap.specs.declared.options.HeapOptions.{HeapOptions};
-ghost use Rattle.gc_copy.specs.State.{opening_state, opening_state_with};
-ghost use Rattle.gc_copy.specs.Runs.{AreEvents, AreRootEvents};
-ghost use Rattle.gc_copy.specs.declared.event.Event.{Event};
+ghost use Rattle.gc_plan.specs.State.{opening_state};
+ghost use Rattle.gc_copy.specs.Opening.{opening_state_with};
+ghost use Rattle.gc_plan.specs.Runs.{AreEvents, AreRootEvents};
+ghost use Rattle.gc_plan.specs.declared.event.Event.{Event};
 ghost use Rattle.gc_core.specs.Replies.{told_in};
 
 /// In every run, with commands and steps in any interleaving, mutators get replies that are possible without a

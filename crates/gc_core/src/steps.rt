@@ -1,20 +1,21 @@
 ghost use Rattle.std.specs.Prelude.{◌≡◌, not, if◌then◌else◌};
-ghost use Rattle.gc_copy.specs.Steps.{scan_done, apply_or_flip, first_log};
+ghost use Rattle.gc_plan.specs.Steps.{scan_done, apply_or_flip, first_log};
 ghost use Rattle.gc_copy.specs.Words.{collection_in};
-ghost use Rattle.gc_copy.specs.declared.step.Step.{Step};
+ghost use Rattle.gc_plan.specs.declared.step.Step.{Step};
 
 use crate::collected_heap::CollectedHeap;
 use crate::flip::Keep;
 use crate::known::{Searched, search};
 use gc_check::Checks;
-use gc_copy::{Collection, Step, StepReply, root_replicas_stay};
+use gc_copy::{Collection, Step, StepReply};
+use gc_plan::root_replicas_stay;
 use gc_graph::{NoMemory, root_count};
 
 impl CollectedHeap {
     ghost use Rattle.std.specs.Prelude.{◌≢◌, ◌<◌, ◌≤◌, IfOk, OnErr};
-    ghost use Rattle.gc_copy.specs.Steps.{collect, useful_step};
-    ghost use Rattle.gc_copy.specs.Runs.{IsStep};
-    ghost use Rattle.gc_copy.specs.declared.step.StepReply.{StepReply};
+    ghost use Rattle.gc_plan.specs.Steps.{collect, useful_step};
+    ghost use Rattle.gc_plan.specs.Runs.{IsStep};
+    ghost use Rattle.gc_plan.specs.declared.step.StepReply.{StepReply};
     ghost use Rattle.gc_core.specs.Flip.{FlipsOnly, IsCertified, PassesIfReady, HasRoomIfLarge};
     ghost use Rattle.gc_core.specs.CollectedHeap.{Allocates};
 

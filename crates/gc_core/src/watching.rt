@@ -1,6 +1,6 @@
 ghost use Rattle.std.specs.Prelude.{◌≡◌, Some};
-ghost use Rattle.gc_copy.specs.State.{Collection, heap_end};
-ghost use Rattle.gc_copy.specs.Belonging.{IsSpaceGraph, IsOpen};
+ghost use Rattle.gc_plan.specs.State.{Collection, heap_end};
+ghost use Rattle.gc_plan.specs.Belonging.{IsSpaceGraph, IsOpen};
 ghost use Rattle.gc_core.specs.Flip.{flip_pair};
 ghost use Rattle.gc_along.specs.Watch.{Watch, Watches};
 ghost use Rattle.gc_beside.specs.Stays.{GoesAlong};

@@ -14,7 +14,7 @@ use Rattle.gc_words.specs.Layout.{field_place}
 use Rattle.gc_words.specs.Space.{with_object, with_word, end_of, CanPlace}
 use Rattle.gc_words.specs.declared.header.Header.{Header}
 use Rattle.gc_words.specs.Closed.{IsRootWord, IsFieldWord, RefersToStart}
-use Rattle.gc_words.proofs.Public.{object_found, field_found, root_value, graph_field, graph_root, word_read_back, closed_root_read, closed_field, closed_root, closed_placed, placed_reference, some_of, field_written, placed}
+use Rattle.gc_words.proofs.Public.{object_found, field_found, root_value, graph_field, graph_root, word_read_back, closed_root_read, closed_field, closed_root, closed_placed, placed_reference, some_of, field_written, placed, none_of}
 use Rattle.std.proofs.lemmas.List.{length-set}
 use Rattle.gc_graph.specs.Graph.{name_of}
 use Rattle.gc_heap.specs.Heap.{HeapWords, IsHeap, graph_in}
@@ -68,10 +68,6 @@ points h s a w heap less read name =
 -- a field of the graph's object
 field_value_at : (h : HeapWords) (s a i : ℕ) (p : Points h s a) → field_of (object_of (graph_in h).objects (root (graph_in h) s)) i ≡ option_map (field_value p.block.header) (field_at h.space.words a i)
 field_value_at h s a i p = ap (λ v. field_of (object_of (graph_in h).objects v) i) p.target ∙ field_found h.space.words a i p.block p.found
-
-pub none_of : {X : Type 0} (o : Option X) → is_some o ≡ false → o ≡ None
-none_of None e = refl
-none_of (Some x) e = absurd (let no : true ≡ false = e in cc)
 
 -- ---- get
 

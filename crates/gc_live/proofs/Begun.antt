@@ -1,12 +1,12 @@
 -- A standing checker beside a heap in which a collection begins.
 use Rattle.std.proofs.Common.{◌≡◌, ◌⊎◌, inl, inr, ℕ, Option, is_some, true, false, List, length, Some, None, ap, sym, ◌∙◌, subst}
 use Rattle.std.proofs.lemmas.Bool.{cases_Bool}
-use Rattle.gc_copy.specs.State.{Collection, State, heap_end}
-use Rattle.gc_copy.specs.Steps.{collect, collect_with, with_collection, fresh_collection}
-use Rattle.gc_copy.specs.declared.step.Step.TheVariants as steps
-use Rattle.gc_copy.specs.declared.step.StepReply.{StepReply}
-use Rattle.gc_copy.specs.Belonging.{IsSpaceGraph}
-use Rattle.gc_copy.proofs.Public.{end_is}
+use Rattle.gc_plan.specs.State.{Collection, State, heap_end}
+use Rattle.gc_plan.specs.Steps.{collect, collect_with, with_collection, fresh_collection}
+use Rattle.gc_plan.specs.declared.step.Step.TheVariants as steps
+use Rattle.gc_plan.specs.declared.step.StepReply.{StepReply}
+use Rattle.gc_plan.specs.Belonging.{IsSpaceGraph}
+use Rattle.gc_plan.proofs.Public.{end_is}
 use Rattle.gc_along.specs.Watch.{opening}
 use Rattle.gc_along.specs.Tables.{Tables, watch_of}
 use Rattle.gc_along.specs.Events.{WalkedAnew}

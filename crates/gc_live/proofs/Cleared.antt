@@ -2,10 +2,10 @@
 use Rattle.std.proofs.Common.{◌≡◌, ⊎_elim, ℕ, zero, suc, refl, ap, ◌∙◌, subst}
 use Rattle.gc_graph.specs.declared.command.Op.TheVariants as ops
 use Rattle.gc_heap.specs.ExtraRoots.{extra_slot}
-use Rattle.gc_copy.specs.State.{State, heap_end}
-use Rattle.gc_copy.specs.Steps.{mutate}
-use Rattle.gc_copy.specs.Belonging.{IsOpen}
-use Rattle.gc_copy.proofs.Public.{WrittenBy, unchanged}
+use Rattle.gc_plan.specs.State.{State, heap_end}
+use Rattle.gc_plan.specs.Steps.{mutate}
+use Rattle.gc_plan.specs.Belonging.{IsOpen}
+use Rattle.gc_plan.proofs.Public.{WrittenBy, unchanged}
 use Rattle.gc_core.specs.ExtraRoots.{clear_step}
 use Rattle.gc_along.specs.Watch.{opening}
 use Rattle.gc_along.specs.Tables.{Tables, watch_of}

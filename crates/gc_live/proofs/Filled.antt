@@ -10,11 +10,11 @@ use Rattle.gc_graph.specs.declared.command.Op.{Op}
 use Rattle.gc_graph.specs.declared.command.Op.TheVariants as ops
 use Rattle.gc_graph.specs.declared.reply.Reply.{Reply}
 use Rattle.gc_graph.specs.declared.reply.Reply.TheVariants as replies
-use Rattle.gc_copy.specs.State.{State, heap_end}
-use Rattle.gc_copy.specs.Steps.{mutate, logged}
-use Rattle.gc_copy.specs.Members.{In}
-use Rattle.gc_copy.specs.Belonging.{IsSpaceGraph, IsOpen, Laid}
-use Rattle.gc_copy.proofs.Public.{WrittenBy, unchanged, laid_push, laid_range, lookup_in, lookup_laid, in_right}
+use Rattle.gc_plan.specs.State.{State, heap_end}
+use Rattle.gc_plan.specs.Steps.{mutate, logged}
+use Rattle.gc_plan.specs.Members.{In}
+use Rattle.gc_plan.specs.Belonging.{IsSpaceGraph, IsOpen, Laid}
+use Rattle.gc_plan.proofs.Public.{WrittenBy, unchanged, laid_push, laid_range, lookup_in, lookup_laid, in_right}
 use Rattle.gc_core.specs.CollectedHeap.{fill_step, filled, new_from_step}
 use Rattle.gc_along.specs.Watch.{Watch}
 use Rattle.gc_beside.specs.Stays.{Fits, MarksWritten}

@@ -10,11 +10,11 @@ use Rattle.gc_graph.specs.declared.command.Op.TheVariants as ops
 use Rattle.gc_graph.specs.declared.reply.Reply.{Reply}
 use Rattle.gc_graph.specs.declared.reply.Reply.TheVariants as replies
 use Rattle.gc_heap.specs.Raws.{raw_numbers}
-use Rattle.gc_copy.specs.State.{Collection, State, heap_end}
-use Rattle.gc_copy.specs.Steps.{mutate}
-use Rattle.gc_copy.specs.Members.{In, Distinct}
-use Rattle.gc_copy.specs.Belonging.{IsOpen}
-use Rattle.gc_copy.proofs.Public.{WrittenBy, unchanged, get_set_other}
+use Rattle.gc_plan.specs.State.{Collection, State, heap_end}
+use Rattle.gc_plan.specs.Steps.{mutate}
+use Rattle.gc_plan.specs.Members.{In, Distinct}
+use Rattle.gc_plan.specs.Belonging.{IsOpen}
+use Rattle.gc_plan.proofs.Public.{WrittenBy, unchanged, get_set_other}
 use Rattle.gc_core.specs.Writing.{numbers_step, numbers_reply, numbers_after, put_numbers_step}
 use Rattle.gc_along.specs.Watch.{opening}
 use Rattle.gc_along.specs.Tables.{Tables, watch_of}

@@ -92,7 +92,7 @@ pub struct LiveHeap {
 }
 
 impl Model for LiveHeap {
-    ghost use Rattle.gc_copy.specs.State.{State};
+    ghost use Rattle.gc_plan.specs.State.{State};
 
     ghost Value = { State };
 
@@ -106,20 +106,21 @@ impl Model for LiveHeap {
 impl LiveHeap {
     ghost use Rattle.std.specs.Prelude.{◌≡◌, ◌≤◌, IfOk, is_some, ◌<◌, ◌∷◌, [], OnErr, IsSome, length, map, ◌≢◌, ◌-◌, slice_get};
     ghost use Rattle.gc_graph.specs.Limits.{most_mutators};
-    ghost use Rattle.gc_copy.specs.State.{opening_state, opening_state_with, extra_roots_of, heap_end};
+    ghost use Rattle.gc_plan.specs.State.{opening_state, extra_roots_of, heap_end};
+    ghost use Rattle.gc_copy.specs.Opening.{opening_state_with};
     ghost use Rattle.gc_heap.specs.ExtraRoots.{CanOpen, extra_slot};
     ghost use Rattle.gc_core.specs.ExtraRoots.{clear_step};
-    ghost use Rattle.gc_copy.specs.Steps.{useful_step, mutate, WritesField, collect};
-    ghost use Rattle.gc_copy.specs.Runs.{IsStep};
-    ghost use Rattle.gc_copy.specs.Belonging.{IsSpaceGraph, IsOpen};
+    ghost use Rattle.gc_plan.specs.Steps.{useful_step, mutate, WritesField, collect};
+    ghost use Rattle.gc_plan.specs.Runs.{IsStep};
+    ghost use Rattle.gc_plan.specs.Belonging.{IsSpaceGraph, IsOpen};
     ghost use Rattle.gc_heap.specs.Heap.{roomy_in};
     ghost use Rattle.gc_heap.specs.Raws.{raw_numbers};
     ghost use Rattle.gc_graph.specs.Graph.{name_of, root as root_in};
     ghost use Rattle.gc_graph.specs.Slots.{place};
     ghost use Rattle.gc_graph.specs.declared.command.Op.{Op};
     ghost use Rattle.gc_core.specs.CollectedHeap.{Fetches, new_from_step, Allocates};
-    ghost use Rattle.gc_copy.specs.declared.step.Step.{Step};
-    ghost use Rattle.gc_copy.specs.declared.step.StepReply.{StepReply};
+    ghost use Rattle.gc_plan.specs.declared.step.Step.{Step};
+    ghost use Rattle.gc_plan.specs.declared.step.StepReply.{StepReply};
     ghost use Rattle.gc_live.specs.Sure.{IsSure};
     ghost use Rattle.gc_core.specs.Flip.{FlipsOnly, IsCertified, PassesIfReady, HasRoomIfLarge};
     ghost use Rattle.gc_core.specs.Checking.{finding, HoldsOnly};
@@ -757,9 +758,9 @@ impl LiveHeap {
 
 ghost use Rattle.std.specs.Prelude.{◌≤◌, ◌≢◌, IfSome, Some, IfOk, OnErr, IsTrue, IsFalse};
 ghost use Rattle.gc_along.specs.Tables.{CertifiedBy};
-ghost use Rattle.gc_copy.specs.Steps.{collect};
-ghost use Rattle.gc_copy.specs.declared.step.Step.{Step};
-ghost use Rattle.gc_copy.specs.declared.step.StepReply.{StepReply};
+ghost use Rattle.gc_plan.specs.Steps.{collect};
+ghost use Rattle.gc_plan.specs.declared.step.Step.{Step};
+ghost use Rattle.gc_plan.specs.declared.step.StepReply.{StepReply};
 ghost use Rattle.gc_core.specs.CollectedHeap.{Allocates};
 ghost use Rattle.gc_core.specs.Flip.{FlipsOnly, HasAccepted, IsCertified, PassesIfReady};
 ghost use Rattle.gc_graph.specs.Graph.{root, Value, Ref};

@@ -2,8 +2,8 @@
 use Rattle.std.proofs.Common.{◌≡◌, ℕ, ◌+◌, ◌<◌, List, [], ◌∷◌, ◌++◌, length, take, map, get_or, refl, sym, ap, ◌∙◌}
 use Rattle.std.proofs.lemmas.List.{take_more, map-append}
 use Rattle.gc_graph.specs.declared.command.Op.{Op}
-use Rattle.gc_copy.specs.declared.event.Event.TheVariants.{Mutate}
-use Rattle.gc_copy.specs.declared.event.Answer.{Answer}
+use Rattle.gc_plan.specs.declared.event.Event.TheVariants.{Mutate}
+use Rattle.gc_plan.specs.declared.event.Answer.{Answer}
 use Rattle.gc_shared.specs.declared.seat.Receipt.{Receipt}
 use Rattle.gc_shared.specs.Seats.{SeatValue, AddsReceipt, receipt}
 use Rattle.gc_shared.specs.Internal.Scripts.{events_of}

@@ -1,7 +1,7 @@
 //! Commands and replies in short, and which steps a world with so many mutators has.
 
 ghost use Rattle.std.specs.Prelude.{◌↔◌, ◌<◌, ◌^◌, IsTrue};
-ghost use Rattle.gc_copy.specs.Runs.{IsStepWithin};
+ghost use Rattle.gc_plan.specs.Runs.{IsStepWithin};
 
 use gc_copy::Step;
 use gc_graph::{Number, Op, Reply, Slot, View};

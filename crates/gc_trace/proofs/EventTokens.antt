@@ -9,12 +9,12 @@ use Rattle.gc_graph.specs.Tokens.{Tokens}
 use Rattle.gc_graph.specs.declared.command.Op.{Op}
 use Rattle.gc_graph.specs.declared.command.Op.TheVariants as ops
 use Rattle.gc_graph.specs.Limits.{most_words}
-use Rattle.gc_copy.specs.Runs.{IsStepWithin}
+use Rattle.gc_plan.specs.Runs.{IsStepWithin}
 use Rattle.gc_graph.proofs.Public.{number_again, number_at_again, token_at_again, end_again}
-use Rattle.gc_copy.specs.declared.step.Step.{Step}
-use Rattle.gc_copy.specs.declared.step.Step.TheVariants as steps
-use Rattle.gc_copy.specs.declared.event.Event.{Event}
-use Rattle.gc_copy.specs.declared.event.Event.TheVariants.{Mutate, Collect}
+use Rattle.gc_plan.specs.declared.step.Step.{Step}
+use Rattle.gc_plan.specs.declared.step.Step.TheVariants as steps
+use Rattle.gc_plan.specs.declared.event.Event.{Event}
+use Rattle.gc_plan.specs.declared.event.Event.TheVariants.{Mutate, Collect}
 use Rattle.gc_trace.specs.Internal.Parsers.{slot_of, slot_at, new_op, new_of, raw_of, num_of, nil_of, move_of, get_of, put_of, same_of, look_of, op_of, begin_of, apply_of, step_of, command_of, collect_of, event_of, version_at, sizes_of}
 use Rattle.gc_trace.specs.Grammar.{newest, slot, object_tokens, op_tokens, step_tokens, event_tokens, version_tokens, size_tokens, op_version, step_version, IsEvent, IsHeading}
 

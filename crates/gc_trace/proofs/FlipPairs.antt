@@ -10,16 +10,16 @@ use Rattle.gc_cert.specs.Counts.{HasCounts}
 use Rattle.gc_cert.specs.Views.{pair_in}
 use Rattle.gc_cert.specs.declared.image.PairFile.{PairFile}
 use Rattle.gc_words.specs.Word.{word_of}
-use Rattle.gc_copy.specs.State.{State, Collection, moved}
-use Rattle.gc_copy.specs.Steps.{collect}
-use Rattle.gc_copy.specs.Runs.{HasSizesWithin, after}
-use Rattle.gc_copy.specs.Belonging.{IsState}
-use Rattle.gc_copy.specs.Passing.{HasFewPairs}
-use Rattle.gc_copy.specs.declared.step.StepReply.{StepReply}
-use Rattle.gc_copy.specs.declared.step.StepReply.TheVariants.{Busy, Begun, Idle, Clean, NoRoom, Copied, Passed, Scanned, Applied, NotReady, Refused, Flipped, Dropped}
+use Rattle.gc_plan.specs.State.{State, Collection, moved}
+use Rattle.gc_plan.specs.Steps.{collect}
+use Rattle.gc_plan.specs.Runs.{HasSizesWithin, after}
+use Rattle.gc_plan.specs.Belonging.{IsState}
+use Rattle.gc_plan.specs.Passing.{HasFewPairs}
+use Rattle.gc_plan.specs.declared.step.StepReply.{StepReply}
+use Rattle.gc_plan.specs.declared.step.StepReply.TheVariants.{Busy, Begun, Idle, Clean, NoRoom, Copied, Passed, Scanned, Applied, NotReady, Refused, Flipped, Dropped}
 use Rattle.gc_core.specs.Flip.{flip_pair, open_pair, kept_after, IsCertified}
-use Rattle.gc_copy.specs.declared.event.Event.{Event}
-use Rattle.gc_copy.specs.declared.event.Event.TheVariants.{Mutate, Collect}
+use Rattle.gc_plan.specs.declared.event.Event.{Event}
+use Rattle.gc_plan.specs.declared.event.Event.TheVariants.{Mutate, Collect}
 use Rattle.gc_trace.specs.Flips.{flip_at, with_flip, flips}
 
 -- ---- what is kept

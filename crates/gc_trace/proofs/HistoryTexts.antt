@@ -1,15 +1,15 @@
 -- The text of a world's history is read as its events, which get the same answers.
 use Rattle.std.proofs.Common.{◌≡◌, ℕ, ◌≤◌, List, [], ◌∷◌, refl, sym, ap, ◌∙◌, arith}
 use Rattle.std.specs.List.{AllByRecursion}
-use Rattle.gc_copy.specs.State.{State, opening_state}
+use Rattle.gc_plan.specs.State.{State, opening_state}
 use Rattle.gc_graph.specs.Limits.{most_words}
-use Rattle.gc_copy.specs.Runs as runs
-use Rattle.gc_copy.specs.declared.step.Step.{Step}
-use Rattle.gc_copy.specs.declared.step.Step.TheVariants as steps
+use Rattle.gc_plan.specs.Runs as runs
+use Rattle.gc_plan.specs.declared.step.Step.{Step}
+use Rattle.gc_plan.specs.declared.step.Step.TheVariants as steps
 use Rattle.gc_world.specs.History.{events_of, answers_of, IsHistory}
 use Rattle.gc_world.specs.World.{Past, present}
-use Rattle.gc_copy.specs.declared.event.Event.{Event}
-use Rattle.gc_copy.specs.declared.event.Event.TheVariants.{Mutate, Collect}
+use Rattle.gc_plan.specs.declared.event.Event.{Event}
+use Rattle.gc_plan.specs.declared.event.Event.TheVariants.{Mutate, Collect}
 use Rattle.gc_world.specs.declared.entry.Entry.{Entry}
 use Rattle.gc_trace.specs.Grammar.{Recording, least_version, written, spelling, IsEvent, IsOf, IsTextOf}
 use Rattle.gc_trace.specs.Plays.{opening, answers, last_state}

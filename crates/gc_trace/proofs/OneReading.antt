@@ -5,7 +5,7 @@ use Rattle.std.proofs.lemmas.List.{append-nil}
 use Rattle.std.proofs.lemmas.List.Concat.{flat_map-cons}
 use Rattle.std.proofs.lemmas.Option.{same_Some}
 use Rattle.gc_graph.specs.Lines.{newline, joined, line, tokens_of}
-use Rattle.gc_copy.specs.declared.event.Event.{Event}
+use Rattle.gc_plan.specs.declared.event.Event.{Event}
 use Rattle.gc_trace.specs.Internal.Parsers.{event_of, version_at, sizes_of}
 use Rattle.gc_trace.specs.Grammar.{Recording, event_tokens, event_line, version_tokens, size_tokens, heading, spelling, IsEvent, IsOf, IsHeading, IsRecording, IsTextOf}
 use Rattle.gc_trace.specs.Faults.{HasNoHeading, GoodBefore, BeginsWithNoEvent, HasBadLine, HasStranger, IsTraceFaultOf, IsReadAsTrace}

@@ -6,16 +6,16 @@ use Rattle.std.proofs.lemmas.List.{length-map}
 use Rattle.std.proofs.lemmas.List.Sums.{sum_by-cons}
 use Rattle.gc_graph.specs.Graph.{Value, Nil, Num, Ref, Object, Graph, lookup, field_of}
 use Rattle.gc_graph.specs.Machine.{roomy_step}
-use Rattle.gc_copy.specs.State.{Replica, Collection, State, opening_state, heap_end, new_end, new_free, replica_of, replica_at, moved}
-use Rattle.gc_copy.specs.Steps.{written, log_at, logged, fresh_replica, place_replica, with_replica, with_written, copy_value, bring_value, bring_up_to_date, with_log, if_room, root_target, copy_root, scan_done, scan, next_field, scan_replica, apply_entry, apply_log, is_ready, passes_check, flip, collect_with}
-use Rattle.gc_copy.specs.Runs.{after, answer, answers}
-use Rattle.gc_copy.specs.declared.event.Event.{Event}
-use Rattle.gc_copy.specs.declared.event.Event.TheVariants.{Mutate, Collect}
-use Rattle.gc_copy.specs.declared.event.Answer.TheVariants.{Collector}
-use Rattle.gc_copy.specs.declared.step.Step.{Step}
-use Rattle.gc_copy.specs.declared.step.Step.TheVariants as steps
-use Rattle.gc_copy.specs.declared.step.StepReply.{StepReply}
-use Rattle.gc_copy.specs.declared.step.StepReply.TheVariants.{Busy, Idle, Clean, Copied, Scanned, Applied, NotReady, Refused}
+use Rattle.gc_plan.specs.State.{Replica, Collection, State, opening_state, heap_end, new_end, new_free, replica_of, replica_at, moved}
+use Rattle.gc_plan.specs.Steps.{written, log_at, logged, fresh_replica, place_replica, with_replica, with_written, copy_value, bring_value, bring_up_to_date, with_log, if_room, root_target, copy_root, scan_done, scan, next_field, scan_replica, apply_entry, apply_log, is_ready, passes_check, flip, collect_with}
+use Rattle.gc_plan.specs.Runs.{after, answer, answers}
+use Rattle.gc_plan.specs.declared.event.Event.{Event}
+use Rattle.gc_plan.specs.declared.event.Event.TheVariants.{Mutate, Collect}
+use Rattle.gc_plan.specs.declared.event.Answer.TheVariants.{Collector}
+use Rattle.gc_plan.specs.declared.step.Step.{Step}
+use Rattle.gc_plan.specs.declared.step.Step.TheVariants as steps
+use Rattle.gc_plan.specs.declared.step.StepReply.{StepReply}
+use Rattle.gc_plan.specs.declared.step.StepReply.TheVariants.{Busy, Idle, Clean, Copied, Scanned, Applied, NotReady, Refused}
 use Rattle.gc_world.specs.History.{IsHistory, events_of, answers_of, unmarked}
 use Rattle.gc_world.specs.declared.entry.Entry.{Entry}
 use Rattle.gc_trace.specs.Report.{pairs_in}

@@ -5,7 +5,7 @@ use Rattle.gc_graph.specs.ReadFaults.{MayFailReading}
 use Rattle.gc_graph.specs.declared.text.pieces.ReadFault.{ReadFault}
 use Rattle.gc_graph.specs.declared.text.pieces.ReadFault.TheVariants as reading
 use Rattle.gc_graph.specs.Pieces.{Progress, IsWithin}
-use Rattle.gc_copy.specs.declared.event.Event.{Event}
+use Rattle.gc_plan.specs.declared.event.Event.{Event}
 use Rattle.gc_trace.specs.Grammar.{Recording, heading, event_line, IsHeading, IsEvent, IsOf, IsRecording}
 use Rattle.gc_trace.specs.Faults.{limit, GoodBefore, HasStranger, HasBadLine, BeginsWithNoEvent, MayFail}
 use Rattle.gc_trace.specs.declared.fault.TraceFault.TheVariants.{TooLarge}

@@ -3,10 +3,10 @@ use Rattle.std.proofs.Common.{◌≡◌, ℕ, suc, ◌+◌, ◌<◌, ◌^◌, Bo
 use Rattle.std.specs.List.{count_by, sum_by}
 use Rattle.std.proofs.lemmas.List.{length-map, map_more, take-map, length-take}
 use Rattle.std.proofs.lemmas.List.Sums.{sum_by_push, sum_by-take-le, count_by-le-length}
-use Rattle.gc_copy.specs.declared.event.Answer.{Answer}
-use Rattle.gc_copy.specs.State.{State, opening_state, heap_end}
-use Rattle.gc_copy.specs.Runs as runs
-use Rattle.gc_copy.specs.declared.event.Event.{Event}
+use Rattle.gc_plan.specs.declared.event.Answer.{Answer}
+use Rattle.gc_plan.specs.State.{State, opening_state, heap_end}
+use Rattle.gc_plan.specs.Runs as runs
+use Rattle.gc_plan.specs.declared.event.Event.{Event}
 use Rattle.gc_world.specs.History.{unmarked, answers_of, IsHistory}
 use Rattle.gc_world.specs.declared.entry.Entry.{Entry}
 use Rattle.gc_trace.specs.declared.report.Report.{Report}

@@ -8,9 +8,9 @@ use Rattle.gc_graph.specs.Lines.{newline, ended, tokens_of}
 use Rattle.gc_graph.specs.Slots.{own_slot, shared_slot}
 use Rattle.gc_graph.specs.Tokens.{number_of, number_at, token_at, if_all_taken}
 use Rattle.gc_graph.specs.declared.command.Op.TheVariants as ops
-use Rattle.gc_copy.specs.declared.step.Step.TheVariants as steps
+use Rattle.gc_plan.specs.declared.step.Step.TheVariants as steps
 use Rattle.gc_graph.proofs.Public.{lacks, HasNo-lacks}
-use Rattle.gc_copy.specs.declared.event.Event.TheVariants.{Mutate, Collect}
+use Rattle.gc_plan.specs.declared.event.Event.TheVariants.{Mutate, Collect}
 use Rattle.gc_trace.specs.Grammar.{Recording, slot, op_tokens, step_tokens, event_tokens, event_line, version_tokens, size_tokens, heading, spelling, IsTextOf}
 use Rattle.gc_trace.specs.Faults.{limit, BeginsWithNoEvent, IsTraceFaultOf}
 use Rattle.gc_trace.specs.Internal.Parsers.{slot_of, slot_at, new_of, raw_of, num_of, look_of, op_of, begin_of, apply_of, step_of, command_of, collect_of, event_of, version_at, sizes_of}

@@ -4,11 +4,11 @@ use Rattle.std.specs.Prelude.{OnOk, Result, Ok, Err}
 use Rattle.gc_graph.specs.Limits.{most_words}
 use Rattle.gc_graph.specs.declared.no_memory.NoMemory.{NoMemory}
 use Rattle.gc_cert.specs.declared.image.PairFile.{PairFile}
-use Rattle.gc_copy.specs.State.{State}
-use Rattle.gc_copy.specs.Runs.{IsStepWithin, IsEventWithin, IsStep, IsEvent, HasSizesWithin, after}
-use Rattle.gc_copy.specs.declared.event.Event.{Event}
-use Rattle.gc_copy.specs.declared.step.Step.{Step}
-use Rattle.gc_copy.proofs.Public.{wider_step, wider_event, event_within as sizes_stay}
+use Rattle.gc_plan.specs.State.{State}
+use Rattle.gc_plan.specs.Runs.{IsStepWithin, IsEventWithin, IsStep, IsEvent, HasSizesWithin, after}
+use Rattle.gc_plan.specs.declared.event.Event.{Event}
+use Rattle.gc_plan.specs.declared.step.Step.{Step}
+use Rattle.gc_plan.proofs.Public.{wider_step, wider_event, event_within as sizes_stay}
 
 pub heap_step : (mutators : ℕ) (step : Step) → IsStepWithin most_words mutators step → IsStep mutators step
 heap_step mutators step within = wider_step most_words mutators step (omega arith) within

@@ -3,9 +3,9 @@ use Rattle.std.proofs.Common.{◌≡◌, ◌-◌, ap, arith}
 use Rattle.gc_graph.specs.Machine.{Roomy}
 use Rattle.gc_words.specs.Space.{free_in, end_of}
 use Rattle.gc_heap.specs.Heap.{HeapWords, IsHeap, graph_in, roomy_in}
-use Rattle.gc_copy.specs.State.{State, heap_end, objects_end}
-use Rattle.gc_copy.specs.Belonging.{IsSpaceGraph, IsState}
-use Rattle.gc_copy.proofs.Public.{laid_end_is}
+use Rattle.gc_plan.specs.State.{State, heap_end, objects_end}
+use Rattle.gc_plan.specs.Belonging.{IsSpaceGraph, IsState}
+use Rattle.gc_plan.proofs.Public.{laid_end_is}
 
 pub same_end : (heap : HeapWords) (s : State) → IsHeap heap → IsSpaceGraph heap.space.size (free_in heap.space) (graph_in heap) → IsState s → roomy_in heap ≡ s.heap → end_of heap.space ≡ heap_end s
 same_end heap s sound graph ok same =

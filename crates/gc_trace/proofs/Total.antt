@@ -6,12 +6,12 @@ use Rattle.std.proofs.lemmas.List.{append-nil, length-append}
 use Rattle.std.proofs.lemmas.List.Concat.{flat_map-append, flat_map-cons}
 use Rattle.gc_graph.specs.Lines.{newline, joined, tokens_of}
 use Rattle.gc_graph.specs.Limits.{most_words}
-use Rattle.gc_copy.specs.Runs.{IsStepWithin}
+use Rattle.gc_plan.specs.Runs.{IsStepWithin}
 use Rattle.gc_graph.proofs.Public.{Cut, cut, joined-tokens_of, all_push}
-use Rattle.gc_copy.specs.declared.step.Step.{Step}
-use Rattle.gc_copy.specs.declared.step.Step.TheVariants as steps
-use Rattle.gc_copy.specs.declared.event.Event.{Event}
-use Rattle.gc_copy.specs.declared.event.Event.TheVariants.{Mutate, Collect}
+use Rattle.gc_plan.specs.declared.step.Step.{Step}
+use Rattle.gc_plan.specs.declared.step.Step.TheVariants as steps
+use Rattle.gc_plan.specs.declared.event.Event.{Event}
+use Rattle.gc_plan.specs.declared.event.Event.TheVariants.{Mutate, Collect}
 use Rattle.gc_trace.specs.Internal.Parsers.{event_of, version_at, sizes_of}
 use Rattle.gc_trace.specs.Grammar.{Recording, event_tokens, event_line, version_tokens, size_tokens, heading, spelling, IsHeading, IsEvent, IsOf, IsTextOf}
 use Rattle.gc_trace.specs.Faults.{limit, GoodBefore, HasNoHeading, HasBadLine, HasStranger, IsTraceFaultOf, IsReadAsTrace}

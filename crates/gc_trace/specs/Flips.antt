@@ -4,9 +4,9 @@ use Rattle.std.specs.Io.KnownBytes.{Appends}
 use Rattle.gc_graph.specs.Streams.{SendsFront}
 use Rattle.gc_cert.specs.Grammar as pairs
 use Rattle.gc_cert.specs.Grammar.{CertifiedPair}
-use Rattle.gc_copy.specs.State.{State}
-use Rattle.gc_copy.specs.Runs.{after}
-use Rattle.gc_copy.specs.declared.event.Event.{Event}
+use Rattle.gc_plan.specs.State.{State}
+use Rattle.gc_plan.specs.Runs.{after}
+use Rattle.gc_plan.specs.declared.event.Event.{Event}
 use Rattle.gc_trace.specs.Grammar.{Recording}
 use Rattle.gc_trace.specs.Plays.{IsTraceFrom, opening}
 use Rattle.gc_trace.specs.WorldRuns.{kept_with}

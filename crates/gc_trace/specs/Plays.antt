@@ -2,9 +2,9 @@
 use Rattle.std.specs.Prelude.{◌≡◌, ℕ, List, Option, IfSome}
 use Rattle.std.specs.Io.KnownBytes.{Appends}
 use Rattle.gc_graph.specs.Streams.{SendsFront}
-use Rattle.gc_copy.specs.State.{State, opening_state}
-use Rattle.gc_copy.specs.Runs as runs
-use Rattle.gc_copy.specs.declared.event.Answer.{Answer}
+use Rattle.gc_plan.specs.State.{State, opening_state}
+use Rattle.gc_plan.specs.Runs as runs
+use Rattle.gc_plan.specs.declared.event.Answer.{Answer}
 use Rattle.gc_trace.specs.Grammar.{Recording, IsRecording}
 use Rattle.gc_trace.specs.Faults.{IsReadAsTrace}
 use Rattle.gc_trace.specs.Replies.{reply_text}

@@ -173,7 +173,7 @@ pub struct EventReader {
 impl EventReader {
     ghost use Rattle.std.specs.Prelude.{◌≡◌, ◌≢◌, ◌≤◌, ◌+◌, ◌∷◌, ◌++◌, ◌↔◌, ℕ, List, [], true, false, drop, IfOk, IfSome, MatchOption, MatchResult, Err, Some};
     ghost use Rattle.gc_graph.specs.Streams.{bytes_left, source_failed};
-    ghost use Rattle.gc_copy.specs.declared.event.Event.{Event};
+    ghost use Rattle.gc_plan.specs.declared.event.Event.{Event};
     ghost use Rattle.gc_trace.specs.Grammar.{IsEvent, IsOf};
     ghost use Rattle.gc_trace.specs.Faults.{limit, IsReadAsTrace, MayFail};
     ghost use Rattle.gc_trace.specs.Internal.Reading.{IsReading, HasRead, read_so_far};

@@ -2,7 +2,7 @@ ghost use Rattle.std.specs.Prelude.{◌≡◌, ◌<◌, ◌≤◌, ◌∷◌, �
 ghost use Rattle.gc_graph.specs.Limits.{most_words};
 ghost use Rattle.gc_graph.specs.Lines.{space};
 ghost use Rattle.gc_graph.specs.Range.{IsCommand};
-ghost use Rattle.gc_copy.specs.Runs.{IsStepWithin};
+ghost use Rattle.gc_plan.specs.Runs.{IsStepWithin};
 ghost use Rattle.gc_trace.specs.Grammar.{slot, op_tokens, step_tokens, op_version, step_version, event_tokens, event_line, IsEvent};
 ghost use Rattle.gc_trace.specs.Internal.Fronts.{spelled};
 

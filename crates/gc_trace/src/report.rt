@@ -57,7 +57,7 @@ const NOTHING: Report = Report {
 impl Report {
     ghost use Rattle.std.specs.Prelude.{◌≡◌};
     ghost use Rattle.gc_words.specs.Space.{free_in, end_of};
-    ghost use Rattle.gc_copy.specs.declared.event.Answer.TheVariants.{Mutator, Collector};
+    ghost use Rattle.gc_plan.specs.declared.event.Answer.TheVariants.{Mutator, Collector};
     ghost use Rattle.gc_world.specs.History.{unmarked};
     ghost use Rattle.gc_trace.specs.Internal.Report.{with_answer, FitsU64};
 

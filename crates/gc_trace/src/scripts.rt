@@ -1,5 +1,5 @@
 ghost use Rattle.std.specs.Prelude.{◌≡◌, map, IfOk};
-ghost use Rattle.gc_copy.specs.Runs.{commands_of};
+ghost use Rattle.gc_plan.specs.Runs.{commands_of};
 ghost use Rattle.gc_trace.specs.Scripts.{scripts};
 
 use crate::trace::Trace;

@@ -4,7 +4,7 @@ ghost use Rattle.gc_graph.specs.Streams.{bytes_written, sink_failed, SendsFront,
 ghost use Rattle.gc_graph.specs.Lines.{space};
 ghost use Rattle.gc_trace.specs.Grammar.{slot, event_line, heading, spelling, version_of, least_version, written};
 ghost use Rattle.gc_world.specs.History.{events_of};
-ghost use Rattle.gc_copy.specs.declared.event.Event.TheVariants.{Mutate, Collect};
+ghost use Rattle.gc_plan.specs.declared.event.Event.TheVariants.{Mutate, Collect};
 
 use gc_cert::WriteFault;
 use gc_copy::Step;

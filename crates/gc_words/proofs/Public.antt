@@ -11,4 +11,4 @@ pub use Rattle.gc_words.proofs.Spelled.{cleared, laid_out, laid_out_words, link_
 pub use Rattle.gc_words.proofs.Starts.{StandsAt, ok_is, stands, stands_in, walked_blocks}
 pub use Rattle.gc_words.proofs.Steps.{Behind, at_end, behind, cleared_from, cleared_step, has_next, has_start_from, same_fault, step}
 pub use Rattle.gc_words.proofs.Walks.{BlockHasField, First, Walked, fields_in, first, header_counted, object_walked, objects_set, same_walk, walk_field, walk_placed, written_back}
-pub use Rattle.gc_words.proofs.Writes.{CanPlaceBlock, FieldRead, block_placed, can_place_fresh, field_read, field_written, header_read, link_written, placed, some_of, space_of}
+pub use Rattle.gc_words.proofs.Writes.{CanPlaceBlock, FieldRead, block_placed, can_place_fresh, field_read, field_written, header_read, link_written, none_of, placed, some_of, space_of}

@@ -23,6 +23,10 @@ pub some_of : {X : Type 0} (o : Option X) → is_some o ≡ true → (x : X) × 
 some_of None e = absurd (let no : false ≡ true = e in cc)
 some_of (Some x) e = (x, refl)
 
+pub none_of : {X : Type 0} (o : Option X) → is_some o ≡ false → o ≡ None
+none_of None e = refl
+none_of (Some x) e = absurd (let no : true ≡ false = e in cc)
+
 -- ---- what is read
 
 pub record HeaderRead (words : List ℕ) (a : ℕ) : Type 0 where

@@ -3,8 +3,8 @@ use Rattle.std.proofs.Common.{◌≡◌, ◌↔◌, ◌&&◌, Bool, true, false,
 use Rattle.std.proofs.lemmas.Bool.{false≢true, eqb-true}
 use Rattle.gc_graph.specs.Slots.{SlotName}
 use Rattle.gc_graph.specs.declared.command.Op.{Op}
-use Rattle.gc_copy.specs.declared.step.Step.{Step}
-use Rattle.gc_copy.specs.declared.step.StepReply.{StepReply}
+use Rattle.gc_plan.specs.declared.step.Step.{Step}
+use Rattle.gc_plan.specs.declared.step.StepReply.{StepReply}
 use Rattle.gc_world.specs.declared.bare.BareOp.{BareOp}
 use Rattle.gc_world.specs.declared.bare.BareReply.{BareReply}
 use Rattle.gc_world.specs.declared.entry.Form.{Form}

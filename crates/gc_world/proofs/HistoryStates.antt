@@ -3,15 +3,15 @@ use Rattle.std.proofs.Common.{◌≡◌, ◌≢◌, ℕ, List, [], ◌∷◌, re
 use Rattle.std.specs.List.{All}
 use Rattle.std.proofs.lemmas.List.Elements.{All-nil, All-cons}
 use Rattle.gc_graph.specs.Limits.{most_words}
-use Rattle.gc_copy.specs.State.{State, opening_state}
-use Rattle.gc_copy.specs.Belonging.{IsState}
-use Rattle.gc_copy.specs.Runs.{AreEvents, HasSizesWithin, after, answer, answers}
-use Rattle.gc_copy.specs.declared.event.Event.{Event}
-use Rattle.gc_copy.specs.declared.event.Event.TheVariants.{Mutate, Collect}
-use Rattle.gc_copy.specs.declared.event.Answer.TheVariants.{Collector}
-use Rattle.gc_copy.specs.Carried.{OnlyKeptIsPaired, base_of_run}
-use Rattle.gc_copy.specs.declared.step.StepReply.TheVariants.{Refused}
-use Rattle.gc_copy.proofs.Public.{Reached, opening_ok, event_keeps, run_keeps, run_within, wider_events, never_refused, carries_only_kept}
+use Rattle.gc_plan.specs.State.{State, opening_state}
+use Rattle.gc_plan.specs.Belonging.{IsState}
+use Rattle.gc_plan.specs.Runs.{AreEvents, HasSizesWithin, after, answer, answers}
+use Rattle.gc_plan.specs.declared.event.Event.{Event}
+use Rattle.gc_plan.specs.declared.event.Event.TheVariants.{Mutate, Collect}
+use Rattle.gc_plan.specs.declared.event.Answer.TheVariants.{Collector}
+use Rattle.gc_plan.specs.Carried.{OnlyKeptIsPaired, base_of_run}
+use Rattle.gc_plan.specs.declared.step.StepReply.TheVariants.{Refused}
+use Rattle.gc_plan.proofs.Public.{Reached, opening_ok, event_keeps, run_keeps, run_within, wider_events, never_refused, carries_only_kept}
 use Rattle.gc_world.specs.History.{unmarked, events_of, answers_of, RunsFrom, state_after, IsHistory}
 use Rattle.gc_world.specs.declared.entry.Entry.{Entry}
 

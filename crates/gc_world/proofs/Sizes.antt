@@ -4,14 +4,14 @@ use Rattle.std.specs.Prelude.{IfSome, ⊤}
 use Rattle.std.proofs.lemmas.Bool.{cond_both}
 use Rattle.gc_graph.specs.Limits.{most_words}
 use Rattle.gc_cert.specs.Grammar.{CertifiedPair}
-use Rattle.gc_copy.specs.State.{State, Collection}
-use Rattle.gc_copy.specs.Steps.{roots_done, scan_done, first_log, apply_or_flip, useful_with, useful_step}
-use Rattle.gc_copy.specs.Runs.{IsStepWithin, IsStep, HasSizesWithin}
-use Rattle.gc_copy.specs.declared.step.Step.{Step}
-use Rattle.gc_copy.specs.declared.step.Step.TheVariants as steps
-use Rattle.gc_copy.proofs.Public.{wider_step}
-use Rattle.gc_copy.specs.declared.step.StepReply.{StepReply}
-use Rattle.gc_copy.specs.declared.step.StepReply.TheVariants.{Busy, Begun, Idle, Clean, NoRoom, Copied, Passed, Scanned, Applied, NotReady, Refused, Flipped, Dropped}
+use Rattle.gc_plan.specs.State.{State, Collection}
+use Rattle.gc_plan.specs.Steps.{roots_done, scan_done, first_log, apply_or_flip, useful_with, useful_step}
+use Rattle.gc_plan.specs.Runs.{IsStepWithin, IsStep, HasSizesWithin}
+use Rattle.gc_plan.specs.declared.step.Step.{Step}
+use Rattle.gc_plan.specs.declared.step.Step.TheVariants as steps
+use Rattle.gc_plan.proofs.Public.{wider_step}
+use Rattle.gc_plan.specs.declared.step.StepReply.{StepReply}
+use Rattle.gc_plan.specs.declared.step.StepReply.TheVariants.{Busy, Begun, Idle, Clean, NoRoom, Copied, Passed, Scanned, Applied, NotReady, Refused, Flipped, Dropped}
 use Rattle.gc_core.specs.Flip.{flip_pair, open_pair, kept_after}
 use Rattle.gc_world.specs.World.{Past, HasSmallImages}
 use Rattle.gc_world.specs.Internal.World.{IsWorld}

@@ -3,19 +3,19 @@ use Rattle.std.proofs.Common.{◌≡◌, ℕ, ◌<◌, List, [], ◌∷◌, ◌+
 use Rattle.gc_graph.specs.Limits.{most_words}
 use Rattle.gc_graph.specs.declared.command.Op.{Op}
 use Rattle.gc_graph.specs.declared.reply.Reply.{Reply}
-use Rattle.gc_copy.specs.State.{State, opening_state}
-use Rattle.gc_copy.specs.Steps.{mutate, collect}
-use Rattle.gc_copy.specs.Runs.{IsEventWithin, IsStepWithin, after, answer}
-use Rattle.gc_copy.specs.declared.event.Answer.TheVariants.{Mutator, Collector}
-use Rattle.gc_copy.specs.declared.step.Step.{Step}
-use Rattle.gc_copy.specs.declared.step.StepReply.{StepReply}
+use Rattle.gc_plan.specs.State.{State, opening_state}
+use Rattle.gc_plan.specs.Steps.{mutate, collect}
+use Rattle.gc_plan.specs.Runs.{IsEventWithin, IsStepWithin, after, answer}
+use Rattle.gc_plan.specs.declared.event.Answer.TheVariants.{Mutator, Collector}
+use Rattle.gc_plan.specs.declared.step.Step.{Step}
+use Rattle.gc_plan.specs.declared.step.StepReply.{StepReply}
 use Rattle.gc_graph.specs.Range.{IsCommand}
 use Rattle.gc_cert.specs.Grammar.{CertifiedPair}
 use Rattle.gc_world.specs.History.{IsUseful, unmarked}
 use Rattle.gc_world.specs.World.{entry_of}
 use Rattle.gc_world.specs.Internal.World.{IsKept, IsWorld}
-use Rattle.gc_copy.specs.declared.event.Event.TheVariants.{Mutate, Collect}
-use Rattle.gc_copy.specs.declared.event.Answer.{Answer}
+use Rattle.gc_plan.specs.declared.event.Event.TheVariants.{Mutate, Collect}
+use Rattle.gc_plan.specs.declared.event.Answer.{Answer}
 use Rattle.gc_world.specs.declared.entry.Entry.{Entry}
 use Rattle.gc_world.proofs.Growing.{history_more, state_more}
 

@@ -1,11 +1,11 @@
 -- A world as contracts see it: its opening size and number of mutators, its history, and the kept pair of a flip.
 use Rattle.std.specs.Prelude.{ℕ, ◌≤◌, List, [], ◌∷◌, ◌++◌, Option}
 use Rattle.gc_graph.specs.Limits.{most_words}
-use Rattle.gc_copy.specs.State.{State}
+use Rattle.gc_plan.specs.State.{State}
 use Rattle.gc_cert.specs.Grammar.{CertifiedPair}
 use Rattle.gc_world.specs.History.{state_after}
-use Rattle.gc_copy.specs.declared.event.Event.{Event}
-use Rattle.gc_copy.specs.declared.event.Answer.{Answer}
+use Rattle.gc_plan.specs.declared.event.Event.{Event}
+use Rattle.gc_plan.specs.declared.event.Answer.{Answer}
 use Rattle.gc_world.specs.declared.entry.Entry.{Entry}
 
 -- `kept` is the pair of the last flip, until `take_flip` takes it

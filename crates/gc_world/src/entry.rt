@@ -1,5 +1,6 @@
 use crate::bare::{BareOp, BareReply};
-use gc_copy::{Answer, Event, Step, StepReply};
+use gc_copy::{Step, StepReply};
+use gc_plan::{Answer, Event};
 use gc_graph::{Number, Op, Reply, Slot, View};
 use std::marker::Model;
 
@@ -57,8 +58,8 @@ impl Model for Entry {
 impl Entry {
     ghost use Rattle.std.specs.Prelude.{◌≡◌, ◌↔◌, IsTrue};
     ghost use Rattle.gc_world.specs.World.{entry_of};
-    ghost use Rattle.gc_copy.specs.declared.event.Event.{Event};
-    ghost use Rattle.gc_copy.specs.declared.event.Answer.{Answer};
+    ghost use Rattle.gc_plan.specs.declared.event.Event.{Event};
+    ghost use Rattle.gc_plan.specs.declared.event.Answer.{Answer};
 
     /// Returns the entry of mutator `m`'s command and its reply.
     pub fn command(m: u8, op: &Op, reply: &Reply) -> Entry
@@ -137,8 +138,8 @@ impl Entry {
 }
 
 ghost use Rattle.std.specs.Prelude.{◌≡◌};
-ghost use Rattle.gc_copy.specs.declared.event.Event.{Event};
-ghost use Rattle.gc_copy.specs.declared.event.Answer.{Answer};
+ghost use Rattle.gc_plan.specs.declared.event.Event.{Event};
+ghost use Rattle.gc_plan.specs.declared.event.Answer.{Answer};
 ghost use Rattle.gc_graph.specs.declared.reply.Reply.TheVariants as replies;
 ghost use Rattle.gc_graph.specs.declared.reply.View.TheVariants as views;
 ghost use Rattle.gc_world.specs.World.{entry_of};

@@ -5,7 +5,7 @@ use Rattle.gc_graph.specs.Streams.{SendsFront}
 use Rattle.gc_shared.specs.Scripts.{IsUsefulStep, steps_of}
 use Rattle.gc_trace.specs.Grammar.{Recording, spelling, written}
 use Rattle.gc_trace.specs.Plays.{IsTraceFrom}
-use Rattle.gc_copy.specs.Runs.{commands_of}
+use Rattle.gc_plan.specs.Runs.{commands_of}
 use Rattle.gc_world.specs.History.{events_of, IsHistory}
 use Rattle.gc_world.specs.declared.entry.Entry.{Entry}
 

@@ -2,14 +2,14 @@
 use Rattle.std.proofs.Common.{◌≡◌, ◌≢◌, ◌⊎◌, inl, inr, ⊎_elim, ℕ, zero, suc, ◌+◌, ◌-◌, ◌<◌, ◌≤◌, true, not, List, [], ◌∷◌, length, slice_get, Option, Some, None, Result, Ok, Err, refl, ap, sym, ◌∙◌, subst, arith}
 use Rattle.std.specs.Prelude.{IfOk}
 use Rattle.std.proofs.lemmas.Bool.{cond_both}
-use Rattle.gc_copy.specs.State.{Collection, State, heap_end}
-use Rattle.gc_copy.specs.Belonging.{IsOpen}
-use Rattle.gc_copy.specs.Progress.{entries_in, work_with, work_left, entries_with, entries_left, ChangesLower, Advances}
-use Rattle.gc_copy.specs.Steps.{log_or_nil, first_log, scan_done, roots_done, apply_or_flip, useful_with, useful_step, collect_with, collect, is_change}
-use Rattle.gc_copy.specs.declared.step.Step.{Step}
-use Rattle.gc_copy.specs.declared.step.Step.TheVariants as steps
-use Rattle.gc_copy.specs.declared.step.StepReply.{StepReply}
-use Rattle.gc_copy.specs.declared.step.StepReply.TheVariants.{NoRoom, Flipped}
+use Rattle.gc_plan.specs.State.{Collection, State, heap_end}
+use Rattle.gc_plan.specs.Belonging.{IsOpen}
+use Rattle.gc_plan.specs.Progress.{entries_in, work_with, work_left, entries_with, entries_left, ChangesLower, Advances}
+use Rattle.gc_plan.specs.Steps.{log_or_nil, first_log, scan_done, roots_done, apply_or_flip, useful_with, useful_step, collect_with, collect, is_change}
+use Rattle.gc_plan.specs.declared.step.Step.{Step}
+use Rattle.gc_plan.specs.declared.step.Step.TheVariants as steps
+use Rattle.gc_plan.specs.declared.step.StepReply.{StepReply}
+use Rattle.gc_plan.specs.declared.step.StepReply.TheVariants.{NoRoom, Flipped}
 use Rattle.gc_core.specs.Readings.{log_in, log_of}
 use Rattle.gcflip_heap_c.specs.Internal.Leaving.{LeavesLess}
 use Rattle.gcflip_heap_c.specs.Work.{with_size, sized_step, goes_on}

@@ -1,12 +1,12 @@
 -- What paced work leaves in the logs, and that it stays ahead of the mutators.
 use Rattle.std.proofs.Common.{◌≡◌, ◌≢◌, ◌⊎◌, inl, inr, ⊎_elim, ℕ, zero, suc, ◌+◌, ◌≤◌, true, false, Option, Some, None, refl, ap, ◌∙◌, subst, arith}
 use Rattle.std.specs.Prelude.{min}
-use Rattle.gc_copy.specs.State.{Collection, State, heap_end}
-use Rattle.gc_copy.specs.Belonging.{IsSpaceGraph, IsOpen}
-use Rattle.gc_copy.specs.Progress.{work_with, work_left}
-use Rattle.gc_copy.specs.declared.step.StepReply.{StepReply}
-use Rattle.gc_copy.specs.declared.step.StepReply.TheVariants as replies
-use Rattle.gc_copy.proofs.Public.{left_bounded}
+use Rattle.gc_plan.specs.State.{Collection, State, heap_end}
+use Rattle.gc_plan.specs.Belonging.{IsSpaceGraph, IsOpen}
+use Rattle.gc_plan.specs.Progress.{work_with, work_left}
+use Rattle.gc_plan.specs.declared.step.StepReply.{StepReply}
+use Rattle.gc_plan.specs.declared.step.StepReply.TheVariants as replies
+use Rattle.gc_plan.proofs.Public.{left_bounded}
 use Rattle.gcflip_heap_c.specs.Replies.{step_reply_in_c}
 use Rattle.gcflip_heap_c.specs.Readings.{counts_with, counts_of}
 use Rattle.gcflip_heap_c.specs.Work.{IsWork, goes_on}

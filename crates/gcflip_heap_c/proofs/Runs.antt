@@ -2,11 +2,11 @@
 use Rattle.std.proofs.Common.{◌≡◌, ℕ, suc, ◌-◌, ◌<◌, ◌≤◌, Option, true, false, sym, ap, ◌∙◌, subst, ⊎_elim, arith}
 use Rattle.std.specs.Prelude.{◌≢◌}
 use Rattle.std.proofs.lemmas.Bool.{cases_Bool, cases_lt}
-use Rattle.gc_copy.specs.State.{State}
-use Rattle.gc_copy.specs.Steps.{collect}
-use Rattle.gc_copy.specs.Progress.{work_left}
-use Rattle.gc_copy.specs.declared.step.StepReply.{StepReply}
-use Rattle.gc_copy.specs.declared.step.StepReply.TheVariants.{NoRoom}
+use Rattle.gc_plan.specs.State.{State}
+use Rattle.gc_plan.specs.Steps.{collect}
+use Rattle.gc_plan.specs.Progress.{work_left}
+use Rattle.gc_plan.specs.declared.step.StepReply.{StepReply}
+use Rattle.gc_plan.specs.declared.step.StepReply.TheVariants.{NoRoom}
 use Rattle.gcflip_heap_c.specs.Internal.Leaving.{LeavesLess}
 use Rattle.gcflip_heap_c.specs.Work.{sized_step, after_useful, useful_reply, goes_on, IsSoundReply, IsLarge, IsRun}
 use Rattle.gcflip_heap_c.proofs.Useful.{large_run, finds_room}

@@ -5,11 +5,11 @@ use Rattle.std.proofs.lemmas.List.{length-append}
 use Rattle.gc_graph.specs.Machine.{Roomy, words_taken}
 use Rattle.gc_graph.specs.declared.command.Op.{Op}
 use Rattle.gc_graph.specs.declared.reply.Reply.{Reply}
-use Rattle.gc_copy.specs.State.{Collection, State, heap_end}
-use Rattle.gc_copy.specs.Belonging.{IsState}
-use Rattle.gc_copy.specs.Steps.{log_or_nil, logged, written, mutate, useful_step}
-use Rattle.gc_copy.specs.Progress.{entries_in, work_left, entries_with, entries_left}
-use Rattle.gc_copy.proofs.Public.{collect_keeps, mutate_keeps, useful_ranges, command_raises}
+use Rattle.gc_plan.specs.State.{Collection, State, heap_end}
+use Rattle.gc_plan.specs.Belonging.{IsState}
+use Rattle.gc_plan.specs.Steps.{log_or_nil, logged, written, mutate, useful_step}
+use Rattle.gc_plan.specs.Progress.{entries_in, work_left, entries_with, entries_left}
+use Rattle.gc_plan.proofs.Public.{collect_keeps, mutate_keeps, useful_ranges, command_raises}
 use Rattle.gcflip_heap_c.specs.Readings.{counts_of}
 use Rattle.gcflip_heap_c.specs.Work.{after_useful}
 use Rattle.gcflip_heap_c.specs.Pace.{steps_due, CountsAll, IsAhead, IsPacedWork}

@@ -4,12 +4,12 @@ use Rattle.std.specs.Prelude.{◌≢◌, IfOk, IfSome, IsTrue, ⊤}
 use Rattle.std.specs.List.{list_all}
 use Rattle.std.proofs.lemmas.Bool.{and_parts}
 use Rattle.gc_graph.specs.Graph.{Value, Nil, Num, Ref, Object, Graph, lookup, field_of}
-use Rattle.gc_copy.specs.State.{Replica, Collection, State, new_free, replica_of, replica_at}
-use Rattle.gc_copy.specs.Steps.{is_empty, first_log, scan_done, roots_done, root_target, is_ready, passes_check, apply_or_flip, useful_with, useful_step, place_replica, with_replica, copy_value, bring_value, bring_up_to_date, next_field, next_object, apply_entry, with_log, log_at, with_collection, if_room, copy_root, scan_replica, apply_log, flipped, step_in, collect_with, collect}
-use Rattle.gc_copy.specs.declared.step.Step.{Step}
-use Rattle.gc_copy.specs.declared.step.Step.TheVariants as steps
-use Rattle.gc_copy.specs.declared.step.StepReply.{StepReply}
-use Rattle.gc_copy.specs.declared.step.StepReply.TheVariants.{Clean, NoRoom, Copied, Passed, Scanned, Applied, NotReady, Refused, Flipped}
+use Rattle.gc_plan.specs.State.{Replica, Collection, State, new_free, replica_of, replica_at}
+use Rattle.gc_plan.specs.Steps.{is_empty, first_log, scan_done, roots_done, root_target, is_ready, passes_check, apply_or_flip, useful_with, useful_step, place_replica, with_replica, copy_value, bring_value, bring_up_to_date, next_field, next_object, apply_entry, with_log, log_at, with_collection, if_room, copy_root, scan_replica, apply_log, flipped, step_in, collect_with, collect}
+use Rattle.gc_plan.specs.declared.step.Step.{Step}
+use Rattle.gc_plan.specs.declared.step.Step.TheVariants as steps
+use Rattle.gc_plan.specs.declared.step.StepReply.{StepReply}
+use Rattle.gc_plan.specs.declared.step.StepReply.TheVariants.{Clean, NoRoom, Copied, Passed, Scanned, Applied, NotReady, Refused, Flipped}
 use Rattle.gc_core.specs.Flip.{FlipsOnly, IsCertified, PassesIfReady, HasRoomIfLarge}
 use Rattle.gcflip_heap_c.specs.Work.{IsSoundReply, LeavesRoom, IsLarge, with_size, sized_step, after_useful, useful_reply, goes_on}
 

@@ -2,7 +2,7 @@
 use Rattle.std.specs.Prelude.{ℕ, IsSomeAnd}
 use Rattle.gc_words.specs.declared.refusal.Refusal.{Refusal}
 use Rattle.gc_words.specs.declared.refusal.Refusal.TheVariants as refusals
-use Rattle.gc_copy.specs.State.{State}
+use Rattle.gc_plan.specs.State.{State}
 use Rattle.gc_core.specs.Flip.{flip_pair, IsCertified}
 use Rattle.gc_core.specs.declared.checking.Finding.{Finding}
 use Rattle.gc_core.specs.declared.checking.Finding.TheVariants.{Idle, NotReady, Holds, Refused}

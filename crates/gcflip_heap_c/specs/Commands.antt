@@ -3,8 +3,8 @@ use Rattle.std.specs.Prelude.{◌≡◌, ℕ, ◌≤◌, ◌<◌, ◌↔◌, nat
 use Rattle.gc_graph.specs.Slots.{SlotName}
 use Rattle.gc_graph.specs.declared.command.Op.{Op}
 use Rattle.gc_graph.specs.declared.reply.Reply.{Reply}
-use Rattle.gc_copy.specs.State.{State}
-use Rattle.gc_copy.specs.Steps.{mutate}
+use Rattle.gc_plan.specs.State.{State}
+use Rattle.gc_plan.specs.Steps.{mutate}
 use Rattle.gc_graph.specs.declared.command.Op.TheVariants.{Num, Nil, Put}
 use Rattle.gc_core.specs.CollectedHeap.{new_from_step}
 use Rattle.gcflip_heap_c.specs.Slots.{slot_numbers, numbered_slot, AreFields}

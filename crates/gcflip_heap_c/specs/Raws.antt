@@ -3,7 +3,7 @@ use Rattle.std.specs.Prelude.{◌≡◌, ◌≢◌, ◌<◌, ℕ, ◌+◌, nat_l
 use Rattle.gc_graph.specs.Graph.{name_of, root}
 use Rattle.gc_graph.specs.Slots.{SlotName, place}
 use Rattle.gc_heap.specs.Raws.{raw_numbers}
-use Rattle.gc_copy.specs.State.{State}
+use Rattle.gc_plan.specs.State.{State}
 use Rattle.gc_graph.specs.declared.reply.Reply.{Reply}
 use Rattle.gc_core.specs.Writing.{put_numbers_step}
 use Rattle.gcflip_heap_c.specs.Slots.{slot_numbers, numbered_slot}

@@ -1,7 +1,7 @@
 -- What C can read of a heap.
 use Rattle.std.specs.Prelude.{◌≡◌, ℕ, zero, suc, ◌+◌, min, nat_lt, if◌then◌else◌, List, length, slice_get, Option, Some, None}
 use Rattle.std.specs.Option.{option_map}
-use Rattle.gc_copy.specs.State.{State, Collection, new_end, heap_end, extra_roots_of}
+use Rattle.gc_plan.specs.State.{State, Collection, new_end, heap_end, extra_roots_of}
 use Rattle.gc_core.specs.Readings.{heap_image, log_of}
 use Rattle.gcflip_heap_c.specs.declared.reading.GcflipCounts.{GcflipCounts}
 use Rattle.gcflip_heap_c.specs.declared.reading.GcflipLogEntry.{GcflipLogEntry}

@@ -6,8 +6,8 @@ use Rattle.gc_graph.specs.declared.reply.View.{View}
 use Rattle.gc_graph.specs.declared.reply.View.TheVariants.{Nil, Num, Obj, RawObj}
 use Rattle.gc_heap.specs.declared.taken.Fetched.{Fetched}
 use Rattle.gc_heap.specs.declared.taken.Fetched.TheVariants as fetches
-use Rattle.gc_copy.specs.declared.step.StepReply.{StepReply}
-use Rattle.gc_copy.specs.declared.step.StepReply.TheVariants as steps
+use Rattle.gc_plan.specs.declared.step.StepReply.{StepReply}
+use Rattle.gc_plan.specs.declared.step.StepReply.TheVariants as steps
 use Rattle.gcflip_heap_c.specs.declared.reply.GcflipView.{GcflipView}
 
 -- the call was refused, and did nothing

@@ -1,9 +1,9 @@
 -- Many calls of paced work, with commands of mutators between them.
 use Rattle.std.specs.Prelude.{◌≡◌, ℕ, ◌<◌, List, [], ◌∷◌, ⊤}
 use Rattle.gc_graph.specs.declared.command.Op.{Op}
-use Rattle.gc_copy.specs.State.{State}
-use Rattle.gc_copy.specs.Steps.{mutate}
-use Rattle.gc_copy.specs.Runs.{HasRange}
+use Rattle.gc_plan.specs.State.{State}
+use Rattle.gc_plan.specs.Steps.{mutate}
+use Rattle.gc_plan.specs.Runs.{HasRange}
 use Rattle.gcflip_heap_c.specs.Pace.{GoesOn, IsPacedWork}
 use Rattle.gcflip_heap_c.specs.Readings.{counts_of}
 use Rattle.gcflip_heap_c.specs.declared.pace.GcflipPace.{GcflipPace}

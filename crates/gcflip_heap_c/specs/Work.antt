@@ -1,12 +1,12 @@
 -- Useful steps, performed in order by one call.
 use Rattle.std.specs.Prelude.{◌≡◌, ◌≢◌, ◌⊎◌, ℕ, zero, suc, ◌+◌, ◌-◌, ◌<◌, ◌≤◌, ◌↔◌, Bool, true, false, Option, Some, None, IsSomeAnd, ⊤}
-use Rattle.gc_copy.specs.State.{State, Collection, new_end, heap_end}
-use Rattle.gc_copy.specs.Steps.{collect, useful_step}
-use Rattle.gc_copy.specs.Progress.{work_left, entries_left}
-use Rattle.gc_copy.specs.declared.step.Step.{Step}
-use Rattle.gc_copy.specs.declared.step.Step.TheVariants.{Begin, BeginSized}
-use Rattle.gc_copy.specs.declared.step.StepReply.{StepReply}
-use Rattle.gc_copy.specs.declared.step.StepReply.TheVariants.{NoRoom, Refused, Flipped}
+use Rattle.gc_plan.specs.State.{State, Collection, new_end, heap_end}
+use Rattle.gc_plan.specs.Steps.{collect, useful_step}
+use Rattle.gc_plan.specs.Progress.{work_left, entries_left}
+use Rattle.gc_plan.specs.declared.step.Step.{Step}
+use Rattle.gc_plan.specs.declared.step.Step.TheVariants.{Begin, BeginSized}
+use Rattle.gc_plan.specs.declared.step.StepReply.{StepReply}
+use Rattle.gc_plan.specs.declared.step.StepReply.TheVariants.{NoRoom, Refused, Flipped}
 use Rattle.gc_core.specs.CollectedHeap.{Allocates}
 use Rattle.gc_core.specs.Flip.{FlipsOnly, IsCertified, PassesIfReady, HasRoomIfLarge}
 use Rattle.gcflip_heap_c.specs.Replies.{step_reply_in_c, pairs_after}

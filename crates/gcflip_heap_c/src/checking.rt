@@ -1,7 +1,7 @@
 //! The exports that tell of checks, and the one that checks an open collection.
 
 ghost use Rattle.std.specs.Prelude.{◌≡◌, ◌⊎◌, ◌↔◌, None, IsSomeAnd};
-ghost use Rattle.gc_copy.specs.declared.step.Step.{Step};
+ghost use Rattle.gc_plan.specs.declared.step.Step.{Step};
 ghost use Rattle.gc_core.specs.Checking.{finding};
 ghost use Rattle.gc_core.specs.CollectedHeap.{Allocates};
 ghost use Rattle.gcflip_heap_c.specs.Checking.{IsSoundFinding, finding_in_c, verdict_after, refused_in_c, refusal_in_c};

@@ -2,7 +2,7 @@
 
 ghost use Rattle.std.specs.Prelude.{◌≡◌, Option, Some, None, IsSome, MatchBool, MatchOption};
 ghost use Rattle.std.specs.Borrow.{sem};
-ghost use Rattle.gc_copy.specs.State.{State};
+ghost use Rattle.gc_plan.specs.State.{State};
 ghost use Rattle.gcflip_heap_c.specs.Handle.{owns_heap, coded_heap};
 
 use crate::parts::Parts;

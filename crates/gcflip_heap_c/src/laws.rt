@@ -1,9 +1,9 @@
 //! A law about many calls of paced work.
 
 ghost use Rattle.std.specs.Prelude.{◌<◌, ◌≤◌, ℕ, List};
-ghost use Rattle.gc_copy.specs.State.{State};
-ghost use Rattle.gc_copy.specs.Belonging.{IsState};
-ghost use Rattle.gc_copy.specs.Progress.{work_left};
+ghost use Rattle.gc_plan.specs.State.{State};
+ghost use Rattle.gc_plan.specs.Belonging.{IsState};
+ghost use Rattle.gc_plan.specs.Progress.{work_left};
 ghost use Rattle.gcflip_heap_c.specs.Readings.{counts_of};
 ghost use Rattle.gcflip_heap_c.specs.Turns.{Turn, AreTurns, Remembers, after_turns};
 ghost use Rattle.gcflip_heap_c.specs.declared.pace.GcflipPace.{GcflipPace};

@@ -3,7 +3,7 @@
 ghost use Rattle.std.specs.Prelude.{◌≡◌, ◌<◌, ◌≤◌, ◌⊎◌, ◌↔◌, None, Some, IsSome, IsTrue, IfOk};
 ghost use Rattle.gc_graph.specs.Limits.{most_mutators};
 ghost use Rattle.gc_heap.specs.ExtraRoots as heaps;
-ghost use Rattle.gc_copy.specs.State.{opening_state_with};
+ghost use Rattle.gc_copy.specs.Opening.{opening_state_with};
 ghost use Rattle.gcflip_heap_c.specs.Opening.{CanOpenWith, options_in};
 ghost use Rattle.gcflip_heap_c.specs.Internal.Opening.{checking_in};
 

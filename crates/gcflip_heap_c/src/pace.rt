@@ -1,7 +1,7 @@
 //! The pace of collector steps: how many are due, as a function of counts, and the exports that perform them.
 
 ghost use Rattle.std.specs.Prelude.{◌≡◌, ◌⊎◌, ◌<◌, ◌≤◌, ◌↔◌, ◌^◌, ◌*◌, min, None, IsSomeAnd, IsTrue, IfOk, OnErr};
-ghost use Rattle.gc_copy.specs.Steps.{useful_step};
+ghost use Rattle.gc_plan.specs.Steps.{useful_step};
 ghost use Rattle.gc_core.specs.CollectedHeap.{Allocates};
 ghost use Rattle.gcflip_heap_c.specs.Readings as readings;
 ghost use Rattle.gcflip_heap_c.specs.Pace as paces;

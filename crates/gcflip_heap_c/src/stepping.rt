@@ -1,8 +1,8 @@
 //! The exports that perform collector steps.
 
 ghost use Rattle.std.specs.Prelude.{◌≡◌, ◌⊎◌, ◌↔◌, None, IfSome};
-ghost use Rattle.gc_copy.specs.declared.step.Step.{Step};
-ghost use Rattle.gc_copy.specs.Steps.{useful_step};
+ghost use Rattle.gc_plan.specs.declared.step.Step.{Step};
+ghost use Rattle.gc_plan.specs.Steps.{useful_step};
 ghost use Rattle.gcflip_heap_c.specs.Steps.{IsStepCall, Flips, LacksNoRoom, step_in_c};
 ghost use Rattle.gcflip_heap_c.specs.Replies.{IsRefusal, step_reply_in_c, pairs_after};
 

@@ -1,10 +1,10 @@
 //! Many useful steps in one call.
 
 ghost use Rattle.std.specs.Prelude.{◌≡◌, ◌⊎◌, ◌<◌, ◌≤◌, ℕ, false, Option, Some, None, IfSome, IsTrue, ◌↔◌, Ok, IfOk, OnErr};
-ghost use Rattle.gc_copy.specs.State.{State};
-ghost use Rattle.gc_copy.specs.Steps.{collect};
-ghost use Rattle.gc_copy.specs.Runs.{IsStep};
-ghost use Rattle.gc_copy.specs.Progress.{work_left};
+ghost use Rattle.gc_plan.specs.State.{State};
+ghost use Rattle.gc_plan.specs.Steps.{collect};
+ghost use Rattle.gc_plan.specs.Runs.{IsStep};
+ghost use Rattle.gc_plan.specs.Progress.{work_left};
 ghost use Rattle.gc_core.specs.CollectedHeap.{Allocates};
 ghost use Rattle.gcflip_heap_c.specs.Internal.Leaving.{LeavesLess};
 ghost use Rattle.gcflip_heap_c.specs.Work.{IsSoundReply, IsRun, IsWork, IsWorkCall, with_size, sized_step, goes_on, end_in, end_after};
@@ -13,7 +13,8 @@ use crate::answer::{CLOSED, DONE, NO_MEMORY, OUT_OF_RANGE};
 use crate::handle::GcflipHeap;
 use crate::reply::{of_step, pairs_of};
 use gc_check::Sequential;
-use gc_copy::{Step, StepReply, useful_steps_end};
+use gc_copy::{Step, StepReply};
+use gc_plan::useful_steps_end;
 use gc_graph::NoMemory;
 use gc_live::LiveHeap;
 

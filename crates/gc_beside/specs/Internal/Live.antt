@@ -1,7 +1,7 @@
 -- A standing checker beside a collected heap: it is lost, or it goes along.
 use Rattle.std.specs.Prelude.{◌≡◌, ◌⊎◌, ℕ, List, Option, Some, None, IsTrue}
-use Rattle.gc_copy.specs.State.{Collection, State, heap_end, new_objects}
-use Rattle.gc_copy.specs.Linked.{linked_space, new_links}
+use Rattle.gc_plan.specs.State.{Collection, State, heap_end, new_objects}
+use Rattle.gc_plan.specs.Linked.{linked_space, new_links}
 use Rattle.gc_along.specs.Watch.{Watch, opening}
 use Rattle.gc_beside.specs.Stays.{GoesAlong}
 use Rattle.gc_along.specs.Tables.{Tables, watch_of}

@@ -3,8 +3,8 @@ use Rattle.std.specs.Prelude.{◌≡◌, ℕ, if◌then◌else◌}
 use Rattle.gc_words.specs.Word.{value_of}
 use Rattle.gc_words.specs.Image.{Block, fresh_block, blocks}
 use Rattle.gc_heap.specs.Heap.{HeapWords, roomy_in}
-use Rattle.gc_copy.specs.State.{Collection}
-use Rattle.gc_copy.specs.Staying.{HasReplicaOf}
+use Rattle.gc_plan.specs.State.{Collection}
+use Rattle.gc_plan.specs.Staying.{HasReplicaOf}
 use Rattle.gc_copy.specs.Words.{CollectionWords}
 
 abbrev pub HasReplicaWord : Collection → ℕ → Type 0

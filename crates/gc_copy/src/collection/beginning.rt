@@ -1,8 +1,8 @@
 ghost use Rattle.std.specs.Prelude.{◌≡◌, ◌≤◌, [], IfOk, map, replicate};
-ghost use Rattle.gc_copy.specs.Steps.{collect};
+ghost use Rattle.gc_plan.specs.Steps.{collect};
 ghost use Rattle.gc_copy.specs.Words.{entries_of, idle_state, open_state, HasNoLinks, BelongsTo};
-ghost use Rattle.gc_copy.specs.declared.step.Step.{Step};
-ghost use Rattle.gc_copy.specs.declared.step.StepReply.{StepReply};
+ghost use Rattle.gc_plan.specs.declared.step.Step.{Step};
+ghost use Rattle.gc_plan.specs.declared.step.StepReply.{StepReply};
 
 use super::Collection;
 use crate::log::MutationLog;

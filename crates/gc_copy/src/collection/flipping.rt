@@ -2,11 +2,11 @@ ghost use Rattle.std.specs.Prelude.{◌≡◌, ◌<◌, ◌^◌, IfOk, IsTrue, m
 ghost use Rattle.gc_words.specs.Space.{image_with, without_links};
 ghost use Rattle.gc_words.specs.Views.{image_of as image_in, addresses};
 ghost use Rattle.gc_heap.specs.Heap.{IsHeap, graph_in};
-ghost use Rattle.gc_copy.specs.State.{pairs_of};
-ghost use Rattle.gc_copy.specs.Steps.{collect, is_ready};
+ghost use Rattle.gc_plan.specs.State.{pairs_of};
+ghost use Rattle.gc_plan.specs.Steps.{collect, is_ready};
 ghost use Rattle.gc_copy.specs.Words.{IsCollection, collection_in, idle_state, open_state, BelongsTo, HasNoLinks, new_root_words};
-ghost use Rattle.gc_copy.specs.declared.step.Step.{Step};
-ghost use Rattle.gc_copy.specs.declared.step.StepReply.{StepReply};
+ghost use Rattle.gc_plan.specs.declared.step.Step.{Step};
+ghost use Rattle.gc_plan.specs.declared.step.StepReply.{StepReply};
 
 use super::Collection;
 use crate::pairs::{clear_and_count, count_objects, linked_pairs};

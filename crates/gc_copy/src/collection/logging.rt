@@ -1,7 +1,7 @@
 ghost use Rattle.std.specs.Prelude.{◌≡◌, ◌<◌, ◌≤◌, ◌+◌, ◌++◌, ◌∷◌, [], ℕ, length, OnOk};
 ghost use Rattle.gc_heap.specs.Heap.{HeapWords, graph_in};
-ghost use Rattle.gc_copy.specs.Steps.{log_at, with_log, first_log};
-ghost use Rattle.gc_copy.specs.Belonging.{HasField};
+ghost use Rattle.gc_plan.specs.Steps.{log_at, with_log, first_log};
+ghost use Rattle.gc_plan.specs.Belonging.{HasField};
 ghost use Rattle.gc_copy.specs.Words.{collection_in, BelongsTo, BelongsToBut, spare_of};
 
 use super::Collection;

@@ -5,8 +5,8 @@ ghost use Rattle.gc_graph.specs.Graph.{names_of, root};
 ghost use Rattle.gc_words.specs.Image.{is_start};
 ghost use Rattle.gc_words.specs.Closed.{IsRootWord};
 ghost use Rattle.gc_heap.specs.Heap.{graph_in};
-ghost use Rattle.gc_copy.specs.Staying.{HasReplicaOf, IsMissing};
-ghost use Rattle.gc_copy.specs.Steps.{first_unreplicated, root_target, roots_done as roots_done_in};
+ghost use Rattle.gc_plan.specs.Staying.{HasReplicaOf, IsMissing};
+ghost use Rattle.gc_plan.specs.Steps.{first_unreplicated, root_target, roots_done as roots_done_in};
 ghost use Rattle.gc_copy.specs.Words.{collection_in, BelongsTo, new_root_words};
 
 use super::Collection;

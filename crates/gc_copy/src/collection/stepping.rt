@@ -4,17 +4,17 @@ ghost use Rattle.std.specs.Prelude.{IsTrue, IfSome, ◌≡◌, ◌≢◌, ◌<�
 ghost use Rattle.gc_words.specs.Space.{image_with};
 ghost use Rattle.gc_words.specs.Certificate.{Certified};
 ghost use Rattle.gc_heap.specs.Heap.{image_of, graph_in};
-ghost use Rattle.gc_copy.specs.State.{pairs_of};
-ghost use Rattle.gc_copy.specs.Steps.{collect, root_target, roots_done as roots_done_in, scan_done as scan_done_in, is_ready};
+ghost use Rattle.gc_plan.specs.State.{pairs_of};
+ghost use Rattle.gc_plan.specs.Steps.{collect, root_target, roots_done as roots_done_in, scan_done as scan_done_in, is_ready};
 ghost use Rattle.gc_copy.specs.Words.{collection_in, open_state, BelongsTo, new_root_words};
-ghost use Rattle.gc_copy.specs.declared.step.Step.{Step};
-ghost use Rattle.gc_copy.specs.declared.step.StepReply.{StepReply};
+ghost use Rattle.gc_plan.specs.declared.step.Step.{Step};
+ghost use Rattle.gc_plan.specs.declared.step.StepReply.{StepReply};
 
 use super::Collection;
 use super::copying::NoRoom;
 use super::roots::MissingRoot;
-use crate::laws::{images_show_links, room_suffices};
-use crate::step::StepReply;
+use crate::laws::{images_show_links, new_spaces_have_room};
+use gc_plan::StepReply;
 use gc_heap::Heap;
 use gc_words::{Header, NewAddr, OldAddr};
 
@@ -42,7 +42,7 @@ impl Collection {
         ensures belongs { BelongsTo heap.new self.new }
         ensures mutators { heap.new.mutators ≡ heap.old.mutators }
     {
-        room_suffices();
+        new_spaces_have_room();
         // Here the prover learns that the heap and the collection are sound.
         let _ = heap.space();
         let _ = &self.space;
@@ -65,7 +65,7 @@ impl Collection {
         ensures belongs { BelongsTo heap.new self.new }
         ensures mutators { heap.new.mutators ≡ heap.old.mutators }
     {
-        room_suffices();
+        new_spaces_have_room();
         // Here the prover learns that the heap is sound.
         let _ = heap.space();
         if self.scan_done() {
@@ -99,7 +99,7 @@ impl Collection {
         ensures belongs { BelongsTo heap.new self.new }
         ensures mutators { heap.new.mutators ≡ heap.old.mutators }
     {
-        room_suffices();
+        new_spaces_have_room();
         // Here the prover learns that the heap is sound.
         let _ = heap.space();
         let Some(entry) = self.logs[m as usize].oldest() else {

@@ -2,7 +2,7 @@
 use Rattle.std.specs.Prelude.{◌≡◌, ℕ, List, map}
 use Rattle.gc_words.specs.Views.{addresses}
 use Rattle.gc_heap.specs.Heap.{HeapWords}
-use Rattle.gc_copy.specs.State.{pairs_of}
+use Rattle.gc_plan.specs.State.{pairs_of}
 use Rattle.gc_copy.specs.Words.{CollectionWords, collection_in, new_root_words}
 use Rattle.gc_core.specs.declared.flip.Draft.{Draft}
 use Rattle.gc_core.specs.declared.flip.Copies.{Copies}

@@ -2,8 +2,8 @@
 use Rattle.std.specs.Prelude.{◌≡◌, ℕ, ◌+◌, ◌≤◌, ◌<◌, nat_lt, if◌then◌else◌, length}
 use Rattle.gc_graph.specs.Slots.{roots_of}
 use Rattle.gc_graph.specs.Graph.{Nil, Ref, root}
-use Rattle.gc_copy.specs.State.{State}
-use Rattle.gc_copy.specs.Staying.{KnowsRoot}
+use Rattle.gc_plan.specs.State.{State}
+use Rattle.gc_plan.specs.Staying.{KnowsRoot}
 use Rattle.gc_copy.specs.declared.collection.roots.MissingRoot.{MissingRoot}
 use Rattle.gc_core.specs.declared.known.KnownRoots.{KnownRoots}
 

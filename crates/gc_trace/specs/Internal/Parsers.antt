@@ -7,10 +7,10 @@ use Rattle.gc_graph.specs.Tokens.{◌>>=◌, Tokens, number_of, number_at, token
 use Rattle.gc_graph.specs.declared.command.Op.{Op}
 use Rattle.gc_graph.specs.declared.command.Op.TheVariants as ops
 use Rattle.gc_trace.specs.Grammar.{newest}
-use Rattle.gc_copy.specs.declared.step.Step.{Step}
-use Rattle.gc_copy.specs.declared.step.Step.TheVariants as steps
-use Rattle.gc_copy.specs.declared.event.Event.{Event}
-use Rattle.gc_copy.specs.declared.event.Event.TheVariants.{Mutate, Collect}
+use Rattle.gc_plan.specs.declared.step.Step.{Step}
+use Rattle.gc_plan.specs.declared.step.Step.TheVariants as steps
+use Rattle.gc_plan.specs.declared.event.Event.{Event}
+use Rattle.gc_plan.specs.declared.event.Event.TheVariants.{Mutate, Collect}
 
 -- a slot: the letter g if it is shared, or r if it is the mutator's own; then its number
 unfoldable pub slot_of : List ℕ → Option SlotName

@@ -1,7 +1,7 @@
 -- The contents of an event reader.
 use Rattle.std.specs.Prelude.{◌≡◌, ◌+◌, ◌≤◌, ℕ, List, length, Option}
 use Rattle.gc_graph.specs.Pieces.{IsWithin}
-use Rattle.gc_copy.specs.declared.event.Event.{Event}
+use Rattle.gc_plan.specs.declared.event.Event.{Event}
 use Rattle.gc_trace.specs.Faults.{limit, GoodBefore}
 use Rattle.gc_trace.specs.Grammar.{Recording, IsHeading}
 use Rattle.gc_trace.specs.declared.event_reader.EventReader.{EventReader}

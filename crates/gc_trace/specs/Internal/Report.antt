@@ -1,6 +1,6 @@
 -- A report after one more answer, and counts that fit their type.
 use Rattle.std.specs.Prelude.{ℕ, ◌+◌, ◌<◌, ◌^◌, Bool, if◌then◌else◌}
-use Rattle.gc_copy.specs.declared.event.Answer.{Answer}
+use Rattle.gc_plan.specs.declared.event.Answer.{Answer}
 use Rattle.gc_trace.specs.declared.report.Report.{Report}
 use Rattle.gc_trace.specs.Report.{is_made, is_full, is_begun, is_copied, is_scanned, is_applied, is_flip, is_dropped, is_refused, pairs_in}
 

@@ -1,8 +1,8 @@
 -- What a useful step leaves of the work.
 use Rattle.std.specs.Prelude.{◌≡◌, ◌<◌, true}
-use Rattle.gc_copy.specs.State.{State}
-use Rattle.gc_copy.specs.Progress.{work_left, entries_left}
-use Rattle.gc_copy.specs.declared.step.StepReply.{StepReply}
+use Rattle.gc_plan.specs.State.{State}
+use Rattle.gc_plan.specs.Progress.{work_left, entries_left}
+use Rattle.gc_plan.specs.declared.step.StepReply.{StepReply}
 use Rattle.gcflip_heap_c.specs.Work.{goes_on}
 
 -- The step with this reply, which leads from s to t, lowers the work that is left, unless it ends the work. The entries that remain are

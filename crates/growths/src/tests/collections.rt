@@ -3,7 +3,7 @@
 ghost use Rattle.std.specs.Prelude.{◌≡◌, ◌≤◌, ◌<◌, IfOk, IsTrue};
 ghost use Rattle.gc_graph.specs.Limits.{most_words};
 ghost use Rattle.gc_heap.specs.Heap.{graph_in};
-ghost use Rattle.gc_copy.specs.Steps.{roots_done};
+ghost use Rattle.gc_plan.specs.Steps.{roots_done};
 ghost use Rattle.gc_copy.specs.Words.{collection_in, new_root_words, BelongsTo, HasNoLinks};
 
 use super::marks::{fence, retried};

@@ -3,7 +3,7 @@
 
 ghost use Rattle.std.specs.Prelude.{◌≡◌, ◌<◌, IsTrue};
 ghost use Rattle.gc_graph.specs.Limits.{most_words};
-ghost use Rattle.gc_copy.specs.Runs.{IsStepWithin};
+ghost use Rattle.gc_plan.specs.Runs.{IsStepWithin};
 
 use super::marks::{fence, retried};
 use super::texts::{BEFORE_BEGIN, BEFORE_FLIP, LOG_ACROSS_TWO_MUTATORS, WRITE_WHILE_SCANNING};

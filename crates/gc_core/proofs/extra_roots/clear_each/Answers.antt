@@ -5,9 +5,9 @@ use Rattle.gc_graph.specs.declared.command.Op.TheVariants.{Nil}
 use Rattle.gc_graph.specs.declared.reply.Reply.{Reply}
 use Rattle.gc_words.specs.Word.{value_of}
 use Rattle.gc_heap.specs.ExtraRoots.{extra_slot}
-use Rattle.gc_copy.specs.State.{State}
+use Rattle.gc_plan.specs.State.{State}
 use Rattle.gc_copy.specs.Words.{collection_in, state_of}
-use Rattle.gc_copy.proofs.Public.{roots_counted}
+use Rattle.gc_plan.proofs.Public.{roots_counted}
 use Rattle.gc_core.specs.ExtraRoots.{clear_step}
 use Rattle.gc_core.proofs.Marks.{clear_next}
 use Rattle.gc_core.proofs.OtherCommands.{still_fits, mutated}

@@ -2,9 +2,9 @@ use Rattle.std.proofs.Common.{◌≡◌, ℕ, ◌+◌, ◌<◌, suc, refl, sym, 
 use Rattle.gc_graph.specs.Slots.{roots_of}
 use Rattle.gc_graph.specs.Graph.{root}
 use Rattle.gc_heap.specs.Heap.{graph_in}
-use Rattle.gc_copy.specs.Staying.{HasReplicaOf}
+use Rattle.gc_plan.specs.Staying.{HasReplicaOf}
 use Rattle.gc_copy.specs.Words.{collection_in, open_state}
-use Rattle.gc_copy.proofs.Public.{first_missing, all_replicated}
+use Rattle.gc_plan.proofs.Public.{first_missing, all_replicated}
 use Rattle.gc_core.proofs.Marks.{slots_have, extra_have, all_have}
 use Rattle.gc_core.proofs.known.search.Goals as goal
 

@@ -1,5 +1,5 @@
 use Rattle.std.proofs.Common.{◌≡◌, map, take}
-use Rattle.gc_copy.specs.declared.event.Event.TheVariants.{Mutate}
+use Rattle.gc_plan.specs.declared.event.Event.TheVariants.{Mutate}
 use Rattle.gc_shared.specs.Internal.Scripts.{events_of}
 use Rattle.gc_shared.proofs.script.play.Given as goal
 

@@ -1,7 +1,7 @@
 //! Rows: a test states the events of a heap, and the answer to each, as one table. `play` performs the rows in order.
 
 ghost use Rattle.std.specs.Prelude.{◌≡◌, ◌<◌};
-ghost use Rattle.gc_copy.specs.Runs.{IsStep};
+ghost use Rattle.gc_plan.specs.Runs.{IsStep};
 
 use gc_check::Sequential;
 use gc_copy::{Step, StepReply};

@@ -2,7 +2,7 @@
 
 ghost use Rattle.std.specs.Prelude.{◌≡◌, ◌<◌};
 ghost use Rattle.gc_graph.specs.Limits.{most_words};
-ghost use Rattle.gc_copy.specs.Runs.{IsStepWithin};
+ghost use Rattle.gc_plan.specs.Runs.{IsStepWithin};
 
 use gc_copy::{Step, StepReply};
 use gc_graph::{MOST_WORDS, NoMemory, Op, Reply};

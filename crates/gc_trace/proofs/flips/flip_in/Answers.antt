@@ -1,6 +1,6 @@
 use Rattle.std.proofs.Common.{rules}
 use Rattle.gc_trace.proofs.FlipPairs.{counts_of_result}
-use Rattle.gc_copy.specs.declared.event.Event.TheVariants.{Collect}
+use Rattle.gc_plan.specs.declared.event.Event.TheVariants.{Collect}
 use Rattle.gc_trace.proofs.Sizes.{next_within, event_within}
 use Rattle.gc_trace.proofs.flips.flip_in.Goals as goal
 

@@ -1,10 +1,10 @@
 use Rattle.std.proofs.Common.{◌∙◌, ◌-◌, sym, ap, subst, arith, inl, inr, rules}
 use Rattle.std.specs.Prelude.{slice_get}
-use Rattle.gc_copy.specs.State.{State}
+use Rattle.gc_plan.specs.State.{State}
 use Rattle.gc_graph.specs.Limits.{most_words}
-use Rattle.gc_copy.specs.Belonging.{IsState}
-use Rattle.gc_copy.specs.Runs.{HasSizesWithin}
-use Rattle.gc_copy.proofs.Public.{opening_within}
+use Rattle.gc_plan.specs.Belonging.{IsState}
+use Rattle.gc_plan.specs.Runs.{HasSizesWithin}
+use Rattle.gc_plan.proofs.Public.{opening_within}
 use Rattle.std.specs.Option.{option_map}
 use Rattle.gc_cert.specs.Views.{pair_in}
 use Rattle.gc_trace.specs.Flips.{nth_flip, flips}

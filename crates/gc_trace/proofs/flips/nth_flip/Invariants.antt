@@ -1,7 +1,7 @@
 use Rattle.std.proofs.Common.{◌≡◌}
 use Rattle.gc_graph.specs.Limits.{most_words}
-use Rattle.gc_copy.specs.Belonging.{IsState}
-use Rattle.gc_copy.specs.Runs.{HasSizesWithin}
+use Rattle.gc_plan.specs.Belonging.{IsState}
+use Rattle.gc_plan.specs.Runs.{HasSizesWithin}
 use Rattle.gc_trace.specs.Flips.{nth_flip}
 use Rattle.gc_trace.specs.Views.{recording}
 use Rattle.gc_trace.proofs.FlipPairs.{flips_from}

@@ -1,5 +1,5 @@
 use Rattle.std.proofs.Common.{◌≡◌, ◌+◌, ◌<◌, ◌^◌, length, sym, ap, ◌∙◌, subst, rules}
-use Rattle.gc_copy.specs.State.{heap_end}
+use Rattle.gc_plan.specs.State.{heap_end}
 use Rattle.gc_words.specs.Space.{free_in, end_of}
 use Rattle.gc_graph.specs.Machine.{Roomy}
 use Rattle.gc_world.specs.World.{present}

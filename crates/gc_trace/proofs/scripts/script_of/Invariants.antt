@@ -1,5 +1,5 @@
 use Rattle.std.proofs.Common.{◌≡◌, take}
-use Rattle.gc_copy.specs.Runs.{commands_of}
+use Rattle.gc_plan.specs.Runs.{commands_of}
 use Rattle.gc_trace.proofs.scripts.script_of.Given as goal
 
 abbrev pub invariant-loop-event : goal.invariant-loop-event

@@ -1,4 +1,4 @@
-use Rattle.gc_copy.specs.State.{opening_state}
+use Rattle.gc_plan.specs.State.{opening_state}
 use Rattle.gc_world.proofs.Growing.{history_opens, history_more, state_more}
 use Rattle.gc_world.proofs.laws.histories_grow.Goals as goal
 

@@ -1,13 +1,13 @@
 use Rattle.std.proofs.Common.{◌≡◌, ◌<◌, length, Some, None, refl, ap, sym, ◌∙◌, subst, arith}
 use Rattle.std.specs.Prelude.{slice_get, slice_set}
 use Rattle.gc_heap.specs.Heap.{graph_in}
-use Rattle.gc_copy.specs.State.{State}
-use Rattle.gc_copy.specs.Steps.{log_at, apply_entry, apply_log}
+use Rattle.gc_plan.specs.State.{State}
+use Rattle.gc_plan.specs.Steps.{log_at, apply_entry, apply_log}
 use Rattle.gc_copy.specs.Words.{CollectionWords, IsCollection, collection_in, open_state, BelongsTo}
 use Rattle.gc_copy.specs.Internal.Words.{KeepsRest}
-use Rattle.gc_copy.specs.declared.step.Step.TheVariants as steps
-use Rattle.gc_copy.specs.declared.step.StepReply.{StepReply}
-use Rattle.gc_copy.specs.declared.step.StepReply.TheVariants.{Applied, NoRoom}
+use Rattle.gc_plan.specs.declared.step.Step.TheVariants as steps
+use Rattle.gc_plan.specs.declared.step.StepReply.{StepReply}
+use Rattle.gc_plan.specs.declared.step.StepReply.TheVariants.{Applied, NoRoom}
 use Rattle.gc_copy.proofs.Logs.{there_in}
 use Rattle.gc_copy.proofs.Applying.{field_there, stays, applied, applied_belongs}
 use Rattle.gc_copy.proofs.collection.Collection.apply_log.Goals as goal
@@ -54,5 +54,5 @@ returns-in-Err-clause-step c =
 
 pub returns-in-Err-clause-room : goal.returns-in-Err-clause-room
 returns-in-Err-clause-room c larger same =
-    c.room_suffices.ensures.words c.args.heap.now c.args.self.now (steps.Apply c.args.m) c.space.ensures.sound (subst IsCollection c.self.view_is c.self.invariant) c.requires.belongs larger
+    c.new_spaces_have_room.ensures c.args.heap.now c.args.self.now (steps.Apply c.args.m) c.space.ensures.sound (subst IsCollection c.self.view_is c.self.invariant) c.requires.belongs larger
     (ap (λ (next : StepReply × State). next.0) (returns-in-Err-clause-step c))

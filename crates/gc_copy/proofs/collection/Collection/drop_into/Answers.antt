@@ -5,7 +5,7 @@ use Rattle.gc_words.specs.Layout.{link_place}
 use Rattle.gc_words.specs.Space.{with_word}
 use Rattle.gc_heap.specs.Heap.{HeapWords}
 use Rattle.gc_copy.specs.Words.{idle_state, HasNoLinks}
-use Rattle.gc_copy.specs.declared.step.StepReply.TheVariants.{Dropped}
+use Rattle.gc_plan.specs.declared.step.StepReply.TheVariants.{Dropped}
 use Rattle.gc_copy.proofs.Flipping.{cleared_heap, dropped}
 use Rattle.gc_copy.proofs.ObjectWalks.{start_met}
 use Rattle.gc_copy.proofs.Dropping.{clears_none, original_here, clears_more, all_cleared}

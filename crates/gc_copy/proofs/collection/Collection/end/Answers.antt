@@ -1,5 +1,5 @@
 use Rattle.std.proofs.Common.{ap, sym, ◌∙◌}
-use Rattle.gc_copy.specs.State.{new_end}
+use Rattle.gc_plan.specs.State.{new_end}
 use Rattle.gc_copy.specs.Words.{CollectionWords, collection_in}
 use Rattle.gc_copy.proofs.Spaces.{new_end_is}
 use Rattle.gc_copy.proofs.collection.Collection.end.Goals as goal

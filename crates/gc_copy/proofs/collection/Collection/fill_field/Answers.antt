@@ -2,7 +2,7 @@ use Rattle.std.proofs.Common.{◌≡◌, [], ◌∷◌, map, ap, ◌∙◌}
 use Rattle.gc_graph.specs.Graph.{names_of}
 use Rattle.gc_graph.specs.declared.command.Op.TheVariants.{Put}
 use Rattle.gc_heap.specs.Heap.{graph_in}
-use Rattle.gc_copy.specs.Steps.{written}
+use Rattle.gc_plan.specs.Steps.{written}
 use Rattle.gc_copy.proofs.Mutating.{mutate_is, one_but}
 use Rattle.gc_copy.proofs.collection.Collection.fill_field.Goals as goal
 

@@ -5,8 +5,8 @@ use Rattle.gc_graph.specs.declared.reply.Reply.{Reply}
 use Rattle.gc_graph.specs.declared.reply.Reply.TheVariants.{Done}
 use Rattle.gc_heap.specs.Heap.{graph_in}
 use Rattle.gc_heap.specs.Filling.{WritesNumber}
-use Rattle.gc_copy.specs.State.{State}
-use Rattle.gc_copy.specs.Steps.{written, mutate}
+use Rattle.gc_plan.specs.State.{State}
+use Rattle.gc_plan.specs.Steps.{written, mutate}
 use Rattle.gc_copy.proofs.Mutating.{mutate_is, one_but, open_left}
 use Rattle.gc_copy.proofs.collection.Collection.fill_number.Goals as goal
 

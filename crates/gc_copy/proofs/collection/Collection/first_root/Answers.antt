@@ -3,7 +3,7 @@ use Rattle.std.proofs.lemmas.List.{length-map}
 use Rattle.gc_words.specs.Word.{value_of}
 use Rattle.gc_heap.specs.Heap.{graph_in}
 use Rattle.gc_copy.specs.Words.{collection_in}
-use Rattle.gc_copy.proofs.RootsStay.{search_finds}
+use Rattle.gc_copy.proofs.RootWalks.{search_finds}
 use Rattle.gc_copy.proofs.collection.Collection.first_root.Goals as goal
 
 pub returns-clause-target : goal.returns-clause-target

@@ -2,10 +2,10 @@ use Rattle.std.proofs.Common.{◌≡◌, ℕ, List, length, sym, ap, ◌∙◌, 
 use Rattle.std.specs.Prelude.{IsTrue}
 use Rattle.gc_words.specs.Space.{SpaceWords, without_links}
 use Rattle.gc_heap.specs.Heap.{HeapWords, IsHeap, graph_in}
-use Rattle.gc_copy.specs.State.{pairs_of}
-use Rattle.gc_copy.specs.Steps.{is_ready}
+use Rattle.gc_plan.specs.State.{pairs_of}
+use Rattle.gc_plan.specs.Steps.{is_ready}
 use Rattle.gc_copy.specs.Words.{CollectionWords, IsCollection, BelongsTo, collection_in, new_root_words, idle_state, HasNoLinks}
-use Rattle.gc_copy.specs.declared.step.StepReply.TheVariants.{Flipped}
+use Rattle.gc_plan.specs.declared.step.StepReply.TheVariants.{Flipped}
 use Rattle.gc_copy.proofs.Flipping.{flipped_sound, flip_is, cleared_links}
 use Rattle.gc_copy.proofs.collection.Collection.flip_counted.Goals as goal
 

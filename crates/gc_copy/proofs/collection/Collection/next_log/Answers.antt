@@ -1,5 +1,5 @@
 use Rattle.std.proofs.Common.{◌<◌, ◌≤◌, length, refl, ap, sym, ◌∙◌, arith}
-use Rattle.gc_copy.specs.Steps.{first_log}
+use Rattle.gc_plan.specs.Steps.{first_log}
 use Rattle.gc_copy.specs.Words.{CollectionWords, collection_in}
 use Rattle.gc_copy.proofs.Logs.{there_in, first_here, first_later, first_none}
 use Rattle.gc_copy.proofs.collection.Collection.next_log.Goals as goal

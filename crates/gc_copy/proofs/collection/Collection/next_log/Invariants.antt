@@ -1,5 +1,5 @@
 use Rattle.std.proofs.Common.{◌≡◌}
-use Rattle.gc_copy.specs.Steps.{first_log}
+use Rattle.gc_plan.specs.Steps.{first_log}
 use Rattle.gc_copy.specs.Words.{collection_in}
 use Rattle.gc_copy.proofs.Logs.{first_from}
 use Rattle.gc_copy.proofs.collection.Collection.next_log.Given as goal

@@ -1,6 +1,6 @@
 use Rattle.std.proofs.Common.{◌≡◌, ◌∷◌, [], ◌++◌, length, ap, ◌∙◌, length-set}
 use Rattle.std.specs.Prelude.{slice_set}
-use Rattle.gc_copy.specs.Steps.{with_log, log_at}
+use Rattle.gc_plan.specs.Steps.{with_log, log_at}
 use Rattle.gc_copy.specs.Words.{CollectionWords, collection_in}
 use Rattle.gc_copy.proofs.Logs.{there_in, entry_noted, noted_belongs}
 use Rattle.gc_copy.proofs.collection.Collection.note.Goals as goal

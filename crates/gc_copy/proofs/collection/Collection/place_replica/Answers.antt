@@ -4,8 +4,8 @@ use Rattle.gc_words.specs.Image.{header_at}
 use Rattle.gc_words.specs.declared.header.Header.{Header}
 use Rattle.gc_words.specs.Space.{HasRoomFor}
 use Rattle.gc_heap.specs.Heap.{graph_in}
-use Rattle.gc_copy.specs.State.{replica_of}
-use Rattle.gc_copy.specs.Steps.{place_replica}
+use Rattle.gc_plan.specs.State.{replica_of}
+use Rattle.gc_plan.specs.Steps.{place_replica}
 use Rattle.gc_copy.specs.Words.{CollectionWords, collection_in, BelongsTo}
 use Rattle.gc_copy.specs.Internal.Words.{KeepsRest}
 use Rattle.gc_copy.proofs.OpenCollection.{Placing, placed_start, placing_done, full}

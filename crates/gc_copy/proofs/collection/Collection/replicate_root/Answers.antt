@@ -3,11 +3,11 @@ use Rattle.std.specs.Option.{option_map}
 use Rattle.gc_copy.specs.declared.collection.roots.MissingRoot.{MissingRoot}
 use Rattle.gc_graph.specs.Graph.{names_of}
 use Rattle.gc_heap.specs.Heap.{graph_in}
-use Rattle.gc_copy.specs.State.{State}
+use Rattle.gc_plan.specs.State.{State}
 use Rattle.gc_copy.specs.Words.{IsCollection, collection_in}
-use Rattle.gc_copy.specs.declared.step.Step.TheVariants as steps
-use Rattle.gc_copy.specs.declared.step.StepReply.{StepReply}
-use Rattle.gc_copy.proofs.Steps.{unreplicated_some}
+use Rattle.gc_plan.specs.declared.step.Step.TheVariants as steps
+use Rattle.gc_plan.specs.declared.step.StepReply.{StepReply}
+use Rattle.gc_plan.proofs.Public.{unreplicated_some}
 use Rattle.gc_copy.proofs.collection.Collection.replicate_root.Goals as goal
 
 pub place_replica-requires-clause-missing : goal.place_replica-requires-clause-missing
@@ -18,5 +18,5 @@ returns-in-Err-clause-step c = search rules
 
 pub returns-in-Err-clause-room : goal.returns-in-Err-clause-room
 returns-in-Err-clause-room c larger same =
-    c.room_suffices.ensures.words c.args.heap.now c.args.self.now steps.Roots c.space.ensures.sound (subst IsCollection c.self.view_is c.self.invariant) c.requires.belongs larger
+    c.new_spaces_have_room.ensures c.args.heap.now c.args.self.now steps.Roots c.space.ensures.sound (subst IsCollection c.self.view_is c.self.invariant) c.requires.belongs larger
     (ap (λ (next : StepReply × State). next.0) (returns-in-Err-clause-step c))

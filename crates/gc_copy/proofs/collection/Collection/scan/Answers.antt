@@ -5,13 +5,13 @@ use Rattle.std.specs.Option.{option_map}
 use Rattle.gc_words.specs.Image.{field_at}
 use Rattle.gc_words.specs.Spelling.{link_at}
 use Rattle.gc_heap.specs.Heap.{HeapWords, graph_in}
-use Rattle.gc_copy.specs.State.{Replica, State, replica_of}
-use Rattle.gc_copy.specs.Steps.{scan_done, scan, bring_up_to_date}
+use Rattle.gc_plan.specs.State.{Replica, State, replica_of}
+use Rattle.gc_plan.specs.Steps.{scan_done, scan, bring_up_to_date}
 use Rattle.gc_copy.specs.Words.{CollectionWords, IsCollection, collection_in, open_state, BelongsTo}
 use Rattle.gc_copy.specs.Internal.Words.{KeepsRest}
-use Rattle.gc_copy.specs.declared.step.Step.TheVariants as steps
-use Rattle.gc_copy.specs.declared.step.StepReply.{StepReply}
-use Rattle.gc_copy.specs.declared.step.StepReply.TheVariants.{Passed, Scanned, NoRoom}
+use Rattle.gc_plan.specs.declared.step.Step.TheVariants as steps
+use Rattle.gc_plan.specs.declared.step.StepReply.{StepReply}
+use Rattle.gc_plan.specs.declared.step.StepReply.TheVariants.{Passed, Scanned, NoRoom}
 use Rattle.gc_copy.proofs.Scanning.{start, small, len_small, replica, field_there, next_small, passed, passed_belongs, no_room, scanned, scanned_belongs}
 use Rattle.gc_copy.proofs.collection.Collection.scan.Goals as goal
 
@@ -133,5 +133,5 @@ returns-in-Err-clause-step c =
 
 pub returns-in-Err-clause-room : goal.returns-in-Err-clause-room
 returns-in-Err-clause-room c larger same =
-    c.room_suffices.ensures.words c.args.heap.now c.args.self.now steps.Scan c.space.ensures.sound (subst IsCollection c.self.view_is c.self.invariant) c.requires larger
+    c.new_spaces_have_room.ensures c.args.heap.now c.args.self.now steps.Scan c.space.ensures.sound (subst IsCollection c.self.view_is c.self.invariant) c.requires larger
     (ap (λ (next : StepReply × State). next.0) (returns-in-Err-clause-step c))

@@ -1,5 +1,5 @@
 use Rattle.std.proofs.Common.{◌==◌, ap, sym, ◌∙◌}
-use Rattle.gc_copy.specs.Steps.{scan_done}
+use Rattle.gc_plan.specs.Steps.{scan_done}
 use Rattle.gc_copy.specs.Words.{CollectionWords, collection_in}
 use Rattle.gc_copy.proofs.Spaces.{new_end_is}
 use Rattle.gc_copy.proofs.collection.Collection.scan_done.Goals as goal

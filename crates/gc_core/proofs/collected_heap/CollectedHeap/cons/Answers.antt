@@ -5,7 +5,7 @@ use Rattle.gc_graph.specs.Slots.{place}
 use Rattle.gc_words.specs.Space.{end_of}
 use Rattle.gc_heap.specs.Filling.{TakesFields}
 use Rattle.gc_heap.specs.Heap.{HeapWords}
-use Rattle.gc_copy.specs.State.{State}
+use Rattle.gc_plan.specs.State.{State}
 use Rattle.gc_copy.specs.Words.{collection_in, state_of, open_state}
 use Rattle.gc_copy.proofs.Public.{open_left}
 use Rattle.gc_core.specs.Internal.CollectedHeap.{Fits}

@@ -2,7 +2,7 @@ use Rattle.std.proofs.Common.{◌≡◌, ◌<◌, length, refl, sym, ap, ◌∙�
 use Rattle.gc_graph.specs.Slots.{place}
 use Rattle.gc_words.specs.Space.{end_of}
 use Rattle.gc_heap.specs.Filling.{TakesFields}
-use Rattle.gc_copy.specs.State.{State}
+use Rattle.gc_plan.specs.State.{State}
 use Rattle.std.specs.Option.{option_map}
 use Rattle.gc_copy.specs.Words.{collection_in, state_of, open_state, idle_state}
 use Rattle.gc_core.specs.declared.known.KnownRoots.{KnownRoots}

@@ -3,8 +3,8 @@ use Rattle.gc_graph.specs.Slots.{place, roots_of}
 use Rattle.gc_graph.specs.declared.command.Op.TheVariants.{New}
 use Rattle.std.specs.Option.{option_map}
 use Rattle.gc_copy.specs.Words.{collection_in, state_of}
-use Rattle.gc_copy.specs.State.{State}
-use Rattle.gc_copy.specs.Steps.{mutate}
+use Rattle.gc_plan.specs.State.{State}
+use Rattle.gc_plan.specs.Steps.{mutate}
 use Rattle.gc_core.proofs.Marks.{one_below, slot_below}
 use Rattle.gc_core.proofs.OtherCommands.{fits_after, mutated}
 use Rattle.gc_core.proofs.collected_heap.CollectedHeap.new_object.Goals as goal

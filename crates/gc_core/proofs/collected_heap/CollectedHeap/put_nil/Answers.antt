@@ -2,8 +2,8 @@ use Rattle.std.proofs.Common.{◌≡◌, ◌<◌, Some, refl, ap, ◌∙◌, sym
 use Rattle.std.specs.Option.{option_map}
 use Rattle.gc_graph.specs.declared.command.Op.TheVariants.{Nil, Put}
 use Rattle.gc_graph.specs.declared.reply.Reply.{Reply}
-use Rattle.gc_copy.specs.State.{Collection, State}
-use Rattle.gc_copy.specs.Steps.{mutate}
+use Rattle.gc_plan.specs.State.{Collection, State}
+use Rattle.gc_plan.specs.Steps.{mutate}
 use Rattle.gc_copy.specs.Words.{BelongsTo, collection_in, state_of, open_state}
 use Rattle.gc_core.specs.Internal.CollectedHeap.{Fits}
 use Rattle.gc_core.specs.Internal.KnownRoots.{KnowsRoots}

@@ -1,6 +1,6 @@
 use Rattle.std.proofs.Common.{◌≡◌, ◌<◌, ◌≤◌, ◌+◌, length, None, refl, ap, ◌∙◌, sym, subst, arith}
 use Rattle.std.specs.Option.{option_map}
-use Rattle.gc_copy.specs.State.{State}
+use Rattle.gc_plan.specs.State.{State}
 use Rattle.gc_copy.specs.Words.{collection_in, state_of, open_state, idle_state}
 use Rattle.gc_graph.specs.declared.reply.Reply.TheVariants.{Done}
 use Rattle.gc_core.specs.Writing.{put_numbers_step}

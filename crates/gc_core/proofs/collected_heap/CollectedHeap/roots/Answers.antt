@@ -1,10 +1,10 @@
 use Rattle.std.proofs.Common.{refl, sym, ◌∙◌, ap, subst}
 use Rattle.gc_graph.specs.Slots.{roots_of}
-use Rattle.gc_copy.specs.State.{State}
+use Rattle.gc_plan.specs.State.{State}
 use Rattle.gc_copy.specs.Words.{collection_in, open_state}
-use Rattle.gc_copy.specs.declared.step.Step.TheVariants as steps
-use Rattle.gc_copy.specs.declared.step.StepReply.{StepReply}
-use Rattle.gc_copy.specs.Staying.{KnowsRoot}
+use Rattle.gc_plan.specs.declared.step.Step.TheVariants as steps
+use Rattle.gc_plan.specs.declared.step.StepReply.{StepReply}
+use Rattle.gc_plan.specs.Staying.{KnowsRoot}
 use Rattle.gc_core.specs.Internal.KnownRoots.{KnowsRoots, next_place}
 use Rattle.gc_core.specs.declared.known.KnownRoots.{KnownRoots}
 use Rattle.gc_core.proofs.Marks.{step_knows, copied_knows}

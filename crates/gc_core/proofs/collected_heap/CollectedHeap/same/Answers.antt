@@ -1,6 +1,6 @@
 use Rattle.std.proofs.Common.{◌≡◌, subst}
 use Rattle.gc_graph.specs.declared.command.Op.TheVariants.{Same}
-use Rattle.gc_copy.specs.Steps.{mutate}
+use Rattle.gc_plan.specs.Steps.{mutate}
 use Rattle.gc_core.proofs.OtherCommands.{mutated}
 use Rattle.gc_core.proofs.collected_heap.CollectedHeap.same.Goals as goal
 

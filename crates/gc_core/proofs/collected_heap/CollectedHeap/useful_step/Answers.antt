@@ -1,6 +1,6 @@
 use Rattle.std.proofs.Common.{sym, subst}
-use Rattle.gc_copy.specs.State.{State}
-use Rattle.gc_copy.specs.Runs.{IsStep}
+use Rattle.gc_plan.specs.State.{State}
+use Rattle.gc_plan.specs.Runs.{IsStep}
 use Rattle.gc_core.specs.Internal.CollectedHeap.{Fits}
 use Rattle.gc_core.proofs.FirstLog.{step_is_one}
 use Rattle.gc_core.proofs.collected_heap.CollectedHeap.useful_step.Goals as goal

@@ -1,8 +1,8 @@
 use Rattle.std.proofs.Common.{◌≡◌, ℕ, List, [], ◌∷◌, Bor, Option, Some, None, refl, sym, ap, ◌∙◌}
 use Rattle.std.specs.Prelude.{slice_get}
 use Rattle.std.specs.Option.{option_map}
-use Rattle.gc_copy.specs.State.{State, Collection}
-use Rattle.gc_copy.specs.Steps.{log_at}
+use Rattle.gc_plan.specs.State.{State, Collection}
+use Rattle.gc_plan.specs.Steps.{log_at}
 use Rattle.gc_core.specs.Readings.{log_of, log_in}
 use Rattle.gc_beside.proofs.Public.{lives_applied}
 use Rattle.gc_live.proofs.live_heap.LiveHeap.apply_log.Goals as goal

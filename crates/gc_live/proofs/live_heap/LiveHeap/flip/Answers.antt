@@ -3,8 +3,8 @@ use Rattle.std.proofs.lemmas.Bool.{cases_Bool}
 use Rattle.std.specs.Prelude.{IfSome}
 use Rattle.gc_words.specs.Certificate.{Certified}
 use Rattle.gc_cert.specs.Grammar.{CertifiedPair}
-use Rattle.gc_copy.specs.State.{State, Collection, heap_end}
-use Rattle.gc_copy.specs.declared.step.StepReply.{StepReply}
+use Rattle.gc_plan.specs.State.{State, Collection, heap_end}
+use Rattle.gc_plan.specs.declared.step.StepReply.{StepReply}
 use Rattle.gc_core.specs.Flip.{flip_pair, FlipsOnly, HasAccepted, IsCertified}
 use Rattle.gc_along.specs.Watch.{Watch, Watches}
 use Rattle.gc_along.specs.Tables.{Tables, CertifiedBy, watch_of}

@@ -5,7 +5,7 @@ use Rattle.gc_graph.specs.Machine.{Roomy}
 use Rattle.gc_graph.specs.declared.reply.Reply.{Reply}
 use Rattle.gc_graph.specs.declared.reply.Reply.TheVariants as replies
 use Rattle.gc_graph.specs.declared.command.Op.TheVariants as ops
-use Rattle.gc_copy.specs.State.{Collection}
+use Rattle.gc_plan.specs.State.{Collection}
 use Rattle.gc_beside.proofs.Public.{lives_put_quiet, lives_written}
 use Rattle.gc_live.proofs.live_heap.LiveHeap.put.Goals as goal
 

@@ -6,8 +6,8 @@ use Rattle.gc_graph.specs.declared.reply.Reply.{Reply}
 use Rattle.gc_graph.specs.declared.reply.Reply.TheVariants as replies
 use Rattle.gc_graph.specs.declared.command.Op.TheVariants as ops
 use Rattle.std.specs.Prelude.{slice_get}
-use Rattle.gc_copy.specs.State.{State, Collection}
-use Rattle.gc_copy.specs.Steps.{mutate}
+use Rattle.gc_plan.specs.State.{State, Collection}
+use Rattle.gc_plan.specs.Steps.{mutate}
 use Rattle.gc_beside.proofs.Public.{lives_number, put_roots, was_open}
 use Rattle.gc_live.proofs.live_heap.LiveHeap.put_nil.Goals as goal
 

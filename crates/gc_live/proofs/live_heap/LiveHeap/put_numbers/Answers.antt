@@ -2,7 +2,7 @@ use Rattle.std.proofs.Common.{◌≡◌, Option, is_some, true, false, sym, ap, 
 use Rattle.gc_graph.specs.Graph.{Ref, root}
 use Rattle.gc_graph.specs.Machine.{Roomy}
 use Rattle.gc_graph.specs.Slots.{place}
-use Rattle.gc_copy.specs.State.{Collection, State}
+use Rattle.gc_plan.specs.State.{Collection, State}
 use Rattle.gc_live.proofs.Begun.{none_open}
 use Rattle.gc_live.proofs.NumbersTold.{lives_numbers, lives_call_closed, done_all}
 use Rattle.gc_live.proofs.live_heap.LiveHeap.put_numbers.Goals as goal

@@ -1,6 +1,6 @@
 use Rattle.std.proofs.Common.{◌≡◌, ℕ, List, Bor, Option, Some, None, sym, ap, subst, ◌∙◌}
 use Rattle.std.specs.Option.{option_map}
-use Rattle.gc_copy.specs.State.{State, Collection}
+use Rattle.gc_plan.specs.State.{State, Collection}
 use Rattle.gc_core.specs.Readings.{new_space, new_space_in}
 use Rattle.gc_core.specs.declared.reading.NewSpace.{NewSpace}
 use Rattle.gc_along.specs.Events.{Looked}

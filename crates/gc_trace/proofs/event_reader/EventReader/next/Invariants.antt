@@ -1,6 +1,6 @@
 use Rattle.std.proofs.Common.{◌≡◌, ◌-◌, ℕ, List, false}
 use Rattle.gc_graph.specs.Streams.{bytes_left, source_failed}
-use Rattle.gc_copy.specs.declared.event.Event.{Event}
+use Rattle.gc_plan.specs.declared.event.Event.{Event}
 use Rattle.gc_trace.specs.Faults.{limit}
 use Rattle.gc_trace.specs.Internal.Reading.{IsReading, HasRead}
 use Rattle.gc_trace.proofs.event_reader.EventReader.next.Given as goal

@@ -1,5 +1,5 @@
 use Rattle.std.proofs.Common.{◌≤◌, sym, subst, arith}
-use Rattle.gc_copy.specs.Belonging.{IsState}
+use Rattle.gc_plan.specs.Belonging.{IsState}
 use Rattle.gc_trace.proofs.playing.Player.open.Goals as goal
 
 pub returns-clause-sound : goal.returns-clause-sound

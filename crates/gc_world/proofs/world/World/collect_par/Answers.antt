@@ -2,11 +2,11 @@ use Rattle.std.proofs.Common.{◌≡◌, [], ◌∷◌, ◌++◌, refl, sym, ap,
 use Rattle.std.specs.Option.{option_map}
 use Rattle.gc_graph.specs.Limits.{most_words}
 use Rattle.gc_cert.specs.Views.{pair_in}
-use Rattle.gc_copy.specs.Steps.{collect}
-use Rattle.gc_copy.specs.Runs.{IsStepWithin}
+use Rattle.gc_plan.specs.Steps.{collect}
+use Rattle.gc_plan.specs.Runs.{IsStepWithin}
 use Rattle.gc_world.specs.World.{Past, present, entry_of}
-use Rattle.gc_copy.specs.declared.event.Answer.TheVariants.{Collector}
-use Rattle.gc_copy.specs.declared.event.Event.TheVariants.{Collect}
+use Rattle.gc_plan.specs.declared.event.Answer.TheVariants.{Collector}
+use Rattle.gc_plan.specs.declared.event.Event.TheVariants.{Collect}
 use Rattle.gc_world.proofs.Sizes.{world_within}
 use Rattle.gc_world.proofs.Worlds.{stepped}
 use Rattle.gc_world.proofs.world.World.collect_par.Goals as goal

@@ -2,12 +2,12 @@ use Rattle.std.proofs.Common.{◌≡◌, [], ◌∷◌, ◌++◌, refl, sym, sub
 use Rattle.std.specs.Option.{option_map}
 use Rattle.gc_graph.specs.Limits.{most_words}
 use Rattle.gc_cert.specs.Views.{pair_in}
-use Rattle.gc_copy.specs.State.{State}
-use Rattle.gc_copy.specs.Steps.{collect}
-use Rattle.gc_copy.specs.Runs.{HasSizesWithin}
+use Rattle.gc_plan.specs.State.{State}
+use Rattle.gc_plan.specs.Steps.{collect}
+use Rattle.gc_plan.specs.Runs.{HasSizesWithin}
 use Rattle.gc_world.specs.World.{present, entry_of}
-use Rattle.gc_copy.specs.declared.event.Answer.TheVariants.{Useful}
-use Rattle.gc_copy.specs.declared.event.Event.TheVariants.{Collect}
+use Rattle.gc_plan.specs.declared.event.Answer.TheVariants.{Useful}
+use Rattle.gc_plan.specs.declared.event.Event.TheVariants.{Collect}
 use Rattle.gc_world.proofs.Sizes.{useful_within, world_within}
 use Rattle.gc_world.proofs.Worlds.{stepped}
 use Rattle.gc_world.proofs.world.World.collect_useful.Goals as goal

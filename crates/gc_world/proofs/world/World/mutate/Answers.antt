@@ -3,8 +3,8 @@ use Rattle.std.specs.Option.{option_map}
 use Rattle.gc_cert.specs.Views.{pair_in}
 use Rattle.gc_world.specs.World.{Past, entry_of}
 use Rattle.gc_world.specs.declared.entry.Entry.{Entry}
-use Rattle.gc_copy.specs.declared.event.Answer.TheVariants.{Mutator}
-use Rattle.gc_copy.specs.declared.event.Event.TheVariants.{Mutate}
+use Rattle.gc_plan.specs.declared.event.Answer.TheVariants.{Mutator}
+use Rattle.gc_plan.specs.declared.event.Event.TheVariants.{Mutate}
 use Rattle.gc_world.proofs.Worlds.{commanded}
 use Rattle.gc_world.proofs.world.World.mutate.Goals as goal
 

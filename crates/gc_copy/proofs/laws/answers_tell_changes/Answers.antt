@@ -1,5 +1,0 @@
-use Rattle.gc_copy.proofs.Changes.{quiet_answers, useful_brings}
-use Rattle.gc_copy.proofs.laws.answers_tell_changes.Goals as goal
-
-pub returns : goal.returns
-returns c = record { quiet = quiet_answers; useful = useful_brings }

@@ -1,0 +1,5 @@
+use Rattle.gc_copy.proofs.Room.{words_have_room}
+use Rattle.gc_copy.proofs.laws.new_spaces_have_room.Goals as goal
+
+pub returns : goal.returns
+returns c = words_have_room

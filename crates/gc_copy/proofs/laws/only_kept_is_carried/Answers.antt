@@ -1,8 +1,0 @@
-use Rattle.gc_copy.proofs.Carried.{carries_only_kept, names_only_kept}
-use Rattle.gc_copy.proofs.laws.only_kept_is_carried.Goals as goal
-
-pub returns-clause-pairs : goal.returns-clause-pairs
-returns-clause-pairs c = carries_only_kept
-
-pub returns-clause-names : goal.returns-clause-names
-returns-clause-names c = names_only_kept

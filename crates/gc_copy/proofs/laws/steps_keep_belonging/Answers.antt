@@ -1,6 +1,0 @@
-use Rattle.gc_copy.proofs.Steps.{steps_stay}
-use Rattle.gc_copy.proofs.StateLaws.{step_kept}
-use Rattle.gc_copy.proofs.laws.steps_keep_belonging.Goals as goal
-
-pub returns : goal.returns
-returns c = record { heap = steps_stay; collection = λ s d step n is k. step_kept s d step is k n }

@@ -1,0 +1,5 @@
+use Rattle.gc_plan.proofs.Changes.{quiet_answers, useful_brings}
+use Rattle.gc_plan.proofs.laws.answers_tell_changes.Goals as goal
+
+pub returns : goal.returns
+returns c = record { quiet = quiet_answers; useful = useful_brings }

@@ -1,0 +1,12 @@
+use Rattle.gc_plan.proofs.Steps.{begun_belongs}
+use Rattle.gc_plan.proofs.StateLaws.{heap_kept, command_kept, field_there, notes}
+use Rattle.gc_plan.proofs.laws.belonging_is_kept.Goals as goal
+
+pub returns : goal.returns
+returns c = record {
+  begins = begun_belongs;
+  heaps = heap_kept;
+  commands = command_kept;
+  fields = field_there;
+  notes = notes;
+}

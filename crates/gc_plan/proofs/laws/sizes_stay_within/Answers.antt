@@ -1,0 +1,10 @@
+use Rattle.gc_plan.proofs.Sizes.{event_within, run_within, wider_step, wider_events}
+use Rattle.gc_plan.proofs.laws.sizes_stay_within.Goals as goal
+
+pub returns : goal.returns
+returns c = record {
+  events = event_within;
+  runs = run_within;
+  steps = wider_step;
+  wider = wider_events;
+}

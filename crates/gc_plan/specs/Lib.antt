@@ -1,0 +1,11 @@
+pub mod Belonging
+pub mod Carried
+pub mod Linked
+pub mod Members
+pub mod Passing
+pub mod Progress
+pub mod Rows
+pub mod Runs
+pub mod State
+pub mod Staying
+pub mod Steps

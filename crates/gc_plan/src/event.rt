@@ -1,0 +1,34 @@
+use crate::step::{Step, StepReply};
+use gc_graph::{Op, Reply};
+
+/// One atomic step of a heap: a mutator's command or a collector step.
+#[derive(Clone, Copy, Debug, PartialEq, Eq)]
+pub enum Event {
+    /// Mutator `m` performs a command.
+    Mutate { m: u8, op: Op },
+    /// The collector performs a step.
+    Collect(Step),
+}
+
+/// The answer to an event.
+#[derive(Clone, Copy, Debug, PartialEq, Eq)]
+pub enum Answer {
+    /// The reply to a command.
+    Mutator(Reply),
+    /// The reply to a step.
+    Collector(StepReply),
+    /// The reply to a step that was chosen as the useful one.
+    Useful(StepReply),
+}
+
+impl Answer {
+    ghost use Rattle.std.specs.Prelude.{◌≡◌};
+    ghost use Rattle.gc_plan.specs.declared.event.Answer.{Answer};
+
+    /// Returns a mutator's reply as an answer.
+    pub fn of_mutator(reply: &Reply) -> Answer
+        ensures { result ≡ Answer.Mutator reply.now }
+    {
+        Answer::Mutator(*reply)
+    }
+}
