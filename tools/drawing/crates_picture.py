@@ -12,7 +12,7 @@ DOT = 5
 # The groups of crates, by the role of their boxes: a name for the legend, and the crates.
 GROUPS = {
     "crate-base": ("objects and words", ["gc_graph", "gc_words"]),
-    "crate-collector": ("the heap and the collector", ["gc_heap", "gc_copy", "gc_core", "gc_live"]),
+    "crate-collector": ("the heap and the collector", ["gc_heap", "gc_plan", "gc_copy", "gc_core", "gc_live"]),
     "crate-checker": ("the checker", ["gc_cert", "gc_check", "gc_par", "gc_along", "gc_beside", "gc_generations"]),
     "crate-run": ("histories, threads, traces, the program", ["gc_world", "gc_shared", "gc_trace", "gcflip"]),
     "crate-c": ("for C", ["gcflip_c", "gcflip_heap_c"]),
