@@ -7,6 +7,7 @@ mod inference;
 mod laws;
 mod meet;
 mod object;
+mod object_table;
 mod partners;
 mod shortest_path;
 mod starts;
