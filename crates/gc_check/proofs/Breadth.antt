@@ -16,8 +16,7 @@ use Rattle.gc_check.specs.declared.visits.Node.TheVariants as node
 use Rattle.gc_check.specs.declared.visits.Visit.{Visit}
 use Rattle.gc_check.specs.declared.visits.Visits.{Visits}
 use Rattle.gc_check.specs.declared.visits.Reference.{Reference}
-use Rattle.gc_check.proofs.StartMarks.{start_within}
-use Rattle.gc_check.proofs.ByAddress.{nothing_at}
+use Rattle.gc_check.proofs.StartMarks.{nothing_at, start_within}
 use Rattle.gc_check.proofs.Meetings.{few_taken, starts_one, taken_one, taken_none, taken_few}
 use Rattle.gc_check.proofs.Forced.{follow_nil}
 

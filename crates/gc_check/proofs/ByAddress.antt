@@ -10,7 +10,7 @@ use Rattle.gc_words.specs.Image.{Block, walk_words, blocks, block_in, is_start}
 use Rattle.gc_words.proofs.Walks.{Walked, First, first, fields_in, starts_above}
 use Rattle.gc_words.proofs.Starts.{walked_blocks}
 use Rattle.gc_check.specs.Internal.Tables.{HasEntries, entry_at, by_address}
-use Rattle.gc_check.proofs.StartMarks.{start_within}
+use Rattle.gc_check.proofs.StartMarks.{nothing_at, start_within, no_start_past}
 
 -- ---- two objects start at least two words apart
 
@@ -76,12 +76,8 @@ pub by_address_at : (words entries : List ℕ) (place : ℕ) → IsOk (walk_word
 by_address_at words entries place ok =
     elim (cases_lt place (length words)) [
       | inl inside ↦ inside_is words entries place inside
-      | inr past ↦ get_or_past (by_address words entries) place 0 (omega (arith, length_by_address words entries)) ∙ sym (outside (is_start words place) refl past)
+      | inr past ↦ get_or_past (by_address words entries) place 0 (omega (arith, length_by_address words entries)) ∙ sym (no_entry words entries place (no_start_past words place ok past))
     ]
-  where
-    outside : (b : Bool) → is_start words place ≡ b → length words ≤ place → entry_at words entries place ≡ 0
-    outside true e past = absurd (let less : place < length words = start_within words place ok e in omega arith)
-    outside false e past = no_entry words entries place e
 
 -- an entry that is not 0 is that of a start
 pub number_starts : (words entries : List ℕ) (place : ℕ) → IsOk (walk_words words) → not (slice_index (by_address words entries) place == 0) ≡ true → is_start words place ≡ true
@@ -90,11 +86,6 @@ number_starts words entries place ok some = from (is_start words place) refl
     from : (b : Bool) → is_start words place ≡ b → is_start words place ≡ true
     from true e = e
     from false e = absurd (let no : false ≡ true = sym (ap (λ n. not (n == 0)) (by_address_at words entries place ok ∙ no_entry words entries place e)) ∙ some in cc)
-
-pub nothing_at : (n a : ℕ) → slice_index (replicate n 0) a ≡ 0
-nothing_at zero a = refl
-nothing_at (suc n) zero = refl
-nothing_at (suc n) (suc a) = nothing_at n a
 
 pub zeros_by_address : (words entries : List ℕ) (n : ℕ) → entries ≡ replicate n 0 → by_address words entries ≡ replicate (length words) 0
 zeros_by_address words entries n e =

@@ -14,8 +14,8 @@ use Rattle.gc_check.specs.Internal.Meetings.{is_free, swapped, taken_in, partner
 use Rattle.std.proofs.lemmas.List.{get_or-map, length-append}
 use Rattle.gc_check.specs.Tables.{pair_at}
 use Rattle.gc_check.specs.Verdict.{pairs_of}
-use Rattle.gc_check.proofs.StartMarks.{low_start, start_within}
-use Rattle.gc_check.proofs.ByAddress.{length_by_address, number_starts, nothing_at}
+use Rattle.gc_check.proofs.StartMarks.{nothing_at, low_start, start_within}
+use Rattle.gc_check.proofs.ByAddress.{length_by_address, number_starts}
 use Rattle.gc_check.proofs.PartnerRow.{holds_one}
 
 -- ---- swapped pairs

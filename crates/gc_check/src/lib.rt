@@ -5,6 +5,7 @@ mod checker;
 mod checks;
 mod inference;
 mod laws;
+mod marks;
 mod meet;
 mod object;
 mod object_table;

@@ -1,6 +1,7 @@
 -- The contents of the checker's tables, and the faults that they find one by one.
-use Rattle.std.specs.Prelude.{◌≡◌, ℕ, ◌+◌, ◌/◌, ◌<◌, ◌≤◌, ◌^◌, ◌==◌, nat_le, if◌then◌else◌, Bool, false, not, List, length, map, slice_index, slice_index_or, Option, None, IsOk}
+use Rattle.std.specs.Prelude.{◌≡◌, ℕ, ◌+◌, ◌/◌, ◌%◌, ◌<◌, ◌≤◌, ◌^◌, ◌==◌, nat_le, if◌then◌else◌, Bool, not, List, length, map, slice_index, Option, None, IsOk}
 use Rattle.std.specs.List.{list_any, range_with_len}
+use Rattle.std.specs.Int.{bit_at}
 use Rattle.gc_graph.specs.Correspond.{paired}
 use Rattle.gc_words.specs.Image.{Image, walk_words, is_start}
 use Rattle.gc_words.specs.Fault.{◌or_else◌, when, table_fault}
@@ -8,11 +9,17 @@ use Rattle.gc_words.specs.declared.refusal.Refusal.{Refusal}
 use Rattle.gc_words.specs.declared.refusal.Refusal.TheVariants.{OldNotStart, NewNotStart, NotRising, Twice}
 use Rattle.gc_check.specs.Tables.{Checked}
 
+-- ---- a mark for each place
+
+-- the mark is a bit, 64 in a word
+unfoldable pub is_marked : List ℕ → ℕ → Bool
+is_marked bits place = bit_at (slice_index bits (place / 64)) (place % 64) == 1
+
 -- exactly the places at which objects start are marked
-pub record MarksStarts (words : List ℕ) (marks : List Bool) : Type 0 where
-  pub len : length marks ≡ length words
+pub record MarksStarts (words bits : List ℕ) : Type 0 where
+  pub len : length bits ≡ length words / 64 + 1
   pub walked : IsOk (walk_words words)
-  pub starts : (place : ℕ) → slice_index_or marks place false ≡ is_start words place
+  pub starts : (place : ℕ) → is_marked bits place ≡ is_start words place
 
 -- ---- a number for each object
 
