@@ -66,18 +66,28 @@ inside_is : (words entries : List ℕ) (place : ℕ) → place < length words �
 unfolding by_address
 inside_is words entries place inside = get_or-map-range_with_len (entry_at words entries) 0 (length words) place place 0 inside (omega arith)
 
-pub no_entry : (words entries : List ℕ) (place : ℕ) → is_start words place ≡ false → entry_at words entries place ≡ 0
+no_entry : (words entries : List ℕ) (place : ℕ) → is_start words place ≡ false → entry_at words entries place ≡ 0
 no_entry words entries place none = ap (λ b. cond b (slice_index entries (place / 2)) 0) none
 
-pub entry_is : (words entries : List ℕ) (place : ℕ) → is_start words place ≡ true → entry_at words entries place ≡ slice_index entries (place / 2)
+entry_is : (words entries : List ℕ) (place : ℕ) → is_start words place ≡ true → entry_at words entries place ≡ slice_index entries (place / 2)
 entry_is words entries place start = ap (λ b. cond b (slice_index entries (place / 2)) 0) start
 
-pub by_address_at : (words entries : List ℕ) (place : ℕ) → IsOk (walk_words words) → slice_index (by_address words entries) place ≡ entry_at words entries place
+by_address_at : (words entries : List ℕ) (place : ℕ) → IsOk (walk_words words) → slice_index (by_address words entries) place ≡ entry_at words entries place
 by_address_at words entries place ok =
     elim (cases_lt place (length words)) [
       | inl inside ↦ inside_is words entries place inside
       | inr past ↦ get_or_past (by_address words entries) place 0 (omega (arith, length_by_address words entries)) ∙ sym (no_entry words entries place (no_start_past words place ok past))
     ]
+
+pub entry_within : (words entries : List ℕ) (place : ℕ) → HasEntries words entries → is_start words place ≡ true → place / 2 < length entries
+entry_within words entries place h start = let within : place < length words = start_within words place h.walked start in omega (arith, h.len, within)
+
+-- the number of an object, and that of a place at which none starts
+pub number_read : (words entries : List ℕ) (place : ℕ) → HasEntries words entries → is_start words place ≡ true → slice_index entries (place / 2) ≡ slice_index (by_address words entries) place
+number_read words entries place h start = sym (by_address_at words entries place h.walked ∙ entry_is words entries place start)
+
+pub no_number : (words entries : List ℕ) (place : ℕ) → HasEntries words entries → is_start words place ≡ false → 0 ≡ slice_index (by_address words entries) place
+no_number words entries place h none = sym (by_address_at words entries place h.walked ∙ no_entry words entries place none)
 
 -- an entry that is not 0 is that of a start
 pub number_starts : (words entries : List ℕ) (place : ℕ) → IsOk (walk_words words) → not (slice_index (by_address words entries) place == 0) ≡ true → is_start words place ≡ true

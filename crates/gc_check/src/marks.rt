@@ -4,6 +4,7 @@ ghost use Rattle.std.specs.Prelude.{◌≡◌, ◌≢◌, ℕ, ◌/◌, ◌<◌,
 ghost use Rattle.gc_check.specs.Internal.Tables.{is_marked};
 
 /// Returns whether this place is marked.
+#[tactic(auto, using(crate::proofs::MarkBits::marked_is))]
 pub(crate) fn is_marked(bits: &[u64], place: usize) -> bool
     requires { place / 64 < length bits.now }
     ensures { result ≡ is_marked bits.now place }
@@ -12,6 +13,7 @@ pub(crate) fn is_marked(bits: &[u64], place: usize) -> bool
 }
 
 /// Marks this place.
+#[tactic(auto, using(crate::proofs::MarkBits::mark_is_set, crate::proofs::MarkBits::other_marks_stay))]
 pub(crate) fn mark(bits: &mut [u64], place: usize)
     requires { place / 64 < length bits.old }
     ensures len { length bits.new ≡ length bits.old }

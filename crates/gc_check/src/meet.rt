@@ -175,7 +175,7 @@ fn meet_refs(old: &Starts, new: &Starts, found: &mut Found, from: Addr, to: Addr
 #[tactic(auto, using(crate::proofs::Meetings::has_original))]
 fn is_free(old: &Starts, new: &Starts, found: &Found, from: Addr, to: Addr) -> bool
     requires held { HoldsFound old.now new.now found.now }
-    ensures value { result ≡ is_free old.now new.now (pairs_of found.now.pairs.items) from.0 to.0 }
+    ensures { result ≡ is_free old.now new.now (pairs_of found.now.pairs.items) from.0 to.0 }
 {
     if !old.contains(from.0) {
         return false;

@@ -25,6 +25,7 @@ impl ObjectTable {
     ghost use Rattle.gc_check.specs.Internal.Tables.{HasEntries, by_address};
 
     /// Returns a table of zeros for the objects that start here. Allocates once.
+    #[tactic(auto, using(crate::proofs::ByAddress::zeros_by_address))]
     pub(crate) fn new(alloc: Global, starts: &Starts) -> Result<ObjectTable, AllocError>
         requires { IsOk (walk_words starts.now.words) }
         ensures entries { IfOk result (λ table. HasEntries starts.now.words table) }
@@ -35,6 +36,7 @@ impl ObjectTable {
     }
 
     /// Returns the number of the object that starts at this place, or 0 if none does.
+    #[tactic(auto, using(crate::proofs::ByAddress::number_read, crate::proofs::ByAddress::no_number))]
     pub(crate) fn get(&self, starts: &Starts, place: u32) -> u32
         requires { HasEntries starts.now.words self.now }
         ensures { result ≡ slice_index (by_address starts.now.words self.now) place }
@@ -46,6 +48,7 @@ impl ObjectTable {
     }
 
     /// Sets the number of the object that starts at this place.
+    #[tactic(auto, using(crate::proofs::ByAddress::entry_within, crate::proofs::ByAddress::set_by_address))]
     pub(crate) fn set(&mut self, starts: &Starts, place: u32, number: u32)
         requires entries { HasEntries starts.now.words self.old }
         requires start { IsTrue (is_start starts.now.words place) }

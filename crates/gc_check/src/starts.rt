@@ -84,6 +84,7 @@ impl<'a> Starts<'a> {
     }
 
     /// Returns whether an object starts at this place.
+    #[tactic(auto, using(crate::proofs::StartMarks::no_start_past))]
     pub(crate) fn contains(&self, place: u32) -> bool
         ensures start { result ≡ is_start self.now.words place }
         ensures within { IsTrue result → place < length self.now.words }
@@ -172,6 +173,7 @@ fn is_framed(image: ImageRef) -> bool
 }
 
 // Marks the places at which objects start, up to the first place where an object should start and none does.
+#[tactic(auto, using(crate::proofs::StartMarks::none_marked, crate::proofs::StartMarks::marks_next, gc_words::proofs::Steps::same_fault))]
 fn mark_starts(words: &[u64], raws: bool, marks: &mut [u64]) -> Result<(), ShapeFault>
     requires unmarked { marks.old ≡ replicate (length words.now / 64 + 1) 0 }
     ensures { MatchResult result
