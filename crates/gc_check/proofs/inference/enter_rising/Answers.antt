@@ -1,4 +1,4 @@
-use Rattle.std.proofs.Common.{rules, ◌≡◌, ◌≤◌, ◌++◌, length, sym, ◌∙◌, ap, arith, append-nil}
+use Rattle.std.proofs.Common.{rules, ◌≤◌, ◌++◌, length, sym, ◌∙◌, ap, arith, append-nil}
 use Rattle.std.proofs.lemmas.List.{drop_all}
 use Rattle.gc_check.specs.Internal.Meetings.{risen}
 use Rattle.gc_check.specs.Internal.Tables.{by_address}
