@@ -1,23 +1,24 @@
 -- A walk in breadth visits each reachable object at its least depth.
 use Rattle.std.proofs.Common.{◌≡◌, ◌≢◌, ℕ, zero, suc, ◌+◌, ◌<◌, ◌≤◌, ◌^◌, Bool, true, false, cond, not, ◌==◌, List, [], ◌∷◌, ◌++◌, length, map, reverse, replicate, take, drop, get_or, set, Option, Some, None, refl, sym, ◌∙◌, ap, subst, inl, inr, arith, length-set, get_or-set_same, get_or-set_other}
-use Rattle.std.specs.Prelude.{slice_get, slice_index, vec_capacity, is_some, IsOk, IsTrue}
+use Rattle.std.specs.Prelude.{slice_get, slice_index, vec_capacity, is_some, IsTrue}
 use Rattle.std.proofs.lemmas.Bool.{cases_order, cases_eq}
 use Rattle.std.proofs.lemmas.List.{length-append, length-replicate, length-reverse, reverse-append, append-nil, drop_all, take_all, get_or_append_left, get_or_at}
 use Rattle.gc_graph.specs.Graph.{Value, Nil, Num, Ref, Object, Graph, lookup, field_of, follow, at_path, name_of, Reachable}
 use Rattle.gc_words.specs.Word.{value_of, field_value}
-use Rattle.gc_words.specs.Image.{Image, Block, blocks, block_at, header_of, header_at, is_start, graph_of, walk_words}
+use Rattle.gc_words.specs.Image.{Image, Block, blocks, block_at, header_of, header_at, is_start, graph_of}
 use Rattle.gc_words.specs.declared.header.Header.{Header}
 use Rattle.gc_words.proofs.Public.{object_option, lookup_of_blocks}
 use Rattle.gc_check.specs.Internal.Starts.{starts_from}
 use Rattle.gc_check.specs.Internal.Meetings.{taken_in}
-use Rattle.gc_check.specs.Internal.Visits.{fields_of, values_of, RefersAt, references, IsNode, along, roots_visit, visit_at, IsFoundBy, IsFound, AreVisits, Visited, LeadsToVisits, AreAllVisited, AreWithin, Continues, HasReferences, NoneRefers, IsFirstReference, HoldsVisits, HoldsWalk}
+use Rattle.gc_check.specs.Internal.Tables.{HasEntries}
+use Rattle.gc_check.specs.Internal.Visits.{fields_of, values_of, RefersAt, references, IsNode, along, roots_visit, visit_at, IsFoundBy, IsFound, AreVisits, Visited, LeadsToVisits, AreAllVisited, AreWithin, Continues, HasReferences, NoneRefers, IsFirstReference, HoldsVisits, numbers_in, HoldsWalk}
 use Rattle.gc_check.specs.declared.visits.Node.{Node}
 use Rattle.gc_check.specs.declared.visits.Node.TheVariants as node
 use Rattle.gc_check.specs.declared.visits.Visit.{Visit}
 use Rattle.gc_check.specs.declared.visits.Visits.{Visits}
 use Rattle.gc_check.specs.declared.visits.Reference.{Reference}
-use Rattle.gc_check.proofs.StartMarks.{start_within}
-use Rattle.gc_check.proofs.Meetings.{few_taken, starts_one, taken_one, taken_none, taken_few, nothing_at}
+use Rattle.gc_check.proofs.StartMarks.{nothing_at, start_within}
+use Rattle.gc_check.proofs.Meetings.{few_taken, starts_one, taken_one, taken_none, taken_few}
 use Rattle.gc_check.proofs.Forced.{follow_nil}
 
 -- ---- references
@@ -178,13 +179,13 @@ few_starts words at (suc n) = one (is_start words at) (few_starts words (suc at)
     one false few = omega arith
 
 -- while some object is not visited, there are fewer visits than objects and the roots
-pub few_visits : (image : Image) (visits : Visits) (a : ℕ) → HoldsWalk image visits → is_start image.words a ≡ true → slice_index visits.numbers.items a ≡ 0 → (length visits.list.items < vec_capacity visits.list) × (length visits.list.items < 2 ^ 32)
+pub few_visits : (image : Image) (visits : Visits) (a : ℕ) → HoldsWalk image visits → is_start image.words a ≡ true → slice_index (numbers_in image visits) a ≡ 0 → (length visits.list.items < vec_capacity visits.list) × (length visits.list.items < 2 ^ 32)
 few_visits image visits a held start free =
-    let inside : a < length image.words = start_within image.words a held.walked start in
-    let row : List ℕ = set visits.numbers.items a 1 in
-    let more : taken_in row ≡ suc (taken_in visits.numbers.items) = taken_one visits.numbers.items a 1 (omega (arith, held.table.len, inside)) free (omega arith) in
-    let few : taken_in row ≤ starts_from image.words 0 (length row) = few_taken image.words 0 row (λ k some. subst (λ place. is_start image.words place ≡ true) (from_0 k) (starts_one image.words visits.numbers.items a 1 start held.table.starts k some)) in
-    let long : length row ≡ length image.words = length-set visits.numbers.items a 1 ∙ held.table.len in
+    let inside : a < length image.words = start_within image.words a held.entries.walked start in
+    let row : List ℕ = set (numbers_in image visits) a 1 in
+    let more : taken_in row ≡ suc (taken_in (numbers_in image visits)) = taken_one (numbers_in image visits) a 1 (omega (arith, held.table.len, inside)) free (omega arith) in
+    let few : taken_in row ≤ starts_from image.words 0 (length row) = few_taken image.words 0 row (λ k some. subst (λ place. is_start image.words place ≡ true) (from_0 k) (starts_one image.words (numbers_in image visits) a 1 start held.table.starts k some)) in
+    let long : length row ≡ length image.words = length-set (numbers_in image visits) a 1 ∙ held.table.len in
     let low : starts_from image.words 0 (length image.words) ≤ length image.words = few_starts image.words 0 (length image.words) in
     let few' : taken_in row ≤ starts_from image.words 0 (length image.words) = subst (λ n. taken_in row ≤ starts_from image.words 0 n) long few in
     (omega (arith, held.table.count, held.room, more, few'), omega (arith, held.table.count, more, few', low, held.few))
@@ -260,13 +261,13 @@ near_next image before after done inside are c near next j h =
     omega (arith, near j h, order, same)
 
 pub low_count : (image : Image) (visits : Visits) → HoldsWalk image visits → length visits.list.items ≤ suc (length image.words)
-low_count image visits held = let few : taken_in visits.numbers.items ≤ length visits.numbers.items = taken_few visits.numbers.items in omega (arith, held.table.count, held.table.len, few)
+low_count image visits held = let few : taken_in (numbers_in image visits) ≤ length (numbers_in image visits) = taken_few (numbers_in image visits) in omega (arith, held.table.count, held.table.len, few)
 
 -- the walk begins with the visit of the roots
-pub begun : (image : Image) (visits : Visits) → IsOk (walk_words image.words) → length image.words < 2 ^ 32 → visits.list.items ≡ roots_visit ∷ [] → visits.numbers.items ≡ replicate (length image.words) 0 → suc (starts_from image.words 0 (length image.words)) ≤ vec_capacity visits.list
+pub begun : (image : Image) (visits : Visits) → HasEntries image.words visits.numbers → length image.words < 2 ^ 32 → visits.list.items ≡ roots_visit ∷ [] → (numbers_in image visits) ≡ replicate (length image.words) 0 → suc (starts_from image.words 0 (length image.words)) ≤ vec_capacity visits.list
     → HoldsWalk image visits
-begun image visits walked few one none room = record {
-  walked = walked;
+begun image visits entries few one none room = record {
+  entries = entries;
   few = few;
   list = subst (AreVisits image) (sym one) (record {
     some = omega arith;
@@ -292,7 +293,7 @@ begun image visits walked few one none room = record {
     lowest : (i : ℕ) → i ≤ 0 → 0 ≡ i
     lowest i order = omega arith
 
-    nowhere : (a : ℕ) → not (slice_index visits.numbers.items a == 0) ≡ true → ⊥
+    nowhere : (a : ℕ) → not (slice_index (numbers_in image visits) a == 0) ≡ true → ⊥
     nowhere a some = let no : false ≡ true = sym (ap (λ row. not (slice_index row a == 0)) none ∙ ap (λ entry. not (entry == 0)) (nothing_at (length image.words) a)) ∙ some in cc
 
 -- ---- the way back

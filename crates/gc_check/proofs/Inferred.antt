@@ -22,7 +22,7 @@ use Rattle.gc_check.specs.Verdict.{pairs_of}
 use Rattle.gc_check.specs.declared.meet.Found.{Found}
 use Rattle.gc_check.proofs.StartMarks.{low_start}
 use Rattle.gc_check.specs.Internal.Tables.{HoldsPartners}
-use Rattle.gc_check.specs.Internal.Meetings.{is_free, AllMet, BlocksMet, MetTo, HoldsFound, swapped, risen}
+use Rattle.gc_check.specs.Internal.Meetings.{is_free, AllMet, BlocksMet, MetTo, HoldsFound, originals_in, swapped, risen}
 use Rattle.gc_check.proofs.Meetings.{paired_swapped}
 use Rattle.gc_check.proofs.Forced.{place_of, paired_objects, AreIn}
 
@@ -217,7 +217,7 @@ module _ (old new : Image) (pairs : List (ℕ × ℕ)) (row : List ℕ) (held : 
 -- ---- answers
 
 module _ (old new old_seen new_seen : Image) (found : Found) (cert : List Pair) (old_is : old_seen ≡ old) (new_is : new_seen ≡ new)
-    (held : HoldsFound old_seen new_seen found) (met : MetTo old_seen new_seen (pairs_of found.pairs.items) (length found.pairs.items)) (rise : pairs_of cert ≡ risen 0 found.originals.items) where
+    (held : HoldsFound old_seen new_seen found) (met : MetTo old_seen new_seen (pairs_of found.pairs.items) (length found.pairs.items)) (rise : pairs_of cert ≡ risen 0 (originals_in new found)) where
   pub held_here : HoldsFound old new found
   held_here = subst (λ image. HoldsFound image new found) old_is (subst (λ image. HoldsFound old_seen image found) new_is held)
 
@@ -228,25 +228,25 @@ module _ (old new old_seen new_seen : Image) (found : Found) (cert : List Pair) 
       (subst (λ image. MetTo old_seen image (pairs_of found.pairs.items) (length found.pairs.items)) new_is met))
 
   pub low_here : (a : ℕ) → is_start old.words a ≡ true → 1 ≤ a
-  low_here a start = low_start old.words a held_here.old_walked start
+  low_here a start = low_start old.words a held_here.old_entries.walked start
 
   pub pairs_are_forced : AreForced old new (pairs_of cert)
   pairs_are_forced = λ other certified.
-      subst (AreIn other) (sym rise) (forced_now old new (pairs_of found.pairs.items) found.originals.items held_here.originals met_here other certified low_here)
+      subst (AreIn other) (sym rise) (forced_now old new (pairs_of found.pairs.items) (originals_in new found) held_here.originals met_here other certified low_here)
 
   pub pairs_together : AreTogether old new (pairs_of cert)
   pairs_together = subst (AreTogether old new) (sym rise) together_now
     where
-      together_now : AreTogether old new (risen 0 found.originals.items)
+      together_now : AreTogether old new (risen 0 (originals_in new found))
       together_now k d h =
-          let p : ℕ × ℕ = get_or (risen 0 found.originals.items) k d in
+          let p : ℕ × ℕ = get_or (risen 0 (originals_in new found)) k d in
           let j : (j : ℕ) × (j < length (pairs_of found.pairs.items)) × ((d : ℕ × ℕ) → slice_index_or (pairs_of found.pairs.items) j d ≡ (p.0, p.1))
-          = place_of (pairs_of found.pairs.items) p.0 p.1 (found_of_risen old new (pairs_of found.pairs.items) found.originals.items held_here.originals k d h) in
+          = place_of (pairs_of found.pairs.items) p.0 p.1 (found_of_risen old new (pairs_of found.pairs.items) (originals_in new found) held_here.originals k d h) in
           subst (λ (p : ℕ × ℕ). Together old new p.0 p.1) (j.2 d) (met_here.together j.0 d j.1)
 
   pub pairs_hold : Certifiable old new → Certified old new (pairs_of cert)
   pairs_hold some =
-      subst (Certified old new) (sym rise) (certified_now old new (pairs_of found.pairs.items) found.originals.items held_here.originals met_here some.0 some.1 low_here)
+      subst (Certified old new) (sym rise) (certified_now old new (pairs_of found.pairs.items) (originals_in new found) held_here.originals met_here some.0 some.1 low_here)
 
 -- if no certificate holds, any pairs will do
 pub forced_by_none : (old new : Image) (pairs : List (ℕ × ℕ)) → (Certifiable old new → ⊥) → AreForced old new pairs

@@ -17,8 +17,8 @@ use Rattle.gc_words.specs.declared.image.Pair.{Pair}
 use Rattle.gc_words.specs.Views.{addresses}
 use Rattle.std.proofs.lemmas.List.{length-map}
 use Rattle.gc_check.specs.Infer.{is_taken, LeadsToPairs, ObjectsLeadToPairs, AreClosed, Certifiable, Decides}
-use Rattle.gc_check.specs.Internal.Tables.{HoldsPartners, HasTables}
-use Rattle.gc_check.specs.Internal.Meetings.{is_free, AllMet, BlocksMet, ObjectsMet, MetTo, AlikeTo, HoldsFound, swapped, risen}
+use Rattle.gc_check.specs.Internal.Tables.{HasEntries, HoldsPartners, HasTables, by_address}
+use Rattle.gc_check.specs.Internal.Meetings.{is_free, AllMet, BlocksMet, ObjectsMet, MetTo, AlikeTo, HoldsFound, partners_in, originals_in, swapped, risen}
 use Rattle.gc_check.specs.Headline.{Replicated}
 use Rattle.gc_check.specs.Verdict.{pairs_of, verdict_by, verdict_of, IsRefusalOf}
 use Rattle.gc_check.specs.declared.verdict.Verdict.{Verdict}
@@ -27,6 +27,7 @@ use Rattle.gc_check.specs.declared.verdict.CheckFault.{CheckFault}
 use Rattle.gc_check.specs.declared.verdict.CheckFault.TheVariants.{Refused}
 use Rattle.gc_check.proofs.Alike.{or_first, or_second, all_more, blocks_more}
 use Rattle.gc_check.proofs.StartMarks.{low_start}
+use Rattle.gc_check.proofs.ByAddress.{length_by_address}
 use Rattle.gc_check.proofs.Forced.{place_of}
 use Rattle.gc_check.proofs.Inferred.{found_of_risen, risen_of_found, risen_rises, risen_length, held_here, met_here, refused_of_all}
 
@@ -119,11 +120,13 @@ module _ (old new : Image) (pairs : List (ℕ × ℕ)) (row partners : List ℕ)
       none_or _ _ (none_or _ _ (none_or _ _ (ap (λ o. at_place o (λ at. OldShape at)) old_shaped) (ap (λ o. at_place o (λ at. NewShape at)) new_shaped)) (none_when _ _ (ap not (eq-eqb _ _ roots))))
       (places_hold old new now now [] 0 refl refl later join_starts)
 
-  pub tables_of_found : shape_fault old ≡ None → shape_fault new ≡ None → length old.roots ≡ length new.roots → length now < 2 ^ 32 → HasTables (record { old = old; new = new; pairs = now }) partners
-  tables_of_found old_shaped new_shaped roots few = record {
+  pub tables_of_found : (entries : List ℕ) → HasEntries old.words entries → by_address old.words entries ≡ partners → shape_fault old ≡ None → shape_fault new ≡ None → length old.roots ≡ length new.roots → length now < 2 ^ 32
+      → HasTables (record { old = old; new = new; pairs = now }) entries
+  tables_of_found entries long same old_shaped new_shaped roots few = record {
     few = few;
     placed = placed old_shaped new_shaped roots;
-    partners = record { pair = λ a b one. table.pair a b one ∙ same_pairs a b; taken = λ a. table.taken a ∙ same_firsts a };
+    fits = long;
+    partners = subst (λ row. HoldsPartners row now) (sym same) (record { pair = λ a b one. table.pair a b one ∙ same_pairs a b; taken = λ a. table.taken a ∙ same_firsts a });
   }
 
   -- ---- they hold if all words that have met correspond
@@ -180,7 +183,7 @@ module _ (old new : Image) (pairs : List (ℕ × ℕ)) (row partners : List ℕ)
 -- ---- answers
 
 module _ (old new old_seen new_seen : Image) (found : Found) (cert : List Pair) (old_is : old_seen ≡ old) (new_is : new_seen ≡ new)
-    (held : HoldsFound old_seen new_seen found) (met : MetTo old_seen new_seen (pairs_of found.pairs.items) (length found.pairs.items)) (rise : pairs_of cert ≡ risen 0 found.originals.items) where
+    (held : HoldsFound old_seen new_seen found) (met : MetTo old_seen new_seen (pairs_of found.pairs.items) (length found.pairs.items)) (rise : pairs_of cert ≡ risen 0 (originals_in new found)) where
   here : HoldsFound old new found
   here = held_here old new old_seen new_seen found cert old_is new_is held met rise
 
@@ -188,20 +191,22 @@ module _ (old new old_seen new_seen : Image) (found : Found) (cert : List Pair) 
   all_met = met_here old new old_seen new_seen found cert old_is new_is held met rise
 
   old_low : (a : ℕ) → is_start old.words a ≡ true → 1 ≤ a
-  old_low a start = low_start old.words a here.old_walked start
+  old_low a start = low_start old.words a here.old_entries.walked start
 
   new_low : (b : ℕ) → is_start new.words b ≡ true → 1 ≤ b
-  new_low b start = low_start new.words b here.new_walked start
+  new_low b start = low_start new.words b here.new_entries.walked start
 
-  pub pairs_have_tables : shape_fault old ≡ None → shape_fault new ≡ None → length old.roots ≡ length new.roots → length found.originals.items < 2 ^ 32 → HasTables (record { old = old; new = new; pairs = pairs_of cert }) found.partners.items
+  pub pairs_have_tables : shape_fault old ≡ None → shape_fault new ≡ None → length old.roots ≡ length new.roots → length new.words < 2 ^ 32 → HasTables (record { old = old; new = new; pairs = pairs_of cert }) found.partners
   pairs_have_tables old_shaped new_shaped roots few =
-      let most : length (risen 0 found.originals.items) ≤ length found.originals.items = risen_length 0 found.originals.items in
-      subst (λ pairs. HasTables (record { old = old; new = new; pairs = pairs }) found.partners.items) (sym rise)
-      (tables_of_found old new (pairs_of found.pairs.items) found.originals.items found.partners.items here.originals here.partners all_met old_low new_low old_shaped new_shaped roots (omega (arith, most, few)))
+      let row : List ℕ = originals_in new found in
+      let most : length (risen 0 row) ≤ length row = risen_length 0 row in
+      let long : length row ≡ length new.words = length_by_address new.words found.originals in
+      subst (λ pairs. HasTables (record { old = old; new = new; pairs = pairs }) found.partners) (sym rise)
+      (tables_of_found old new (pairs_of found.pairs.items) row (partners_in old found) here.originals here.partners all_met old_low new_low found.partners here.old_entries refl old_shaped new_shaped roots (omega (arith, most, long, few)))
 
   pub pairs_hold_if_alike : shape_fault old ≡ None → shape_fault new ≡ None → AlikeTo old_seen new_seen (pairs_of found.pairs.items) (length found.pairs.items) → Certified old new (pairs_of cert)
   pairs_hold_if_alike old_shaped new_shaped alike = subst (Certified old new) (sym rise)
-      (alike_hold old new (pairs_of found.pairs.items) found.originals.items found.partners.items here.originals here.partners all_met old_low new_low (shaped old old_shaped) (shaped new new_shaped) alike_here)
+      (alike_hold old new (pairs_of found.pairs.items) (originals_in new found) (partners_in old found) here.originals here.partners all_met old_low new_low (shaped old old_shaped) (shaped new new_shaped) alike_here)
     where
       alike_here : AlikeTo old new (pairs_of found.pairs.items) (length (pairs_of found.pairs.items))
       alike_here =
@@ -211,7 +216,7 @@ module _ (old new old_seen new_seen : Image) (found : Found) (cert : List Pair) 
 
   pub pairs_are_closed : AreClosed old new (pairs_of cert)
   pairs_are_closed = subst (AreClosed old new) (sym rise)
-      (found_are_closed old new (pairs_of found.pairs.items) found.originals.items found.partners.items here.originals here.partners all_met old_low new_low)
+      (found_are_closed old new (pairs_of found.pairs.items) (originals_in new found) (partners_in old found) here.originals here.partners all_met old_low new_low)
 
 -- ---- images that cannot be compared
 

@@ -1,20 +1,21 @@
 -- Two words meet, and perhaps they are one more pair.
 use Rattle.std.proofs.Common.{◌≡◌, ℕ, zero, suc, ◌<◌, ◌≤◌, ◌+◌, Bool, true, false, cond, not, ◌&&◌, ◌||◌, ◌==◌, List, [], ◌∷◌, ◌++◌, length, replicate, get_or, set, refl, sym, ◌∙◌, ap, subst, inl, inr, arith, length-set, get_or-set_other}
-use Rattle.std.specs.Prelude.{slice_index, vec_capacity, IsOk}
+use Rattle.std.specs.Prelude.{slice_index, vec_capacity}
 use Rattle.std.specs.List.{list_any}
 use Rattle.std.proofs.lemmas.Bool.{eqb-true, eq-eqb, ne_eqb, and_parts, cases_Bool, both_ways}
 use Rattle.gc_graph.specs.Correspond.{paired}
-use Rattle.gc_words.specs.Image.{Image, walk_words, is_start}
+use Rattle.gc_words.specs.Image.{Image, is_start}
 use Rattle.gc_words.specs.Views.{addresses}
 use Rattle.gc_words.specs.declared.image.Pair.{Pair}
 use Rattle.gc_check.specs.declared.meet.Found.{Found}
 use Rattle.gc_check.specs.Internal.Starts.{starts_from}
-use Rattle.gc_check.specs.Internal.Tables.{HoldsPartners}
-use Rattle.gc_check.specs.Internal.Meetings.{is_free, swapped, taken_in, HoldsFound}
-use Rattle.std.proofs.lemmas.List.{get_or-map, length-replicate, length-append}
+use Rattle.gc_check.specs.Internal.Tables.{HasEntries, HoldsPartners}
+use Rattle.gc_check.specs.Internal.Meetings.{is_free, swapped, taken_in, partners_in, originals_in, HoldsFound}
+use Rattle.std.proofs.lemmas.List.{get_or-map, length-append}
 use Rattle.gc_check.specs.Tables.{pair_at}
 use Rattle.gc_check.specs.Verdict.{pairs_of}
-use Rattle.gc_check.proofs.StartMarks.{low_start, start_within}
+use Rattle.gc_check.proofs.StartMarks.{nothing_at, low_start, start_within}
+use Rattle.gc_check.proofs.ByAddress.{length_by_address, number_starts}
 use Rattle.gc_check.proofs.PartnerRow.{holds_one}
 
 -- ---- swapped pairs
@@ -51,10 +52,10 @@ turned : (b c : Bool) → not b ≡ c → b ≡ not c
 turned true c e = ap not e
 turned false c e = ap not e
 
-pub old_entry : (old new : Image) (f : Found) (a : ℕ) → HoldsFound old new f → (slice_index f.partners.items a == 0) ≡ not (list_any (λ q. q.0 == a) (pairs_of f.pairs.items))
+pub old_entry : (old new : Image) (f : Found) (a : ℕ) → HoldsFound old new f → (slice_index (partners_in old f) a == 0) ≡ not (list_any (λ q. q.0 == a) (pairs_of f.pairs.items))
 old_entry old new f a held = turned _ _ (held.partners.taken a)
 
-pub new_entry : (old new : Image) (f : Found) (b : ℕ) → HoldsFound old new f → (slice_index f.originals.items b == 0) ≡ not (list_any (λ q. q.1 == b) (pairs_of f.pairs.items))
+pub new_entry : (old new : Image) (f : Found) (b : ℕ) → HoldsFound old new f → (slice_index (originals_in new f) b == 0) ≡ not (list_any (λ q. q.1 == b) (pairs_of f.pairs.items))
 new_entry old new f b held = turned _ _ (held.originals.taken b ∙ any_swapped (pairs_of f.pairs.items) b)
 
 pub record Free (old new : Image) (pairs : List (ℕ × ℕ)) (a b : ℕ) : Type 0 where
@@ -88,12 +89,12 @@ no_old_start old new pairs a b e = sym (false_and _ _ _ _ e)
 pub no_new_start : (old new : Image) (pairs : List (ℕ × ℕ)) (a b : ℕ) → is_start old.words a ≡ true → is_start new.words b ≡ false → false ≡ is_free old new pairs a b
 no_new_start old new pairs a b e f = sym (and_false _ _ _ _ e f)
 
-pub has_partner : (old new : Image) (f : Found) (a b : ℕ) → HoldsFound old new f → is_start old.words a ≡ true → is_start new.words b ≡ true → (slice_index f.partners.items a == 0) ≡ false
+pub has_partner : (old new : Image) (f : Found) (a b : ℕ) → HoldsFound old new f → is_start old.words a ≡ true → is_start new.words b ≡ true → (slice_index (partners_in old f) a == 0) ≡ false
     → false ≡ is_free old new (pairs_of f.pairs.items) a b
 has_partner old new f a b held s t e = sym (and_and_false _ _ _ _ s t (sym (old_entry old new f a held) ∙ e))
 
-pub has_original : (old new : Image) (f : Found) (a b : ℕ) → HoldsFound old new f → is_start old.words a ≡ true → is_start new.words b ≡ true → (slice_index f.partners.items a == 0) ≡ true
-    → (slice_index f.originals.items b == 0) ≡ is_free old new (pairs_of f.pairs.items) a b
+pub has_original : (old new : Image) (f : Found) (a b : ℕ) → HoldsFound old new f → is_start old.words a ≡ true → is_start new.words b ≡ true → (slice_index (partners_in old f) a == 0) ≡ true
+    → (slice_index (originals_in new f) b == 0) ≡ is_free old new (pairs_of f.pairs.items) a b
 has_original old new f a b held s t e = new_entry old new f b held ∙ sym (and_and_and _ _ _ _ s t (sym (old_entry old new f a held) ∙ e))
 
 -- ---- the number of pairs
@@ -158,11 +159,14 @@ starts_one words row a x start h k some =
 pub has_room : (old new : Image) (f : Found) (a b : ℕ) → HoldsFound old new f → is_free old new (pairs_of f.pairs.items) a b ≡ true → length f.pairs.items < vec_capacity f.pairs
 has_room old new f a b held free =
     let parts : Free old new (pairs_of f.pairs.items) a b = free_parts old new (pairs_of f.pairs.items) a b free in
-    let within : a < length old.words = start_within old.words a held.old_walked parts.old_start in
-    let row : List ℕ = set f.partners.items a 1 in
-    let more : taken_in row ≡ suc (taken_in f.partners.items) = taken_one f.partners.items a 1 (omega (arith, held.old_len)) (eqb-true _ _ (old_entry old new f a held ∙ parts.old_free)) (omega arith) in
-    let few : taken_in row ≤ starts_from old.words 0 (length row) = few_taken old.words 0 row (λ k some. subst (λ place. is_start old.words place ≡ true) (from_0 k) (starts_one old.words f.partners.items a 1 parts.old_start held.starts k some)) in
-    let long : length row ≡ length old.words = length-set f.partners.items a 1 ∙ held.old_len in
+    let within : a < length old.words = start_within old.words a held.old_entries.walked parts.old_start in
+    let partners : List ℕ = partners_in old f in
+    let row : List ℕ = set partners a 1 in
+    let old_len : length partners ≡ length old.words = length_by_address old.words f.partners in
+    let more : taken_in row ≡ suc (taken_in partners) = taken_one partners a 1 (omega arith) (eqb-true _ _ (old_entry old new f a held ∙ parts.old_free)) (omega arith) in
+    let few : taken_in row ≤ starts_from old.words 0 (length row)
+    = few_taken old.words 0 row (λ k some. subst (λ place. is_start old.words place ≡ true) (from_0 k) (starts_one old.words partners a 1 parts.old_start (λ k some. number_starts old.words f.partners k held.old_entries.walked some) k some)) in
+    let long : length row ≡ length old.words = length-set partners a 1 ∙ old_len in
     let few' : taken_in row ≤ starts_from old.words 0 (length old.words) = subst (λ n. taken_in row ≤ starts_from old.words 0 n) long few in
     omega (arith, held.count, held.room, more, few')
   where
@@ -172,47 +176,38 @@ has_room old new f a b held free =
 -- ---- one more pair
 
 pub held_one : (old new : Image) (f g : Found) (x : Pair) → HoldsFound old new f → is_free old new (pairs_of f.pairs.items) x.old.0 x.new.0 ≡ true
-    → g.partners.items ≡ set f.partners.items x.old.0 x.new.0 → g.originals.items ≡ set f.originals.items x.new.0 x.old.0 → g.pairs.items ≡ f.pairs.items ++ x ∷ [] → vec_capacity g.pairs ≡ vec_capacity f.pairs
-    → HoldsFound old new g
-held_one old new f g x held free e1 e2 e3 e4 =
+    → HasEntries old.words g.partners → HasEntries new.words g.originals → partners_in old g ≡ set (partners_in old f) x.old.0 x.new.0 → originals_in new g ≡ set (originals_in new f) x.new.0 x.old.0
+    → g.pairs.items ≡ f.pairs.items ++ x ∷ [] → vec_capacity g.pairs ≡ vec_capacity f.pairs → HoldsFound old new g
+held_one old new f g x held free old_entries new_entries e1 e2 e3 e4 =
     let pairs : List (ℕ × ℕ) = pairs_of f.pairs.items in
+    let partners : List ℕ = partners_in old f in
+    let originals : List ℕ = originals_in new f in
+    let old_len : length partners ≡ length old.words = length_by_address old.words f.partners in
+    let new_len : length originals ≡ length new.words = length_by_address new.words f.originals in
     let parts : Free old new pairs x.old.0 x.new.0 = free_parts old new pairs x.old.0 x.new.0 free in
-    let old_low : 1 ≤ x.old.0 = low_start old.words x.old.0 held.old_walked parts.old_start in
-    let new_low : 1 ≤ x.new.0 = low_start new.words x.new.0 held.new_walked parts.new_start in
-    let old_within : x.old.0 < length old.words = start_within old.words x.old.0 held.old_walked parts.old_start in
-    let new_within : x.new.0 < length new.words = start_within new.words x.new.0 held.new_walked parts.new_start in
+    let old_low : 1 ≤ x.old.0 = low_start old.words x.old.0 old_entries.walked parts.old_start in
+    let new_low : 1 ≤ x.new.0 = low_start new.words x.new.0 new_entries.walked parts.new_start in
+    let old_within : x.old.0 < length old.words = start_within old.words x.old.0 old_entries.walked parts.old_start in
+    let new_within : x.new.0 < length new.words = start_within new.words x.new.0 new_entries.walked parts.new_start in
     let now : pairs_of g.pairs.items ≡ pairs ++ (x.old.0, x.new.0) ∷ [] = ap pairs_of e3 ∙ pairs_push f.pairs.items x in
+    let old_free : slice_index partners x.old.0 ≡ 0 = eqb-true _ _ (old_entry old new f x.old.0 held ∙ parts.old_free) in
+    let new_free : slice_index originals x.new.0 ≡ 0 = eqb-true _ _ (new_entry old new f x.new.0 held ∙ parts.new_free) in
     record {
-      old_walked = held.old_walked;
-      new_walked = held.new_walked;
-      old_len = ap length e1 ∙ length-set f.partners.items x.old.0 x.new.0 ∙ held.old_len;
-      new_len = ap length e2 ∙ length-set f.originals.items x.new.0 x.old.0 ∙ held.new_len;
-      partners = subst (λ row. HoldsPartners row (pairs_of g.pairs.items)) (sym e1) (subst (HoldsPartners (set f.partners.items x.old.0 x.new.0)) (sym now)
-          (holds_one f.partners.items pairs (x.old.0, x.new.0) (omega (arith, held.old_len)) new_low
-          (eqb-true _ _ (old_entry old new f x.old.0 held ∙ parts.old_free)) held.partners));
-      originals = subst (λ row. HoldsPartners row (swapped (pairs_of g.pairs.items))) (sym e2) (subst (HoldsPartners (set f.originals.items x.new.0 x.old.0)) (sym (ap swapped now ∙ swapped_push pairs (x.old.0, x.new.0)))
-          (holds_one f.originals.items (swapped pairs) (x.new.0, x.old.0) (omega (arith, held.new_len)) old_low
-          (eqb-true _ _ (new_entry old new f x.new.0 held ∙ parts.new_free)) held.originals));
-      count = ap length e3 ∙ one_more f.pairs.items held.count
-          ∙ sym (ap taken_in e1 ∙ taken_one f.partners.items x.old.0 x.new.0 (omega (arith, held.old_len)) (eqb-true _ _ (old_entry old new f x.old.0 held ∙ parts.old_free)) new_low);
-      new_count = ap length e3 ∙ one_more_new f.pairs.items held.new_count
-          ∙ sym (ap taken_in e2 ∙ taken_one f.originals.items x.new.0 x.old.0 (omega (arith, held.new_len)) (eqb-true _ _ (new_entry old new f x.new.0 held ∙ parts.new_free)) old_low);
-      starts = subst (λ row. (a : ℕ) → not (slice_index row a == 0) ≡ true → is_start old.words a ≡ true) (sym e1) (starts_one old.words f.partners.items x.old.0 x.new.0 parts.old_start held.starts);
+      old_entries = old_entries;
+      new_entries = new_entries;
+      partners = subst (λ row. HoldsPartners row (pairs_of g.pairs.items)) (sym e1) (subst (HoldsPartners (set partners x.old.0 x.new.0)) (sym now)
+          (holds_one partners pairs (x.old.0, x.new.0) (omega arith) new_low old_free held.partners));
+      originals = subst (λ row. HoldsPartners row (swapped (pairs_of g.pairs.items))) (sym e2) (subst (HoldsPartners (set originals x.new.0 x.old.0)) (sym (ap swapped now ∙ swapped_push pairs (x.old.0, x.new.0)))
+          (holds_one originals (swapped pairs) (x.new.0, x.old.0) (omega arith) old_low new_free held.originals));
+      count = ap length e3 ∙ one_more f.pairs.items (taken_in partners) held.count ∙ sym (ap taken_in e1 ∙ taken_one partners x.old.0 x.new.0 (omega arith) old_free new_low);
+      new_count = ap length e3 ∙ one_more f.pairs.items (taken_in originals) held.new_count ∙ sym (ap taken_in e2 ∙ taken_one originals x.new.0 x.old.0 (omega arith) new_free old_low);
       room = subst (λ n. starts_from old.words 0 (length old.words) ≤ n) (sym e4) held.room;
     }
   where
-    one_more_new : (cert : List Pair) → length cert ≡ taken_in f.originals.items → length (cert ++ x ∷ []) ≡ suc (taken_in f.originals.items)
-    one_more_new cert e = omega (arith, length-append cert (x ∷ []), e)
-
-    one_more : (cert : List Pair) → length cert ≡ taken_in f.partners.items → length (cert ++ x ∷ []) ≡ suc (taken_in f.partners.items)
-    one_more cert e = omega (arith, length-append cert (x ∷ []), e)
+    one_more : (cert : List Pair) (n : ℕ) → length cert ≡ n → length (cert ++ x ∷ []) ≡ suc n
+    one_more cert n e = omega (arith, length-append cert (x ∷ []), e)
 
 -- ---- no pairs
-
-pub nothing_at : (n a : ℕ) → slice_index (replicate n 0) a ≡ 0
-nothing_at zero a = refl
-nothing_at (suc n) zero = refl
-nothing_at (suc n) (suc a) = nothing_at n a
 
 holds_none : (row : List ℕ) (n : ℕ) → row ≡ replicate n 0 → HoldsPartners row []
 holds_none row n e = record {
@@ -223,24 +218,21 @@ holds_none row n e = record {
     empty : (a : ℕ) → slice_index row a ≡ 0
     empty a = ap (λ row. slice_index row a) e ∙ nothing_at n a
 
-pub held_none : (old new : Image) (f : Found) → IsOk (walk_words old.words) → IsOk (walk_words new.words) → f.partners.items ≡ replicate (length old.words) 0 → f.originals.items ≡ replicate (length new.words) 0 → f.pairs.items ≡ [] → vec_capacity f.pairs ≡ starts_from old.words 0 (length old.words)
+pub held_none : (old new : Image) (f : Found) → HasEntries old.words f.partners → HasEntries new.words f.originals → partners_in old f ≡ replicate (length old.words) 0 → originals_in new f ≡ replicate (length new.words) 0 → f.pairs.items ≡ [] → vec_capacity f.pairs ≡ starts_from old.words 0 (length old.words)
     → HoldsFound old new f
-held_none old new f ok ok' e1 e2 e3 e4 = record {
-  old_walked = ok;
-  new_walked = ok';
-  old_len = ap length e1 ∙ length-replicate (length old.words) 0;
-  new_len = ap length e2 ∙ length-replicate (length new.words) 0;
-  partners = subst (λ cert. HoldsPartners f.partners.items (pairs_of cert)) (sym e3) (holds_none f.partners.items (length old.words) e1);
-  originals = subst (λ cert. HoldsPartners f.originals.items (swapped (pairs_of cert))) (sym e3) (holds_none f.originals.items (length new.words) e2);
+held_none old new f old_entries new_entries e1 e2 e3 e4 = record {
+  old_entries = old_entries;
+  new_entries = new_entries;
+  partners = subst (λ cert. HoldsPartners (partners_in old f) (pairs_of cert)) (sym e3) (holds_none (partners_in old f) (length old.words) e1);
+  originals = subst (λ cert. HoldsPartners (originals_in new f) (swapped (pairs_of cert))) (sym e3) (holds_none (originals_in new f) (length new.words) e2);
   count = ap length e3 ∙ sym (ap taken_in e1 ∙ taken_none (length old.words));
   new_count = ap length e3 ∙ sym (ap taken_in e2 ∙ taken_none (length new.words));
-  starts = λ a some. absurd (let no : false ≡ true = sym (ap (λ row. not (slice_index row a == 0)) e1 ∙ ap (λ entry. not (entry == 0)) (nothing_at (length old.words) a)) ∙ some in cc);
   room = subst (λ n. starts_from old.words 0 (length old.words) ≤ n) (sym e4) (omega arith);
 }
 
 -- no more pairs are found than the old image has words
 pub few_found : (old new : Image) (f : Found) → HoldsFound old new f → length f.pairs.items ≤ length old.words
-few_found old new f held = let most : taken_in f.partners.items ≤ length f.partners.items = taken_few f.partners.items in omega (arith, held.count, held.old_len, most)
+few_found old new f held = let most : taken_in (partners_in old f) ≤ length (partners_in old f) = taken_few (partners_in old f) in omega (arith, held.count, length_by_address old.words f.partners, most)
 
 -- ---- pairs by their places
 

@@ -1,20 +1,21 @@
 -- Pairs are entered into the table of partners, one after the other.
-use Rattle.std.proofs.Common.{◌≡◌, ℕ, suc, ◌+◌, ◌<◌, ◌≤◌, Bool, true, false, not, ◌&&◌, ◌||◌, ◌==◌, List, [], ◌∷◌, ◌++◌, length, take, drop, get_or, set, Option, Some, None, refl, sym, ◌∙◌, ap, subst, inl, inr, arith, length-set, get_or-set_same, get_or-set_other}
-use Rattle.std.specs.Prelude.{slice_index, nat_le, IsOk}
+use Rattle.std.proofs.Common.{◌≡◌, ℕ, suc, ◌+◌, ◌<◌, ◌≤◌, Bool, true, false, not, ◌&&◌, ◌||◌, ◌==◌, List, [], ◌∷◌, ◌++◌, length, take, drop, get_or, set, Option, Some, None, refl, sym, ◌∙◌, ap, subst, inl, inr, arith, get_or-set_same, get_or-set_other}
+use Rattle.std.specs.Prelude.{slice_index, nat_le}
 use Rattle.std.specs.List.{list_any}
 use Rattle.std.proofs.lemmas.Bool.{eqb-true, eq-eqb, ne_eqb, cases_eq, cases_Bool, not-false}
 use Rattle.std.proofs.lemmas.List.{map_more, at_drop_more, take-map}
 use Rattle.std.proofs.lemmas.List.Folds.{list_any-append}
 use Rattle.gc_graph.specs.Correspond.{paired}
-use Rattle.gc_words.specs.Image.{Image, walk_words, is_start}
+use Rattle.gc_words.specs.Image.{Image, is_start}
 use Rattle.gc_words.specs.Views.{addresses}
 use Rattle.gc_words.specs.Fault.{◌or_else◌, when, first_over_pairs, not_above_last, place_fault, place_faults}
 use Rattle.gc_words.specs.declared.image.Pair.{Pair}
 use Rattle.gc_words.specs.declared.refusal.Refusal.{Refusal}
 use Rattle.gc_words.specs.declared.refusal.Refusal.TheVariants.{OldNotStart, NewNotStart, NotRising, Twice}
-use Rattle.gc_check.specs.Internal.Tables.{HoldsPartners, entry_fault}
+use Rattle.gc_check.specs.Internal.Tables.{HasEntries, HoldsPartners, by_address, entry_fault}
 use Rattle.gc_check.specs.Verdict.{pairs_of}
 use Rattle.gc_check.proofs.StartMarks.{start_within}
+use Rattle.gc_check.proofs.ByAddress.{length_by_address}
 use Rattle.gc_words.proofs.Public.{or_none, when_none}
 
 -- ---- the table of partners
@@ -125,9 +126,9 @@ abbrev places_from : Image → Image → List Pair → ℕ → Option Refusal
 places_from old new cert k = first_over_pairs (λ k. place_fault old new (take k (pairs_of cert)) k) k (pairs_of (drop k cert))
 
 -- the first k pairs of a certificate have been entered
-pub record Entered (old new : Image) (cert : List Pair) (row : List ℕ) (last k : ℕ) : Type 0 where
-  pub len : length row ≡ length old.words
-  pub held : HoldsPartners row (pairs_of (take k cert))
+pub record Entered (old new : Image) (cert : List Pair) (entries : List ℕ) (last k : ℕ) : Type 0 where
+  pub fits : HasEntries old.words entries
+  pub held : HoldsPartners (by_address old.words entries) (pairs_of (take k cert))
   pub ends : EndsAt (pairs_of (take k cert)) last
   pub same : place_faults old new (pairs_of cert) ≡ places_from old new cert k
 
@@ -141,32 +142,33 @@ unrolled old new cert k d inside =
     next : suc k ≡ k + 1
     next = omega arith
 
-pub entered_fault : (old new : Image) (cert : List Pair) (row : List ℕ) (last k : ℕ) (d : Pair) (refusal : Refusal) → k < length cert → (is_start new.words (addresses (get_or cert k d)).1 ≡ true → 1 ≤ (addresses (get_or cert k d)).1)
-    → Entered old new cert row last k → entry_fault old new row last k (addresses (get_or cert k d)) ≡ Some refusal → place_faults old new (pairs_of cert) ≡ Some refusal
-entered_fault old new cert row last k d refusal inside low s e =
+pub entered_fault : (old new : Image) (cert : List Pair) (entries : List ℕ) (last k : ℕ) (d : Pair) (refusal : Refusal) → k < length cert → (is_start new.words (addresses (get_or cert k d)).1 ≡ true → 1 ≤ (addresses (get_or cert k d)).1)
+    → Entered old new cert entries last k → entry_fault old new (by_address old.words entries) last k (addresses (get_or cert k d)) ≡ Some refusal → place_faults old new (pairs_of cert) ≡ Some refusal
+entered_fault old new cert entries last k d refusal inside low s e =
     let p : ℕ × ℕ = addresses (get_or cert k d) in
     s.same ∙ unrolled old new cert k d inside
-    ∙ ap (λ o. o or_else places_from old new cert (k + 1)) (sym (entry_is old new row (pairs_of (take k cert)) last k p s.held s.ends low) ∙ e)
+    ∙ ap (λ o. o or_else places_from old new cert (k + 1)) (sym (entry_is old new (by_address old.words entries) (pairs_of (take k cert)) last k p s.held s.ends low) ∙ e)
 
-pub entered_one : (old new : Image) (cert : List Pair) (row : List ℕ) (last k : ℕ) (d : Pair) → k < length cert
-    → let p = addresses (get_or cert k d) in (is_start new.words p.1 ≡ true → 1 ≤ p.1) → p.0 < length row
-    → Entered old new cert row last k → entry_fault old new row last k p ≡ None → Entered old new cert (set row p.0 p.1) p.1 (k + 1)
-entered_one old new cert row last k d inside low within s e =
+pub entered_one : (old new : Image) (cert : List Pair) (entries after : List ℕ) (last k : ℕ) (d : Pair) → k < length cert
+    → let p = addresses (get_or cert k d) in (is_start new.words p.1 ≡ true → 1 ≤ p.1)
+    → Entered old new cert entries last k → entry_fault old new (by_address old.words entries) last k p ≡ None
+    → HasEntries old.words after → by_address old.words after ≡ set (by_address old.words entries) p.0 p.1 → Entered old new cert after p.1 (k + 1)
+entered_one old new cert entries after last k d inside low s e long one =
     let p : ℕ × ℕ = addresses (get_or cert k d) in
+    let row : List ℕ = by_address old.words entries in
     let before : List (ℕ × ℕ) = pairs_of (take k cert) in
     let placed : Placed old new row p = no_entry_fault old new row last k p e in
+    let within : p.0 < length old.words = start_within old.words p.0 long.walked placed.old_start in
     let more : pairs_of (take (k + 1) cert) ≡ before ++ p ∷ [] = map_more addresses cert k d inside in
     record {
-      len = length-set row p.0 p.1 ∙ s.len;
-      held = subst (HoldsPartners (set row p.0 p.1)) (sym more) (holds_one row before p within (low placed.new_start) placed.free s.held);
+      fits = long;
+      held = subst (λ row. HoldsPartners row (pairs_of (take (k + 1) cert))) (sym one)
+          (subst (HoldsPartners (set row p.0 p.1)) (sym more) (holds_one row before p (omega (arith, length_by_address old.words entries, within)) (low placed.new_start) placed.free s.held));
       ends = subst (λ pairs. EndsAt pairs p.1) (sym more) (ends_one before p);
       same = s.same ∙ unrolled old new cert k d inside
           ∙ ap (λ o. o or_else places_from old new cert (k + 1)) (sym (entry_is old new row before last k p s.held s.ends low) ∙ e);
     }
 
--- the pair's old address is a place in the table
-pub entered_within : (old new : Image) (cert : List Pair) (row : List ℕ) (last k : ℕ) (p : ℕ × ℕ) → IsOk (walk_words old.words) → Entered old new cert row last k → entry_fault old new row last k p ≡ None → p.0 < length row
-entered_within old new cert row last k p ok s e =
-    let placed : Placed old new row p = no_entry_fault old new row last k p e in
-    let within : p.0 < length old.words = start_within old.words p.0 ok placed.old_start in
-    omega (arith, s.len)
+-- an object starts at the pair's old address
+pub entered_start : (old new : Image) (row : List ℕ) (last k : ℕ) (p : ℕ × ℕ) → entry_fault old new row last k p ≡ None → is_start old.words p.0 ≡ true
+entered_start old new row last k p e = (no_entry_fault old new row last k p e).old_start

@@ -1,6 +1,8 @@
 -- A walk marks the starts of a space one after the other.
-use Rattle.std.proofs.Common.{◌≡◌, ℕ, zero, suc, ◌-◌, ◌+◌, ◌<◌, ◌≤◌, Bool, true, false, cond, ◌==◌, List, [], length, take, drop, get_or, set, replicate, Option, Some, None, Result, Ok, Err, is_some, is_ok, refl, sym, ◌∙◌, ap, subst, inl, inr, arith, length-set, get_or-set_same, get_or-set_other}
+use Rattle.std.proofs.Common.{◌≡◌, ◌≢◌, ℕ, zero, suc, ◌-◌, ◌+◌, ◌/◌, ◌%◌, ◌<◌, ◌≤◌, Bool, true, false, cond, ◌==◌, List, [], length, take, drop, replicate, Option, Some, None, Result, Ok, Err, is_some, is_ok, refl, sym, ◌∙◌, ap, subst, inl, inr, arith}
 use Rattle.std.specs.Prelude.{slice_index, IsOk}
+use Rattle.std.specs.Int.{bit_at}
+use Rattle.std.proofs.lemmas.Nat.Bits.{bit_at-zero}
 use Rattle.std.proofs.lemmas.Bool.{eq-eqb, ne_eqb, cases_eq}
 use Rattle.std.proofs.lemmas.List.{length-replicate, drop_all}
 use Rattle.gc_words.specs.Word.{header_in}
@@ -10,28 +12,33 @@ use Rattle.gc_words.specs.Walking.{next_after, next_in, next_of, walk_on, walk_f
 use Rattle.gc_words.specs.declared.header.Header.{Header}
 use Rattle.gc_words.proofs.Public.{step, at_end, Behind, behind, has_start_from, stands_in, header_counted, same_walk}
 use Rattle.gc_check.specs.Internal.Starts.{starts_from}
-use Rattle.gc_check.specs.Internal.Tables.{MarksStarts}
+use Rattle.gc_check.specs.Internal.Tables.{is_marked, MarksStarts}
 
 -- if the walk reaches the end, the starts are the marked places and those still to come from `at` on
-pub record MarksTo (words : List ℕ) (marks : List Bool) (at : ℕ) : Type 0 where
-  pub len : length marks ≡ length words
-  pub starts : IsOk (walk_from words at) → (place : ℕ) → cond (get_or marks place false) true (has_start_from words at place) ≡ is_start words place
+pub record MarksTo (words bits : List ℕ) (at : ℕ) : Type 0 where
+  pub len : length bits ≡ length words / 64 + 1
+  pub starts : IsOk (walk_from words at) → (place : ℕ) → cond (is_marked bits place) true (has_start_from words at place) ≡ is_start words place
+
+pub nothing_at : (n a : ℕ) → slice_index (replicate n 0) a ≡ 0
+nothing_at zero a = refl
+nothing_at (suc n) zero = refl
+nothing_at (suc n) (suc a) = nothing_at n a
+
+no_mark : (n place : ℕ) → is_marked (replicate n 0) place ≡ false
+unfolding is_marked
+no_mark n place = ap (λ word. bit_at word (place % 64) == 1) (nothing_at n (place / 64)) ∙ ap (λ b. b == 1) (bit_at-zero (place % 64))
 
 -- nothing is marked, and the walk begins
-pub none_marked : (words : List ℕ) (marks : List Bool) → marks ≡ replicate (length words) false → MarksTo words marks 1
-none_marked words marks e = record {
-  len = ap length e ∙ length-replicate (length words) false;
-  starts = λ ok place. ap (λ b. cond b true (is_start words place)) (ap (λ marks. get_or marks place false) e ∙ unmarked (length words) place);
+pub none_marked : (words bits : List ℕ) → bits ≡ replicate (length words / 64 + 1) 0 → MarksTo words bits 1
+none_marked words bits e = record {
+  len = ap length e ∙ length-replicate (length words / 64 + 1) 0;
+  starts = λ ok place. ap (λ b. cond b true (is_start words place)) (ap (λ bits. is_marked bits place) e ∙ no_mark (length words / 64 + 1) place);
 }
-  where
-    unmarked : (n place : ℕ) → get_or (replicate n false) place false ≡ false
-    unmarked zero place = refl
-    unmarked (suc n) zero = refl
-    unmarked (suc n) (suc place) = unmarked n place
 
 -- an object is marked, and the walk continues after it
-pub marks_next : (raws : Bool) (words : List ℕ) (marks : List Bool) (at next : ℕ) → at < length words → next_in raws words at ≡ Some next → MarksTo words marks at → MarksTo words (set marks at true) next
-marks_next raws words marks at next inside e before = record { len = length-set marks at true ∙ before.len; starts = starts }
+pub marks_next : (raws : Bool) (words bits after : List ℕ) (at next : ℕ) → at < length words → next_in raws words at ≡ Some next → length after ≡ length bits → is_marked after at ≡ true
+    → ((other : ℕ) → other ≢ at → is_marked after other ≡ is_marked bits other) → MarksTo words bits at → MarksTo words after next
+marks_next raws words bits after at next inside e long here_marked others before = record { len = long ∙ before.len; starts = starts }
   where
     next_counted : (o : Option Header) → header_in raws (slice_index words at) ≡ o → next_after at o (length words - at) ≡ Some next → next_of words at ≡ Some next
     next_counted None is e = absurd (let no : None ≡ Some next = e in cc)
@@ -59,14 +66,14 @@ marks_next raws words marks at next inside e before = record { len = length-set 
         first_of true block others = refl
         first_of false block others = refl
 
-    starts : IsOk (walk_from words next) → (place : ℕ) → cond (get_or (set marks at true) place false) true (has_start_from words next place) ≡ is_start words place
+    starts : IsOk (walk_from words next) → (place : ℕ) → cond (is_marked after place) true (has_start_from words next place) ≡ is_start words place
     starts ok place =
         let rest : Bool = has_start_from words next place in
-        let mark : Bool = get_or marks place false in
+        let mark : Bool = is_marked bits place in
         elim (cases_eq at place) [
-          | inl same ↦ (let now : get_or (set marks at true) place false ≡ true = ap (λ p. get_or (set marks at true) p false) (sym same) ∙ get_or-set_same marks at true false (omega (arith, before.len, inside)) in
+          | inl same ↦ (let now : is_marked after place ≡ true = ap (is_marked after) (sym same) ∙ here_marked in
               ap (λ b. cond b true rest) now ∙ sym (either_way mark) ∙ ap (cond mark true) (sym (here ok place true (eq-eqb at place same))) ∙ before.starts (walked ok) place)
-          | inr other ↦ (let kept : get_or (set marks at true) place false ≡ mark = get_or-set_other marks at place true false (λ e. other (sym e)) in
+          | inr other ↦ (let kept : is_marked after place ≡ mark = others place (λ e. other (sym e)) in
               ap (λ b. cond b true rest) kept ∙ ap (cond mark true) (sym (here ok place false (ne_eqb at place other))) ∙ before.starts (walked ok) place)
         ]
       where
@@ -75,14 +82,14 @@ marks_next raws words marks at next inside e before = record { len = length-set 
         either_way false = refl
 
 -- the walk has reached the end
-pub all_marked : (raws : Bool) (words : List ℕ) (marks : List Bool) (at : ℕ) → length words ≤ at → fault_of_walk (walk_all raws words) ≡ fault_of_walk (walk_on raws words at) → MarksTo words marks at
-    → (fault_of_walk (walk_all raws words) ≡ None) × MarksStarts words marks
-all_marked raws words marks at past same m = (
+pub all_marked : (raws : Bool) (words bits : List ℕ) (at : ℕ) → length words ≤ at → fault_of_walk (walk_all raws words) ≡ fault_of_walk (walk_on raws words at) → MarksTo words bits at
+    → (fault_of_walk (walk_all raws words) ≡ None) × MarksStarts words bits
+all_marked raws words bits at past same m = (
   none,
   record {
     len = m.len;
     walked = subst IsOk (same_walk raws words walked) walked;
-    starts = λ place. sym (none_left place (get_or marks place false)) ∙ m.starts (ap is_ok done) place;
+    starts = λ place. sym (none_left place (is_marked bits place)) ∙ m.starts (ap is_ok done) place;
   },
 )
   where
@@ -122,6 +129,13 @@ start_within words place ok start =
     let found : (b : Block) × (block_at words place ≡ Some b) × StandsIn words place b = start_stands words place ok start in
     let fits : place + (found.0.header.len + 2) ≤ length words = found.2.fits in
     omega arith
+
+pub no_start_past : (words : List ℕ) (place : ℕ) → IsOk (walk_words words) → length words ≤ place → is_start words place ≡ false
+no_start_past words place ok past = from (is_start words place) refl
+  where
+    from : (b : Bool) → is_start words place ≡ b → is_start words place ≡ false
+    from true e = absurd (let less : place < length words = start_within words place ok e in omega arith)
+    from false e = e
 
 -- the object with this header that starts here
 pub header_stands : (words : List ℕ) (place : ℕ) (h : Header) → IsOk (walk_words words) → header_at words place ≡ Some h

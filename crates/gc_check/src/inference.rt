@@ -7,13 +7,14 @@ ghost use Rattle.gc_words.specs.Views.{image_of};
 ghost use Rattle.gc_words.specs.declared.refusal.Refusal.{Refusal};
 ghost use Rattle.gc_check.specs.Infer.{AreClosed, AreForced, AreTogether, Certifiable, Decides};
 ghost use Rattle.gc_check.specs.Internal.Meetings.{risen, taken_in};
-ghost use Rattle.gc_check.specs.Internal.Tables.{HasTables};
+ghost use Rattle.gc_check.specs.Internal.Tables.{HasEntries, HasTables, by_address};
 ghost use Rattle.gc_check.specs.Verdict.{pairs_of, verdict_of, verdict_by, IsRefusalOf};
 ghost use Rattle.gc_check.specs.declared.verdict.CheckFault.{CheckFault};
 
 use crate::checks::{ComparesObjects, Sequential};
 use crate::laws::certified_is_replicated;
 use crate::meet::{Found, find};
+use crate::object_table::ObjectTable;
 use crate::starts::Starts;
 use crate::tables::Tables;
 use crate::verdict::{CheckFault, Verdict};
@@ -69,6 +70,7 @@ pub fn compare_by<C: ComparesObjects>(
         Decides comparison.verdict (image_of old.entry) (image_of new.entry) (pairs_of comparison.pairs.items)) }
 {
     let Inferred {
+        old,
         pairs,
         partners,
         alike,
@@ -142,16 +144,22 @@ pub fn infer(alloc: Global, old: ImageRef, new: ImageRef) -> Result<Vec<Pair>, N
 
 /// Pairs that were inferred, in the order of new addresses, and the table of their partners.
 #[derive(Drop)]
-struct Inferred {
+struct Inferred<'a> {
+    /// Where the objects of the old image start.
+    old: Starts<'a>,
     pairs: Vec<Pair>,
-    /// At each old address: the new address that is paired with it, or 0.
-    partners: Vec<u32>,
+    /// For each old object: the new address that is paired with it, or 0.
+    partners: ObjectTable,
     /// The certificate was seen to hold as the pairs were found. If not, the objects are still to be compared.
     alike: bool,
 }
 
 // Infers pairs as `infer` does. Returns the first fault of shapes or root counts, or `NoMemory`.
-fn infer_with_table(alloc: Global, old: ImageRef, new: ImageRef) -> Result<Inferred, CheckFault>
+fn infer_with_table<'a>(
+    alloc: Global,
+    old: ImageRef<'a>,
+    new: ImageRef<'a>,
+) -> Result<Inferred<'a>, CheckFault>
     ensures forced { IfOk result (λ inferred.
         AreForced (image_of old.entry) (image_of new.entry) (pairs_of inferred.pairs.items)) }
     ensures together { IfOk result (λ inferred.
@@ -160,11 +168,12 @@ fn infer_with_table(alloc: Global, old: ImageRef, new: ImageRef) -> Result<Infer
         AreClosed (image_of old.entry) (image_of new.entry) (pairs_of inferred.pairs.items)) }
     ensures complete { IfOk result (λ inferred. Certifiable (image_of old.entry) (image_of new.entry)
         → Certified (image_of old.entry) (image_of new.entry) (pairs_of inferred.pairs.items)) }
+    ensures old { IfOk result (λ inferred. inferred.old ≡ image_of old.entry) }
     ensures table { IfOk result (λ inferred. HasTables (record {
       old = image_of old.entry;
       new = image_of new.entry;
       pairs = pairs_of inferred.pairs.items;
-    }) inferred.partners.items) }
+    }) inferred.partners) }
     ensures alike { IfOk result (λ inferred. IsTrue inferred.alike
         → Certified (image_of old.entry) (image_of new.entry) (pairs_of inferred.pairs.items)) }
     ensures refused { IfErr result
@@ -192,8 +201,9 @@ fn infer_with_table(alloc: Global, old: ImageRef, new: ImageRef) -> Result<Infer
     } = walk.found;
     // The row has room for all pairs. The walk no longer needs their order.
     pairs.clear();
-    enter_rising(originals.as_slice(), &mut pairs);
+    enter_rising(&new_starts, &originals, &mut pairs);
     Ok(Inferred {
+        old: old_starts,
         pairs,
         partners,
         alike,
@@ -201,14 +211,15 @@ fn infer_with_table(alloc: Global, old: ImageRef, new: ImageRef) -> Result<Infer
 }
 
 // Appends a pair for each new address that has an original, in the order of new addresses.
-fn enter_rising(originals: &[u32], pairs: &mut Vec<Pair>)
+fn enter_rising(new: &Starts, originals: &ObjectTable, pairs: &mut Vec<Pair>)
     requires none { pairs.old.items ≡ [] }
-    requires few { length originals.now < 2 ^ 32 }
-    requires room { taken_in originals.now ≤ vec_capacity pairs.old }
-    ensures pairs { pairs_of pairs.new.items ≡ risen 0 originals.now }
+    requires few { length new.now.words < 2 ^ 32 }
+    requires entries { HasEntries new.now.words originals.now }
+    requires room { taken_in (by_address new.now.words originals.now) ≤ vec_capacity pairs.old }
+    ensures pairs { pairs_of pairs.new.items ≡ risen 0 (by_address new.now.words originals.now) }
 {
-    for b in 0..originals.len() {
-        let original = originals[b];
+    for b in 0..new.places() {
+        let original = originals.get(new, b as u32);
         if original != 0 {
             pairs.push_reserved(Pair {
                 old: OldAddr(original),

@@ -9,6 +9,7 @@ ghost use Rattle.gc_check.specs.Internal.Meetings.{met, met_all, met_objects, Me
 ghost use Rattle.gc_check.specs.Verdict.{pairs_of};
 
 use crate::object::{fields_at, header_word_at};
+use crate::object_table::ObjectTable;
 use crate::starts::Starts;
 use gc_graph::NoMemory;
 use gc_words::{Addr, Header, NewAddr, OldAddr, Pair, Value, decode_wide};
@@ -17,10 +18,10 @@ use std::alloc::Global;
 /// The pairs that a walk has found, in the order in which it found them.
 #[derive(Drop)]
 pub(crate) struct Found {
-    /// At each old address: the new address that is paired with it, or 0.
-    pub(crate) partners: Vec<u32>,
-    /// At each new address: the old address that is paired with it, or 0.
-    pub(crate) originals: Vec<u32>,
+    /// For each old object: the new address that is paired with it, or 0.
+    pub(crate) partners: ObjectTable,
+    /// For each new object: the old address that is paired with it, or 0.
+    pub(crate) originals: ObjectTable,
     pub(crate) pairs: Vec<Pair>,
 }
 
@@ -43,8 +44,8 @@ pub(crate) fn find(alloc: Global, old: &Starts, new: &Starts) -> Result<Walk, No
     ensures alike { IfOk result (λ walk. IsTrue walk.alike
         → AlikeTo old.now new.now (pairs_of walk.found.pairs.items) (length walk.found.pairs.items)) }
 {
-    let partners = vec![in alloc; 0u32; old.places()]?;
-    let originals = vec![in alloc; 0u32; new.places()]?;
+    let partners = ObjectTable::new(alloc, old)?;
+    let originals = ObjectTable::new(alloc, new)?;
     let pairs = Vec::with_capacity(alloc, old.count())?;
     let mut found = Found {
         partners,
@@ -143,13 +144,13 @@ fn meet(old: &Starts, new: &Starts, found: &mut Found, original: u64, replica: u
         return false;
     };
     meet_refs(old, new, found, from, to);
-    is_pair(found, from, to)
+    is_pair(old, found, from, to)
 }
 
-ghost use Rattle.std.specs.Prelude.{◌<◌, ◌≤◌};
+ghost use Rattle.std.specs.Prelude.{◌≤◌};
 ghost use Rattle.gc_graph.specs.Correspond.{paired};
 ghost use Rattle.gc_check.specs.Internal.Meetings.{met_refs, is_free};
-ghost use Rattle.gc_check.specs.Internal.Tables.{HoldsPartners};
+ghost use Rattle.gc_check.specs.Internal.Tables.{HasEntries, HoldsPartners, by_address};
 
 // Enters two addresses as a pair, if objects start there that have no partner yet.
 fn meet_refs(old: &Starts, new: &Starts, found: &mut Found, from: Addr, to: Addr)
@@ -166,17 +167,15 @@ fn meet_refs(old: &Starts, new: &Starts, found: &mut Found, from: Addr, to: Addr
         new: NewAddr(to.0),
     };
     found.pairs.push_reserved(pair);
-    found.partners[from.0 as usize] = to.0;
-    found.originals[to.0 as usize] = from.0;
+    found.partners.set(old, from.0, to.0);
+    found.originals.set(new, to.0, from.0);
 }
 
 // Returns whether objects start at both addresses and neither has a partner.
 #[tactic(auto, using(crate::proofs::Meetings::has_original))]
 fn is_free(old: &Starts, new: &Starts, found: &Found, from: Addr, to: Addr) -> bool
     requires held { HoldsFound old.now new.now found.now }
-    ensures value { result ≡ is_free old.now new.now (pairs_of found.now.pairs.items) from.0 to.0 }
-    ensures within { IsTrue result
-        → (from.0 < length found.now.partners.items) × (to.0 < length found.now.originals.items) }
+    ensures { result ≡ is_free old.now new.now (pairs_of found.now.pairs.items) from.0 to.0 }
 {
     if !old.contains(from.0) {
         return false;
@@ -184,18 +183,18 @@ fn is_free(old: &Starts, new: &Starts, found: &Found, from: Addr, to: Addr) -> b
     if !new.contains(to.0) {
         return false;
     }
-    if found.partners[from.0 as usize] != 0 {
+    if found.partners.get(old, from.0) != 0 {
         return false;
     }
-    found.originals[to.0 as usize] == 0
+    found.originals.get(new, to.0) == 0
 }
 
 // Returns whether the addresses are a pair.
-fn is_pair(found: &Found, from: Addr, to: Addr) -> bool
+fn is_pair(old: &Starts, found: &Found, from: Addr, to: Addr) -> bool
     requires address { 1 ≤ to.0 }
-    requires held { HoldsPartners found.now.partners.items (pairs_of found.now.pairs.items) }
+    requires entries { HasEntries old.now.words found.now.partners }
+    requires held { HoldsPartners (by_address old.now.words found.now.partners) (pairs_of found.now.pairs.items) }
     ensures { result ≡ paired (pairs_of found.now.pairs.items) from.0 to.0 }
 {
-    let place = from.0 as usize;
-    place < found.partners.len() && found.partners[place] == to.0
+    found.partners.get(old, from.0) == to.0
 }

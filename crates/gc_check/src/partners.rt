@@ -4,30 +4,32 @@ ghost use Rattle.std.specs.Prelude.{◌≡◌, None, Some, length, replicate, Is
 ghost use Rattle.gc_words.specs.Image.{walk_words};
 ghost use Rattle.gc_words.specs.Fault.{place_faults};
 ghost use Rattle.gc_words.specs.Views.{addresses};
-ghost use Rattle.gc_check.specs.Internal.Tables.{HoldsPartners, entry_fault};
+ghost use Rattle.gc_check.specs.Internal.Tables.{HasEntries, HoldsPartners, by_address, entry_fault};
 ghost use Rattle.gc_check.specs.Verdict.{pairs_of, IsRefusalOf};
 
+use crate::object_table::ObjectTable;
 use crate::starts::Starts;
 use crate::verdict::CheckFault;
 use gc_words::{NewAddr, Pair, Refusal};
 use std::alloc::Global;
 
-/// Returns the table of partners, by old address, or the first fault of a pair's addresses. Allocates once.
+/// Returns the table of partners of old objects, or the first fault of a pair's addresses. Allocates once.
 pub(crate) fn partners_of(
     alloc: Global,
     old: &Starts,
     new: &Starts,
     cert: &[Pair],
-) -> Result<Vec<u32>, CheckFault>
+) -> Result<ObjectTable, CheckFault>
     requires old_walked { IsOk (walk_words old.now.words) }
     requires new_walked { IsOk (walk_words new.now.words) }
     ensures { MatchResult result
         (λ partners. (place_faults old.now new.now (pairs_of cert.now) ≡ None)
-        × HoldsPartners partners.items (pairs_of cert.now))
+        × HasEntries old.now.words partners
+        × HoldsPartners (by_address old.now.words partners) (pairs_of cert.now))
         (IsRefusalOf (place_faults old.now new.now (pairs_of cert.now))) }
 {
-    let mut partners = vec![in alloc; 0u32; old.places()]?;
-    match enter_pairs(old, new, cert, partners.as_mut_slice()) {
+    let mut partners = ObjectTable::new(alloc, old)?;
+    match enter_pairs(old, new, cert, &mut partners) {
         Ok(()) => Ok(partners),
         Err(refusal) => Err(CheckFault::Refused(refusal)),
     }
@@ -38,14 +40,16 @@ fn enter_pairs(
     old: &Starts,
     new: &Starts,
     cert: &[Pair],
-    partners: &mut [u32],
+    partners: &mut ObjectTable,
 ) -> Result<(), Refusal>
     requires old_walked { IsOk (walk_words old.now.words) }
     requires new_walked { IsOk (walk_words new.now.words) }
-    requires empty { partners.old ≡ replicate (length old.now.words) 0 }
+    requires entries { HasEntries old.now.words partners.old }
+    requires empty { by_address old.now.words partners.old ≡ replicate (length old.now.words) 0 }
     ensures { MatchResult result
         (λ _. (place_faults old.now new.now (pairs_of cert.now) ≡ None)
-        × HoldsPartners partners.new (pairs_of cert.now))
+        × HasEntries old.now.words partners.new
+        × HoldsPartners (by_address old.now.words partners.new) (pairs_of cert.now))
         (λ refusal. place_faults old.now new.now (pairs_of cert.now) ≡ Some refusal) }
 {
     // No object starts at 0, so every new address is above it.
@@ -54,7 +58,7 @@ fn enter_pairs(
         if let Some(refusal) = place_fault(old, new, partners, last, k as u64, *pair) {
             return Err(refusal);
         }
-        partners[pair.old.0 as usize] = pair.new.0;
+        partners.set(old, pair.old.0, pair.new.0);
         last = pair.new;
     }
     Ok(())
@@ -64,13 +68,14 @@ fn enter_pairs(
 fn place_fault(
     old: &Starts,
     new: &Starts,
-    partners: &[u32],
+    partners: &ObjectTable,
     last: NewAddr,
     k: u64,
     pair: Pair,
 ) -> Option<Refusal>
-    requires { length partners.now ≡ length old.now.words }
-    ensures { result ≡ entry_fault old.now new.now partners.now last.0 k (addresses pair) }
+    requires { HasEntries old.now.words partners.now }
+    ensures { result
+        ≡ entry_fault old.now new.now (by_address old.now.words partners.now) last.0 k (addresses pair) }
 {
     if !old.contains(pair.old.0) {
         Some(Refusal::OldNotStart { k })
@@ -78,7 +83,7 @@ fn place_fault(
         Some(Refusal::NewNotStart { k })
     } else if pair.new.0 <= last.0 {
         Some(Refusal::NotRising { k })
-    } else if partners[pair.old.0 as usize] != 0 {
+    } else if partners.get(old, pair.old.0) != 0 {
         Some(Refusal::Twice { k })
     } else {
         None

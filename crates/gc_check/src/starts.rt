@@ -1,3 +1,4 @@
+use crate::marks::{is_marked, mark};
 use crate::verdict::CheckFault;
 use gc_words::{ImageRef, Refusal, ShapeFault, next_in};
 use std::alloc::{AllocError, Global};
@@ -7,7 +8,8 @@ use std::marker::Model;
 #[derive(Drop)]
 pub(crate) struct Starts<'a> {
     image: ImageRef<'a>,
-    marks: Vec<bool>,
+    /// A bit for each place.
+    marks: Vec<u64>,
 }
 
 impl<'a> Model for Starts<'a> {
@@ -39,7 +41,7 @@ impl<'a> Starts<'a> {
         if !is_framed(image) {
             return Err(StartsFault::NotShaped(ShapeFault { at: 0 }));
         }
-        let mut marks = vec![in alloc; false; image.words.len()]?;
+        let mut marks = vec![in alloc; 0u64; image.words.len() / 64 + 1]?;
         match mark_starts(image.words, image.raws, marks.as_mut_slice()) {
             Ok(()) => Ok(Starts { image, marks }),
             Err(fault) => Err(StartsFault::NotShaped(fault)),
@@ -82,12 +84,13 @@ impl<'a> Starts<'a> {
     }
 
     /// Returns whether an object starts at this place.
+    #[tactic(auto, using(crate::proofs::StartMarks::no_start_past))]
     pub(crate) fn contains(&self, place: u32) -> bool
         ensures start { result ≡ is_start self.now.words place }
         ensures within { IsTrue result → place < length self.now.words }
     {
         let place = place as usize;
-        place < self.marks.len() && self.is_marked(place)
+        place < self.image.words.len() && self.is_marked(place)
     }
 
     // Returns whether an object starts at this place of the image.
@@ -95,7 +98,7 @@ impl<'a> Starts<'a> {
         requires { place < length self.now.words }
         ensures { result ≡ is_start self.now.words place }
     {
-        self.marks[place]
+        is_marked(self.marks.as_slice(), place)
     }
 }
 
@@ -152,7 +155,7 @@ impl StartsFault {
     }
 }
 
-ghost use Rattle.std.specs.Prelude.{◌≡◌, if◌then◌else◌, length, replicate, false, None, Some, MatchResult};
+ghost use Rattle.std.specs.Prelude.{◌≡◌, ◌+◌, ◌/◌, if◌then◌else◌, length, replicate, None, Some, MatchResult};
 ghost use Rattle.gc_words.specs.Image.{walk_all};
 ghost use Rattle.gc_words.specs.Fault.{fault_of_walk, shape_fault};
 ghost use Rattle.gc_words.specs.Views.{image_of};
@@ -170,8 +173,9 @@ fn is_framed(image: ImageRef) -> bool
 }
 
 // Marks the places at which objects start, up to the first place where an object should start and none does.
-fn mark_starts(words: &[u64], raws: bool, marks: &mut [bool]) -> Result<(), ShapeFault>
-    requires unmarked { marks.old ≡ replicate (length words.now) false }
+#[tactic(auto, using(crate::proofs::StartMarks::none_marked, crate::proofs::StartMarks::marks_next, gc_words::proofs::Public::same_fault))]
+fn mark_starts(words: &[u64], raws: bool, marks: &mut [u64]) -> Result<(), ShapeFault>
+    requires unmarked { marks.old ≡ replicate (length words.now / 64 + 1) 0 }
     ensures { MatchResult result
         (λ _. (fault_of_walk (walk_all raws words.now) ≡ None) × MarksStarts words.now marks.new)
         (λ fault. fault_of_walk (walk_all raws words.now) ≡ Some fault.at) }
@@ -181,7 +185,7 @@ fn mark_starts(words: &[u64], raws: bool, marks: &mut [bool]) -> Result<(), Shap
         let Some(next) = next_in(words, at, raws) else {
             return Err(ShapeFault { at: at as u64 });
         };
-        marks[at] = true;
+        mark(marks, at);
         at = next;
     }
     Ok(())

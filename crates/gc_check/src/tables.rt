@@ -1,5 +1,6 @@
 use crate::checker::check_sizes;
 use crate::object::{fields_at, header_word_at};
+use crate::object_table::ObjectTable;
 use crate::partners::partners_of;
 use crate::starts::Starts;
 use crate::verdict::CheckFault;
@@ -12,11 +13,11 @@ use std::marker::Model;
 /// the pairs.
 #[derive(Drop)]
 pub struct Tables<'a> {
-    old: ImageRef<'a>,
+    old: Starts<'a>,
     new: ImageRef<'a>,
     cert: &'a [Pair],
-    /// At each old address: the new address that is paired with it, or 0.
-    partners: Vec<u32>,
+    /// For each old object: the new address that is paired with it, or 0.
+    partners: ObjectTable,
 }
 
 impl<'a> Model for Tables<'a> {
@@ -28,16 +29,16 @@ impl<'a> Model for Tables<'a> {
     ghost Value = { Checked };
 
     ghost view = { λ t. record {
-      old = image_of t.old;
+      old = t.old;
       new = image_of t.new;
       pairs = pairs_of t.cert.now;
     } };
 
     ghost invariant = { λ t. HasTables (record {
-      old = image_of t.old;
+      old = t.old;
       new = image_of t.new;
       pairs = pairs_of t.cert.now;
-    }) t.partners.items };
+    }) t.partners };
 }
 
 impl<'a> Tables<'a> {
@@ -107,7 +108,7 @@ impl<'a> Tables<'a> {
         }
         let partners = partners_of(alloc, &old_starts, &new_starts, cert)?;
         Ok(Tables {
-            old,
+            old: old_starts,
             new,
             cert,
             partners,
@@ -116,18 +117,18 @@ impl<'a> Tables<'a> {
 
     /// Returns the tables of pairs that were found together with their table of partners.
     pub(crate) fn of_partners(
-        old: ImageRef<'a>,
+        old: Starts<'a>,
         new: ImageRef<'a>,
         cert: &'a [Pair],
-        partners: Vec<u32>,
+        partners: ObjectTable,
     ) -> Tables<'a>
         requires { HasTables (record {
-          old = image_of old;
+          old = old;
           new = image_of new;
           pairs = pairs_of cert.now;
-        }) partners.items }
+        }) partners }
         ensures { result ≡ record {
-          old = image_of old.entry;
+          old = old.entry;
           new = image_of new.entry;
           pairs = pairs_of cert.now;
         } }
@@ -155,12 +156,12 @@ impl<'a> Tables<'a> {
         let pair = self.cert[k as usize];
         let k = u64::from(k);
         // Two headers are the same exactly if their words are.
-        let word = header_word_at(self.old.words, pair.old.0);
+        let word = header_word_at(self.old.words(), pair.old.0);
         if word != header_word_at(self.new.words, pair.new.0) {
             return Some(Refusal::HeaderDiffers { k });
         }
         let header = Header::read(word).unwrap();
-        let old = fields_at(self.old.words, pair.old.0, header);
+        let old = fields_at(self.old.words(), pair.old.0, header);
         let new = fields_at(self.new.words, pair.new.0, header);
         match self.field_difference(header, old, new) {
             Some(i) => Some(Refusal::FieldDiffers { k, i }),
@@ -172,7 +173,7 @@ impl<'a> Tables<'a> {
     pub fn root_fault(&self) -> Option<Refusal>
         ensures { result ≡ root_fault self.now.old self.now.new self.now.pairs }
     {
-        match self.first_difference(self.old.roots, self.new.roots) {
+        match self.first_difference(self.old.roots(), self.new.roots) {
             Some(slot) => Some(Refusal::RootDiffers { slot }),
             None => None,
         }
@@ -226,8 +227,7 @@ impl<'a> Tables<'a> {
         requires { 1 ≤ new.0 }
         ensures { result ≡ paired self.now.pairs old.0 new.0 }
     {
-        let place = old.0 as usize;
-        place < self.partners.len() && self.partners[place] == new.0
+        self.partners.get(&self.old, old.0) == new.0
     }
 }
 

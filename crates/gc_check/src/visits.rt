@@ -9,6 +9,7 @@ ghost use Rattle.gc_check.specs.Paths.{LeadsTo};
 ghost use Rattle.gc_check.specs.declared.visits.Node.TheVariants as Node;
 
 use crate::object::{fields_at, header_word_at};
+use crate::object_table::ObjectTable;
 use crate::shortest_path::Path;
 use crate::starts::Starts;
 use gc_graph::NoMemory;
@@ -46,8 +47,8 @@ pub(crate) struct Reference {
 #[derive(Drop)]
 struct Visits {
     list: Vec<Visit>,
-    /// At each address: the number of the visit of the object that starts there, or 0.
-    numbers: Vec<u32>,
+    /// For each object: the number of its visit, or 0.
+    numbers: ObjectTable,
 }
 
 /// Visits each reachable object once, those with shorter paths first. Allocates twice.
@@ -59,7 +60,7 @@ pub(crate) fn visit_reachable(alloc: Global, starts: &Starts) -> Result<Vec<Visi
     ensures few { IfOk result (λ visits. length visits.items ≤ 2 ^ 32) }
 {
     let mut list = Vec::with_capacity(alloc, starts.count() + 1)?;
-    let numbers = vec![in alloc; 0u32; starts.places()]?;
+    let numbers = ObjectTable::new(alloc, starts)?;
     list.push_reserved(Visit {
         node: Node::Roots,
         from: 0,
@@ -142,10 +143,10 @@ fn visit_object(starts: &Starts, visits: &mut Visits, address: u32, found: Visit
     if !starts.contains(address) {
         return;
     }
-    if visits.numbers[address as usize] != 0 {
+    if visits.numbers.get(starts, address) != 0 {
         return;
     }
-    visits.numbers[address as usize] = visits.list.len() as u32;
+    visits.numbers.set(starts, address, visits.list.len() as u32);
     visits.list.push_reserved(found);
 }
 

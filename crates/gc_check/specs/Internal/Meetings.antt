@@ -1,15 +1,15 @@
 -- The pairs that a walk over two images from their roots finds: words that stand at the same place are met, and two
 -- references that meet are a pair, unless one of them has a partner.
-use Rattle.std.specs.Prelude.{◌≡◌, ℕ, suc, ◌<◌, ◌≤◌, ◌==◌, Bool, true, false, not, vec_capacity, ◌&&◌, if◌then◌else◌, List, [], ◌∷◌, ◌++◌, length, map, slice_index, Option, Some, None, IsTrue, IsOk, ⊤}
+use Rattle.std.specs.Prelude.{◌≡◌, ℕ, suc, ◌<◌, ◌≤◌, ◌==◌, Bool, true, false, not, vec_capacity, ◌&&◌, if◌then◌else◌, List, [], ◌∷◌, ◌++◌, length, map, Option, Some, None, IsTrue, ⊤}
 use Rattle.std.specs.List.{All, AllZip, list_any}
 use Rattle.gc_graph.specs.Graph.{Value, Nil, Num, Ref}
 use Rattle.gc_words.specs.Word.{read_value, words_correspond}
-use Rattle.gc_words.specs.Image.{Image, Block, walk_words, is_start, block_at}
+use Rattle.gc_words.specs.Image.{Image, Block, is_start, block_at}
 use Rattle.gc_words.specs.Certificate.{BlocksCorrespond}
 use Rattle.gc_words.specs.Fault.{same_header}
 use Rattle.gc_check.specs.Infer.{AreForced, AreTogether}
 use Rattle.gc_check.specs.Internal.Starts.{starts_from}
-use Rattle.gc_check.specs.Internal.Tables.{HoldsPartners}
+use Rattle.gc_check.specs.Internal.Tables.{HasEntries, HoldsPartners, by_address}
 use Rattle.gc_check.specs.Tables.{pair_at}
 use Rattle.gc_check.specs.Verdict.{pairs_of}
 use Rattle.gc_check.specs.declared.meet.Found.{Found}
@@ -107,18 +107,22 @@ abbrev pub taken_in : List ℕ → ℕ
 taken_in [] = 0
 taken_in (entry ∷ rest) = if entry == 0 then taken_in rest else suc (taken_in rest)
 
+-- the partners of old and of new addresses, by address
+abbrev pub partners_in : Image → Found → List ℕ
+partners_in old found = by_address old.words found.partners
+
+abbrev pub originals_in : Image → Found → List ℕ
+originals_in new found = by_address new.words found.originals
+
 -- the tables hold the partners of the pairs found, in both directions
 pub record HoldsFound (old new : Image) (found : Found) : Type 0 where
-  pub old_walked : IsOk (walk_words old.words)
-  pub new_walked : IsOk (walk_words new.words)
-  pub old_len : length found.partners.items ≡ length old.words
-  pub new_len : length found.originals.items ≡ length new.words
-  pub partners : HoldsPartners found.partners.items (pairs_of found.pairs.items)
-  pub originals : HoldsPartners found.originals.items (swapped (pairs_of found.pairs.items))
+  pub old_entries : HasEntries old.words found.partners
+  pub new_entries : HasEntries new.words found.originals
+  pub partners : HoldsPartners (partners_in old found) (pairs_of found.pairs.items)
+  pub originals : HoldsPartners (originals_in new found) (swapped (pairs_of found.pairs.items))
   -- there are as many pairs as entries in each direction, and room for a pair of each old object
-  pub count : length found.pairs.items ≡ taken_in found.partners.items
-  pub new_count : length found.pairs.items ≡ taken_in found.originals.items
-  pub starts : (a : ℕ) → not (slice_index found.partners.items a == 0) ≡ true → is_start old.words a ≡ true
+  pub count : length found.pairs.items ≡ taken_in (partners_in old found)
+  pub new_count : length found.pairs.items ≡ taken_in (originals_in new found)
   pub room : starts_from old.words 0 (length old.words) ≤ vec_capacity found.pairs
 
 -- a pair for each entry that is not 0, with its address; the entries are those from address `at` on

@@ -1,6 +1,7 @@
 -- The contents of the checker's tables, and the faults that they find one by one.
-use Rattle.std.specs.Prelude.{◌≡◌, ℕ, ◌<◌, ◌≤◌, ◌^◌, ◌==◌, nat_le, Bool, false, not, List, length, slice_index, slice_index_or, Option, None, IsOk}
-use Rattle.std.specs.List.{list_any}
+use Rattle.std.specs.Prelude.{◌≡◌, ℕ, ◌+◌, ◌/◌, ◌%◌, ◌<◌, ◌≤◌, ◌^◌, ◌==◌, nat_le, if◌then◌else◌, Bool, not, List, length, map, slice_index, Option, None, IsOk}
+use Rattle.std.specs.List.{list_any, range_with_len}
+use Rattle.std.specs.Int.{bit_at}
 use Rattle.gc_graph.specs.Correspond.{paired}
 use Rattle.gc_words.specs.Image.{Image, walk_words, is_start}
 use Rattle.gc_words.specs.Fault.{◌or_else◌, when, table_fault}
@@ -8,11 +9,34 @@ use Rattle.gc_words.specs.declared.refusal.Refusal.{Refusal}
 use Rattle.gc_words.specs.declared.refusal.Refusal.TheVariants.{OldNotStart, NewNotStart, NotRising, Twice}
 use Rattle.gc_check.specs.Tables.{Checked}
 
+-- ---- a mark for each place
+
+-- the mark is a bit, 64 in a word
+unfoldable pub is_marked : List ℕ → ℕ → Bool
+is_marked bits place = bit_at (slice_index bits (place / 64)) (place % 64) == 1
+
 -- exactly the places at which objects start are marked
-pub record MarksStarts (words : List ℕ) (marks : List Bool) : Type 0 where
-  pub len : length marks ≡ length words
+pub record MarksStarts (words bits : List ℕ) : Type 0 where
+  pub len : length bits ≡ length words / 64 + 1
   pub walked : IsOk (walk_words words)
-  pub starts : (place : ℕ) → slice_index_or marks place false ≡ is_start words place
+  pub starts : (place : ℕ) → is_marked bits place ≡ is_start words place
+
+-- ---- a number for each object
+
+-- a table with an entry for two words
+pub record HasEntries (words entries : List ℕ) : Type 0 where
+  pub len : length entries ≡ length words / 2 + 1
+  pub walked : IsOk (walk_words words)
+
+-- the entry of the object that starts at this address, or 0
+abbrev pub entry_at : List ℕ → List ℕ → ℕ → ℕ
+entry_at words entries place = if is_start words place then slice_index entries (place / 2) else 0
+
+-- the entries at all addresses
+unfoldable pub by_address : List ℕ → List ℕ → List ℕ
+by_address words entries = map (entry_at words entries) (range_with_len 0 (length words))
+
+-- ---- partners
 
 -- The entry at an old address is the new address that is paired with it, or 0.
 pub record HoldsPartners (partners : List ℕ) (pairs : List (ℕ × ℕ)) : Type 0 where
@@ -28,7 +52,8 @@ entry_fault old new partners last k p =
     or_else when (not (slice_index partners p.0 == 0)) (Twice k)
 
 -- a `u32` can count the pairs, their addresses have no fault, and the table holds the partners of these pairs
-pub record HasTables (checked : Checked) (row : List ℕ) : Type 0 where
+pub record HasTables (checked : Checked) (entries : List ℕ) : Type 0 where
   pub few : length checked.pairs < 2 ^ 32
   pub placed : table_fault checked.old checked.new checked.pairs ≡ None
-  pub partners : HoldsPartners row checked.pairs
+  pub fits : HasEntries checked.old.words entries
+  pub partners : HoldsPartners (by_address checked.old.words entries) checked.pairs

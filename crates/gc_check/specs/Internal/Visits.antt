@@ -1,10 +1,11 @@
 -- A walk in breadth from the roots of an image: its visits, each with the reference by which it was found.
-use Rattle.std.specs.Prelude.{◌≡◌, ◌↔◌, ℕ, suc, ◌<◌, ◌≤◌, ◌^◌, ◌==◌, true, not, List, [], length, map, slice_get, slice_index, slice_index_or, vec_capacity, Option, Some, None, IsTrue, IsOk, ⊤}
+use Rattle.std.specs.Prelude.{◌≡◌, ◌↔◌, ℕ, suc, ◌<◌, ◌≤◌, ◌^◌, ◌==◌, true, not, List, [], length, map, slice_get, slice_index, slice_index_or, vec_capacity, Option, Some, None, IsTrue, ⊤}
 use Rattle.gc_graph.specs.Graph.{Value, Ref, Object, Graph, lookup, follow, name_of}
 use Rattle.gc_words.specs.Word.{value_of}
-use Rattle.gc_words.specs.Image.{Image, graph_of, is_start, walk_words}
+use Rattle.gc_words.specs.Image.{Image, graph_of, is_start}
 use Rattle.gc_check.specs.Internal.Starts.{starts_from}
 use Rattle.gc_check.specs.Internal.Meetings.{taken_in}
+use Rattle.gc_check.specs.Internal.Tables.{HasEntries, by_address}
 use Rattle.gc_check.specs.declared.visits.Node.{Node}
 use Rattle.gc_check.specs.declared.visits.Node.TheVariants as node
 use Rattle.gc_check.specs.declared.visits.Visit.{Visit}
@@ -118,10 +119,14 @@ pub record HoldsVisits (image : Image) (visits : List Visit) (row : List ℕ) : 
   pub starts : (a : ℕ) → not (slice_index row a == 0) ≡ true → is_start image.words a ≡ true
   pub numbers : (a : ℕ) → not (slice_index row a == 0) ≡ true → (slice_index row a < length visits) × ((visit_at visits (slice_index row a)).node ≡ node.Object a)
 
+-- the number of each object's visit, by address
+abbrev pub numbers_in : Image → Visits → List ℕ
+numbers_in image visits = by_address image.words visits.numbers
+
 -- all that holds during a walk: the visits, their table, and room for a visit of each object
 pub record HoldsWalk (image : Image) (visits : Visits) : Type 0 where
-  pub walked : IsOk (walk_words image.words)
+  pub entries : HasEntries image.words visits.numbers
   pub few : length image.words < 2 ^ 32
   pub list : AreVisits image visits.list.items
-  pub table : HoldsVisits image visits.list.items visits.numbers.items
+  pub table : HoldsVisits image visits.list.items (numbers_in image visits)
   pub room : suc (starts_from image.words 0 (length image.words)) ≤ vec_capacity visits.list

@@ -1,4 +1,4 @@
-use Rattle.std.proofs.Common.{rules, ◌≡◌, length, replicate, [], sym, subst}
+use Rattle.std.proofs.Common.{rules, ◌≡◌, length, [], sym, subst}
 use Rattle.std.specs.Vec.{vec_capacity}
 use Rattle.gc_check.specs.Internal.Starts.{starts_from}
 use Rattle.gc_check.specs.Internal.Meetings.{met_all, MetTo}
@@ -12,10 +12,8 @@ use Rattle.gc_check.proofs.meet.find.Goals as goal
 pub meet_all-roots-requires-clause-held : goal.meet_all-roots-requires-clause-held
 meet_all-roots-requires-clause-held c =
     let empty : Found = record { partners = c.in_ok-partners.partners; originals = c.in_ok-originals.originals; pairs = c.in_ok-pairs.pairs } in
-    let partners : c.in_ok-partners.partners.items ≡ replicate (length c.args.old.now.words) 0 = search rules in
-    let originals : c.in_ok-originals.originals.items ≡ replicate (length c.args.new.now.words) 0 = search rules in
     let capacity : vec_capacity c.in_ok-pairs.pairs ≡ starts_from c.args.old.now.words 0 (length c.args.old.now.words) = search rules in
-    held_none c.args.old.now c.args.new.now empty c.requires.old_walked c.requires.new_walked partners originals c.in_ok-pairs.ensures.items capacity
+    held_none c.args.old.now c.args.new.now empty c.in_ok-partners.ensures.entries c.in_ok-originals.ensures.entries c.in_ok-partners.ensures.zeros c.in_ok-originals.ensures.zeros c.in_ok-pairs.ensures.items capacity
 
 pub meet_reachable-alike-requires-clause-met : goal.meet_reachable-alike-requires-clause-met
 meet_reachable-alike-requires-clause-met c =

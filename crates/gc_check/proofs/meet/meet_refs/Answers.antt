@@ -1,5 +1,5 @@
-use Rattle.std.proofs.Common.{rules, ◌<◌, length, ◌≡◌, ◌∷◌, ◌++◌, [], true, refl}
-use Rattle.std.specs.Vec.{with_item, vec_capacity}
+use Rattle.std.proofs.Common.{rules, ◌<◌, length, ◌≡◌, ◌∷◌, ◌++◌, [], true}
+use Rattle.std.specs.Vec.{vec_capacity}
 use Rattle.gc_words.specs.declared.image.Pair.{Pair}
 use Rattle.gc_check.specs.declared.meet.Found.{Found}
 use Rattle.gc_check.specs.Internal.Meetings.{is_free}
@@ -10,11 +10,11 @@ use Rattle.gc_check.proofs.meet.meet_refs.Goals as goal
 pub returns-clause-held : goal.returns-clause-held
 returns-clause-held c =
     let x : Pair = record { old = record { 0 = c.args.from.0 }; new = record { 0 = c.args.to.0 } } in
-    let after : Found = record { partners = with_item c.args.found.now.partners c.args.from.0 c.args.to.0; originals = with_item c.args.found.now.originals c.args.to.0 c.args.from.0; pairs = c.push_reserved.new.self } in
+    let after : Found = record { partners = c.set.new.self; originals = c.set-2.new.self; pairs = c.push_reserved.new.self } in
     let free : is_free c.args.old.now c.args.new.now (pairs_of c.args.found.now.pairs.items) c.args.from.0 c.args.to.0 ≡ true = search rules in
     let pushed : c.push_reserved.new.self.items ≡ c.args.found.now.pairs.items ++ x ∷ [] = search rules in
     let capacity : vec_capacity c.push_reserved.new.self ≡ vec_capacity c.args.found.now.pairs = search rules in
-    held_one c.args.old.now c.args.new.now c.args.found.now after x c.requires.held free refl refl pushed capacity
+    held_one c.args.old.now c.args.new.now c.args.found.now after x c.requires.held free c.set.ensures.entries c.set-2.ensures.entries c.set.ensures.number c.set-2.ensures.number pushed capacity
 
 pub push_reserved-requires : goal.push_reserved-requires
 push_reserved-requires c =

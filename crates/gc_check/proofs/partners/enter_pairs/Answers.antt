@@ -1,7 +1,8 @@
 use Rattle.std.proofs.Common.{sym, ◌∙◌, get_or}
 use Rattle.gc_words.specs.declared.image.Pair.{Pair}
+use Rattle.gc_check.specs.Internal.Tables.{by_address}
 use Rattle.gc_check.proofs.StartMarks.{low_start}
-use Rattle.gc_check.proofs.PartnerRow.{entered_fault, entered_one, entered_within}
+use Rattle.gc_check.proofs.PartnerRow.{entered_fault, entered_one, entered_start}
 use Rattle.gc_check.proofs.partners.enter_pairs.Goals as goal
 
 -- any pair will do: a read within the certificate does not use it
@@ -15,17 +16,14 @@ returns-in-Some c =
     (λ start. low_start c.args.new.now.words pair.new.0 c.requires.new_walked start)
     c.loop-k.invariant (sym c.place_fault.ensures ∙ c.in-Some.is)
 
-pub bounds-partners-pair : goal.bounds-partners-pair
-bounds-partners-pair c =
+pub set-requires-clause-start : goal.set-requires-clause-start
+set-requires-clause-start c =
     let pair : Pair = get_or c.args.cert.now c.loop-k.k none in
-    entered_within c.args.old.now c.args.new.now c.args.cert.now c.loop-k.partners c.loop-k.last.0 c.loop-k.k (pair.old.0, pair.new.0) c.requires.old_walked
-    c.loop-k.invariant (sym c.place_fault.ensures ∙ c.in_default.is)
+    entered_start c.args.old.now c.args.new.now (by_address c.args.old.now.words c.loop-k.partners) c.loop-k.last.0 c.loop-k.k (pair.old.0, pair.new.0) (sym c.place_fault.ensures ∙ c.in_default.is)
 
 pub loop-k-preserved : goal.loop-k-preserved
 loop-k-preserved c =
     let pair : Pair = get_or c.args.cert.now c.loop-k.k none in
-    let no_fault = sym c.place_fault.ensures ∙ c.in_default.is in
-    entered_one c.args.old.now c.args.new.now c.args.cert.now c.loop-k.partners c.loop-k.last.0 c.loop-k.k none c.loop-k-test.true
+    entered_one c.args.old.now c.args.new.now c.args.cert.now c.loop-k.partners c.set.new.self c.loop-k.last.0 c.loop-k.k none c.loop-k-test.true
     (λ start. low_start c.args.new.now.words pair.new.0 c.requires.new_walked start)
-    (entered_within c.args.old.now c.args.new.now c.args.cert.now c.loop-k.partners c.loop-k.last.0 c.loop-k.k (pair.old.0, pair.new.0) c.requires.old_walked c.loop-k.invariant no_fault)
-    c.loop-k.invariant no_fault
+    c.loop-k.invariant (sym c.place_fault.ensures ∙ c.in_default.is) c.set.ensures.entries c.set.ensures.number

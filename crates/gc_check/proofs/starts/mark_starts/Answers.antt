@@ -1,15 +1,5 @@
-use Rattle.std.proofs.Common.{sym, ◌∙◌}
-use Rattle.gc_words.proofs.Public.{same_fault}
-use Rattle.gc_check.proofs.StartMarks.{marks_next, all_marked}
+use Rattle.gc_check.proofs.StartMarks.{all_marked}
 use Rattle.gc_check.proofs.starts.mark_starts.Goals as goal
-
-pub loop-at-preserved : goal.loop-at-preserved
-loop-at-preserved c =
-    let next = sym c.next_in.ensures ∙ c.in-Some.is in
-    record {
-      same = c.loop-at.invariant.same ∙ same_fault c.args.raws c.args.words.now c.loop-at.at c.in-Some.next c.loop-at-test.true next;
-      marked = marks_next c.args.raws c.args.words.now c.loop-at.marks c.loop-at.at c.in-Some.next c.loop-at-test.true next c.loop-at.invariant.marked;
-    }
 
 pub returns : goal.returns
 returns c = all_marked c.args.raws c.args.words.now c.loop-at.marks c.loop-at.at c.loop-at-test.false c.loop-at.invariant.same c.loop-at.invariant.marked

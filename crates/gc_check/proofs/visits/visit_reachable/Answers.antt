@@ -1,4 +1,4 @@
-use Rattle.std.proofs.Common.{rules, ◌≡◌, ◌≤◌, ◌∷◌, [], suc, length, replicate, arith}
+use Rattle.std.proofs.Common.{rules, ◌≡◌, ◌≤◌, ◌∷◌, [], suc, length, arith}
 use Rattle.std.specs.Prelude.{vec_capacity}
 use Rattle.gc_check.specs.Internal.Starts.{starts_from}
 use Rattle.gc_check.specs.Internal.Visits.{roots_visit}
@@ -13,9 +13,8 @@ overflow_add-count c =
 pub visit_nodes-requires-clause-held : goal.visit_nodes-requires-clause-held
 visit_nodes-requires-clause-held c =
     let one : c.push_reserved.new.self.items ≡ roots_visit ∷ [] = search rules in
-    let none : c.in_ok-numbers.numbers.items ≡ replicate (length c.args.starts.now.words) 0 = search rules in
     let room : suc (starts_from c.args.starts.now.words 0 (length c.args.starts.now.words)) ≤ vec_capacity c.push_reserved.new.self = search rules in
-    begun c.args.starts.now (record { list = c.push_reserved.new.self; numbers = c.in_ok-numbers.numbers }) c.requires.walked c.requires.few one none room
+    begun c.args.starts.now (record { list = c.push_reserved.new.self; numbers = c.in_ok-numbers.numbers }) c.in_ok-numbers.ensures.entries c.requires.few one c.in_ok-numbers.ensures.zeros room
 
 pub returns-clause-few : goal.returns-clause-few
 returns-clause-few c =

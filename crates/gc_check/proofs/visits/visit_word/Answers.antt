@@ -9,7 +9,7 @@ use Rattle.gc_check.proofs.visits.visit_word.Goals as goal
 pub returns-in_default-clause-visited : goal.returns-in_default-clause-visited
 returns-in_default-clause-visited c = λ a refers start.
     let none : c.reference_at.result ≡ None = search rules in
-    let inside : a < length c.args.starts.now.words = start_within c.args.starts.now.words a c.requires.held.walked start in
+    let inside : a < length c.args.starts.now.words = start_within c.args.starts.now.words a c.requires.held.entries.walked start in
     let low : a < 2 ^ 32 = omega (arith, inside, c.requires.held.few) in
     absurd (let no : None ≡ Some a = sym none ∙ (c.reference_at.ensures a low).1 ((c.requires.words c.args.i a).0 refers) in cc)
 
@@ -20,7 +20,7 @@ visit_object-requires-clause-refers c =
 
 pub returns-clause-visited : goal.returns-clause-visited
 returns-clause-visited c = λ a refers start.
-    let inside : a < length c.args.starts.now.words = start_within c.args.starts.now.words a c.requires.held.walked start in
+    let inside : a < length c.args.starts.now.words = start_within c.args.starts.now.words a c.requires.held.entries.walked start in
     let low : a < 2 ^ 32 = omega (arith, inside, c.requires.held.few) in
     let there : c.reference_at.result ≡ Some a = (c.reference_at.ensures a low).1 ((c.requires.words c.args.i a).0 refers) in
     let same : c.in-Some.address ≡ a = (let both : Some c.in-Some.address ≡ Some a = sym c.in-Some.is ∙ there in cc) in
