@@ -1,5 +1,5 @@
 -- What has to be true of what a checker is told, so that it does not become lost.
-use Rattle.std.specs.Prelude.{◌≡◌, ◌≤◌, ◌<◌, ◌+◌, ℕ, IsFalse, List, length, slice_index, slice_index_or}
+use Rattle.std.specs.Prelude.{◌≡◌, ◌≤◌, ◌<◌, ◌+◌, ℕ, IsFalse, false, List, length, slice_index, slice_index_or}
 use Rattle.gc_words.specs.Image.{Image}
 use Rattle.gc_words.specs.Layout.{field_place, fields_place, link_place}
 use Rattle.gc_words.specs.declared.header.Header.{Header}
