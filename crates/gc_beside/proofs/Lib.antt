@@ -5,6 +5,9 @@ pub mod Events
 pub mod Shown
 pub mod Growth
 pub mod Told
+pub mod Agree
+pub mod Ready
+pub mod Claimed
 pub mod Beside
 pub mod Lives
 pub mod LivesOn

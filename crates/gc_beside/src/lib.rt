@@ -2,7 +2,7 @@
 //! the words of both spaces.
 #![tactic(auto)]
 
-ghost use Rattle.std.specs.Prelude.{◌≡◌, ◌∷◌, ℕ, List, Some, IsSome};
+ghost use Rattle.std.specs.Prelude.{◌≡◌, ◌∷◌, ℕ, List, Some, IsFalse, IsSome, IsTrue};
 ghost use Rattle.gc_graph.specs.Graph.{Object};
 ghost use Rattle.gc_graph.specs.declared.command.Op.{Op};
 ghost use Rattle.gc_graph.specs.declared.reply.Reply.{Reply};
@@ -10,11 +10,15 @@ ghost use Rattle.gc_words.specs.Space.{end_of};
 ghost use Rattle.gc_heap.specs.Heap.{HeapWords, IsHeap, graph_in};
 ghost use Rattle.gc_copy.specs.Members.{In};
 ghost use Rattle.gc_copy.specs.State.{State, Collection, Replica, heap_end, new_end, replica_at};
-ghost use Rattle.gc_copy.specs.Steps.{collect, mutate, written, log_at, root_target, copy_root, scan, apply_log, fresh_collection};
-ghost use Rattle.gc_copy.specs.Belonging.{IsOpened};
+ghost use Rattle.gc_copy.specs.Steps.{collect, mutate, written, log_at, root_target, copy_root, scan, apply_log, fresh_collection, is_ready};
+ghost use Rattle.gc_copy.specs.Belonging.{IsOpened, IsSpaceGraph};
+ghost use Rattle.gc_copy.specs.Linked.{old_image, new_image};
 ghost use Rattle.gc_copy.specs.Words.{CollectionWords, IsCollection, BelongsTo, collection_in};
 ghost use Rattle.gc_copy.specs.declared.step.StepReply.{StepReply};
 ghost use Rattle.gc_along.specs.Watch.{Watch, Watches, opening};
+ghost use Rattle.gc_along.specs.Tables.{Tables, watch_of};
+ghost use Rattle.gc_along.specs.Claims.{Accepts};
+ghost use Rattle.gc_beside.specs.Knows.{Knows};
 ghost use Rattle.gc_beside.specs.Stays.{Fits, GoesAlong, LosesOnly, LosesNone, MarksWritten};
 
 /// A watch that goes along with a collection watches the words of both spaces: each field is due or corresponds.
@@ -55,4 +59,12 @@ pub fn watches_go_along()
         → Fits (heap_end after) next later
         → MarksWritten (λ a i. In {X = ℕ × ℕ} (a, i) (written s.heap.graph m op reply)) w c later
         → GoesAlong after.heap.graph.objects (heap_end after) next later }
+{}
+
+/// A standing checker whose tables know the collection is told only what is true, so it is not lost; and it accepts the collection once
+/// that is ready.
+pub fn checkers_are_never_lost()
+    ensures ready { (s : State) (c : Collection) (t : Tables) → IsSpaceGraph s.size s.heap.free s.heap.graph → IsOpened s c
+        → GoesAlong s.heap.graph.objects (heap_end s) c (watch_of t) → Knows s c t → IsFalse t.lost → IsTrue (is_ready c s.heap.graph)
+        → Accepts t (old_image s c) (new_image s c) }
 {}
