@@ -8,6 +8,8 @@ pub mod Told
 pub mod Agree
 pub mod Ready
 pub mod Claimed
+pub mod Brought
+pub mod Known
 pub mod Beside
 pub mod Lives
 pub mod LivesOn

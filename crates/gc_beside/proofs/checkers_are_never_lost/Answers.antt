@@ -1,3 +1,5 @@
+use Rattle.gc_beside.proofs.Known.{placed_known, looked_is, looked_known}
+use Rattle.gc_beside.proofs.Brought.{brings, field_was_scanned, replica_was_passed, entry_was_applied}
 use Rattle.gc_beside.proofs.Claimed.{can_place, can_apply, is_copy}
 use Rattle.gc_beside.proofs.Ready.{accepts}
 use Rattle.gc_beside.proofs.checkers_are_never_lost.Goals as goal
