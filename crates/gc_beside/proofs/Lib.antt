@@ -10,6 +10,7 @@ pub mod Ready
 pub mod Claimed
 pub mod Brought
 pub mod Known
+pub mod StepsKnown
 pub mod Beside
 pub mod Lives
 pub mod LivesOn
