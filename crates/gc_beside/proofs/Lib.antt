@@ -11,6 +11,7 @@ pub mod Claimed
 pub mod Brought
 pub mod Known
 pub mod StepsKnown
+pub mod EndsKnown
 pub mod Beside
 pub mod Lives
 pub mod LivesOn

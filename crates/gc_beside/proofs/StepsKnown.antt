@@ -242,3 +242,102 @@ module _ (s : State) (c next : Collection) (t : Tables) (links : ℕ → ℕ) (h
           (or_cases passed.replica.object.raw (c.scan_field == length passed.replica.object.fields) passed.done) in
           let x : c.scan_field ≤ i = le in
           absurd (omega arith)
+
+  -- ---- `Apply`
+
+  module _ (s' : State) (m : ℕ) (entry : ℕ × ℕ) (rest : List (ℕ × ℕ)) (log_is : log_at c m ≡ entry ∷ rest) (said : apply_log s c m (entry ∷ rest) ≡ (Applied, s')) (is : s'.collection ≡ Some next) where
+    -- what it did
+    record DidApply : Type 0 where
+      adds : Adds c next
+      size : next.size ≡ c.size
+      logs : next.logs ≡ slice_set c.logs m rest
+      scan_place : next.scan_place ≡ c.scan_place
+      scan_field : next.scan_field ≡ c.scan_field
+      fresh : (q : Replica) → In q next.replicas → q.place ≡ new_end c → IsFresh s.heap.graph.objects c q
+
+    entry_did : DidApply
+    entry_did = go (entry_was_applied s s' c next m entry rest said is).is
+      where
+        c' : Collection
+        c' = with_log c m rest
+
+        with_old : Adds c' next → Adds c next
+        with_old (inl h) = inl (record { pairs = h.pairs; end = h.end })
+        with_old (inr h) = inr (h.0, record { there = h.1.there; place = h.1.place; pairs = h.1.pairs; end = h.1.end })
+
+        by : Adds c' next → Brings s.heap.graph.objects c' next → DidApply
+        by a b = record {
+          adds = with_old a;
+          size = b.size;
+          logs = b.logs;
+          scan_place = b.scan_place;
+          scan_field = b.scan_field;
+          fresh = λ q l e. (let f = b.fresh q l e in record { free = f.free; same = f.same });
+        }
+
+        go : ((r : Replica) × In r c.replicas × (r.original ≡ entry.0) × (Rattle.gc_copy.specs.Steps.bring_up_to_date (with_log c m rest) s.heap.graph entry.0 entry.1 ≡ Some next)) ⊎ ((Rattle.gc_copy.specs.State.replica_of c entry.0 ≡ None) × (with_log c m rest ≡ next)) → DidApply
+        go (inl (r, l, name, brought)) = by (adds_brought c' next s.heap.graph entry.0 entry.1 brought) (brings s.heap.graph.objects c' before.belongs.laid s.heap.graph next entry.0 entry.1 refl (r, l, name) brought)
+        go (inr (none, same)) = by (subst (Adds c') same (adds_none c')) (subst (Brings s.heap.graph.objects c') same (brings_none s.heap.graph.objects c' before.belongs.laid))
+
+    pub entry_placed : CanPlace (heap_words links s) (replica_words next) t
+    entry_placed = can_place s c next t links heap before opened goes knows entry_did.adds entry_did.size
+
+    -- the entry is of a field
+    has : (o : Object) → lookup s.heap.graph.objects entry.0 ≡ Some o → entry.1 < length o.fields
+    has o found =
+        let h = before.belongs.entries entry.0 entry.1 (m, subst (In {X = ℕ × ℕ} (entry.0, entry.1)) (sym log_is) (inl refl)) in
+        let same : h.0 ≡ o = (let e : Some h.0 ≡ Some o = sym h.1 ∙ found in cc) in
+        subst (λ (o : Object). entry.1 < length o.fields) same h.2
+
+    module _ (mid : Tables) (placed_is : Placed (heap_words links s) (replica_words next) t mid) (owes : OwesNone (heap_words links s) (replica_words next) t mid) where
+      entry_told : Told (heap_end s) c next t mid
+      entry_told = told_placed (heap_end s) c next (replica_words next) t goes.fits (replicas_shown s next links heap opened) (heap_words links s) mid entry_did.adds placed_is
+
+      entry_mid : KnowsBy (IsDue c) s next mid × (mid.room ≡ t.room)
+      entry_mid = placed_known s c next t links heap before opened goes knows entry_did.adds entry_did.fresh mid placed_is owes
+
+      pub entry_looked : ((a : ℕ) → links a ≡ old_links next a) → CanApply (heap_words links s) (replica_words next) entry.0 entry.1 mid
+      entry_looked same = can_apply s next links heap opened mid entry.0 entry.1 same entry_told.0 entry_mid.0.marks has
+
+      old_rooms : (s.size ≤ mid.room) × (next.size ≤ mid.room)
+      old_rooms =
+          let old_room : s.size ≤ t.room = knows.old_room in
+          let new_room : c.size ≤ t.room = knows.new_room in
+          let room : mid.room ≡ t.room = entry_mid.1 in
+          let size : next.size ≡ c.size = entry_did.size in
+          (omega arith, omega arith)
+
+      -- a field that is due still, unless its entry is the one that is gone
+      less : (r : Replica) (i : ℕ) → IsDue c r.object.raw r.place r.original i → ((r.original ≡ entry.0) × (i ≡ entry.1) → ⊥) → IsDue next r.object.raw r.place r.original i
+      less r i (inl u) apart = inl (u.0, unscanned_same c next r.place i entry_did.scan_place entry_did.scan_field u.1)
+      less r i (inr (k, l)) apart = inr (⊎_elim
+          (λ (e : entry ≡ (r.original, i)). absurd (apart (sym (ap (λ (p : ℕ × ℕ). p.0) e), sym (ap (λ (p : ℕ × ℕ). p.1) e))))
+          (λ x. (k, subst (λ logs. In {X = ℕ × ℕ} (r.original, i) (log_or_nil (slice_get logs k))) (sym entry_did.logs) x))
+          (log_out c.logs m entry rest k (r.original, i) log_is l))
+
+      pub entry_known : (after : Tables) → AppliedTo (heap_words links s) (replica_words next) entry.0 entry.1 mid after → Knows s next after
+      entry_known after (inl (none, same)) = subst (Knows s next) (sym same) (knows_from (IsDue c) s next mid entry_mid.0 old_rooms.0 old_rooms.1 (λ r l i small d.
+          less r i d (λ e.
+          let low : 1 ≤ r.original = (is_at s next links heap opened r l).low in
+          let origin : get_or mid.origins r.place 0 ≡ r.original = origin_is (heap_end s) next mid r entry_told.0 l low in
+          none r.place (omega arith) (origin ∙ e.0))))
+      entry_known after (inr (b, at, looked)) =
+          let q = replica_there (heap_end s) next mid entry_told.0 entry.0 b at in
+          let name : q.0.original ≡ entry.0 = ap (λ (p : ℕ × ℕ). p.0) q.2 in
+          let place : q.0.place ≡ b = ap (λ (p : ℕ × ℕ). p.1) q.2 in
+          let low : 1 ≤ q.0.original = (is_at s next links heap opened q.0 q.1).low in
+          let ok = opened.belongs.replicas q.0 q.1 in
+          let small : entry.1 < length ok.original.fields = has ok.original (ap (lookup s.heap.graph.objects) (sym name) ∙ ok.found) in
+          let len : length q.0.object.fields ≡ length ok.original.fields = ok.len in
+          let less_is : entry.1 < length q.0.object.fields = omega arith in
+          let m' = told_marked (heap_end s) (new_end c) (watch_of t) next (replica_words next) (replicas_shown s next links heap opened) mid false q.0 b entry.1 q.1 place less_is entry_told.0 entry_told.1 in
+          let later = watch_of (with_due mid (field_place b entry.1) false) in
+          let g : Goes s next later = entry_applied s s' c next m entry rest (watch_of t) later before goes said is m'.0 (subst (λ n. LosesOnly (new_end c) n entry.1 (watch_of t) next later) name m'.1) in
+          let at_origin : get_or mid.origins b 0 ≡ q.0.original = at.origin ∙ sym name in
+          let l = looked_is (IsDue c) s next links heap opened mid entry_told.0 after q.0 b entry.1 q.1 place low g at_origin looked in
+          let k = looked_known (IsDue c) s next links heap opened mid entry_told.0 q.0 entry.1 q.1 less_is entry_mid.0 in
+          subst (Knows s next) (sym (l.0 ∙ ap (λ n. with_due mid (field_place n entry.1) false) (sym place)))
+          (knows_from (λ raw p a j. IsDue c raw p a j × ((p ≡ q.0.place) × (j ≡ entry.1) → ⊥)) s next (with_due mid (field_place q.0.place entry.1) false) k old_rooms.0 old_rooms.1
+          (λ r there i within d. less r i d.0 (λ e.
+          let one : r ≡ q.0 = same_original next.replicas r q.0 opened.belongs.once there q.1 (e.0 ∙ sym name) in
+          d.1 (ap (λ (r : Replica). r.place) one, e.1))))

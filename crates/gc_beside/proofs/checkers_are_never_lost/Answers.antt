@@ -1,4 +1,5 @@
-use Rattle.gc_beside.proofs.StepsKnown.{roots_known, scan_known, passed_known}
+use Rattle.gc_beside.proofs.StepsKnown.{roots_known, scan_known, passed_known, entry_known}
+use Rattle.gc_beside.proofs.EndsKnown.{flipped_known}
 use Rattle.gc_beside.proofs.Known.{placed_known, looked_is, looked_known}
 use Rattle.gc_beside.proofs.Brought.{brings, field_was_scanned, replica_was_passed, entry_was_applied}
 use Rattle.gc_beside.proofs.Claimed.{can_place, can_apply, is_copy}
