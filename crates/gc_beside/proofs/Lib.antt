@@ -12,6 +12,7 @@ pub mod Brought
 pub mod Known
 pub mod StepsKnown
 pub mod EndsKnown
+pub mod CommandsKnown
 pub mod Beside
 pub mod Lives
 pub mod LivesOn

@@ -43,7 +43,7 @@ knows_from Due s c t h old_room new_room less = record {
 logged_same : (c next : Collection) (a i : ℕ) → next.logs ≡ c.logs → IsLogged c a i → IsLogged next a i
 logged_same c next a i same (k, l) = (k, subst (λ logs. In {X = ℕ × ℕ} (a, i) (log_or_nil (slice_get logs k))) (sym same) l)
 
-unscanned_same : (c next : Collection) (p i : ℕ) → next.scan_place ≡ c.scan_place → next.scan_field ≡ c.scan_field → IsUnscanned c p i → IsUnscanned next p i
+pub unscanned_same : (c next : Collection) (p i : ℕ) → next.scan_place ≡ c.scan_place → next.scan_field ≡ c.scan_field → IsUnscanned c p i → IsUnscanned next p i
 unscanned_same c next p i place field u = ⊎_elim (λ l. inl (omega arith)) (λ e. inr (place ∙ e.0, (let x : c.scan_field ≤ i = e.1 in omega arith))) u
 
 -- ---- one of a row of logs has lost its oldest entry

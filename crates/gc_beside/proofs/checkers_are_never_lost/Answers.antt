@@ -1,3 +1,4 @@
+use Rattle.gc_beside.proofs.CommandsKnown.{wrote_known}
 use Rattle.gc_beside.proofs.StepsKnown.{roots_known, scan_known, passed_known, entry_known}
 use Rattle.gc_beside.proofs.EndsKnown.{flipped_known}
 use Rattle.gc_beside.proofs.Known.{placed_known, looked_is, looked_known}
