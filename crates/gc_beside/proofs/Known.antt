@@ -70,7 +70,7 @@ pub record KnowsBy (Due : Bool → ℕ → ℕ → ℕ → Type 0) (s : State) (
   pub marks : Marks s.heap.graph.objects c.replicas t
 
 module _ (s : State) (c next : Collection) (t : Tables) (links : ℕ → ℕ) (heap : IsSpaceGraph s.size s.heap.free s.heap.graph) (before : IsOpened s c) (opened : IsOpened s next) (goes : Goes s c (watch_of t)) (knows : Knows s c t)
-         (adds : Adds c next) (fresh : (q : Replica) → In q next.replicas → q.place ≡ new_end c → IsFresh s.heap.graph.objects c q) where
+    (adds : Adds c next) (fresh : (q : Replica) → In q next.replicas → q.place ≡ new_end c → IsFresh s.heap.graph.objects c q) where
   -- a replica is there later
   record IsKin (r p : Replica) : Type 0 where
     original : p.original ≡ r.original
@@ -239,9 +239,9 @@ module _ (Due : Bool → ℕ → ℕ → ℕ → Type 0) (s : State) (next : Col
       ap (λ bs. get_or bs (field_place q.place i) false) (marked_at mid (field_place q.place i) false)
       ∙ get_or-set_same (due_in mid.news) (field_place q.place i) false false (omega (arith, length-map mid.news (λ code. code == 3))) in
       words_agree s next links heap opened q l i v.0 w.0 v.1 w.1 (⊎_elim
-          (λ d. absurd (let no : true ≡ false = sym d ∙ unmarked in cc))
-          (λ e. e)
-          (is.current i v.0 w.0 (ap (λ (o : Object). slice_get o.fields i) same ∙ v.1) w.1))
+      (λ d. absurd (let no : true ≡ false = sym d ∙ unmarked in cc))
+      (λ e. e)
+      (is.current i v.0 w.0 (ap (λ (o : Object). slice_get o.fields i) same ∙ v.1) w.1))
 
   -- so a look finds that it is due no more
   pub looked_is : (after : Tables) (q : Replica) (b i : ℕ) → In q next.replicas → q.place ≡ b → 1 ≤ q.original → Goes s next (watch_of (with_due mid (field_place b i) false))

@@ -92,9 +92,9 @@ module _ (s : State) (c next : Collection) (t : Tables) (links : ℕ → ℕ) (h
         let room : after.room ≡ t.room = p.1 in
         let size : next.size ≡ c.size = root_brings.size in
         knows_from (IsDue c) s next after p.0 (omega arith) (omega arith) (λ r l i small d. ⊎_elim
-            (λ u. inl (u.0, unscanned_same c next r.place i root_brings.scan_place root_brings.scan_field u.1))
-            (λ g. inr (logged_same c next r.original i root_brings.logs g))
-            d)
+        (λ u. inl (u.0, unscanned_same c next r.place i root_brings.scan_place root_brings.scan_field u.1))
+        (λ g. inr (logged_same c next r.original i root_brings.logs g))
+        d)
 
   -- ---- `Scan`
 
@@ -228,10 +228,13 @@ module _ (s : State) (c next : Collection) (t : Tables) (links : ℕ → ℕ) (h
           (laid_apart 1 (map placed c.replicas) (new_end c) (placed passed.replica) (placed q) before.belongs.laid (in_map placed passed.replica c.replicas at.0) (in_map placed q c.replicas l)) in
           let n : next.scan_place ≡ c.scan_place + (length passed.replica.object.fields + 2) = next_is in
           let f : next.scan_field ≡ 0 = field_is in
-          inl (plain, elim (cases_eq next.scan_place q.place) [
-            | inl e ↦ inr (e, omega arith)
-            | inr o ↦ inl (omega arith)
-          ])
+          inl (
+            plain,
+            elim (cases_eq next.scan_place q.place) [
+              | inl e ↦ inr (e, omega arith)
+              | inr o ↦ inl (omega arith)
+            ],
+          )
       less q l i small (inl (plain, inr (place, le))) =
           let one : q ≡ passed.replica = same_place 1 c.replicas (new_end c) q passed.replica before.belongs.laid l at.0 (sym place ∙ sym at.1) in
           let raw : passed.replica.object.raw ≡ false = ap (λ (r : Replica). r.object.raw) (sym one) ∙ plain in
