@@ -1,6 +1,6 @@
 -- What a step of the collector leaves as it is, and a replica that it places: if it is raw it is its original.
-use Rattle.std.proofs.Common.{◌≡◌, ◌⊎◌, inl, inr, ⊎_elim, ℕ, suc, ◌+◌, ◌<◌, ◌≤◌, ◌==◌, nat_lt, Bool, true, false, cond, ◌||◌, List, [], ◌∷◌, ◌++◌, map, length, Option, Some, None, is_some, refl, ap, sym, ◌∙◌, subst, arith}
-use Rattle.std.proofs.lemmas.Bool.{cases_Bool, cond-true, cond-false, eqb-true, eq-eqb, or_left, or_right}
+use Rattle.std.proofs.Common.{◌≡◌, ◌⊎◌, inl, inr, ⊎_elim, ℕ, suc, ◌+◌, ◌≤◌, ◌==◌, nat_lt, Bool, true, false, cond, ◌||◌, List, [], ◌∷◌, ◌++◌, map, length, Option, Some, None, is_some, refl, ap, sym, ◌∙◌, subst, arith}
+use Rattle.std.proofs.lemmas.Bool.{cases_Bool, cond-true, cond-false, eqb-true, or_left, or_right}
 use Rattle.gc_graph.specs.Graph.{Value, Nil, Num, Ref, Object, Graph, lookup, field_of, new_object}
 use Rattle.gc_copy.specs.State.{Replica, Collection, State, new_end, new_free, replica_of, replica_at, moved, fresh_object}
 use Rattle.gc_copy.specs.Steps.{fresh_replica, place_replica, with_replica, with_written, write_replica, copy_value, bring_value, bring_up_to_date, with_collection, if_room, next_field, next_object, root_target, copy_root, scan, scan_done, scan_replica, with_log, apply_entry, apply_log}

@@ -1,11 +1,10 @@
 -- What a standing checker is told at a collector's step is true, so that it is not lost.
-use Rattle.std.proofs.Common.{◌≡◌, inl, inr, ⊎_elim, ℕ, ◌+◌, ◌<◌, ◌≤◌, Bool, true, List, ◌∷◌, map, length, get_or, take, drop, Some, refl, ap, sym, ◌∙◌, subst, arith}
+use Rattle.std.proofs.Common.{◌≡◌, inl, inr, ⊎_elim, ℕ, ◌+◌, ◌<◌, ◌≤◌, true, map, length, get_or, take, drop, Some, ap, sym, ◌∙◌, subst, arith}
 use Rattle.std.specs.Prelude.{slice_index}
 use Rattle.std.proofs.lemmas.Bool.{eqb-true}
 use Rattle.gc_graph.specs.Graph.{Object, lookup}
 use Rattle.gc_words.specs.Word.{header_word, read_header}
-use Rattle.gc_words.specs.Layout.{field_place, fields_place, link_place}
-use Rattle.gc_words.specs.declared.header.Header.{Header}
+use Rattle.gc_words.specs.Layout.{fields_place, link_place}
 use Rattle.gc_copy.specs.State.{Replica, Collection, State, heap_end, new_end}
 use Rattle.gc_copy.specs.Linked.{object_header, field_word, old_links, place_or_zero}
 use Rattle.gc_copy.specs.Members.{In}
@@ -16,18 +15,17 @@ use Rattle.gc_copy.proofs.Links.{found_by_name}
 use Rattle.gc_copy.proofs.Lists.{in_map}
 use Rattle.gc_copy.proofs.Replicas.{pair, placed, in_paired}
 use Rattle.gc_along.specs.Claims.{CanPlace, CanLook, CanApply, IsLinked}
-use Rattle.gc_along.specs.Events.{IsClaim, IsCopy, IsFieldOf}
+use Rattle.gc_along.specs.Events.{IsClaim, IsCopy}
 use Rattle.gc_along.specs.Origins.{pairs_in}
 use Rattle.gc_along.specs.Tables.{Tables, watch_of}
 use Rattle.gc_along.proofs.Origins.{told}
 use Rattle.gc_beside.specs.Internal.Live.{heap_words, replica_words}
 use Rattle.gc_beside.specs.Knows.{Knows, Marks}
 use Rattle.gc_beside.specs.Stays.{Fits}
-use Rattle.gc_beside.proofs.Agree.{object_shown, original_shown, replicas_shown, same_header}
+use Rattle.gc_beside.proofs.Agree.{original_shown, replicas_shown, same_header}
 use Rattle.gc_beside.proofs.Beside.{pair_stays}
 use Rattle.gc_beside.proofs.Events.{Goes}
-use Rattle.gc_beside.proofs.Growth.{IsAdded, HasSame, Adds}
-use Rattle.gc_beside.proofs.Shown.{Shows}
+use Rattle.gc_beside.proofs.Growth.{IsAdded, Adds}
 use Rattle.gc_beside.proofs.Told.{same_original}
 
 -- the original that a row has for a replica

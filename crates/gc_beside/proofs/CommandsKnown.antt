@@ -1,9 +1,9 @@
 -- The tables of a standing checker know the heap through the mutators' commands, and it is not lost at any.
-use Rattle.std.proofs.Common.{◌≡◌, ◌≢◌, ◌⊎◌, inl, inr, ⊎_elim, ℕ, zero, suc, ◌+◌, ◌-◌, ◌<◌, ◌≤◌, ◌==◌, ◌&&◌, not, nat_lt, Bool, true, false, List, [], ◌∷◌, ◌++◌, map, length, get_or, set, replicate, Option, Some, None, refl, ap, sym, ◌∙◌, subst, arith}
+use Rattle.std.proofs.Common.{◌≡◌, ◌≢◌, ◌⊎◌, inl, inr, ⊎_elim, ℕ, zero, suc, ◌+◌, ◌-◌, ◌<◌, ◌≤◌, ◌&&◌, not, nat_lt, Bool, true, false, List, [], ◌∷◌, ◌++◌, map, length, get_or, set, replicate, Option, Some, None, refl, ap, sym, ◌∙◌, subst, arith}
 use Rattle.std.specs.Prelude.{slice_get, slice_set, slice_index}
-use Rattle.std.proofs.lemmas.Bool.{cases_Bool, cases_eq, cond_both, eqb-true, ltb-true, ltb-false}
-use Rattle.std.proofs.lemmas.List.{get_or-append_right, get_or-set_same, get_or-set_other, length-map}
-use Rattle.gc_graph.specs.Graph.{Value, Nil, Num, Ref, Object, Graph, object_of, field_of, root, set_field, new_object, lookup}
+use Rattle.std.proofs.lemmas.Bool.{cases_Bool, cases_eq, cond_both, ltb-true, ltb-false}
+use Rattle.std.proofs.lemmas.List.{get_or-append_right, get_or-set_same, get_or-set_other}
+use Rattle.gc_graph.specs.Graph.{Value, Nil, Num, Ref, Object, Graph, root, set_field, new_object, lookup}
 use Rattle.gc_graph.specs.Machine.{Roomy, get_field, put_field, is_number, step, roomy_step, words_taken}
 use Rattle.gc_graph.specs.Slots.{place}
 use Rattle.gc_graph.specs.declared.command.Op.{Op}
@@ -16,20 +16,19 @@ use Rattle.gc_copy.specs.State.{Replica, Collection, State, heap_end, new_end}
 use Rattle.gc_copy.specs.Steps.{log_at, log_or_nil, with_log, logged, written, mutate, fresh_collection}
 use Rattle.gc_copy.specs.Linked.{object_header, old_links}
 use Rattle.gc_copy.specs.Members.{In}
-use Rattle.gc_copy.specs.Belonging.{IsDue, IsLogged, IsUnscanned, IsNamed, IsSpaceGraph, IsOpened, IsOpen}
+use Rattle.gc_copy.specs.Belonging.{IsDue, IsLogged, IsNamed, IsSpaceGraph, IsOpened, IsOpen}
 use Rattle.gc_copy.proofs.Commands.{WrittenBy}
-use Rattle.gc_copy.proofs.Heap.{WasEntry, written_entry, set_from, laid_range, laid_apart}
+use Rattle.gc_copy.proofs.Heap.{set_from, laid_range, laid_apart}
 use Rattle.gc_copy.proofs.Images.{end_is}
-use Rattle.gc_copy.proofs.Lists.{in_left, in_right, in_push, in_map, get_set_same, get_set_other}
-use Rattle.gc_copy.proofs.Replicas.{pair, placed}
+use Rattle.gc_copy.proofs.Lists.{in_left, in_right, in_push, in_map}
+use Rattle.gc_copy.proofs.Replicas.{placed}
 use Rattle.gc_along.specs.Claims.{CanMake, CanWrite, IsLinked}
-use Rattle.gc_along.specs.Events.{Made, Wrote, code_of, object_codes, old_added, with_due}
+use Rattle.gc_along.specs.Events.{Made, Wrote, object_codes, old_added}
 use Rattle.gc_along.specs.Tables.{Tables, watch_of, due_in}
 use Rattle.gc_along.specs.Telling.{IsMark}
-use Rattle.gc_along.specs.Watch.{is_due_at}
 use Rattle.gc_along.proofs.Kept.{kept_old, kept_due, in_front}
 use Rattle.gc_beside.specs.Internal.Live.{heap_words}
-use Rattle.gc_beside.specs.Knows.{Knows, KnowsAll, Marks, open_or_fresh}
+use Rattle.gc_beside.specs.Knows.{Knows, KnowsAll, open_or_fresh}
 use Rattle.gc_beside.specs.Stays.{Fits}
 use Rattle.gc_beside.proofs.Claimed.{linked, is_at}
 use Rattle.gc_beside.proofs.LivesOn.{EndsMore}

@@ -1,19 +1,18 @@
 -- The tables of a standing checker know the heap where a collection begins, is given up, or ends in a flip.
-use Rattle.std.proofs.Common.{◌≡◌, ◌≢◌, ◌⊎◌, inl, inr, ⊎_elim, ℕ, zero, suc, ◌-◌, ◌<◌, ◌≤◌, false, true, List, [], ◌∷◌, map, length, get_or, Option, Some, None, refl, ap, sym, ◌∙◌, subst, arith}
-use Rattle.gc_graph.specs.Graph.{Object, Value}
-use Rattle.gc_copy.specs.State.{Replica, Collection, State, heap_end, new_end, new_objects}
-use Rattle.gc_copy.specs.Steps.{flipped, fresh_collection, with_collection}
+use Rattle.std.proofs.Common.{◌≡◌, ◌≢◌, inl, ⊎_elim, ℕ, zero, suc, ◌≤◌, false, true, [], ◌∷◌, length, get_or, None, refl, ap, sym, ◌∙◌, subst, arith}
+use Rattle.gc_graph.specs.Graph.{Object}
+use Rattle.gc_copy.specs.State.{Collection, State, heap_end}
+use Rattle.gc_copy.specs.Steps.{flipped, fresh_collection}
 use Rattle.gc_copy.specs.Members.{In}
-use Rattle.gc_copy.specs.Belonging.{IsDue, IsNamed, IsOpened, IsSpaceGraph}
+use Rattle.gc_copy.specs.Belonging.{IsNamed, IsOpened, IsSpaceGraph}
 use Rattle.gc_copy.proofs.Heap.{laid_range, lookup_in}
 use Rattle.gc_copy.proofs.Lists.{in_map_from}
 use Rattle.gc_copy.proofs.Replicas.{placed}
 use Rattle.gc_along.specs.Events.{Freed, flipped_tables, opening_tables}
 use Rattle.gc_along.specs.Tables.{Tables, IsKept, watch_of}
 use Rattle.gc_along.specs.Telling.{IsMark}
-use Rattle.gc_along.specs.Watch.{Watch, is_due_at, opening}
-use Rattle.gc_beside.specs.Knows.{Knows, KnowsAll, Marks, IsDueField}
-use Rattle.gc_beside.specs.Stays.{Fits}
+use Rattle.gc_along.specs.Watch.{is_due_at, opening}
+use Rattle.gc_beside.specs.Knows.{Knows, KnowsAll, Marks, open_or_fresh}
 use Rattle.gc_beside.proofs.Claimed.{origin_is}
 use Rattle.gc_beside.proofs.Events.{Goes}
 
@@ -54,9 +53,10 @@ knows_fresh s size t news origins missing marked free old_room new_room = record
   new_room = new_room;
 }
 
--- a heap that is opened
-pub opened_known : (size mutators : ℕ) → 1 ≤ size → KnowsAll (Rattle.gc_copy.specs.State.opening_state size mutators) (opening_tables size)
-opened_known size mutators low = knows_fresh (Rattle.gc_copy.specs.State.opening_state size mutators) 1 (opening_tables size) refl refl refl (λ a n. absurd n.1) (λ a e. only_zero a 1 e) (omega arith) low
+-- a heap without objects
+pub opened_known : (s : State) (size : ℕ) → s.heap.graph.objects ≡ [] → s.collection ≡ None → s.size ≤ size → 1 ≤ size → KnowsAll s (opening_tables size)
+opened_known s size empty closed room low = subst (λ o. Knows s (open_or_fresh s o) (opening_tables size)) (sym closed)
+    (knows_fresh s 1 (opening_tables size) refl refl refl (λ a n. absurd (subst (λ os. In {X = ℕ × Object} (a, n.0) os) empty n.1)) (λ a e. only_zero a 1 e) room low)
 
 -- a larger or smaller space is begun
 pub begun_known : (s : State) (before size : ℕ) (t after : Tables) → after ≡ record t { room = after.room } → s.size ≤ after.room → size ≤ after.room → Knows s (fresh_collection s.mutators before) t → Knows s (fresh_collection s.mutators size) after

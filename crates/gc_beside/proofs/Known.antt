@@ -2,27 +2,26 @@
 use Rattle.std.proofs.Common.{◌≡◌, ◌≢◌, ◌⊎◌, inl, inr, ⊎_elim, ℕ, zero, suc, ◌+◌, ◌-◌, ◌<◌, ◌≤◌, ◌==◌, Bool, true, false, not, List, [], ◌∷◌, ◌++◌, map, length, get_or, set, replicate, Some, refl, ap, sym, ◌∙◌, subst, arith, length-append}
 use Rattle.std.specs.Prelude.{slice_get, slice_index}
 use Rattle.std.proofs.lemmas.Bool.{cases_Bool, cases_eq, eqb-true, eq-eqb}
-use Rattle.std.proofs.lemmas.List.{get_or-append_right, get_or-set_same, get_or-set_other, length-replicate, length-map}
+use Rattle.std.proofs.lemmas.List.{get_or-append_right, get_or-set_same, get_or-set_other, length-map}
 use Rattle.gc_graph.specs.Graph.{Object, lookup}
-use Rattle.gc_graph.specs.Correspond.{correspond}
 use Rattle.gc_words.specs.Word.{read_header, field_words_correspond}
 use Rattle.gc_words.specs.Layout.{field_place}
 use Rattle.gc_words.specs.declared.header.Header.{Header}
 use Rattle.gc_copy.specs.State.{Replica, Collection, State, heap_end, new_end, pairs_of}
 use Rattle.gc_copy.specs.Linked.{object_header}
 use Rattle.gc_copy.specs.Members.{In}
-use Rattle.gc_copy.specs.Belonging.{IsDue, IsNamed, IsSpaceGraph, IsOpened, IsUnscanned}
+use Rattle.gc_copy.specs.Belonging.{IsDue, IsSpaceGraph, IsOpened}
 use Rattle.gc_copy.proofs.Heap.{laid_apart}
 use Rattle.gc_copy.proofs.Lists.{in_map, in_map_from, in_push, get_within}
 use Rattle.gc_copy.proofs.Replicas.{pair, placed}
-use Rattle.gc_copy.proofs.Steps.{due_at_end, same_place}
+use Rattle.gc_copy.proofs.Steps.{due_at_end}
 use Rattle.gc_along.specs.Claims.{OwesNone}
 use Rattle.gc_along.specs.Events.{code_of, object_codes, with_due, replica_added, Placed, Looked}
 use Rattle.gc_along.specs.Origins.{pairs_in}
 use Rattle.gc_along.specs.Tables.{Tables, IsKept, watch_of, due_in}
 use Rattle.gc_along.specs.Telling.{IsMark}
 use Rattle.gc_along.specs.Watch.{is_due, is_due_at}
-use Rattle.gc_along.proofs.Kept.{kept_replica, kept_due, due_at, in_front, within_row, codes_length}
+use Rattle.gc_along.proofs.Kept.{kept_replica, kept_due, due_at, in_front, within_row}
 use Rattle.gc_beside.specs.Internal.Live.{heap_words, replica_words}
 use Rattle.gc_beside.specs.Knows.{IsDueField, Knows, Marks}
 use Rattle.gc_beside.specs.Stays.{Fits}

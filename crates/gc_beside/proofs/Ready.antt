@@ -1,5 +1,5 @@
 -- A standing checker whose tables know a ready collection accepts it.
-use Rattle.std.proofs.Common.{◌≡◌, inl, inr, ⊎_elim, ℕ, true, false, refl, ap, sym, ◌∙◌, subst}
+use Rattle.std.proofs.Common.{◌≡◌, inl, inr, ℕ, true, false, refl, sym, ◌∙◌, subst}
 use Rattle.std.specs.Prelude.{IsFalse, IsTrue}
 use Rattle.std.specs.List.{AllZip}
 use Rattle.std.proofs.lemmas.Bool.{cases_Bool}
@@ -16,7 +16,7 @@ use Rattle.gc_along.specs.Claims.{Accepts}
 use Rattle.gc_along.specs.Tables.{Tables, watch_of}
 use Rattle.gc_along.specs.Watch.{IsSized, is_due_at}
 use Rattle.gc_along.proofs.Exact.{all_done}
-use Rattle.gc_beside.specs.Knows.{Knows, IsDueField}
+use Rattle.gc_beside.specs.Knows.{Knows}
 use Rattle.gc_beside.proofs.Agree.{replicas_shown}
 use Rattle.gc_beside.proofs.Events.{Goes}
 

@@ -1,16 +1,16 @@
 -- The tables of a standing checker know the collection through the collector's steps, and it is not lost at any.
-use Rattle.std.proofs.Common.{◌≡◌, ◌≢◌, ◌⊎◌, inl, inr, ⊎_elim, ℕ, zero, suc, ◌+◌, ◌<◌, ◌≤◌, ◌==◌, ◌||◌, Bool, true, false, List, [], ◌∷◌, map, length, get_or, Option, Some, None, refl, ap, sym, ◌∙◌, subst, arith, length-set}
+use Rattle.std.proofs.Common.{◌≡◌, ◌≢◌, ◌⊎◌, inl, inr, ⊎_elim, ℕ, suc, ◌+◌, ◌<◌, ◌≤◌, ◌==◌, Bool, true, false, List, [], ◌∷◌, map, length, get_or, Option, Some, None, refl, ap, sym, ◌∙◌, subst, arith}
 use Rattle.std.specs.Prelude.{slice_get, slice_set}
-use Rattle.std.proofs.lemmas.Bool.{cases_Bool, cases_eq, eqb-true, eq-eqb, or_cases}
+use Rattle.std.proofs.lemmas.Bool.{cases_eq, eqb-true, eq-eqb, or_cases}
 use Rattle.gc_graph.specs.Graph.{Object, lookup}
 use Rattle.gc_words.specs.Layout.{field_place}
 use Rattle.gc_copy.specs.State.{Replica, Collection, State, heap_end, new_end, new_objects}
 use Rattle.gc_copy.specs.Linked.{old_links}
 use Rattle.gc_copy.specs.Steps.{log_at, log_or_nil, with_log, root_target, copy_root, scan, apply_log, next_object}
 use Rattle.gc_copy.specs.Members.{In}
-use Rattle.gc_copy.specs.Belonging.{IsDue, IsLogged, IsUnscanned, IsScanPlace, HasField, IsSpaceGraph, IsOpened}
+use Rattle.gc_copy.specs.Belonging.{IsDue, IsLogged, IsUnscanned, IsScanPlace, IsSpaceGraph, IsOpened}
 use Rattle.gc_copy.specs.declared.step.StepReply.TheVariants.{Copied, Passed, Scanned, Applied}
-use Rattle.gc_copy.proofs.Heap.{laid_range, laid_apart}
+use Rattle.gc_copy.proofs.Heap.{laid_apart}
 use Rattle.gc_copy.proofs.Lists.{find_some, get_past, get_set_same, get_set_other, in_map}
 use Rattle.gc_copy.proofs.Replicas.{pair, placed}
 use Rattle.gc_copy.proofs.Steps.{same_place}
@@ -18,14 +18,14 @@ use Rattle.gc_along.specs.Claims.{CanPlace, CanLook, CanApply, OwesNone}
 use Rattle.gc_along.specs.Events.{Placed, Looked, Applied as AppliedTo, with_due}
 use Rattle.gc_along.specs.Tables.{Tables, watch_of}
 use Rattle.gc_beside.specs.Internal.Live.{heap_words, replica_words}
-use Rattle.gc_beside.specs.Knows.{IsDueField, Knows, Marks}
-use Rattle.gc_beside.specs.Stays.{Fits, LosesNone, LosesOnly}
+use Rattle.gc_beside.specs.Knows.{Knows, Marks}
+use Rattle.gc_beside.specs.Stays.{LosesOnly}
 use Rattle.gc_beside.proofs.Agree.{replicas_shown}
 use Rattle.gc_beside.proofs.Beside.{pair_stays}
-use Rattle.gc_beside.proofs.Brought.{IsFresh, Brings, brings_none, brings_placed, brings, RootCopied, root_copied, FieldScanned, field_was_scanned, ReplicaPassed, replica_was_passed, EntryApplied, entry_was_applied}
+use Rattle.gc_beside.proofs.Brought.{IsFresh, Brings, brings_none, brings_placed, brings, RootCopied, root_copied, FieldScanned, field_was_scanned, ReplicaPassed, replica_was_passed, entry_was_applied}
 use Rattle.gc_beside.proofs.Claimed.{origin_is, is_at, can_place, can_look, can_apply}
 use Rattle.gc_beside.proofs.Events.{Goes, field_scanned, entry_applied}
-use Rattle.gc_beside.proofs.Growth.{Adds, IsAdded, HasSame, adds_none, adds_placed, adds_brought, adds_alike}
+use Rattle.gc_beside.proofs.Growth.{Adds, adds_none, adds_placed, adds_brought, adds_alike}
 use Rattle.gc_beside.proofs.Known.{KnowsBy, placed_known, looked_is, looked_known}
 use Rattle.gc_beside.proofs.Told.{Told, told_placed, told_marked, replica_there, same_original}
 

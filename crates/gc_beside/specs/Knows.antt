@@ -43,5 +43,6 @@ abbrev pub KnowsAll : State → Tables → Type 0
 KnowsAll s t = Knows s (open_or_fresh s s.collection) t
 
 -- the checker is not lost, and its tables know the heap
-abbrev pub IsNeverLost : State → Tables → Type 0
-IsNeverLost s t = IsFalse t.lost × KnowsAll s t
+pub record IsNeverLost (s : State) (t : Tables) : Type 0 where
+  pub found : IsFalse t.lost
+  pub knows : KnowsAll s t

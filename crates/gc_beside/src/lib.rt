@@ -2,7 +2,7 @@
 //! the words of both spaces.
 #![tactic(auto)]
 
-ghost use Rattle.std.specs.Prelude.{◌≡◌, ◌≤◌, ◌∷◌, ℕ, List, length, Some, None, IsFalse, IsSome, IsTrue};
+ghost use Rattle.std.specs.Prelude.{◌≡◌, ◌≤◌, ◌∷◌, [], ℕ, List, length, Some, None, IsFalse, IsSome, IsTrue};
 ghost use Rattle.gc_graph.specs.Graph.{Object};
 ghost use Rattle.gc_graph.specs.Machine.{MakesObject};
 ghost use Rattle.gc_graph.specs.declared.command.Op.{Op};
@@ -19,7 +19,7 @@ ghost use Rattle.gc_copy.specs.declared.step.StepReply.{StepReply};
 ghost use Rattle.gc_along.specs.Watch.{Watch, Watches, opening};
 ghost use Rattle.gc_along.specs.Tables.{Tables, watch_of};
 ghost use Rattle.gc_along.specs.Claims.{Accepts, CanApply, CanLook, CanMake, CanPlace, CanWrite, OwesNone};
-ghost use Rattle.gc_along.specs.Events.{Applied, Freed, Looked, Made, Placed, Wrote, flipped_tables};
+ghost use Rattle.gc_along.specs.Events.{Applied, Freed, Looked, Made, Placed, Wrote, flipped_tables, opening_tables};
 ghost use Rattle.gc_beside.specs.Knows.{Knows, KnowsAll};
 ghost use Rattle.gc_beside.specs.Stays.{Fits, GoesAlong, LosesOnly, LosesNone, MarksWritten};
 
@@ -100,6 +100,7 @@ pub fn checkers_are_never_lost()
         CanMake old t × (Made old t told → KnowsAll after told) }
     ensures command { (s after : State) (m : ℕ) (op : Op) (reply : Reply) (t : Tables)
         → mutate s m op ≡ (reply, after) → (MakesObject op → ⊥) → KnowsAll s t → KnowsAll after t }
+    ensures opening { (s : State) → s.heap.graph.objects ≡ [] → s.collection ≡ None → 1 ≤ s.size → KnowsAll s (opening_tables s.size) }
     ensures begun { (s : State) (before size : ℕ) (t : Tables)
         → Knows s (fresh_collection s.mutators before) t → s.size ≤ t.room → size ≤ t.room → Knows s (fresh_collection s.mutators size) t }
     ensures dropped { (s : State) (c : Collection) (t told : Tables)

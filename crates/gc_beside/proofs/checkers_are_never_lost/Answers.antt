@@ -1,6 +1,5 @@
 use Rattle.std.proofs.Common.{◌≡◌, ℕ, ◌≤◌, ◌<◌, true, false, refl, sym, arith}
 use Rattle.gc_graph.specs.Machine.{MakesObject, words_taken}
-use Rattle.gc_graph.specs.Slots.{SlotName}
 use Rattle.gc_graph.specs.declared.command.Op.{Op}
 use Rattle.gc_graph.specs.declared.command.Op.TheVariants as ops
 use Rattle.gc_graph.specs.declared.reply.Reply.{Reply}
@@ -9,9 +8,8 @@ use Rattle.gc_copy.specs.State.{State, heap_end}
 use Rattle.gc_copy.specs.Steps.{mutate}
 use Rattle.gc_copy.specs.Belonging.{IsSpaceGraph}
 use Rattle.gc_along.specs.Tables.{Tables}
-use Rattle.gc_beside.specs.Knows.{KnowsAll}
 use Rattle.gc_beside.proofs.CommandsKnown.{Continues, NewName, continues_one, quiet_known, can_make, made_known, can_write, wrote_known}
-use Rattle.gc_beside.proofs.EndsKnown.{begun_known, dropped_known, flipped_known}
+use Rattle.gc_beside.proofs.EndsKnown.{opened_known, begun_known, dropped_known, flipped_known}
 use Rattle.gc_beside.proofs.LivesOn.{EndsMore, ends_more}
 use Rattle.gc_beside.proofs.Ready.{accepts}
 use Rattle.gc_beside.proofs.StepsKnown.{roots_told, roots_known, scan_placed, scan_looked, scan_known, passed_known, entry_placed, entry_looked, entry_known}
@@ -72,6 +70,7 @@ returns c = record {
       let on = new_only s s' op (continues_one s s' m op reply said) in
       (can_make s s' t links later more on seen knows, λ made. made_known s s' t links later more on seen knows told made);
   command = λ s s' m op reply t said none knows. quiet_known s s' t (NewName s op) (continues_one s s' m op reply said) (λ a new. (let z : words_taken op ≡ 0 = no_words op none in let some : 1 ≤ words_taken op = new.0 in omega arith)) knows;
+  opening = λ s empty closed low. opened_known s s.size empty closed (omega arith) low;
   begun = λ s before size t knows old_room new_room. begun_known s before size t t refl old_room new_room knows;
   dropped = λ s c t told heap opened goes knows freed. (let k = dropped_known s c t told heap opened goes knows (some_room s t heap knows.old_room) freed in record { kept = k.kept; due = k.due; marks = k.marks; old_room = k.old_room; new_room = k.new_room });
   flipped = λ s c t heap opened knows. flipped_known s c t opened knows (some_room s t heap knows.old_room);
