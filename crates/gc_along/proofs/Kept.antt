@@ -1,15 +1,17 @@
 -- The rows of the tables agree, whatever happens.
-use Rattle.std.proofs.Common.{◌≡◌, ◌⊎◌, inl, inr, ⊎_elim, ℕ, zero, suc, ◌+◌, ◌<◌, ◌≤◌, ◌==◌, Bool, true, false, not, List, [], ◌∷◌, ◌++◌, length, set, get_or, replicate, refl, sym, ◌∙◌, ap, subst, arith, length-append, length-set}
+use Rattle.std.proofs.Common.{◌≡◌, ◌⊎◌, inl, inr, ⊎_elim, ℕ, zero, suc, ◌+◌, ◌<◌, ◌≤◌, ◌==◌, Bool, true, false, not, List, [], ◌∷◌, ◌++◌, length, set, get_or, replicate, Some, refl, sym, ◌∙◌, ap, subst, arith, length-append, length-set}
 use Rattle.std.specs.Prelude.{if◌then◌else◌}
 use Rattle.std.specs.List.{sum_by}
 use Rattle.std.proofs.lemmas.Bool.{cases_eq}
 use Rattle.std.proofs.lemmas.List.{get_or-set_other, get_or-set_same, length-replicate, length-map}
 use Rattle.std.proofs.lemmas.List.Sums.{sum_by-set, sum_by-append}
+use Rattle.gc_words.specs.Layout.{fields_place}
 use Rattle.gc_words.specs.declared.header.Header.{Header}
 use Rattle.gc_along.specs.Watch.{bit}
 use Rattle.gc_along.specs.Tables.{Tables, IsKept, due_in, missing_in}
 use Rattle.gc_along.specs.Internal.Tables.{IsLostOrKept}
 use Rattle.gc_along.specs.Events.{code_of, object_codes, with_news, with_due, replica_added, IsClaim, IsCopy, Placed, HasNoReplica}
+use Rattle.gc_along.specs.Claims.{OwesNone}
 use Rattle.gc_along.proofs.Codes.{code_set}
 use Rattle.gc_along.proofs.Within.{at_most}
 
@@ -184,3 +186,15 @@ untaken t now a same h found not_two b low is =
     let k : IsKept now = subst IsKept same (kept_of t h (ap (λ (t : Tables). t.lost) same ∙ found)) in
     let two : get_or now.olds a 0 ≡ 2 = ap (λ x. get_or now.olds x 0) (sym is) ∙ k.taken b low in
     absurd (let no : false ≡ true = sym not_two ∙ ap (λ n. n == 2) two in cc)
+
+-- where a copy was found to be one, nothing of it is due
+pub owes_none : (old new : List ℕ) (t0 t after : Tables) (h : Header) (a : ℕ) (copied : Bool) → t0 ≡ t → IsClaim old new t0 h a
+    → (IsCopy old new h a (length t0.news) → fields_place a + h.len ≤ length old → copied ≡ true)
+    → after ≡ replica_added t0 h a (not copied) → OwesNone old new t after
+owes_none old new t0 t after h a copied same claim whole is = subst (λ (x : Tables). OwesNone old new x after) same (λ h' a' claim' copy fits.
+    let same_header : h ≡ h' = (let e : Some h ≡ Some h' = sym claim.next.header ∙ claim'.next.header in cc) in
+    let same_original : a ≡ a' = sym claim.link ∙ claim'.link in
+    let found : IsCopy old new h a (length t0.news) = subst (λ (k : Header). IsCopy old new k a (length t0.news)) (sym same_header) (subst (λ n. IsCopy old new h' n (length t0.news)) (sym same_original) copy) in
+    let len : h.len ≡ h'.len = ap (λ (k : Header). k.len) same_header in
+    let is_whole : copied ≡ true = whole found (omega arith) in
+    is ∙ (λ i. replica_added t0 (same_header i) (same_original i) (not (is_whole i))))

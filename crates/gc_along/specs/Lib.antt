@@ -3,4 +3,5 @@ pub mod Origins
 pub mod Tables
 pub mod Telling
 pub mod Events
+pub mod Claims
 pub mod Internal

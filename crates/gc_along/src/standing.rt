@@ -51,17 +51,18 @@ impl Model for Standing {
 }
 
 impl Standing {
-    ghost use Rattle.std.specs.Prelude.{◌≡◌, ◌<◌, ◌≤◌, ◌==◌, ◌↔◌, ◌∷◌, [], ℕ, true, IsTrue, IsFalse, ◌⊎◌, IfOk, OnOk, OnErr, MatchOption, length, slice_index, slice_index_or};
+    ghost use Rattle.std.specs.Prelude.{◌≡◌, ◌<◌, ◌≤◌, ◌==◌, ◌↔◌, ◌∷◌, [], ℕ, true, IsTrue, IsFalse, ◌⊎◌, IfOk, IfSome, OnOk, OnErr, MatchOption, length, slice_index, slice_index_or};
     ghost use Rattle.gc_graph.specs.Correspond.{paired};
     ghost use Rattle.gc_words.specs.Word.{words_correspond, field_words_correspond};
     ghost use Rattle.gc_words.specs.declared.header.Header.{Header};
     ghost use Rattle.gc_words.specs.Views.{image_of};
-    ghost use Rattle.gc_words.specs.Layout.{field_place};
+    ghost use Rattle.gc_words.specs.Layout.{field_place, link_place};
     ghost use Rattle.gc_along.specs.Origins.{pairs_in};
     ghost use Rattle.gc_along.specs.Watch.{RootsCorrespond};
     ghost use Rattle.gc_along.specs.Tables.{CertifiedBy};
     ghost use Rattle.gc_along.specs.Telling.{Tells};
     ghost use Rattle.gc_along.specs.Events.{Made, Placed, Looked, Wrote, Applied, Freed, WalkedAnew, IsFieldOf, HasNoReplica, absent_tables, opening_tables, flipped_tables, with_due};
+    ghost use Rattle.gc_along.specs.Claims.{Accepts, CanApply, CanLook, CanMake, CanPlace, CanWrite, IsLinked, OwesNone};
 
     /// Returns a checker for spaces of up to `size` words, at least 1.
     pub fn new(alloc: Global, size: u32) -> Result<Standing, NoMemory>
@@ -153,6 +154,7 @@ impl Standing {
     pub fn made(&mut self, old: &[u64])
         ensures lost { IsTrue self.old.lost → IsTrue self.new.lost }
         ensures made { IsFalse self.new.lost → Made old.now self.old self.new }
+        ensures stays { IsFalse self.old.lost → CanMake old.now self.old → IsFalse self.new.lost }
     {
         if self.lost {
             return;
@@ -173,6 +175,8 @@ impl Standing {
     pub fn placed(&mut self, old: &[u64], new: &[u64])
         ensures lost { IsTrue self.old.lost → IsTrue self.new.lost }
         ensures placed { IsFalse self.new.lost → Placed old.now new.now self.old self.new }
+        ensures copied { IsFalse self.new.lost → OwesNone old.now new.now self.old self.new }
+        ensures stays { IsFalse self.old.lost → CanPlace old.now new.now self.old → IsFalse self.new.lost }
     {
         if self.lost {
             return;
@@ -201,6 +205,7 @@ impl Standing {
     pub fn look(&mut self, old: &[u64], new: &[u64], at: u32, i: u16)
         ensures lost { IsTrue self.old.lost → IsTrue self.new.lost }
         ensures looked { IsFalse self.new.lost → Looked old.now new.now at i self.old self.new }
+        ensures stays { IsFalse self.old.lost → CanLook old.now new.now at i self.old → IsFalse self.new.lost }
     {
         if self.lost {
             return;
@@ -214,7 +219,7 @@ impl Standing {
     // Whether field `i` of the replica at `at` stands for its original's, if there are such fields.
     #[inline(always)]
     fn compared(&self, old: &[u64], new: &[u64], at: u32, i: u16) -> Option<bool>
-        ensures { MatchOption result Unit (λ alike. (h : Header) × (a : ℕ) × IsFieldOf new.now self.now h a at i
+        ensures { MatchOption result (CanLook old.now new.now at i self.now → ⊥) (λ alike. (h : Header) × (a : ℕ) × IsFieldOf new.now self.now h a at i
             × (field_place a i < length old.now) × (field_place at i < length new.now)
             × (alike ≡ field_words_correspond h (pairs_in self.now.origins) (slice_index old.now (field_place a i)) (slice_index new.now (field_place at i)))) }
     {
@@ -252,6 +257,7 @@ impl Standing {
     pub fn applied(&mut self, old: &[u64], new: &[u64], a: u32, i: u16)
         ensures lost { IsTrue self.old.lost → IsTrue self.new.lost }
         ensures applied { IsFalse self.new.lost → Applied old.now new.now a i self.old self.new }
+        ensures stays { IsFalse self.old.lost → CanApply old.now new.now a i self.old → IsFalse self.new.lost }
     {
         if self.lost {
             return;
@@ -270,6 +276,7 @@ impl Standing {
     pub fn written(&mut self, old: &[u64], a: u32, i: u16)
         ensures lost { IsTrue self.old.lost → IsTrue self.new.lost }
         ensures wrote { IsFalse self.new.lost → Wrote a i self.old self.new }
+        ensures stays { IsFalse self.old.lost → CanWrite old.now a i self.old → IsFalse self.new.lost }
     {
         if self.lost {
             return;
@@ -287,7 +294,8 @@ impl Standing {
     #[inline(always)]
     fn set_written(&mut self, place: usize)
         requires { IsFalse self.old.lost }
-        ensures { IsFalse self.new.lost → (place < length self.old.news) × (self.new ≡ with_due self.old place true) }
+        ensures wrote { IsFalse self.new.lost → (place < length self.old.news) × (self.new ≡ with_due self.old place true) }
+        ensures stays { place < length self.old.news → IsFalse self.new.lost }
     {
         if place >= self.news.len() {
             self.lost = true;
@@ -310,7 +318,8 @@ impl Standing {
     // The replica of the object at `a`, if its link tells it.
     #[inline(always)]
     fn replica(&self, old: &[u64], a: u32) -> Option<u32>
-        ensures { MatchOption result Unit (λ b. (1 ≤ a) × (slice_index_or self.now.origins b 0 ≡ a)) }
+        ensures claim { MatchOption result ((b : ℕ) → IsLinked old.now self.now a b → ⊥) (λ b. (1 ≤ a) × (slice_index_or self.now.origins b 0 ≡ a)) }
+        ensures link { IfSome result (λ b. slice_index old.now (link_place a) ≡ b) }
     {
         let link = a as usize + 1;
         if a == 0 {
@@ -421,6 +430,7 @@ impl Standing {
     /// Returns whether all is seen and compared, and the roots correspond.
     pub fn says_yes(&self, old: ImageRef, new: ImageRef) -> bool
         ensures yes { IsTrue result → CertifiedBy self.now (image_of old.entry) (image_of new.entry) }
+        ensures accepts { Accepts self.now (image_of old.entry) (image_of new.entry) → IsTrue result }
     {
         what_is_seen_is_certified();
         if self.lost {
@@ -448,6 +458,7 @@ impl Standing {
     pub fn flipped(&mut self)
         ensures lost { IsTrue self.old.lost → IsTrue self.new.lost }
         ensures flipped { IsFalse self.new.lost → self.new ≡ flipped_tables self.old }
+        ensures stays { IsFalse self.old.lost → IsFalse self.new.lost }
     {
         if self.lost {
             return;
@@ -464,6 +475,7 @@ impl Standing {
     pub fn dropped(&mut self)
         ensures lost { IsTrue self.old.lost → IsTrue self.new.lost }
         ensures freed { IsFalse self.new.lost → Freed self.old self.new }
+        ensures stays { IsFalse self.old.lost → IsFalse self.new.lost }
     {
         if self.lost {
             return;
@@ -479,8 +491,11 @@ impl Standing {
 
 impl Watcher for Standing {
     ghost use Rattle.gc_along.specs.Tables.{CertifiedBy};
+    ghost use Rattle.gc_along.specs.Claims.{Accepts};
 
     ghost accepted = { CertifiedBy };
+
+    ghost sure = { Accepts };
 
     fn accepts(&self, old: ImageRef, new: ImageRef) -> bool {
         self.says_yes(old, new)
@@ -489,7 +504,8 @@ impl Watcher for Standing {
 
 ghost use Rattle.gc_words.specs.Views.{image_of};
 ghost use Rattle.std.specs.Prelude.{◌≡◌, ◌⊎◌, ◌↔◌, OnOk, ◌≤◌, ◌<◌, ◌+◌, ◌==◌, ◌∷◌, ◌++◌, ℕ, IsTrue, MatchOption, length, replicate, slice_index, slice_index_or, vec_len, vec_capacity};
-ghost use Rattle.gc_words.specs.Layout.{link_place};
+ghost use Rattle.gc_words.specs.Layout.{fields_place, link_place};
+ghost use Rattle.gc_words.specs.declared.header.Header.{Header};
 ghost use Rattle.std.specs.Prelude.{if◌then◌else◌};
 ghost use Rattle.gc_along.specs.Watch.{IsNext, IsSized, bit};
 ghost use Rattle.gc_along.specs.Events.{IsCopy, object_codes, code_of};
@@ -499,7 +515,8 @@ ghost use Rattle.gc_along.specs.Events.{IsCopy, object_codes, code_of};
 fn next_header(words: &[u64], at: usize, room: u32) -> Option<Header>
     requires at { at < length words.now }
     requires room { room ≤ 4294967295 }
-    ensures { MatchOption result Unit (λ h. IsNext at words.now h × (at + (h.len + 2) ≤ room)) }
+    ensures { MatchOption result ((h : Header) → IsNext at words.now h → at + (h.len + 2) ≤ room → ⊥)
+        (λ h. IsNext at words.now h × (at + (h.len + 2) ≤ room)) }
 {
     let header = Header::read(words[at])?;
     let taken = usize::from(header.len()) + 2;
@@ -517,7 +534,9 @@ fn next_header(words: &[u64], at: usize, room: u32) -> Option<Header>
 #[inline(always)]
 fn claim_in(old: &[u64], new: &[u64], olds: &[u8], at: usize) -> Option<u32>
     requires { link_place at < length new.now }
-    ensures { MatchOption result Unit (λ a. (slice_index new.now (link_place at) ≡ a) × (1 ≤ a) × (a < length old.now) × (a < length olds.now)
+    ensures { MatchOption result ((a : ℕ) → slice_index new.now (link_place at) ≡ a → 1 ≤ a → a < 4294967295 → a < length old.now
+        → slice_index_or olds.now a 0 ≡ 1 → slice_index old.now a ≡ slice_index new.now at → ⊥)
+        (λ a. (slice_index new.now (link_place at) ≡ a) × (1 ≤ a) × (a < length old.now) × (a < length olds.now)
         × (slice_index_or olds.now a 0 ≡ 1) × (slice_index old.now a ≡ slice_index new.now at)) }
 {
     let claim = new[at + 1];
@@ -548,7 +567,8 @@ fn claim_in(old: &[u64], new: &[u64], olds: &[u8], at: usize) -> Option<u32>
 #[inline(always)]
 fn is_copy(header: Header, old: &[u64], new: &[u64], original: u32, at: usize) -> bool
     requires { at + (header.len + 2) ≤ length new.now }
-    ensures { IsTrue result → IsCopy old.now new.now header original at }
+    ensures copy { IsTrue result → IsCopy old.now new.now header original at }
+    ensures whole { IsCopy old.now new.now header original at → fields_place original + header.len ≤ length old.now → IsTrue result }
 {
     if !header.is_raw() {
         return false;

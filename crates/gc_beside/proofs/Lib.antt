@@ -5,6 +5,14 @@ pub mod Events
 pub mod Shown
 pub mod Growth
 pub mod Told
+pub mod Agree
+pub mod Ready
+pub mod Claimed
+pub mod Brought
+pub mod Known
+pub mod StepsKnown
+pub mod EndsKnown
+pub mod CommandsKnown
 pub mod Beside
 pub mod Lives
 pub mod LivesOn

@@ -143,6 +143,23 @@ one_more s m op e g h words step_is objects = cond_both (nat_lt s.heap.free (wor
           (let end : (s.size - s.heap.free) + (length e.fields + 2) ≡ s.size - (s.heap.free - words_taken op) = omega arith in end)),
     ))
 
+-- what a `new` or `raw` makes
+pub ends_more : (s s' : State) (m : ℕ) (op : Op) (reply : Reply) (raw : Bool) (d : Rattle.gc_graph.specs.Slots.SlotName) (kind len : ℕ) → op ≡ new_op raw d kind len → IsSpaceGraph s.size s.heap.free s.heap.graph → mutate s m op ≡ (reply, s') → EndsMore s s'
+ends_more s s' m op reply raw d kind len is before said = go raw is
+  where
+    from : (e : Object) → NewOne s m op e (roomy_step s.heap m op (heap_end s)).1 → EndsMore s s'
+    from e one =
+        let heap_as : (roomy_step s.heap m op (heap_end s)).1 ≡ s'.heap = ap (λ (x : Reply × State). x.1.heap) said in
+        let size_as : s.size ≡ s'.size = ap (λ (x : Reply × State). x.1.size) said in
+        ⊎_elim
+        (λ full. inl (λ i. size_as i - (ap (λ (r : Roomy). r.free) (sym full ∙ heap_as)) i))
+        (λ o. inr (e, (subst (λ (h : Roomy). In (heap_end s, e) h.graph.objects) heap_as o.0, o.1 ∙ (λ i. size_as i - (ap (λ (h : Roomy). h.free) heap_as) i))))
+        one
+
+    go : (raw : Bool) → op ≡ new_op raw d kind len → EndsMore s s'
+    go true e = from (new_object true kind len) (subst (λ (o : Op). NewOne s m o (new_object true kind len) (roomy_step s.heap m o (heap_end s)).1) (sym e) (one_more s m (ops.NewRaw d kind len) (new_object true kind len) _ before (ap (λ n. n + 2) (sym (length-replicate len (Rattle.gc_graph.specs.Graph.first_value true)))) refl refl))
+    go false e = from (new_object false kind len) (subst (λ (o : Op). NewOne s m o (new_object false kind len) (roomy_step s.heap m o (heap_end s)).1) (sym e) (one_more s m (ops.New d kind len) (new_object false kind len) _ before (ap (λ n. n + 2) (sym (length-replicate len (Rattle.gc_graph.specs.Graph.first_value false)))) refl refl))
+
 pub lives_new : (s s' : State) (m : ℕ) (op : Op) (reply : Reply) (t after : Tables) (raw : Bool) (d : Rattle.gc_graph.specs.Slots.SlotName) (kind len : ℕ) (links : ℕ → ℕ) → op ≡ new_op raw d kind len
     → IsOpen s s.collection → mutate s m op ≡ (reply, s') → IsSpaceGraph s.size s.heap.free s.heap.graph → IsSpaceGraph s'.size s'.heap.free s'.heap.graph
     → (t.lost ≡ true → after.lost ≡ true) → (after.lost ≡ false → Made (heap_words links s') t after) → IsLive s t → IsLive s' after

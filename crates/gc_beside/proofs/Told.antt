@@ -36,7 +36,7 @@ shows_replicas s c h k = record {
   count = shown_length (new_links c) (new_objects c) (new_end c) k.belongs.laid;
   each = λ r there.
       let at = shown_at (new_links c) (new_objects c) (new_end c) r.place r.object k.belongs.laid sized (in_map placed r c.replicas there) in
-      record { header = at.header; link_is = at.link_is ∙ link_of s c r k there };
+      record { header = at.header; link_is = at.link_is ∙ link_of s c r k there; word = at.word; fits = at.fits; fields = at.fields };
 }
   where
     sized : AreSized (new_objects c)
@@ -56,7 +56,7 @@ abbrev pub Told : ℕ → Collection → Collection → Tables → Tables → Ty
 Told end c next t after = Fits end next (watch_of after) × LosesNone (new_end c) (watch_of t) next (watch_of after)
 
 module _ (end : ℕ) (c next : Collection) (words : List ℕ) (t : Tables) (fits : Fits end c (watch_of t)) (shows : ShowsReplicas next words) where
-  none_behind : (r : Replica) → In r next.replicas → new_end next ≤ r.place → ⊥
+  pub none_behind : (r : Replica) → In r next.replicas → new_end next ≤ r.place → ⊥
   none_behind r l past = let range = laid_range 1 (map placed next.replicas) (new_end next) (placed r) shows.laid (in_map placed r next.replicas l) in let high = range.1 in omega arith
 
   told_none : HasSame c next → Told end c next t t
@@ -141,10 +141,10 @@ module _ (end : ℕ) (c next : Collection) (words : List ℕ) (t : Tables) (fits
 
 -- ---- one place due or not
 
-marked_at : (t : Tables) (place : ℕ) (x : Bool) → due_in (set t.news place (code_of x)) ≡ set (due_in t.news) place x
+pub marked_at : (t : Tables) (place : ℕ) (x : Bool) → due_in (set t.news place (code_of x)) ≡ set (due_in t.news) place x
 marked_at t place x = code_set t.news place (code_of x) ∙ ap (set (due_in t.news) place) (code_is x)
 
-fits_marked : (end : ℕ) (c : Collection) (t : Tables) (place : ℕ) (x : Bool) → Fits end c (watch_of t) → Fits end c (watch_of (with_due t place x))
+pub fits_marked : (end : ℕ) (c : Collection) (t : Tables) (place : ℕ) (x : Bool) → Fits end c (watch_of t) → Fits end c (watch_of (with_due t place x))
 fits_marked end c t place x f = record {
   pairs = f.pairs;
   old_seen = f.old_seen;
@@ -153,12 +153,30 @@ fits_marked end c t place x f = record {
 }
 
 -- the pair of a replica that was seen
-replica_there : (end : ℕ) (c : Collection) (t : Tables) → Fits end c (watch_of t) → (a b : ℕ) → IsReplicaAt t a b → (q : Replica) × In q c.replicas × (pair q ≡ (a, b))
+pub replica_there : (end : ℕ) (c : Collection) (t : Tables) → Fits end c (watch_of t) → (a b : ℕ) → IsReplicaAt t a b → (q : Replica) × In q c.replicas × (pair q ≡ (a, b))
 replica_there end c t fits a b at =
     let listed : In {X = ℕ × ℕ} (a, b) (pairs_in t.origins) = paired_in (pairs_in t.origins) a b (told t.origins a b at.low ∙ eq-eqb (get_or t.origins b 0) a at.origin) in
     in_map_from pair (a, b) c.replicas (subst (In {X = ℕ × ℕ} (a, b)) fits.pairs listed)
 
 module _ (end : ℕ) (e : ℕ) (w : Watch) (next : Collection) (words : List ℕ) (shows : ShowsReplicas next words) where
+  -- one place of a field marked or not
+  pub told_marked : (t : Tables) (x : Bool) (q : Replica) (b i : ℕ) → In q next.replicas → q.place ≡ b → i < length q.object.fields → Fits end next (watch_of t) → LosesNone e w next (watch_of t)
+      → Fits end next (watch_of (with_due t (field_place b i) x)) × LosesOnly e q.original i w next (watch_of (with_due t (field_place b i) x))
+  told_marked t x q b i there at small fits loses = (
+    fits_marked end next t (field_place b i) x fits,
+    λ r l j m d. elim (cases_eq (field_place r.place j) (field_place b i)) [
+      | inl same ↦ inl (one_field r l j m q there i small (let s : field_place r.place j ≡ field_place b i = same in let p : q.place ≡ b = at in omega arith))
+      | inr other ↦ inr (ap (λ bs. get_or bs (field_place r.place j) false) (marked_at t (field_place b i) x) ∙ (get_or-set_other (due_in t.news) (field_place b i) (field_place r.place j) x false other ∙ loses r l j m d))
+    ],
+  )
+    where
+      one_field : (r : Replica) → In r next.replicas → (j : ℕ) → j < length r.object.fields → (q : Replica) → In q next.replicas → (i : ℕ) → i < length q.object.fields → field_place r.place j ≡ field_place q.place i → (r.original ≡ q.original) × (j ≡ i)
+      one_field r l j m q k i n same = ⊎_elim
+          (λ e. (let place : r.place ≡ q.place = ap (λ (e : ℕ × Object). e.0) e in
+          (ap (λ (r : Replica). r.original) (same_place 1 next.replicas (new_end next) r q shows.laid l k place), omega arith)))
+          (⊎_elim (λ before. absurd (let b : r.place + (length r.object.fields + 2) ≤ q.place = before in omega arith)) (λ after. absurd (let b : q.place + (length q.object.fields + 2) ≤ r.place = after in omega arith)))
+          (laid_apart 1 (map placed next.replicas) (new_end next) (placed r) (placed q) shows.laid (in_map placed r next.replicas l) (in_map placed q next.replicas k))
+
   -- a field compared, of the replica of this object
   pub told_looked : (old : List ℕ) (t after : Tables) (q : Replica) (b i : ℕ) → In q next.replicas → q.place ≡ b → Fits end next (watch_of t) → LosesNone e w next (watch_of t) → Looked old words b i t after
       → Fits end next (watch_of after) × LosesOnly e q.original i w next (watch_of after)
@@ -168,20 +186,7 @@ module _ (end : ℕ) (e : ℕ) (w : Watch) (next : Collection) (words : List ℕ
       let header : h ≡ object_header q.object = (let one : Some h ≡ Some (object_header q.object) = sym is.2.header ∙ (ap (λ n. read_header (slice_index words n)) (sym at) ∙ (shows.each q there).header) in cc) in
       let len : h.len ≡ length q.object.fields = ap (λ (h : Header). h.len) header in
       let small : i < h.len = is.2.has_field in
-      subst (λ (t' : Tables). Fits end next (watch_of t') × LosesOnly e q.original i w next (watch_of t')) (sym is.5) (
-        fits_marked end next t (field_place b i) x fits,
-        λ r l j m d. elim (cases_eq (field_place r.place j) (field_place b i)) [
-          | inl same ↦ inl (one_field r l j m q there i (omega arith) (let s : field_place r.place j ≡ field_place b i = same in let p : q.place ≡ b = at in omega arith))
-          | inr other ↦ inr (ap (λ bs. get_or bs (field_place r.place j) false) (marked_at t (field_place b i) x) ∙ (get_or-set_other (due_in t.news) (field_place b i) (field_place r.place j) x false other ∙ loses r l j m d))
-        ],
-      )
-    where
-      one_field : (r : Replica) → In r next.replicas → (j : ℕ) → j < length r.object.fields → (q : Replica) → In q next.replicas → (i : ℕ) → i < length q.object.fields → field_place r.place j ≡ field_place q.place i → (r.original ≡ q.original) × (j ≡ i)
-      one_field r l j m q k i n same = ⊎_elim
-          (λ e. (let place : r.place ≡ q.place = ap (λ (e : ℕ × Object). e.0) e in
-          (ap (λ (r : Replica). r.original) (same_place 1 next.replicas (new_end next) r q shows.laid l k place), omega arith)))
-          (⊎_elim (λ before. absurd (let b : r.place + (length r.object.fields + 2) ≤ q.place = before in omega arith)) (λ after. absurd (let b : q.place + (length q.object.fields + 2) ≤ r.place = after in omega arith)))
-          (laid_apart 1 (map placed next.replicas) (new_end next) (placed r) (placed q) shows.laid (in_map placed r next.replicas l) (in_map placed q next.replicas k))
+      subst (λ (t' : Tables). Fits end next (watch_of t') × LosesOnly e q.original i w next (watch_of t')) (sym is.5) (told_marked t x q b i there at (omega arith) fits loses)
 
   -- where nothing was compared
   pub told_same : (name i : ℕ) (t : Tables) → LosesNone e w next (watch_of t) → LosesOnly e name i w next (watch_of t)
@@ -199,7 +204,7 @@ module _ (end : ℕ) (e : ℕ) (w : Watch) (next : Collection) (words : List ℕ
 
 -- ---- a field written
 
-same_original : (replicas : List Replica) (r s : Replica) → Distinct (map (λ q. q.original) replicas) → In r replicas → In s replicas → r.original ≡ s.original → r ≡ s
+pub same_original : (replicas : List Replica) (r s : Replica) → Distinct (map (λ q. q.original) replicas) → In r replicas → In s replicas → r.original ≡ s.original → r ≡ s
 same_original [] r s h k l e = absurd k
 same_original (q ∷ rest) r s h (inl k) (inl l) e = sym k ∙ l
 same_original (q ∷ rest) r s h (inl k) (inr l) e = absurd (h.0 (subst (λ n. In n (map (λ (q : Replica). q.original) rest)) (sym e ∙ ap (λ (q : Replica). q.original) (sym k)) (in_map (λ (q : Replica). q.original) s rest l)))

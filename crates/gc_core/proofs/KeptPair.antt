@@ -3,14 +3,15 @@ use Rattle.std.proofs.Common.{◌≡◌, ℕ, Bool, true, List, Option, Some, re
 use Rattle.std.specs.Option.{option_map}
 use Rattle.gc_words.specs.Image.{Image}
 use Rattle.gc_words.specs.Certificate.{Certified}
-use Rattle.gc_heap.specs.Heap.{HeapWords}
+use Rattle.gc_heap.specs.Heap.{HeapWords, graph_in}
 use Rattle.gc_cert.specs.Grammar.{CertifiedPair}
 use Rattle.std.specs.Prelude.{IfSome}
 use Rattle.gc_plan.specs.State.{State}
 use Rattle.gc_copy.specs.Words.{CollectionWords, collection_in, state_of, open_state}
 use Rattle.gc_plan.specs.declared.step.StepReply.{StepReply}
 use Rattle.gc_plan.specs.declared.step.StepReply.TheVariants.{Flipped}
-use Rattle.gc_core.specs.Flip.{flip_pair, kept_after, replaced}
+use Rattle.gc_plan.specs.Steps.{is_ready}
+use Rattle.gc_core.specs.Flip.{flip_pair, IsSureIfReady, kept_after, replaced}
 
 pub same_image : (size end s e : ℕ) (words roots w r : List ℕ) (raws : Bool) → size ≡ s → end ≡ e → words ≡ w → roots ≡ r → raws ≡ true
     → ◌≡◌ {A = Image} (record { size = size; end = end; words = words; roots = roots; raws = raws }) (record { size = s; end = e; words = w; roots = r; raws = true })
@@ -35,3 +36,11 @@ pub pair_now : (says : CertifiedPair → Type 0) (heap : HeapWords) (was : Optio
 pair_now says heap was c now is view h =
     subst (λ (s : State). IfSome s.collection (λ d. says (flip_pair s d))) view
     (subst (λ o. IfSome (option_map collection_in o) (λ d. says (flip_pair (state_of heap (option_map collection_in o)) d))) (sym is) h)
+
+-- a checker that is sure of a ready collection of this state is sure of the one that is open
+pub sure_then : (sure : Image → Image → Type 0) (heap : HeapWords) (was : Option CollectionWords) (c : CollectionWords) (now : State) → was ≡ Some c → state_of heap (option_map collection_in was) ≡ now
+    → IsSureIfReady sure now → is_ready (collection_in c) (graph_in heap) ≡ true → sure (flip_pair (open_state heap c) (collection_in c)).old (flip_pair (open_state heap c) (collection_in c)).new
+sure_then sure heap was c now is view h =
+    let a : IsSureIfReady sure (state_of heap (option_map collection_in was)) = subst (IsSureIfReady sure) (sym view) h in
+    let b : IsSureIfReady sure (open_state heap c) = subst (λ o. IsSureIfReady sure (state_of heap (option_map collection_in o))) is a in
+    b

@@ -48,3 +48,7 @@ HasRoomIfLarge s reply = IfSome s.collection (λ c. s.size ≤ c.size → reply 
 -- a checker that went along accepts the images of the pair
 abbrev pub HasAccepted : (Image → Image → Type 0) → CertifiedPair → Type 0
 HasAccepted accepted pair = accepted pair.old pair.new
+
+-- if the open collection is ready, a checker that went along is sure of the images of its pair
+abbrev pub IsSureIfReady : (Image → Image → Type 0) → State → Type 0
+IsSureIfReady sure s = IfSome s.collection (λ c. IsTrue (is_ready c s.heap.graph) → HasAccepted sure (flip_pair s c))

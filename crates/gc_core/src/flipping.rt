@@ -24,7 +24,7 @@ use std::alloc::Global;
 
 impl CollectedHeap {
     ghost use Rattle.gc_core.specs.CollectedHeap.{Allocates};
-    ghost use Rattle.gc_core.specs.Flip.{FlipsOnly, HasAccepted, PassesIfReady, kept_after, replaced};
+    ghost use Rattle.gc_core.specs.Flip.{FlipsOnly, HasAccepted, IsSureIfReady, PassesIfReady, kept_after, replaced};
     ghost use Rattle.gc_cert.specs.Grammar.{CertifiedPair};
     ghost use Rattle.std.specs.Prelude.{Option};
     ghost use Rattle.gc_core.specs.declared.flip.Keep.{Keep};
@@ -86,6 +86,8 @@ impl CollectedHeap {
         ensures asked { IfOk result (λ flip. IsTrue flip.whole → FlipsOnly (C.says_yes checker.now) self.old flip.reply) }
         // What the other checker accepted is certified.
         ensures sound { IfOk result (λ flip. IsTrue flip.whole → FlipsOnly IsCertified self.old flip.reply) }
+        // Where the one that went along does not refuse, the other is not asked.
+        ensures alone { IsSureIfReady (W.sure along.now) self.old → IfOk result (λ flip. IsFalse flip.whole) }
         // A ready collection passes, so no flip is refused.
         ensures passes { IfOk result (λ flip. PassesIfReady self.old flip.reply) }
         ensures never_refused { IfOk result (λ flip. flip.reply ≢ StepReply.Refused) }
@@ -146,9 +148,12 @@ fn unasked(reply: StepReply) -> AlongFlip
 fn is_accepted<W: Watcher>(along: &W, heap: &Heap, collection: &Collection, roots: &[u64]) -> bool
     requires belongs { BelongsTo heap.now collection.now }
     requires roots { roots.now ≡ new_root_words heap.now (collection_in collection.now) }
-    ensures { IsTrue result → W.accepted along.now
+    ensures yes { IsTrue result → W.accepted along.now
         (flip_pair (open_state heap.now collection.now) (collection_in collection.now)).old
         (flip_pair (open_state heap.now collection.now) (collection_in collection.now)).new }
+    ensures sure { W.sure along.now
+        (flip_pair (open_state heap.now collection.now) (collection_in collection.now)).old
+        (flip_pair (open_state heap.now collection.now) (collection_in collection.now)).new → IsTrue result }
 {
     images_show_links();
     let old = heap.image();

@@ -4,7 +4,7 @@ use Rattle.gc_words.specs.Layout.{link_place}
 use Rattle.gc_along.specs.Watch.{IsNext}
 use Rattle.gc_along.specs.Tables.{Tables, IsKept}
 use Rattle.gc_along.specs.Events.{object_codes, IsClaim, IsCopy}
-use Rattle.gc_along.proofs.Kept.{kept_of, few_missing, kept_replica, replica_written, placed_at}
+use Rattle.gc_along.proofs.Kept.{kept_of, few_missing, kept_replica, replica_written, placed_at, owes_none}
 use Rattle.gc_along.proofs.standing.Standing.placed.Goals as goal
 
 pub overflow_add-self : goal.overflow_add-self
@@ -37,31 +37,36 @@ invariant_of-self-2 c =
     (c.self.invariant.0, c.self.invariant.1, c.self.invariant.2, more, rest, inr (subst IsKept (sym is) (kept_replica _ h a due bound start kept)))
 
 pub returns : goal.returns
-returns c = record {
-  lost = λ t. ap (λ (t : Tables). t.lost) c.self.view_is ∙ t;
-  placed = λ found.
-      let kept = kept_of _ c.self.invariant.5 c.if-self.false in
-      let h = c.in-Some.header in
-      let at : c.len-at.result ≡ length c.self.inside.news.items = (let e : c.len-at.result ≡ vec_len c.self.inside.news = c.len-at.ensures in let o = c.self.inside.news.ok.0 in omega arith) in
-      let next : IsNext c.len-at.result c.args.new.now h = c.in-Some.ensures.0 in
-      let a = c.in-Some-claim_in.original in
-      let due = not c.is_copy-due.result in
-      let claim : IsClaim c.args.old.now c.args.new.now _ h a = record {
-        next = subst (λ n. IsNext n c.args.new.now h) at next;
-        rows = kept.rows;
-        link = subst (λ n. slice_index c.args.new.now (link_place n) ≡ a) at c.in-Some-claim_in.ensures.0;
-        low = c.in-Some-claim_in.ensures.1;
-        within = c.in-Some-claim_in.ensures.2;
-        start = ap (λ row. get_or row a 0) (sym c.deref.ensures.value) ∙ c.in-Some-claim_in.ensures.4;
-        header = subst (λ n. slice_index c.args.old.now a ≡ slice_index c.args.new.now n) at c.in-Some-claim_in.ensures.5;
-      } in
-      let is = replica_written _ h a c.code_of.result (c.self.inside.missing + c.due_words.result) c.due_words.result due c.add_codes.new.row.items c.add_origin.new.row.items kept c.code_of.ensures
-      (c.add_codes.ensures.items ∙ ap (λ n. c.self.inside.news.items ++ object_codes n c.code_of.result) c.len-2.ensures)
-      (c.add_origin.ensures.items ∙ ap (λ n. c.self.inside.origins.items ++ a ∷ 0 ∷ replicate n 0) c.len.ensures)
-      Rattle.std.proofs.Common.refl (c.due_words.ensures ∙ ap (λ n. if due then n else 0) c.len-3.ensures) in
-      placed_at c.args.old.now c.args.new.now _ _ _ h a c.is_copy-due.result c.self.view_is
-      (let l : c.len-at.result < length c.args.new.now = c.if-at-new.false in omega arith)
-      claim
-      (λ t. subst (λ n. IsCopy c.args.old.now c.args.new.now h a n) at (c.is_copy-due.ensures t))
-      is;
-}
+returns c =
+    let kept = kept_of _ c.self.invariant.5 c.if-self.false in
+    let h = c.in-Some.header in
+    let at : c.len-at.result ≡ length c.self.inside.news.items = (let e : c.len-at.result ≡ vec_len c.self.inside.news = c.len-at.ensures in let o = c.self.inside.news.ok.0 in omega arith) in
+    let next : IsNext c.len-at.result c.args.new.now h = c.in-Some.ensures.0 in
+    let a = c.in-Some-claim_in.original in
+    let due = not c.is_copy-due.result in
+    let claim : IsClaim c.args.old.now c.args.new.now _ h a = record {
+      next = subst (λ n. IsNext n c.args.new.now h) at next;
+      rows = kept.rows;
+      link = subst (λ n. slice_index c.args.new.now (link_place n) ≡ a) at c.in-Some-claim_in.ensures.0;
+      low = c.in-Some-claim_in.ensures.1;
+      within = c.in-Some-claim_in.ensures.2;
+      start = ap (λ row. get_or row a 0) (sym c.deref.ensures.value) ∙ c.in-Some-claim_in.ensures.4;
+      header = subst (λ n. slice_index c.args.old.now a ≡ slice_index c.args.new.now n) at c.in-Some-claim_in.ensures.5;
+    } in
+    let is = replica_written _ h a c.code_of.result (c.self.inside.missing + c.due_words.result) c.due_words.result due c.add_codes.new.row.items c.add_origin.new.row.items kept c.code_of.ensures
+    (c.add_codes.ensures.items ∙ ap (λ n. c.self.inside.news.items ++ object_codes n c.code_of.result) c.len-2.ensures)
+    (c.add_origin.ensures.items ∙ ap (λ n. c.self.inside.origins.items ++ a ∷ 0 ∷ replicate n 0) c.len.ensures)
+    Rattle.std.proofs.Common.refl (c.due_words.ensures ∙ ap (λ n. if due then n else 0) c.len-3.ensures) in
+    record {
+      lost = λ t. ap (λ (t : Tables). t.lost) c.self.view_is ∙ t;
+      placed = λ found.
+          placed_at c.args.old.now c.args.new.now _ _ _ h a c.is_copy-due.result c.self.view_is
+          (let l : c.len-at.result < length c.args.new.now = c.if-at-new.false in omega arith)
+          claim
+          (λ t. subst (λ n. IsCopy c.args.old.now c.args.new.now h a n) at (c.is_copy-due.ensures.copy t))
+          is;
+      copied = λ found. owes_none c.args.old.now c.args.new.now _ _ _ h a c.is_copy-due.result c.self.view_is claim
+          (λ copy fits. c.is_copy-due.ensures.whole (subst (λ n. IsCopy c.args.old.now c.args.new.now h a n) (sym at) copy) fits)
+          is;
+      stays = λ found can. ap (λ (t : Tables). t.lost) c.self.view_is ∙ found;
+    }

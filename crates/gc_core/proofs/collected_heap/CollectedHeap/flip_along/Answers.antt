@@ -10,7 +10,7 @@ use Rattle.gc_core.proofs.collected_heap.CollectedHeap.flip_along.Goals as goal
 
 pub returns-clause-along : goal.returns-clause-along
 returns-clause-along g c unasked pairs told =
-    pair_now (HasAccepted (g.W.Watcher.accepted c.args.along.now)) c.self.inside.heap c.self.inside.collection c.in-Some.collection c.args.self.now c.in-Some.is c.self.view_is (c.if-not-is_accepted.ensures refl)
+    pair_now (HasAccepted (g.W.Watcher.accepted c.args.along.now)) c.self.inside.heap c.self.inside.collection c.in-Some.collection c.args.self.now c.in-Some.is c.self.view_is (c.is_accepted.ensures.yes c.if-not-is_accepted.false)
 
 pub invariant_of-self : goal.invariant_of-self
 invariant_of-self g c =

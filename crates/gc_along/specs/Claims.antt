@@ -1,0 +1,53 @@
+-- What has to be true of what a checker is told, so that it does not become lost.
+use Rattle.std.specs.Prelude.{◌≡◌, ◌≤◌, ◌<◌, ◌+◌, ℕ, IsFalse, false, List, length, slice_index, slice_index_or}
+use Rattle.gc_words.specs.Image.{Image}
+use Rattle.gc_words.specs.Layout.{field_place, fields_place, link_place}
+use Rattle.gc_words.specs.declared.header.Header.{Header}
+use Rattle.gc_along.specs.Watch.{IsNext, IsSized, RootsCorrespond}
+use Rattle.gc_along.specs.Origins.{pairs_in}
+use Rattle.gc_along.specs.Tables.{Tables}
+use Rattle.gc_along.specs.Events.{IsClaim, IsCopy, IsFieldOf, replica_added}
+
+-- if the old space has an object more, there is room for it
+abbrev pub CanMake : List ℕ → Tables → Type 0
+CanMake old t = length t.olds < length old → (h : Header) × IsNext (length t.olds) old h × (length t.olds + (h.len + 2) ≤ t.room)
+
+-- if the new space has an object more, its claim is true, and there is room for it
+abbrev pub CanPlace : List ℕ → List ℕ → Tables → Type 0
+CanPlace old new t = length t.news < length new
+    → (h : Header) × (a : ℕ) × IsClaim old new t h a × (a < 4294967295) × (length t.news + (h.len + 2) ≤ t.room)
+
+-- a raw object that is a copy of its original owes nothing
+abbrev pub OwesNone : List ℕ → List ℕ → Tables → Tables → Type 0
+OwesNone old new t after = (h : Header) (a : ℕ) → IsClaim old new t h a → IsCopy old new h a (length t.news)
+    → fields_place a + h.len ≤ length old → after ≡ replica_added t h a false
+
+-- both spaces have field i of the replica at b and of its original
+abbrev pub CanLook : List ℕ → List ℕ → ℕ → ℕ → Tables → Type 0
+CanLook old new b i t = (h : Header) × (a : ℕ) × IsFieldOf new t h a b i × (field_place a i < length old) × (field_place b i < length new)
+
+-- the link of the object at a leads to its replica at b
+pub record IsLinked (old : List ℕ) (t : Tables) (a b : ℕ) : Type 0 where
+  pub low : 1 ≤ a
+  pub within : link_place a < length old
+  pub link : slice_index old (link_place a) ≡ b
+  pub high : b < 4294967295
+  pub origin : slice_index_or t.origins b 0 ≡ a
+
+-- if the object at a has a replica, its link leads there, and both have field i
+abbrev pub CanApply : List ℕ → List ℕ → ℕ → ℕ → Tables → Type 0
+CanApply old new a i t = slice_index_or t.olds a 0 ≡ 2 → (b : ℕ) × IsLinked old t a b × CanLook old new b i t
+
+-- if the object at a has a replica, its link leads there, and field i of the replica was seen
+abbrev pub CanWrite : List ℕ → ℕ → ℕ → Tables → Type 0
+CanWrite old a i t = slice_index_or t.olds a 0 ≡ 2 → (b : ℕ) × IsLinked old t a b × (field_place b i < length t.news)
+
+-- nothing is lost or due, all words of both images were seen, and the roots correspond
+pub record Accepts (t : Tables) (old new : Image) : Type 0 where
+  pub found : IsFalse t.lost
+  pub none_due : t.missing ≡ 0
+  pub old_seen : length t.olds ≡ length old.words
+  pub new_seen : length t.news ≡ length new.words
+  pub old_sized : IsSized old
+  pub new_sized : IsSized new
+  pub roots : RootsCorrespond (pairs_in t.origins) old.roots new.roots

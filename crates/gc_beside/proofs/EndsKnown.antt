@@ -1,0 +1,96 @@
+-- The tables of a standing checker know the heap where a collection begins, is given up, or ends in a flip.
+use Rattle.std.proofs.Common.{◌≡◌, ◌≢◌, inl, ⊎_elim, ℕ, zero, suc, ◌≤◌, false, true, [], ◌∷◌, length, get_or, None, refl, ap, sym, ◌∙◌, subst, arith}
+use Rattle.gc_graph.specs.Graph.{Object}
+use Rattle.gc_plan.specs.State.{Collection, State, heap_end}
+use Rattle.gc_plan.specs.Steps.{flipped, fresh_collection}
+use Rattle.gc_plan.specs.Members.{In}
+use Rattle.gc_plan.specs.Belonging.{IsNamed, IsOpened, IsSpaceGraph}
+use Rattle.gc_plan.proofs.Public.{laid_range, lookup_in, in_map_from, placed}
+use Rattle.gc_along.specs.Events.{Freed, flipped_tables, opening_tables}
+use Rattle.gc_along.specs.Tables.{Tables, IsKept, watch_of}
+use Rattle.gc_along.specs.Telling.{IsMark}
+use Rattle.gc_along.specs.Watch.{is_due_at, opening}
+use Rattle.gc_beside.specs.Knows.{Knows, KnowsAll, Marks, open_or_fresh}
+use Rattle.gc_beside.proofs.Claimed.{origin_is}
+use Rattle.gc_beside.proofs.Events.{Goes}
+
+-- where nothing is seen of a new space nothing is due in it, and no object has a replica
+none_due : (place : ℕ) → is_due_at (opening 0) place ≡ true → ⊥
+none_due zero d = absurd (let no : false ≡ true = d in cc)
+none_due (suc place) d = absurd (let no : false ≡ true = d in cc)
+
+only_zero : (b n : ℕ) → get_or (0 ∷ []) b 0 ≡ suc n → ⊥
+only_zero zero n e = absurd (let no : 0 ≡ suc n = e in omega arith)
+only_zero (suc b) n e = absurd (let no : 0 ≡ suc n = e in omega arith)
+
+kept_alone : (t : Tables) → t.news ≡ 0 ∷ [] → t.origins ≡ 0 ∷ [] → t.missing ≡ 0 → IsKept t
+kept_alone t news origins missing = record {
+  counted = missing ∙ sym (ap Rattle.gc_along.specs.Tables.missing_in news);
+  few = (let l : length t.news ≡ 1 = ap length news in omega arith);
+  rows = ap length origins ∙ sym (ap length news);
+  taken = λ b l. absurd (let none = only_zero b 0 in at_zero b (subst (λ row. 1 ≤ get_or row b 0) origins l));
+}
+  where
+    at_zero : (b : ℕ) → 1 ≤ get_or (0 ∷ []) b 0 → ⊥
+    at_zero zero l = absurd (omega arith)
+    at_zero (suc b) l = absurd (omega arith)
+
+-- tables of an empty new space know a collection that is just begun
+pub knows_fresh : (s : State) (size : ℕ) (t : Tables) → t.news ≡ 0 ∷ [] → t.origins ≡ 0 ∷ [] → t.missing ≡ 0
+    → ((a : ℕ) → IsNamed s.heap.graph.objects a → IsMark (get_or t.olds a 0)) → ((a : ℕ) → get_or t.olds a 0 ≢ 2) → s.size ≤ t.room → size ≤ t.room → Knows s (fresh_collection s.mutators size) t
+knows_fresh s size t news origins missing marked free old_room new_room = record {
+  kept = kept_alone t news origins missing;
+  due = λ place d. absurd (none_due place (subst (λ row. Rattle.std.specs.Prelude.slice_index_or (Rattle.gc_along.specs.Tables.due_in row) place false ≡ true) news d));
+  marks = record {
+    olds = marked;
+    taken = λ a e. absurd (free a e);
+    news = λ r l. absurd l;
+    free = λ b e. only_zero b 1 (sym (ap (λ row. get_or row b 0) news) ∙ e);
+  };
+  old_room = old_room;
+  new_room = new_room;
+}
+
+-- a heap without objects
+pub opened_known : (s : State) (size : ℕ) → s.heap.graph.objects ≡ [] → s.collection ≡ None → s.size ≤ size → 1 ≤ size → KnowsAll s (opening_tables size)
+opened_known s size empty closed room low = subst (λ o. Knows s (open_or_fresh s o) (opening_tables size)) (sym closed)
+    (knows_fresh s 1 (opening_tables size) refl refl refl (λ a n. absurd (subst (λ os. In {X = ℕ × Object} (a, n.0) os) empty n.1)) (λ a e. only_zero a 1 e) room low)
+
+-- a larger or smaller space is begun
+pub begun_known : (s : State) (before size : ℕ) (t after : Tables) → after ≡ record t { room = after.room } → s.size ≤ after.room → size ≤ after.room → Knows s (fresh_collection s.mutators before) t → Knows s (fresh_collection s.mutators size) after
+begun_known s before size t after more old_room new_room knows = record {
+  kept = subst IsKept (sym more) (record { counted = knows.kept.counted; few = knows.kept.few; rows = knows.kept.rows; taken = knows.kept.taken });
+  due = λ place d. absurd (knows.due place (subst (λ (x : Tables). is_due_at (watch_of x) place ≡ true) more d)).1;
+  marks = subst (λ (x : Tables). Marks s.heap.graph.objects [] x) (sym more) (record { olds = knows.marks.olds; taken = knows.marks.taken; news = knows.marks.news; free = knows.marks.free });
+  old_room = old_room;
+  new_room = new_room;
+}
+
+-- the collection is given up
+pub dropped_known : (s : State) (c : Collection) (t after : Tables) → IsSpaceGraph s.size s.heap.free s.heap.graph → IsOpened s c → Goes s c (watch_of t) → Knows s c t → 1 ≤ t.room → Freed t after → Knows s (fresh_collection s.mutators 1) after
+dropped_known s c t after heap opened goes knows low freed =
+    knows_fresh s 1 after (ap (λ (x : Tables). x.news) freed.rest) (ap (λ (x : Tables). x.origins) freed.rest) (ap (λ (x : Tables). x.missing) freed.rest) marked free
+    (let room : after.room ≡ t.room = ap (λ (x : Tables). x.room) freed.rest in let r : s.size ≤ t.room = knows.old_room in omega arith)
+    (let room : after.room ≡ t.room = ap (λ (x : Tables). x.room) freed.rest in omega arith)
+  where
+    marked : (a : ℕ) → IsNamed s.heap.graph.objects a → IsMark (get_or after.olds a 0)
+    marked a named = ⊎_elim (λ same. subst IsMark (sym same) (knows.marks.olds a named)) (λ h. inl h.1) (freed.codes a)
+
+    free : (a : ℕ) → get_or after.olds a 0 ≢ 2
+    free a e =
+        let was : get_or t.olds a 0 ≡ 2 = ⊎_elim (λ same. sym same ∙ e) (λ h. h.0) (freed.codes a) in
+        let r = knows.marks.taken a was in
+        let ok = opened.belongs.replicas r.0 r.1 in
+        let range = laid_range 1 s.heap.graph.objects (heap_end s) (r.0.original, ok.original) heap.laid (lookup_in s.heap.graph.objects r.0.original ok.original ok.found) in
+        let above : 1 ≤ r.0.original = range.0 in
+        let origin : get_or t.origins r.0.place 0 ≡ r.0.original = origin_is (heap_end s) c t r.0 goes.fits r.1 above in
+        let one : get_or after.olds (get_or t.origins r.0.place 0) 0 ≡ 1 = freed.freed r.0.place (omega arith) in
+        let here : get_or after.olds a 0 ≡ 1 = ap (λ n. get_or after.olds n 0) (sym (origin ∙ r.2)) ∙ one in
+        absurd (let no : 1 ≡ 2 = sym here ∙ e in omega arith)
+
+-- the new space is the old one
+pub flipped_known : (s : State) (c : Collection) (t : Tables) → IsOpened s c → Knows s c t → 1 ≤ t.room → KnowsAll (flipped s c) (flipped_tables t)
+flipped_known s c t opened knows low =
+    knows_fresh (flipped s c) 1 (flipped_tables t) refl refl refl
+    (λ a named. (let r = in_map_from placed (a, named.0) c.replicas named.1 in inl (ap (λ n. get_or t.news n 0) (sym (ap (λ (e : ℕ × Object). e.0) r.2)) ∙ knows.marks.news r.0 r.1)))
+    knows.marks.free knows.new_room low
