@@ -9,8 +9,7 @@ use Rattle.gc_plan.specs.Belonging.{Laid}
 use Rattle.gc_plan.specs.declared.step.StepReply.{StepReply}
 use Rattle.gc_plan.specs.declared.step.StepReply.TheVariants.{Clean, NoRoom, Copied, Passed, Scanned, Applied}
 use Rattle.gc_plan.proofs.Public.{laid_range, in_map, in_map_from, in_push, pair, placed, with_written_pair, fresh_raw, replica_in, no_replica, unreplicated_some}
-use Rattle.gc_heap.proofs.Public.{none_of}
-use Rattle.gc_words.proofs.Public.{some_of}
+use Rattle.gc_words.proofs.Public.{none_of, some_of}
 
 -- a replica is its original, and that had none before
 pub record IsFresh (objects : List (ℕ × Object)) (c : Collection) (q : Replica) : Type 0 where

@@ -2,10 +2,10 @@
 use Rattle.std.specs.Prelude.{◌≡◌, ◌≢◌, ◌≤◌, ◌<◌, ℕ, Bool, List, length, Option, Some, None, slice_index_or, IsFalse, IsTrue}
 use Rattle.gc_graph.specs.Graph.{Object}
 use Rattle.gc_words.specs.Layout.{field_place}
-use Rattle.gc_copy.specs.State.{Replica, Collection, State}
-use Rattle.gc_copy.specs.Steps.{fresh_collection}
-use Rattle.gc_copy.specs.Members.{In}
-use Rattle.gc_copy.specs.Belonging.{IsNamed, IsDue}
+use Rattle.gc_plan.specs.State.{Replica, Collection, State}
+use Rattle.gc_plan.specs.Steps.{fresh_collection}
+use Rattle.gc_plan.specs.Members.{In}
+use Rattle.gc_plan.specs.Belonging.{IsNamed, IsDue}
 use Rattle.gc_along.specs.Watch.{Watch, is_due_at}
 use Rattle.gc_along.specs.Tables.{Tables, IsKept, watch_of}
 use Rattle.gc_along.specs.Telling.{IsMark}

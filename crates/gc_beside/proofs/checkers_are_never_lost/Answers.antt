@@ -3,10 +3,10 @@ use Rattle.gc_graph.specs.Machine.{MakesObject, words_taken}
 use Rattle.gc_graph.specs.declared.command.Op.{Op}
 use Rattle.gc_graph.specs.declared.command.Op.TheVariants as ops
 use Rattle.gc_graph.specs.declared.reply.Reply.{Reply}
-use Rattle.gc_copy.specs.Linked.{old_links}
-use Rattle.gc_copy.specs.State.{State, heap_end}
-use Rattle.gc_copy.specs.Steps.{mutate}
-use Rattle.gc_copy.specs.Belonging.{IsSpaceGraph}
+use Rattle.gc_plan.specs.Linked.{old_links}
+use Rattle.gc_plan.specs.State.{State, heap_end}
+use Rattle.gc_plan.specs.Steps.{mutate}
+use Rattle.gc_plan.specs.Belonging.{IsSpaceGraph}
 use Rattle.gc_along.specs.Tables.{Tables}
 use Rattle.gc_beside.proofs.CommandsKnown.{Continues, NewName, continues_one, quiet_known, can_make, made_known, can_write, wrote_known}
 use Rattle.gc_beside.proofs.EndsKnown.{opened_known, begun_known, dropped_known, flipped_known}
