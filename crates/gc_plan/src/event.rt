@@ -20,15 +20,3 @@ pub enum Answer {
     /// The reply to a step that was chosen as the useful one.
     Useful(StepReply),
 }
-
-impl Answer {
-    ghost use Rattle.std.specs.Prelude.{◌≡◌};
-    ghost use Rattle.gc_plan.specs.declared.event.Answer.{Answer};
-
-    /// Returns a mutator's reply as an answer.
-    pub fn of_mutator(reply: &Reply) -> Answer
-        ensures { result ≡ Answer.Mutator reply.now }
-    {
-        Answer::Mutator(*reply)
-    }
-}
