@@ -8,8 +8,8 @@ use crate::flip::Keep;
 use crate::known::{Searched, search};
 use gc_check::Checks;
 use gc_copy::{Collection, Step, StepReply};
-use gc_plan::root_replicas_stay;
 use gc_graph::{NoMemory, root_count};
+use gc_plan::root_replicas_stay;
 
 impl CollectedHeap {
     ghost use Rattle.std.specs.Prelude.{◌≢◌, ◌<◌, ◌≤◌, IfOk, OnErr};

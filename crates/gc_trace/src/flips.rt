@@ -15,9 +15,9 @@ use crate::trace::Trace;
 use gc_cert::PairFile;
 use gc_check::Sequential;
 use gc_copy::Step;
-use gc_plan::{Event, scans_and_pairs_are_bounded, states_are_kept};
 use gc_core::{CollectedHeap, Keep};
 use gc_graph::{NoMemory, View};
+use gc_plan::{Event, scans_and_pairs_are_bounded, states_are_kept};
 use std::alloc::Global;
 
 /// Performs a collector step. If it flips, returns the pair of the flip.

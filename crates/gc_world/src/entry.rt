@@ -1,7 +1,7 @@
 use crate::bare::{BareOp, BareReply};
 use gc_copy::{Step, StepReply};
-use gc_plan::{Answer, Event};
 use gc_graph::{Number, Op, Reply, Slot, View};
+use gc_plan::{Answer, Event};
 use std::marker::Model;
 
 /// An event of a history, with its answer. It takes 24 bytes; an `Event` and an `Answer` would take 56.

@@ -14,9 +14,9 @@ use crate::handle::GcflipHeap;
 use crate::reply::{of_step, pairs_of};
 use gc_check::Sequential;
 use gc_copy::{Step, StepReply};
-use gc_plan::useful_steps_end;
 use gc_graph::NoMemory;
 use gc_live::LiveHeap;
+use gc_plan::useful_steps_end;
 
 /// What a call of work did, as C sees it.
 #[repr(C)]

@@ -14,8 +14,8 @@ use super::Collection;
 use super::copying::NoRoom;
 use super::roots::MissingRoot;
 use crate::laws::{images_show_links, new_spaces_have_room};
-use gc_plan::StepReply;
 use gc_heap::Heap;
+use gc_plan::StepReply;
 use gc_words::{Header, NewAddr, OldAddr};
 
 impl Collection {
