@@ -1,5 +1,6 @@
 /* Performs the calls on standard input, a line each, and prints a line for each: random_calls [RECORD].
-   Compiled with -DRECORD, it records the run into RECORD. tests/program/random_calls.py makes the calls and knows the lines.
+   Compiled with -DRECORD, it records the run into RECORD. Compiled with -DBASIC, it has neither paced work nor extra roots, which the heap in
+   plain C lacks. tests/program/random_calls.py makes the calls and knows the lines.
 
    Outputs that a call must leave alone are compared with what they held before. */
 #ifdef RECORD
@@ -9,7 +10,7 @@ FILE *gcflip_trace;
 #include "gcflip_heap.h"
 #endif
 #include "expect.h"
-#include "open_heap.h"
+#include <stdbool.h>
 #include <string.h>
 
 #define MOST 70000
@@ -27,7 +28,7 @@ static const char *const replies[] = {
     [GCFLIP_RAW_OBJECT] = "saw raw", [GCFLIP_BUSY] = "busy", [GCFLIP_BEGUN] = "begun", [GCFLIP_IDLE] = "idle", [GCFLIP_CLEAN] = "clean",
     [GCFLIP_NO_ROOM] = "no room", [GCFLIP_COPIED] = "copied", [GCFLIP_PASSED] = "passed", [GCFLIP_SCANNED] = "scanned",
     [GCFLIP_APPLIED] = "applied", [GCFLIP_NOT_READY] = "not ready", [GCFLIP_FLIP_REFUSED] = "refused", [GCFLIP_FLIPPED] = "flipped",
-    [GCFLIP_DROPPED] = "dropped",
+    [GCFLIP_DROPPED] = "dropped", [GCFLIP_FRAME_FULL] = "frame full", [GCFLIP_FRAME_EMPTY] = "frame empty",
 };
 
 static const char *reply(uint32_t answer)
@@ -76,22 +77,75 @@ static void flip(void)
     printf("\n");
 }
 
-static void work(uint32_t most)
+/* Prints the report of a call that worked. */
+static void print_work(const gcflip_work *work)
+{
+    printf("worked %u %u %s", work->steps, work->copied, reply(work->last));
+    if (work->last == GCFLIP_FLIPPED)
+        printf(" %u", work->pairs);
+    else
+        EXPECT(work->pairs == 0);
+}
+
+/* Works with a size for the new space, or without one if it is NO_SIZE. */
+#define NO_SIZE UINT64_MAX
+static void work(uint32_t most, uint64_t size)
 {
     gcflip_work work = {KEPT_32, KEPT_32, KEPT_32, KEPT_32};
+#ifdef BASIC
+    EXPECT(size == NO_SIZE);
     uint32_t answer = gcflip_heap_work(&heap, most, &work);
+#else
+    uint32_t answer = size == NO_SIZE ? gcflip_heap_work(&heap, most, &work) : gcflip_heap_work_sized(&heap, most, (uint32_t)size, &work);
+#endif
     if (answer != GCFLIP_DONE) {
         EXPECT(work.steps == KEPT_32 && work.copied == KEPT_32 && work.last == KEPT_32 && work.pairs == KEPT_32);
         printf("%s\n", reply(answer));
         return;
     }
-    printf("worked %u %u %s", work.steps, work.copied, reply(work.last));
-    if (work.last == GCFLIP_FLIPPED)
-        printf(" %u", work.pairs);
-    else
-        EXPECT(work.pairs == 0);
+    print_work(&work);
     printf("\n");
 }
+
+#ifndef BASIC
+static gcflip_pace pace;
+
+static void set_pace(void)
+{
+    gcflip_pace new = {(uint32_t)a[0], (uint32_t)a[1], (uint32_t)a[2], KEPT_32, KEPT_32, KEPT_32};
+    uint32_t answer = gcflip_heap_pace(&heap, &new);
+    EXPECT(new.factor == a[0] && new.rate == a[1] && new.least == a[2]);
+    if (answer == GCFLIP_DONE)
+        pace = new;
+    else
+        EXPECT(new.left == KEPT_32 && new.end == KEPT_32 && new.logged == KEPT_32);
+    printf("%s\n", reply(answer));
+}
+
+static void work_paced(uint32_t wanted)
+{
+    gcflip_work work = {KEPT_32, KEPT_32, KEPT_32, KEPT_32};
+    gcflip_counts c;
+    EXPECT(gcflip_heap_counts(&heap, &c) == GCFLIP_DONE);
+    uint32_t due = gcflip_pace_due(&pace, &c, wanted);
+    EXPECT(gcflip_heap_work_paced(&heap, &pace, wanted, &work) == GCFLIP_DONE);
+    EXPECT(work.steps == due || work.last == GCFLIP_FLIPPED || work.last == GCFLIP_NO_ROOM);
+    if (work.steps > 0)
+        print_work(&work);
+    else
+        EXPECT(work.copied == 0 && work.last == 0 && work.pairs == 0 && printf("nothing") > 0);
+    printf(", %u %u %u\n", pace.left, pace.end, pace.logged);
+}
+
+static void frame(bool is_push)
+{
+    gcflip_frame frame = {(uint32_t)a[2], (uint32_t)a[3], (uint32_t)a[4]};
+    uint32_t answer = is_push ? gcflip_heap_frame_push(&heap, (uint8_t)a[0], (uint8_t)a[1], &frame)
+                              : gcflip_heap_frame_pop(&heap, (uint8_t)a[0], (uint8_t)a[1], &frame);
+    EXPECT(frame.first == a[2] && frame.end == a[3]);
+    printf("%s %u\n", reply(answer), frame.top);
+}
+#endif
 
 static void useful(void)
 {
@@ -161,7 +215,7 @@ static void image(size_t count, size_t others)
     uint64_t *words = malloc(8 * count), *roots = malloc(8 * others);
     gcflip_counts c;
     EXPECT(words && roots && gcflip_heap_counts(&heap, &c) == GCFLIP_DONE);
-    EXPECT(c.end == count && gcflip_heap_root_count((uint8_t)c.mutators) == others);
+    EXPECT(c.end == count && gcflip_heap_root_count((uint8_t)c.mutators) + c.extra_roots == others);
     EXPECT(gcflip_heap_image(&heap, words, count + 1, roots, others) == GCFLIP_OUT_OF_RANGE);
     EXPECT(gcflip_heap_image(&heap, words, count, roots, others - 1) == GCFLIP_OUT_OF_RANGE);
     uint32_t answer = gcflip_heap_image(&heap, words, count, roots, others);
@@ -229,11 +283,18 @@ static void address(void)
 
 #define IS(text) (strcmp(name, text) == 0)
 
+static uint32_t open_heap(void)
+{
+    gcflip_options options = gcflip_options_default((uint32_t)a[0], (uint8_t)a[1]);
+    options.extra_roots = (uint32_t)a[2];
+    return gcflip_heap_open(&heap, &options);
+}
+
 /* Performs a call that returns a reply and writes nothing. */
 static uint32_t plain(const char *name)
 {
     const uint8_t m = (uint8_t)a[0], d = (uint8_t)a[1];
-    if (IS("open")) return open_plain_heap(&heap, (uint32_t)a[0], d);
+    if (IS("open")) return open_heap();
     if (IS("close")) return gcflip_heap_close(&heap);
     if (IS("new")) return gcflip_heap_new_object(&heap, m, d, (uint8_t)a[2], (uint16_t)a[3]);
     if (IS("raw")) return gcflip_heap_new_raw(&heap, m, d, (uint8_t)a[2], (uint16_t)a[3]);
@@ -250,6 +311,11 @@ static uint32_t plain(const char *name)
     if (IS("roots")) return gcflip_heap_step_roots(&heap);
     if (IS("scan")) return gcflip_heap_step_scan(&heap);
     if (IS("apply")) return gcflip_heap_step_apply(&heap, m);
+#ifndef BASIC
+    if (IS("root_load")) return gcflip_heap_root_load(&heap, m, d, (uint32_t)a[2]);
+    if (IS("root_store")) return gcflip_heap_root_store(&heap, m, (uint32_t)a[1], (uint8_t)a[2]);
+    if (IS("root_clear")) return gcflip_heap_root_clear(&heap, (uint32_t)a[0], (uint32_t)a[1]);
+#endif
     EXPECT(IS("drop"));
     return gcflip_heap_step_give_up(&heap);
 }
@@ -260,7 +326,7 @@ static void perform(const char *name)
     if (IS("look")) look(m, d);
     else if (IS("get")) get(m, d, (uint8_t)a[2], (uint16_t)a[3]);
     else if (IS("flip")) flip();
-    else if (IS("work")) work((uint32_t)a[0]);
+    else if (IS("work")) work((uint32_t)a[0], NO_SIZE);
     else if (IS("useful")) useful();
     else if (IS("counts")) counts();
     else if (IS("log")) print_log(m);
@@ -270,6 +336,13 @@ static void perform(const char *name)
     else if (IS("raw_write")) raw_write();
     else if (IS("raw_read")) raw_read();
     else if (IS("address")) address();
+#ifndef BASIC
+    else if (IS("work_sized")) work((uint32_t)a[0], a[1]);
+    else if (IS("pace")) set_pace();
+    else if (IS("work_paced")) work_paced((uint32_t)a[0]);
+    else if (IS("frame_push")) frame(true);
+    else if (IS("frame_pop")) frame(false);
+#endif
     else printf("%s\n", reply(plain(name)));
 }
 

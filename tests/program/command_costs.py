@@ -79,7 +79,7 @@ def plain_c(_program, folder):
         return
     driver = os.path.join(folder, "plain")
     words = ["gcc", "-std=gnu11", "-O1", *WARNINGS, *SANITIZERS, "-I" + os.path.join(built.prefix, "include"), "-o", driver]
-    made = done([*words, os.path.join(SOURCES, "random_calls.c"), os.path.join(BENCH, "plain_c.c")])
+    made = done([*words, "-DBASIC", os.path.join(SOURCES, "random_calls.c"), os.path.join(BENCH, "plain_c.c")])
     why = None if made.status == 0 else "not built: %s" % made.stderr.decode()
     for name, calls in lists("plain C"):
         yield name, why or played([driver], calls, wanted_by_c(calls))

@@ -55,14 +55,17 @@ class NoRoom(Exception):
 class Model:
     """A heap. Commands and steps return their reply as a line of a trace's replies."""
 
-    def __init__(self, size, mutators):
+    def __init__(self, size, mutators, extra_roots=0):
         self.space = Space(size)
-        self.mutators = mutators
-        self.roots = [0] * (SHARED + OWN * mutators)
+        self.mutators, self.extra_roots = mutators, extra_roots
+        self.roots = [0] * (SHARED + OWN * mutators + extra_roots)
         self.new = None
         self.logs = []
         self.scan_place = self.scan_field = 0
         self.flips = []
+        # The numbers of a pace that the program chooses, and those that it remembers.
+        self.factor, self.rate, self.least = 200, 0, 65536
+        self.left, self.end, self.logged = 1, 1, 0
 
     # ---- slots: a number below 16 is the mutator's own, and one from 16 to 31 is shared
 
@@ -137,6 +140,23 @@ class Model:
 
     def look(self, m, s):
         return "saw " + self.seen(self.value(m, s))
+
+    # ---- extra roots, behind those of the slots
+
+    def extra(self, k):
+        return SHARED + OWN * self.mutators + k
+
+    def root_load(self, m, d, k):
+        self.set(m, d, self.roots[self.extra(k)])
+        return "done"
+
+    def root_store(self, m, k, s):
+        self.roots[self.extra(k)] = self.value(m, s)
+        return "done"
+
+    def root_clear(self, first, end):
+        self.roots[self.extra(first):self.extra(end)] = [0] * (end - first)
+        return "done"
 
     # ---- the collector
 
@@ -234,22 +254,47 @@ class Model:
             return "scan"
         return next(("apply %d" % m for m, log in enumerate(self.logs) if log), "flip")
 
-    def useful(self):
-        """Performs the useful step, and returns its line in a trace and its reply."""
+    def useful(self, size=None):
+        """Performs the useful step, and returns its line in a trace and its reply. A begin has the size, if one is given."""
         if not self.new:
-            return "c begin", self.begin()
+            return "c begin" if size is None else "c begin %d" % size, self.begin(size)
         for line, name, numbers in [("c roots", "roots", ()), ("c scan", "scan", ())] + [("c apply %d" % m, "apply", (m,)) for m in range(self.mutators)]:
             reply = self.step(name, *numbers)
             if reply != "clean":
                 return line, reply
         return "c flip", self.step("flip")
 
+    # ---- pace
+
+    def remember(self):
+        """Makes the pace remember the heap as it is, as after a flip."""
+        self.left = self.end = len(self.space.words)
+        self.logged = self.entries()
+
+    def remember_work(self, flipped):
+        self.left = len(self.space.words) if flipped else self.left
+        self.end, self.logged = len(self.space.words), self.entries()
+
+    def steps_due(self, wanted):
+        """Returns the steps that are due before the program allocates so many words."""
+        end, room = len(self.space.words), self.space.size - len(self.space.words) - wanted
+        steps_left = end - (self.scan_place if self.new else 0) + self.entries() + 1
+        if room <= 0:
+            return steps_left
+        if not self.new:
+            return int(end >= min(max(self.least, self.factor * self.left // 100), (self.left + self.space.size) // 2))
+        spent = max(0, end - self.end) + max(0, self.entries() - self.logged)
+        return min(steps_left, spent * (self.rate or 2 + steps_left // room))
+
     # ---- what the calls that read write
+
+    def entries(self):
+        return sum(map(len, self.logs)) if self.new else 0
 
     def scan_numbers(self):
         return (self.new.size, len(self.new.words), self.scan_place, self.scan_field) if self.new else (0, 0, 0, 0)
 
     def counts(self):
         end, (new_size, new_end, place, field) = len(self.space.words), self.scan_numbers()
-        logged = sum(map(len, self.logs)) if self.new else 0
-        return [self.space.size, end, self.space.size - end, self.mutators, 0, int(self.new is not None), new_size, new_end, place, field, logged]
+        return [self.space.size, end, self.space.size - end, self.mutators, self.extra_roots, int(self.new is not None), new_size, new_end, place, field,
+                self.entries()]

@@ -12,7 +12,7 @@ import time
 from .c_builds import SANITIZERS, SOURCES, WARNINGS, done, library
 from .harness import Outcome, difference, file_of, run
 from .python import TESTS, Python, content_of
-from .random_calls import random_calls, traces_of
+from .random_calls import FRAMES, LOOSE, PACED, random_calls, traces_of
 from .rust import prepared
 
 STARTED = int(time.time())
@@ -30,12 +30,13 @@ def rounds():
     return int(os.environ.get("GCFLIP_ROUNDS") or 1)
 
 
-def lists(part):
-    """Yields the lists of calls of a part, each with its name. Prints the seed and, at the end, how many calls there were."""
+def lists(part, *more):
+    """Yields the lists of calls of a part, each with its name. Prints the seed and, at the end, how many calls there were. `more` are groups of calls
+    that not every driver has."""
     print("random: %s, seed %d" % (part, seed()), flush=True)
     count = 0
     for number in range(LISTS * rounds()):
-        calls = random_calls(random.Random("%d %s %d" % (seed(), part, number)), CALLS)
+        calls = random_calls(random.Random("%d %s %d" % (seed(), part, number)), CALLS, {name: weight for group in more for name, weight in group.items()})
         count += len(calls.calls)
         yield "%s %d of seed %d" % (part, number, seed()), calls
     print("random: %s, %d calls" % (part, count), flush=True)
@@ -78,7 +79,7 @@ def c_calls(_program, folder):
     if built is None:
         return
     driver, why = built_driver(built, "plain", [])
-    for name, calls in lists("C"):
+    for name, calls in lists("C", PACED, LOOSE, FRAMES):
         yield name, why or played([driver], calls, wanted_by_c(calls))
 
 
@@ -89,7 +90,7 @@ def recordings(program, folder):
         return
     driver, why = built_driver(built, "recording", ["-DRECORD"])
     record = os.path.join(folder, "record")
-    for name, calls in lists("recorded"):
+    for name, calls in lists("recorded", PACED):
         yield name, why or played([driver, record], calls, wanted_by_c(calls))
         recorded = (content_of(record) or b"").decode().splitlines()
         yield "the recording of %s" % name, first_difference(calls.trace, recorded, calls.trace)
@@ -106,7 +107,7 @@ def python_calls(_program, folder):
         return
     python = Python(built, folder)
     yield "the Python package is built", python.why
-    for name, calls in lists("Python"):
+    for name, calls in lists("Python", PACED, LOOSE):
         yield name, played([sys.executable, os.path.join(TESTS, "random_calls.py")], calls, calls.printed, env=python.environment)
 
 

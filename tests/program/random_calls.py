@@ -12,6 +12,10 @@ OUT_OF_RANGE, CLOSED, OPEN = "out of range", "closed", "open"
 WEIGHTS = {"new": 8, "raw": 4, "num": 5, "nil": 2, "move": 6, "get": 9, "put": 10, "put_number": 5, "put_nil": 3, "raw_write": 4, "raw_read": 3, "address": 2, "cons": 4, "new_from": 4, "same": 4, "look": 5,
            "begin": 2, "begin_sized": 1, "roots": 7, "scan": 14, "apply": 5, "flip": 4, "drop": 0.4, "work": 4, "useful": 4, "counts": 3, "log": 2,
            "image": 2, "new_words": 2, "wrong": 4, "session": 0.7}
+# Calls that not every driver has: paced work, and extra roots, for which a trace has no lines.
+PACED = {"work_sized": 2, "pace": 0.7, "work_paced": 6}
+LOOSE = {"root_load": 5, "root_store": 6, "root_clear": 1}
+FRAMES = {"frame_push": 4, "frame_pop": 4}
 COMMANDS = ("new", "raw", "num", "nil", "move", "get", "put", "same", "look")
 
 
@@ -22,8 +26,9 @@ def slot_name(slot):
 class Calls:
     """A list of calls that grows, with the lines that they print and the lines that a recording writes."""
 
-    def __init__(self, chance):
+    def __init__(self, chance, more):
         self.chance = chance
+        self.weights = {**WEIGHTS, **more}
         self.model = None
         # The model of each session.
         self.models = []
@@ -70,8 +75,7 @@ class Calls:
         """Adds one random call, or a new session."""
         if self.model is None:
             return self.add_session()
-        names = list(WEIGHTS)
-        name = self.chance.choices(names, [WEIGHTS[name] for name in names])[0]
+        name = self.chance.choices(list(self.weights), list(self.weights.values()))[0]
         return getattr(self, "add_" + name, lambda: self.add_plain_step(name))()
 
     def add_session(self):
@@ -81,12 +85,15 @@ class Calls:
         for _ in range(self.chance.randrange(3)):
             self.call(self.chance.choice([["num", 0, 0, 5], ["roots"], ["work", 3], ["useful"], ["close"], ["counts"]]), CLOSED)
         if self.chance.random() < 0.3:
-            self.call(["open", *self.chance.choice([(0, 1), (9, 0), (9, 17), (9, 255)])], OUT_OF_RANGE)
+            self.call(["open", *self.chance.choice([(0, 1, 0), (9, 0, 0), (9, 17, 0), (9, 255, 0)])], OUT_OF_RANGE)
         size = self.chance.choice(SIZES + [self.chance.randrange(1, 6000), 70000])
         mutators = self.chance.choice([1, 1, 2, 3, 16])
-        self.model = Model(size, mutators)
+        extra_roots = self.chance.choice([0, 1, 2, 5, 40]) if "root_load" in self.weights else 0
+        self.model = Model(size, mutators, extra_roots)
         self.models.append(self.model)
-        self.call(["open", size, mutators], "done", ["heaptrace 3", "space %d mutators %d" % (size, mutators)])
+        self.call(["open", size, mutators, extra_roots], "done", ["heaptrace 3", "space %d mutators %d" % (size, mutators)])
+        if "pace" in self.weights:
+            self.add_pace()
 
     def add_command(self, name, m, *numbers):
         """Adds a command that is a line of a trace."""
@@ -238,15 +245,83 @@ class Calls:
         reply = self.model.step("apply", m)
         self.call(["apply", m], reply, ["c apply %d" % m], [reply])
 
-    def add_work(self):
-        most = self.chance.choice([1, 1, 2, 3, 5, 20, 100])
+    def worked(self, most, size=None):
+        """Performs useful steps, at least one, and returns their lines with their replies, and the report."""
         start = len(self.model.new.words) if self.model.new else 1
         made = []
         while len(made) < most and (not made or not (made[-1][1].startswith("flipped") or made[-1][1] == "no room")):
-            made.append(self.model.useful())
+            made.append(self.model.useful(size))
         last = made[-1][1]
         end = len(self.model.space.words) if last.startswith("flipped") else len(self.model.new.words)
-        self.call(["work", most], "worked %d %d %s" % (len(made), end - start, last), [line for line, _ in made], [reply for _, reply in made])
+        return made, "worked %d %d %s" % (len(made), end - start, last)
+
+    def add_work(self):
+        most = self.chance.choice([1, 1, 2, 3, 5, 20, 100])
+        made, report = self.worked(most)
+        self.call(["work", most], report, [line for line, _ in made], [reply for _, reply in made])
+
+    def add_work_sized(self):
+        most, size = self.chance.choice([1, 2, 20, 100]), self.chance.choice([1, len(self.model.space.words), self.model.space.size, self.model.space.size + 7])
+        made, report = self.worked(most, size)
+        self.call(["work_sized", most, size], report, [line for line, _ in made], [reply for _, reply in made])
+
+    # ---- paced work
+
+    def add_pace(self):
+        """Adds a call that sets what the pace remembers, with other numbers of the program's."""
+        factor, rate, least = self.chance.choice([100, 120, 200, 10000]), self.chance.choice([0, 0, 1, 3, 50]), self.chance.choice([0, 10, 50, 65536])
+        if self.chance.random() < 0.1:
+            self.call(["pace", self.chance.choice([0, 99, 10001]), rate, least], OUT_OF_RANGE)
+        self.model.factor, self.model.rate, self.model.least = factor, rate, least
+        self.model.remember()
+        self.call(["pace", factor, rate, least], "done")
+
+    def add_work_paced(self):
+        model, wanted = self.model, self.chance.choice([0, 0, 1, 5, 30, self.model.space.size, (1 << 32) - 1])
+        due = model.steps_due(wanted)
+        made, report = self.worked(due) if due else ([], "nothing")
+        model.remember_work(bool(made) and made[-1][1].startswith("flipped"))
+        self.call(["work_paced", wanted], "%s, %d %d %d" % (report, model.left, model.end, model.logged), [line for line, _ in made], [reply for _, reply in made])
+
+    # ---- extra roots
+
+    def extra_root(self):
+        """Returns the number of an extra root, mostly of one that the heap has."""
+        count = self.model.extra_roots
+        return self.chance.choice([max(0, count - 1), self.chance.randrange(count + 1), count and self.chance.randrange(count), count, (1 << 32) - 1][:3 if self.chance.random() < 0.8 else 5])
+
+    def add_root_load(self):
+        m, d, k = self.mutator(), self.slot(), self.extra_root()
+        self.call(["root_load", m, d, k], self.model.root_load(m, d, k) if k < self.model.extra_roots else OUT_OF_RANGE)
+
+    def add_root_store(self):
+        m, k = self.mutator(), self.extra_root()
+        s = self.filled_slot(m)
+        self.call(["root_store", m, k, s], self.model.root_store(m, k, s) if k < self.model.extra_roots else OUT_OF_RANGE)
+
+    def add_root_clear(self):
+        first, end = self.extra_root(), self.extra_root()
+        self.call(["root_clear", first, end], self.model.root_clear(first, end) if first <= end <= self.model.extra_roots else OUT_OF_RANGE)
+
+    def frame(self):
+        """Returns the first root of a frame, the root behind its last one, and its top, mostly in order, and whether they are a frame of the heap."""
+        first, top, end = sorted(self.extra_root() for _ in range(3))
+        if self.chance.random() < 0.1:
+            first, top = top, first
+        return first, end, top, first <= top <= end <= self.model.extra_roots
+
+    def add_frame_push(self):
+        m = self.mutator()
+        s, (first, end, top, is_frame) = self.filled_slot(m), self.frame()
+        reply = OUT_OF_RANGE if not is_frame else "frame full" if top == end else self.model.root_store(m, top, s)
+        self.call(["frame_push", m, s, first, end, top], "%s %d" % (reply, top + (reply == "done")))
+
+    def add_frame_pop(self):
+        m, d, (first, end, top, is_frame) = self.mutator(), self.slot(), self.frame()
+        reply = OUT_OF_RANGE if not is_frame else "frame empty" if top == first else self.model.root_load(m, d, top - 1)
+        if reply == "done":
+            self.model.root_clear(top - 1, top)
+        self.call(["frame_pop", m, d, first, end, top], "%s %d" % (reply, top - (reply == "done")))
 
     # ---- calls that read, and calls that are out of range
 
@@ -285,7 +360,15 @@ class Calls:
             ["raw_write", beyond, 0, 0, 1, 1, 5], ["raw_write", m, slot, 0, 1, 1, 5], ["raw_write", m, 0, 0, slot, 1, 5], ["raw_write", m, 3, 0, 3, 0], ["cons", m, slot, 0, 0, 0], ["cons", m, 0, 0, slot, 0],
             ["cons", m, 0, 0, 0, slot], ["cons", beyond, 0, 0, 0, 0], ["new_from", m, 0, 0, 2, 0, slot], ["new_from", beyond, 0, 0, 1, 0],
             ["new_from", m, slot, 0, 0], ["same", m, slot, 0], ["same", m, 0, slot], ["same", beyond, 0, 0], ["look", m, slot], ["look", beyond, 0],
-            ["begin_sized", 0], ["apply", beyond], ["log", beyond], ["work", 0]]), OUT_OF_RANGE)
+            ["begin_sized", 0], ["apply", beyond], ["log", beyond], ["work", 0],
+            *self.more_that_are_wrong(beyond, slot)]), OUT_OF_RANGE)
+
+    def more_that_are_wrong(self, beyond, slot):
+        """Returns calls with one argument out of range, of those that not every driver has."""
+        sized = [["work_sized", 0, 5], ["work_sized", 1, 0]] if "work_sized" in self.weights else []
+        if "root_load" not in self.weights or self.model.extra_roots == 0:
+            return sized
+        return sized + [["root_load", beyond, 0, 0], ["root_load", 0, slot, 0], ["root_store", beyond, 0, 0], ["root_store", 0, 0, slot]]
 
     def finish(self):
         if self.model is not None:
@@ -294,9 +377,9 @@ class Calls:
             self.model = None
 
 
-def random_calls(chance, count):
-    """Returns this many random calls and some more."""
-    calls = Calls(chance)
+def random_calls(chance, count, more):
+    """Returns this many random calls and some more. `more` are those that not every driver has, with how often they are made."""
+    calls = Calls(chance, more)
     while len(calls.calls) < count:
         calls.make()
     calls.finish()

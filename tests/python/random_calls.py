@@ -2,12 +2,14 @@
 import sys
 
 import gcflip
-from gcflip.heap import Mutator, Step
+from gcflip.heap import Mutator, Pace, Step
 
 REPLIES = {gcflip.Full: "full", gcflip.NoObject: "no object", gcflip.NoField: "no field", gcflip.NoNumber: "no number", gcflip.Busy: "busy",
            gcflip.Idle: "idle", gcflip.NotReady: "not ready", gcflip.OutOfRange: "out of range", gcflip.Closed: "closed",
            gcflip.OutOfMemory: "no memory"}
-DONE = {"new": "made", "raw": "made", "cons": "made", "num": "done", "nil": "done", "move": "done", "put": "done", "put_number": "done",
+# What the binding calls some of the calls.
+NAMES = {"root_load": "load", "root_store": "store"}
+DONE = {"root_load": "done", "root_store": "done", "new": "made", "raw": "made", "cons": "made", "num": "done", "nil": "done", "move": "done", "put": "done", "put_number": "done",
         "put_nil": "done"}
 
 
@@ -42,7 +44,7 @@ def of_mutator(heap, name, numbers):
     if name == "raw_write":
         assert mutator.raw_write(*numbers[1:4], numbers[5:]) is None
         return "done"
-    assert getattr(mutator, name)(*numbers[1:]) is None
+    assert getattr(mutator, NAMES.get(name, name))(*numbers[1:]) is None
     return DONE[name]
 
 
@@ -62,14 +64,37 @@ def reading(heap, name, numbers):
     return "words " + " ".join(map(str, heap.new_words()))
 
 
+# The pace of the heap that is open.
+paces = [Pace()]
+
+
+def paced(heap, wanted):
+    """Works at the pace, and returns what was done and what the pace remembers."""
+    pace = paces[-1]
+    due = heap.steps_due(pace, wanted)
+    work = heap.work_paced(pace, wanted)
+    assert (work is None) == (due == 0) and (work is None or work.steps == due or work.last in (Step.FLIPPED, Step.NO_ROOM))
+    return "%s, %d %d %d" % (worked(work) if work else "nothing", pace._raw.left, pace._raw.end, pace._raw.logged)
+
+
 def performed(heap, name, numbers):
     """Makes a call on a heap, and returns its line."""
+    if name == "pace":
+        pace = Pace(*numbers)
+        heap.remember(pace)
+        paces.append(pace)
+        return "done"
+    if name == "work_paced":
+        return paced(heap, *numbers)
+    if name == "root_clear":
+        heap.clear_roots(*numbers)
+        return "done"
     if name == "close":
         heap.close()
         return "done"
     if name in ("counts", "log", "image", "new_words"):
         return reading(heap, name, numbers)
-    if name == "work":
+    if name in ("work", "work_sized"):
         return worked(heap.work(*numbers))
     if name == "useful":
         return "useful " + " ".join(str(part) for part in heap.useful() if part is not None)
