@@ -3,7 +3,7 @@ import hashlib
 import os
 import re
 
-from .crates import CRATES
+from .crates import CRATES, below, crates_listed
 from .functions import contracts_of, item_at
 
 
@@ -129,13 +129,23 @@ def tried_in(path):
     return b"\n".join(line for line in lines if not (path.endswith(".edit") and line.startswith(b"#")))
 
 
-def sum_of(crate):
-    """Returns the first digits of a SHA-256 of what a crate's edits are tried on: its code, definitions and proofs, and the edits."""
+def digest_of(crate, parts):
+    """Returns a SHA-256 of the files in these folders of a crate."""
     digest = hashlib.sha256()
-    for part in ("src", "specs", "proofs", "must-fail"):
+    for part in parts:
         for folder, _, names in sorted(os.walk(os.path.join(CRATES, crate, part))):
             for path in [os.path.join(folder, name) for name in sorted(names)]:
                 digest.update(("%s\n" % os.path.relpath(path, CRATES)).encode() + hashlib.sha256(tried_in(path)).digest())
+    return digest.digest()
+
+
+def sum_of(crate):
+    """Returns the first digits of a SHA-256 of what a crate's edits are tried on: its code, definitions and proofs, those of the crates below, and the
+    edits."""
+    listed = crates_listed()
+    digest = hashlib.sha256(digest_of(crate, ("src", "specs", "proofs", "must-fail")))
+    for name in sorted(below(listed[crate], listed)):
+        digest.update(digest_of(name, ("src", "specs", "proofs")))
     return digest.hexdigest()[:16]
 
 
