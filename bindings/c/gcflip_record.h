@@ -187,16 +187,20 @@ static inline uint32_t gcflip_record_move(gcflip_heap *heap, uint8_t m, uint8_t 
     return answer;
 }
 
+static inline void gcflip_trace_get(uint8_t m, uint8_t d, uint8_t s, uint16_t i)
+{
+    gcflip_trace_command(m, "get");
+    gcflip_trace_slot(d);
+    gcflip_trace_slot(s);
+    gcflip_trace_number(i);
+    gcflip_trace_end();
+}
+
 static inline uint32_t gcflip_record_get(gcflip_heap *heap, uint8_t m, uint8_t d, uint8_t s, uint16_t i, uint64_t *number)
 {
     uint32_t answer = gcflip_heap_get(heap, m, d, s, i, number);
-    if (gcflip_recorded(answer)) {
-        gcflip_trace_command(m, "get");
-        gcflip_trace_slot(d);
-        gcflip_trace_slot(s);
-        gcflip_trace_number(i);
-        gcflip_trace_end();
-    }
+    if (gcflip_recorded(answer))
+        gcflip_trace_get(m, d, s, i);
     return answer;
 }
 
@@ -256,6 +260,19 @@ static inline uint32_t gcflip_record_raw_write(gcflip_heap *heap, uint8_t m, uin
     if (gcflip_recorded(answer) && answer == GCFLIP_DONE)
         for (k = 0; k < count; k++)
             gcflip_trace_put_number(m, s, (uint16_t)(first + k), t, words[k]);
+    return answer;
+}
+
+/* Writes the lines of a get and a put for each field. What copied no field has no line. */
+static inline uint32_t gcflip_record_copy_fields(gcflip_heap *heap, uint8_t m, uint8_t d, uint16_t to, uint8_t s, uint16_t from, uint8_t t, uint16_t count)
+{
+    uint16_t k;
+    uint32_t answer = gcflip_heap_copy_fields(heap, m, d, to, s, from, t, count);
+    if (gcflip_recorded(answer) && answer == GCFLIP_DONE)
+        for (k = 0; k < count; k++) {
+            gcflip_trace_get(m, t, s, (uint16_t)(from + k));
+            gcflip_trace_put(m, d, (uint16_t)(to + k), t);
+        }
     return answer;
 }
 
@@ -468,6 +485,7 @@ static inline uint32_t gcflip_record_work_paced(gcflip_heap *heap, gcflip_pace *
 #define gcflip_heap_put_number gcflip_record_put_number
 #define gcflip_heap_put_nil gcflip_record_put_nil
 #define gcflip_heap_raw_write gcflip_record_raw_write
+#define gcflip_heap_copy_fields gcflip_record_copy_fields
 #define gcflip_heap_new_pair gcflip_record_new_pair
 #define gcflip_heap_new_from gcflip_record_new_from
 #define gcflip_heap_same gcflip_record_same

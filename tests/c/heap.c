@@ -174,6 +174,78 @@ static void raws(void)
     EXPECT(row[0] == 9223372036854775800u && address == 7);
 }
 
+/* Tests copies of several fields at once: between objects with references and raw ones, within one object, and each refusal. */
+static void copies(void)
+{
+    const uint64_t numbers[] = {5, 6, 7, 8};
+    uint64_t row[4] = {77, 77, 77, 77};
+    open_heap(64, 2);
+    REPLIES(gcflip_heap_new_object(&heap, 1, G0, KIND, 3), GCFLIP_MADE); /* at 1 */
+    REPLIES(gcflip_heap_new_object(&heap, 1, 2, KIND, 4), GCFLIP_MADE);  /* at 6 */
+    REPLIES(gcflip_heap_new_raw(&heap, 1, 3, KIND, 4), GCFLIP_MADE);     /* at 12 */
+    REPLIES(gcflip_heap_raw_write(&heap, 1, 3, 0, 0, numbers, 4), GCFLIP_DONE);
+    /* numbers of a raw object into one with references, and a reference beside them */
+    REPLIES(gcflip_heap_copy_fields(&heap, 1, 2, 1, 3, 2, 0, 2), GCFLIP_DONE);
+    LOOKS(gcflip_heap_look(&heap, 1, 0, &view), GCFLIP_NUMBER, 0, 0, 8);
+    REPLIES(gcflip_heap_put(&heap, 1, 2, 3, G0), GCFLIP_DONE);
+    REPLIES(gcflip_heap_copy_fields(&heap, 1, G0, 0, 2, 1, 0, 3), GCFLIP_DONE);
+    REPLIES(gcflip_heap_same(&heap, 1, 0, G0), GCFLIP_SAME);
+    GETS(gcflip_heap_get(&heap, 1, 1, G0, 0, &number), GCFLIP_NUMBER, 7);
+    GETS(gcflip_heap_get(&heap, 1, 1, G0, 1, &number), GCFLIP_NUMBER, 8);
+    REPLIES(gcflip_heap_get(&heap, 1, 1, G0, 2, &number), GCFLIP_OBJECT);
+    REPLIES(gcflip_heap_same(&heap, 1, 1, G0), GCFLIP_SAME);
+    /* within one object: in rising order, so a field that was written is read as it was written; by two slots or by one */
+    REPLIES(gcflip_heap_copy_fields(&heap, 1, 3, 0, 3, 1, 0, 3), GCFLIP_DONE);
+    REPLIES(gcflip_heap_raw_read(&heap, 1, 3, 0, row, 4), GCFLIP_DONE);
+    EXPECT(row[0] == 6 && row[1] == 7 && row[2] == 8 && row[3] == 8);
+    REPLIES(gcflip_heap_move(&heap, 1, 1, 3), GCFLIP_DONE);
+    REPLIES(gcflip_heap_copy_fields(&heap, 1, 1, 1, 3, 0, 0, 3), GCFLIP_DONE);
+    REPLIES(gcflip_heap_raw_read(&heap, 1, 3, 0, row, 4), GCFLIP_DONE);
+    EXPECT(row[0] == 6 && row[1] == 6 && row[2] == 6 && row[3] == 6);
+    /* nothing is copied, and slot 0 keeps its number */
+    REPLIES(gcflip_heap_set_number(&heap, 1, 0, 4), GCFLIP_DONE);
+    REPLIES(gcflip_heap_copy_fields(&heap, 1, 3, 1, 2, 1, 0, 3), GCFLIP_NO_NUMBER); /* the last value is a reference */
+    REPLIES(gcflip_heap_copy_fields(&heap, 1, 3, 1, 2, 0, 0, 1), GCFLIP_NO_NUMBER); /* nil */
+    REPLIES(gcflip_heap_copy_fields(&heap, 1, 3, 2, 2, 1, 0, 3), GCFLIP_NO_FIELD);
+    REPLIES(gcflip_heap_copy_fields(&heap, 1, 2, 0, G0, 1, 0, 3), GCFLIP_NO_FIELD);
+    REPLIES(gcflip_heap_copy_fields(&heap, 1, 2, 5, 3, 0, 0, 0), GCFLIP_NO_FIELD);
+    REPLIES(gcflip_heap_copy_fields(&heap, 1, 2, 0, 3, 5, 0, 0), GCFLIP_NO_FIELD);
+    REPLIES(gcflip_heap_copy_fields(&heap, 1, 2, 65535, 3, 65535, 0, 65535), GCFLIP_NO_FIELD);
+    REPLIES(gcflip_heap_copy_fields(&heap, 1, 4, 0, 3, 0, 0, 0), GCFLIP_NO_OBJECT); /* nil */
+    REPLIES(gcflip_heap_copy_fields(&heap, 1, 3, 0, 4, 0, 0, 0), GCFLIP_NO_OBJECT);
+    REPLIES(gcflip_heap_copy_fields(&heap, 1, 0, 0, 3, 0, 1, 0), GCFLIP_NO_OBJECT); /* a number */
+    REPLIES(gcflip_heap_copy_fields(&heap, 0, 2, 0, 3, 0, 0, 0), GCFLIP_NO_OBJECT); /* another mutator's slots */
+    REPLIES(gcflip_heap_copy_fields(&heap, 1, 2, 0, 3, 0, 2, 0), GCFLIP_OUT_OF_RANGE);
+    REPLIES(gcflip_heap_copy_fields(&heap, 1, 2, 0, 3, 0, 3, 0), GCFLIP_OUT_OF_RANGE);
+    REPLIES(gcflip_heap_copy_fields(&heap, 2, 2, 0, 3, 0, 0, 0), GCFLIP_OUT_OF_RANGE);
+    REPLIES(gcflip_heap_copy_fields(&heap, 1, 32, 0, 3, 0, 0, 0), GCFLIP_OUT_OF_RANGE);
+    REPLIES(gcflip_heap_copy_fields(&heap, 1, 2, 0, 32, 0, 0, 0), GCFLIP_OUT_OF_RANGE);
+    REPLIES(gcflip_heap_copy_fields(&heap, 1, 2, 0, 3, 0, 32, 0), GCFLIP_OUT_OF_RANGE);
+    REPLIES(gcflip_heap_copy_fields(&heap, 1, 2, 4, 3, 4, 0, 0), GCFLIP_DONE);
+    LOOKS(gcflip_heap_look(&heap, 1, 0, &view), GCFLIP_NUMBER, 0, 0, 4);
+    REPLIES(gcflip_heap_raw_read(&heap, 1, 3, 0, row, 4), GCFLIP_DONE);
+    EXPECT(row[0] == 6 && row[1] == 6 && row[2] == 6 && row[3] == 6);
+    /* while a collection is open each field that is written is logged, and the replicas take the values */
+    REPLIES(gcflip_heap_step_begin(&heap), GCFLIP_BEGUN);
+    while (gcflip_heap_step_roots(&heap) == GCFLIP_COPIED)
+        ;
+    while (gcflip_heap_step_scan(&heap) != GCFLIP_CLEAN)
+        ;
+    REPLIES(gcflip_heap_copy_fields(&heap, 1, 3, 2, 2, 1, 0, 2), GCFLIP_DONE);
+    REPLIES(gcflip_heap_copy_fields(&heap, 1, 2, 0, G0, 2, 1, 1), GCFLIP_DONE);
+    EXPECT(gcflip_heap_log_length(&heap, 1, &length) == GCFLIP_DONE && length == 3);
+    EXPECT(gcflip_heap_log_entry(&heap, 1, 1, &entry) == GCFLIP_DONE && entry.object == 12 && entry.field == 3);
+    EXPECT(gcflip_heap_log_entry(&heap, 1, 2, &entry) == GCFLIP_DONE && entry.object == 6 && entry.field == 0);
+    while (gcflip_heap_work(&heap, 1, &work) == GCFLIP_DONE && work.last != GCFLIP_FLIPPED)
+        ;
+    REPLIES(gcflip_heap_raw_read(&heap, 1, 3, 0, row, 4), GCFLIP_DONE);
+    EXPECT(row[0] == 6 && row[1] == 6 && row[2] == 7 && row[3] == 8);
+    REPLIES(gcflip_heap_get(&heap, 1, 0, 2, 0, &number), GCFLIP_OBJECT);
+    REPLIES(gcflip_heap_same(&heap, 1, 0, G0), GCFLIP_SAME);
+    close_heap();
+    EXPECT(gcflip_heap_copy_fields(&heap, 1, 2, 0, 3, 0, 0, 1) == GCFLIP_CLOSED);
+}
+
 /* Tests each step, with an object whose one field two mutators write after it was scanned. */
 static void steps(void)
 {
@@ -563,6 +635,7 @@ int main(void)
     closed();
     commands();
     raws();
+    copies();
     steps();
     useful_steps();
     useful_step_names();

@@ -243,6 +243,8 @@ static uint32_t plain(const char *name)
     if (IS("put")) return gcflip_heap_put(&heap, m, d, (uint16_t)a[2], (uint8_t)a[3]);
     if (IS("put_number")) return gcflip_heap_put_number(&heap, m, d, (uint16_t)a[2], (uint8_t)a[3], a[4]);
     if (IS("put_nil")) return gcflip_heap_put_nil(&heap, m, d, (uint16_t)a[2], (uint8_t)a[3]);
+    if (IS("copy_fields"))
+        return gcflip_heap_copy_fields(&heap, m, d, (uint16_t)a[2], (uint8_t)a[3], (uint16_t)a[4], (uint8_t)a[5], (uint16_t)a[6]);
     if (IS("cons")) return gcflip_heap_new_pair(&heap, m, d, (uint8_t)a[2], (uint8_t)a[3], (uint8_t)a[4]);
     if (IS("same")) return gcflip_heap_same(&heap, m, d, (uint8_t)a[2]);
     if (IS("begin")) return gcflip_heap_step_begin(&heap);

@@ -116,6 +116,7 @@ static void make_commands(bool is_recorded)
     REPLIES(gcflip_heap_put_nil(&heap, 0, 0, 1, 2), GCFLIP_DONE, is_recorded);
     REPLIES(gcflip_heap_put_number(&heap, 0, 0, 1, 2, 8), GCFLIP_DONE, is_recorded);
     REPLIES(gcflip_heap_raw_write(&heap, 0, 1, 0, 2, numbers, COUNT(numbers)), GCFLIP_DONE, is_recorded);
+    REPLIES(gcflip_heap_copy_fields(&heap, 0, 1, 1, 0, 0, 3, 2), GCFLIP_DONE, is_recorded);
     REPLIES(gcflip_heap_get(&heap, 0, 4, 0, 0, &number), GCFLIP_NUMBER, is_recorded);
     REPLIES(gcflip_heap_new_pair(&heap, 0, 5, 1, 0, 2), GCFLIP_MADE, is_recorded);
     REPLIES(gcflip_heap_new_from(&heap, 0, 6, 1, slots, COUNT(slots)), GCFLIP_MADE, is_recorded);

@@ -8,7 +8,7 @@ REPLIES = {gcflip.Full: "full", gcflip.NoObject: "no object", gcflip.NoField: "n
            gcflip.Idle: "idle", gcflip.NotReady: "not ready", gcflip.OutOfRange: "out of range", gcflip.Closed: "closed",
            gcflip.OutOfMemory: "no memory"}
 DONE = {"new": "made", "raw": "made", "cons": "made", "num": "done", "nil": "done", "move": "done", "put": "done", "put_number": "done",
-        "put_nil": "done"}
+        "put_nil": "done", "copy_fields": "done"}
 
 
 def seen(value):

@@ -521,6 +521,15 @@ class Mutator:
         `source` has nil; if it raises OutOfMemory, nothing changed."""
         self._call("put_nil", slot, field, source)
 
+    def copy_fields(self, slot: int, field: int, source: int, first: int, through: int, count: int) -> None:
+        """Copies `count` fields of the object that slot `source` refers to, field `first` and the fields after it, to field `field` and the fields
+        after it of the object that the slot refers to. For each field this is a `get` into slot `through` and a `put` of it, in rising order and
+        in one call, so `through` keeps the last value; within one object, a field that was written is read as it was written. All fields are
+        copied or none. Raises NoObject if one of the two slots refers to no object, NoField if one of the objects has fewer fields, NoNumber if
+        the slot's object is raw and one of the values is no number, OutOfRange if `through` is one of the two, and OutOfMemory while a
+        collection is open."""
+        self._call("copy_fields", slot, field, source, first, through, count)
+
     def cons(self, slot: int, kind: int, first: int, second: int) -> None:
         """Makes an object with two fields, which take the values of two slots, and puts a reference to it into the slot: a `new` and two
         `put`. If `first` or `second` is the slot itself, that field refers to the new object. Raises Full, and OutOfMemory while a

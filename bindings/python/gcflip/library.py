@@ -151,6 +151,7 @@ HEAP: Dict[str, List[Any]] = {
     "put": [MUTATOR, SLOT, c_uint16, SLOT],
     "put_number": [MUTATOR, SLOT, c_uint16, SLOT, c_uint64],
     "put_nil": [MUTATOR, SLOT, c_uint16, SLOT],
+    "copy_fields": [MUTATOR, SLOT, c_uint16, SLOT, c_uint16, SLOT, c_uint16],
     "new_pair": [MUTATOR, SLOT, c_uint8, SLOT, SLOT],
     "new_from": [MUTATOR, SLOT, c_uint8, c_void_p, c_size_t],
     "same": [MUTATOR, SLOT, SLOT],

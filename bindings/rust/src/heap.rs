@@ -765,6 +765,19 @@ impl Mutator<'_> {
         replied(self.heap.handle.put_nil(self.number, slot.0, field, source.0)).map(drop)
     }
 
+    /// Copies `count` fields: from field `from` on, of the object that slot `source` refers to, to field `to` and on of the object that the
+    /// slot refers to. For each of them this is a [`Mutator::get`] into slot `through` and a [`Mutator::put`] of it, in rising order and in one
+    /// call, so `through` keeps the last value; within one object, a field that was written is read as it was written. All are copied or none.
+    ///
+    /// # Errors
+    ///
+    /// Returns `NoObject` if one of the two slots refers to no object, `NoField` if one of the objects has fewer fields, `NoNumber` if the slot's
+    /// object is raw and one of the values is no number, `OutOfRange` if `through` is one of the two slots, and `NoMemory` only while a
+    /// collection is open. Then nothing has changed.
+    pub fn copy_fields(&self, slot: Slot, to: u16, source: Slot, from: u16, through: Slot, count: u16) -> Result<()> {
+        replied(self.heap.handle.copy_fields(self.number, slot.0, to, source.0, from, through.0, count)).map(drop)
+    }
+
     /// Makes an object with two fields, which take the values of two slots, and puts a reference to it into the slot: a [`Mutator::make`] and two
     /// [`Mutator::put`]. If `first` or `second` is the slot itself, that field refers to the new object.
     ///

@@ -259,6 +259,7 @@ calls! {
     gcflip_heap_put(*mut RawHeap, u8, u8, u16, u8);
     gcflip_heap_put_number(*mut RawHeap, u8, u8, u16, u8, u64);
     gcflip_heap_put_nil(*mut RawHeap, u8, u8, u16, u8);
+    gcflip_heap_copy_fields(*mut RawHeap, u8, u8, u16, u8, u16, u8, u16);
     gcflip_heap_new_pair(*mut RawHeap, u8, u8, u8, u8, u8);
     gcflip_heap_new_from(*mut RawHeap, u8, u8, u8, *const u8, usize);
     gcflip_heap_same(*const RawHeap, u8, u8, u8);
@@ -422,6 +423,7 @@ answers! {
     put: gcflip_heap_put(m: u8, s: u8, i: u16, t: u8);
     put_number: gcflip_heap_put_number(m: u8, s: u8, i: u16, t: u8, n: u64);
     put_nil: gcflip_heap_put_nil(m: u8, s: u8, i: u16, t: u8);
+    copy_fields: gcflip_heap_copy_fields(m: u8, d: u8, to: u16, s: u8, from: u16, t: u8, count: u16);
     cons: gcflip_heap_new_pair(m: u8, d: u8, kind: u8, s: u8, t: u8);
     same: gcflip_heap_same(m: u8, s: u8, t: u8);
     load: gcflip_heap_root_load(m: u8, d: u8, k: u32);

@@ -106,6 +106,32 @@ fn numbers_are_written_at_once() {
 }
 
 #[test]
+fn fields_are_copied_at_once() {
+    let heap = prepared();
+    let mutator = heap.mutator(0).unwrap();
+    mutator.make_raw(A, 255, 3).unwrap();
+    assert_eq!(mutator.raw_write(A, 0, B, &[6, 7, 8]), Ok(()));
+    assert_eq!(mutator.copy_fields(SHARED, 0, A, 1, B, 2), Ok(()));
+    assert_eq!(mutator.look(B), Value::Number(8));
+    assert_eq!(mutator.get(B, SHARED, 0), Ok(Value::Number(7)));
+    assert_eq!(mutator.copy_fields(A, 1, A, 0, B, 2), Ok(()));
+    mutator.put_nil(SHARED, 1, B).unwrap();
+    mutator.num(B, 9).unwrap();
+    assert_eq!(mutator.copy_fields(A, 0, SHARED, 0, B, 2), Err(Error::NoNumber));
+    assert_eq!(mutator.copy_fields(A, 2, SHARED, 0, B, 2), Err(Error::NoField));
+    assert_eq!(mutator.copy_fields(SHARED, 0, A, 2, B, 2), Err(Error::NoField));
+    assert_eq!(mutator.copy_fields(SHARED, 0, Slot::own(2), 0, B, 0), Err(Error::NoObject));
+    assert_eq!(mutator.copy_fields(Slot::own(2), 0, A, 0, B, 0), Err(Error::NoObject));
+    assert_eq!(mutator.copy_fields(A, 0, SHARED, 0, A, 0), Err(Error::OutOfRange));
+    assert_eq!(mutator.copy_fields(A, 0, SHARED, 0, SHARED, 0), Err(Error::OutOfRange));
+    assert_eq!(mutator.copy_fields(A, 3, SHARED, 2, B, 0), Ok(()));
+    let mut numbers = [0; 3];
+    assert_eq!(mutator.raw_read(A, 0, &mut numbers), Ok(()));
+    assert_eq!(numbers, [6, 6, 6]);
+    assert_eq!(mutator.look(B), Value::Number(9));
+}
+
+#[test]
 fn steps() {
     let heap = prepared();
     let mutator = heap.mutator(0).unwrap();

@@ -1,4 +1,5 @@
 pub mod Beside
+mod Copies
 mod FirstLog
 mod KeptPair
 pub mod LegalRuns

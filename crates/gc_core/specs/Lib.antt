@@ -1,5 +1,6 @@
 pub mod Checking
 pub mod CollectedHeap
+pub mod Copying
 pub mod ExtraRoots
 pub mod Flip
 pub mod Internal

@@ -4,6 +4,7 @@
 mod checking;
 mod collected_heap;
 mod commands;
+mod copying;
 mod extra_roots;
 mod fields;
 mod flip;

@@ -1,4 +1,5 @@
 pub mod Begun
 pub mod Cleared
+pub mod CopiesTold
 pub mod Filled
 pub mod NumbersTold

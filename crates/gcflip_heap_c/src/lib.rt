@@ -4,6 +4,7 @@
 mod answer;
 mod checking;
 mod commands;
+mod copying;
 mod frame;
 mod handle;
 mod laws;
@@ -24,6 +25,7 @@ pub use commands::{
     gcflip_heap_put_nil, gcflip_heap_put_number, gcflip_heap_same, gcflip_heap_set_nil,
     gcflip_heap_set_number,
 };
+pub use copying::gcflip_heap_copy_fields;
 pub use frame::{
     GcflipFrame, gcflip_heap_frame_pop, gcflip_heap_frame_push, gcflip_heap_root_clear,
     gcflip_heap_root_load, gcflip_heap_root_store,
