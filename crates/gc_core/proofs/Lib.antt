@@ -1,5 +1,6 @@
 pub mod Beside
 mod Copies
+mod CopiesDone
 mod FirstLog
 mod KeptPair
 pub mod LegalRuns
@@ -7,3 +8,4 @@ mod Marks
 mod NewFrom
 mod NumbersPut
 mod OtherCommands
+mod SourcesPut

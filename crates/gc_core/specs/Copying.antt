@@ -1,12 +1,12 @@
 -- Fields that are copied from one object to another in one call.
-use Rattle.std.specs.Prelude.{ℕ, zero, suc, ◌+◌, nat_le, Bool, ◌&&◌, ◌||◌, not, if◌then◌else◌, List, length, Option, Some, None, slice_range}
+use Rattle.std.specs.Prelude.{◌≡◌, ⊤, ℕ, zero, suc, ◌+◌, nat_le, Bool, ◌&&◌, ◌||◌, not, if◌then◌else◌, List, length, Option, Some, None, slice_range}
 use Rattle.std.specs.List.{list_all}
 use Rattle.gc_graph.specs.Slots.{SlotName, place}
 use Rattle.gc_graph.specs.Graph.{Value, Object, Graph, object_of, root}
 use Rattle.gc_graph.specs.Machine.{is_number}
 use Rattle.gc_graph.specs.declared.command.Op.TheVariants.{Get, Put}
 use Rattle.gc_graph.specs.declared.reply.Reply.{Reply}
-use Rattle.gc_graph.specs.declared.reply.Reply.TheVariants.{Done, NoObject, NoField, NoNumber}
+use Rattle.gc_graph.specs.declared.reply.Reply.TheVariants.{Done, Saw, NoObject, NoField, NoNumber}
 use Rattle.gc_copy.specs.State.{State}
 use Rattle.gc_copy.specs.Steps.{mutate}
 use Rattle.gc_core.specs.Writing.{after_reply}
@@ -43,3 +43,15 @@ abbrev pub copy_fields_step : State → ℕ → SlotName → ℕ → SlotName �
 copy_fields_step old m d to s from t count =
     let reply = copy_reply to from count (object_in old.heap.graph d m) (object_in old.heap.graph s m) in
     (reply, after_reply reply old (copy_step old m d to s from t count))
+
+abbrev pub IsSaw : Reply → Type 0
+IsSaw (Saw view) = ⊤
+IsSaw reply = ⊥
+
+-- each `Get` of the copy sees a value, and each `Put` writes it
+abbrev pub AllCopied : State → ℕ → SlotName → ℕ → SlotName → ℕ → SlotName → ℕ → Type 0
+AllCopied old m d i s j t zero = ⊤
+AllCopied old m d i s j t (suc count) =
+    let got = mutate old m (Get t s j) in
+    let put = mutate got.1 m (Put d i t) in
+    IsSaw got.0 × (put.0 ≡ Done) × AllCopied put.1 m d (suc i) s (suc j) t count

@@ -4,6 +4,7 @@ pub mod Copying
 pub mod ExtraRoots
 pub mod Flip
 pub mod Internal
+pub mod Mixed
 pub mod Readings
 pub mod Replies
 pub mod Writing

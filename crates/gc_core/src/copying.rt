@@ -171,7 +171,6 @@ fn copy_field_and_log(
     ensures mutators { heap.new.mutators ≡ heap.old.mutators }
     ensures spare { spare_of collection.old m ≤ spare_of collection.new m + 1 }
 {
-    commands_leave_collections();
     // Here the prover learns that the heap is sound.
     let _ = heap.space();
     let _got = heap.fetch(m, t, s, j);
