@@ -436,6 +436,34 @@ uint32_t gcflip_heap_raw_write(gcflip_heap *heap, uint8_t m, uint8_t s, uint16_t
     return GCFLIP_DONE;
 }
 
+static bool is_field(gcflip_field field)
+{
+    return field.holds == GCFLIP_FIELD_NIL || (field.holds == GCFLIP_FIELD_NUMBER && (int64_t)field.value >= 0) || (field.holds == GCFLIP_FIELD_SLOT && field.value < SLOTS);
+}
+
+uint32_t gcflip_heap_new_with(gcflip_heap *heap, uint8_t m, uint8_t d, uint8_t kind, uint8_t t, const gcflip_field *fields, size_t count)
+{
+    ENTER(m < h->mutators && (d | t) < SLOTS && t != d && count <= UINT16_MAX);
+    size_t written = 0;
+    for (size_t i = 0; i < count; i++) {
+        if (!is_field(fields[i]))
+            return GCFLIP_OUT_OF_RANGE;
+        written += fields[i].holds != GCFLIP_FIELD_NIL;
+    }
+    mutator_log *l = IS_RARE(h->is_open) ? &h->logs[m] : NULL;
+    if (IS_RARE(l != NULL) && !has_room(l, written))
+        return GCFLIP_NO_MEMORY;
+    if (gcflip_heap_new_object(heap, m, d, kind, (uint16_t)count) == GCFLIP_FULL)
+        return GCFLIP_FULL;
+    for (size_t i = 0; i < count; i++) {
+        if (fields[i].holds == GCFLIP_FIELD_NUMBER)
+            *root_to_write(h, m, t) = 2 * fields[i].value + 1;
+        if (fields[i].holds != GCFLIP_FIELD_NIL)
+            put(h, m, d, (uint16_t)i, *root_of(h, m, fields[i].holds == GCFLIP_FIELD_NUMBER ? t : (uint8_t)fields[i].value), l);
+    }
+    return GCFLIP_MADE;
+}
+
 /* Returns the object that a slot refers to, or NULL. */
 static inline word *any_object(plain_heap *h, uint8_t m, uint8_t s)
 {

@@ -303,6 +303,26 @@ static inline uint32_t gcflip_record_new_from(gcflip_heap *heap, uint8_t m, uint
     return gcflip_trace_new_from(gcflip_heap_new_from(heap, m, d, kind, fields, count), m, d, kind, fields, count);
 }
 
+/* Writes the lines of a new and, if there was room, a num and a put for each number and a put for each slot. */
+static inline uint32_t gcflip_record_new_with(gcflip_heap *heap, uint8_t m, uint8_t d, uint8_t kind, uint8_t t, const gcflip_field *fields, size_t count)
+{
+    size_t i;
+    uint32_t answer = gcflip_heap_new_with(heap, m, d, kind, t, fields, count);
+    if (gcflip_recorded(answer)) {
+        gcflip_trace_command(m, "new");
+        gcflip_trace_slot(d);
+        gcflip_trace_number(kind);
+        gcflip_trace_number(count);
+        gcflip_trace_end();
+        for (i = 0; answer != GCFLIP_FULL && i < count; i++)
+            if (fields[i].holds == GCFLIP_FIELD_NUMBER)
+                gcflip_trace_put_number(m, d, (uint16_t)i, t, fields[i].value);
+            else if (fields[i].holds == GCFLIP_FIELD_SLOT)
+                gcflip_trace_put(m, d, (uint16_t)i, (uint8_t)fields[i].value);
+    }
+    return answer;
+}
+
 static inline uint32_t gcflip_record_same(const gcflip_heap *heap, uint8_t m, uint8_t s, uint8_t t)
 {
     uint32_t answer = gcflip_heap_same(heap, m, s, t);
@@ -488,6 +508,7 @@ static inline uint32_t gcflip_record_work_paced(gcflip_heap *heap, gcflip_pace *
 #define gcflip_heap_copy_fields gcflip_record_copy_fields
 #define gcflip_heap_new_pair gcflip_record_new_pair
 #define gcflip_heap_new_from gcflip_record_new_from
+#define gcflip_heap_new_with gcflip_record_new_with
 #define gcflip_heap_same gcflip_record_same
 #define gcflip_heap_look gcflip_record_look
 #define gcflip_heap_step_begin gcflip_record_step_begin

@@ -9,7 +9,7 @@ EDGES = [0, 1, 2, 1 << 31, (1 << 32) - 1, 1 << 62, (1 << 63) - 1]
 SIZES = [1, 2, 3, 8, 20, 40, 80, 120, 200, 400]
 OUT_OF_RANGE, CLOSED, OPEN = "out of range", "closed", "open"
 # Each call with how often it is made. `session` closes the heap and opens another.
-WEIGHTS = {"new": 8, "raw": 4, "num": 5, "nil": 2, "move": 6, "get": 9, "put": 10, "put_number": 5, "put_nil": 3, "raw_write": 4, "raw_read": 3, "copy_fields": 5, "address": 2, "cons": 4, "new_from": 4, "same": 4, "look": 5,
+WEIGHTS = {"new": 8, "raw": 4, "num": 5, "nil": 2, "move": 6, "get": 9, "put": 10, "put_number": 5, "put_nil": 3, "raw_write": 4, "raw_read": 3, "copy_fields": 5, "address": 2, "cons": 4, "new_from": 4, "new_with": 4, "same": 4, "look": 5,
            "begin": 2, "begin_sized": 1, "roots": 7, "scan": 14, "apply": 5, "flip": 4, "drop": 0.4, "work": 4, "useful": 4, "counts": 3, "log": 2,
            "image": 2, "new_words": 2, "wrong": 4, "session": 0.7}
 COMMANDS = ("new", "raw", "num", "nil", "move", "get", "put", "same", "look")
@@ -248,6 +248,21 @@ class Calls:
         made = self.from_slots(m, d, kind, fields)
         self.call(["new_from", m, d, kind, len(fields), *fields], made[0][1], [line for line, _ in made], [reply for _, reply in made])
 
+    def add_new_with(self):
+        m, d, kind = self.mutator(), self.slot(), self.chance.randrange(256)
+        t = self.chance.choice([slot for slot in range(32) if slot != d])
+        fields = [self.chance.choice([(0, self.chance.choice([0, 1 << 63])), (1, self.number()), (2, self.chance.choice([self.slot(), d, t]))])
+                  for _ in range(self.chance.choice([0, 1, 2, 3, 7, 30, 130]))]
+        made = [self.add_command("new", m, d, kind, len(fields))]
+        for i, (holds, value) in enumerate(fields if made[0][1] == "made" else []):
+            if holds == 1:
+                made.append(self.add_command("num", m, t, value))
+            if holds > 0:
+                made.append(self.add_command("put", m, d, i, t if holds == 1 else value))
+        assert all(answer == "done" for _, answer in made[1:])
+        numbers = [number for field in fields for number in field]
+        self.call(["new_with", m, d, kind, t, len(fields), *numbers], made[0][1], [line for line, _ in made], [answer for _, answer in made])
+
     def add_begin(self):
         reply = self.model.begin()
         self.call(["begin"], reply, ["c begin"], [reply])
@@ -314,7 +329,9 @@ class Calls:
             ["copy_fields", beyond, 0, 0, 1, 0, 2, 0], ["copy_fields", m, slot, 0, 1, 0, 2, 1], ["copy_fields", m, 0, 0, slot, 0, 2, 1],
             ["copy_fields", m, 0, 0, 1, 0, slot, 0], ["copy_fields", m, 3, 0, 1, 0, 3, 0], ["copy_fields", m, 0, 0, 3, 0, 3, 0], ["cons", m, slot, 0, 0, 0], ["cons", m, 0, 0, slot, 0],
             ["cons", m, 0, 0, 0, slot], ["cons", beyond, 0, 0, 0, 0], ["new_from", m, 0, 0, 2, 0, slot], ["new_from", beyond, 0, 0, 1, 0],
-            ["new_from", m, slot, 0, 0], ["same", m, slot, 0], ["same", m, 0, slot], ["same", beyond, 0, 0], ["look", m, slot], ["look", beyond, 0],
+            ["new_from", m, slot, 0, 0],
+            ["new_with", beyond, 0, 0, 1, 0], ["new_with", m, slot, 0, 1, 0], ["new_with", m, 0, 0, slot, 0], ["new_with", m, 3, 0, 3, 0],
+            ["new_with", m, 0, 0, 1, 1, 1, 1 << 63], ["new_with", m, 0, 0, 1, 2, 0, 0, 2, slot], ["new_with", m, 0, 0, 1, 1, self.chance.choice([3, 255, 1 << 31]), 0], ["same", m, slot, 0], ["same", m, 0, slot], ["same", beyond, 0, 0], ["look", m, slot], ["look", beyond, 0],
             ["begin_sized", 0], ["apply", beyond], ["log", beyond], ["work", 0]]), OUT_OF_RANGE)
 
     def finish(self):

@@ -2,7 +2,7 @@
 import sys
 
 import gcflip
-from gcflip.heap import Mutator, Step
+from gcflip.heap import Held, Mutator, Step
 
 REPLIES = {gcflip.Full: "full", gcflip.NoObject: "no object", gcflip.NoField: "no field", gcflip.NoNumber: "no number", gcflip.Busy: "busy",
            gcflip.Idle: "idle", gcflip.NotReady: "not ready", gcflip.OutOfRange: "out of range", gcflip.Closed: "closed",
@@ -34,6 +34,10 @@ def of_mutator(heap, name, numbers):
         return "yes" if mutator.same(*numbers[1:]) else "no"
     if name == "new_from":
         mutator.new_from(*numbers[1:3], numbers[4:])
+        return "made"
+    if name == "new_with":
+        fields = [(None, value, Held(value))[holds] if holds < 3 else 1 << 63 for holds, value in zip(numbers[5::2], numbers[6::2])]
+        mutator.new_with(*numbers[1:4], fields)
         return "made"
     if name == "raw_read":
         return " ".join(["read", *map(str, mutator.raw_read(*numbers[1:]))])

@@ -12,7 +12,7 @@ import unittest
 import weakref
 
 import gcflip
-from gcflip import Heap, LogEntry, Object, Step, own, shared
+from gcflip import Heap, Held, LogEntry, Object, Step, own, shared
 from limits import at_most
 
 
@@ -318,6 +318,28 @@ class Readings(unittest.TestCase):
             heap.begin()
             mutator.raw_write(own(3), 2, own(0), [20, 21])
             self.assertEqual([heap.log_entry(1, k) for k in range(heap.log_length(1))], [LogEntry(1, 2), LogEntry(1, 3)])
+
+    def test_numbers_and_slots_are_mixed(self):
+        with Heap(64, 2) as heap:
+            mutator = heap.mutator(1)
+            mutator.new(own(1), 9, 0)
+            mutator.new_with(own(3), 8, own(0), iter([5, None, Held(own(3)), Held(own(0)), (1 << 63) - 1, Held(own(1))]))
+            self.assertEqual(mutator.look(own(3)), Object(8, 6, False))
+            self.assertEqual([mutator.get(own(4), own(3), field) for field in range(6)],
+                             [5, None, Object(8, 6, False), 5, (1 << 63) - 1, Object(9, 0, False)])
+            self.assertEqual(mutator.look(own(0)), (1 << 63) - 1)
+            mutator.new_with(own(4), 8, own(0), [])
+            wrong = [(gcflip.OutOfRange, (own(3), 8, own(3), [])), (gcflip.OutOfRange, (own(3), 8, own(0), [1 << 63])), (gcflip.OutOfRange, (32, 8, own(0), [])),
+                     (gcflip.OutOfRange, (own(3), 8, own(0), [1 << 64])), (gcflip.OutOfRange, (own(3), 8, own(0), [-1])), (gcflip.OutOfRange, (own(3), 256, own(0), [])),
+                     (gcflip.OutOfRange, (own(3), 8, own(0), [Held(32)])), (gcflip.OutOfRange, (own(3), 8, own(0), [Held(256)])), (gcflip.OutOfRange, (own(3), 8, 32, [])),
+                     (gcflip.OutOfRange, (own(3), 8, own(0), [None] * 65536)), (gcflip.Full, (own(3), 8, own(0), [None] * 65535)), (TypeError, (own(3), 8, own(0), ["5"]))]
+            for error, arguments in wrong:
+                with self.subTest(str(arguments)[:60]), self.assertRaises(error):
+                    mutator.new_with(*arguments)
+            self.assertEqual((mutator.look(own(0)), mutator.look(own(3))), ((1 << 63) - 1, Object(8, 6, False)))
+            heap.begin()
+            mutator.new_with(own(5), 8, own(0), [5, None, Held(own(3))])
+            self.assertEqual([heap.log_entry(1, k).field for k in range(heap.log_length(1))], [0, 2])
 
     def test_fields_are_copied_at_once(self):
         with Heap(64, 2) as heap:

@@ -1,7 +1,7 @@
 //! The collected heap: objects of words for 1 to 16 mutators, with an incremental, replicating collector.
 
 use crate::checker::{verdict_of, Image, Refusal, Yes};
-use crate::sys::{self, FlipChecks, Frame, Handle, LogEntry, Pace, RawOptions, RawWork};
+use crate::sys::{self, Field, FlipChecks, Frame, Handle, LogEntry, Pace, RawOptions, RawWork};
 use std::fmt;
 use std::ops::Range;
 
@@ -71,7 +71,7 @@ impl std::error::Error for Error {}
 /// ```
 #[repr(transparent)]
 #[derive(Clone, Copy, Debug, PartialEq, Eq, Hash)]
-pub struct Slot(u8);
+pub struct Slot(pub(crate) u8);
 
 impl Slot {
     /// Returns the mutator's own slot with this number, 0 to 15.
@@ -795,6 +795,18 @@ impl Mutator<'_> {
     /// Returns `OutOfRange` if there are more than 65535, `Full`, or, while a collection is open, `NoMemory`. Then nothing changed.
     pub fn make_from(&self, slot: Slot, kind: u8, fields: &[Slot]) -> Result<()> {
         replied(self.heap.handle.new_from(self.number, slot.0, kind, fields)).map(drop)
+    }
+
+    /// Makes an object with a field for each of these, and puts a reference to it into the slot: a [`Mutator::make`], and then, in order, a
+    /// [`Mutator::put_number`] through slot `through` for each number, and a [`Mutator::put`] for each slot. So `through` keeps the last number. A
+    /// field that takes the slot itself refers to the new object.
+    ///
+    /// # Errors
+    ///
+    /// Returns `OutOfRange` if the slot and `through` are one, a number is 2^63 or more, or there are more than 65535 fields, `Full`, or, while a
+    /// collection is open, `NoMemory`. Then nothing changed.
+    pub fn make_with(&self, slot: Slot, kind: u8, through: Slot, fields: &[Field]) -> Result<()> {
+        replied(self.heap.handle.new_with(self.number, slot.0, kind, through.0, fields)).map(drop)
     }
 
     /// Returns whether both slots hold nil, equal numbers, or references to one object.
