@@ -436,6 +436,78 @@ uint32_t gcflip_heap_raw_write(gcflip_heap *heap, uint8_t m, uint8_t s, uint16_t
     return GCFLIP_DONE;
 }
 
+static bool is_field(gcflip_field field)
+{
+    return field.holds == GCFLIP_FIELD_NIL || (field.holds == GCFLIP_FIELD_NUMBER && (int64_t)field.value >= 0) || (field.holds == GCFLIP_FIELD_SLOT && field.value < SLOTS);
+}
+
+uint32_t gcflip_heap_new_with(gcflip_heap *heap, uint8_t m, uint8_t d, uint8_t kind, uint8_t t, const gcflip_field *fields, size_t count)
+{
+    ENTER(m < h->mutators && (d | t) < SLOTS && t != d && count <= UINT16_MAX);
+    size_t written = 0;
+    for (size_t i = 0; i < count; i++) {
+        if (!is_field(fields[i]))
+            return GCFLIP_OUT_OF_RANGE;
+        written += fields[i].holds != GCFLIP_FIELD_NIL;
+    }
+    mutator_log *l = IS_RARE(h->is_open) ? &h->logs[m] : NULL;
+    if (IS_RARE(l != NULL) && !has_room(l, written))
+        return GCFLIP_NO_MEMORY;
+    if (gcflip_heap_new_object(heap, m, d, kind, (uint16_t)count) == GCFLIP_FULL)
+        return GCFLIP_FULL;
+    for (size_t i = 0; i < count; i++) {
+        if (fields[i].holds == GCFLIP_FIELD_NUMBER)
+            *root_to_write(h, m, t) = 2 * fields[i].value + 1;
+        if (fields[i].holds != GCFLIP_FIELD_NIL)
+            put(h, m, d, (uint16_t)i, *root_of(h, m, fields[i].holds == GCFLIP_FIELD_NUMBER ? t : (uint8_t)fields[i].value), l);
+    }
+    return GCFLIP_MADE;
+}
+
+/* Returns the object that a slot refers to, or NULL. */
+static inline word *any_object(plain_heap *h, uint8_t m, uint8_t s)
+{
+    word value = *root_of(h, m, s);
+    return value == 0 || value % 2 != 0 ? NULL : object_at(&h->now, value);
+}
+
+/* Returns whether all of these values are numbers. */
+static inline bool are_numbers(const word *values, uint16_t count)
+{
+    word all = 1;
+    for (uint16_t k = 0; k < count; k++)
+        all &= values[k];
+    return all != 0;
+}
+
+uint32_t gcflip_heap_copy_fields(gcflip_heap *heap, uint8_t m, uint8_t d, uint16_t to, uint8_t s, uint16_t from, uint8_t t, uint16_t count)
+{
+    ENTER(m < h->mutators && (d | s | t) < SLOTS && t != d && t != s);
+    word *target = any_object(h, m, d), *source = any_object(h, m, s);
+    if (target == NULL || source == NULL)
+        return GCFLIP_NO_OBJECT;
+    if ((uint32_t)to + count > length_of(target[0]) || (uint32_t)from + count > length_of(source[0]))
+        return GCFLIP_NO_FIELD;
+    bool into_raw = target[0] & RAW, from_raw = source[0] & RAW;
+    const word *read = source + FIELDS + from;
+    word *written = target + FIELDS + to, last = 0;
+    if (into_raw && !from_raw && !are_numbers(read, count))
+        return GCFLIP_NO_NUMBER;
+    if (count == 0)
+        return GCFLIP_DONE;
+    if (IS_RARE(h->is_open)) {
+        if (!has_room(&h->logs[m], count))
+            return GCFLIP_NO_MEMORY;
+        log_writes(&h->logs[m], reference_to(&h->now, target), to, count);
+    }
+    for (uint16_t k = 0; k < count; k++) {
+        last = from_raw ? 2 * read[k] + 1 : read[k];
+        written[k] = into_raw ? last / 2 : last;
+    }
+    *root_to_write(h, m, t) = last;
+    return GCFLIP_DONE;
+}
+
 /* ---- Opening and closing */
 
 static bool allocate(space *s, uint32_t size)

@@ -13,7 +13,7 @@
  *   proved one layer below, for CollectedHeap::flip_along and flip in crates/gc_core;
  * - no step lacks room if the new space is at least as large as the heap;
  * - only open, step_begin, step_begin_sized, step_flip, check, work, work_sized and work_paced can return GCFLIP_NO_MEMORY, and, while
- *   a collection is open, put, put_number, put_nil, raw_write, new_pair and new_from.
+ *   a collection is open, put, put_number, put_nil, raw_write, copy_fields, new_pair, new_from and new_with.
  *
  * What the caller owes, since nothing checks C code:
  * - no pointer is NULL, not even one to an empty array. Each is aligned, and no two pointers of a call overlap;
@@ -130,6 +130,15 @@ uint32_t gcflip_heap_put_number(gcflip_heap *heap, uint8_t m, uint8_t s, uint16_
  * the put, GCFLIP_NO_NUMBER if the object is raw, and slot t has nil whatever the reply. If the call is refused, neither happened. */
 uint32_t gcflip_heap_put_nil(gcflip_heap *heap, uint8_t m, uint8_t s, uint16_t i, uint8_t t);
 
+/* Copies `count` fields: from field `from` on, of the object that slot s refers to, to field `to` and on of the object that slot d refers to. For
+ * each field this is a gcflip_heap_get into slot t and a gcflip_heap_put of slot t, in rising order and in one call: so slot t keeps
+ * the last value, if there is one, and while a collection is open each field that was written is logged. GCFLIP_DONE, or nothing is
+ * written: GCFLIP_NO_OBJECT if slot d or s refers to no object, GCFLIP_NO_FIELD if one of the objects has fewer fields, GCFLIP_NO_NUMBER if
+ * the object in slot d is raw and one of the values is no number. GCFLIP_OUT_OF_RANGE also if t is slot d or s. Slots d and s may be one
+ * slot, or refer to one object: then a field that is written before it is read gives the value that was written, so copy to lower fields,
+ * or to fields beyond those that are read. Allocates only while a collection is open. */
+uint32_t gcflip_heap_copy_fields(gcflip_heap *heap, uint8_t m, uint8_t d, uint16_t to, uint8_t s, uint16_t from, uint8_t t, uint16_t count);
+
 /* Makes an object with two fields, which take the values of slots s and t, and puts a reference to it into slot d, as new_object and two
  * puts do. Returns GCFLIP_MADE, or GCFLIP_FULL if nothing changed. Slot d is set first: if s or t is d, that field refers to the object
  * itself. While a collection is open, the call allocates room in the mutator's log. */
@@ -137,6 +146,21 @@ uint32_t gcflip_heap_new_pair(gcflip_heap *heap, uint8_t m, uint8_t d, uint8_t k
 
 /* The same with `count` fields, at most 65535, which take the values of the slots fields[0] to fields[count - 1]. */
 uint32_t gcflip_heap_new_from(gcflip_heap *heap, uint8_t m, uint8_t d, uint8_t kind, const uint8_t *fields, size_t count);
+
+/* What a field of a new object takes. */
+enum { GCFLIP_FIELD_NIL = 0, GCFLIP_FIELD_NUMBER = 1, GCFLIP_FIELD_SLOT = 2 };
+
+typedef struct gcflip_field {
+    uint32_t holds; /* one of these numbers: the field stays nil, takes a number, or takes the value of a slot */
+    uint64_t value; /* the number, below 2^63, or the number of the slot; for nil it is not read */
+} gcflip_field;
+
+/* Makes an object with `count` fields, at most 65535, which take what fields[0] to fields[count - 1] say, and puts a reference to it into
+ * slot d. This is a new_object and then, in order, a put_number through slot t for each number, and a put for each slot; a nil needs no
+ * command. So slot t keeps the last number, if there is one, and a field that takes slot t has the number before it, or what the slot held.
+ * Returns GCFLIP_MADE, or GCFLIP_FULL if nothing changed. Slot d is set first: a field that takes slot d refers to the object itself.
+ * GCFLIP_OUT_OF_RANGE also if t and d are one slot. While a collection is open, the call allocates room in the mutator's log. */
+uint32_t gcflip_heap_new_with(gcflip_heap *heap, uint8_t m, uint8_t d, uint8_t kind, uint8_t t, const gcflip_field *fields, size_t count);
 
 /* Compares the values of slots s and t: GCFLIP_SAME or GCFLIP_NOT_SAME. */
 uint32_t gcflip_heap_same(const gcflip_heap *heap, uint8_t m, uint8_t s, uint8_t t);

@@ -187,16 +187,20 @@ static inline uint32_t gcflip_record_move(gcflip_heap *heap, uint8_t m, uint8_t 
     return answer;
 }
 
+static inline void gcflip_trace_get(uint8_t m, uint8_t d, uint8_t s, uint16_t i)
+{
+    gcflip_trace_command(m, "get");
+    gcflip_trace_slot(d);
+    gcflip_trace_slot(s);
+    gcflip_trace_number(i);
+    gcflip_trace_end();
+}
+
 static inline uint32_t gcflip_record_get(gcflip_heap *heap, uint8_t m, uint8_t d, uint8_t s, uint16_t i, uint64_t *number)
 {
     uint32_t answer = gcflip_heap_get(heap, m, d, s, i, number);
-    if (gcflip_recorded(answer)) {
-        gcflip_trace_command(m, "get");
-        gcflip_trace_slot(d);
-        gcflip_trace_slot(s);
-        gcflip_trace_number(i);
-        gcflip_trace_end();
-    }
+    if (gcflip_recorded(answer))
+        gcflip_trace_get(m, d, s, i);
     return answer;
 }
 
@@ -259,6 +263,19 @@ static inline uint32_t gcflip_record_raw_write(gcflip_heap *heap, uint8_t m, uin
     return answer;
 }
 
+/* Writes the lines of a get and a put for each field. What copied no field has no line. */
+static inline uint32_t gcflip_record_copy_fields(gcflip_heap *heap, uint8_t m, uint8_t d, uint16_t to, uint8_t s, uint16_t from, uint8_t t, uint16_t count)
+{
+    uint16_t k;
+    uint32_t answer = gcflip_heap_copy_fields(heap, m, d, to, s, from, t, count);
+    if (gcflip_recorded(answer) && answer == GCFLIP_DONE)
+        for (k = 0; k < count; k++) {
+            gcflip_trace_get(m, t, s, (uint16_t)(from + k));
+            gcflip_trace_put(m, d, (uint16_t)(to + k), t);
+        }
+    return answer;
+}
+
 /* Writes the lines of an object with fields from slots: a new and, if there was room, a put for each field. */
 static inline uint32_t gcflip_trace_new_from(uint32_t answer, uint8_t m, uint8_t d, uint8_t kind, const uint8_t *fields, size_t count)
 {
@@ -284,6 +301,26 @@ static inline uint32_t gcflip_record_new_pair(gcflip_heap *heap, uint8_t m, uint
 static inline uint32_t gcflip_record_new_from(gcflip_heap *heap, uint8_t m, uint8_t d, uint8_t kind, const uint8_t *fields, size_t count)
 {
     return gcflip_trace_new_from(gcflip_heap_new_from(heap, m, d, kind, fields, count), m, d, kind, fields, count);
+}
+
+/* Writes the lines of a new and, if there was room, a num and a put for each number and a put for each slot. */
+static inline uint32_t gcflip_record_new_with(gcflip_heap *heap, uint8_t m, uint8_t d, uint8_t kind, uint8_t t, const gcflip_field *fields, size_t count)
+{
+    size_t i;
+    uint32_t answer = gcflip_heap_new_with(heap, m, d, kind, t, fields, count);
+    if (gcflip_recorded(answer)) {
+        gcflip_trace_command(m, "new");
+        gcflip_trace_slot(d);
+        gcflip_trace_number(kind);
+        gcflip_trace_number(count);
+        gcflip_trace_end();
+        for (i = 0; answer != GCFLIP_FULL && i < count; i++)
+            if (fields[i].holds == GCFLIP_FIELD_NUMBER)
+                gcflip_trace_put_number(m, d, (uint16_t)i, t, fields[i].value);
+            else if (fields[i].holds == GCFLIP_FIELD_SLOT)
+                gcflip_trace_put(m, d, (uint16_t)i, (uint8_t)fields[i].value);
+    }
+    return answer;
 }
 
 static inline uint32_t gcflip_record_same(const gcflip_heap *heap, uint8_t m, uint8_t s, uint8_t t)
@@ -468,8 +505,10 @@ static inline uint32_t gcflip_record_work_paced(gcflip_heap *heap, gcflip_pace *
 #define gcflip_heap_put_number gcflip_record_put_number
 #define gcflip_heap_put_nil gcflip_record_put_nil
 #define gcflip_heap_raw_write gcflip_record_raw_write
+#define gcflip_heap_copy_fields gcflip_record_copy_fields
 #define gcflip_heap_new_pair gcflip_record_new_pair
 #define gcflip_heap_new_from gcflip_record_new_from
+#define gcflip_heap_new_with gcflip_record_new_with
 #define gcflip_heap_same gcflip_record_same
 #define gcflip_heap_look gcflip_record_look
 #define gcflip_heap_step_begin gcflip_record_step_begin

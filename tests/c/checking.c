@@ -122,9 +122,10 @@ static uint32_t below(uint32_t limit)
 static void command(void)
 {
     static uint8_t fields[20];
+    static gcflip_field mixed[20];
     uint8_t m = (uint8_t)below(2), d = (uint8_t)below(32), s = (uint8_t)below(32), t = (uint8_t)below(32);
     uint32_t answer = GCFLIP_DONE;
-    switch (below(11)) {
+    switch (below(13)) {
     case 0: answer = gcflip_heap_new_object(&heap, m, d, 1, (uint16_t)below(20)); break;
     case 1: answer = gcflip_heap_new_raw(&heap, m, d, 2, (uint16_t)below(20)); break;
     case 2: answer = gcflip_heap_new_pair(&heap, m, d, 3, s, t); break;
@@ -139,6 +140,14 @@ static void command(void)
     case 7: answer = gcflip_heap_root_store(&heap, m, below(ROOTS), s); break;
     case 8: answer = gcflip_heap_root_load(&heap, m, d, below(ROOTS)); break;
     case 9: answer = gcflip_heap_put_number(&heap, m, s, (uint16_t)below(4), t, below(1000)); break;
+    case 10: answer = t == d || t == s ? GCFLIP_DONE : gcflip_heap_copy_fields(&heap, m, d, (uint16_t)below(4), s, (uint16_t)below(4), t, (uint16_t)below(4)); break;
+    case 11:
+        for (size_t i = 0; i < COUNT(mixed); i++) {
+            mixed[i].holds = below(3);
+            mixed[i].value = below(32);
+        }
+        answer = t == d ? GCFLIP_DONE : gcflip_heap_new_with(&heap, m, d, 5, t, mixed, below(20));
+        break;
     default: answer = gcflip_heap_put(&heap, m, s, (uint16_t)below(4), t); break;
     }
     EXPECT(!GCFLIP_IS_REFUSED(answer));

@@ -174,6 +174,134 @@ static void raws(void)
     EXPECT(row[0] == 9223372036854775800u && address == 7);
 }
 
+/* Tests copies of several fields at once: between objects with references and raw ones, within one object, and each refusal. */
+static void copies(void)
+{
+    const uint64_t numbers[] = {5, 6, 7, 8};
+    uint64_t row[4] = {77, 77, 77, 77};
+    open_heap(64, 2);
+    REPLIES(gcflip_heap_new_object(&heap, 1, G0, KIND, 3), GCFLIP_MADE); /* at 1 */
+    REPLIES(gcflip_heap_new_object(&heap, 1, 2, KIND, 4), GCFLIP_MADE);  /* at 6 */
+    REPLIES(gcflip_heap_new_raw(&heap, 1, 3, KIND, 4), GCFLIP_MADE);     /* at 12 */
+    REPLIES(gcflip_heap_raw_write(&heap, 1, 3, 0, 0, numbers, 4), GCFLIP_DONE);
+    /* numbers of a raw object into one with references, and a reference beside them */
+    REPLIES(gcflip_heap_copy_fields(&heap, 1, 2, 1, 3, 2, 0, 2), GCFLIP_DONE);
+    LOOKS(gcflip_heap_look(&heap, 1, 0, &view), GCFLIP_NUMBER, 0, 0, 8);
+    REPLIES(gcflip_heap_put(&heap, 1, 2, 3, G0), GCFLIP_DONE);
+    REPLIES(gcflip_heap_copy_fields(&heap, 1, G0, 0, 2, 1, 0, 3), GCFLIP_DONE);
+    REPLIES(gcflip_heap_same(&heap, 1, 0, G0), GCFLIP_SAME);
+    GETS(gcflip_heap_get(&heap, 1, 1, G0, 0, &number), GCFLIP_NUMBER, 7);
+    GETS(gcflip_heap_get(&heap, 1, 1, G0, 1, &number), GCFLIP_NUMBER, 8);
+    REPLIES(gcflip_heap_get(&heap, 1, 1, G0, 2, &number), GCFLIP_OBJECT);
+    REPLIES(gcflip_heap_same(&heap, 1, 1, G0), GCFLIP_SAME);
+    /* within one object: in rising order, so a field that was written is read as it was written; by two slots or by one */
+    REPLIES(gcflip_heap_copy_fields(&heap, 1, 3, 0, 3, 1, 0, 3), GCFLIP_DONE);
+    REPLIES(gcflip_heap_raw_read(&heap, 1, 3, 0, row, 4), GCFLIP_DONE);
+    EXPECT(row[0] == 6 && row[1] == 7 && row[2] == 8 && row[3] == 8);
+    REPLIES(gcflip_heap_move(&heap, 1, 1, 3), GCFLIP_DONE);
+    REPLIES(gcflip_heap_copy_fields(&heap, 1, 1, 1, 3, 0, 0, 3), GCFLIP_DONE);
+    REPLIES(gcflip_heap_raw_read(&heap, 1, 3, 0, row, 4), GCFLIP_DONE);
+    EXPECT(row[0] == 6 && row[1] == 6 && row[2] == 6 && row[3] == 6);
+    /* nothing is copied, and slot 0 keeps its number */
+    REPLIES(gcflip_heap_set_number(&heap, 1, 0, 4), GCFLIP_DONE);
+    REPLIES(gcflip_heap_copy_fields(&heap, 1, 3, 1, 2, 1, 0, 3), GCFLIP_NO_NUMBER); /* the last value is a reference */
+    REPLIES(gcflip_heap_copy_fields(&heap, 1, 3, 1, 2, 0, 0, 1), GCFLIP_NO_NUMBER); /* nil */
+    REPLIES(gcflip_heap_copy_fields(&heap, 1, 3, 2, 2, 1, 0, 3), GCFLIP_NO_FIELD);
+    REPLIES(gcflip_heap_copy_fields(&heap, 1, 2, 0, G0, 1, 0, 3), GCFLIP_NO_FIELD);
+    REPLIES(gcflip_heap_copy_fields(&heap, 1, 2, 5, 3, 0, 0, 0), GCFLIP_NO_FIELD);
+    REPLIES(gcflip_heap_copy_fields(&heap, 1, 2, 0, 3, 5, 0, 0), GCFLIP_NO_FIELD);
+    REPLIES(gcflip_heap_copy_fields(&heap, 1, 2, 65535, 3, 65535, 0, 65535), GCFLIP_NO_FIELD);
+    REPLIES(gcflip_heap_copy_fields(&heap, 1, 4, 0, 3, 0, 0, 0), GCFLIP_NO_OBJECT); /* nil */
+    REPLIES(gcflip_heap_copy_fields(&heap, 1, 3, 0, 4, 0, 0, 0), GCFLIP_NO_OBJECT);
+    REPLIES(gcflip_heap_copy_fields(&heap, 1, 0, 0, 3, 0, 1, 0), GCFLIP_NO_OBJECT); /* a number */
+    REPLIES(gcflip_heap_copy_fields(&heap, 0, 2, 0, 3, 0, 0, 0), GCFLIP_NO_OBJECT); /* another mutator's slots */
+    REPLIES(gcflip_heap_copy_fields(&heap, 1, 2, 0, 3, 0, 2, 0), GCFLIP_OUT_OF_RANGE);
+    REPLIES(gcflip_heap_copy_fields(&heap, 1, 2, 0, 3, 0, 3, 0), GCFLIP_OUT_OF_RANGE);
+    REPLIES(gcflip_heap_copy_fields(&heap, 2, 2, 0, 3, 0, 0, 0), GCFLIP_OUT_OF_RANGE);
+    REPLIES(gcflip_heap_copy_fields(&heap, 1, 32, 0, 3, 0, 0, 0), GCFLIP_OUT_OF_RANGE);
+    REPLIES(gcflip_heap_copy_fields(&heap, 1, 2, 0, 32, 0, 0, 0), GCFLIP_OUT_OF_RANGE);
+    REPLIES(gcflip_heap_copy_fields(&heap, 1, 2, 0, 3, 0, 32, 0), GCFLIP_OUT_OF_RANGE);
+    REPLIES(gcflip_heap_copy_fields(&heap, 1, 2, 4, 3, 4, 0, 0), GCFLIP_DONE);
+    LOOKS(gcflip_heap_look(&heap, 1, 0, &view), GCFLIP_NUMBER, 0, 0, 4);
+    REPLIES(gcflip_heap_raw_read(&heap, 1, 3, 0, row, 4), GCFLIP_DONE);
+    EXPECT(row[0] == 6 && row[1] == 6 && row[2] == 6 && row[3] == 6);
+    /* while a collection is open each field that is written is logged, and the replicas take the values */
+    REPLIES(gcflip_heap_step_begin(&heap), GCFLIP_BEGUN);
+    while (gcflip_heap_step_roots(&heap) == GCFLIP_COPIED)
+        ;
+    while (gcflip_heap_step_scan(&heap) != GCFLIP_CLEAN)
+        ;
+    REPLIES(gcflip_heap_copy_fields(&heap, 1, 3, 2, 2, 1, 0, 2), GCFLIP_DONE);
+    REPLIES(gcflip_heap_copy_fields(&heap, 1, 2, 0, G0, 2, 1, 1), GCFLIP_DONE);
+    EXPECT(gcflip_heap_log_length(&heap, 1, &length) == GCFLIP_DONE && length == 3);
+    EXPECT(gcflip_heap_log_entry(&heap, 1, 1, &entry) == GCFLIP_DONE && entry.object == 12 && entry.field == 3);
+    EXPECT(gcflip_heap_log_entry(&heap, 1, 2, &entry) == GCFLIP_DONE && entry.object == 6 && entry.field == 0);
+    while (gcflip_heap_work(&heap, 1, &work) == GCFLIP_DONE && work.last != GCFLIP_FLIPPED)
+        ;
+    REPLIES(gcflip_heap_raw_read(&heap, 1, 3, 0, row, 4), GCFLIP_DONE);
+    EXPECT(row[0] == 6 && row[1] == 6 && row[2] == 7 && row[3] == 8);
+    REPLIES(gcflip_heap_get(&heap, 1, 0, 2, 0, &number), GCFLIP_OBJECT);
+    REPLIES(gcflip_heap_same(&heap, 1, 0, G0), GCFLIP_SAME);
+    close_heap();
+    EXPECT(gcflip_heap_copy_fields(&heap, 1, 2, 0, 3, 0, 0, 1) == GCFLIP_CLOSED);
+}
+
+/* Tests objects whose fields take numbers and the values of slots. */
+static void mixed(void)
+{
+    const gcflip_field fields[] = {{GCFLIP_FIELD_NUMBER, 5}, {GCFLIP_FIELD_NIL, 7}, {GCFLIP_FIELD_SLOT, 2}, {GCFLIP_FIELD_SLOT, 0},
+                                   {GCFLIP_FIELD_NUMBER, 9223372036854775807u}, {GCFLIP_FIELD_SLOT, G0}};
+    gcflip_field wrong[] = {{GCFLIP_FIELD_NUMBER, 1}, {GCFLIP_FIELD_NUMBER, 9223372036854775808u}};
+    static gcflip_field most[65536];
+    open_heap(40, 2);
+    REPLIES(gcflip_heap_new_raw(&heap, 1, G0, KIND, 1), GCFLIP_MADE); /* at 1 */
+    REPLIES(gcflip_heap_new_with(&heap, 1, 2, KIND, 0, fields, COUNT(fields)), GCFLIP_MADE); /* at 4 */
+    LOOKS(gcflip_heap_look(&heap, 1, 0, &view), GCFLIP_NUMBER, 0, 0, 9223372036854775807u);
+    LOOKS(gcflip_heap_look(&heap, 1, 2, &view), GCFLIP_OBJECT, KIND, 6, 0);
+    GETS(gcflip_heap_get(&heap, 1, 3, 2, 0, &number), GCFLIP_NUMBER, 5);
+    GETS(gcflip_heap_get(&heap, 1, 3, 2, 1, &number), GCFLIP_NIL, 77);
+    GETS(gcflip_heap_get(&heap, 1, 3, 2, 2, &number), GCFLIP_OBJECT, 77);
+    REPLIES(gcflip_heap_same(&heap, 1, 3, 2), GCFLIP_SAME); /* slot 2 is set first */
+    GETS(gcflip_heap_get(&heap, 1, 3, 2, 3, &number), GCFLIP_NUMBER, 5); /* slot 0 has the number before */
+    GETS(gcflip_heap_get(&heap, 1, 3, 2, 4, &number), GCFLIP_NUMBER, 9223372036854775807u);
+    GETS(gcflip_heap_get(&heap, 1, 3, 2, 5, &number), GCFLIP_OBJECT, 77);
+    REPLIES(gcflip_heap_same(&heap, 1, 3, G0), GCFLIP_SAME);
+    /* without a number slot 0 stays, and an object may have no fields */
+    REPLIES(gcflip_heap_new_with(&heap, 1, 4, KIND, 0, fields + 1, 1), GCFLIP_MADE);
+    REPLIES(gcflip_heap_new_with(&heap, 1, 4, KIND, 0, fields, 0), GCFLIP_MADE);
+    LOOKS(gcflip_heap_look(&heap, 1, 0, &view), GCFLIP_NUMBER, 0, 0, 9223372036854775807u);
+    /* nothing is made, and nothing changes */
+    REPLIES(gcflip_heap_set_number(&heap, 1, 0, 4), GCFLIP_DONE);
+    REPLIES(gcflip_heap_new_with(&heap, 1, 4, KIND, 0, most, 65535), GCFLIP_FULL);
+    REPLIES(gcflip_heap_new_with(&heap, 1, 4, KIND, 0, most, 65536), GCFLIP_OUT_OF_RANGE);
+    REPLIES(gcflip_heap_new_with(&heap, 1, 4, KIND, 0, wrong, 2), GCFLIP_OUT_OF_RANGE);
+    wrong[1] = (gcflip_field){GCFLIP_FIELD_SLOT, 32};
+    REPLIES(gcflip_heap_new_with(&heap, 1, 4, KIND, 0, wrong, 2), GCFLIP_OUT_OF_RANGE);
+    wrong[1] = (gcflip_field){GCFLIP_FIELD_SLOT, 256}; /* no number of a slot is cut off */
+    REPLIES(gcflip_heap_new_with(&heap, 1, 4, KIND, 0, wrong, 2), GCFLIP_OUT_OF_RANGE);
+    wrong[1] = (gcflip_field){3, 0};
+    REPLIES(gcflip_heap_new_with(&heap, 1, 4, KIND, 0, wrong, 2), GCFLIP_OUT_OF_RANGE);
+    REPLIES(gcflip_heap_new_with(&heap, 1, 4, KIND, 4, wrong, 1), GCFLIP_OUT_OF_RANGE);
+    REPLIES(gcflip_heap_new_with(&heap, 2, 4, KIND, 0, wrong, 1), GCFLIP_OUT_OF_RANGE);
+    REPLIES(gcflip_heap_new_with(&heap, 1, 32, KIND, 0, wrong, 1), GCFLIP_OUT_OF_RANGE);
+    REPLIES(gcflip_heap_new_with(&heap, 1, 4, KIND, 32, wrong, 1), GCFLIP_OUT_OF_RANGE);
+    LOOKS(gcflip_heap_look(&heap, 1, 0, &view), GCFLIP_NUMBER, 0, 0, 4);
+    LOOKS(gcflip_heap_look(&heap, 1, 4, &view), GCFLIP_OBJECT, KIND, 0, 0);
+    /* while a collection is open each field that is written is logged */
+    REPLIES(gcflip_heap_step_begin(&heap), GCFLIP_BEGUN);
+    REPLIES(gcflip_heap_new_with(&heap, 1, 5, KIND, 0, fields, 3), GCFLIP_MADE); /* at 17 */
+    EXPECT(gcflip_heap_log_length(&heap, 1, &length) == GCFLIP_DONE && length == 2);
+    EXPECT(gcflip_heap_log_entry(&heap, 1, 0, &entry) == GCFLIP_DONE && entry.object == 17 && entry.field == 0);
+    EXPECT(gcflip_heap_log_entry(&heap, 1, 1, &entry) == GCFLIP_DONE && entry.object == 17 && entry.field == 2);
+    while (gcflip_heap_work(&heap, 1, &work) == GCFLIP_DONE && work.last != GCFLIP_FLIPPED)
+        ;
+    GETS(gcflip_heap_get(&heap, 1, 3, 5, 0, &number), GCFLIP_NUMBER, 5);
+    GETS(gcflip_heap_get(&heap, 1, 3, 5, 2, &number), GCFLIP_OBJECT, 77);
+    REPLIES(gcflip_heap_same(&heap, 1, 3, 2), GCFLIP_SAME);
+    close_heap();
+    EXPECT(gcflip_heap_new_with(&heap, 1, 4, KIND, 0, fields, 1) == GCFLIP_CLOSED);
+}
+
 /* Tests each step, with an object whose one field two mutators write after it was scanned. */
 static void steps(void)
 {
@@ -563,6 +691,8 @@ int main(void)
     closed();
     commands();
     raws();
+    copies();
+    mixed();
     steps();
     useful_steps();
     useful_step_names();

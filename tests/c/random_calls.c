@@ -249,6 +249,15 @@ static void new_from(void)
     printf("%s\n", reply(gcflip_heap_new_from(&heap, (uint8_t)a[0], (uint8_t)a[1], (uint8_t)a[2], fields, a[3])));
 }
 
+static void new_with(void)
+{
+    gcflip_field fields[MOST];
+    EXPECT(2 * a[4] + 5 < MOST);
+    for (size_t i = 0; i < a[4]; i++)
+        fields[i] = (gcflip_field){(uint32_t)a[5 + 2 * i], a[6 + 2 * i]};
+    printf("%s\n", reply(gcflip_heap_new_with(&heap, (uint8_t)a[0], (uint8_t)a[1], (uint8_t)a[2], (uint8_t)a[3], fields, a[4])));
+}
+
 static void raw_write(void)
 {
     EXPECT(a[4] < MOST - 5);
@@ -304,6 +313,8 @@ static uint32_t plain(const char *name)
     if (IS("put")) return gcflip_heap_put(&heap, m, d, (uint16_t)a[2], (uint8_t)a[3]);
     if (IS("put_number")) return gcflip_heap_put_number(&heap, m, d, (uint16_t)a[2], (uint8_t)a[3], a[4]);
     if (IS("put_nil")) return gcflip_heap_put_nil(&heap, m, d, (uint16_t)a[2], (uint8_t)a[3]);
+    if (IS("copy_fields"))
+        return gcflip_heap_copy_fields(&heap, m, d, (uint16_t)a[2], (uint8_t)a[3], (uint16_t)a[4], (uint8_t)a[5], (uint16_t)a[6]);
     if (IS("cons")) return gcflip_heap_new_pair(&heap, m, d, (uint8_t)a[2], (uint8_t)a[3], (uint8_t)a[4]);
     if (IS("same")) return gcflip_heap_same(&heap, m, d, (uint8_t)a[2]);
     if (IS("begin")) return gcflip_heap_step_begin(&heap);
@@ -333,6 +344,7 @@ static void perform(const char *name)
     else if (IS("image")) image(a[0], a[1]);
     else if (IS("new_words")) new_words(a[0]);
     else if (IS("new_from")) new_from();
+    else if (IS("new_with")) new_with();
     else if (IS("raw_write")) raw_write();
     else if (IS("raw_read")) raw_read();
     else if (IS("address")) address();

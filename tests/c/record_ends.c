@@ -105,6 +105,7 @@ static void make_commands(bool is_recorded)
 {
     static const uint64_t numbers[] = {1, 2, 3};
     static const uint8_t slots[] = {0, 1, 2};
+    static const gcflip_field fields[] = {{GCFLIP_FIELD_NIL, 0}, {GCFLIP_FIELD_NUMBER, 5}, {GCFLIP_FIELD_SLOT, 0}};
     uint64_t number = 0;
     gcflip_view view = {0, 0, 0};
     REPLIES(gcflip_heap_new_object(&heap, 0, 0, 1, 2), GCFLIP_MADE, is_recorded);
@@ -116,9 +117,11 @@ static void make_commands(bool is_recorded)
     REPLIES(gcflip_heap_put_nil(&heap, 0, 0, 1, 2), GCFLIP_DONE, is_recorded);
     REPLIES(gcflip_heap_put_number(&heap, 0, 0, 1, 2, 8), GCFLIP_DONE, is_recorded);
     REPLIES(gcflip_heap_raw_write(&heap, 0, 1, 0, 2, numbers, COUNT(numbers)), GCFLIP_DONE, is_recorded);
+    REPLIES(gcflip_heap_copy_fields(&heap, 0, 1, 1, 0, 0, 3, 2), GCFLIP_DONE, is_recorded);
     REPLIES(gcflip_heap_get(&heap, 0, 4, 0, 0, &number), GCFLIP_NUMBER, is_recorded);
     REPLIES(gcflip_heap_new_pair(&heap, 0, 5, 1, 0, 2), GCFLIP_MADE, is_recorded);
     REPLIES(gcflip_heap_new_from(&heap, 0, 6, 1, slots, COUNT(slots)), GCFLIP_MADE, is_recorded);
+    REPLIES(gcflip_heap_new_with(&heap, 0, 6, 1, 7, fields, COUNT(fields)), GCFLIP_MADE, is_recorded);
     REPLIES(gcflip_heap_same(&heap, 0, 2, 3), GCFLIP_NOT_SAME, is_recorded);
     REPLIES(gcflip_heap_look(&heap, 0, 0, &view), GCFLIP_OBJECT, is_recorded);
     EXPECT(number == 7 && view.count == 2);

@@ -87,11 +87,17 @@ static uint32_t new_from(void)
     static const uint8_t fields[40] = {0};
     return gcflip_heap_new_from(&heap, 0, 1, 1, fields, 40);
 }
+static uint32_t new_with(void)
+{
+    static const gcflip_field fields[40] = {{GCFLIP_FIELD_NUMBER, 5}, {GCFLIP_FIELD_SLOT, 0}};
+    return gcflip_heap_new_with(&heap, 0, 1, 1, 2, fields, 40);
+}
 static uint32_t raw_write(void)
 {
     static const uint64_t numbers[40] = {1, 2, 3};
     return gcflip_heap_raw_write(&heap, 0, 2, 0, 1, numbers, 40);
 }
+static uint32_t copy_fields(void) { return gcflip_heap_copy_fields(&heap, 0, 2, 0, 2, 20, 1, 20); }
 static uint32_t flip(void) { return gcflip_heap_step_flip(&heap, &pairs); }
 static uint32_t check(void)
 {
@@ -248,8 +254,12 @@ static void allocations(int tables, int flipping)
     EXPECT(failures(set_up_open, cons) == 1);
     EXPECT(failures(set_up, new_from) == 0);
     EXPECT(failures(set_up_open, new_from) == 1);
+    EXPECT(failures(set_up, new_with) == 0);
+    EXPECT(failures(set_up_open, new_with) == 1);
     EXPECT(failures(set_up_raw, raw_write) == 0);
     EXPECT(failures(set_up_raw_open, raw_write) == 1);
+    EXPECT(failures(set_up_raw, copy_fields) == 0);
+    EXPECT(failures(set_up_raw_open, copy_fields) == 1);
     EXPECT(failures(set_up_ready, check) == 5);
     EXPECT(failures(set_up_ready, flip) == flipping);
     EXPECT(failures(set_up, work_1) == 2);

@@ -9,7 +9,7 @@ EDGES = [0, 1, 2, 1 << 31, (1 << 32) - 1, 1 << 62, (1 << 63) - 1]
 SIZES = [1, 2, 3, 8, 20, 40, 80, 120, 200, 400]
 OUT_OF_RANGE, CLOSED, OPEN = "out of range", "closed", "open"
 # Each call with how often it is made. `session` closes the heap and opens another.
-WEIGHTS = {"new": 8, "raw": 4, "num": 5, "nil": 2, "move": 6, "get": 9, "put": 10, "put_number": 5, "put_nil": 3, "raw_write": 4, "raw_read": 3, "address": 2, "cons": 4, "new_from": 4, "same": 4, "look": 5,
+WEIGHTS = {"new": 8, "raw": 4, "num": 5, "nil": 2, "move": 6, "get": 9, "put": 10, "put_number": 5, "put_nil": 3, "raw_write": 4, "raw_read": 3, "copy_fields": 5, "address": 2, "cons": 4, "new_from": 4, "new_with": 4, "same": 4, "look": 5,
            "begin": 2, "begin_sized": 1, "roots": 7, "scan": 14, "apply": 5, "flip": 4, "drop": 0.4, "work": 4, "useful": 4, "counts": 3, "log": 2,
            "image": 2, "new_words": 2, "wrong": 4, "session": 0.7}
 # Calls that not every driver has: paced work, and extra roots, for which a trace has no lines.
@@ -209,6 +209,34 @@ class Calls:
                 made += [self.add_command("num", m, t, n), self.add_command("put", m, s, first + k, t)]
         self.call(["raw_write", m, s, first, t, len(numbers), *numbers], reply, [line for line, _ in made], [reply for _, reply in made])
 
+    def copy_reply(self, m, d, to, s, first, count):
+        """Returns the reply to a call that copies fields of one slot's object to that of another."""
+        space, target, source = self.model.space, self.model.target(m, d), self.model.target(m, s)
+        if not target or not source:
+            return "no object"
+        if to + count > space.length(target) or first + count > space.length(source):
+            return "no field"
+        are_numbers = space.is_raw(source) or all(word % 2 for word in space.fields(source)[first:first + count])
+        return "done" if are_numbers or not space.is_raw(target) else "no number"
+
+    def add_copy_fields(self):
+        m = self.mutator()
+        d, s = self.filled_slot(m), self.filled_slot(m)
+        if self.chance.random() < 0.3:
+            d = self.raw_slot(m)
+        to, first = [self.chance.choice([0, 0, self.field(m, slot)]) for slot in (d, s)]
+        at = [self.model.target(m, slot) for slot in (d, s)]
+        room = max(0, min(self.model.space.length(at[0]) - to, self.model.space.length(at[1]) - first)) if all(at) else 3
+        count = min(300, self.chance.choice([0, 1, room, room, room + 1, self.chance.randrange(room + 1)]))
+        t = self.chance.choice([slot for slot in range(32) if slot not in (d, s)])
+        reply, made = self.copy_reply(m, d, to, s, first, count), []
+        if reply == "done":
+            for k in range(count):
+                made += [self.add_command("get", m, t, s, first + k), self.add_command("put", m, d, to + k, t)]
+            # All are copied: each command does what it is asked.
+            assert all(answer == "done" or answer.startswith("saw ") for _, answer in made)
+        self.call(["copy_fields", m, d, to, s, first, t, count], reply, [line for line, _ in made], [answer for _, answer in made])
+
     def from_slots(self, m, d, kind, fields):
         """Makes an object with fields from slots, and returns its lines with their replies."""
         made = [self.add_command("new", m, d, kind, len(fields))]
@@ -226,6 +254,21 @@ class Calls:
         fields = [self.slot() for _ in range(self.chance.choice([0, 1, 2, 3, 7, 30, 260]))]
         made = self.from_slots(m, d, kind, fields)
         self.call(["new_from", m, d, kind, len(fields), *fields], made[0][1], [line for line, _ in made], [reply for _, reply in made])
+
+    def add_new_with(self):
+        m, d, kind = self.mutator(), self.slot(), self.chance.randrange(256)
+        t = self.chance.choice([slot for slot in range(32) if slot != d])
+        fields = [self.chance.choice([(0, self.chance.choice([0, 1 << 63])), (1, self.number()), (2, self.chance.choice([self.slot(), d, t]))])
+                  for _ in range(self.chance.choice([0, 1, 2, 3, 7, 30, 130]))]
+        made = [self.add_command("new", m, d, kind, len(fields))]
+        for i, (holds, value) in enumerate(fields if made[0][1] == "made" else []):
+            if holds == 1:
+                made.append(self.add_command("num", m, t, value))
+            if holds > 0:
+                made.append(self.add_command("put", m, d, i, t if holds == 1 else value))
+        assert all(answer == "done" for _, answer in made[1:])
+        numbers = [number for field in fields for number in field]
+        self.call(["new_with", m, d, kind, t, len(fields), *numbers], made[0][1], [line for line, _ in made], [answer for _, answer in made])
 
     def add_begin(self):
         reply = self.model.begin()
@@ -357,9 +400,13 @@ class Calls:
             ["put_number", beyond, 0, 0, 0, 1], ["put_number", m, 0, 0, 0, 1 << 63],
             ["put_nil", m, slot, 0, 0], ["put_nil", m, 0, 0, slot], ["put_nil", beyond, 0, 0, 0],
             ["raw_read", beyond, 0, 0, 1], ["raw_read", m, slot, 0, 1], ["address", beyond, 0], ["address", m, slot],
-            ["raw_write", beyond, 0, 0, 1, 1, 5], ["raw_write", m, slot, 0, 1, 1, 5], ["raw_write", m, 0, 0, slot, 1, 5], ["raw_write", m, 3, 0, 3, 0], ["cons", m, slot, 0, 0, 0], ["cons", m, 0, 0, slot, 0],
+            ["raw_write", beyond, 0, 0, 1, 1, 5], ["raw_write", m, slot, 0, 1, 1, 5], ["raw_write", m, 0, 0, slot, 1, 5], ["raw_write", m, 3, 0, 3, 0],
+            ["copy_fields", beyond, 0, 0, 1, 0, 2, 0], ["copy_fields", m, slot, 0, 1, 0, 2, 1], ["copy_fields", m, 0, 0, slot, 0, 2, 1],
+            ["copy_fields", m, 0, 0, 1, 0, slot, 0], ["copy_fields", m, 3, 0, 1, 0, 3, 0], ["copy_fields", m, 0, 0, 3, 0, 3, 0], ["cons", m, slot, 0, 0, 0], ["cons", m, 0, 0, slot, 0],
             ["cons", m, 0, 0, 0, slot], ["cons", beyond, 0, 0, 0, 0], ["new_from", m, 0, 0, 2, 0, slot], ["new_from", beyond, 0, 0, 1, 0],
-            ["new_from", m, slot, 0, 0], ["same", m, slot, 0], ["same", m, 0, slot], ["same", beyond, 0, 0], ["look", m, slot], ["look", beyond, 0],
+            ["new_from", m, slot, 0, 0],
+            ["new_with", beyond, 0, 0, 1, 0], ["new_with", m, slot, 0, 1, 0], ["new_with", m, 0, 0, slot, 0], ["new_with", m, 3, 0, 3, 0],
+            ["new_with", m, 0, 0, 1, 1, 1, 1 << 63], ["new_with", m, 0, 0, 1, 2, 0, 0, 2, slot], ["new_with", m, 0, 0, 1, 1, self.chance.choice([3, 255, 1 << 31]), 0], ["same", m, slot, 0], ["same", m, 0, slot], ["same", beyond, 0, 0], ["look", m, slot], ["look", beyond, 0],
             ["begin_sized", 0], ["apply", beyond], ["log", beyond], ["work", 0],
             *self.more_that_are_wrong(beyond, slot)]), OUT_OF_RANGE)
 

@@ -2,15 +2,15 @@
 import sys
 
 import gcflip
-from gcflip.heap import Mutator, Pace, Step
+from gcflip.heap import Held, Mutator, Pace, Step
 
 REPLIES = {gcflip.Full: "full", gcflip.NoObject: "no object", gcflip.NoField: "no field", gcflip.NoNumber: "no number", gcflip.Busy: "busy",
            gcflip.Idle: "idle", gcflip.NotReady: "not ready", gcflip.OutOfRange: "out of range", gcflip.Closed: "closed",
            gcflip.OutOfMemory: "no memory"}
 # What the binding calls some of the calls.
 NAMES = {"root_load": "load", "root_store": "store"}
-DONE = {"root_load": "done", "root_store": "done", "new": "made", "raw": "made", "cons": "made", "num": "done", "nil": "done", "move": "done", "put": "done", "put_number": "done",
-        "put_nil": "done"}
+DONE = {"new": "made", "raw": "made", "cons": "made", "num": "done", "nil": "done", "move": "done", "put": "done", "put_number": "done",
+        "put_nil": "done", "copy_fields": "done", "root_load": "done", "root_store": "done"}
 
 
 def seen(value):
@@ -36,6 +36,10 @@ def of_mutator(heap, name, numbers):
         return "yes" if mutator.same(*numbers[1:]) else "no"
     if name == "new_from":
         mutator.new_from(*numbers[1:3], numbers[4:])
+        return "made"
+    if name == "new_with":
+        fields = [(None, value, Held(value))[holds] if holds < 3 else 1 << 63 for holds, value in zip(numbers[5::2], numbers[6::2])]
+        mutator.new_with(*numbers[1:4], fields)
         return "made"
     if name == "raw_read":
         return " ".join(["read", *map(str, mutator.raw_read(*numbers[1:]))])

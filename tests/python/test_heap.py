@@ -12,7 +12,7 @@ import unittest
 import weakref
 
 import gcflip
-from gcflip import Heap, LogEntry, Object, Step, own, shared
+from gcflip import Heap, Held, LogEntry, Object, Step, own, shared
 from limits import at_most
 
 
@@ -318,6 +318,55 @@ class Readings(unittest.TestCase):
             heap.begin()
             mutator.raw_write(own(3), 2, own(0), [20, 21])
             self.assertEqual([heap.log_entry(1, k) for k in range(heap.log_length(1))], [LogEntry(1, 2), LogEntry(1, 3)])
+
+    def test_numbers_and_slots_are_mixed(self):
+        with Heap(64, 2) as heap:
+            mutator = heap.mutator(1)
+            mutator.new(own(1), 9, 0)
+            mutator.new_with(own(3), 8, own(0), iter([5, None, Held(own(3)), Held(own(0)), (1 << 63) - 1, Held(own(1))]))
+            self.assertEqual(mutator.look(own(3)), Object(8, 6, False))
+            self.assertEqual([mutator.get(own(4), own(3), field) for field in range(6)],
+                             [5, None, Object(8, 6, False), 5, (1 << 63) - 1, Object(9, 0, False)])
+            self.assertEqual(mutator.look(own(0)), (1 << 63) - 1)
+            mutator.new_with(own(4), 8, own(0), [])
+            wrong = [(gcflip.OutOfRange, (own(3), 8, own(3), [])), (gcflip.OutOfRange, (own(3), 8, own(0), [1 << 63])), (gcflip.OutOfRange, (32, 8, own(0), [])),
+                     (gcflip.OutOfRange, (own(3), 8, own(0), [1 << 64])), (gcflip.OutOfRange, (own(3), 8, own(0), [-1])), (gcflip.OutOfRange, (own(3), 256, own(0), [])),
+                     (gcflip.OutOfRange, (own(3), 8, own(0), [Held(32)])), (gcflip.OutOfRange, (own(3), 8, own(0), [Held(256)])), (gcflip.OutOfRange, (own(3), 8, 32, [])),
+                     (gcflip.OutOfRange, (own(3), 8, own(0), [None] * 65536)), (gcflip.Full, (own(3), 8, own(0), [None] * 65535)), (TypeError, (own(3), 8, own(0), ["5"]))]
+            for error, arguments in wrong:
+                with self.subTest(str(arguments)[:60]), self.assertRaises(error):
+                    mutator.new_with(*arguments)
+            self.assertEqual((mutator.look(own(0)), mutator.look(own(3))), ((1 << 63) - 1, Object(8, 6, False)))
+            heap.begin()
+            mutator.new_with(own(5), 8, own(0), [5, None, Held(own(3))])
+            self.assertEqual([heap.log_entry(1, k).field for k in range(heap.log_length(1))], [0, 2])
+
+    def test_fields_are_copied_at_once(self):
+        with Heap(64, 2) as heap:
+            mutator = heap.mutator(1)
+            mutator.new(own(3), 9, 3)
+            mutator.raw(own(4), 9, 4)
+            mutator.raw_write(own(4), 0, own(0), [10, 11, 12, 13])
+            mutator.copy_fields(own(3), 1, own(4), 2, own(0), 2)
+            self.assertEqual([mutator.get(own(5), own(3), field) for field in range(3)], [None, 12, 13])
+            self.assertEqual(mutator.look(own(0)), 13)
+            mutator.copy_fields(own(4), 1, own(4), 0, own(0), 3)
+            self.assertEqual(list(mutator.raw_read(own(4), 0, 4)), [10, 10, 10, 10])
+            mutator.copy_fields(own(4), 4, own(3), 3, own(0), 0)
+            wrong = [(gcflip.NoField, (own(3), 2, own(4), 0, own(0), 2)), (gcflip.NoField, (own(4), 0, own(3), 2, own(0), 2)),
+                     (gcflip.NoField, (own(3), 4, own(4), 0, own(0), 0)), (gcflip.NoNumber, (own(4), 0, own(3), 0, own(0), 1)),
+                     (gcflip.NoObject, (own(6), 0, own(4), 0, own(0), 0)), (gcflip.NoObject, (own(3), 0, own(6), 0, own(0), 0)),
+                     (gcflip.OutOfRange, (own(3), 0, own(4), 0, own(3), 0)), (gcflip.OutOfRange, (own(3), 0, own(4), 0, own(4), 0)),
+                     (gcflip.OutOfRange, (32, 0, own(4), 0, own(0), 0)), (gcflip.OutOfRange, (own(3), 65536, own(4), 0, own(0), 0)),
+                     (gcflip.OutOfRange, (own(3), 0, 32, 0, own(0), 0)), (gcflip.OutOfRange, (own(3), 0, own(4), -1, own(0), 0)),
+                     (gcflip.OutOfRange, (own(3), 0, own(4), 0, 32, 0)), (gcflip.OutOfRange, (own(3), 0, own(4), 0, own(0), 65536))]
+            for error, arguments in wrong:
+                with self.subTest(arguments), self.assertRaises(error):
+                    mutator.copy_fields(*arguments)
+            self.assertEqual(mutator.look(own(0)), 10)
+            heap.begin()
+            mutator.copy_fields(own(3), 0, own(3), 1, own(0), 2)
+            self.assertEqual([heap.log_entry(1, k) for k in range(heap.log_length(1))], [LogEntry(1, 0), LogEntry(1, 1)])
 
     def test_addresses(self):
         with Heap(32) as heap:

@@ -9,7 +9,7 @@ import operator
 import os
 import threading
 import weakref
-from typing import Any, Callable, NamedTuple, NoReturn, Sequence, TypeVar, Union
+from typing import Any, Callable, Iterable, NamedTuple, NoReturn, Sequence, TypeVar, Union
 
 from . import library
 from .checker import Block, Image, Row, _pairs_of
@@ -62,6 +62,16 @@ class Object(NamedTuple):
 
 Value = Union[None, int, Object]
 """A value as mutators see it: None for nil, a number, or an object."""
+
+
+class Held(NamedTuple):
+    """The value of a slot, for a field of a new object: `Mutator.new_with`."""
+
+    slot: int
+
+
+FieldSource = Union[None, int, Held]
+"""What a field of a new object takes: None for nil, a number, or the value of a slot."""
 
 
 class Step(enum.Enum):
@@ -415,6 +425,13 @@ class Heap:
         numbers = (ctypes.c_uint8 * max(1, len(slots)))(*slots)
         self._turn.take(lambda: self._made("new_from", mutator, slot, kind, numbers, len(slots)))
 
+    def _new_with(self, mutator: int, slot: int, kind: int, through: int, fields: Iterable[FieldSource]) -> None:
+        """Makes an object whose fields take numbers and the values of slots."""
+        mutator, slot, kind, through = in_range((mutator, slot, kind, through), (MUTATOR, SLOT, ctypes.c_uint8, SLOT))
+        records = [_record(field) for field in fields]
+        row = (library.Field * max(1, len(records)))(*records)
+        self._turn.take(lambda: self._made("new_with", mutator, slot, kind, through, row, len(records)))
+
     def _raw_read(self, mutator: int, slot: int, first: int, count: int) -> array.array[int]:
         """Copies numbers of a raw object."""
         mutator, slot, first, count = in_range((mutator, slot, first, count), (MUTATOR, SLOT, ctypes.c_uint16, ctypes.c_uint16))
@@ -439,6 +456,14 @@ class Heap:
             return _seen(self._made("look", *numbers[:2], view) if answer == Answer.OBJECT else answer, view)
 
         return self._turn.take(found)
+
+
+def _record(field: FieldSource) -> library.Field:
+    if field is None:
+        return library.Field(0, 0)
+    if isinstance(field, Held):
+        return library.Field(2, *in_range((field.slot,), (SLOT,)))
+    return library.Field(1, *in_range((field,), (ctypes.c_uint64,)))
 
 
 def _zeros(count: int) -> array.array[int]:
@@ -521,6 +546,15 @@ class Mutator:
         `source` has nil; if it raises OutOfMemory, nothing changed."""
         self._call("put_nil", slot, field, source)
 
+    def copy_fields(self, slot: int, field: int, source: int, first: int, through: int, count: int) -> None:
+        """Copies `count` fields of the object that slot `source` refers to, field `first` and the fields after it, to field `field` and the fields
+        after it of the object that the slot refers to. For each field this is a `get` into slot `through` and a `put` of it, in rising order and
+        in one call, so `through` keeps the last value; within one object, a field that was written is read as it was written. All fields are
+        copied or none. Raises NoObject if one of the two slots refers to no object, NoField if one of the objects has fewer fields, NoNumber if
+        the slot's object is raw and one of the values is no number, OutOfRange if `through` is one of the two, and OutOfMemory while a
+        collection is open."""
+        self._call("copy_fields", slot, field, source, first, through, count)
+
     def cons(self, slot: int, kind: int, first: int, second: int) -> None:
         """Makes an object with two fields, which take the values of two slots, and puts a reference to it into the slot: a `new` and two
         `put`. If `first` or `second` is the slot itself, that field refers to the new object. Raises Full, and OutOfMemory while a
@@ -530,6 +564,13 @@ class Mutator:
     def new_from(self, slot: int, kind: int, sources: Sequence[int]) -> None:
         """Makes an object with a field for each of these slots, at most 65535, as `cons` does for two. Each field takes its slot's value."""
         self.heap._new_from(self.number, slot, kind, sources)
+
+    def new_with(self, slot: int, kind: int, through: int, fields: Iterable[FieldSource]) -> None:
+        """Makes an object with a field for each of `fields`, at most 65535, and puts a reference to it into the slot. A field takes nil, a number
+        below 2^63, or what a slot holds, as `Held(slot)`. It is a `new`, a `put_number` through slot `through` for each number and a `put` for each
+        slot, in one call. So `through` keeps the last number, and a field that takes the slot itself refers to the new object. Raises Full,
+        OutOfRange if the two slots are one, and OutOfMemory while a collection is open; then nothing changed."""
+        self.heap._new_with(self.number, slot, kind, through, fields)
 
     def same(self, first: int, second: int) -> bool:
         """Returns whether both slots hold nil, equal numbers, or references to one object."""

@@ -111,6 +111,12 @@ class LogEntry(ctypes.Structure):
     _fields_ = [("object", c_uint32), ("field", c_uint32)]
 
 
+class Field(ctypes.Structure):
+    """What a field of a new object takes: `holds` is 0 for nil, 1 for a number, and 2 for the value of a slot."""
+
+    _fields_ = [("holds", c_uint32), ("value", c_uint64)]
+
+
 class RawPace(ctypes.Structure):
     _fields_ = [(name, c_uint32) for name in ("factor", "rate", "least", "left", "end", "logged")]
 
@@ -151,8 +157,10 @@ HEAP: Dict[str, List[Any]] = {
     "put": [MUTATOR, SLOT, c_uint16, SLOT],
     "put_number": [MUTATOR, SLOT, c_uint16, SLOT, c_uint64],
     "put_nil": [MUTATOR, SLOT, c_uint16, SLOT],
+    "copy_fields": [MUTATOR, SLOT, c_uint16, SLOT, c_uint16, SLOT, c_uint16],
     "new_pair": [MUTATOR, SLOT, c_uint8, SLOT, SLOT],
     "new_from": [MUTATOR, SLOT, c_uint8, c_void_p, c_size_t],
+    "new_with": [MUTATOR, SLOT, c_uint8, SLOT, c_void_p, c_size_t],
     "same": [MUTATOR, SLOT, SLOT],
     "look": [MUTATOR, SLOT, POINTER(View)],
     "root_load": [MUTATOR, SLOT, c_uint32],

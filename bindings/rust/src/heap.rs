@@ -1,7 +1,7 @@
 //! The collected heap: objects of words for 1 to 16 mutators, with an incremental, replicating collector.
 
 use crate::checker::{verdict_of, Image, Refusal, Yes};
-use crate::sys::{self, FlipChecks, Frame, Handle, LogEntry, Pace, RawOptions, RawWork};
+use crate::sys::{self, Field, FlipChecks, Frame, Handle, LogEntry, Pace, RawOptions, RawWork};
 use std::fmt;
 use std::ops::Range;
 
@@ -71,7 +71,7 @@ impl std::error::Error for Error {}
 /// ```
 #[repr(transparent)]
 #[derive(Clone, Copy, Debug, PartialEq, Eq, Hash)]
-pub struct Slot(u8);
+pub struct Slot(pub(crate) u8);
 
 impl Slot {
     /// Returns the mutator's own slot with this number, 0 to 15.
@@ -765,6 +765,19 @@ impl Mutator<'_> {
         replied(self.heap.handle.put_nil(self.number, slot.0, field, source.0)).map(drop)
     }
 
+    /// Copies `count` fields: from field `from` on, of the object that slot `source` refers to, to field `to` and on of the object that the
+    /// slot refers to. For each of them this is a [`Mutator::get`] into slot `through` and a [`Mutator::put`] of it, in rising order and in one
+    /// call, so `through` keeps the last value; within one object, a field that was written is read as it was written. All are copied or none.
+    ///
+    /// # Errors
+    ///
+    /// Returns `NoObject` if one of the two slots refers to no object, `NoField` if one of the objects has fewer fields, `NoNumber` if the slot's
+    /// object is raw and one of the values is no number, `OutOfRange` if `through` is one of the two slots, and `NoMemory` only while a
+    /// collection is open. Then nothing has changed.
+    pub fn copy_fields(&self, slot: Slot, to: u16, source: Slot, from: u16, through: Slot, count: u16) -> Result<()> {
+        replied(self.heap.handle.copy_fields(self.number, slot.0, to, source.0, from, through.0, count)).map(drop)
+    }
+
     /// Makes an object with two fields, which take the values of two slots, and puts a reference to it into the slot: a [`Mutator::make`] and two
     /// [`Mutator::put`]. If `first` or `second` is the slot itself, that field refers to the new object.
     ///
@@ -782,6 +795,18 @@ impl Mutator<'_> {
     /// Returns `OutOfRange` if there are more than 65535, `Full`, or, while a collection is open, `NoMemory`. Then nothing changed.
     pub fn make_from(&self, slot: Slot, kind: u8, fields: &[Slot]) -> Result<()> {
         replied(self.heap.handle.new_from(self.number, slot.0, kind, fields)).map(drop)
+    }
+
+    /// Makes an object with a field for each of these, and puts a reference to it into the slot: a [`Mutator::make`], and then, in order, a
+    /// [`Mutator::put_number`] through slot `through` for each number, and a [`Mutator::put`] for each slot. So `through` keeps the last number. A
+    /// field that takes the slot itself refers to the new object.
+    ///
+    /// # Errors
+    ///
+    /// Returns `OutOfRange` if the slot and `through` are one, a number is 2^63 or more, or there are more than 65535 fields, `Full`, or, while a
+    /// collection is open, `NoMemory`. Then nothing changed.
+    pub fn make_with(&self, slot: Slot, kind: u8, through: Slot, fields: &[Field]) -> Result<()> {
+        replied(self.heap.handle.new_with(self.number, slot.0, kind, through.0, fields)).map(drop)
     }
 
     /// Returns whether both slots hold nil, equal numbers, or references to one object.

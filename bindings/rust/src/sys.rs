@@ -127,6 +127,29 @@ impl RawOptions {
     }
 }
 
+/// What a field of a new object takes: [`Mutator::make_with`](crate::Mutator::make_with) has one for each.
+#[repr(C)]
+#[derive(Clone, Copy, Debug, PartialEq, Eq, Hash)]
+pub struct Field {
+    holds: u32,
+    value: u64,
+}
+
+impl Field {
+    /// Nothing: the field stays nil.
+    pub const NIL: Field = Field { holds: GCFLIP_FIELD_NIL, value: 0 };
+
+    /// A number, which must be below 2^63.
+    pub const fn number(number: u64) -> Field {
+        Field { holds: GCFLIP_FIELD_NUMBER, value: number }
+    }
+
+    /// The value of a slot.
+    pub const fn slot(slot: Slot) -> Field {
+        Field { holds: GCFLIP_FIELD_SLOT, value: slot.0 as u64 }
+    }
+}
+
 /// How many flips each checker has accepted since the heap was opened.
 #[repr(C)]
 #[derive(Clone, Copy, Debug, Default, PartialEq, Eq, Hash)]
@@ -168,6 +191,9 @@ macro_rules! numbers {
 }
 
 numbers! {
+    GCFLIP_FIELD_NIL = 0,
+    GCFLIP_FIELD_NUMBER = 1,
+    GCFLIP_FIELD_SLOT = 2,
     GCFLIP_OLD_SHAPE = 1,
     GCFLIP_NEW_SHAPE = 2,
     GCFLIP_ROOT_COUNT = 3,
@@ -259,8 +285,10 @@ calls! {
     gcflip_heap_put(*mut RawHeap, u8, u8, u16, u8);
     gcflip_heap_put_number(*mut RawHeap, u8, u8, u16, u8, u64);
     gcflip_heap_put_nil(*mut RawHeap, u8, u8, u16, u8);
+    gcflip_heap_copy_fields(*mut RawHeap, u8, u8, u16, u8, u16, u8, u16);
     gcflip_heap_new_pair(*mut RawHeap, u8, u8, u8, u8, u8);
     gcflip_heap_new_from(*mut RawHeap, u8, u8, u8, *const u8, usize);
+    gcflip_heap_new_with(*mut RawHeap, u8, u8, u8, u8, *const Field, usize);
     gcflip_heap_same(*const RawHeap, u8, u8, u8);
     gcflip_heap_look(*const RawHeap, u8, u8, *mut RawView);
     gcflip_heap_root_load(*mut RawHeap, u8, u8, u32);
@@ -422,6 +450,7 @@ answers! {
     put: gcflip_heap_put(m: u8, s: u8, i: u16, t: u8);
     put_number: gcflip_heap_put_number(m: u8, s: u8, i: u16, t: u8, n: u64);
     put_nil: gcflip_heap_put_nil(m: u8, s: u8, i: u16, t: u8);
+    copy_fields: gcflip_heap_copy_fields(m: u8, d: u8, to: u16, s: u8, from: u16, t: u8, count: u16);
     cons: gcflip_heap_new_pair(m: u8, d: u8, kind: u8, s: u8, t: u8);
     same: gcflip_heap_same(m: u8, s: u8, t: u8);
     load: gcflip_heap_root_load(m: u8, d: u8, k: u32);
@@ -464,6 +493,11 @@ impl Handle {
     pub fn new_from(&self, m: u8, d: u8, kind: u8, fields: &[Slot]) -> u32 {
         // SAFETY: as in `image`, with a shared slice. A `Slot` is represented as its number.
         unsafe { gcflip_heap_new_from(self.heap.get(), m, d, kind, fields.as_ptr().cast(), fields.len()) }
+    }
+
+    pub fn new_with(&self, m: u8, d: u8, kind: u8, t: u8, fields: &[Field]) -> u32 {
+        // SAFETY: as in `image`, with a shared slice.
+        unsafe { gcflip_heap_new_with(self.heap.get(), m, d, kind, t, fields.as_ptr(), fields.len()) }
     }
 
     pub fn new_words(&self, words: &mut [u64]) -> u32 {

@@ -1,6 +1,6 @@
 //! Tests each call on a heap, and each error but `FlipRefused`, which is proved never to occur, and `NoMemory` (out_of_memory.rs).
 
-use gcflip::{check, Checking, Error, Finding, FlipChecks, Frame, Heap, LogEntry, Options, Pace, Pair, Slot, Step, Useful, Value, Yes};
+use gcflip::{check, Checking, Error, Field, Finding, FlipChecks, Frame, Heap, LogEntry, Options, Pace, Pair, Slot, Step, Useful, Value, Yes};
 
 const A: Slot = Slot::own(0);
 const B: Slot = Slot::own(1);
@@ -103,6 +103,51 @@ fn numbers_are_written_at_once() {
     assert_eq!(mutator.raw_read(A, 0, &mut numbers), Ok(()));
     assert_eq!(numbers, [0, 6, (1 << 63) - 1]);
     assert_eq!(mutator.look(B), Value::Number((1 << 63) - 1));
+}
+
+#[test]
+fn numbers_and_slots_are_mixed() {
+    let heap = prepared();
+    let mutator = heap.mutator(0).unwrap();
+    let fields = [Field::number(5), Field::NIL, Field::slot(A), Field::slot(B), Field::number((1 << 63) - 1), Field::slot(SHARED)];
+    assert_eq!(mutator.make_with(A, 9, B, &fields), Ok(()));
+    let values = [Value::Number(5), Value::Nil, Value::Object { kind: 9, fields: 6 }, Value::Number(5), Value::Number((1 << 63) - 1), TWO_FIELDS];
+    for (field, value) in values.into_iter().enumerate() {
+        assert_eq!(mutator.get(Slot::own(2), A, field as u16), Ok(value));
+    }
+    assert_eq!(mutator.look(B), Value::Number((1 << 63) - 1));
+    assert_eq!(mutator.make_with(A, 9, A, &[]), Err(Error::OutOfRange));
+    assert_eq!(mutator.make_with(A, 9, B, &[Field::number(1 << 63)]), Err(Error::OutOfRange));
+    assert_eq!(mutator.make_with(A, 9, B, &[Field::NIL; 65536]), Err(Error::OutOfRange));
+    assert_eq!(mutator.make_with(A, 9, B, &[Field::number(1); 65535]), Err(Error::Full));
+    assert_eq!(mutator.look(A), Value::Object { kind: 9, fields: 6 });
+    assert_eq!(mutator.look(B), Value::Number((1 << 63) - 1));
+}
+
+#[test]
+fn fields_are_copied_at_once() {
+    let heap = prepared();
+    let mutator = heap.mutator(0).unwrap();
+    mutator.make_raw(A, 255, 3).unwrap();
+    assert_eq!(mutator.raw_write(A, 0, B, &[6, 7, 8]), Ok(()));
+    assert_eq!(mutator.copy_fields(SHARED, 0, A, 1, B, 2), Ok(()));
+    assert_eq!(mutator.look(B), Value::Number(8));
+    assert_eq!(mutator.get(B, SHARED, 0), Ok(Value::Number(7)));
+    assert_eq!(mutator.copy_fields(A, 1, A, 0, B, 2), Ok(()));
+    mutator.put_nil(SHARED, 1, B).unwrap();
+    mutator.num(B, 9).unwrap();
+    assert_eq!(mutator.copy_fields(A, 0, SHARED, 0, B, 2), Err(Error::NoNumber));
+    assert_eq!(mutator.copy_fields(A, 2, SHARED, 0, B, 2), Err(Error::NoField));
+    assert_eq!(mutator.copy_fields(SHARED, 0, A, 2, B, 2), Err(Error::NoField));
+    assert_eq!(mutator.copy_fields(SHARED, 0, Slot::own(2), 0, B, 0), Err(Error::NoObject));
+    assert_eq!(mutator.copy_fields(Slot::own(2), 0, A, 0, B, 0), Err(Error::NoObject));
+    assert_eq!(mutator.copy_fields(A, 0, SHARED, 0, A, 0), Err(Error::OutOfRange));
+    assert_eq!(mutator.copy_fields(A, 0, SHARED, 0, SHARED, 0), Err(Error::OutOfRange));
+    assert_eq!(mutator.copy_fields(A, 3, SHARED, 2, B, 0), Ok(()));
+    let mut numbers = [0; 3];
+    assert_eq!(mutator.raw_read(A, 0, &mut numbers), Ok(()));
+    assert_eq!(numbers, [6, 6, 6]);
+    assert_eq!(mutator.look(B), Value::Number(9));
 }
 
 #[test]

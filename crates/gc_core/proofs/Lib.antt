@@ -1,4 +1,6 @@
 pub mod Beside
+mod Copies
+mod CopiesDone
 mod FirstLog
 mod KeptPair
 pub mod LegalRuns
@@ -7,3 +9,4 @@ mod NewFrom
 mod NumbersPut
 mod OtherCommands
 pub mod Public
+mod SourcesPut

@@ -15,13 +15,13 @@ use Rattle.gc_plan.specs.Steps.{mutate}
 use Rattle.gc_copy.specs.Words.{idle_state, HasNoLinks}
 use Rattle.gc_copy.proofs.Public.{idle_left}
 use Rattle.gc_core.specs.Internal.KnownRoots.{KnowsRoots}
-use Rattle.gc_core.specs.Writing.{is_number_word, numbers_step, numbers_reply, numbers_after, put_numbers_step}
+use Rattle.gc_core.specs.Writing.{is_number_word, numbers_step, numbers_reply, after_reply, put_numbers_step}
 use Rattle.gc_core.specs.declared.known.KnownRoots.{KnownRoots}
 use Rattle.gc_core.proofs.Marks.{number_knows}
 
 -- ---- what is known of the roots
 
-forgotten : (known : KnownRoots) (s : State) → KnowsRoots known s → KnowsRoots (record { slots = 0; extra = known.extra; used = known.used }) s
+pub forgotten : (known : KnownRoots) (s : State) → KnowsRoots known s → KnowsRoots (record { slots = 0; extra = known.extra; used = known.used }) s
 forgotten known s k = record {
   slots_high = omega arith;
   extra_high = k.extra_high;
@@ -60,4 +60,4 @@ reply_is first count words (Some fields) same fits numbers =
 pub numbers_done : (old new : State) (m first count : ℕ) (s t : SlotName) (words : List ℕ) → Some count ≡ option_map length (raw_numbers old.heap.graph s m) → first + length words ≤ count → list_all is_number_word words ≡ true
     → numbers_step old m s t first words ≡ new → put_numbers_step old m s first t words ≡ (Done, new)
 numbers_done old new m first count s t words same fits numbers steps =
-    ap (λ reply. (reply, numbers_after reply old (numbers_step old m s t first words))) (reply_is first count words (raw_numbers old.heap.graph s m) same fits numbers) ∙ ap (λ (x : State). (Done, x)) steps
+    ap (λ reply. (reply, after_reply reply old (numbers_step old m s t first words))) (reply_is first count words (raw_numbers old.heap.graph s m) same fits numbers) ∙ ap (λ (x : State). (Done, x)) steps

@@ -1,8 +1,10 @@
 pub mod Checking
 pub mod CollectedHeap
+pub mod Copying
 pub mod ExtraRoots
 pub mod Flip
 pub mod Internal
+pub mod Mixed
 pub mod Readings
 pub mod Replies
 pub mod Writing

@@ -23,13 +23,13 @@ numbers_reply first words None = NoObject
 numbers_reply first words (Some fields) =
     if nat_le (first + length words) (length fields) then (if list_all is_number_word words then Done else NoNumber) else NoField
 
--- the state afterwards: only `Done` changes it
-abbrev pub numbers_after : Reply → State → State → State
-numbers_after Done old new = new
-numbers_after reply old new = old
+-- the state after a call that writes all or nothing: only the reply `Done` changes it
+abbrev pub after_reply : Reply → State → State → State
+after_reply Done old new = new
+after_reply reply old new = old
 
 -- numbers for the fields, from `first` on, of the raw object in slot s
 abbrev pub put_numbers_step : State → ℕ → SlotName → ℕ → SlotName → List ℕ → Reply × State
 put_numbers_step old m s first t words =
     let reply = numbers_reply first words (raw_numbers old.heap.graph s m) in
-    (reply, numbers_after reply old (numbers_step old m s t first words))
+    (reply, after_reply reply old (numbers_step old m s t first words))

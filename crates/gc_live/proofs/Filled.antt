@@ -24,20 +24,20 @@ use Rattle.gc_beside.specs.Internal.Live.{IsLive, heap_words}
 use Rattle.gc_beside.proofs.Public.{EndsMore, grown, Leads, same_itself, leads_on, leads_one, lives_through, put_roots, end_by}
 
 -- only fields of this object
-abbrev Of : ℕ → ℕ → ℕ → Type 0
+abbrev pub Of : ℕ → ℕ → ℕ → Type 0
 Of a x j = x ≡ a
 
 -- the slot refers to the object at a, or to none
-abbrev RefersOnly : State → ℕ → SlotName → ℕ → Type 0
+abbrev pub RefersOnly : State → ℕ → SlotName → ℕ → Type 0
 RefersOnly s m d a = (root s.heap.graph (place d m) ≡ Ref a) ⊎ (root s.heap.graph (place d m) ≡ Nil)
 
-after_set : (rs : List Value) (p : ℕ) (v : Value) → (value_or_nil (slice_get (slice_set rs p v) p) ≡ v) ⊎ (value_or_nil (slice_get (slice_set rs p v) p) ≡ Nil)
+pub after_set : (rs : List Value) (p : ℕ) (v : Value) → (value_or_nil (slice_get (slice_set rs p v) p) ≡ v) ⊎ (value_or_nil (slice_get (slice_set rs p v) p) ≡ Nil)
 after_set [] p v = inr refl
 after_set (r ∷ rs) zero v = inl refl
 after_set (r ∷ rs) (suc p) v = after_set rs p v
 
 -- a `put` through the slot writes a field of that object
-only_of : (s : State) (m : ℕ) (d : SlotName) (i : ℕ) (t : SlotName) (reply : Reply) (a : ℕ) → RefersOnly s m d a → (x j : ℕ) → WrittenBy s.heap.graph m (ops.Put d i t) reply x j → x ≡ a
+pub only_of : (s : State) (m : ℕ) (d : SlotName) (i : ℕ) (t : SlotName) (reply : Reply) (a : ℕ) → RefersOnly s m d a → (x j : ℕ) → WrittenBy s.heap.graph m (ops.Put d i t) reply x j → x ≡ a
 only_of s m d i t replies.Done a refers x j w = ⊎_elim
     (λ is. ⊎_elim (λ (p : (a, i) ≡ (x, j)). sym (ap (λ (p : ℕ × ℕ). p.0) p)) (λ z. absurd z) (subst (λ v. In {X = ℕ × ℕ} (x, j) (map (λ (name : ℕ). (name, i)) (names_of v))) is w))
     (λ is. absurd (subst (λ v. In {X = ℕ × ℕ} (x, j) (map (λ (name : ℕ). (name, i)) (names_of v))) is w))

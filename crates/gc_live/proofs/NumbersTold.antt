@@ -15,7 +15,7 @@ use Rattle.gc_plan.specs.Steps.{mutate}
 use Rattle.gc_plan.specs.Members.{In, Distinct}
 use Rattle.gc_plan.specs.Belonging.{IsOpen}
 use Rattle.gc_plan.proofs.Public.{WrittenBy, unchanged, get_set_other}
-use Rattle.gc_core.specs.Writing.{numbers_step, numbers_reply, numbers_after, put_numbers_step}
+use Rattle.gc_core.specs.Writing.{numbers_step, numbers_reply, after_reply, put_numbers_step}
 use Rattle.gc_along.specs.Watch.{opening}
 use Rattle.gc_along.specs.Tables.{Tables, watch_of}
 use Rattle.gc_along.specs.Events.{Wrote}
@@ -43,11 +43,11 @@ told_one a i n k first t next new less lost wrote told rest =
     let at : i + (k + 1) ≡ suc (i + k) = omega arith in
     told new (subst (λ count. ToldWritten a (i + k) count t new) left (next, lost, wrote, subst (λ j. ToldWritten a j (n - (k + 1)) next new) at rest))
 
-told_lost : (a i n : ℕ) (t after : Tables) → ToldWritten a i n t after → t.lost ≡ true → after.lost ≡ true
+pub told_lost : (a i n : ℕ) (t after : Tables) → ToldWritten a i n t after → t.lost ≡ true → after.lost ≡ true
 told_lost a i zero t after same lost = ap (λ (t : Tables). t.lost) (sym same) ∙ lost
 told_lost a i (suc n) t after (next, kept, wrote, rest) lost = told_lost a (suc i) n next after rest (kept lost)
 
-told_marks : (n : ℕ) (objects : List (ℕ × Object)) (end : ℕ) (c : Collection) (t after : Tables) (a i : ℕ) → Distinct (map (λ r. r.original) c.replicas) → 1 ≤ a → ToldWritten a i n t after → after.lost ≡ false
+pub told_marks : (n : ℕ) (objects : List (ℕ × Object)) (end : ℕ) (c : Collection) (t after : Tables) (a i : ℕ) → Distinct (map (λ r. r.original) c.replicas) → 1 ≤ a → ToldWritten a i n t after → after.lost ≡ false
     → Fits end c (watch_of t) → Fits end c (watch_of after) × MarksWritten (IsAmong a i n) (watch_of t) c (watch_of after)
 told_marks zero objects end c t after a i once low same found fits =
     subst (λ (t' : Tables). Fits end c (watch_of t') × MarksWritten (IsAmong a i zero) (watch_of t) c (watch_of t')) same (fits, λ r l j m. ⊎_elim (λ d. d) (λ w. absurd (omega (arith, w.1, w.2))))
@@ -70,7 +70,7 @@ num_roots s m n t s' apart =
     cond_both (nat_lt s.heap.free 0) _ _ (λ (next : Reply × Roomy). root next.1.graph (place s' m) ≡ root s.heap.graph (place s' m)) (λ full. refl)
     (λ fits. ap value_or_nil (get_set_other s.heap.graph.roots (place t m) (place s' m) (Num n) (λ e. apart (sym e))))
 
-put_writes : (g : Graph) (m i a : ℕ) (s t : SlotName) (reply : Reply) (x j : ℕ) → root g (place s m) ≡ Ref a → WrittenBy g m (ops.Put s i t) reply x j → (x ≡ a) × (j ≡ i)
+pub put_writes : (g : Graph) (m i a : ℕ) (s t : SlotName) (reply : Reply) (x j : ℕ) → root g (place s m) ≡ Ref a → WrittenBy g m (ops.Put s i t) reply x j → (x ≡ a) × (j ≡ i)
 put_writes g m i a s t reply x j at w = go reply w
   where
     one : In {X = ℕ × ℕ} (x, j) (map (λ name. (name, i)) (names_of (root g (place s m)))) → (x ≡ a) × (j ≡ i)
@@ -133,7 +133,7 @@ pub all_or_none : (s s' : State) (m first : ℕ) (d t : SlotName) (words : List 
     → ((reply ≡ replies.Done) × (numbers_step s m d t first words ≡ s')) ⊎ (s ≡ s')
 all_or_none s s' m first d t words reply said = go (numbers_reply first words (raw_numbers s.heap.graph d m)) said
   where
-    go : (r : Reply) → ◌≡◌ {A = Reply × State} (r, numbers_after r s (numbers_step s m d t first words)) (reply, s') → ((reply ≡ replies.Done) × (numbers_step s m d t first words ≡ s')) ⊎ (s ≡ s')
+    go : (r : Reply) → ◌≡◌ {A = Reply × State} (r, after_reply r s (numbers_step s m d t first words)) (reply, s') → ((reply ≡ replies.Done) × (numbers_step s m d t first words ≡ s')) ⊎ (s ≡ s')
     go replies.Done e = inl (sym (ap (λ (x : Reply × State). x.0) e), ap (λ (x : Reply × State). x.1) e)
     go replies.Full e = inr (ap (λ (x : Reply × State). x.1) e)
     go replies.Made e = inr (ap (λ (x : Reply × State). x.1) e)
@@ -178,4 +178,4 @@ lives_call_refused s s' m first d t words w reply step other live = ⊎_elim (λ
 
 pub done_all : (s s' : State) (m first : ℕ) (d t : SlotName) (words : List ℕ) (reply : Reply) → put_numbers_step s m d first t words ≡ (reply, s') → reply ≡ replies.Done → numbers_step s m d t first words ≡ s'
 done_all s s' m first d t words reply said done =
-    ap (λ r. numbers_after r s (numbers_step s m d t first words)) (sym (ap (λ (x : Reply × State). x.0) said ∙ done)) ∙ ap (λ (x : Reply × State). x.1) said
+    ap (λ r. after_reply r s (numbers_step s m d t first words)) (sym (ap (λ (x : Reply × State). x.0) said ∙ done)) ∙ ap (λ (x : Reply × State). x.1) said

@@ -1,12 +1,15 @@
-//! Writes numbers to a raw object.
+//! Writes several fields in one call: numbers to a raw object, the fields of one object to another, and those of a new object.
 
 ghost use Rattle.std.specs.Prelude.{◌≡◌, ◌≢◌, ◌<◌, ◌≤◌, ◌+◌, length, IfOk, OnErr, IsSome};
 ghost use Rattle.gc_graph.specs.Slots.{place};
 ghost use Rattle.gc_core.specs.Writing.{put_numbers_step};
+ghost use Rattle.gc_core.specs.Copying.{copy_fields_step};
+ghost use Rattle.gc_core.specs.Mixed.{new_with_step};
 ghost use Rattle.gc_live.specs.Internal.Told.{ToldWritten};
 
 use crate::live_heap::{LiveHeap, target_in};
 use gc_along::Standing;
+use gc_core::SourceRow;
 use gc_graph::{NoMemory, Reply, Slot};
 
 impl LiveHeap {
@@ -46,6 +49,77 @@ impl LiveHeap {
                 tell_written(&mut self.watch, heap, object.0, first, words.len())
             }
         }
+        Ok(reply)
+    }
+
+    /// Copies `count` fields: from field `from` on, of the object that `s` refers to, to field `to` and on of the object that `d` refers
+    /// to. For each field this is a `get` into `t` and a `put` of `t`, in rising order, so `t` keeps the last value; within one object, a
+    /// field that was written is read as it was written. Returns `Done`. Or nothing is changed, and the reply is `NoObject` where `d` or
+    /// `s` refers to no object, `NoField` where one of the objects has too few fields, or `NoNumber` where the object in `d` is raw and
+    /// one of the values is no number. `t` is another slot than `d` and `s`. While a collection is open, each field is logged (the write
+    /// barrier). Only then can the call return `NoMemory`, and the heap is unchanged.
+    pub fn copy_fields(
+        &mut self,
+        m: u8,
+        d: Slot,
+        to: u16,
+        s: Slot,
+        from: u16,
+        t: Slot,
+        count: u16,
+    ) -> Result<Reply, NoMemory>
+        requires mutator { m < self.old.mutators }
+        requires target { place t m ≢ place d m }
+        requires source { place t m ≢ place s m }
+        ensures step { IfOk result (λ reply. copy_fields_step self.old m d to s from t count ≡ (reply, self.new)) }
+        ensures refused { OnErr result (self.new ≡ self.old) }
+        ensures open { OnErr result (IsSome self.old.collection) }
+        ensures mutators { self.new.mutators ≡ self.old.mutators }
+    {
+        self.inner.is_sound();
+        if !self.inner.is_open() {
+            return self.inner.copy_fields(m, d, to, s, from, t, count);
+        }
+        let target = target_in(self.inner.heap(), m, d);
+        let reply = self.inner.copy_fields(m, d, to, s, from, t, count)?;
+        let Reply::Done = reply else {
+            return Ok(reply);
+        };
+        match target {
+            None => self.watch.lose(),
+            Some(object) => {
+                let heap = self.inner.image().words;
+                tell_written(&mut self.watch, heap, object.0, to, usize::from(count))
+            }
+        }
+        Ok(reply)
+    }
+
+    /// Makes an object of this kind and sets `d` to a reference to it. `fields` tells what each field takes. This is a `new_object` followed,
+    /// for each number, by a `num` of `t` and a `put` of `t`, and for each slot by a `put` of that slot, in one call; a field that takes
+    /// nothing stays nil. Returns `Made`, or `Full` if there is no room; then nothing has changed. `d` is set first, so a field filled from
+    /// slot `d` refers to the object itself. `t` is another slot than `d`, and keeps the last number, if there is one. Returns `NoMemory`
+    /// only while a collection is open; the heap is then unchanged.
+    pub fn new_with<R: SourceRow>(
+        &mut self,
+        m: u8,
+        d: Slot,
+        kind: u8,
+        t: Slot,
+        fields: &R,
+    ) -> Result<Reply, NoMemory>
+        requires mutator { m < self.old.mutators }
+        requires apart { place t m ≢ place d m }
+        requires row { R.is_row fields.now }
+        ensures step { IfOk result (λ reply. new_with_step self.old m d kind t (R.sources fields.now) ≡ (reply, self.new)) }
+        ensures refused { OnErr result (self.new ≡ self.old) }
+        ensures open { OnErr result (IsSome self.old.collection) }
+        ensures mutators { self.new.mutators ≡ self.old.mutators }
+    {
+        self.inner.is_sound();
+        let reply = self.inner.new_with(m, d, kind, t, fields)?;
+        self.inner.is_sound();
+        self.watch.made(self.inner.image().words);
         Ok(reply)
     }
 }

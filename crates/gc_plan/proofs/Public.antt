@@ -5,7 +5,7 @@ pub use Rattle.gc_plan.proofs.Flips.{certified, corresponding_graphs, flips}
 pub use Rattle.gc_plan.proofs.Heap.{end_push, laid_apart, laid_end_is, laid_push, laid_range, lookup_in, lookup_laid, refers_map, set_from}
 pub use Rattle.gc_plan.proofs.Images.{IsAddress, end_is, named_address, read_back}
 pub use Rattle.gc_plan.proofs.Links.{found_by_name, found_by_place, write_is_set}
-pub use Rattle.gc_plan.proofs.Lists.{all_from_in, find_exists, find_some, get_in, get_past, get_set_other, get_set_same, get_within, in_get, in_left, in_map, in_map_from, in_push, in_replicate, in_right, map_same}
+pub use Rattle.gc_plan.proofs.Lists.{all_from_in, find_exists, find_some, get_in, get_past, get_set, get_set_other, get_set_same, get_within, in_get, in_left, in_map, in_map_from, in_push, in_replicate, in_right, map_same}
 pub use Rattle.gc_plan.proofs.Numbers.{small_corresponding}
 pub use Rattle.gc_plan.proofs.Progress.{command_raises, left_bounded, useful_ranges}
 pub use Rattle.gc_plan.proofs.Replicas.{AreReplicas, HasReplica, IsPlace, fresh_raw, in_paired, moved_corresponds, pair, paired_in, pairs_written, place_written, placed, refers_corresponding, replica_exists, replica_in, replicas_due, replicas_end, replicas_evolve, replicas_place, replicas_write, with_written_length, with_written_pair}

@@ -4,9 +4,11 @@
 mod answer;
 mod checking;
 mod commands;
+mod copying;
 mod frame;
 mod handle;
 mod laws;
+mod mixed;
 mod opening;
 mod pace;
 mod parts;
@@ -24,12 +26,14 @@ pub use commands::{
     gcflip_heap_put_nil, gcflip_heap_put_number, gcflip_heap_same, gcflip_heap_set_nil,
     gcflip_heap_set_number,
 };
+pub use copying::gcflip_heap_copy_fields;
 pub use frame::{
     GcflipFrame, gcflip_heap_frame_pop, gcflip_heap_frame_push, gcflip_heap_root_clear,
     gcflip_heap_root_load, gcflip_heap_root_store,
 };
 pub use handle::GcflipHeap;
 pub use laws::paced_work_bounds_logs;
+pub use mixed::{GcflipField, gcflip_heap_new_with};
 pub use opening::{GcflipOptions, gcflip_heap_close, gcflip_heap_open};
 pub use pace::{GcflipPace, gcflip_heap_pace, gcflip_heap_work_paced, gcflip_pace_due};
 pub use raws::{gcflip_heap_address, gcflip_heap_raw_read, gcflip_heap_raw_write};

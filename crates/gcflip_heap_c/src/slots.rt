@@ -8,12 +8,12 @@ use gc_core::SlotRow;
 use gc_graph::Slot;
 
 /// The number of slots that a mutator can name: sixteen of its own, and the sixteen that all mutators share.
-const SLOT_NUMBERS: u8 = 32;
+pub(crate) const SLOT_NUMBERS: u8 = 32;
 
 /// Returns the slot with this number, which must be below `SLOT_NUMBERS`. Numbers below 16 are the mutator's own slots,
 /// and the others are the shared ones.
 #[inline(always)]
-fn numbered_slot(number: u8) -> Slot
+pub(crate) fn numbered_slot(number: u8) -> Slot
     requires { number < slot_numbers }
     ensures { result ≡ numbered_slot number }
 {

@@ -47,6 +47,7 @@ c_types! {
     *const Pace = "const gcflip_pace *",
     *const RawCounts = "const gcflip_counts *",
     *mut LogEntry = "gcflip_log_entry *",
+    *const Field = "const gcflip_field *",
 }
 
 /// Returns the conditions in C on a struct and on each of its fields.
@@ -75,6 +76,7 @@ fn rules() -> Vec<String> {
         struct_rules!(RawVerdict as "gcflip_verdict": refusal, pairs, place, field),
         struct_rules!(RawHeap as "gcflip_heap": at),
         struct_rules!(RawOptions as "gcflip_options": bytes, size, extra_roots, mutators, checking, whole_each),
+        struct_rules!(Field as "gcflip_field": holds, value),
         struct_rules!(FlipChecks as "gcflip_flip_checks": along, whole),
         struct_rules!(Frame as "gcflip_frame": first, end, top),
         struct_rules!(Pace as "gcflip_pace": factor, rate, least, left, end, logged),

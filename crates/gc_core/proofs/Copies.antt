@@ -1,0 +1,141 @@
+-- Fields that are copied from one object to another in one call.
+use Rattle.std.proofs.Common.{◌≡◌, ◌<◌, ◌≤◌, ◌+◌, ◌-◌, ℕ, zero, suc, List, [], ◌∷◌, length, map, take, drop, Some, None, Option, true, false, refl, sym, ap, ◌∙◌, arith}
+use Rattle.std.specs.Prelude.{slice_range, not, ◌||◌, Bool, nat_le, cond, ◌&&◌}
+use Rattle.std.specs.List.{list_all}
+use Rattle.std.specs.Option.{option_map}
+use Rattle.std.proofs.lemmas.Bool.{le-leb}
+use Rattle.std.proofs.lemmas.List.{take-map, drop-map, length-map}
+use Rattle.std.proofs.lemmas.List.Folds.{list_all-map}
+use Rattle.std.proofs.lemmas.Slice.{between_is}
+use Rattle.gc_graph.specs.Graph.{Value, Num, Object, Graph, object_of, root, name_of}
+use Rattle.gc_graph.specs.declared.command.Op.TheVariants.{Get, Put}
+use Rattle.gc_graph.specs.declared.reply.Reply.{Reply}
+use Rattle.gc_graph.specs.declared.reply.Reply.TheVariants.{Full, Made, Done, NoObject, NoField, NoNumber, Saw, Yes, No}
+use Rattle.gc_graph.specs.Machine.{is_number}
+use Rattle.gc_graph.specs.Slots.{SlotName, place, roots_of}
+use Rattle.gc_words.specs.declared.header.Header.{Header}
+use Rattle.gc_words.specs.Word.{value_of, field_value}
+use Rattle.gc_words.specs.Image.{Block, block_at, header_at, header_of, object_of_block}
+use Rattle.gc_words.proofs.Public.{object_found, fields_counted}
+use Rattle.gc_heap.specs.Heap.{HeapWords, IsHeap, graph_in}
+use Rattle.gc_heap.proofs.Public.{named}
+use Rattle.gc_plan.specs.State.{State}
+use Rattle.gc_plan.specs.Steps.{mutate}
+use Rattle.gc_core.specs.Internal.KnownRoots.{KnowsRoots}
+use Rattle.gc_core.specs.declared.known.KnownRoots.{KnownRoots}
+use Rattle.gc_core.specs.Writing.{after_reply}
+use Rattle.gc_core.specs.Copying.{object_in, copy_reply, copy_step, copy_fields_step}
+use Rattle.gc_core.proofs.Marks.{WritesBelow, slot_below, one_below, slot_command, put_knows}
+use Rattle.gc_core.proofs.NumbersPut.{forgotten}
+
+-- ---- the object that a slot refers to
+
+-- an object with this header and these field words
+abbrev pub object_with : Header → List ℕ → Object
+object_with header fields = object_of_block (record { header = header; fields = fields })
+
+pub object_there : (h : HeapWords) (m a : ℕ) (slot : SlotName) (header : Header) (fields : List ℕ) → Some a ≡ name_of (root (graph_in h) (place slot m)) → header_at h.space.words a ≡ Some header
+    → ((b : Block) → block_at h.space.words a ≡ Some b → fields ≡ b.fields) → Some (object_with header fields) ≡ object_in (graph_in h) slot m
+object_there h m a slot header fields name met are = go (block_at h.space.words a) refl
+  where
+    go : (o : Option Block) → block_at h.space.words a ≡ o → Some (object_with header fields) ≡ object_in (graph_in h) slot m
+    go None is = absurd (let no : None ≡ Some header = sym (ap header_of is) ∙ met in cc)
+    go (Some b) is =
+        let same : b.header ≡ header = (let both : Some b.header ≡ Some header = sym (ap header_of is) ∙ met in cc) in
+        let words : fields ≡ b.fields = are b is in
+        sym (ap (object_of (graph_in h).objects) (named (root (graph_in h) (place slot m)) a name) ∙ object_found h.space.words a ∙ ap (option_map object_of_block) is
+        ∙ (λ i. Some (object_with (same i) (sym words i))))
+
+-- it has as many field words as its header says
+pub fields_there : (h : HeapWords) (a : ℕ) (header : Header) (fields : List ℕ) → IsHeap h → header_at h.space.words a ≡ Some header → ((b : Block) → block_at h.space.words a ≡ Some b → fields ≡ b.fields) → length fields ≡ header.len
+fields_there h a header fields heap met are = go (block_at h.space.words a) refl
+  where
+    go : (o : Option Block) → block_at h.space.words a ≡ o → length fields ≡ header.len
+    go None is = absurd (let no : None ≡ Some header = sym (ap header_of is) ∙ met in cc)
+    go (Some b) is =
+        let same : b.header ≡ header = (let both : Some b.header ≡ Some header = sym (ap header_of is) ∙ met in cc) in
+        ap length (are b is) ∙ sym (length-map b.fields (field_value b.header)) ∙ fields_counted h.space.words a b heap.space.walked is ∙ ap (λ (h : Header). h.len) same
+
+-- ---- the reply
+
+-- a part of the values
+range_of_map : {X Y : Type 0} (f : X → Y) (xs : List X) (i j : ℕ) → slice_range (map f xs) i j ≡ map f (slice_range xs i j)
+range_of_map f xs i j = between_is (map f xs) i j ∙ ap (drop i) (take-map f j xs) ∙ drop-map f i (take j xs) ∙ ap (map f) (sym (between_is xs i j))
+
+-- a raw object holds numbers
+raw_numbers_all : (header : Header) (words : List ℕ) → header.raw ≡ true → list_all (λ w. is_number (field_value header w)) words ≡ true
+raw_numbers_all header [] raw = refl
+raw_numbers_all header (w ∷ rest) raw = ap (λ b. is_number (cond b (Num w) (value_of w)) && list_all (λ w. is_number (field_value header w)) rest) raw ∙ raw_numbers_all header rest raw
+
+pub raw_taken : (target source : Header) (words : List ℕ) → source.raw ≡ true → true ≡ (not target.raw || list_all (λ w. is_number (field_value source w)) words)
+raw_taken target source words raw = sym (ap (λ b. not target.raw || b) (raw_numbers_all source words raw) ∙ any (not target.raw))
+  where
+    any : (b : Bool) → (b || true) ≡ true
+    any true = refl
+    any false = refl
+
+-- with enough fields in both, the reply says whether the values are taken
+pub fitting_reply : (to from count first last : ℕ) (target source : Header) (old words : List ℕ) (g : Graph) (m : ℕ) (d s : SlotName) (taken : Bool) (reply : Reply)
+    → Some (object_with target old) ≡ object_in g d m → Some (object_with source words) ≡ object_in g s m → to + count ≤ length old → first ≡ from → last ≡ from + count → last ≤ length words
+    → taken ≡ (not target.raw || list_all (λ w. is_number (field_value source w)) (slice_range words first last)) → reply ≡ cond taken Done NoNumber → reply ≡ copy_reply to from count (object_in g d m) (object_in g s m)
+fitting_reply to from count first last target source old words g m d s taken reply one other low begin at high asks same =
+    let f = field_value source in
+    let values : list_all (λ w. is_number (f w)) (slice_range words first last) ≡ list_all is_number (slice_range (map f words) from (from + count))
+    = ap (λ n. list_all (λ w. is_number (f w)) (slice_range words n last)) begin ∙ sym (list_all-map is_number f (slice_range words from last)) ∙ ap (list_all is_number) (sym (range_of_map f words from last)) ∙ ap (λ n. list_all is_number (slice_range (map f words) from n)) at in
+    let one_fits : nat_le (to + count) (length (map (field_value target) old)) ≡ true = le-leb (to + count) (length (map (field_value target) old)) (omega (arith, low, length-map old (field_value target))) in
+    let other_fits : nat_le (from + count) (length (map f words)) ≡ true = le-leb (from + count) (length (map f words)) (omega (arith, at, high, length-map words f)) in
+    same ∙ ap (λ b. cond b Done NoNumber) (asks ∙ ap (λ b. not target.raw || b) values)
+    ∙ sym (ap (λ b. cond (b && nat_le (from + count) (length (map f words))) (cond (not target.raw || list_all is_number (slice_range (map f words) from (from + count))) Done NoNumber) NoField) one_fits
+    ∙ ap (λ b. cond b (cond (not target.raw || list_all is_number (slice_range (map f words) from (from + count))) Done NoNumber) NoField) other_fits)
+    ∙ (λ i. copy_reply to from count (one i) (other i))
+
+-- ---- the commands
+
+-- one field more
+pub one_copied : (old two first : State) (m i j k count : ℕ) (d s t : SlotName) → k < count → copy_step old m d (i + k) s (j + k) t (count - k) ≡ copy_step first m d i s j t count
+    → (mutate (mutate old m (Get t s (j + k))).1 m (Put d (i + k) t)).1 ≡ two → copy_step two m d (i + (k + 1)) s (j + (k + 1)) t (count - (k + 1)) ≡ copy_step first m d i s j t count
+one_copied old two first m i j k count d s t less so_far step =
+    let more : count - k ≡ suc (count - (k + 1)) = omega (arith, less) in
+    let at : i + (k + 1) ≡ suc (i + k) = omega arith in
+    let from : j + (k + 1) ≡ suc (j + k) = omega arith in
+    ap (λ n. copy_step two m d n s (j + (k + 1)) t (count - (k + 1))) at ∙ ap (λ n. copy_step two m d (suc (i + k)) s n t (count - (k + 1))) from
+    ∙ ap (λ (x : State). copy_step x m d (suc (i + k)) s (suc (j + k)) t (count - (k + 1))) (sym step)
+    ∙ sym (ap (copy_step old m d (i + k) s (j + k) t) more) ∙ so_far
+
+-- a call that copies all
+pub all_copied : (old new : State) (m to from count : ℕ) (d s t : SlotName) (reply : Reply) → reply ≡ copy_reply to from count (object_in old.heap.graph d m) (object_in old.heap.graph s m) → reply ≡ Done
+    → copy_step old m d to s from t count ≡ new → copy_fields_step old m d to s from t count ≡ (reply, new)
+all_copied old new m to from count d s t reply is done steps =
+    ap (λ r. (r, after_reply r old (copy_step old m d to s from t count))) (sym is)
+    ∙ ap (λ r. (reply, after_reply r old (copy_step old m d to s from t count))) done
+    ∙ ap (λ (x : State). (reply, x)) steps
+
+-- a call that copies none
+pub none_copied : (old : State) (m to from count : ℕ) (d s t : SlotName) (reply : Reply) → reply ≡ copy_reply to from count (object_in old.heap.graph d m) (object_in old.heap.graph s m) → (reply ≡ Done → ⊥)
+    → copy_fields_step old m d to s from t count ≡ (reply, old)
+none_copied old m to from count d s t reply is other =
+    ap (λ r. (r, after_reply r old (copy_step old m d to s from t count))) (sym is) ∙ ap (λ (x : State). (reply, x)) (kept reply other)
+  where
+    kept : (r : Reply) → (r ≡ Done → ⊥) → after_reply r old (copy_step old m d to s from t count) ≡ old
+    kept Done other = absurd (other refl)
+    kept Full other = refl
+    kept Made other = refl
+    kept NoObject other = refl
+    kept NoField other = refl
+    kept NoNumber other = refl
+    kept (Saw view) other = refl
+    kept Yes other = refl
+    kept No other = refl
+
+-- ---- what is known of the roots
+
+pub copies_know : (count : ℕ) (known : KnownRoots) (s : State) (m i j : ℕ) (d from t : SlotName) → t.index < 16 → m < s.mutators → KnowsRoots known s
+    → KnowsRoots (record { slots = 0; extra = known.extra; used = known.used }) (copy_step s m d i from j t count)
+copies_know zero known s m i j d from t low less k = forgotten known s k
+copies_know (suc count) known s m i j d from t low less k =
+    let after : KnownRoots = record { slots = 0; extra = known.extra; used = known.used } in
+    let one = mutate s m (Get t from j) in
+    let two = mutate one.1 m (Put d i t) in
+    let below : WritesBelow (roots_of s.mutators) m (Get t from j) = λ q. one_below (place t m) q (roots_of s.mutators) (slot_below t m s.mutators low less) in
+    let got : KnowsRoots after one.1 = slot_command known s m (Get t from j) below k in
+    copies_know count after two.1 m (suc i) (suc j) d from t low less (put_knows after one.1 two.1 m i d t two.0 refl got)

@@ -1,0 +1,190 @@
+-- A copy that is done: each of its commands is.
+use Rattle.std.proofs.Common.{◌≡◌, ◌≢◌, ⊎_elim, inl, inr, ◌<◌, ◌≤◌, ◌+◌, ◌-◌, ℕ, zero, suc, Bool, true, false, cond, List, [], ◌∷◌, length, take, drop, Some, None, Option, refl, sym, ap, subst, ◌∙◌, arith}
+use Rattle.std.specs.Prelude.{slice_get, slice_set, slice_range, get_or, nat_le, not, ◌&&◌, ◌||◌}
+use Rattle.std.specs.List.{list_all}
+use Rattle.std.proofs.lemmas.Bool.{cases_Bool, cases_eq, leb-true, and_parts}
+use Rattle.std.proofs.lemmas.List.{length-set}
+use Rattle.std.proofs.lemmas.Option.{slice_get-get_or}
+use Rattle.gc_graph.specs.Graph.{Value, Nil, Num, Ref, Object, Graph, object_of, field_of, root, lookup, value_or_nil, set_root, set_field, with_field}
+use Rattle.gc_graph.specs.Machine.{Roomy, step, view_of, is_number, get_field, put_field}
+use Rattle.gc_graph.specs.Slots.{SlotName, place}
+use Rattle.gc_graph.specs.declared.command.Op.{Op}
+use Rattle.gc_graph.specs.declared.command.Op.TheVariants.{Get, Put}
+use Rattle.gc_graph.specs.declared.reply.Reply.{Reply}
+use Rattle.gc_graph.specs.declared.reply.Reply.TheVariants.{Done, Saw, NoObject, NoField, NoNumber}
+use Rattle.gc_graph.proofs.Public.{lookup_set_same, lookup_set_other, with_field_option, in_place, with_free}
+use Rattle.gc_plan.specs.State.{State, heap_end}
+use Rattle.gc_plan.specs.Steps.{mutate}
+use Rattle.gc_plan.proofs.Public.{get_set_same, get_set_other, get_set}
+use Rattle.gc_core.specs.Copying.{object_in, values_in, takes_values, copy_reply, copy_fields_step, IsSaw, AllCopied}
+
+-- so many fields can be copied, from field j on, of the object that root q refers to, to field i and on of that of root p
+pub record CanCopy (g : Graph) (p q i j n : ℕ) : Type 0 where
+  pub a : ℕ
+  pub b : ℕ
+  pub taker : Object
+  pub giver : Object
+  pub target : root g p ≡ Ref a
+  pub source : root g q ≡ Ref b
+  pub taker_found : lookup g.objects a ≡ Some taker
+  pub giver_found : lookup g.objects b ≡ Some giver
+  pub taker_long : i + n ≤ length taker.fields
+  pub giver_long : j + n ≤ length giver.fields
+  pub numbers : taker.raw ≡ true → (k : ℕ) (v : Value) → j ≤ k → k < j + n → slice_get giver.fields k ≡ Some v → is_number v ≡ true
+
+-- ---- one field
+
+-- the graph after a field took a value that went through root r
+abbrev after_one : Graph → ℕ → ℕ → ℕ → Value → Graph
+after_one g r a i v = record { objects = set_field g.objects a i v; roots = slice_set g.roots r v }
+
+root_beside : (rs : List Value) (r p : ℕ) (v : Value) → (r ≡ p → ⊥) → value_or_nil (slice_get (slice_set rs r v) p) ≡ value_or_nil (slice_get rs p)
+root_beside rs r p v apart = ap value_or_nil (get_set_other rs r p v (λ e. apart (sym e)))
+
+pub can_still : (g : Graph) (p q r i j n : ℕ) (c : CanCopy g p q i j (suc n)) (v : Value) → (r ≡ p → ⊥) → (r ≡ q → ⊥) → slice_get c.giver.fields j ≡ Some v → CanCopy (after_one g r c.a i v) p q (suc i) (suc j) n
+can_still g p q r i j n c v apart other seen = ⊎_elim here there (cases_eq c.b c.a)
+  where
+    taken : lookup (set_field g.objects c.a i v) c.a ≡ Some (with_field c.taker i v)
+    taken = lookup_set_same g.objects c.a i v ∙ ap (λ o. with_field_option o i v) c.taker_found
+
+    number : c.taker.raw ≡ true → is_number v ≡ true
+    number raw = c.numbers raw j v (omega arith) (omega arith) seen
+
+    here : c.b ≡ c.a → CanCopy (after_one g r c.a i v) p q (suc i) (suc j) n
+    here same =
+        let alike : c.giver ≡ c.taker = (let both : Some c.giver ≡ Some c.taker = sym c.giver_found ∙ ap (lookup g.objects) same ∙ c.taker_found in cc) in
+        let long : j + suc n ≤ length c.taker.fields = subst (λ (o : Object). j + suc n ≤ length o.fields) alike c.giver_long in
+        record {
+          a = c.a;
+          b = c.b;
+          taker = with_field c.taker i v;
+          giver = with_field c.taker i v;
+          target = root_beside g.roots r p v apart ∙ c.target;
+          source = root_beside g.roots r q v other ∙ c.source;
+          taker_found = taken;
+          giver_found = ap (lookup (set_field g.objects c.a i v)) same ∙ taken;
+          taker_long = (let low = c.taker_long in omega (arith, low, length-set c.taker.fields i v));
+          giver_long = omega (arith, long, length-set c.taker.fields i v);
+          numbers = λ raw k w low high e. ⊎_elim
+              (λ (x : (k ≡ i) × (v ≡ w)). subst (λ u. is_number u ≡ true) x.1 (number raw))
+              (λ x. c.numbers raw k w (omega (arith, low)) (omega (arith, high)) (ap (λ (o : Object). slice_get o.fields k) alike ∙ x.1))
+              (get_set c.taker.fields i k v w e);
+        }
+
+    there : (c.b ≡ c.a → ⊥) → CanCopy (after_one g r c.a i v) p q (suc i) (suc j) n
+    there differ = record {
+      a = c.a;
+      b = c.b;
+      taker = with_field c.taker i v;
+      giver = c.giver;
+      target = root_beside g.roots r p v apart ∙ c.target;
+      source = root_beside g.roots r q v other ∙ c.source;
+      taker_found = taken;
+      giver_found = lookup_set_other g.objects c.a i v c.b differ ∙ c.giver_found;
+      taker_long = (let low = c.taker_long in omega (arith, low, length-set c.taker.fields i v));
+      giver_long = (let low = c.giver_long in omega (arith, low));
+      numbers = λ raw k w low high e. c.numbers raw k w (omega (arith, low)) (omega (arith, high)) e;
+    }
+
+-- the value of field j
+pub value_there : (g : Graph) (p q i j n : ℕ) (c : CanCopy g p q i j (suc n)) → slice_get c.giver.fields j ≡ Some (get_or c.giver.fields j Nil)
+value_there g p q i j n c = (let long = c.giver_long in slice_get-get_or c.giver.fields j Nil (omega (arith, long)))
+
+pub get_sees : (g : Graph) (m name : ℕ) (d src t : SlotName) (i j n : ℕ) (c : CanCopy g (place d m) (place src m) i j (suc n)) (v : Value) → slice_get c.giver.fields j ≡ Some v
+    → step g m (Get t src j) name ≡ (Saw (view_of g.objects v), set_root g (place t m) v)
+get_sees g m name d src t i j n c v seen =
+    let object : object_of g.objects (root g (place src m)) ≡ Some c.giver = ap (object_of g.objects) c.source ∙ c.giver_found in
+    ap (λ o. get_field g (place t m) o (field_of o j)) object ∙ ap (get_field g (place t m) (Some c.giver)) seen
+
+pub put_writes_it : (g : Graph) (m name : ℕ) (d src t : SlotName) (i j n : ℕ) (c : CanCopy g (place d m) (place src m) i j (suc n)) (v : Value) → slice_get c.giver.fields j ≡ Some v
+    → (place t m ≡ place d m → ⊥) → place t m < length g.roots
+    → step (set_root g (place t m) v) m (Put d i t) name ≡ (Done, after_one g (place t m) c.a i v)
+put_writes_it g m name d src t i j n c v seen apart inside =
+    let h = set_root g (place t m) v in
+    let value : root h (place t m) ≡ v = ap value_or_nil (get_set_same g.roots (place t m) v inside) in
+    let target : root h (place d m) ≡ Ref c.a = root_beside g.roots (place t m) (place d m) v apart ∙ c.target in
+    let low = c.taker_long in
+    let before : slice_get c.taker.fields i ≡ Some (get_or c.taker.fields i Nil) = slice_get-get_or c.taker.fields i Nil (omega (arith, low)) in
+    let taken : (c.taker.raw && not (is_number v)) ≡ false = elim (cases_Bool c.taker.raw) [
+      | inl raw ↦ ap (λ b. b && not (is_number v)) raw ∙ ap not (c.numbers raw j v (omega arith) (omega arith) seen)
+      | inr plain ↦ ap (λ b. b && not (is_number v)) plain
+    ] in
+    ap (λ w. put_field h (root h (place d m)) (object_of h.objects (root h (place d m))) (field_of (object_of h.objects (root h (place d m))) i) i w) value
+    ∙ ap (λ w. put_field h w (object_of h.objects w) (field_of (object_of h.objects w) i) i v) target
+    ∙ ap (λ o. put_field h (Ref c.a) o (field_of o i) i v) c.taker_found
+    ∙ ap (λ f. put_field h (Ref c.a) (Some c.taker) f i v) before
+    ∙ ap (λ b. cond b (NoNumber, h) (Done, record h { objects = set_field h.objects c.a i v })) taken
+
+-- ---- all of them
+
+-- a command that makes no object leads where the machine's step does
+pub steps_to : (s : State) (m : ℕ) (op : Op) (reply : Reply) (g : Graph) → (Rattle.gc_graph.specs.Machine.MakesObject op → ⊥) → step s.heap.graph m op (heap_end s) ≡ (reply, g) → ((mutate s m op).0 ≡ reply) × ((mutate s m op).1.heap.graph ≡ g)
+steps_to s m op reply g none e =
+    let is = in_place s.heap m op (heap_end s) none ∙ ap (with_free s.heap.free) e in
+    (ap (λ (x : Reply × Roomy). x.0) is, ap (λ (x : Reply × Roomy). x.1.graph) is)
+
+pub all_done : (n : ℕ) (s : State) (m i j : ℕ) (d src t : SlotName) → (place t m ≡ place d m → ⊥) → (place t m ≡ place src m → ⊥) → place t m < length s.heap.graph.roots → CanCopy s.heap.graph (place d m) (place src m) i j n → AllCopied s m d i src j t n
+all_done zero s m i j d src t apart other inside c = tt
+all_done (suc n) s m i j d src t apart other inside c =
+    let g = s.heap.graph in
+    let v = get_or c.giver.fields j Nil in
+    let seen = value_there g (place d m) (place src m) i j n c in
+    let one = mutate s m (Get t src j) in
+    let got = steps_to s m (Get t src j) (Saw (view_of g.objects v)) (set_root g (place t m) v) (λ none. none) (get_sees g m (heap_end s) d src t i j n c v seen) in
+    let next : step one.1.heap.graph m (Put d i t) (heap_end one.1) ≡ (Done, after_one g (place t m) c.a i v)
+    = ap (λ h. step h m (Put d i t) (heap_end one.1)) got.1 ∙ put_writes_it g m (heap_end one.1) d src t i j n c v seen apart inside in
+    let put = steps_to one.1 m (Put d i t) Done (after_one g (place t m) c.a i v) (λ none. none) next in
+    let two = mutate one.1 m (Put d i t) in
+    let still = subst (λ h. CanCopy h (place d m) (place src m) (suc i) (suc j) n) (sym put.1) (can_still g (place d m) (place src m) (place t m) i j n c v apart other seen) in
+    let room : place t m < length two.1.heap.graph.roots = subst (λ (h : Graph). place t m < length h.roots) (sym put.1) (subst (λ k. place t m < k) (sym (length-set g.roots (place t m) v)) inside) in
+    (subst IsSaw (sym got.0) tt, put.0, all_done n two.1 m (suc i) (suc j) d src t apart other room still)
+
+-- ---- what the reply `Done` says
+
+number_at : (xs : List Value) (f n k : ℕ) (v : Value) → list_all is_number (take n (drop f xs)) ≡ true → f ≤ k → k < f + n → slice_get xs k ≡ Some v → is_number v ≡ true
+number_at [] f n k v all low high e = absurd (let no : None ≡ Some v = e in cc)
+number_at (x ∷ xs) zero zero k v all low high e = absurd (omega (arith, high))
+number_at (x ∷ xs) zero (suc n) zero v all low high e = (let same : x ≡ v = cc e in ap is_number (sym same) ∙ (and_parts (is_number x) (list_all is_number (take n xs)) all).0)
+number_at (x ∷ xs) zero (suc n) (suc k) v all low high e = number_at xs zero n k v (and_parts (is_number x) (list_all is_number (take n xs)) all).1 (omega arith) (omega (arith, high)) e
+number_at (x ∷ xs) (suc f) n zero v all low high e = absurd (omega (arith, low))
+number_at (x ∷ xs) (suc f) n (suc k) v all low high e = number_at xs f n k v all (omega (arith, low)) (omega (arith, high)) e
+
+refers : (g : Graph) (v : Value) (o : Object) → object_of g.objects v ≡ Some o → (a : ℕ) × (v ≡ Ref a) × (lookup g.objects a ≡ Some o)
+refers g Nil o e = absurd (let no : None ≡ Some o = e in cc)
+refers g (Num n) o e = absurd (let no : None ≡ Some o = e in cc)
+refers g (Ref a) o e = (a, refl, e)
+
+pub can_copy : (g : Graph) (m to from n : ℕ) (d src : SlotName) → copy_reply to from n (object_in g d m) (object_in g src m) ≡ Done → CanCopy g (place d m) (place src m) to from n
+can_copy g m to from n d src said = go (object_in g d m) (object_in g src m) refl refl said
+  where
+    both : (taker giver : Object) → object_in g d m ≡ Some taker → object_in g src m ≡ Some giver → (x y w : Bool) → nat_le (to + n) (length taker.fields) ≡ x → nat_le (from + n) (length giver.fields) ≡ y → takes_values taker (values_in giver from n) ≡ w
+        → cond (x && y) (cond w Done NoNumber) NoField ≡ Done → CanCopy g (place d m) (place src m) to from n
+    both taker giver one other false y w fits high taken e = absurd (let no : NoField ≡ Done = e in cc)
+    both taker giver one other true false w fits high taken e = absurd (let no : NoField ≡ Done = e in cc)
+    both taker giver one other true true false fits high taken e = absurd (let no : NoNumber ≡ Done = e in cc)
+    both taker giver one other true true true fits high taken e =
+        let t = refers g (root g (place d m)) taker one in
+        let s = refers g (root g (place src m)) giver other in
+        let same : from + n - from ≡ n = omega arith in
+        record {
+          a = t.0;
+          b = s.0;
+          taker = taker;
+          giver = giver;
+          target = t.1;
+          source = s.1;
+          taker_found = t.2;
+          giver_found = s.2;
+          taker_long = leb-true (to + n) (length taker.fields) fits;
+          giver_long = leb-true (from + n) (length giver.fields) high;
+          numbers = λ raw k v low less e. number_at giver.fields from n k v
+              (ap (λ c. list_all is_number (take c (drop from giver.fields))) (sym same) ∙ (sym (ap (λ b. not b || list_all is_number (values_in giver from n)) raw) ∙ taken)) low less e;
+        }
+
+    go : (o u : Option Object) → object_in g d m ≡ o → object_in g src m ≡ u → copy_reply to from n o u ≡ Done → CanCopy g (place d m) (place src m) to from n
+    go None u one other e = absurd (let no : NoObject ≡ Done = e in cc)
+    go (Some taker) None one other e = absurd (let no : NoObject ≡ Done = e in cc)
+    go (Some taker) (Some giver) one other e = both taker giver one other (nat_le (to + n) (length taker.fields)) (nat_le (from + n) (length giver.fields)) (takes_values taker (values_in giver from n)) refl refl refl e
+
+pub each_done : (s : State) (m to from n : ℕ) (d src t : SlotName) → (place t m ≡ place d m → ⊥) → (place t m ≡ place src m → ⊥) → place t m < length s.heap.graph.roots → (copy_fields_step s m d to src from t n).0 ≡ Done → AllCopied s m d to src from t n
+each_done s m to from n d src t apart other inside said = all_done n s m to from d src t apart other inside (can_copy s.heap.graph m to from n d src said)

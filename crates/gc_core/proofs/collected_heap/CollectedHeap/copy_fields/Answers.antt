@@ -1,0 +1,35 @@
+use Rattle.std.proofs.Common.{◌≡◌, ◌<◌, None, refl, ap, ◌∙◌, sym, subst, arith}
+use Rattle.std.specs.Option.{option_map}
+use Rattle.gc_plan.specs.State.{State}
+use Rattle.gc_copy.specs.Words.{collection_in, state_of, open_state, idle_state}
+use Rattle.gc_graph.specs.declared.reply.Reply.TheVariants.{Done}
+use Rattle.gc_core.specs.Copying.{copy_fields_step}
+use Rattle.gc_core.specs.Internal.CollectedHeap.{Fits}
+use Rattle.gc_core.specs.Internal.KnownRoots.{KnowsRoots}
+use Rattle.gc_core.specs.declared.known.KnownRoots.{KnownRoots}
+use Rattle.gc_core.proofs.NewFrom.{opened_at}
+use Rattle.gc_core.proofs.Copies.{copies_know, all_copied, none_copied}
+use Rattle.gc_core.proofs.collected_heap.CollectedHeap.copy_fields.Goals as goal
+
+pub invariant_of-self : goal.invariant_of-self
+invariant_of-self c =
+    let heap = c.self.inside.heap in
+    let none : c.self.inside.collection ≡ None = c.in_default-collection.is in
+    let less : c.args.m < heap.mutators = subst (λ (s : State). c.args.m < s.mutators) (sym c.self.view_is) c.requires.mutator in
+    let after : KnownRoots = record { slots = 0; extra = c.self.inside.known.extra; used = c.self.inside.known.used } in
+    subst (λ o. Fits c.copy.new.heap o × KnowsRoots after (state_of c.copy.new.heap (option_map collection_in o))) (sym none) (
+      c.copy.ensures.links,
+      subst (KnowsRoots after) c.copy.ensures.step (copies_know c.args.count c.self.inside.known (idle_state heap) c.args.m c.args.to c.args.from c.args.d c.args.s c.args.t (omega (arith, c.index.ensures.value, c.index.ensures.bound)) less
+          (subst (λ o. KnowsRoots c.self.inside.known (state_of heap (option_map collection_in o))) none c.self.invariant.1)),
+    )
+
+pub invariant_of-self-2 : goal.invariant_of-self-2
+invariant_of-self-2 c =
+    let heap = c.self.inside.heap in
+    let less : c.args.m < heap.mutators = subst (λ (s : State). c.args.m < s.mutators) (sym c.self.view_is) c.requires.mutator in
+    let before = opened_at heap c.self.inside.collection c.in-Some.collection c.reserve_more.new.self (state_of heap (option_map collection_in c.self.inside.collection)) c.in-Some.is c.in_ok-reserve_more.ensures.collection refl in
+    let after : KnownRoots = record { slots = 0; extra = c.self.inside.known.extra; used = c.self.inside.known.used } in (
+      c.copy_and_log.ensures.belongs,
+      subst (KnowsRoots after) c.copy_and_log.ensures.step (copies_know c.args.count c.self.inside.known (open_state heap c.reserve_more.new.self) c.args.m c.args.to c.args.from c.args.d c.args.s c.args.t (omega (arith, c.index.ensures.value, c.index.ensures.bound)) less
+          (subst (KnowsRoots c.self.inside.known) (sym before) c.self.invariant.1)),
+    )

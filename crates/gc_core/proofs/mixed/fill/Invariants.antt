@@ -1,0 +1,12 @@
+use Rattle.std.proofs.Common.{◌≡◌, drop}
+use Rattle.gc_copy.specs.Words.{idle_state, HasNoLinks}
+use Rattle.gc_core.specs.Mixed.{sources_step}
+use Rattle.gc_core.proofs.mixed.fill.Given as goal
+
+-- the fields so far are filled, and filling the rest fills all
+abbrev pub invariant-loop-i : goal.invariant-loop-i
+invariant-loop-i g l = record {
+  rest : sources_step (idle_state l.heap) l.m l.d l.t l.i (drop l.i (g.R.SourceRow.sources l.fields)) ≡ sources_step (idle_state l.fn.heap) l.m l.d l.t 0 (g.R.SourceRow.sources l.fields);
+  links : HasNoLinks l.heap;
+  mutators : l.heap.mutators ≡ l.fn.heap.mutators;
+}

@@ -1,0 +1,205 @@
+//! Copies fields from one object to another.
+
+ghost use Rattle.std.specs.Prelude.{◌≡◌, ◌≢◌, ◌<◌, ◌≤◌, ◌+◌, ◌||◌, not, length, IfOk, IfSome, OnErr, IsSome};
+ghost use Rattle.std.specs.List.{list_all};
+ghost use Rattle.std.specs.Option.{option_map};
+ghost use Rattle.gc_graph.specs.Slots.{place};
+ghost use Rattle.gc_graph.specs.Machine.{is_number};
+ghost use Rattle.gc_words.specs.Word.{value_of, field_value};
+ghost use Rattle.gc_words.specs.Image.{object_of_block};
+ghost use Rattle.gc_graph.specs.declared.command.Op.{Op};
+ghost use Rattle.gc_heap.specs.Heap.{graph_in};
+ghost use Rattle.gc_plan.specs.Steps.{mutate};
+ghost use Rattle.gc_copy.specs.Words.{idle_state, open_state, HasNoLinks, BelongsTo, spare_of};
+ghost use Rattle.gc_core.specs.Copying.{object_in, copy_reply as reply_of, copy_step, copy_fields_step};
+
+use crate::collected_heap::CollectedHeap;
+use gc_copy::{Collection, commands_leave_collections};
+use gc_graph::{NoMemory, Reply, Slot};
+use gc_heap::Heap;
+use gc_words::{Addr, Header};
+
+impl CollectedHeap {
+    /// Copies `count` fields: from field `from` on, of the object that `s` refers to, to field `to` and on of the object that `d` refers
+    /// to. For each field this is a `get` into `t` and a `put` of `t`, in rising order, so `t` keeps the last value; within one object, a
+    /// field that was written is read as it was written. Returns `Done`. Or nothing is changed, and the reply is `NoObject` where `d` or
+    /// `s` refers to no object, `NoField` where one of the objects has too few fields, or `NoNumber` where the object in `d` is raw and
+    /// one of the values is no number. `t` is another slot than `d` and `s`. While a collection is open, each field is logged (the write
+    /// barrier). Only then can the call return `NoMemory`, and the heap is unchanged.
+    pub fn copy_fields(
+        &mut self,
+        m: u8,
+        d: Slot,
+        to: u16,
+        s: Slot,
+        from: u16,
+        t: Slot,
+        count: u16,
+    ) -> Result<Reply, NoMemory>
+        requires mutator { m < self.old.mutators }
+        requires target { place t m ≢ place d m }
+        requires source { place t m ≢ place s m }
+        ensures step { IfOk result (λ reply. copy_fields_step self.old m d to s from t count ≡ (reply, self.new)) }
+        // A copy that is done fits into an object.
+        ensures fits { IfOk result (λ reply. reply ≡ Reply.Done → to + count ≤ 65535) }
+        ensures refused { OnErr result (self.new ≡ self.old) }
+        ensures open { OnErr result (IsSome self.old.collection) }
+        ensures mutators { self.new.mutators ≡ self.old.mutators }
+    {
+        commands_leave_collections();
+        // Here the prover learns that the heap is sound, and the slot in range.
+        let _ = self.heap.space();
+        let _ = t.index();
+        let reply = copy_reply(&self.heap, m, d, to, s, from, count);
+        let Reply::Done = reply else {
+            return Ok(reply);
+        };
+        let Some(collection) = &mut self.collection else {
+            self.known.slots = 0;
+            copy(&mut self.heap, m, d, to, s, from, t, count);
+            return Ok(reply);
+        };
+        collection.reserve_more(m, usize::from(count))?;
+        self.known.slots = 0;
+        copy_and_log(collection, &mut self.heap, m, d, to, s, from, t, count);
+        Ok(reply)
+    }
+}
+
+// The object that a slot refers to: its header and its field words.
+fn object(heap: &Heap, m: u8, slot: Slot) -> Option<(Header, &[u64])>
+    requires { m < heap.now.mutators }
+    ensures is { option_map (λ found. object_of_block (record { header = found.0; fields = found.1.now })) result ≡ object_in (graph_in heap.now) slot m }
+    ensures long { IfSome result (λ found. length found.1.now ≡ found.0.len) }
+{
+    let at = Addr(heap.target(m, slot)?.0);
+    Some((heap.space().header(at), heap.space().fields(at)))
+}
+
+// Whether the values of these words are all numbers.
+fn are_numbers(words: &[u64]) -> bool
+    ensures { result ≡ list_all (λ w. is_number (value_of w)) words.now }
+{
+    for k in 0..words.len() {
+        if words[k] % 2 == 0 {
+            return false;
+        }
+    }
+    true
+}
+
+// Whether an object with the header `target` takes these words of an object with the header `source`: any, or only numbers if it is raw.
+fn takes(target: Header, source: Header, words: &[u64]) -> bool
+    ensures { result ≡ (not target.raw || list_all (λ w. is_number (field_value source w)) words.now) }
+{
+    if !target.is_raw() {
+        return true;
+    }
+    if source.is_raw() {
+        return true;
+    }
+    are_numbers(words)
+}
+
+// Whether so many fields can be copied.
+fn copy_reply(heap: &Heap, m: u8, d: Slot, to: u16, s: Slot, from: u16, count: u16) -> Reply
+    requires { m < heap.now.mutators }
+    ensures reply { result ≡ reply_of to from count (object_in (graph_in heap.now) d m) (object_in (graph_in heap.now) s m) }
+    ensures fits { result ≡ Reply.Done → (to + count ≤ 65535) × (from + count ≤ 65535) }
+{
+    let (Some((target, _)), Some((source, words))) = (object(heap, m, d), object(heap, m, s)) else {
+        return Reply::NoObject;
+    };
+    let (first, count) = (usize::from(from), usize::from(count));
+    if usize::from(to) + count > usize::from(target.len()) || first + count > words.len() {
+        return Reply::NoField;
+    }
+    if !takes(target, source, &words[first..first + count]) {
+        return Reply::NoNumber;
+    }
+    Reply::Done
+}
+
+// Copies one field, while no collection is open.
+fn copy_field(heap: &mut Heap, m: u8, d: Slot, i: u16, s: Slot, j: u16, t: Slot)
+    requires mutator { m < heap.old.mutators }
+    requires links { HasNoLinks heap.old }
+    ensures step { (mutate (mutate (idle_state heap.old) m (Op.Get t s j)).1 m (Op.Put d i t)).1 ≡ idle_state heap.new }
+    ensures links { HasNoLinks heap.new }
+    ensures mutators { heap.new.mutators ≡ heap.old.mutators }
+{
+    commands_leave_collections();
+    // Here the prover learns that the heap is sound.
+    let _ = heap.space();
+    let _got = heap.fetch(m, t, s, j);
+    let _put = heap.put(m, d, i, t);
+}
+
+// Copies the fields, while no collection is open.
+#[tactic(auto, using(crate::proofs::Copies::one_copied))]
+fn copy(heap: &mut Heap, m: u8, d: Slot, to: u16, s: Slot, from: u16, t: Slot, count: u16)
+    requires mutator { m < heap.old.mutators }
+    requires links { HasNoLinks heap.old }
+    requires target { to + count ≤ 65535 }
+    requires source { from + count ≤ 65535 }
+    ensures step { copy_step (idle_state heap.old) m d to s from t count ≡ idle_state heap.new }
+    ensures links { HasNoLinks heap.new }
+    ensures mutators { heap.new.mutators ≡ heap.old.mutators }
+{
+    for k in 0..count {
+        copy_field(heap, m, d, to + k, s, from + k, t);
+    }
+}
+
+// Copies one field, and logs that it was written. Needs room in the log.
+fn copy_field_and_log(
+    collection: &mut Collection,
+    heap: &mut Heap,
+    m: u8,
+    d: Slot,
+    i: u16,
+    s: Slot,
+    j: u16,
+    t: Slot,
+)
+    requires belongs { BelongsTo heap.old collection.old }
+    requires mutator { m < heap.old.mutators }
+    requires room { 1 ≤ spare_of collection.old m }
+    ensures step { (mutate (mutate (open_state heap.old collection.old) m (Op.Get t s j)).1 m (Op.Put d i t)).1
+        ≡ open_state heap.new collection.new }
+    ensures belongs { BelongsTo heap.new collection.new }
+    ensures mutators { heap.new.mutators ≡ heap.old.mutators }
+    ensures spare { spare_of collection.old m ≤ spare_of collection.new m + 1 }
+{
+    // Here the prover learns that the heap is sound.
+    let _ = heap.space();
+    let _got = heap.fetch(m, t, s, j);
+    let _put = collection.put(heap, m, d, i, t);
+}
+
+// Copies the fields and logs each one that is written. `reserve_more` makes room for the entries beforehand.
+#[tactic(auto, using(crate::proofs::Copies::one_copied))]
+fn copy_and_log(
+    collection: &mut Collection,
+    heap: &mut Heap,
+    m: u8,
+    d: Slot,
+    to: u16,
+    s: Slot,
+    from: u16,
+    t: Slot,
+    count: u16,
+)
+    requires belongs { BelongsTo heap.old collection.old }
+    requires mutator { m < heap.old.mutators }
+    requires target { to + count ≤ 65535 }
+    requires source { from + count ≤ 65535 }
+    requires room { count ≤ spare_of collection.old m }
+    ensures step { copy_step (open_state heap.old collection.old) m d to s from t count ≡ open_state heap.new collection.new }
+    ensures belongs { BelongsTo heap.new collection.new }
+    ensures mutators { heap.new.mutators ≡ heap.old.mutators }
+{
+    for k in 0..count {
+        copy_field_and_log(collection, heap, m, d, to + k, s, from + k, t);
+    }
+}

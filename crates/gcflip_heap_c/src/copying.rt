@@ -1,0 +1,49 @@
+//! The export that copies fields from one object to another.
+
+ghost use Rattle.std.specs.Prelude.{◌≡◌, IsSome, IsSomeAnd};
+ghost use Rattle.gcflip_heap_c.specs.Copying.{IsCopyCall};
+
+use crate::answer::{CLOSED, NO_MEMORY, OUT_OF_RANGE};
+use crate::handle::GcflipHeap;
+use crate::reply::of_reply;
+use crate::slots::slot;
+use gc_graph::NoMemory;
+
+/// Copies `count` fields: from field `from` on, of the object that slot `s` refers to, to field `to` and on of the object that slot `d`
+/// refers to. For each field this is a `gcflip_heap_get` into slot `t` and a `gcflip_heap_put` of slot `t`, in rising order and in one call,
+/// so `t` keeps the last value; it is another slot than `d` and `s`. All are copied or none. Allocates only while a collection is open.
+#[unsafe(no_mangle)]
+pub extern "C" fn gcflip_heap_copy_fields(
+    heap: &mut GcflipHeap,
+    m: u8,
+    d: u8,
+    to: u16,
+    s: u8,
+    from: u16,
+    t: u8,
+    count: u16,
+) -> u32
+    ensures call { IsCopyCall m d to s from t count heap.old.state heap.new.state result }
+    ensures memory { result ≡ 1 → IsSomeAnd heap.old.state (λ s. IsSome s.collection) }
+{
+    if heap.is_empty() {
+        return CLOSED;
+    }
+    let heap = heap.heap_mut();
+    if m >= heap.mutators() || t == d || t == s {
+        return OUT_OF_RANGE;
+    }
+    let Some(target) = slot(d) else {
+        return OUT_OF_RANGE;
+    };
+    let Some(source) = slot(s) else {
+        return OUT_OF_RANGE;
+    };
+    let Some(value) = slot(t) else {
+        return OUT_OF_RANGE;
+    };
+    match heap.copy_fields(m, target, to, source, from, value, count) {
+        Ok(reply) => of_reply(&reply),
+        Err(NoMemory) => NO_MEMORY,
+    }
+}
