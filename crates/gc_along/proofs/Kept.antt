@@ -127,20 +127,6 @@ replica_counted t h a due m k is =
 abbrev pub IsFreedAt : List ℕ → List ℕ → ℕ → Type 0
 IsFreedAt before after a = (get_or after a 0 ≡ get_or before a 0) ⊎ ((get_or before a 0 ≡ 2) × (get_or after a 0 ≡ 1))
 
--- one mark set to 1, which was a start's
-pub freed_one : (before after : List ℕ) (x : ℕ) → get_or before x 0 ≡ 2 → length after ≡ length before → ((a : ℕ) → IsFreedAt before after a) → (a : ℕ) → IsFreedAt before (set after x 1) a
-freed_one before after x two count h a = elim (cases_eq a x) [
-  | inl same ↦ inr (ap (λ a. get_or before a 0) same ∙ two, ap (λ a. get_or (set after x 1) a 0) same ∙ get_or-set_same after x 1 0 (let l : x < length before = within_row before x 1 two in omega arith))
-  | inr other ↦ (let e : get_or (set after x 1) a 0 ≡ get_or after a 0 = get_or-set_other after x a 1 0 other in
-      ⊎_elim (λ f. inl (e ∙ f)) (λ f. inr (f.0, e ∙ f.1)) (h a))
-]
-
-pub one_stays : (before after : List ℕ) (x y : ℕ) → get_or before x 0 ≡ 2 → length after ≡ length before → get_or after y 0 ≡ 1 → get_or (set after x 1) y 0 ≡ 1
-one_stays before after x y two count h = elim (cases_eq y x) [
-  | inl same ↦ ap (λ a. get_or (set after x 1) a 0) same ∙ get_or-set_same after x 1 0 (let l : x < length before = within_row before x 1 two in omega arith)
-  | inr other ↦ get_or-set_other after x y 1 0 other ∙ h
-]
-
 -- ---- the fields as they are written
 
 -- the tables with one place due or not, and counted anew

@@ -41,9 +41,6 @@ new_begins p rest fits = record { small = omega (arith, fits.1); parts = refl; w
 tails : (b : ℕ) (xs ys : List ℕ) → b ∷ xs ≡ b ∷ ys → xs ≡ ys
 tails b xs ys e = cc
 
-pub no_old : (text : List ℕ) → HasNoNumber 4294967295 text → NoneIsFirst AreAddresses pair_line text
-no_old text never p rest fits e = never p.0 (space ∷ (decimal p.1 ++ newline ∷ rest)) (omega (arith, fits.0)) (old_begins text p rest fits e)
-
 pub no_space : (text more : List ℕ) (n : ℕ) → BeginsWithNumber text n more → HasNotFirst space more → NoneIsFirst AreAddresses pair_line text
 no_space text more n begins never p rest fits e = never (decimal p.1 ++ newline ∷ rest) (one_front text n p.0 more (space ∷ (decimal p.1 ++ newline ∷ rest)) begins (old_begins text p rest fits e)).1
 
@@ -56,9 +53,6 @@ no_new text more n begins never p rest fits e = never p.1 (newline ∷ rest) (om
 pub no_pair_end : (text more last : List ℕ) (n m : ℕ) → BeginsWithNumber text n (space ∷ more) → BeginsWithNumber more m last → HasNotFirst newline last → NoneIsFirst AreAddresses pair_line text
 no_pair_end text more last n m begins then never p rest fits e =
     never rest (one_front more m p.1 last (newline ∷ rest) then (rw (behind_space text more n p rest begins fits e) (new_begins p rest fits))).1
-
-pub pair_is_first : (text more rest : List ℕ) (n m : ℕ) → BeginsWithNumber text n (space ∷ more) → BeginsWithNumber more m (newline ∷ rest) → text ≡ pair_line (n, m) ++ newline ∷ rest
-pair_is_first text more rest n m begins then = begins.parts ∙ ap (λ (t : List ℕ). decimal n ++ space ∷ t) then.parts ∙ sym (pair_parts (n, m) rest)
 
 -- ---- faults of a line
 

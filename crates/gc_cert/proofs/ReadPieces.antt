@@ -83,13 +83,6 @@ lines_left text p r left lines q h taken =
       },
     )
 
-pub still_reading : (r : PairReader) (lines : List (List ℕ)) (q : Place) → IsReading r → HasTaken lines (waiting_place r) q → length lines ≤ length (text_of lines) → IsReading (left_at r q)
-still_reading r lines q h taken short = record {
-  counted = omega (arith, h.counted, taken.number, short, ap length taken.parts, length-append (text_of lines) q.rest, ap length (left_is (text_of lines) q.rest r.pieces.waiting taken.parts));
-  bounded = h.bounded;
-  limit_is = h.limit_is;
-}
-
 -- ---- the start and the end of the text
 
 -- a reader that has read nothing is at the start

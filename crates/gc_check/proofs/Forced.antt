@@ -100,10 +100,6 @@ or_true : (b : Bool) → (b || true) ≡ true
 or_true true = refl
 or_true false = refl
 
-and_last_false : (x y : Bool) → x ≡ false → (y && x && true) ≡ false
-and_last_false x true e = ap (λ t. t && true) e
-and_last_false x false e = refl
-
 pushed_taken : (old new : Image) (pairs : List (ℕ × ℕ)) (a b : ℕ) → is_free old new (pairs ++ (a, b) ∷ []) a b ≡ false
 pushed_taken old new pairs a b =
     elim (cases_Bool (is_free old new (pairs ++ (a, b) ∷ []) a b)) [

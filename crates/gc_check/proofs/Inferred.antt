@@ -248,13 +248,6 @@ module _ (old new old_seen new_seen : Image) (found : Found) (cert : List Pair) 
   pairs_hold some =
       subst (Certified old new) (sym rise) (certified_now old new (pairs_of found.pairs.items) (originals_in new found) held_here.originals met_here some.0 some.1 low_here)
 
--- if no certificate holds, any pairs will do
-pub forced_by_none : (old new : Image) (pairs : List (ℕ × ℕ)) → (Certifiable old new → ⊥) → AreForced old new pairs
-forced_by_none old new pairs none = λ other certified. absurd (none (other, certified))
-
-pub complete_by_none : (old new : Image) (pairs : List (ℕ × ℕ)) → (Certifiable old new → ⊥) → Certifiable old new → Certified old new pairs
-complete_by_none old new pairs none some = absurd (none some)
-
 -- a refusal of these pairs is one of all
 pub refused_of_all : (old new : Image) (pairs : List (ℕ × ℕ)) (refusal : Refusal) → (Certifiable old new → Certified old new pairs) → first_fault old new pairs ≡ Some refusal → Certifiable old new → ⊥
 refused_of_all old new pairs refusal complete e some = let no : None ≡ Some refusal = sym (no_fault_of_certified old new pairs (complete some)) ∙ e in cc

@@ -44,10 +44,6 @@ pairs_push (y ∷ cert) x = ap (λ rest. addresses y ∷ rest) (pairs_push cert 
 
 -- ---- free addresses
 
-not_not : (b : Bool) → not (not b) ≡ b
-not_not true = refl
-not_not false = refl
-
 turned : (b c : Bool) → not b ≡ c → b ≡ not c
 turned true c e = ap not e
 turned false c e = ap not e
@@ -82,16 +78,6 @@ and_and_false a b c d e f g = (λ i. e i && f i && g i && d)
 
 and_and_and : (a b c d : Bool) → a ≡ true → b ≡ true → c ≡ true → (a && b && c && d) ≡ d
 and_and_and a b c d e f g = (λ i. e i && f i && g i && d)
-
-pub no_old_start : (old new : Image) (pairs : List (ℕ × ℕ)) (a b : ℕ) → is_start old.words a ≡ false → false ≡ is_free old new pairs a b
-no_old_start old new pairs a b e = sym (false_and _ _ _ _ e)
-
-pub no_new_start : (old new : Image) (pairs : List (ℕ × ℕ)) (a b : ℕ) → is_start old.words a ≡ true → is_start new.words b ≡ false → false ≡ is_free old new pairs a b
-no_new_start old new pairs a b e f = sym (and_false _ _ _ _ e f)
-
-pub has_partner : (old new : Image) (f : Found) (a b : ℕ) → HoldsFound old new f → is_start old.words a ≡ true → is_start new.words b ≡ true → (slice_index (partners_in old f) a == 0) ≡ false
-    → false ≡ is_free old new (pairs_of f.pairs.items) a b
-has_partner old new f a b held s t e = sym (and_and_false _ _ _ _ s t (sym (old_entry old new f a held) ∙ e))
 
 pub has_original : (old new : Image) (f : Found) (a b : ℕ) → HoldsFound old new f → is_start old.words a ≡ true → is_start new.words b ≡ true → (slice_index (partners_in old f) a == 0) ≡ true
     → (slice_index (originals_in new f) b == 0) ≡ is_free old new (pairs_of f.pairs.items) a b

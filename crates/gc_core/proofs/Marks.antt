@@ -288,32 +288,9 @@ lowered known s from to low high k nil = record {
   unused = λ i le. ⊎_elim (λ l. nil i le l) (λ l. k.unused i (omega (arith, l, high))) (cases_lt i to);
 }
 
-pub advanced_slots : (known : KnownRoots) (s : State) → known.slots < roots_of s.mutators → KnowsRoots known s → KnowsRoot s known.slots → KnowsRoots (record { slots = known.slots + 1; extra = known.extra; used = known.used }) s
-advanced_slots known s less k has = record {
-  slots_high = omega (arith, less);
-  extra_high = k.extra_high;
-  used_high = k.used_high;
-  slots = λ p l. ⊎_elim (λ same. subst (KnowsRoot s) (sym same) has) (λ other. k.slots p (omega (arith, l, other))) (cases_eq p known.slots);
-  extra = k.extra;
-  unused = k.unused;
-}
-
-pub advanced_extra : (known : KnownRoots) (s : State) → known.extra < known.used → KnowsRoots known s → KnowsRoot s (roots_of s.mutators + known.extra) → KnowsRoots (record { slots = known.slots; extra = known.extra + 1; used = known.used }) s
-advanced_extra known s less k has = record {
-  slots_high = k.slots_high;
-  extra_high = omega (arith, less);
-  used_high = k.used_high;
-  slots = k.slots;
-  extra = λ i l. ⊎_elim (λ same. subst (λ j. KnowsRoot s (roots_of s.mutators + j)) (sym same) has) (λ other. k.extra i (omega (arith, l, other))) (cases_eq i known.extra);
-  unused = k.unused;
-}
-
 -- the next place, if the marks tell of some slots only
 pub next_slot : (slots : ℕ) (known : KnownRoots) → known.slots < slots → next_place slots known ≡ known.slots
 next_slot slots known less = cond-true (nat_lt known.slots slots) known.slots (slots + known.extra) (lt-ltb known.slots slots less)
-
-pub next_extra : (slots : ℕ) (known : KnownRoots) → slots ≤ known.slots → next_place slots known ≡ slots + known.extra
-next_extra slots known le = cond-false (nat_lt known.slots slots) known.slots (slots + known.extra) (le-ltb known.slots slots le)
 
 -- ---- opening, beginning and flipping
 
@@ -321,26 +298,6 @@ nil_replicate : (n p : ℕ) → value_or_nil (slice_get (replicate n Nil) p) ≡
 nil_replicate zero p = refl
 nil_replicate (suc n) zero = refl
 nil_replicate (suc n) (suc p) = nil_replicate n p
-
-pub opened_knows : (options : HeapOptions) (s : State) → s ≡ opening_state_with options → KnowsRoots (record { slots = 0; extra = 0; used = 0 }) s
-opened_knows options s is = subst (KnowsRoots (record { slots = 0; extra = 0; used = 0 })) (sym is) (record {
-  slots_high = omega arith;
-  extra_high = omega arith;
-  used_high = omega (arith, length-replicate (roots_of options.mutators + options.extra_roots) Nil);
-  slots = λ p less. absurd (omega (arith, less));
-  extra = λ i less. absurd (omega (arith, less));
-  unused = λ i le. nil_replicate (roots_of options.mutators + options.extra_roots) (roots_of options.mutators + i);
-})
-
-pub begun_knows : (known : KnownRoots) (s t : State) → t.mutators ≡ s.mutators → t.heap ≡ s.heap → KnowsRoots known s → KnowsRoots (record { slots = 0; extra = 0; used = known.used }) t
-begun_knows known s t count same k = record {
-  slots_high = omega arith;
-  extra_high = omega arith;
-  used_high = subst (λ n. roots_of n + known.used ≤ length t.heap.graph.roots) (sym count) (subst (λ (h : Roomy). roots_of s.mutators + known.used ≤ length h.graph.roots) (sym same) k.used_high);
-  slots = λ p less. absurd (omega (arith, less));
-  extra = λ i less. absurd (omega (arith, less));
-  unused = λ i le. subst (λ n. root t.heap.graph (roots_of n + i) ≡ Nil) (sym count) (subst (λ (h : Roomy). root h.graph (roots_of s.mutators + i) ≡ Nil) (sym same) (k.unused i le));
-}
 
 -- after a flip no collection is open
 pub flipped_knows : (known : KnownRoots) (s t : State) (reply : StepReply) → t.collection ≡ None → t.mutators ≡ s.mutators → collect s steps.Flip ≡ (reply, t) → KnowsRoots known s → KnowsRoots known t

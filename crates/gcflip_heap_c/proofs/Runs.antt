@@ -81,10 +81,3 @@ longer_run size s t u n before reply run on step sound leaves =
         (λ early. run.going k early)
         (λ late. let last : n - 1 ≡ k = omega arith in subst (λ (j : ℕ). goes_on (useful_reply size j s) ≡ true) last (ap goes_on (sym run.reply_is) ∙ on))
         (cases_lt (suc k) n)
-
--- a run of as many steps as were left has ended
-pub run_ends : (size : Option ℕ) (n : ℕ) (s t : State) (reply : StepReply) → IsRun size n s t reply → work_left s ≤ n → goes_on reply ≡ false
-run_ends size n s t reply run all = ⊎_elim
-    (λ on. let falls = run.falls on in let some = some_left t in absurd (omega (arith, all)))
-    (λ ended. ended)
-    (cases_Bool (goes_on reply))
