@@ -146,7 +146,9 @@ fn visit_object(starts: &Starts, visits: &mut Visits, address: u32, found: Visit
     if visits.numbers.get(starts, address) != 0 {
         return;
     }
-    visits.numbers.set(starts, address, visits.list.len() as u32);
+    visits
+        .numbers
+        .set(starts, address, visits.list.len() as u32);
     visits.list.push_reserved(found);
 }
 
