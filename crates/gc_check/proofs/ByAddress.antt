@@ -88,6 +88,13 @@ number_read words entries place h start = sym (by_address_at words entries place
 pub no_number : (words entries : List ℕ) (place : ℕ) → HasEntries words entries → is_start words place ≡ false → 0 ≡ slice_index (by_address words entries) place
 no_number words entries place h none = sym (by_address_at words entries place h.walked ∙ no_entry words entries place none)
 
+pub zero_at : (words entries : List ℕ) (place half : ℕ) → HasEntries words entries → place / 2 ≡ half → slice_index entries half ≡ 0 → slice_index (by_address words entries) place ≡ 0
+zero_at words entries place half h same none = by_address_at words entries place h.walked ∙ either (is_start words place)
+  where
+    either : (b : Bool) → cond b (slice_index entries (place / 2)) 0 ≡ 0
+    either true = ap (slice_index entries) same ∙ none
+    either false = refl
+
 -- an entry that is not 0 is that of a start
 pub number_starts : (words entries : List ℕ) (place : ℕ) → IsOk (walk_words words) → not (slice_index (by_address words entries) place == 0) ≡ true → is_start words place ≡ true
 number_starts words entries place ok some = from (is_start words place) refl

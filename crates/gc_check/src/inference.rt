@@ -1,6 +1,6 @@
 //! Infers a certificate from two images alone.
 
-ghost use Rattle.std.specs.Prelude.{◌≡◌, ◌<◌, ◌≤◌, ◌^◌, [], length, vec_capacity, Err, IfOk, IfErr, IsTrue};
+ghost use Rattle.std.specs.Prelude.{◌≡◌, ◌<◌, ◌≤◌, ◌^◌, ◌+◌, ◌++◌, [], drop, length, vec_capacity, Err, IfOk, IfErr, IsTrue};
 ghost use Rattle.gc_words.specs.Certificate.{Certified};
 ghost use Rattle.gc_words.specs.Fault.{AreComparable, table_fault, object_faults, root_fault, ◌or_else◌};
 ghost use Rattle.gc_words.specs.Views.{image_of};
@@ -218,13 +218,31 @@ fn enter_rising(new: &Starts, originals: &ObjectTable, pairs: &mut Vec<Pair>)
     requires room { taken_in (by_address new.now.words originals.now) ≤ vec_capacity pairs.old }
     ensures pairs { pairs_of pairs.new.items ≡ risen 0 (by_address new.now.words originals.now) }
 {
-    for b in 0..new.places() {
-        let original = originals.get(new, b as u32);
-        if original != 0 {
-            pairs.push_reserved(Pair {
-                old: OldAddr(original),
-                new: NewAddr(b as u32),
-            });
+    for half in 0..originals.len() {
+        if originals.is_zero(half) {
+            continue;
         }
+        enter(new, originals, 2 * half as u32, pairs);
+        enter(new, originals, 2 * half as u32 + 1, pairs);
     }
+}
+
+// Appends the pair of the new object that starts at this place, if one does and has an original. The pairs of later places are still to come.
+fn enter(new: &Starts, originals: &ObjectTable, place: u32, pairs: &mut Vec<Pair>)
+    requires entries { HasEntries new.now.words originals.now }
+    requires room { length pairs.old.items
+        + taken_in (drop place (by_address new.now.words originals.now)) ≤ vec_capacity pairs.old }
+    ensures pairs { pairs_of pairs.new.items ++ risen (place + 1) (drop (place + 1) (by_address new.now.words originals.now))
+        ≡ pairs_of pairs.old.items ++ risen place (drop place (by_address new.now.words originals.now)) }
+    ensures room { length pairs.new.items
+        + taken_in (drop (place + 1) (by_address new.now.words originals.now)) ≤ vec_capacity pairs.new }
+{
+    let original = originals.get(new, place);
+    if original == 0 {
+        return;
+    }
+    pairs.push_reserved(Pair {
+        old: OldAddr(original),
+        new: NewAddr(place),
+    });
 }

@@ -20,7 +20,7 @@ impl Model for ObjectTable {
 }
 
 impl ObjectTable {
-    ghost use Rattle.std.specs.Prelude.{◌≡◌, IfOk, IsOk, IsTrue, length, replicate, slice_index, slice_set};
+    ghost use Rattle.std.specs.Prelude.{◌≡◌, ◌<◌, ◌==◌, IfOk, IsOk, IsTrue, length, replicate, slice_index, slice_set};
     ghost use Rattle.gc_words.specs.Image.{is_start, walk_words};
     ghost use Rattle.gc_check.specs.Internal.Tables.{HasEntries, by_address};
 
@@ -45,6 +45,21 @@ impl ObjectTable {
             return 0;
         }
         self.entries[place as usize / 2]
+    }
+
+    /// Returns the number of entries.
+    pub(crate) fn len(&self) -> usize
+        ensures { result ≡ length self.now }
+    {
+        self.entries.len()
+    }
+
+    /// Returns whether the object that starts in words `2 * half` and `2 * half + 1`, if one does, has the number 0.
+    pub(crate) fn is_zero(&self, half: usize) -> bool
+        requires { half < length self.now }
+        ensures { result ≡ (slice_index self.now half == 0) }
+    {
+        self.entries[half] == 0
     }
 
     /// Sets the number of the object that starts at this place.

@@ -1,17 +1,26 @@
-use Rattle.std.proofs.Common.{rules, ◌≤◌, ◌++◌, length, sym, ◌∙◌, ap, arith, append-nil}
+use Rattle.std.proofs.Common.{rules, ◌≡◌, ◌≤◌, ◌+◌, ◌*◌, ◌++◌, length, slice_index, sym, ◌∙◌, ap, arith, append-nil}
 use Rattle.std.proofs.lemmas.List.{drop_all}
 use Rattle.gc_check.specs.Internal.Meetings.{risen}
 use Rattle.gc_check.specs.Internal.Tables.{by_address}
 use Rattle.gc_check.specs.Verdict.{pairs_of}
-use Rattle.gc_check.proofs.ByAddress.{length_by_address}
+use Rattle.gc_check.proofs.Rising.{Passed, both_passed, none_left}
 use Rattle.gc_check.proofs.inference.enter_rising.Goals as goal
+
+pub loop-half-preserved-then-is_zero : goal.loop-half-preserved-then-is_zero
+loop-half-preserved-then-is_zero c =
+    let words = c.args.new.now.words in
+    let zero : slice_index c.args.originals.now c.loop-half.half ≡ 0 = search rules in
+    let next : Passed (by_address words c.args.originals.now) (2 * c.loop-half.half) (2 * (c.loop-half.half + 1)) = both_passed words c.args.originals.now c.loop-half.half c.requires.entries zero in
+    record {
+      same = ap (λ rest. pairs_of c.loop-half.pairs.items ++ rest) (sym next.risen_is) ∙ c.loop-half.invariant.same;
+      room = omega (arith, next.taken_is, c.loop-half.invariant.room);
+    }
 
 pub returns : goal.returns
 returns c =
-    let words = c.args.new.now.words in
-    let row = by_address words c.args.originals.now in
-    let end : length words ≤ c.loop-b.b = search rules in
-    let past : length row ≤ c.loop-b.b = omega (arith, length_by_address words c.args.originals.now, end) in
+    let row = by_address c.args.new.now.words c.args.originals.now in
+    let end : length c.args.originals.now ≤ c.loop-half.half = search rules in
+    let past : length row ≤ 2 * c.loop-half.half = none_left c.args.new.now.words c.args.originals.now c.loop-half.half c.requires.entries end in
     record {
-      pairs = sym (ap (λ rest. pairs_of c.loop-b.pairs.items ++ risen c.loop-b.b rest) (drop_all c.loop-b.b row past) ∙ append-nil (pairs_of c.loop-b.pairs.items)) ∙ c.loop-b.invariant.same;
+      pairs = sym (ap (λ rest. pairs_of c.loop-half.pairs.items ++ risen (2 * c.loop-half.half) rest) (drop_all (2 * c.loop-half.half) row past) ∙ append-nil (pairs_of c.loop-half.pairs.items)) ∙ c.loop-half.invariant.same;
     }
