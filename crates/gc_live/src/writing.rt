@@ -3,7 +3,7 @@
 ghost use Rattle.std.specs.Prelude.{◌≡◌, ◌≢◌, ◌<◌, ◌≤◌, ◌+◌, length, IfOk, OnErr, IsSome};
 ghost use Rattle.gc_graph.specs.Slots.{place};
 ghost use Rattle.gc_core.specs.Writing.{put_numbers_step};
-ghost use Rattle.gc_live.specs.Internal.Told.{ToldWritten};
+ghost use Rattle.gc_live.specs.Internal.Told.{ToldTruly, ToldWritten};
 
 use crate::live_heap::{LiveHeap, target_in};
 use gc_along::Standing;
@@ -39,6 +39,7 @@ impl LiveHeap {
         let Reply::Done = reply else {
             return Ok(reply);
         };
+        self.inner.is_sound();
         match target {
             None => self.watch.lose(),
             Some(object) => {
@@ -53,7 +54,8 @@ impl LiveHeap {
 // Tells the checker of writes to so many fields, from field `first` on, of the object at `a`.
 fn tell_written(watch: &mut Standing, heap: &[u64], a: u32, first: u16, count: usize)
     requires { first + count ≤ 65536 }
-    ensures { ToldWritten a first count watch.old watch.new }
+    ensures written { ToldWritten a first count watch.old watch.new }
+    ensures truly { ToldTruly heap.now a first count watch.old watch.new }
 {
     for k in 0..count {
         watch.written(heap, a, first + k as u16);

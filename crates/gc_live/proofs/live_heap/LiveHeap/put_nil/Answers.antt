@@ -1,4 +1,4 @@
-use Rattle.std.proofs.Common.{◌≡◌, ℕ, List, Option, None, is_some, true, false, inr, map, refl, sym, ap, ◌∙◌}
+use Rattle.std.proofs.Common.{◌≡◌, ℕ, List, Option, None, is_some, true, false, inl, inr, map, refl, sym, ap, subst, ◌∙◌}
 use Rattle.gc_graph.specs.Graph.{Value, Ref, root, names_of, value_or_nil}
 use Rattle.gc_graph.specs.Slots.{place}
 use Rattle.gc_graph.specs.Machine.{Roomy}
@@ -8,7 +8,10 @@ use Rattle.gc_graph.specs.declared.command.Op.TheVariants as ops
 use Rattle.std.specs.Prelude.{slice_get}
 use Rattle.gc_copy.specs.State.{State, Collection}
 use Rattle.gc_copy.specs.Steps.{mutate}
+use Rattle.gc_copy.specs.Members.{In}
+use Rattle.gc_words.specs.Image.{Image}
 use Rattle.gc_beside.proofs.LivesThrough.{lives_number, put_roots, was_open}
+use Rattle.gc_live.proofs.LastsOn.{lasts_number}
 use Rattle.gc_live.proofs.live_heap.LiveHeap.put_nil.Goals as goal
 
 pub invariant_of-self-in-Some : goal.invariant_of-self-in-Some
@@ -21,6 +24,10 @@ invariant_of-self-in-Some c =
     let there : root s'.heap.graph (place c.args.s c.args.m) ≡ Ref a = ap (λ (r : Roomy). root r.graph (place c.args.s c.args.m)) (sym c.heap.ensures) ∙ c.in-Some.ensures.object in
     let root_is : root first.1.heap.graph (place c.args.s c.args.m) ≡ Ref a = ap (λ (rs : List Value). value_or_nil (slice_get rs (place c.args.s c.args.m))) (sym (put_roots first.1 s' c.args.m c.args.s c.args.i c.args.t replies.Done said)) ∙ there in
     let later : s'.collection ≡ None → ⊥ = (λ e. (let no : true ≡ false = sym c.if-not-is_open.false ∙ (c.is_open.ensures ∙ ap (λ (o : Option Collection). is_some o) e) in absurd cc)) in
-    lives_number s first.1 s' c.args.m (ops.Nil c.args.t) first.0 replies.Done (ops.Put c.args.s c.args.i c.args.t) c.self.inside.watch c.written.new.self a c.args.i c.is_sound.ensures.open refl refl refl said refl
-    (inr (c.in-Some.ensures.low, ap (λ (v : Value). map (λ (name : ℕ). (name, c.args.i)) (names_of v)) root_is, (c.written.ensures.lost, c.written.ensures.wrote)))
-    (was_open s first.1 s' c.args.m (ops.Nil c.args.t) first.0 replies.Done (ops.Put c.args.s c.args.i c.args.t) refl said later) c.self.invariant
+    let some = was_open s first.1 s' c.args.m (ops.Nil c.args.t) first.0 replies.Done (ops.Put c.args.s c.args.i c.args.t) refl said later in
+    let wrote_it = ap (λ (v : Value). map (λ (name : ℕ). (name, c.args.i)) (names_of v)) root_is in (
+      lives_number s first.1 s' c.args.m (ops.Nil c.args.t) first.0 replies.Done (ops.Put c.args.s c.args.i c.args.t) c.self.inside.watch c.written.new.self a c.args.i c.is_sound.ensures.open refl refl refl said refl
+          (inr (c.in-Some.ensures.low, wrote_it, (c.written.ensures.lost, c.written.ensures.wrote))) some c.self.invariant.0,
+      λ on. lasts_number s first.1 s' c.args.m (ops.Nil c.args.t) first.0 (ops.Put c.args.s c.args.i c.args.t) replies.Done _ c.self.inside.watch c.written.new.self a c.args.i c.is_sound.ensures.open c.is_sound-in-Done.ensures.open c.is_sound-in-Done.ensures.heap c.requires
+          refl refl said refl (subst (In {X = ℕ × ℕ} (a, c.args.i)) (sym wrote_it) (inl refl)) some (ap (λ (image : Image). image.words) c.image.ensures) c.written.ensures.stays c.written.ensures.wrote c.self.invariant.0 (c.self.invariant.1 on),
+    )
