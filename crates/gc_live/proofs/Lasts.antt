@@ -1,27 +1,30 @@
 -- A standing checker that is not lost stays so, and its tables go on knowing the heap: the collector's steps.
-use Rattle.std.proofs.Common.{◌≡◌, ◌⊎◌, inl, inr, ⊎_elim, ℕ, ◌-◌, ◌<◌, ◌≤◌, ◌==◌, true, false, List, [], ◌∷◌, length, Option, Some, None, refl, ap, sym, ◌∙◌, subst, arith}
+use Rattle.std.proofs.Common.{◌≡◌, ◌⊎◌, inl, inr, ⊎_elim, ℕ, ◌-◌, ◌<◌, ◌≤◌, ◌==◌, Bool, true, false, cond, List, [], ◌∷◌, length, Option, Some, None, refl, ap, sym, ◌∙◌, subst, arith}
+use Rattle.std.specs.Prelude.{IfSome, IsTrue}
 use Rattle.gc_words.specs.Spelling.{no_links}
 use Rattle.gc_heap.specs.declared.options.HeapOptions.{HeapOptions}
 use Rattle.gc_copy.specs.State.{Collection, State, heap_end, opening_state_with}
 use Rattle.gc_along.specs.Watch.{opening}
 use Rattle.gc_copy.specs.Linked.{old_links}
-use Rattle.gc_copy.specs.Steps.{log_at, apply_log, collect, collect_with, step_in, with_collection, fresh_collection, flipped}
+use Rattle.gc_copy.specs.Steps.{is_ready, log_at, apply_log, collect, collect_with, step_in, with_collection, fresh_collection, flipped, passes_check}
 use Rattle.gc_copy.specs.Belonging.{IsSpaceGraph, IsOpened, IsOpen}
 use Rattle.gc_copy.specs.declared.step.Step.{Step}
 use Rattle.gc_copy.specs.declared.step.Step.TheVariants as steps
 use Rattle.gc_copy.specs.declared.step.StepReply.{StepReply}
-use Rattle.gc_copy.specs.declared.step.StepReply.TheVariants.{Copied, Passed, Scanned, Applied}
+use Rattle.gc_copy.specs.declared.step.StepReply.TheVariants.{Idle, Copied, Passed, Scanned, Applied, NotReady, Refused, Flipped}
 use Rattle.std.proofs.lemmas.List.{length-map, length-replicate}
 use Rattle.gc_copy.proofs.Steps.{begun_belongs, steps_stay}
+use Rattle.gc_core.specs.Flip.{flip_pair, HasAccepted, IsSureIfReady}
 use Rattle.gc_core.specs.Readings.{links_of}
-use Rattle.gc_along.specs.Claims.{CanPlace, CanLook, CanApply, OwesNone}
+use Rattle.gc_along.specs.Claims.{Accepts, CanPlace, CanLook, CanApply, OwesNone}
 use Rattle.gc_along.specs.Events.{Placed, Looked, Applied as AppliedTo, Freed, flipped_tables, opening_tables}
 use Rattle.gc_along.specs.Tables.{Tables, watch_of}
 use Rattle.gc_beside.specs.Internal.Live.{GoesBeside, IsLive, heap_words, replica_words}
 use Rattle.gc_beside.specs.Knows.{Knows, KnowsAll, IsNeverLost, open_or_fresh}
 use Rattle.gc_beside.proofs.EndsKnown.{opened_known, begun_known, dropped_known, flipped_known}
 use Rattle.gc_beside.proofs.Events.{Goes}
-use Rattle.gc_beside.proofs.Lives.{AreNew, roots_or_same, scan_or_same, apply_or_same}
+use Rattle.gc_beside.proofs.Lives.{AreNew, lives_flipped, roots_or_same, scan_or_same, apply_or_same}
+use Rattle.gc_beside.proofs.Ready.{accepts}
 use Rattle.gc_beside.proofs.StepsKnown.{roots_told, roots_known, scan_placed, scan_looked, scan_known, passed_known, entry_placed, entry_looked, entry_known}
 
 -- a checker that is not lost goes along
@@ -250,3 +253,50 @@ lasts_opened options t low is = subst (IsNeverLost (opening_state_with options))
 
 pub lives_opened_with : (options : HeapOptions) (t : Tables) → 1 ≤ options.size → t ≡ opening_tables options.size → IsLive (opening_state_with options) t
 lives_opened_with options t low is = subst (IsLive (opening_state_with options)) (sym is) (inr (let e : 1 ≡ options.size - (options.size - 1) = omega arith in ap opening e))
+
+-- ---- the flip
+
+pub sure_if_ready : (s : State) (t : Tables) → IsSpaceGraph s.size s.heap.free s.heap.graph → IsOpen s s.collection → IsLive s t → IsNeverLost s t → IsSureIfReady (Accepts t) s
+sure_if_ready s t heap is_open live k = go s.collection refl
+  where
+    go : (o : Option Collection) → s.collection ≡ o → IfSome o (λ c. IsTrue (is_ready c s.heap.graph) → HasAccepted (Accepts t) (flip_pair s c))
+    go None e = tt
+    go (Some c) e = λ ready. accepts s c t heap (subst (IsOpen s) e is_open) ready k.found (goes_in s c t e live k.found) (knows_in s c t e k)
+
+-- a flip went to the new space, or changed nothing
+flip_step : (s s' : State) (reply : StepReply) → collect s steps.Flip ≡ (reply, s') → ((s' ≡ s) × ((n : ℕ) → reply ≡ Flipped n → ⊥)) ⊎ ((c : Collection) × (s.collection ≡ Some c) × (s' ≡ flipped s c) × (n : ℕ) × (reply ≡ Flipped n))
+flip_step s s' reply said = go s.collection refl said
+  where
+    Is : Type 0
+    Is = ((s' ≡ s) × ((n : ℕ) → reply ≡ Flipped n → ⊥)) ⊎ ((c : Collection) × (s.collection ≡ Some c) × (s' ≡ flipped s c) × (n : ℕ) × (reply ≡ Flipped n))
+
+    reply_is : (r : StepReply) (x : State) → (let now : StepReply × State = (r, x) in now ≡ (reply, s')) → r ≡ reply
+    reply_is r x e = ap (λ (p : StepReply × State). p.0) e
+
+    checked : (c : Collection) → s.collection ≡ Some c → (b : Bool) → ◌≡◌ {A = StepReply × State} (cond b (Flipped (length c.replicas), flipped s c) (Refused, s)) (reply, s') → Is
+    checked c e true u = inr (c, e, sym (ap (λ (p : StepReply × State). p.1) u), length c.replicas, sym (reply_is (Flipped (length c.replicas)) (flipped s c) u))
+    checked c e false u = inl (sym (ap (λ (p : StepReply × State). p.1) u), λ n f. absurd (let no : Refused ≡ Flipped n = reply_is Refused s u ∙ f in cc))
+
+    ready : (c : Collection) → s.collection ≡ Some c → (b : Bool) → ◌≡◌ {A = StepReply × State} (cond b (cond (passes_check s c) (Flipped (length c.replicas), flipped s c) (Refused, s)) (NotReady, s)) (reply, s') → Is
+    ready c e true u = checked c e (passes_check s c) u
+    ready c e false u = inl (sym (ap (λ (p : StepReply × State). p.1) u), λ n f. absurd (let no : NotReady ≡ Flipped n = reply_is NotReady s u ∙ f in cc))
+
+    go : (o : Option Collection) → s.collection ≡ o → collect_with s o steps.Flip ≡ (reply, s') → Is
+    go None e u = inl (sym (ap (λ (p : StepReply × State). p.1) u), λ n f. absurd (let no : Idle ≡ Flipped n = reply_is Idle s u ∙ f in cc))
+    go (Some c) e u = ready c e (is_ready c s.heap.graph) u
+
+pub both_flipped : (along : Bool) (s s' : State) (reply : StepReply) (n : ℕ) (t after : Tables) → IsSpaceGraph s.size s.heap.free s.heap.graph → IsOpen s s.collection → collect s steps.Flip ≡ (reply, s') → reply ≡ Flipped n
+    → (t.lost ≡ true → after.lost ≡ true) → (after.lost ≡ false → after ≡ flipped_tables t) → (t.lost ≡ false → after.lost ≡ false) → IsLive s t × (along ≡ true → IsNeverLost s t) → IsLive s' after × (along ≡ true → IsNeverLost s' after)
+both_flipped along s s' reply n t after heap is_open said did lost flips stays h = ⊎_elim
+    (λ same. absurd (same.1 n did))
+    (λ x. (
+      lives_flipped s s' x.0 t after x.1 (subst (IsOpen s) x.1 is_open) x.2 lost flips h.0,
+      λ on. lasts_flipped s s' x.0 t after heap x.1 (subst (IsOpen s) x.1 is_open) x.2 stays flips (h.1 on),
+    ))
+    (flip_step s s' reply said)
+
+pub both_unflipped : (along : Bool) (s s' : State) (reply : StepReply) (t : Tables) → collect s steps.Flip ≡ (reply, s') → ((n : ℕ) → reply ≡ Flipped n → ⊥) → IsLive s t × (along ≡ true → IsNeverLost s t) → IsLive s' t × (along ≡ true → IsNeverLost s' t)
+both_unflipped along s s' reply t said not h = ⊎_elim
+    (λ same. subst (λ (x : State). IsLive x t × (along ≡ true → IsNeverLost x t)) (sym same.0) h)
+    (λ x. absurd (not x.3 x.4))
+    (flip_step s s' reply said)

@@ -1,21 +1,24 @@
 -- A standing checker that is not lost stays so, and its tables go on knowing the heap: the mutators' commands.
-use Rattle.std.proofs.Common.{◌≡◌, ◌⊎◌, inl, inr, ⊎_elim, ℕ, zero, suc, ◌+◌, ◌-◌, ◌<◌, ◌≤◌, nat_lt, true, false, List, [], ◌∷◌, ◌++◌, length, Option, Some, None, refl, ap, sym, ◌∙◌, subst, arith, length-set}
+use Rattle.std.proofs.Common.{◌≡◌, ◌⊎◌, inl, inr, ⊎_elim, ℕ, zero, suc, ◌+◌, ◌-◌, ◌<◌, ◌≤◌, nat_lt, Bool, true, false, List, [], ◌∷◌, ◌++◌, length, Option, Some, None, refl, ap, sym, ◌∙◌, subst, arith, length-set}
 use Rattle.std.specs.Prelude.{Result, Ok, Err, IfOk, OnErr, slice_get, slice_set}
 use Rattle.std.proofs.lemmas.Bool.{cond_both}
 use Rattle.gc_graph.specs.declared.no_memory.NoMemory.{NoMemory}
-use Rattle.gc_graph.specs.Graph.{Value, Ref, Graph, root}
-use Rattle.gc_graph.specs.Machine.{Roomy, roomy_step, words_taken}
+use Rattle.gc_graph.specs.Graph.{Value, Nil, Num, Ref, Graph, field_of, name_of, object_of, root}
+use Rattle.gc_graph.specs.Machine.{Roomy, put_field, roomy_step, words_taken}
 use Rattle.gc_graph.specs.Slots.{SlotName, place}
 use Rattle.gc_graph.specs.declared.command.Op.{Op}
 use Rattle.gc_graph.specs.declared.command.Op.TheVariants as ops
 use Rattle.gc_graph.specs.declared.reply.Reply.{Reply}
 use Rattle.gc_graph.specs.declared.reply.Reply.TheVariants as replies
+use Rattle.std.specs.Option.{option_map}
+use Rattle.gc_words.specs.declared.value.OldAddr.{OldAddr}
 use Rattle.gc_heap.specs.ExtraRoots.{extra_slot}
 use Rattle.gc_copy.specs.State.{Collection, State, heap_end}
 use Rattle.gc_copy.specs.Steps.{log_at, log_or_nil, logged, mutate, with_log, written}
 use Rattle.gc_copy.specs.Members.{In}
-use Rattle.gc_copy.specs.Belonging.{IsLogged, IsSpaceGraph, IsOpened, IsOpen}
-use Rattle.gc_copy.proofs.Commands.{WrittenBy}
+use Rattle.gc_copy.specs.Belonging.{IsLogged, IsNamed, RefersTo, IsSpaceGraph, IsOpened, IsOpen}
+use Rattle.gc_copy.proofs.Commands.{WrittenBy, root_fine}
+use Rattle.gc_copy.proofs.Heap.{laid_range}
 use Rattle.gc_copy.proofs.Lists.{in_right}
 use Rattle.gc_copy.proofs.Replicas.{pair, replicas_end}
 use Rattle.gc_core.specs.CollectedHeap.{fill_step, filled, new_from_step}
@@ -29,8 +32,8 @@ use Rattle.gc_beside.specs.Internal.Live.{GoesBeside, IsLive, heap_words}
 use Rattle.gc_beside.specs.Knows.{Knows, KnowsAll, IsNeverLost, open_or_fresh}
 use Rattle.gc_beside.specs.Stays.{Fits}
 use Rattle.gc_beside.proofs.CommandsKnown.{Continues, SameBut, SameOpen, NewName, continues_same, continues_on, continues_one, quiet_known, can_make, made_known, can_write, wrote_known}
-use Rattle.gc_beside.proofs.LivesOn.{EndsMore, ends_more, new_op}
-use Rattle.gc_beside.proofs.LivesThrough.{end_by}
+use Rattle.gc_beside.proofs.LivesOn.{EndsMore, ends_more, lives_quiet, lives_unopened, new_op, not_done}
+use Rattle.gc_beside.proofs.LivesThrough.{end_by, lives_number, lives_number_closed, was_open}
 use Rattle.gc_live.proofs.Lasts.{goes_of, goes_in}
 
 -- no object was made
@@ -121,12 +124,10 @@ pub lasts_filled : (s s' : State) (m : ℕ) (d : SlotName) (kind : ℕ) (fields 
     → (t.lost ≡ false → CanMake old t → after.lost ≡ false) → (after.lost ≡ false → Made old t after) → IsLive s t → IsNeverLost s t → IsNeverLost s' after
 lasts_filled s s' m d kind fields reply t after links old more said later words stays made live k = lasts_made s s' t after links old later words more on stays made live k
   where
-    first : Reply × State
-    first = mutate s m (ops.New d kind (length fields))
-
     on : Continues s s' (NewEnd s)
-    unfolding first
-    on = subst (λ (x : State). Continues s x (NewEnd s)) (ap (λ (x : Reply × State). x.1) said)
+    on =
+        let first = mutate s m (ops.New d kind (length fields)) in
+        subst (λ (x : State). Continues s x (NewEnd s)) (ap (λ (x : Reply × State). x.1) said)
         (continues_on s first.1 (filled first.0 first.1 m d fields) (NewEnd s) NoName (NewEnd s) (λ a n. n) (λ a n. absurd n)
         (new_end s first.1 (ops.New d kind (length fields)) (continues_one s first.1 m (ops.New d kind (length fields)) first.0 refl)) (filled_quiet first.0 first.1 m d fields))
 
@@ -245,3 +246,73 @@ lasts_number s mid s' m op one put reply old t after a i is_open is_open' heap l
 pub lasts_any : (s s' : State) (m : ℕ) (op : Op) (t : Tables) (result : Result Reply NoMemory) → IfOk result (λ reply. mutate s m op ≡ (reply, s')) → OnErr result (s' ≡ s) → words_taken op ≡ 0 → IsNeverLost s t → IsNeverLost s' t
 lasts_any s s' m op t (Ok reply) step refused none k = lasts_quiet s s' m op reply t step none k
 lasts_any s s' m op t (Err e) step refused none k = subst (λ (x : State). IsNeverLost x t) (sym refused) k
+
+-- ---- both at once
+
+-- the invariant of a heap with a standing checker, which goes along if `along`
+abbrev pub IsLasting : Bool → State → Tables → Type 0
+IsLasting along s t = IsLive s t × (along ≡ true → IsNeverLost s t)
+
+-- a command that neither makes an object nor writes a field
+pub both_quiet : (along : Bool) (s s' : State) (m : ℕ) (op : Op) (reply : Reply) (t : Tables) → IsOpen s s.collection → mutate s m op ≡ (reply, s') → words_taken op ≡ 0 → written s.heap.graph m op reply ≡ [] → IsLasting along s t → IsLasting along s' t
+both_quiet along s s' m op reply t is_open said none quiet h = (lives_quiet s s' m op reply t t is_open said none quiet refl h.0, λ on. lasts_quiet s s' m op reply t said none (h.1 on))
+
+pub both_same : (along : Bool) (s s' : State) (t : Tables) → s' ≡ s → IsLasting along s t → IsLasting along s' t
+both_same along s s' t same h = subst (λ (x : State). IsLasting along x t) (sym same) h
+
+-- a put while no collection is open
+pub both_closed : (along : Bool) (s s' : State) (m : ℕ) (op : Op) (t : Tables) (result : Result Reply NoMemory) → IfOk result (λ reply. mutate s m op ≡ (reply, s')) → OnErr result (s' ≡ s) → words_taken op ≡ 0 → s.collection ≡ None → IsLasting along s t → IsLasting along s' t
+both_closed along s s' m op t (Ok reply) step refused none closed h = (lives_unopened s s' m op reply t step none closed h.0, λ on. lasts_quiet s s' m op reply t step none (h.1 on))
+both_closed along s s' m op t (Err e) step refused none closed h = both_same along s s' t refused h
+
+-- a number put while none is open, or that was not put
+pub both_two_closed : (along : Bool) (s mid s' : State) (m : ℕ) (op : Op) (one reply : Reply) (put : Op) (t : Tables) → mutate s m op ≡ (one, mid) → words_taken op ≡ 0 → mutate mid m put ≡ (reply, s') → words_taken put ≡ 0 → s'.collection ≡ None → IsLasting along s t → IsLasting along s' t
+both_two_closed along s mid s' m op one reply put t first none second none' closed h =
+    (lives_number_closed s mid s' m op one reply put t first none second none' closed h.0, λ on. lasts_two s mid s' m op one reply put t first none second none' (h.1 on))
+
+pub both_two_undone : (along : Bool) (s mid s' : State) (m : ℕ) (op : Op) (one reply : Reply) (put : Op) (t : Tables) → IsOpen s s.collection → mutate s m op ≡ (one, mid) → words_taken op ≡ 0 → written s.heap.graph m op one ≡ [] → mutate mid m put ≡ (reply, s') → words_taken put ≡ 0
+    → (reply ≡ replies.Done → ⊥) → (s'.collection ≡ None → ⊥) → IsLasting along s t → IsLasting along s' t
+both_two_undone along s mid s' m op one reply put t is_open first none quiet second none' undone later h = (
+  lives_number s mid s' m op one reply put t t 0 0 is_open first none quiet second none' (inl (not_done mid.heap.graph m put reply undone, refl)) (was_open s mid s' m op one reply put first second later) h.0,
+  λ on. lasts_two s mid s' m op one reply put t first none second none' (h.1 on),
+)
+
+-- ---- the object that a slot refers to
+
+-- what a caller read of it is its address
+pub refers_to : (g : Graph) (p : ℕ) (o : Option OldAddr) (a : OldAddr) → o ≡ Some a → option_map (λ (a : OldAddr). a.0) o ≡ name_of (root g p) → root g p ≡ Ref a.0
+refers_to g p o a is named = go (root g p) refl (ap (option_map (λ (a : OldAddr). a.0)) (sym is) ∙ named)
+  where
+    go : (v : Value) → root g p ≡ v → Some a.0 ≡ name_of v → root g p ≡ Ref a.0
+    go Nil e h = absurd (let no : Some a.0 ≡ None = h in cc)
+    go (Num n) e h = absurd (let no : Some a.0 ≡ None = h in cc)
+    go (Ref b) e h = e ∙ ap Ref (let same : a.0 ≡ b = cc h in sym same)
+
+-- and is above 0
+pub refers_above : (size free : ℕ) (g : Graph) (p a : ℕ) → IsSpaceGraph size free g → root g p ≡ Ref a → 1 ≤ a
+refers_above size free g p a heap at =
+    let named : IsNamed g.objects a = subst (RefersTo (IsNamed g.objects)) at (root_fine size free g p heap) in
+    (laid_range 1 g.objects (size - free) (a, named.0) heap.laid named.1).0
+
+-- a put that is done goes to an object
+pub done_refers : (g : Graph) (m : ℕ) (d : SlotName) (i : ℕ) (t : SlotName) (o : Option OldAddr) → (put_field g (root g (place d m)) (object_of g.objects (root g (place d m))) (field_of (object_of g.objects (root g (place d m))) i) i (root g (place t m))).0 ≡ replies.Done
+    → option_map (λ (a : OldAddr). a.0) o ≡ name_of (root g (place d m)) → o ≡ None → ⊥
+done_refers g m d i t o done named none = go (root g (place d m)) refl (ap (option_map (λ (a : OldAddr). a.0)) (sym none) ∙ named)
+  where
+    go : (v : Value) → root g (place d m) ≡ v → None ≡ name_of v → ⊥
+    go Nil e h = absurd (let no : replies.NoObject ≡ replies.Done = sym (ap (λ v. (put_field g v (object_of g.objects v) (field_of (object_of g.objects v) i) i (root g (place t m))).0) e) ∙ done in cc)
+    go (Num n) e h = absurd (let no : replies.NoObject ≡ replies.Done = sym (ap (λ v. (put_field g v (object_of g.objects v) (field_of (object_of g.objects v) i) i (root g (place t m))).0) e) ∙ done in cc)
+    go (Ref b) e h = absurd (let no : None ≡ Some b = h in cc)
+
+-- the same of the command
+pub put_refers : (s s' : State) (m : ℕ) (d : SlotName) (i : ℕ) (t : SlotName) (o : Option OldAddr) → mutate s m (ops.Put d i t) ≡ (replies.Done, s') → option_map (λ (a : OldAddr). a.0) o ≡ name_of (root s.heap.graph (place d m)) → o ≡ None → ⊥
+put_refers s s' m d i t o said named none = done_refers s.heap.graph m d i t o done named none
+  where
+    replied : (mutate s m (ops.Put d i t)).0 ≡ replies.Done
+    replied = ap (λ (x : Reply × State). x.0) said
+
+    done : (put_field s.heap.graph (root s.heap.graph (place d m)) (object_of s.heap.graph.objects (root s.heap.graph (place d m))) (field_of (object_of s.heap.graph.objects (root s.heap.graph (place d m))) i) i (root s.heap.graph (place t m))).0 ≡ replies.Done
+    done = cond_both (nat_lt s.heap.free 0) _ _ (λ (next : Reply × Roomy). next.0 ≡ replies.Done → (put_field s.heap.graph (root s.heap.graph (place d m)) (object_of s.heap.graph.objects (root s.heap.graph (place d m))) (field_of (object_of s.heap.graph.objects (root s.heap.graph (place d m))) i) i (root s.heap.graph (place t m))).0 ≡ replies.Done)
+        (λ full e. absurd (let no : replies.Full ≡ replies.Done = e in cc))
+        (λ fits e. e)
+        replied

@@ -295,7 +295,7 @@ impl LiveHeap {
         if !self.inner.is_open() {
             return self.inner.put(m, s, i, t);
         }
-        let target = target_in(self.inner.heap(), m, s);
+        let target = self.inner.address(m, s);
         let reply = self.inner.put(m, s, i, t)?;
         let Reply::Done = reply else {
             return Ok(reply);
@@ -335,7 +335,7 @@ impl LiveHeap {
             return Ok(reply);
         };
         self.inner.is_sound();
-        match target_in(self.inner.heap(), m, s) {
+        match self.inner.address(m, s) {
             None => self.watch.lose(),
             Some(object) => self.watch.written(self.inner.image().words, object.0, i),
         }
@@ -361,7 +361,7 @@ impl LiveHeap {
             return Ok(reply);
         };
         self.inner.is_sound();
-        match target_in(self.inner.heap(), m, s) {
+        match self.inner.address(m, s) {
             None => self.watch.lose(),
             Some(object) => self.watch.written(self.inner.image().words, object.0, i),
         }
@@ -484,7 +484,7 @@ impl LiveHeap {
             return Ok(StepReply::Busy);
         }
         self.inner.is_sound();
-        self.watch.reserve(size.max(self.inner.size()))?;
+        self.watch.reserve(larger(size, self.inner.size()))?;
         let reply = self.inner.begin_sized(size)?;
         self.inner.is_sound();
         self.watch.begun(self.inner.image().words);
@@ -766,7 +766,7 @@ impl LiveHeap {
     }
 }
 
-ghost use Rattle.std.specs.Prelude.{◌≤◌, ◌≢◌, suc, length, IfSome, Some, IfOk, OnErr, IsTrue, IsFalse};
+ghost use Rattle.std.specs.Prelude.{◌≤◌, ◌≢◌, IfOk, OnErr, IsTrue, IsFalse};
 ghost use Rattle.gc_along.specs.Events.{absent_tables, opening_tables};
 ghost use Rattle.gc_along.specs.Tables.{CertifiedBy};
 ghost use Rattle.gc_beside.specs.Internal.Live.{IsLive};
@@ -776,9 +776,6 @@ ghost use Rattle.gc_copy.specs.declared.step.Step.{Step};
 ghost use Rattle.gc_copy.specs.declared.step.StepReply.{StepReply};
 ghost use Rattle.gc_core.specs.CollectedHeap.{Allocates};
 ghost use Rattle.gc_core.specs.Flip.{FlipsOnly, HasAccepted, IsCertified, PassesIfReady};
-ghost use Rattle.gc_graph.specs.Graph.{root, Value, Ref};
-ghost use Rattle.gc_graph.specs.Slots.{place, roots_of};
-ghost use Rattle.gc_heap.specs.Heap.{graph_in};
 
 // The standing checker of a heap of this size, or an absent one.
 fn standing(alloc: Global, size: u32, along: bool) -> Result<Standing, NoMemory>
@@ -793,17 +790,12 @@ fn standing(alloc: Global, size: u32, along: bool) -> Result<Standing, NoMemory>
     }
 }
 
-// The object that the slot refers to.
-#[inline(always)]
-pub(crate) fn target_in(heap: &Heap, m: u8, s: Slot) -> Option<OldAddr>
-    ensures object { IfSome result (λ a. root (graph_in heap.now) (place s m) ≡ Ref a.0) }
-    ensures low { IfSome result (λ a. 1 ≤ a.0) }
-    ensures roots { IfSome result (λ a. roots_of (suc m) ≤ length (graph_in heap.now).roots) }
+// The larger of two sizes.
+fn larger(a: u32, b: u32) -> u32
+    ensures first { a ≤ result }
+    ensures second { b ≤ result }
 {
-    if m >= heap.mutators() {
-        return None;
-    }
-    heap.target(m, s)
+    if a < b { b } else { a }
 }
 
 // Flips by the standing checker, and by the other one where the first is lost, or by the other one alone.

@@ -5,7 +5,7 @@ ghost use Rattle.gc_graph.specs.Slots.{place};
 ghost use Rattle.gc_core.specs.Writing.{put_numbers_step};
 ghost use Rattle.gc_live.specs.Internal.Told.{ToldTruly, ToldWritten};
 
-use crate::live_heap::{LiveHeap, target_in};
+use crate::live_heap::LiveHeap;
 use gc_along::Standing;
 use gc_graph::{NoMemory, Reply, Slot};
 
@@ -34,12 +34,14 @@ impl LiveHeap {
         if !self.inner.is_open() {
             return self.inner.put_numbers(m, s, first, t, words);
         }
-        let target = target_in(self.inner.heap(), m, s);
+        let target = self.inner.address(m, s);
         let reply = self.inner.put_numbers(m, s, first, t, words)?;
         let Reply::Done = reply else {
             return Ok(reply);
         };
         self.inner.is_sound();
+        // Here the prover learns that the slot is one of the roots.
+        let _ = t.place(m);
         match target {
             None => self.watch.lose(),
             Some(object) => {
