@@ -3,12 +3,14 @@ use Rattle.std.proofs.Common.{◌≡◌, ◌⊎◌, inl, inr, ⊎_elim, ◌<◌,
 use Rattle.std.proofs.lemmas.Bool.{cases_Bool, cases_eq, cond_both, ltb-true, and_parts}
 use Rattle.std.proofs.lemmas.List.{length-map}
 use Rattle.std.specs.Prelude.{slice_get, nat_le, Result, Ok, Err, IfOk, OnErr}
-use Rattle.gc_graph.specs.Graph.{Value, Nil, Num, Ref, Graph, Object, names_of, root, value_or_nil, object_of, field_of, lookup}
+use Rattle.gc_graph.specs.Graph.{Value, Nil, Num, Ref, Graph, Object, name_of, names_of, root, value_or_nil, object_of, field_of, lookup}
 use Rattle.gc_graph.specs.Machine.{Roomy, put_field, is_number}
 use Rattle.gc_graph.specs.Slots.{SlotName, place}
 use Rattle.gc_graph.specs.declared.command.Op.TheVariants as ops
 use Rattle.gc_graph.specs.declared.reply.Reply.{Reply}
 use Rattle.gc_graph.specs.declared.reply.Reply.TheVariants as replies
+use Rattle.std.specs.Option.{option_map}
+use Rattle.gc_words.specs.declared.value.OldAddr.{OldAddr}
 use Rattle.gc_heap.specs.Raws.{number_of, numbers_in, raw_numbers}
 use Rattle.gc_copy.specs.State.{Collection, State, heap_end}
 use Rattle.gc_copy.specs.Steps.{mutate}
@@ -153,3 +155,12 @@ lasts_call s s' m first d t words w reply said k = ⊎_elim
 pub lasts_call_any : (s s' : State) (m first : ℕ) (d t : SlotName) (words : List ℕ) (w : Tables) (result : Result Reply NoMemory) → IfOk result (λ reply. put_numbers_step s m d first t words ≡ (reply, s')) → OnErr result (s' ≡ s) → IsNeverLost s w → IsNeverLost s' w
 lasts_call_any s s' m first d t words w (Ok reply) step refused k = lasts_call s s' m first d t words w reply step k
 lasts_call_any s s' m first d t words w (Err e) step refused k = subst (λ (x : State). IsNeverLost x w) (sym refused) k
+
+-- numbers that were put went to an object
+pub numbers_refer : (g : Graph) (m first : ℕ) (d : SlotName) (words : List ℕ) (o : Option OldAddr) → numbers_reply first words (raw_numbers g d m) ≡ replies.Done → option_map (λ (a : OldAddr). a.0) o ≡ name_of (root g (place d m)) → o ≡ None → ⊥
+numbers_refer g m first d words o done named none = go (root g (place d m)) refl (ap (option_map (λ (a : OldAddr). a.0)) (sym none) ∙ named)
+  where
+    go : (v : Value) → root g (place d m) ≡ v → None ≡ name_of v → ⊥
+    go Nil e h = absurd (let no : replies.NoObject ≡ replies.Done = sym (ap (λ v. numbers_reply first words (numbers_in (object_of g.objects v))) e) ∙ done in cc)
+    go (Num n) e h = absurd (let no : replies.NoObject ≡ replies.Done = sym (ap (λ v. numbers_reply first words (numbers_in (object_of g.objects v))) e) ∙ done in cc)
+    go (Ref b) e h = absurd (let no : None ≡ Some b = h in cc)

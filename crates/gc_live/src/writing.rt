@@ -34,14 +34,15 @@ impl LiveHeap {
         if !self.inner.is_open() {
             return self.inner.put_numbers(m, s, first, t, words);
         }
+        // Here the prover learns that the slots are among the roots.
+        self.inner.has_slots();
+        let _ = t.place(m);
         let target = self.inner.address(m, s);
         let reply = self.inner.put_numbers(m, s, first, t, words)?;
         let Reply::Done = reply else {
             return Ok(reply);
         };
         self.inner.is_sound();
-        // Here the prover learns that the slot is one of the roots.
-        let _ = t.place(m);
         match target {
             None => self.watch.lose(),
             Some(object) => {
