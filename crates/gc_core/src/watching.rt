@@ -1,4 +1,5 @@
-ghost use Rattle.std.specs.Prelude.{◌≡◌, Some};
+ghost use Rattle.std.specs.Prelude.{◌≡◌, ◌≤◌, Some, length};
+ghost use Rattle.gc_graph.specs.Slots.{roots_of};
 ghost use Rattle.gc_plan.specs.State.{Collection, heap_end};
 ghost use Rattle.gc_plan.specs.Belonging.{IsSpaceGraph, IsOpen};
 ghost use Rattle.gc_core.specs.Flip.{flip_pair};
@@ -21,6 +22,14 @@ impl CollectedHeap {
         if let Some(collection) = &self.collection {
             let _ = collection.new_image(&[]);
         }
+    }
+
+    /// Does nothing. Each mutator of a heap has its slots.
+    #[inline(always)]
+    pub fn has_slots(&self)
+        ensures { roots_of self.now.mutators ≤ length self.now.heap.graph.roots }
+    {
+        let _ = self.heap.space();
     }
 
     /// Does nothing. A watch that goes along with the open collection watches the words of both images.

@@ -24,7 +24,7 @@ use Rattle.gc_live.proofs.NumbersTold.{IsAmong, Through, told_lost, told_marks, 
 -- ---- what the commands write
 
 -- a get into another slot, and a put, leave a slot as it is
-slot_kept : (s : State) (m i j : ℕ) (d from t slot : SlotName) → (place t m ≡ place slot m → ⊥)
+pub slot_kept : (s : State) (m i j : ℕ) (d from t slot : SlotName) → (place t m ≡ place slot m → ⊥)
     → root (mutate (mutate s m (ops.Get t from j)).1 m (ops.Put d i t)).1.heap.graph (place slot m) ≡ root s.heap.graph (place slot m)
 slot_kept s m i j d from t slot apart =
     root_kept (mutate s m (ops.Get t from j)).1 m (ops.Put d i t) (place slot m) (λ e. (let no : None ≡ Some (place slot m) = e in absurd cc))

@@ -98,6 +98,11 @@ module _ (s : State) (m : ℕ) (d : SlotName) (kind : ℕ) (fields : List SlotNa
           let x = r.0.evolves (heap_end s) object (lookup_laid 1 later.heap.graph.objects (heap_end later) (heap_end s) object laid there) in
           (r.0, inr (x.now, (lookup_in (fill_step later m d 0 fields).heap.graph.objects (heap_end s) x.now x.found, ap (λ n. heap_end s + (n + 2)) x.len ∙ (more ∙ r.1))))
 
+  -- the end has moved on by it
+  pub filled_more : (s' : State) (reply : Reply) → new_from_step s m d kind fields ≡ (reply, s') → EndsMore s s'
+  unfolding made op
+  filled_more s' reply said = subst (EndsMore s) (ap (λ (x : Reply × State). x.1) said) filled_after.1
+
   -- an object made whose fields take these values, or none where there is no room
   pub lives_filled : (s' : State) (reply : Reply) (t after : Tables) (links : ℕ → ℕ) → IsOpen s s.collection → new_from_step s m d kind fields ≡ (reply, s') → IsSpaceGraph s'.size s'.heap.free s'.heap.graph
       → (t.lost ≡ true → after.lost ≡ true) → (after.lost ≡ false → Made (heap_words links s') t after) → IsLive s t → IsLive s' after

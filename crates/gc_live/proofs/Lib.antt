@@ -4,3 +4,8 @@ pub mod CopiesTold
 pub mod Filled
 pub mod MixedFilled
 pub mod NumbersTold
+pub mod Lasts
+pub mod LastsOn
+pub mod LastsNumbers
+pub mod LastsCopies
+pub mod LastsMixed

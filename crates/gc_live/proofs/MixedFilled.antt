@@ -120,6 +120,11 @@ module _ (s : State) (m : ℕ) (d t : SlotName) (kind : ℕ) (fields : List Fiel
           let x = r.0.evolves (heap_end s) object (lookup_laid 1 later.heap.graph.objects (heap_end later) (heap_end s) object laid there) in
           (r.0, inr (x.now, (lookup_in (sources_step later m d t 0 fields).heap.graph.objects (heap_end s) x.now x.found, ap (λ n. heap_end s + (n + 2)) x.len ∙ (more ∙ r.1))))
 
+  -- the end has moved on by it
+  pub mixed_more : (s' : State) (reply : Reply) → new_with_step s m d kind t fields ≡ (reply, s') → EndsMore s s'
+  unfolding made op
+  mixed_more s' reply said = subst (EndsMore s) (ap (λ (x : Reply × State). x.1) said) mixed_after.1
+
   -- an object made whose fields take these values, or none where there is no room
   pub lives_mixed : (s' : State) (reply : Reply) (w after : Tables) (links : ℕ → ℕ) → IsOpen s s.collection → new_with_step s m d kind t fields ≡ (reply, s') → IsSpaceGraph s'.size s'.heap.free s'.heap.graph
       → (w.lost ≡ true → after.lost ≡ true) → (after.lost ≡ false → Made (heap_words links s') w after) → IsLive s w → IsLive s' after

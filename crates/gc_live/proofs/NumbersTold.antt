@@ -18,11 +18,12 @@ use Rattle.gc_plan.proofs.Public.{WrittenBy, unchanged, get_set_other}
 use Rattle.gc_core.specs.Writing.{numbers_step, numbers_reply, after_reply, put_numbers_step}
 use Rattle.gc_along.specs.Watch.{opening}
 use Rattle.gc_along.specs.Tables.{Tables, watch_of}
+use Rattle.gc_along.specs.Claims.{CanWrite}
 use Rattle.gc_along.specs.Events.{Wrote}
 use Rattle.gc_beside.specs.Stays.{Fits, MarksWritten}
 use Rattle.gc_beside.specs.Internal.Live.{IsLive}
 use Rattle.gc_beside.proofs.Public.{Leads, same_itself, leads_on, leads_one, lives_through, end_by, put_roots, told_wrote}
-use Rattle.gc_live.specs.Internal.Told.{ToldWritten}
+use Rattle.gc_live.specs.Internal.Told.{ToldTruly, ToldWritten}
 
 -- field j is one of so many, from i on, of the object at a
 abbrev pub IsAmong : ℕ → ℕ → ℕ → ℕ → ℕ → Type 0
@@ -42,6 +43,13 @@ told_one a i n k first t next new less lost wrote told rest =
     let left : suc (n - (k + 1)) ≡ n - k = omega (arith, less) in
     let at : i + (k + 1) ≡ suc (i + k) = omega arith in
     told new (subst (λ count. ToldWritten a (i + k) count t new) left (next, lost, wrote, subst (λ j. ToldWritten a j (n - (k + 1)) next new) at rest))
+
+pub truly_one : (words : List ℕ) (a i n k : ℕ) (first t next new : Tables) → k < n → (t.lost ≡ false → CanWrite words a (i + k) t → next.lost ≡ false) → (next.lost ≡ false → Wrote a (i + k) t next)
+    → ((new : Tables) → ToldTruly words a (i + k) (n - k) t new → ToldTruly words a i n first new) → ToldTruly words a (i + (k + 1)) (n - (k + 1)) next new → ToldTruly words a i n first new
+truly_one words a i n k first t next new less stays wrote told rest =
+    let left : suc (n - (k + 1)) ≡ n - k = omega (arith, less) in
+    let at : i + (k + 1) ≡ suc (i + k) = omega arith in
+    told new (subst (λ count. ToldTruly words a (i + k) count t new) left (next, stays, wrote, subst (λ j. ToldTruly words a j (n - (k + 1)) next new) at rest))
 
 pub told_lost : (a i n : ℕ) (t after : Tables) → ToldWritten a i n t after → t.lost ≡ true → after.lost ≡ true
 told_lost a i zero t after same lost = ap (λ (t : Tables). t.lost) (sym same) ∙ lost
@@ -65,7 +73,7 @@ told_marks (suc n) objects end c t after a i once low (next, lost, wrote, rest) 
 
 -- ---- what the commands write
 
-num_roots : (s : State) (m n : ℕ) (t s' : SlotName) → (place t m ≡ place s' m → ⊥) → root (mutate s m (ops.Num t n)).1.heap.graph (place s' m) ≡ root s.heap.graph (place s' m)
+pub num_roots : (s : State) (m n : ℕ) (t s' : SlotName) → (place t m ≡ place s' m → ⊥) → root (mutate s m (ops.Num t n)).1.heap.graph (place s' m) ≡ root s.heap.graph (place s' m)
 num_roots s m n t s' apart =
     cond_both (nat_lt s.heap.free 0) _ _ (λ (next : Reply × Roomy). root next.1.graph (place s' m) ≡ root s.heap.graph (place s' m)) (λ full. refl)
     (λ fits. ap value_or_nil (get_set_other s.heap.graph.roots (place t m) (place s' m) (Num n) (λ e. apart (sym e))))

@@ -87,6 +87,8 @@ impl Turn {
 pub struct LiveHeap {
     pub(crate) inner: CollectedHeap,
     pub(crate) watch: Standing,
+    /// Whether the standing checker goes along. If not, it is absent.
+    along: bool,
     checks: FlipChecks,
     turn: Turn,
 }
@@ -98,9 +100,11 @@ impl Model for LiveHeap {
 
     ghost view = { λ h. h.inner };
 
+    ghost use Rattle.std.specs.Prelude.{IsTrue};
     ghost use Rattle.gc_beside.specs.Internal.Live.{IsLive};
+    ghost use Rattle.gc_beside.specs.Knows.{IsNeverLost};
 
-    ghost invariant = { λ h. IsLive h.inner h.watch };
+    ghost invariant = { λ h. IsLive h.inner h.watch × (IsTrue h.along → IsNeverLost h.inner h.watch) };
 }
 
 impl LiveHeap {
@@ -150,10 +154,8 @@ impl LiveHeap {
         ensures { IfOk result (λ heap. heap ≡ opening_state_with options.now) }
     {
         let inner = CollectedHeap::open_with(alloc, options)?;
-        let watch = match checking {
-            Checking::AtFlip => Standing::absent(alloc),
-            Checking::Along { .. } => Standing::new(alloc, options.size)?,
-        };
+        let along = matches!(checking, Checking::Along { .. });
+        let watch = standing(alloc, options.size, along)?;
         let each = match checking {
             Checking::AtFlip => 1,
             Checking::Along { whole_each } => whole_each,
@@ -161,6 +163,7 @@ impl LiveHeap {
         Ok(LiveHeap {
             inner,
             watch,
+            along,
             checks: FlipChecks { along: 0, whole: 0 },
             turn: Turn { each, since: 0 },
         })
@@ -293,11 +296,12 @@ impl LiveHeap {
         if !self.inner.is_open() {
             return self.inner.put(m, s, i, t);
         }
-        let target = target_in(self.inner.heap(), m, s);
+        let target = self.inner.address(m, s);
         let reply = self.inner.put(m, s, i, t)?;
         let Reply::Done = reply else {
             return Ok(reply);
         };
+        self.inner.is_sound();
         match target {
             None => self.watch.lose(),
             Some(object) => self.watch.written(self.inner.image().words, object.0, i),
@@ -331,7 +335,8 @@ impl LiveHeap {
         let Reply::Done = reply else {
             return Ok(reply);
         };
-        match target_in(self.inner.heap(), m, s) {
+        self.inner.is_sound();
+        match self.inner.address(m, s) {
             None => self.watch.lose(),
             Some(object) => self.watch.written(self.inner.image().words, object.0, i),
         }
@@ -356,7 +361,8 @@ impl LiveHeap {
         let Reply::Done = reply else {
             return Ok(reply);
         };
-        match target_in(self.inner.heap(), m, s) {
+        self.inner.is_sound();
+        match self.inner.address(m, s) {
             None => self.watch.lose(),
             Some(object) => self.watch.written(self.inner.image().words, object.0, i),
         }
@@ -478,7 +484,8 @@ impl LiveHeap {
         if self.inner.is_open() {
             return Ok(StepReply::Busy);
         }
-        self.watch.reserve(size)?;
+        self.inner.is_sound();
+        self.watch.reserve(larger(size, self.inner.size()))?;
         let reply = self.inner.begin_sized(size)?;
         self.inner.is_sound();
         self.watch.begun(self.inner.image().words);
@@ -578,6 +585,7 @@ impl LiveHeap {
         ensures step { collect self.old Step.Drop ≡ (result, self.new) }
         ensures mutators { self.new.mutators ≡ self.old.mutators }
     {
+        self.inner.is_sound();
         let reply = self.inner.give_up();
         self.watch.dropped();
         reply
@@ -747,6 +755,9 @@ impl LiveHeap {
         self.inner.is_watched();
         let whole = self.turn.is_due();
         let flip = flip_checked(&mut self.inner, &self.watch, checker, whole)?;
+        // The standing checker is never lost, so the other one was asked only in its turn, or where no standing checker goes along.
+        let in_turn = !flip.whole || whole || !self.along;
+        prove!(in_turn);
         if let StepReply::Flipped { .. } = flip.reply {
             self.checks = self.checks.with(flip.whole);
             self.turn = self.turn.after(flip.whole);
@@ -756,27 +767,36 @@ impl LiveHeap {
     }
 }
 
-ghost use Rattle.std.specs.Prelude.{◌≤◌, ◌≢◌, IfSome, Some, IfOk, OnErr, IsTrue, IsFalse};
+ghost use Rattle.std.specs.Prelude.{◌≤◌, ◌≢◌, IfOk, OnErr, IsTrue, IsFalse};
+ghost use Rattle.gc_along.specs.Events.{absent_tables, opening_tables};
 ghost use Rattle.gc_along.specs.Tables.{CertifiedBy};
+ghost use Rattle.gc_beside.specs.Internal.Live.{IsLive};
+ghost use Rattle.gc_beside.specs.Knows.{IsNeverLost};
 ghost use Rattle.gc_plan.specs.Steps.{collect};
 ghost use Rattle.gc_plan.specs.declared.step.Step.{Step};
 ghost use Rattle.gc_plan.specs.declared.step.StepReply.{StepReply};
 ghost use Rattle.gc_core.specs.CollectedHeap.{Allocates};
 ghost use Rattle.gc_core.specs.Flip.{FlipsOnly, HasAccepted, IsCertified, PassesIfReady};
-ghost use Rattle.gc_graph.specs.Graph.{root, Value, Ref};
-ghost use Rattle.gc_graph.specs.Slots.{place};
-ghost use Rattle.gc_heap.specs.Heap.{graph_in};
 
-// The object that the slot refers to.
-#[inline(always)]
-pub(crate) fn target_in(heap: &Heap, m: u8, s: Slot) -> Option<OldAddr>
-    ensures object { IfSome result (λ a. root (graph_in heap.now) (place s m) ≡ Ref a.0) }
-    ensures low { IfSome result (λ a. 1 ≤ a.0) }
+// The standing checker of a heap of this size, or an absent one.
+fn standing(alloc: Global, size: u32, along: bool) -> Result<Standing, NoMemory>
+    requires { 1 ≤ size }
+    ensures along { IsTrue along → IfOk result (λ standing. standing ≡ opening_tables size) }
+    ensures absent { IsFalse along → IfOk result (λ standing. standing ≡ absent_tables) }
 {
-    if m >= heap.mutators() {
-        return None;
+    if along {
+        Standing::new(alloc, size)
+    } else {
+        Ok(Standing::absent(alloc))
     }
-    heap.target(m, s)
+}
+
+// The larger of two sizes.
+fn larger(a: u32, b: u32) -> u32
+    ensures first { a ≤ result }
+    ensures second { b ≤ result }
+{
+    if a < b { b } else { a }
 }
 
 // Flips by the standing checker, and by the other one where the first is lost, or by the other one alone.
@@ -792,12 +812,15 @@ fn flip_checked<C: Checks>(
     ensures asked { IfOk result (λ flip. IsTrue flip.whole → FlipsOnly (C.says_yes checker.now) heap.old flip.reply) }
     ensures sound { IfOk result (λ flip. IsTrue flip.whole → FlipsOnly IsCertified heap.old flip.reply) }
     ensures due { IsTrue whole → IfOk result (λ flip. IsTrue flip.whole) }
+    // A standing checker that is never lost is asked alone.
+    ensures alone { IsFalse whole → IsLive heap.old watch.now → IsNeverLost heap.old watch.now → IfOk result (λ flip. IsFalse flip.whole) }
     ensures passes { IfOk result (λ flip. PassesIfReady heap.old flip.reply) }
     ensures never_refused { IfOk result (λ flip. flip.reply ≢ StepReply.Refused) }
     ensures refused { OnErr result (heap.new ≡ heap.old) }
     ensures allocates { OnErr result (Allocates heap.old Step.Flip) }
     ensures mutators { heap.new.mutators ≡ heap.old.mutators }
 {
+    heap.is_sound();
     if whole {
         heap.flip_whole(checker)
     } else {

@@ -5,11 +5,11 @@ ghost use Rattle.gc_graph.specs.Slots.{place};
 ghost use Rattle.gc_core.specs.Writing.{put_numbers_step};
 ghost use Rattle.gc_core.specs.Copying.{copy_fields_step};
 ghost use Rattle.gc_core.specs.Mixed.{new_with_step};
-ghost use Rattle.gc_live.specs.Internal.Told.{ToldWritten};
+ghost use Rattle.gc_live.specs.Internal.Told.{ToldTruly, ToldWritten};
 
-use crate::live_heap::{LiveHeap, target_in};
+use crate::live_heap::LiveHeap;
 use gc_along::Standing;
-use gc_core::SourceRow;
+use gc_core::{SourceRow, done_copies_are_whole};
 use gc_graph::{NoMemory, Reply, Slot};
 
 impl LiveHeap {
@@ -37,11 +37,15 @@ impl LiveHeap {
         if !self.inner.is_open() {
             return self.inner.put_numbers(m, s, first, t, words);
         }
-        let target = target_in(self.inner.heap(), m, s);
+        // Here the prover learns that the slots are among the roots.
+        self.inner.has_slots();
+        let _ = t.place(m);
+        let target = self.inner.address(m, s);
         let reply = self.inner.put_numbers(m, s, first, t, words)?;
         let Reply::Done = reply else {
             return Ok(reply);
         };
+        self.inner.is_sound();
         match target {
             None => self.watch.lose(),
             Some(object) => {
@@ -80,11 +84,16 @@ impl LiveHeap {
         if !self.inner.is_open() {
             return self.inner.copy_fields(m, d, to, s, from, t, count);
         }
-        let target = target_in(self.inner.heap(), m, d);
+        // Here the prover learns that the slots are among the roots, and that a copy that is done is whole.
+        self.inner.has_slots();
+        let _ = t.place(m);
+        done_copies_are_whole();
+        let target = self.inner.address(m, d);
         let reply = self.inner.copy_fields(m, d, to, s, from, t, count)?;
         let Reply::Done = reply else {
             return Ok(reply);
         };
+        self.inner.is_sound();
         match target {
             None => self.watch.lose(),
             Some(object) => {
@@ -127,7 +136,8 @@ impl LiveHeap {
 // Tells the checker of writes to so many fields, from field `first` on, of the object at `a`.
 fn tell_written(watch: &mut Standing, heap: &[u64], a: u32, first: u16, count: usize)
     requires { first + count ≤ 65536 }
-    ensures { ToldWritten a first count watch.old watch.new }
+    ensures written { ToldWritten a first count watch.old watch.new }
+    ensures truly { ToldTruly heap.now a first count watch.old watch.new }
 {
     for k in 0..count {
         watch.written(heap, a, first + k as u16);

@@ -1,6 +1,6 @@
 -- What proofs of other crates cite of this crate, passed on from one place. Declares nothing.
 pub use Rattle.gc_plan.proofs.Carried.{carries_only_kept}
-pub use Rattle.gc_plan.proofs.Commands.{Evolves, WrittenBy, step_evolves, unchanged}
+pub use Rattle.gc_plan.proofs.Commands.{Evolves, WrittenBy, root_fine, step_evolves, unchanged}
 pub use Rattle.gc_plan.proofs.Flips.{certified, corresponding_graphs, flips}
 pub use Rattle.gc_plan.proofs.Heap.{end_push, laid_apart, laid_end_is, laid_push, laid_range, lookup_in, lookup_laid, refers_map, set_from}
 pub use Rattle.gc_plan.proofs.Images.{IsAddress, end_is, named_address, read_back}

@@ -11,6 +11,7 @@ use Rattle.gc_along.specs.Tables.{Tables, CertifiedBy, watch_of}
 use Rattle.gc_beside.specs.Stays.{GoesAlong}
 use Rattle.gc_beside.specs.Internal.Live.{IsLive, GoesBeside}
 use Rattle.gc_live.specs.Sure.{IsSure}
+use Rattle.gc_live.proofs.Lasts.{both_flipped, both_unflipped}
 use Rattle.gc_live.proofs.live_heap.LiveHeap.flip.Goals as goal
 
 -- where the standing checker goes along its yes is a certificate
@@ -40,7 +41,7 @@ weaker P Q s reply f h pairs is = go s.collection (h pairs is)
 pub returns-in-Flipped-clause-asked : goal.returns-in-Flipped-clause-asked
 returns-in-Flipped-clause-asked g c = subst (λ (s : State). FlipsOnly (IsSure says) s c.in_ok-flip.flip.reply) c.self.view_is (⊎_elim
     (λ whole. weaker says (IsSure says) c.self.inside.inner c.in_ok-flip.flip.reply (λ pair x. inr x) (c.in_ok-flip.ensures.asked whole))
-    (λ along. weaker IsCertified (IsSure says) c.self.inside.inner c.in_ok-flip.flip.reply (λ pair x. inl x) (certified c.self.inside.inner c.self.inside.watch c.in_ok-flip.flip.reply c.self.invariant c.is_watched.ensures (c.in_ok-flip.ensures.along along)))
+    (λ along. weaker IsCertified (IsSure says) c.self.inside.inner c.in_ok-flip.flip.reply (λ pair x. inl x) (certified c.self.inside.inner c.self.inside.watch c.in_ok-flip.flip.reply c.self.invariant.0 c.is_watched.ensures (c.in_ok-flip.ensures.along along)))
     (cases_Bool c.in_ok-flip.flip.whole))
   where
     says : CertifiedPair → Type 0
@@ -49,5 +50,12 @@ returns-in-Flipped-clause-asked g c = subst (λ (s : State). FlipsOnly (IsSure s
 pub returns-in-Flipped-clause-sound : goal.returns-in-Flipped-clause-sound
 returns-in-Flipped-clause-sound g c = subst (λ (s : State). FlipsOnly IsCertified s c.in_ok-flip.flip.reply) c.self.view_is (⊎_elim
     (λ whole. c.in_ok-flip.ensures.sound whole)
-    (λ along. certified c.self.inside.inner c.self.inside.watch c.in_ok-flip.flip.reply c.self.invariant c.is_watched.ensures (c.in_ok-flip.ensures.along along))
+    (λ along. certified c.self.inside.inner c.self.inside.watch c.in_ok-flip.flip.reply c.self.invariant.0 c.is_watched.ensures (c.in_ok-flip.ensures.along along))
     (cases_Bool c.in_ok-flip.flip.whole))
+
+pub invariant_of-self-in-Flipped : goal.invariant_of-self-in-Flipped
+invariant_of-self-in-Flipped g c = both_flipped c.self.inside.along c.self.inside.inner c.flip_checked.new.heap c.in_ok-flip.flip.reply c.in-Flipped.pairs c.self.inside.watch c.flipped.new.self c.is_sound.ensures.heap c.is_sound.ensures.open c.in_ok-flip.ensures.step c.in-Flipped.is
+    c.flipped.ensures.lost c.flipped.ensures.flipped c.flipped.ensures.stays c.self.invariant
+
+pub invariant_of-self-in_default : goal.invariant_of-self-in_default
+invariant_of-self-in_default g c = both_unflipped c.self.inside.along c.self.inside.inner c.flip_checked.new.heap c.in_ok-flip.flip.reply c.self.inside.watch c.in_ok-flip.ensures.step c.in_default.not-Flipped c.self.invariant

@@ -1,0 +1,299 @@
+-- A standing checker that is not lost stays so, and its tables go on knowing the heap: the collector's steps.
+use Rattle.std.proofs.Common.{◌≡◌, ◌⊎◌, inl, inr, ⊎_elim, ℕ, ◌-◌, ◌<◌, ◌≤◌, ◌==◌, Bool, true, false, cond, List, [], ◌∷◌, length, Option, Some, None, refl, ap, sym, ◌∙◌, subst, arith}
+use Rattle.std.specs.Prelude.{IfSome, IsTrue}
+use Rattle.gc_words.specs.Spelling.{no_links}
+use Rattle.gc_heap.specs.declared.options.HeapOptions.{HeapOptions}
+use Rattle.gc_plan.specs.State.{Collection, State, heap_end}
+use Rattle.gc_copy.specs.Opening.{opening_state_with}
+use Rattle.gc_along.specs.Watch.{opening}
+use Rattle.gc_plan.specs.Linked.{old_links}
+use Rattle.gc_plan.specs.Steps.{is_ready, log_at, apply_log, collect, collect_with, step_in, with_collection, fresh_collection, flipped, passes_check}
+use Rattle.gc_plan.specs.Belonging.{IsSpaceGraph, IsOpened, IsOpen}
+use Rattle.gc_plan.specs.declared.step.Step.{Step}
+use Rattle.gc_plan.specs.declared.step.Step.TheVariants as steps
+use Rattle.gc_plan.specs.declared.step.StepReply.{StepReply}
+use Rattle.gc_plan.specs.declared.step.StepReply.TheVariants.{Idle, Copied, Passed, Scanned, Applied, NotReady, Refused, Flipped}
+use Rattle.std.proofs.lemmas.List.{length-map, length-replicate}
+use Rattle.gc_plan.proofs.Public.{begun_belongs, steps_stay}
+use Rattle.gc_core.specs.Flip.{flip_pair, HasAccepted, IsSureIfReady}
+use Rattle.gc_core.specs.Readings.{links_of}
+use Rattle.gc_along.specs.Claims.{Accepts, CanPlace, CanLook, CanApply, OwesNone}
+use Rattle.gc_along.specs.Events.{Placed, Looked, Applied as AppliedTo, Freed, flipped_tables, opening_tables}
+use Rattle.gc_along.specs.Tables.{Tables, watch_of}
+use Rattle.gc_beside.specs.Internal.Live.{GoesBeside, IsLive, heap_words, replica_words}
+use Rattle.gc_beside.specs.Knows.{Knows, KnowsAll, IsNeverLost, open_or_fresh}
+use Rattle.gc_beside.proofs.Public.{opened_known, begun_known, dropped_known, flipped_known, Goes, AreNew, lives_flipped, roots_or_same, scan_or_same, apply_or_same, accepts, roots_told, roots_known, scan_placed, scan_looked, scan_known, passed_known, entry_placed, entry_looked, entry_known}
+
+-- a checker that is not lost goes along
+pub goes_of : (s : State) (t : Tables) → IsLive s t → t.lost ≡ false → GoesBeside s s.collection (watch_of t)
+goes_of s t (inl lost) found = absurd (let no : true ≡ false = sym lost ∙ found in cc)
+goes_of s t (inr goes) found = goes
+
+pub goes_in : (s : State) (c : Collection) (t : Tables) → s.collection ≡ Some c → IsLive s t → t.lost ≡ false → Goes s c (watch_of t)
+goes_in s c t is live found = subst (λ o. GoesBeside s o (watch_of t)) is (goes_of s t live found)
+
+pub knows_in : (s : State) (c : Collection) (t : Tables) → s.collection ≡ Some c → IsNeverLost s t → Knows s c t
+knows_in s c t is k = subst (λ o. Knows s (open_or_fresh s o) t) is k.knows
+
+-- the heap is the same
+pub known_with : (s s' : State) (next : Collection) (t : Tables) → s' ≡ with_collection s (Some next) → Knows s next t → KnowsAll s' t
+known_with s s' next t is k = subst (λ (x : State). KnowsAll x t) (sym is) (record { kept = k.kept; due = k.due; marks = k.marks; old_room = k.old_room; new_room = k.new_room })
+
+-- a step of an open collection
+pub record InOpen (s s' : State) (step : Step) (reply : StepReply) (c next : Collection) : Type 0 where
+  pub before : IsOpened s c
+  pub opened : IsOpened s next
+  pub said : step_in s c step ≡ (reply, s')
+  pub is : s' ≡ with_collection s (Some next)
+
+pub in_open : (s s' : State) (step : Step) (reply : StepReply) (c next : Collection) → (step ≡ steps.Flip → ⊥) → collect s step ≡ (reply, s') → IsOpen s s.collection → IsOpen s' s'.collection → s.collection ≡ Some c → s'.collection ≡ Some next → InOpen s s' step reply c next
+in_open s s' step reply c next other said is_open is_open' first there = record {
+  before = subst (IsOpen s) first is_open;
+  opened = (let k : IsOpened (with_collection s (Some next)) next = subst (λ (x : State). IsOpened x next) is (subst (IsOpen s') there is_open') in record { belongs = k.belongs; size = k.size; logs = k.logs });
+  said = ap (λ o. collect_with s o step) (sym first) ∙ said;
+  is = is;
+}
+  where
+    stays : s' ≡ with_collection s s'.collection
+    stays = (let st = steps_stay s step other in subst (λ (x : StepReply × State). x.1 ≡ with_collection s x.1.collection) said st)
+
+    is : s' ≡ with_collection s (Some next)
+    is = stays ∙ ap (with_collection s) there
+
+-- where a step has such a reply a collection was open
+pub was_open : (s s' : State) (step : Step) (reply : StepReply) → ((collect_with s None step).0 ≡ reply → ⊥) → collect s step ≡ (reply, s') → (c : Collection) × (s.collection ≡ Some c)
+was_open s s' step reply idle said = go s.collection refl
+  where
+    go : (o : Option Collection) → s.collection ≡ o → (c : Collection) × (o ≡ Some c)
+    go None e = absurd (idle (ap (λ (x : StepReply × State). x.0) (ap (λ o. collect_with s o step) (sym e) ∙ said)))
+    go (Some c) e = (c, refl)
+
+-- the words that a caller read are those of the open collection
+pub opened_by : (s : State) (words : List ℕ) → AreNew s words → (next : Collection) × (s.collection ≡ Some next) × (words ≡ replica_words next)
+opened_by s words are = go s.collection refl are
+  where
+    go : (o : Option Collection) → s.collection ≡ o → Rattle.std.specs.Option.option_map replica_words o ≡ Some words → (next : Collection) × (s.collection ≡ Some next) × (words ≡ replica_words next)
+    go None e h = absurd (let no : None ≡ Some words = h in cc)
+    go (Some next) e h = (next, e, (let r : Some (replica_words next) ≡ Some words = h in cc))
+
+module _ (s s' : State) (old words : List ℕ) (heap : IsSpaceGraph s.size s.heap.free s.heap.graph) (is_open : IsOpen s s.collection) (is_open' : IsOpen s' s'.collection) (old_is : old ≡ heap_words (links_of s'.collection) s') (are : AreNew s' words) where
+  old_words : (next : Collection) → s' ≡ with_collection s (Some next) → old ≡ heap_words (links_of s'.collection) s
+  old_words next is = old_is ∙ ap (λ (x : State). heap_words (links_of s'.collection) x) is
+
+  pub lasts_roots : (t after : Tables) → collect s steps.Roots ≡ (Copied, s') → (t.lost ≡ false → CanPlace old words t → after.lost ≡ false) → (after.lost ≡ false → Placed old words t after) → (after.lost ≡ false → OwesNone old words t after)
+      → IsLive s t → IsNeverLost s t → IsNeverLost s' after
+  lasts_roots t after said stays placed copied live k =
+      let first = was_open s s' steps.Roots Copied (λ e. cc) said in
+      let c = first.0 in
+      let new = opened_by s' words are in
+      let next = new.0 in
+      let x = in_open s s' steps.Roots Copied c next (λ e. cc) said is_open is_open' first.1 new.1 in
+      let links = links_of s'.collection in
+      let goes = goes_in s c t first.1 live k.found in
+      let knows = knows_in s c t first.1 k in
+      let o = old_words next x.is in
+      let can = roots_told s c next t links heap x.before x.opened goes knows s' x.said new.1 in
+      let found : after.lost ≡ false = stays k.found (subst (λ ws. CanPlace ws words t) (sym o) (subst (λ ws. CanPlace (heap_words links s) ws t) (sym new.2) can)) in
+      record {
+        found = found;
+        knows = known_with s s' next after x.is (roots_known s c next t links heap x.before x.opened goes knows s' x.said new.1 after
+            (subst (λ ws. Placed ws (replica_words next) t after) o (subst (λ ws. Placed old ws t after) new.2 (placed found)))
+            (subst (λ ws. OwesNone ws (replica_words next) t after) o (subst (λ ws. OwesNone old ws t after) new.2 (copied found))));
+      }
+
+  pub lasts_scanned : (c : Collection) (t mid after : Tables) → s.collection ≡ Some c → collect s steps.Scan ≡ (Scanned, s')
+      → (t.lost ≡ false → CanPlace old words t → mid.lost ≡ false) → (mid.lost ≡ false → Placed old words t mid) → (mid.lost ≡ false → OwesNone old words t mid)
+      → (mid.lost ≡ false → CanLook old words c.scan_place c.scan_field mid → after.lost ≡ false) → (after.lost ≡ false → Looked old words c.scan_place c.scan_field mid after)
+      → IsLive s t → IsNeverLost s t → IsNeverLost s' after
+  lasts_scanned c t mid after first said stays placed copied stays' looked live k =
+      let new = opened_by s' words are in
+      let next = new.0 in
+      let x = in_open s s' steps.Scan Scanned c next (λ e. cc) said is_open is_open' first new.1 in
+      let links = links_of s'.collection in
+      let goes = goes_in s c t first live k.found in
+      let knows = knows_in s c t first k in
+      let o = old_words next x.is in
+      let can = scan_placed s c next t links heap x.before x.opened goes knows s' x.said new.1 in
+      let found : mid.lost ≡ false = stays k.found (subst (λ ws. CanPlace ws words t) (sym o) (subst (λ ws. CanPlace (heap_words links s) ws t) (sym new.2) can)) in
+      let is_placed = subst (λ ws. Placed ws (replica_words next) t mid) o (subst (λ ws. Placed old ws t mid) new.2 (placed found)) in
+      let owes = subst (λ ws. OwesNone ws (replica_words next) t mid) o (subst (λ ws. OwesNone old ws t mid) new.2 (copied found)) in
+      let see = scan_looked s c next t links heap x.before x.opened goes knows s' x.said new.1 mid is_placed owes in
+      let found' : after.lost ≡ false = stays' found (subst (λ ws. CanLook ws words c.scan_place c.scan_field mid) (sym o) (subst (λ ws. CanLook (heap_words links s) ws c.scan_place c.scan_field mid) (sym new.2) see)) in
+      record {
+        found = found';
+        knows = known_with s s' next after x.is (scan_known s c next t links heap x.before x.opened goes knows s' x.said new.1 mid is_placed owes after
+            (subst (λ ws. Looked ws (replica_words next) c.scan_place c.scan_field mid after) o (subst (λ ws. Looked old ws c.scan_place c.scan_field mid after) new.2 (looked found'))));
+      }
+
+  pub lasts_applied : (m : ℕ) (entry : ℕ × ℕ) (t mid after : Tables) → ((c : Collection) → s.collection ≡ Some c → (rest : List (ℕ × ℕ)) × (log_at c m ≡ entry ∷ rest)) → collect s (steps.Apply m) ≡ (Applied, s')
+      → (t.lost ≡ false → CanPlace old words t → mid.lost ≡ false) → (mid.lost ≡ false → Placed old words t mid) → (mid.lost ≡ false → OwesNone old words t mid)
+      → (mid.lost ≡ false → CanApply old words entry.0 entry.1 mid → after.lost ≡ false) → (after.lost ≡ false → AppliedTo old words entry.0 entry.1 mid after)
+      → IsLive s t → IsNeverLost s t → IsNeverLost s' after
+  lasts_applied m entry t mid after log said stays placed copied stays' applied live k =
+      let first = was_open s s' (steps.Apply m) Applied (λ e. cc) said in
+      let c = first.0 in
+      let new = opened_by s' words are in
+      let next = new.0 in
+      let x = in_open s s' (steps.Apply m) Applied c next (λ e. cc) said is_open is_open' first.1 new.1 in
+      let links = links_of s'.collection in
+      let goes = goes_in s c t first.1 live k.found in
+      let knows = knows_in s c t first.1 k in
+      let o = old_words next x.is in
+      let l = log c first.1 in
+      let did : apply_log s c m (entry ∷ l.0) ≡ (Applied, s') = ap (apply_log s c m) (sym l.1) ∙ x.said in
+      let can = entry_placed s c next t links heap x.before x.opened goes knows s' m entry l.0 l.1 did new.1 in
+      let found : mid.lost ≡ false = stays k.found (subst (λ ws. CanPlace ws words t) (sym o) (subst (λ ws. CanPlace (heap_words links s) ws t) (sym new.2) can)) in
+      let is_placed = subst (λ ws. Placed ws (replica_words next) t mid) o (subst (λ ws. Placed old ws t mid) new.2 (placed found)) in
+      let owes = subst (λ ws. OwesNone ws (replica_words next) t mid) o (subst (λ ws. OwesNone old ws t mid) new.2 (copied found)) in
+      let see = entry_looked s c next t links heap x.before x.opened goes knows s' m entry l.0 l.1 did new.1 mid is_placed owes (λ a. ap (λ p. links_of p a) new.1) in
+      let found' : after.lost ≡ false = stays' found (subst (λ ws. CanApply ws words entry.0 entry.1 mid) (sym o) (subst (λ ws. CanApply (heap_words links s) ws entry.0 entry.1 mid) (sym new.2) see)) in
+      record {
+        found = found';
+        knows = known_with s s' next after x.is (entry_known s c next t links heap x.before x.opened goes knows s' m entry l.0 l.1 did new.1 mid is_placed owes after
+            (subst (λ ws. AppliedTo ws (replica_words next) entry.0 entry.1 mid after) o (subst (λ ws. AppliedTo old ws entry.0 entry.1 mid after) new.2 (applied found'))));
+      }
+
+-- ---- steps after which nothing is told
+
+pub lasts_same : (s s' : State) (t : Tables) → s' ≡ s → IsNeverLost s t → IsNeverLost s' t
+lasts_same s s' t e k = subst (λ (x : State). IsNeverLost x t) (sym e) k
+
+pub lasts_scan_other : (s s' : State) (reply : StepReply) (t : Tables) → IsSpaceGraph s.size s.heap.free s.heap.graph → IsOpen s s.collection → IsOpen s' s'.collection → collect s steps.Scan ≡ (reply, s') → (reply ≡ Scanned → ⊥)
+    → IsLive s t → IsNeverLost s t → IsNeverLost s' t
+lasts_scan_other s s' reply t heap is_open is_open' said other live k = ⊎_elim
+    (λ e. lasts_same s s' t e k)
+    (λ h. passed (said ∙ ap (λ (r : StepReply). (r, s')) h.0) h.1 h.2)
+    (scan_or_same s s' reply said other)
+  where
+    passed : collect s steps.Scan ≡ (Passed, s') → (next : Collection) → s'.collection ≡ Some next → IsNeverLost s' t
+    passed said next there =
+        let first = was_open s s' steps.Scan Passed (λ e. cc) said in
+        let c = first.0 in
+        let x = in_open s s' steps.Scan Passed c next (λ e. cc) said is_open is_open' first.1 there in
+        record { found = k.found; knows = known_with s s' next t x.is (passed_known s c next t no_links heap x.before x.opened (goes_in s c t first.1 live k.found) (knows_in s c t first.1 k) s' x.said there) }
+
+pub lasts_roots_other : (s s' : State) (reply : StepReply) (t : Tables) → collect s steps.Roots ≡ (reply, s') → (reply ≡ Copied → ⊥) → IsNeverLost s t → IsNeverLost s' t
+lasts_roots_other s s' reply t said other k = lasts_same s s' t (roots_or_same s s' reply said other) k
+
+pub lasts_apply_other : (s s' : State) (m : ℕ) (reply : StepReply) (t : Tables) → collect s (steps.Apply m) ≡ (reply, s') → (reply ≡ Applied → ⊥) → IsNeverLost s t → IsNeverLost s' t
+lasts_apply_other s s' m reply t said other k = lasts_same s s' t (apply_or_same s s' m reply said other) k
+
+-- ---- the ends
+
+pub lasts_begun : (s s' : State) (reply : StepReply) (size n : ℕ) (t mid after : Tables) → s.collection ≡ None → collect s (steps.BeginSized size) ≡ (reply, s') → IsSpaceGraph s.size s.heap.free s.heap.graph
+    → mid ≡ record t { room = mid.room } → (t.room ≡ 0) ⊎ (n ≤ mid.room) → size ≤ n → s.size ≤ n → (mid.lost ≡ false → after ≡ mid) → IsNeverLost s t → IsNeverLost s' after
+lasts_begun s s' reply size n t mid after none said heap more room new_fits old_fits kept k =
+    let found : mid.lost ≡ false = ap (λ (x : Tables). x.lost) more ∙ k.found in
+    let same : after ≡ mid = kept found in
+    let is : s' ≡ with_collection s (Some (fresh_collection s.mutators size)) = sym (ap (λ (x : StepReply × State). x.1) (ap (λ o. collect_with s o (steps.BeginSized size)) (sym none) ∙ said)) in
+    let old_room : s.size ≤ t.room = k.knows.old_room in
+    let less : s.heap.free < s.size = heap.room in
+    let fits : n ≤ mid.room = ⊎_elim (λ (zero_is : t.room ≡ 0). absurd (omega arith)) (λ (f : n ≤ mid.room). f) room in
+    subst (IsNeverLost s') (sym same) (record { found = found; knows = known_with s s' (fresh_collection s.mutators size) mid is (begun_known s 1 size t mid more (omega arith) (omega arith) (subst (λ o. Knows s (open_or_fresh s o) t) none k.knows)) })
+
+-- more room alone
+pub lasts_reserved : (s : State) (n : ℕ) (t mid : Tables) → s.collection ≡ None → IsSpaceGraph s.size s.heap.free s.heap.graph → mid ≡ record t { room = mid.room } → (t.room ≡ 0) ⊎ (n ≤ mid.room) → s.size ≤ n → IsNeverLost s t → IsNeverLost s mid
+lasts_reserved s n t mid none heap more room fits_old k =
+    let old_room : s.size ≤ t.room = k.knows.old_room in
+    let less : s.heap.free < s.size = heap.room in
+    let fits : n ≤ mid.room = ⊎_elim (λ (zero_is : t.room ≡ 0). absurd (omega arith)) (λ (f : n ≤ mid.room). f) room in
+    record {
+      found = ap (λ (x : Tables). x.lost) more ∙ k.found;
+      knows = subst (λ o. Knows s (open_or_fresh s o) mid) (sym none) (begun_known s 1 1 t mid more (omega arith) (omega arith) (subst (λ o. Knows s (open_or_fresh s o) t) none k.knows));
+    }
+
+pub lasts_dropped : (s s' : State) (reply : StepReply) (t after : Tables) → IsSpaceGraph s.size s.heap.free s.heap.graph → IsOpen s s.collection → collect s steps.Drop ≡ (reply, s') → (t.lost ≡ false → after.lost ≡ false) → (after.lost ≡ false → Freed t after)
+    → IsLive s t → IsNeverLost s t → IsNeverLost s' after
+lasts_dropped s s' reply t after heap is_open said stays freed live k = go s.collection refl said
+  where
+    found : after.lost ≡ false
+    found = stays k.found
+
+    some_room : 1 ≤ t.room
+    some_room = let old_room : s.size ≤ t.room = k.knows.old_room in let less : s.heap.free < s.size = heap.room in omega arith
+
+    is_fresh : s' ≡ with_collection s None → Knows s (fresh_collection s.mutators 1) after → IsNeverLost s' after
+    is_fresh is f = record { found = found; knows = subst (λ (x : State). KnowsAll x after) (sym is) (record { kept = f.kept; due = f.due; marks = f.marks; old_room = f.old_room; new_room = f.new_room }) }
+
+    go : (o : Option Collection) → s.collection ≡ o → collect_with s o steps.Drop ≡ (reply, s') → IsNeverLost s' after
+    go None e u = is_fresh (sym (ap (λ (x : StepReply × State). x.1) u) ∙ ap (with_collection s) e) (nothing_freed e)
+      where
+        -- no replica was there
+        nothing_freed : s.collection ≡ None → Knows s (fresh_collection s.mutators 1) after
+        nothing_freed e =
+            let w = subst (λ o. GoesBeside s o (watch_of t)) e (goes_of s t live k.found) in
+            let fresh : Knows s (fresh_collection s.mutators 1) t = subst (λ o. Knows s (open_or_fresh s o) t) e k.knows in
+            let opened : IsOpened s (fresh_collection s.mutators 1) = record { belongs = begun_belongs s.heap.graph.objects s.mutators 1 heap.numbers (omega arith); size = omega arith; logs = length-replicate s.mutators [] } in
+            dropped_known s (fresh_collection s.mutators 1) t after heap opened (record {
+              fits = record {
+                pairs = ap (λ (w : Rattle.gc_along.specs.Watch.Watch). w.pairs) w;
+                old_seen = ap (λ (w : Rattle.gc_along.specs.Watch.Watch). w.old_seen) w;
+                new_seen = ap (λ (w : Rattle.gc_along.specs.Watch.Watch). w.new_seen) w;
+                row = length-map t.news (λ code. code == 3);
+              };
+              replicas = λ r l. absurd l;
+            }) fresh some_room (freed found)
+    go (Some c) e u = is_fresh (sym (ap (λ (x : StepReply × State). x.1) u)) (dropped_known s c t after heap (subst (IsOpen s) e is_open) (goes_in s c t e live k.found) (knows_in s c t e k) some_room (freed found))
+
+pub lasts_flipped : (s s' : State) (c : Collection) (t after : Tables) → IsSpaceGraph s.size s.heap.free s.heap.graph → s.collection ≡ Some c → IsOpened s c → s' ≡ flipped s c → (t.lost ≡ false → after.lost ≡ false) → (after.lost ≡ false → after ≡ flipped_tables t)
+    → IsNeverLost s t → IsNeverLost s' after
+lasts_flipped s s' c t after heap first opened is stays flips k =
+    let found : after.lost ≡ false = stays k.found in
+    let old_room : s.size ≤ t.room = k.knows.old_room in
+    let less : s.heap.free < s.size = heap.room in
+    record { found = found; knows = subst (λ (x : State). KnowsAll x after) (sym is) (subst (KnowsAll (flipped s c)) (sym (flips found)) (flipped_known s c t opened (knows_in s c t first k) (omega arith))) }
+
+-- ---- the opening
+
+pub lasts_opened : (options : HeapOptions) (t : Tables) → 1 ≤ options.size → t ≡ opening_tables options.size → IsNeverLost (opening_state_with options) t
+lasts_opened options t low is = subst (IsNeverLost (opening_state_with options)) (sym is) (record { found = refl; knows = opened_known (opening_state_with options) options.size refl refl (omega arith) low })
+
+pub lives_opened_with : (options : HeapOptions) (t : Tables) → 1 ≤ options.size → t ≡ opening_tables options.size → IsLive (opening_state_with options) t
+lives_opened_with options t low is = subst (IsLive (opening_state_with options)) (sym is) (inr (let e : 1 ≡ options.size - (options.size - 1) = omega arith in ap opening e))
+
+-- ---- the flip
+
+pub sure_if_ready : (s : State) (t : Tables) → IsSpaceGraph s.size s.heap.free s.heap.graph → IsOpen s s.collection → IsLive s t → IsNeverLost s t → IsSureIfReady (Accepts t) s
+sure_if_ready s t heap is_open live k = go s.collection refl
+  where
+    go : (o : Option Collection) → s.collection ≡ o → IfSome o (λ c. IsTrue (is_ready c s.heap.graph) → HasAccepted (Accepts t) (flip_pair s c))
+    go None e = tt
+    go (Some c) e = λ ready. accepts s c t heap (subst (IsOpen s) e is_open) ready k.found (goes_in s c t e live k.found) (knows_in s c t e k)
+
+-- a flip went to the new space, or changed nothing
+flip_step : (s s' : State) (reply : StepReply) → collect s steps.Flip ≡ (reply, s') → ((s' ≡ s) × ((n : ℕ) → reply ≡ Flipped n → ⊥)) ⊎ ((c : Collection) × (s.collection ≡ Some c) × (s' ≡ flipped s c) × (n : ℕ) × (reply ≡ Flipped n))
+flip_step s s' reply said = go s.collection refl said
+  where
+    Is : Type 0
+    Is = ((s' ≡ s) × ((n : ℕ) → reply ≡ Flipped n → ⊥)) ⊎ ((c : Collection) × (s.collection ≡ Some c) × (s' ≡ flipped s c) × (n : ℕ) × (reply ≡ Flipped n))
+
+    reply_is : (r : StepReply) (x : State) → (let now : StepReply × State = (r, x) in now ≡ (reply, s')) → r ≡ reply
+    reply_is r x e = ap (λ (p : StepReply × State). p.0) e
+
+    checked : (c : Collection) → s.collection ≡ Some c → (b : Bool) → ◌≡◌ {A = StepReply × State} (cond b (Flipped (length c.replicas), flipped s c) (Refused, s)) (reply, s') → Is
+    checked c e true u = inr (c, e, sym (ap (λ (p : StepReply × State). p.1) u), length c.replicas, sym (reply_is (Flipped (length c.replicas)) (flipped s c) u))
+    checked c e false u = inl (sym (ap (λ (p : StepReply × State). p.1) u), λ n f. absurd (let no : Refused ≡ Flipped n = reply_is Refused s u ∙ f in cc))
+
+    ready : (c : Collection) → s.collection ≡ Some c → (b : Bool) → ◌≡◌ {A = StepReply × State} (cond b (cond (passes_check s c) (Flipped (length c.replicas), flipped s c) (Refused, s)) (NotReady, s)) (reply, s') → Is
+    ready c e true u = checked c e (passes_check s c) u
+    ready c e false u = inl (sym (ap (λ (p : StepReply × State). p.1) u), λ n f. absurd (let no : NotReady ≡ Flipped n = reply_is NotReady s u ∙ f in cc))
+
+    go : (o : Option Collection) → s.collection ≡ o → collect_with s o steps.Flip ≡ (reply, s') → Is
+    go None e u = inl (sym (ap (λ (p : StepReply × State). p.1) u), λ n f. absurd (let no : Idle ≡ Flipped n = reply_is Idle s u ∙ f in cc))
+    go (Some c) e u = ready c e (is_ready c s.heap.graph) u
+
+pub both_flipped : (along : Bool) (s s' : State) (reply : StepReply) (n : ℕ) (t after : Tables) → IsSpaceGraph s.size s.heap.free s.heap.graph → IsOpen s s.collection → collect s steps.Flip ≡ (reply, s') → reply ≡ Flipped n
+    → (t.lost ≡ true → after.lost ≡ true) → (after.lost ≡ false → after ≡ flipped_tables t) → (t.lost ≡ false → after.lost ≡ false) → IsLive s t × (along ≡ true → IsNeverLost s t) → IsLive s' after × (along ≡ true → IsNeverLost s' after)
+both_flipped along s s' reply n t after heap is_open said did lost flips stays h = ⊎_elim
+    (λ same. absurd (same.1 n did))
+    (λ x. (
+      lives_flipped s s' x.0 t after x.1 (subst (IsOpen s) x.1 is_open) x.2 lost flips h.0,
+      λ on. lasts_flipped s s' x.0 t after heap x.1 (subst (IsOpen s) x.1 is_open) x.2 stays flips (h.1 on),
+    ))
+    (flip_step s s' reply said)
+
+pub both_unflipped : (along : Bool) (s s' : State) (reply : StepReply) (t : Tables) → collect s steps.Flip ≡ (reply, s') → ((n : ℕ) → reply ≡ Flipped n → ⊥) → IsLive s t × (along ≡ true → IsNeverLost s t) → IsLive s' t × (along ≡ true → IsNeverLost s' t)
+both_unflipped along s s' reply t said not h = ⊎_elim
+    (λ same. subst (λ (x : State). IsLive x t × (along ≡ true → IsNeverLost x t)) (sym same.0) h)
+    (λ x. absurd (not x.3 x.4))
+    (flip_step s s' reply said)

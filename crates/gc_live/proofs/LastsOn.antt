@@ -1,0 +1,313 @@
+-- A standing checker that is not lost stays so, and its tables go on knowing the heap: the mutators' commands.
+use Rattle.std.proofs.Common.{◌≡◌, ◌⊎◌, inl, inr, ⊎_elim, ℕ, zero, suc, ◌+◌, ◌-◌, ◌<◌, ◌≤◌, nat_lt, Bool, true, false, List, [], ◌∷◌, ◌++◌, length, Option, Some, None, refl, ap, sym, ◌∙◌, subst, arith, length-set}
+use Rattle.std.specs.Prelude.{Result, Ok, Err, IfOk, OnErr, slice_get, slice_set}
+use Rattle.std.proofs.lemmas.Bool.{cond_both}
+use Rattle.gc_graph.specs.declared.no_memory.NoMemory.{NoMemory}
+use Rattle.gc_graph.specs.Graph.{Value, Nil, Num, Ref, Graph, field_of, name_of, object_of, root}
+use Rattle.gc_graph.specs.Machine.{Roomy, put_field, roomy_step, words_taken}
+use Rattle.gc_graph.specs.Slots.{SlotName, place}
+use Rattle.gc_graph.specs.declared.command.Op.{Op}
+use Rattle.gc_graph.specs.declared.command.Op.TheVariants as ops
+use Rattle.gc_graph.specs.declared.reply.Reply.{Reply}
+use Rattle.gc_graph.specs.declared.reply.Reply.TheVariants as replies
+use Rattle.std.specs.Option.{option_map}
+use Rattle.gc_words.specs.declared.value.OldAddr.{OldAddr}
+use Rattle.gc_heap.specs.ExtraRoots.{extra_slot}
+use Rattle.gc_plan.specs.State.{Collection, State, heap_end}
+use Rattle.gc_plan.specs.Steps.{log_at, log_or_nil, logged, mutate, with_log, written}
+use Rattle.gc_plan.specs.Members.{In}
+use Rattle.gc_plan.specs.Belonging.{IsLogged, IsNamed, RefersTo, IsSpaceGraph, IsOpened, IsOpen}
+use Rattle.gc_plan.proofs.Public.{WrittenBy, root_fine, laid_range, in_right, pair, replicas_end}
+use Rattle.gc_core.specs.CollectedHeap.{fill_step, filled, new_from_step}
+use Rattle.gc_core.specs.ExtraRoots.{clear_step}
+use Rattle.gc_core.specs.Readings.{links_of}
+use Rattle.gc_core.specs.Writing.{numbers_step}
+use Rattle.gc_along.specs.Claims.{CanMake, CanWrite}
+use Rattle.gc_along.specs.Events.{Made, Wrote}
+use Rattle.gc_along.specs.Tables.{Tables, watch_of}
+use Rattle.gc_beside.specs.Internal.Live.{GoesBeside, IsLive, heap_words}
+use Rattle.gc_beside.specs.Knows.{Knows, KnowsAll, IsNeverLost, open_or_fresh}
+use Rattle.gc_beside.specs.Stays.{Fits}
+use Rattle.gc_beside.proofs.Public.{Continues, SameBut, SameOpen, NewName, continues_same, continues_on, continues_one, quiet_known, can_make, made_known, can_write, wrote_known, EndsMore, ends_more, lives_quiet, lives_unopened, new_op, not_done, end_by, lives_number, lives_number_closed, was_open}
+use Rattle.gc_live.proofs.Lasts.{goes_of, goes_in}
+
+-- no object was made
+abbrev pub NoName : ℕ → Type 0
+NoName a = ⊥
+
+-- commands that make nothing, and of which nothing is told
+pub lasts_quietly : (s s' : State) (t : Tables) → Continues s s' NoName → IsNeverLost s t → IsNeverLost s' t
+lasts_quietly s s' t on k = record { found = k.found; knows = quiet_known s s' t NoName on (λ a x. x) k.knows }
+
+-- one such command
+pub quiet_one : (s s' : State) (m : ℕ) (op : Op) (reply : Reply) → mutate s m op ≡ (reply, s') → words_taken op ≡ 0 → Continues s s' NoName
+quiet_one s s' m op reply said none = let on = continues_one s s' m op reply said in record {
+  mutators = on.mutators;
+  size = on.size;
+  collection = on.collection;
+  names = λ a n. ⊎_elim (λ l. inl l) (λ new. absurd (let some : 1 ≤ words_taken op = new.0 in omega arith)) (on.names a n);
+}
+
+pub lasts_quiet : (s s' : State) (m : ℕ) (op : Op) (reply : Reply) (t : Tables) → mutate s m op ≡ (reply, s') → words_taken op ≡ 0 → IsNeverLost s t → IsNeverLost s' t
+lasts_quiet s s' m op reply t said none k = lasts_quietly s s' t (quiet_one s s' m op reply said none) k
+
+pub quiet_two : (s mid s' : State) → Continues s mid NoName → Continues mid s' NoName → Continues s s' NoName
+quiet_two s mid s' h k = continues_on s mid s' NoName NoName NoName (λ a n. n) (λ a n. n) h k
+
+-- two such commands
+pub lasts_two : (s mid s' : State) (m : ℕ) (op : Op) (one reply : Reply) (put : Op) (t : Tables) → mutate s m op ≡ (one, mid) → words_taken op ≡ 0 → mutate mid m put ≡ (reply, s') → words_taken put ≡ 0 → IsNeverLost s t → IsNeverLost s' t
+lasts_two s mid s' m op one reply put t first none second none' k = lasts_quietly s s' t (quiet_two s mid s' (quiet_one s mid m op one first none) (quiet_one mid s' m put reply second none')) k
+
+clear_quiet : (n : ℕ) (s : State) (k : ℕ) → Continues s (clear_step s k n) NoName
+clear_quiet zero s k = continues_same s NoName
+clear_quiet (suc n) s k =
+    let next = mutate s 0 (ops.Nil (extra_slot s.mutators 0 k)) in
+    quiet_two s next.1 (clear_step next.1 (suc k) n) (quiet_one s next.1 0 (ops.Nil (extra_slot s.mutators 0 k)) next.0 refl refl) (clear_quiet n next.1 (suc k))
+
+pub lasts_cleared : (s s' : State) (k n : ℕ) (t : Tables) → clear_step s k n ≡ s' → IsNeverLost s t → IsNeverLost s' t
+lasts_cleared s s' k n t is known = lasts_quietly s s' t (subst (λ (x : State). Continues s x NoName) is (clear_quiet n s k)) known
+
+-- ---- an object made
+
+seen_of : (s : State) (t : Tables) → IsLive s t → t.lost ≡ false → length t.olds ≡ heap_end s
+seen_of s t live found = go s.collection (goes_of s t live found)
+  where
+    go : (o : Option Collection) → GoesBeside s o (watch_of t) → length t.olds ≡ heap_end s
+    go None w = ap (λ (w : Rattle.gc_along.specs.Watch.Watch). w.old_seen) w
+    go (Some c) g = g.fits.old_seen
+
+abbrev pub NewEnd : State → ℕ → Type 0
+NewEnd s a = a ≡ heap_end s
+
+pub lasts_made : (s s' : State) (t after : Tables) (links : ℕ → ℕ) (old : List ℕ) → IsSpaceGraph s'.size s'.heap.free s'.heap.graph → old ≡ heap_words links s' → EndsMore s s' → Continues s s' (NewEnd s)
+    → (t.lost ≡ false → CanMake old t → after.lost ≡ false) → (after.lost ≡ false → Made old t after) → IsLive s t → IsNeverLost s t → IsNeverLost s' after
+lasts_made s s' t after links old later is more on stays made live k =
+    let seen = seen_of s t live k.found in
+    let found : after.lost ≡ false = stays k.found (subst (λ ws. CanMake ws t) (sym is) (can_make s s' t links later more on seen k.knows)) in
+    record { found = found; knows = made_known s s' t links later more on seen k.knows after (subst (λ ws. Made ws t after) is (made found)) }
+
+pub new_end : (s s' : State) (op : Op) → Continues s s' (NewName s op) → Continues s s' (NewEnd s)
+new_end s s' op on = record { mutators = on.mutators; size = on.size; collection = on.collection; names = λ a n. ⊎_elim (λ l. inl l) (λ new. inr new.1) (on.names a n) }
+
+pub lasts_new : (s s' : State) (m : ℕ) (op : Op) (reply : Reply) (t after : Tables) (raw : Rattle.std.proofs.Common.Bool) (d : SlotName) (kind len : ℕ) (links : ℕ → ℕ) (old : List ℕ) → op ≡ new_op raw d kind len
+    → mutate s m op ≡ (reply, s') → IsSpaceGraph s.size s.heap.free s.heap.graph → IsSpaceGraph s'.size s'.heap.free s'.heap.graph → old ≡ heap_words links s'
+    → (t.lost ≡ false → CanMake old t → after.lost ≡ false) → (after.lost ≡ false → Made old t after) → IsLive s t → IsNeverLost s t → IsNeverLost s' after
+lasts_new s s' m op reply t after raw d kind len links old is said before later words stays made live k =
+    lasts_made s s' t after links old later words (ends_more s s' m op reply raw d kind len is before said) (new_end s s' op (continues_one s s' m op reply said)) stays made live k
+
+-- ---- an object made and filled
+
+fill_quiet : (fields : List SlotName) (s : State) (m : ℕ) (d : SlotName) (i : ℕ) → Continues s (fill_step s m d i fields) NoName
+fill_quiet [] s m d i = continues_same s NoName
+fill_quiet (t ∷ rest) s m d i =
+    let next = mutate s m (ops.Put d i t) in
+    quiet_two s next.1 (fill_step next.1 m d (suc i) rest) (quiet_one s next.1 m (ops.Put d i t) next.0 refl refl) (fill_quiet rest next.1 m d (suc i))
+
+filled_quiet : (reply : Reply) (made : State) (m : ℕ) (d : SlotName) (fields : List SlotName) → Continues made (filled reply made m d fields) NoName
+filled_quiet replies.Full made m d fields = continues_same made NoName
+filled_quiet replies.Made made m d fields = fill_quiet fields made m d 0
+filled_quiet replies.Done made m d fields = fill_quiet fields made m d 0
+filled_quiet replies.NoObject made m d fields = fill_quiet fields made m d 0
+filled_quiet replies.NoField made m d fields = fill_quiet fields made m d 0
+filled_quiet replies.NoNumber made m d fields = fill_quiet fields made m d 0
+filled_quiet (replies.Saw view) made m d fields = fill_quiet fields made m d 0
+filled_quiet replies.Yes made m d fields = fill_quiet fields made m d 0
+filled_quiet replies.No made m d fields = fill_quiet fields made m d 0
+
+pub lasts_filled : (s s' : State) (m : ℕ) (d : SlotName) (kind : ℕ) (fields : List SlotName) (reply : Reply) (t after : Tables) (links : ℕ → ℕ) (old : List ℕ) → EndsMore s s' → new_from_step s m d kind fields ≡ (reply, s')
+    → IsSpaceGraph s'.size s'.heap.free s'.heap.graph → old ≡ heap_words links s'
+    → (t.lost ≡ false → CanMake old t → after.lost ≡ false) → (after.lost ≡ false → Made old t after) → IsLive s t → IsNeverLost s t → IsNeverLost s' after
+lasts_filled s s' m d kind fields reply t after links old more said later words stays made live k = lasts_made s s' t after links old later words more on stays made live k
+  where
+    on : Continues s s' (NewEnd s)
+    on =
+        let first = mutate s m (ops.New d kind (length fields)) in
+        subst (λ (x : State). Continues s x (NewEnd s)) (ap (λ (x : Reply × State). x.1) said)
+        (continues_on s first.1 (filled first.0 first.1 m d fields) (NewEnd s) NoName (NewEnd s) (λ a n. n) (λ a n. absurd n)
+        (new_end s first.1 (ops.New d kind (length fields)) (continues_one s first.1 m (ops.New d kind (length fields)) first.0 refl)) (filled_quiet first.0 first.1 m d fields))
+
+-- ---- fields written
+
+-- the checker beside the open collection of a state
+pub record IsBeside (s : State) (d : Collection) (t : Tables) : Type 0 where
+  pub found : t.lost ≡ false
+  pub fits : Fits (heap_end s) d (watch_of t)
+  pub knows : Knows s d t
+
+-- after commands of which nothing was told as yet
+pub beside : (s s' : State) (d : Collection) (t : Tables) → Continues s s' NoName → heap_end s ≡ heap_end s' → s'.collection ≡ Some d → IsLive s t → IsNeverLost s t → IsBeside s' d t
+beside s s' d t on end there live k = record {
+  found = k.found;
+  fits = go s.collection refl s'.collection there on.collection (goes_of s t live k.found);
+  knows = subst (λ o. Knows s' (open_or_fresh s' o) t) there (quiet_known s s' t NoName on (λ a x. x) k.knows);
+}
+  where
+    refit : (c : Collection) → SameBut c d → Fits (heap_end s) c (watch_of t) → Fits (heap_end s') d (watch_of t)
+    refit c same f = record {
+      pairs = f.pairs ∙ ap (Rattle.std.proofs.Common.map pair) (sym same.replicas);
+      old_seen = f.old_seen ∙ end;
+      new_seen = f.new_seen ∙ ap replicas_end (sym same.replicas);
+      row = f.row;
+    }
+
+    go : (o : Option Collection) → s.collection ≡ o → (p : Option Collection) → p ≡ Some d → SameOpen o p → GoesBeside s o (watch_of t) → Fits (heap_end s') d (watch_of t)
+    go None e None f same g = absurd (let no : None ≡ Some d = f in cc)
+    go None e (Some x) f same g = absurd same
+    go (Some c) e None f same g = absurd same
+    go (Some c) e (Some x) f same g = refit c (let is : x ≡ d = cc f in subst (SameBut c) is same) g.fits
+
+module _ (s : State) (d : Collection) (there : s.collection ≡ Some d) (heap : IsSpaceGraph s.size s.heap.free s.heap.graph) (opened : IsOpened s d) where
+  -- one of them is told
+  pub told_write : (old : List ℕ) (t after : Tables) (a i : ℕ) → old ≡ heap_words (links_of s.collection) s → IsBeside s d t → IsLogged d a i → (t.lost ≡ false → CanWrite old a i t → after.lost ≡ false) → (after.lost ≡ false → Wrote a i t after) → IsBeside s d after
+  told_write old t after a i is k noted stays wrote =
+      let can = can_write s d (links_of s.collection) heap opened t k.fits k.knows a i noted (λ b. ap (λ o. links_of o b) there) in
+      let found : after.lost ≡ false = stays k.found (subst (λ ws. CanWrite ws a i t) (sym is) can) in
+      let h = wrote_known s d (links_of s.collection) heap opened t k.fits k.knows a i noted after (wrote found) in
+      record { found = found; fits = h.1; knows = h.0 }
+
+  pub beside_lasts : (t : Tables) → IsBeside s d t → IsNeverLost s t
+  beside_lasts t k = record { found = k.found; knows = subst (λ o. Knows s (open_or_fresh s o) t) (sym there) k.knows }
+
+-- the open collection after commands
+pub open_after : (s s' : State) → Continues s s' NoName → (s.collection ≡ None → ⊥) → (d : Collection) × (s'.collection ≡ Some d)
+open_after s s' on some = go s.collection refl s'.collection refl on.collection
+  where
+    go : (o : Option Collection) → s.collection ≡ o → (p : Option Collection) → s'.collection ≡ p → SameOpen o p → (d : Collection) × (s'.collection ≡ Some d)
+    go None e p f same = absurd (some e)
+    go (Some c) e None f same = absurd same
+    go (Some c) e (Some d) f same = (d, f)
+
+-- ---- what is written is logged
+
+-- the open collection has a log of this mutator
+abbrev pub HasLog : Option Collection → ℕ → Type 0
+HasLog None m = Unit {0}
+HasLog (Some c) m = m < length c.logs
+
+pub log_of_open : (s : State) (m : ℕ) → IsOpen s s.collection → m < s.mutators → HasLog s.collection m
+log_of_open s m is_open less = go s.collection is_open
+  where
+    go : (o : Option Collection) → IsOpen s o → HasLog o m
+    go None k = tt
+    go (Some c) k = let count : length c.logs ≡ s.mutators = k.logs in omega arith
+
+log_stays : (o : Option Collection) (m n : ℕ) (more : List (ℕ × ℕ)) → HasLog o m → HasLog (logged o n more) m
+log_stays None m n more h = tt
+log_stays (Some c) m n more h = let less : m < length c.logs = h in omega (arith, length-set c.logs n (log_at c n ++ more))
+
+pub log_after : (s s' : State) (m n : ℕ) (op : Op) (reply : Reply) → mutate s n op ≡ (reply, s') → HasLog s.collection m → HasLog s'.collection m
+log_after s s' m n op reply said h = subst (λ (x : Reply × State). HasLog x.1.collection m) said (log_stays s.collection m n _ h)
+
+log_new : (logs : List (List (ℕ × ℕ))) (m : ℕ) (more : List (ℕ × ℕ)) (e : ℕ × ℕ) → m < length logs → In e more → In e (log_or_nil (slice_get (slice_set logs m (log_or_nil (slice_get logs m) ++ more)) m))
+log_new [] m more e less l = absurd (omega arith)
+log_new (log ∷ logs) zero more e less l = in_right e log more l
+log_new (log ∷ logs) (suc m) more e less l = log_new logs m more e (omega arith) l
+
+pub noted : (s s' : State) (m : ℕ) (op : Op) (reply : Reply) (a i : ℕ) → HasLog s.collection m → mutate s m op ≡ (reply, s') → WrittenBy s.heap.graph m op reply a i → (d : Collection) → s'.collection ≡ Some d → IsLogged d a i
+noted s s' m op reply a i has said w d there = go s.collection has (ap (λ (x : Reply × State). x.1.collection) said ∙ there)
+  where
+    go : (o : Option Collection) → HasLog o m → logged o m (written s.heap.graph m op (roomy_step s.heap m op (heap_end s)).0) ≡ Some d → IsLogged d a i
+    go None k e = absurd (let no : None ≡ Some d = e in cc)
+    go (Some c) k e =
+        let is : with_log c m (log_at c m ++ written s.heap.graph m op (roomy_step s.heap m op (heap_end s)).0) ≡ d = cc e in
+        subst (λ (d : Collection). IsLogged d a i) is (m, log_new c.logs m _ (a, i) k (subst (λ (r : Reply). In {X = ℕ × ℕ} (a, i) (written s.heap.graph m op r)) (sym (ap (λ (x : Reply × State). x.0) said)) w))
+
+-- ---- one field, by the last of some commands
+
+pub lasts_written_by : (s mid s' : State) (m : ℕ) (put : Op) (reply : Reply) (old : List ℕ) (t after : Tables) (a i : ℕ) → HasLog mid.collection m → IsOpen s' s'.collection → IsSpaceGraph s'.size s'.heap.free s'.heap.graph
+    → Continues s mid NoName → heap_end s ≡ heap_end mid → mutate mid m put ≡ (reply, s') → words_taken put ≡ 0 → WrittenBy mid.heap.graph m put reply a i → (s.collection ≡ None → ⊥) → old ≡ heap_words (links_of s'.collection) s'
+    → (t.lost ≡ false → CanWrite old a i t → after.lost ≡ false) → (after.lost ≡ false → Wrote a i t after) → IsLive s t → IsNeverLost s t → IsNeverLost s' after
+lasts_written_by s mid s' m put reply old t after a i has is_open heap first end said none wrote_it not_closed is stays wrote live k =
+    let on = quiet_two s mid s' first (quiet_one mid s' m put reply said none) in
+    let d = open_after s s' on not_closed in
+    let opened : IsOpened s' d.0 = subst (IsOpen s') d.1 is_open in
+    let b = beside s s' d.0 t on (end ∙ end_by mid s' m put reply said none) d.1 live k in
+    beside_lasts s' d.0 d.1 heap opened after (told_write s' d.0 d.1 heap opened old t after a i is b (noted mid s' m put reply a i has said wrote_it d.0 d.1) stays wrote)
+
+pub lasts_written : (s s' : State) (m : ℕ) (put : Op) (reply : Reply) (old : List ℕ) (t after : Tables) (a i : ℕ) → IsOpen s s.collection → IsOpen s' s'.collection → IsSpaceGraph s'.size s'.heap.free s'.heap.graph → m < s.mutators
+    → mutate s m put ≡ (reply, s') → words_taken put ≡ 0 → WrittenBy s.heap.graph m put reply a i → (s.collection ≡ None → ⊥) → old ≡ heap_words (links_of s'.collection) s'
+    → (t.lost ≡ false → CanWrite old a i t → after.lost ≡ false) → (after.lost ≡ false → Wrote a i t after) → IsLive s t → IsNeverLost s t → IsNeverLost s' after
+lasts_written s s' m put reply old t after a i is_open is_open' heap less said none wrote_it not_closed is stays wrote live k =
+    lasts_written_by s s s' m put reply old t after a i (log_of_open s m is_open less) is_open' heap (continues_same s NoName) refl said none wrote_it not_closed is stays wrote live k
+
+pub lasts_number : (s mid s' : State) (m : ℕ) (op : Op) (one : Reply) (put : Op) (reply : Reply) (old : List ℕ) (t after : Tables) (a i : ℕ) → IsOpen s s.collection → IsOpen s' s'.collection → IsSpaceGraph s'.size s'.heap.free s'.heap.graph → m < s.mutators
+    → mutate s m op ≡ (one, mid) → words_taken op ≡ 0 → mutate mid m put ≡ (reply, s') → words_taken put ≡ 0 → WrittenBy mid.heap.graph m put reply a i → (s.collection ≡ None → ⊥) → old ≡ heap_words (links_of s'.collection) s'
+    → (t.lost ≡ false → CanWrite old a i t → after.lost ≡ false) → (after.lost ≡ false → Wrote a i t after) → IsLive s t → IsNeverLost s t → IsNeverLost s' after
+lasts_number s mid s' m op one put reply old t after a i is_open is_open' heap less first none said none' wrote_it not_closed is stays wrote live k =
+    lasts_written_by s mid s' m put reply old t after a i (log_after s mid m m op one first (log_of_open s m is_open less)) is_open' heap (quiet_one s mid m op one first none) (end_by s mid m op one first none) said none' wrote_it not_closed is stays wrote live k
+
+-- ---- calls that may lack memory, and of which nothing is told
+
+pub lasts_any : (s s' : State) (m : ℕ) (op : Op) (t : Tables) (result : Result Reply NoMemory) → IfOk result (λ reply. mutate s m op ≡ (reply, s')) → OnErr result (s' ≡ s) → words_taken op ≡ 0 → IsNeverLost s t → IsNeverLost s' t
+lasts_any s s' m op t (Ok reply) step refused none k = lasts_quiet s s' m op reply t step none k
+lasts_any s s' m op t (Err e) step refused none k = subst (λ (x : State). IsNeverLost x t) (sym refused) k
+
+-- ---- both at once
+
+-- the invariant of a heap with a standing checker, which goes along if `along`
+abbrev pub IsLasting : Bool → State → Tables → Type 0
+IsLasting along s t = IsLive s t × (along ≡ true → IsNeverLost s t)
+
+-- a command that neither makes an object nor writes a field
+pub both_quiet : (along : Bool) (s s' : State) (m : ℕ) (op : Op) (reply : Reply) (t : Tables) → IsOpen s s.collection → mutate s m op ≡ (reply, s') → words_taken op ≡ 0 → written s.heap.graph m op reply ≡ [] → IsLasting along s t → IsLasting along s' t
+both_quiet along s s' m op reply t is_open said none quiet h = (lives_quiet s s' m op reply t t is_open said none quiet refl h.0, λ on. lasts_quiet s s' m op reply t said none (h.1 on))
+
+pub both_same : (along : Bool) (s s' : State) (t : Tables) → s' ≡ s → IsLasting along s t → IsLasting along s' t
+both_same along s s' t same h = subst (λ (x : State). IsLasting along x t) (sym same) h
+
+-- a put while no collection is open
+pub both_closed : (along : Bool) (s s' : State) (m : ℕ) (op : Op) (t : Tables) (result : Result Reply NoMemory) → IfOk result (λ reply. mutate s m op ≡ (reply, s')) → OnErr result (s' ≡ s) → words_taken op ≡ 0 → s.collection ≡ None → IsLasting along s t → IsLasting along s' t
+both_closed along s s' m op t (Ok reply) step refused none closed h = (lives_unopened s s' m op reply t step none closed h.0, λ on. lasts_quiet s s' m op reply t step none (h.1 on))
+both_closed along s s' m op t (Err e) step refused none closed h = both_same along s s' t refused h
+
+-- a number put while none is open, or that was not put
+pub both_two_closed : (along : Bool) (s mid s' : State) (m : ℕ) (op : Op) (one reply : Reply) (put : Op) (t : Tables) → mutate s m op ≡ (one, mid) → words_taken op ≡ 0 → mutate mid m put ≡ (reply, s') → words_taken put ≡ 0 → s'.collection ≡ None → IsLasting along s t → IsLasting along s' t
+both_two_closed along s mid s' m op one reply put t first none second none' closed h =
+    (lives_number_closed s mid s' m op one reply put t first none second none' closed h.0, λ on. lasts_two s mid s' m op one reply put t first none second none' (h.1 on))
+
+pub both_two_undone : (along : Bool) (s mid s' : State) (m : ℕ) (op : Op) (one reply : Reply) (put : Op) (t : Tables) → IsOpen s s.collection → mutate s m op ≡ (one, mid) → words_taken op ≡ 0 → written s.heap.graph m op one ≡ [] → mutate mid m put ≡ (reply, s') → words_taken put ≡ 0
+    → (reply ≡ replies.Done → ⊥) → (s'.collection ≡ None → ⊥) → IsLasting along s t → IsLasting along s' t
+both_two_undone along s mid s' m op one reply put t is_open first none quiet second none' undone later h = (
+  lives_number s mid s' m op one reply put t t 0 0 is_open first none quiet second none' (inl (not_done mid.heap.graph m put reply undone, refl)) (was_open s mid s' m op one reply put first second later) h.0,
+  λ on. lasts_two s mid s' m op one reply put t first none second none' (h.1 on),
+)
+
+-- ---- the object that a slot refers to
+
+-- what a caller read of it is its address
+pub refers_to : (g : Graph) (p : ℕ) (o : Option OldAddr) (a : OldAddr) → o ≡ Some a → option_map (λ (a : OldAddr). a.0) o ≡ name_of (root g p) → root g p ≡ Ref a.0
+refers_to g p o a is named = go (root g p) refl (ap (option_map (λ (a : OldAddr). a.0)) (sym is) ∙ named)
+  where
+    go : (v : Value) → root g p ≡ v → Some a.0 ≡ name_of v → root g p ≡ Ref a.0
+    go Nil e h = absurd (let no : Some a.0 ≡ None = h in cc)
+    go (Num n) e h = absurd (let no : Some a.0 ≡ None = h in cc)
+    go (Ref b) e h = e ∙ ap Ref (let same : a.0 ≡ b = cc h in sym same)
+
+-- and is above 0
+pub refers_above : (size free : ℕ) (g : Graph) (p a : ℕ) → IsSpaceGraph size free g → root g p ≡ Ref a → 1 ≤ a
+refers_above size free g p a heap at =
+    let named : IsNamed g.objects a = subst (RefersTo (IsNamed g.objects)) at (root_fine size free g p heap) in
+    (laid_range 1 g.objects (size - free) (a, named.0) heap.laid named.1).0
+
+-- a put that is done goes to an object
+pub done_refers : (g : Graph) (m : ℕ) (d : SlotName) (i : ℕ) (t : SlotName) (o : Option OldAddr) → (put_field g (root g (place d m)) (object_of g.objects (root g (place d m))) (field_of (object_of g.objects (root g (place d m))) i) i (root g (place t m))).0 ≡ replies.Done
+    → option_map (λ (a : OldAddr). a.0) o ≡ name_of (root g (place d m)) → o ≡ None → ⊥
+done_refers g m d i t o done named none = go (root g (place d m)) refl (ap (option_map (λ (a : OldAddr). a.0)) (sym none) ∙ named)
+  where
+    go : (v : Value) → root g (place d m) ≡ v → None ≡ name_of v → ⊥
+    go Nil e h = absurd (let no : replies.NoObject ≡ replies.Done = sym (ap (λ v. (put_field g v (object_of g.objects v) (field_of (object_of g.objects v) i) i (root g (place t m))).0) e) ∙ done in cc)
+    go (Num n) e h = absurd (let no : replies.NoObject ≡ replies.Done = sym (ap (λ v. (put_field g v (object_of g.objects v) (field_of (object_of g.objects v) i) i (root g (place t m))).0) e) ∙ done in cc)
+    go (Ref b) e h = absurd (let no : None ≡ Some b = h in cc)
+
+-- the same of the command
+pub put_refers : (s s' : State) (m : ℕ) (d : SlotName) (i : ℕ) (t : SlotName) (o : Option OldAddr) → mutate s m (ops.Put d i t) ≡ (replies.Done, s') → option_map (λ (a : OldAddr). a.0) o ≡ name_of (root s.heap.graph (place d m)) → o ≡ None → ⊥
+put_refers s s' m d i t o said named none = done_refers s.heap.graph m d i t o done named none
+  where
+    replied : (mutate s m (ops.Put d i t)).0 ≡ replies.Done
+    replied = ap (λ (x : Reply × State). x.0) said
+
+    done : (put_field s.heap.graph (root s.heap.graph (place d m)) (object_of s.heap.graph.objects (root s.heap.graph (place d m))) (field_of (object_of s.heap.graph.objects (root s.heap.graph (place d m))) i) i (root s.heap.graph (place t m))).0 ≡ replies.Done
+    done = cond_both (nat_lt s.heap.free 0) _ _ (λ (next : Reply × Roomy). next.0 ≡ replies.Done → (put_field s.heap.graph (root s.heap.graph (place d m)) (object_of s.heap.graph.objects (root s.heap.graph (place d m))) (field_of (object_of s.heap.graph.objects (root s.heap.graph (place d m))) i) i (root s.heap.graph (place t m))).0 ≡ replies.Done)
+        (λ full e. absurd (let no : replies.Full ≡ replies.Done = e in cc))
+        (λ fits e. e)
+        replied
