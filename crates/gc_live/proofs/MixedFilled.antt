@@ -1,9 +1,8 @@
 -- A standing checker beside a heap stays lost, or goes along: an object made whose fields take numbers and the values of slots.
-use Rattle.std.proofs.Common.{◌≡◌, ◌⊎◌, inl, inr, ⊎_elim, ℕ, zero, suc, ◌+◌, ◌-◌, ◌<◌, ◌≤◌, nat_lt, true, false, List, [], ◌∷◌, Some, None, map, length, refl, ap, sym, ◌∙◌, subst, arith}
-use Rattle.std.specs.Prelude.{slice_get, slice_set}
+use Rattle.std.proofs.Common.{◌≡◌, ◌⊎◌, inl, inr, ⊎_elim, ℕ, suc, ◌+◌, ◌-◌, ◌<◌, ◌≤◌, nat_lt, true, false, List, [], ◌∷◌, Some, None, length, refl, ap, sym, ◌∙◌, subst, arith}
 use Rattle.std.proofs.lemmas.Bool.{cond_both, ltb-false}
 use Rattle.std.proofs.lemmas.List.{length-replicate}
-use Rattle.gc_graph.specs.Graph.{Value, Nil, Ref, Object, root, value_or_nil, new_object, first_value}
+use Rattle.gc_graph.specs.Graph.{Ref, Object, root, new_object, first_value}
 use Rattle.gc_graph.specs.Machine.{Roomy, words_taken}
 use Rattle.gc_graph.specs.Slots.{SlotName, place}
 use Rattle.gc_graph.specs.declared.command.Op.{Op}
@@ -23,7 +22,7 @@ use Rattle.gc_beside.specs.Stays.{Fits, MarksWritten}
 use Rattle.gc_along.specs.Tables.{Tables, watch_of}
 use Rattle.gc_along.specs.Events.{Made}
 use Rattle.gc_beside.specs.Internal.Live.{IsLive, heap_words}
-use Rattle.gc_beside.proofs.Public.{EndsMore, grown, Leads, same_itself, leads_on, leads_one, lives_through, put_roots, end_by}
+use Rattle.gc_beside.proofs.Public.{EndsMore, grown, Leads, same_itself, leads_on, leads_one, lives_through, end_by}
 use Rattle.gc_live.proofs.Filled.{Of, RefersOnly, after_set, only_of}
 
 -- only fields of the object are written, and the end stays

@@ -1,4 +1,4 @@
-use Rattle.std.proofs.Common.{◌≡◌, ◌≤◌, ◌+◌, length, refl, sym, ap, ◌∙◌, arith, true, false}
+use Rattle.std.proofs.Common.{◌≡◌, ◌≤◌, ◌+◌, length, refl, sym, ◌∙◌, arith, true, false}
 use Rattle.gc_heap.specs.Heap.{graph_in}
 use Rattle.gc_core.proofs.Copies.{fitting_reply}
 use Rattle.gc_core.proofs.copying.copy_reply.Goals as goal

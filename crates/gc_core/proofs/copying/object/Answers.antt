@@ -1,6 +1,6 @@
 use Rattle.std.proofs.Common.{◌≡◌, Some, sym, ap, ◌∙◌}
 use Rattle.gc_words.specs.Space.{SpaceWords}
-use Rattle.gc_words.specs.Image.{Block, block_at, header_at}
+use Rattle.gc_words.specs.Image.{block_at, header_at}
 use Rattle.gc_core.proofs.Copies.{object_there, fields_there}
 use Rattle.gc_core.proofs.copying.object.Goals as goal
 
