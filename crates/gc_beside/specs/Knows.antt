@@ -1,5 +1,5 @@
 -- A standing checker beside a collected heap that is never lost: what its tables know.
-use Rattle.std.specs.Prelude.{◌≡◌, ◌≢◌, ◌≤◌, ◌<◌, ℕ, Bool, List, length, Option, Some, None, slice_index_or, IsFalse, IsTrue}
+use Rattle.std.specs.Prelude.{◌≡◌, ◌≢◌, ◌≤◌, ◌<◌, ℕ, Bool, List, length, Option, Some, None, slice_index_or, IsTrue}
 use Rattle.gc_graph.specs.Graph.{Object}
 use Rattle.gc_words.specs.Layout.{field_place}
 use Rattle.gc_plan.specs.State.{Replica, Collection, State}
@@ -41,8 +41,3 @@ open_or_fresh s (Some c) = c
 
 abbrev pub KnowsAll : State → Tables → Type 0
 KnowsAll s t = Knows s (open_or_fresh s s.collection) t
-
--- the checker is not lost, and its tables know the heap
-pub record IsNeverLost (s : State) (t : Tables) : Type 0 where
-  pub found : IsFalse t.lost
-  pub knows : KnowsAll s t

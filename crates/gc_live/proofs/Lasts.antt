@@ -20,8 +20,8 @@ use Rattle.gc_core.specs.Readings.{links_of}
 use Rattle.gc_along.specs.Claims.{Accepts, CanPlace, CanLook, CanApply, OwesNone}
 use Rattle.gc_along.specs.Events.{Placed, Looked, Applied as AppliedTo, Freed, flipped_tables, opening_tables}
 use Rattle.gc_along.specs.Tables.{Tables, watch_of}
-use Rattle.gc_beside.specs.Internal.Live.{GoesBeside, IsLive, heap_words, replica_words}
-use Rattle.gc_beside.specs.Knows.{Knows, KnowsAll, IsNeverLost, open_or_fresh}
+use Rattle.gc_beside.specs.Internal.Live.{GoesBeside, IsLive, heap_words, replica_words, IsNeverLost}
+use Rattle.gc_beside.specs.Knows.{Knows, KnowsAll, open_or_fresh}
 use Rattle.gc_beside.proofs.Public.{opened_known, begun_known, dropped_known, flipped_known, Goes, AreNew, lives_flipped, roots_or_same, scan_or_same, apply_or_same, accepts, roots_told, roots_known, scan_placed, scan_looked, scan_known, passed_known, entry_placed, entry_looked, entry_known}
 
 -- a checker that is not lost goes along

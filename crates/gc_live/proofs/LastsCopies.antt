@@ -18,8 +18,7 @@ use Rattle.gc_plan.proofs.Public.{WrittenBy, root_kept}
 use Rattle.gc_core.specs.Readings.{links_of}
 use Rattle.gc_core.specs.Copying.{object_in, copy_reply, copy_step, copy_fields_step, AllCopied}
 use Rattle.gc_along.specs.Tables.{Tables}
-use Rattle.gc_beside.specs.Internal.Live.{IsLive, heap_words}
-use Rattle.gc_beside.specs.Knows.{IsNeverLost}
+use Rattle.gc_beside.specs.Internal.Live.{IsLive, heap_words, IsNeverLost}
 use Rattle.gc_beside.proofs.Public.{Continues, continues_same}
 use Rattle.gc_live.specs.Internal.Told.{ToldTruly}
 use Rattle.gc_live.proofs.CopiesTold.{all_or_none, copies_lead, slot_kept}

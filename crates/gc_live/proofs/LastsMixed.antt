@@ -13,8 +13,7 @@ use Rattle.gc_core.specs.declared.mixed.FieldSource.TheVariants as sources
 use Rattle.gc_along.specs.Claims.{CanMake}
 use Rattle.gc_along.specs.Events.{Made}
 use Rattle.gc_along.specs.Tables.{Tables}
-use Rattle.gc_beside.specs.Internal.Live.{IsLive, heap_words}
-use Rattle.gc_beside.specs.Knows.{IsNeverLost}
+use Rattle.gc_beside.specs.Internal.Live.{IsLive, heap_words, IsNeverLost}
 use Rattle.gc_beside.proofs.Public.{Continues, continues_same, continues_on, continues_one, EndsMore}
 use Rattle.gc_live.proofs.LastsOn.{NoName, NewEnd, new_end, lasts_made, quiet_one, quiet_two}
 

@@ -21,8 +21,7 @@ use Rattle.gc_core.specs.Readings.{links_of}
 use Rattle.gc_core.specs.Writing.{is_number_word, numbers_step, numbers_reply, put_numbers_step}
 use Rattle.gc_graph.specs.declared.no_memory.NoMemory.{NoMemory}
 use Rattle.gc_along.specs.Tables.{Tables}
-use Rattle.gc_beside.specs.Internal.Live.{IsLive, heap_words}
-use Rattle.gc_beside.specs.Knows.{IsNeverLost}
+use Rattle.gc_beside.specs.Internal.Live.{IsLive, heap_words, IsNeverLost}
 use Rattle.gc_beside.proofs.Public.{Continues, SameOpen, continues_same, leads_one, put_roots}
 use Rattle.gc_live.specs.Internal.Told.{ToldTruly}
 use Rattle.gc_live.proofs.LastsOn.{NoName, IsBeside, HasLog, beside, beside_lasts, told_write, open_after, lasts_quietly, log_of_open, log_after, noted, quiet_one, quiet_two}

@@ -25,8 +25,8 @@ use Rattle.gc_core.specs.Writing.{numbers_step}
 use Rattle.gc_along.specs.Claims.{CanMake, CanWrite}
 use Rattle.gc_along.specs.Events.{Made, Wrote}
 use Rattle.gc_along.specs.Tables.{Tables, watch_of}
-use Rattle.gc_beside.specs.Internal.Live.{GoesBeside, IsLive, heap_words}
-use Rattle.gc_beside.specs.Knows.{Knows, KnowsAll, IsNeverLost, open_or_fresh}
+use Rattle.gc_beside.specs.Internal.Live.{GoesBeside, IsLive, heap_words, IsNeverLost}
+use Rattle.gc_beside.specs.Knows.{Knows, KnowsAll, open_or_fresh}
 use Rattle.gc_beside.specs.Stays.{Fits}
 use Rattle.gc_beside.proofs.Public.{Continues, SameBut, SameOpen, NewName, continues_same, continues_on, continues_one, quiet_known, can_make, made_known, can_write, wrote_known, EndsMore, ends_more, lives_quiet, lives_unopened, new_op, not_done, end_by, lives_number, lives_number_closed, was_open}
 use Rattle.gc_live.proofs.Lasts.{goes_of, goes_in}
