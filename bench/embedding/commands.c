@@ -12,8 +12,9 @@
 #endif
 
 enum { TIMES = 1000, WORDS = 1 << 20, LONG = 512 };
-/* Slots: an object with a reference and a number, one with two fields, a raw one, a number, and two that commands write. */
-enum { OBJECT = 1, OTHER = 2, RAW = 3, NUMBER = 4, TO = 5, MADE = 6 };
+/* Slots: an object with a reference and a number, one with two fields, a raw one, a number, two that commands write, and two objects with eight
+ * fields. */
+enum { OBJECT = 1, OTHER = 2, RAW = 3, NUMBER = 4, TO = 5, MADE = 6, EIGHT = 7, ANOTHER_EIGHT = 8 };
 
 static gcflip_heap heap = GCFLIP_NO_HEAP;
 static uint64_t number;
@@ -21,6 +22,7 @@ static gcflip_view view;
 static uint32_t answers;
 static const uint64_t numbers[LONG] = {7};
 static const uint8_t four[] = {OBJECT, OTHER, NUMBER, TO};
+static const gcflip_field mixed[] = {{GCFLIP_FIELD_SLOT, OBJECT}, {GCFLIP_FIELD_NUMBER, 7}, {GCFLIP_FIELD_SLOT, OTHER}, {GCFLIP_FIELD_NUMBER, 8}};
 
 /* Each call's answer is used, so that no call is left out. */
 #define COMMAND(name, call)                            \
@@ -44,6 +46,9 @@ COMMAND(new_2, gcflip_heap_new_object(&heap, 0, MADE, 1, 2))
 COMMAND(new_20, gcflip_heap_new_object(&heap, 0, MADE, 1, 20))
 COMMAND(new_pair, gcflip_heap_new_pair(&heap, 0, MADE, 1, OBJECT, OTHER))
 COMMAND(new_from_4, gcflip_heap_new_from(&heap, 0, MADE, 1, four, 4))
+COMMAND(new_with_4, gcflip_heap_new_with(&heap, 0, MADE, 1, NUMBER, mixed, 4))
+COMMAND(copy_fields_8, gcflip_heap_copy_fields(&heap, 0, EIGHT, 0, ANOTHER_EIGHT, 0, TO, 8))
+COMMAND(copy_fields_8_open, gcflip_heap_copy_fields(&heap, 0, EIGHT, 0, ANOTHER_EIGHT, 0, TO, 8))
 COMMAND(raw_write_8, gcflip_heap_raw_write(&heap, 0, RAW, 0, NUMBER, numbers, 8))
 COMMAND(raw_write_8_open, gcflip_heap_raw_write(&heap, 0, RAW, 0, NUMBER, numbers, 8))
 COMMAND(raw_write_512, gcflip_heap_raw_write(&heap, 0, RAW, 0, NUMBER, numbers, LONG))
@@ -63,6 +68,8 @@ static void prepare(void)
     must(gcflip_heap_new_object(&heap, 0, OBJECT, 1, 2), GCFLIP_MADE);
     must(gcflip_heap_new_object(&heap, 0, OTHER, 1, 2), GCFLIP_MADE);
     must(gcflip_heap_new_raw(&heap, 0, RAW, 1, LONG), GCFLIP_MADE);
+    must(gcflip_heap_new_object(&heap, 0, EIGHT, 1, 8), GCFLIP_MADE);
+    must(gcflip_heap_new_object(&heap, 0, ANOTHER_EIGHT, 1, 8), GCFLIP_MADE);
     must(gcflip_heap_put(&heap, 0, OBJECT, 0, OTHER), GCFLIP_DONE);
     must(gcflip_heap_put_number(&heap, 0, OBJECT, 1, NUMBER, 7), GCFLIP_DONE);
 }
@@ -70,12 +77,13 @@ static void prepare(void)
 int main(void)
 {
     static void (*const closed[])(void) = {get_object, get_number, put, put_number, set_number, set_nil, move, same, look, new_2, new_20, new_pair,
-                                           new_from_4, raw_write_8, raw_write_512};
+                                           new_from_4, new_with_4, copy_fields_8, raw_write_8, raw_write_512};
     prepare();
     for (size_t k = 0; k < sizeof closed / sizeof closed[0]; k++)
         closed[k]();
     must(gcflip_heap_step_begin(&heap), GCFLIP_BEGUN);
     put_open();
+    copy_fields_8_open();
     raw_write_8_open();
     raw_write_512_open();
     must(gcflip_heap_close(&heap), GCFLIP_DONE);
