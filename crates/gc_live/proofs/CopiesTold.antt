@@ -68,7 +68,7 @@ copies_go (suc count) s m i j d from t =
 -- ---- the call
 
 -- if the reply is `Done`, all were copied, and else nothing has changed
-all_or_none : (s s' : State) (m to from count : ℕ) (d src t : SlotName) (reply : Reply) → copy_fields_step s m d to src from t count ≡ (reply, s')
+pub all_or_none : (s s' : State) (m to from count : ℕ) (d src t : SlotName) (reply : Reply) → copy_fields_step s m d to src from t count ≡ (reply, s')
     → ((reply ≡ replies.Done) × (copy_step s m d to src from t count ≡ s')) ⊎ (s ≡ s')
 all_or_none s s' m to from count d src t reply said = go (copy_reply to from count (object_in s.heap.graph d m) (object_in s.heap.graph src m)) said
   where

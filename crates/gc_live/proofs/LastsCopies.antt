@@ -65,6 +65,10 @@ lasts_copied s s' m to from count a d src t old w after is_open is_open' heap le
     let logged = copies_logged count s m to from a d src t apart at (log_of_open s m is_open less) all e.0 (ap (λ (x : State). x.collection) is ∙ e.1) in
     beside_lasts s' e.0 e.1 heap opened after (told_all count s' e.0 old w after a to e.1 heap opened old_is logged told (beside s s' e.0 w on end e.1 live k))
 
+-- the same told, by another name of their number
+pub truly_counted : (words : List ℕ) (a i n k : ℕ) (t after : Tables) → n ≡ k → ToldTruly words a i n t after → ToldTruly words a i k t after
+truly_counted words a i n k t after same told = subst (λ c. ToldTruly words a i c t after) same told
+
 -- ---- calls of which nothing is told
 
 pub lasts_copy_call : (s s' : State) (m to from count : ℕ) (d src t : SlotName) (w : Tables) (result : Result Reply NoMemory) → IfOk result (λ reply. copy_fields_step s m d to src from t count ≡ (reply, s')) → OnErr result (s' ≡ s) → IsNeverLost s w → IsNeverLost s' w

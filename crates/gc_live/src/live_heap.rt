@@ -101,6 +101,7 @@ impl Model for LiveHeap {
     ghost view = { λ h. h.inner };
 
     ghost use Rattle.std.specs.Prelude.{IsTrue};
+    ghost use Rattle.gc_beside.specs.Internal.Live.{IsLive, IsNeverLost};
 
     ghost invariant = { λ h. IsLive h.inner h.watch × (IsTrue h.along → IsNeverLost h.inner h.watch) };
 }
@@ -768,7 +769,7 @@ impl LiveHeap {
 ghost use Rattle.std.specs.Prelude.{◌≤◌, ◌≢◌, IfOk, OnErr, IsTrue, IsFalse};
 ghost use Rattle.gc_along.specs.Events.{absent_tables, opening_tables};
 ghost use Rattle.gc_along.specs.Tables.{CertifiedBy};
-ghost use Rattle.gc_beside.specs.Internal.Live.{IsLive};
+ghost use Rattle.gc_beside.specs.Internal.Live.{IsLive, IsNeverLost};
 ghost use Rattle.gc_plan.specs.Steps.{collect};
 ghost use Rattle.gc_plan.specs.declared.step.Step.{Step};
 ghost use Rattle.gc_plan.specs.declared.step.StepReply.{StepReply};

@@ -14,8 +14,8 @@ use Rattle.gc_world.specs.Forms.{meaning}
 use Rattle.gc_world.specs.Internal.Forms.{form_of, forms_come_back}
 use Rattle.gc_graph.specs.contracts.slot.SlotPartialEq.TheImpl as of_slots
 use Rattle.gc_graph.specs.contracts.command.OpPartialEq.TheImpl as of_ops
-use Rattle.gc_copy.specs.contracts.step.StepPartialEq.TheImpl as of_steps
-use Rattle.gc_copy.specs.contracts.step.StepReplyPartialEq.TheImpl as of_step_replies
+use Rattle.gc_plan.specs.contracts.step.StepPartialEq.TheImpl as of_steps
+use Rattle.gc_plan.specs.contracts.step.StepReplyPartialEq.TheImpl as of_step_replies
 use Rattle.gc_world.specs.contracts.bare.BareOpPartialEq.TheImpl as of_bare_ops
 use Rattle.gc_world.specs.contracts.bare.BareReplyPartialEq.TheImpl as of_bare_replies
 use Rattle.gc_world.specs.contracts.entry.FormPartialEq.TheImpl as of_forms

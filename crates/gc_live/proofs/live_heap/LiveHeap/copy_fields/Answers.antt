@@ -4,11 +4,11 @@ use Rattle.gc_graph.specs.Slots.{place, roots_of}
 use Rattle.gc_graph.specs.declared.reply.Reply.{Reply}
 use Rattle.gc_words.specs.Image.{Image}
 use Rattle.gc_plan.specs.State.{Collection, State}
-use Rattle.gc_live.specs.Internal.Told.{ToldTruly, ToldWritten}
+use Rattle.gc_live.specs.Internal.Told.{ToldWritten}
 use Rattle.gc_live.proofs.Begun.{none_open}
 use Rattle.gc_live.proofs.CopiesTold.{lives_copied, lives_call_closed, done_all}
 use Rattle.gc_live.proofs.LastsOn.{refers_above, refers_to}
-use Rattle.gc_live.proofs.LastsCopies.{lasts_copied, lasts_copy_call, copies_refer}
+use Rattle.gc_live.proofs.LastsCopies.{lasts_copied, lasts_copy_call, copies_refer, truly_counted}
 use Rattle.gc_live.proofs.live_heap.LiveHeap.copy_fields.Goals as goal
 
 pub invariant_of-self : goal.invariant_of-self
@@ -35,7 +35,7 @@ invariant_of-self-in-Some c =
       lives_copied s c.copy_fields-2.new.self c.args.m c.args.to c.args.from c.args.count c.in-Some.object.0 c.args.d c.args.s c.args.t c.self.inside.watch c.tell_written.new.watch c.is_sound.ensures.open c.requires.target at low done
           (subst (λ n. ToldWritten c.in-Some.object.0 c.args.to n c.self.inside.watch c.tell_written.new.watch) c.from.ensures c.tell_written.ensures.written) some c.self.invariant.0,
       λ on. lasts_copied s c.copy_fields-2.new.self c.args.m c.args.to c.args.from c.args.count c.in-Some.object.0 c.args.d c.args.s c.args.t _ c.self.inside.watch c.tell_written.new.watch c.is_sound.ensures.open c.is_sound-2.ensures.open c.is_sound-2.ensures.heap less c.requires.target at
-          all done some (ap (λ (image : Image). image.words) c.image.ensures) (subst (λ n. ToldTruly _ c.in-Some.object.0 c.args.to n c.self.inside.watch c.tell_written.new.watch) c.from.ensures c.tell_written.ensures.truly) c.self.invariant.0 (c.self.invariant.1 on),
+          all done some (ap (λ (image : Image). image.words) c.image.ensures) (truly_counted _ c.in-Some.object.0 c.args.to _ c.args.count c.self.inside.watch c.tell_written.new.watch c.from.ensures c.tell_written.ensures.truly) c.self.invariant.0 (c.self.invariant.1 on),
     )
 
 pub invariant_of-self-in-None : goal.invariant_of-self-in-None
