@@ -83,9 +83,9 @@ int main(void)
         closed[k]();
     must(gcflip_heap_step_begin(&heap), GCFLIP_BEGUN);
     put_open();
-    copy_fields_8_open();
     raw_write_8_open();
     raw_write_512_open();
+    copy_fields_8_open();
     must(gcflip_heap_close(&heap), GCFLIP_DONE);
     printf("%u\n", answers);
     return 0;
