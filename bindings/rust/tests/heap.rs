@@ -1,6 +1,8 @@
 //! Tests each call on a heap, and each error but `FlipRefused`, which is proved never to occur, and `NoMemory` (out_of_memory.rs).
 
-use gcflip::{check, Checking, Error, Field, Finding, FlipChecks, Frame, Heap, LogEntry, Options, Pace, Pair, Slot, Step, Useful, Value, Yes};
+use gcflip::{
+    check, Checking, Error, Field, Finding, FlipChecks, Frame, Heap, LogEntry, Options, Pace, Pair, Slot, Step, Useful, Value, Yes,
+};
 
 const A: Slot = Slot::own(0);
 const B: Slot = Slot::own(1);
@@ -111,7 +113,8 @@ fn numbers_and_slots_are_mixed() {
     let mutator = heap.mutator(0).unwrap();
     let fields = [Field::number(5), Field::NIL, Field::slot(A), Field::slot(B), Field::number((1 << 63) - 1), Field::slot(SHARED)];
     assert_eq!(mutator.make_with(A, 9, B, &fields), Ok(()));
-    let values = [Value::Number(5), Value::Nil, Value::Object { kind: 9, fields: 6 }, Value::Number(5), Value::Number((1 << 63) - 1), TWO_FIELDS];
+    let values =
+        [Value::Number(5), Value::Nil, Value::Object { kind: 9, fields: 6 }, Value::Number(5), Value::Number((1 << 63) - 1), TWO_FIELDS];
     for (field, value) in values.into_iter().enumerate() {
         assert_eq!(mutator.get(Slot::own(2), A, field as u16), Ok(value));
     }
