@@ -416,7 +416,9 @@ impl Drop for Handle {
 macro_rules! answers {
     ($($method:ident: $call:ident($($argument:ident: $type:ty),*);)*) => {
         impl Handle {
-            $(pub fn $method(&self, $($argument: $type),*) -> u32 {
+            // A call takes as many arguments as in C.
+            $(#[allow(clippy::too_many_arguments)]
+            pub fn $method(&self, $($argument: $type),*) -> u32 {
                 // SAFETY: the first pointer is to the handle's own cell, and any other is a reference. No other call on this handle is
                 // running: `Handle` is not `Sync`, and the library makes no callbacks.
                 unsafe { $call(self.heap.get(), $($argument),*) }
