@@ -4,7 +4,7 @@ import math
 from gcflip_drawing.picture import MARGIN, Picture
 
 # The picture is narrow, so that a phone shows it in full size.
-LEFT, TOP, HEIGHT, BAR, GAP, BELOW = 80, 64, 110, 14, 4, 46
+LEFT, TOP, HEIGHT, BAR, GAP, BELOW = 80, 64, 110, 12, 4, 46
 # One in so many rows has its label.
 LABELLED = 4
 # The roles of the two ways of checking, and what they are called.

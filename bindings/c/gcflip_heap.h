@@ -12,8 +12,8 @@
  * - a flip happens only if its certificate holds, and the flip of a ready collection passes. That each flip asks a checker is
  *   proved one layer below, for CollectedHeap::flip_along and flip in crates/gc_core;
  * - no step lacks room if the new space is at least as large as the heap;
- * - only open, step_begin, step_begin_sized, step_flip, check, work, work_sized and work_paced can return GCFLIP_NO_MEMORY, and, while
- *   a collection is open, put, put_number, put_nil, raw_write, copy_fields, new_pair, new_from and new_with.
+ * - only open, step_begin, step_begin_sized, step_flip, check, work, work_sized, work_within and work_paced can return GCFLIP_NO_MEMORY, and,
+ *   while a collection is open, put, put_number, put_nil, raw_write, copy_fields, new_pair, new_from and new_with.
  *
  * What the caller owes, since nothing checks C code:
  * - no pointer is NULL, not even one to an empty array. Each is aligned, and no two pointers of a call overlap;
@@ -202,7 +202,8 @@ uint32_t gcflip_heap_frame_pop(gcflip_heap *heap, uint8_t m, uint8_t d, gcflip_f
 /* ---- Collector steps */
 
 /* Opens a collection whose new space is as large as the heap, or has `size` words, at least 1: GCFLIP_BEGUN, or
- * GCFLIP_BUSY if one is open. If the new space is larger than any before, the tables of a checker that goes along grow. */
+ * GCFLIP_BUSY if one is open. If the new space is larger than any before, the tables of a checker that goes along grow. After a flip
+ * whose checker went along, a collection of the same size takes the old space, and allocates nothing. */
 uint32_t gcflip_heap_step_begin(gcflip_heap *heap);
 uint32_t gcflip_heap_step_begin_sized(gcflip_heap *heap, uint32_t size);
 
@@ -218,8 +219,8 @@ uint32_t gcflip_heap_step_scan(gcflip_heap *heap);
 uint32_t gcflip_heap_step_apply(gcflip_heap *heap, uint8_t m);
 
 /* Flips if the collection is ready and a checker accepts it: GCFLIP_FLIPPED, GCFLIP_NOT_READY or GCFLIP_IDLE. If it flipped, it writes the
- * number of pairs of the certificate. A flip whose checker went along allocates the moved roots. Any other one passes over both spaces,
- * and allocates the certificate and the checker's tables too. */
+ * number of pairs of the certificate. A flip whose checker went along looks at the roots alone; only the first one of a heap allocates, a row
+ * for the moved roots. Any other flip passes over both spaces, and allocates the certificate and the checker's tables too. */
 uint32_t gcflip_heap_step_flip(gcflip_heap *heap, uint32_t *pairs);
 
 /* Frees the new space and the logs: GCFLIP_DROPPED or GCFLIP_IDLE. */
@@ -235,10 +236,11 @@ typedef struct gcflip_flip_checks {
 /* Reads how many flips each checker has accepted since the heap was opened. */
 uint32_t gcflip_heap_flip_checks(const gcflip_heap *heap, gcflip_flip_checks *checks);
 
-/* Checks both spaces of an open collection whole, if it is ready, and changes nothing: GCFLIP_YES, GCFLIP_REFUSED, GCFLIP_NOT_READY or
- * GCFLIP_IDLE. It writes the verdict with the first two: the number of pairs, or the first condition that fails. GCFLIP_REFUSED is proved
- * never to occur, unless other code writes into the heap's memory. The call allocates what a flip that is checked whole does. */
-uint32_t gcflip_heap_check(const gcflip_heap *heap, gcflip_verdict *verdict);
+/* Checks both spaces of an open collection whole, if it is ready: GCFLIP_YES, GCFLIP_REFUSED, GCFLIP_NOT_READY or GCFLIP_IDLE. It writes the
+ * verdict with the first two: the number of pairs, or the first condition that fails. GCFLIP_REFUSED is proved never to occur, unless other
+ * code writes into the heap's memory. Nothing that another call shows changes; the links of the old space lose their marks. The call
+ * allocates what a flip that is checked whole does. */
+uint32_t gcflip_heap_check(gcflip_heap *heap, gcflip_verdict *verdict);
 
 /* The steps, in the order of their calls. */
 enum gcflip_step_name {
@@ -276,6 +278,11 @@ uint32_t gcflip_heap_work(gcflip_heap *heap, uint32_t most, gcflip_work *work);
 /* Does the same, but if a step is a begin, the new space gets `size` words, at least 1. This serves systems that refuse a block of memory
  * as large as the heap, although a smaller one would do. */
 uint32_t gcflip_heap_work_sized(gcflip_heap *heap, uint32_t most, uint32_t size, gcflip_work *work);
+
+/* Does the same as gcflip_heap_work, but also ends after the step with which the replicas of this call take `words` words or more. A step
+ * copies at most one object, which takes up to 65,537 words, so a call passes `words` by less than one object. If `words` is 0, it performs
+ * one step. */
+uint32_t gcflip_heap_work_within(gcflip_heap *heap, uint32_t most, uint32_t words, gcflip_work *work);
 
 /* ---- Reading, for a runtime's own decisions */
 
@@ -349,7 +356,11 @@ uint32_t gcflip_pace_due(const gcflip_pace *pace, const gcflip_counts *counts, u
  * allocates and the entries that it logs. The call that begins a collection leaves at most `end` of it. While that collection is open, no
  * call leaves more than the call before, if each performs the steps that are due and finds room. So after each such call all logs
  * together have fewer entries than `end` was at the begin. All this holds while `logged` is below UINT32_MAX, and if at most UINT32_MAX words
- * and entries are spent between two calls. */
+ * and entries are spent between two calls.
+ *
+ * The steps that are due may copy many long objects. A program that bounds its calls by words performs the steps that gcflip_pace_due returns
+ * by gcflip_heap_work_within. If a call ends before all of them are performed, the pace stays as it is, so that the next call pays for the rest.
+ * Otherwise gcflip_heap_pace makes the pace remember the heap; unless the last step flipped, the program then writes the former `left` back. */
 uint32_t gcflip_heap_work_paced(gcflip_heap *heap, gcflip_pace *pace, uint32_t wanted, gcflip_work *work);
 
 /* Reads the length of mutator m's log, which is 0 while no collection is open. */

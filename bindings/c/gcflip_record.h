@@ -423,8 +423,8 @@ static inline uint32_t gcflip_record_useful(gcflip_heap *heap, uint32_t size, ui
     }
 }
 
-/* Performs at most `most` useful steps, at least 1, and records them. */
-static inline uint32_t gcflip_record_steps(gcflip_heap *heap, uint32_t most, uint32_t size, gcflip_work *work)
+/* Performs at most `most` useful steps, at least 1, and records them. Ends once the replicas take `words` words. */
+static inline uint32_t gcflip_record_steps(gcflip_heap *heap, uint32_t most, uint32_t size, uint64_t words, gcflip_work *work)
 {
     gcflip_counts counts = {0, 0, 0, 0, 0, 0, 0, 0, 0, 0, 0};
     gcflip_work made = {0, 0, 0, 0};
@@ -440,7 +440,7 @@ static inline uint32_t gcflip_record_steps(gcflip_heap *heap, uint32_t most, uin
         made.last = answer;
         gcflip_heap_counts(heap, &counts);
         made.copied = (counts.is_open ? counts.new_end : counts.end) - start;
-        if (answer == GCFLIP_FLIPPED || answer == GCFLIP_NO_ROOM)
+        if (answer == GCFLIP_FLIPPED || answer == GCFLIP_NO_ROOM || made.copied >= words)
             break;
     }
     if (made.steps == 0)
@@ -453,14 +453,21 @@ static inline uint32_t gcflip_record_work(gcflip_heap *heap, uint32_t most, gcfl
 {
     if (most == 0)
         return gcflip_heap_work(heap, most, work);
-    return gcflip_record_steps(heap, most, 0, work);
+    return gcflip_record_steps(heap, most, 0, UINT64_MAX, work);
 }
 
 static inline uint32_t gcflip_record_work_sized(gcflip_heap *heap, uint32_t most, uint32_t size, gcflip_work *work)
 {
     if (most == 0 || size == 0)
         return gcflip_heap_work_sized(heap, most, size, work);
-    return gcflip_record_steps(heap, most, size, work);
+    return gcflip_record_steps(heap, most, size, UINT64_MAX, work);
+}
+
+static inline uint32_t gcflip_record_work_within(gcflip_heap *heap, uint32_t most, uint32_t words, gcflip_work *work)
+{
+    if (most == 0)
+        return gcflip_heap_work_within(heap, most, words, work);
+    return gcflip_record_steps(heap, most, 0, words, work);
 }
 
 /* A closed heap and a factor out of range are refused as gcflip_heap_pace refuses them. */
@@ -475,7 +482,7 @@ static inline uint32_t gcflip_record_work_paced(gcflip_heap *heap, gcflip_pace *
     due = gcflip_pace_due(pace, &counts, wanted);
     if (due == 0)
         return gcflip_heap_work_paced(heap, pace, wanted, work);
-    answer = gcflip_record_steps(heap, due, 0, work);
+    answer = gcflip_record_steps(heap, due, 0, UINT64_MAX, work);
     if (answer != GCFLIP_DONE)
         return answer;
     gcflip_heap_pace(heap, &after);
@@ -520,6 +527,7 @@ static inline uint32_t gcflip_record_work_paced(gcflip_heap *heap, gcflip_pace *
 #define gcflip_heap_step_give_up gcflip_record_step_give_up
 #define gcflip_heap_work gcflip_record_work
 #define gcflip_heap_work_sized gcflip_record_work_sized
+#define gcflip_heap_work_within gcflip_record_work_within
 #define gcflip_heap_work_paced gcflip_record_work_paced
 
 #endif

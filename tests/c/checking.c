@@ -29,10 +29,11 @@ static size_t slot_of(const void *at)
     return slot;
 }
 
+/* A block is zeroed, so that no word of a freed one is found in it. */
 struct gcflip_memory rattle_alloc(size_t size, size_t alignment)
 {
     size_t slot = slot_of(NULL);
-    struct gcflip_memory memory = {true, malloc(size + 1)};
+    struct gcflip_memory memory = {true, calloc(1, size + 1)};
     (void)alignment;
     EXPECT(memory.at != NULL);
     blocks[slot].at = memory.at;

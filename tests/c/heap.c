@@ -428,6 +428,91 @@ static void sized_work(void)
     close_heap();
 }
 
+/* Tests work that ends after so many words. Of the three words of an object, the call takes all. */
+static void work_within_words(void)
+{
+    open_heap(32, 1);
+    REPLIES(gcflip_heap_new_object(&heap, 0, 0, KIND, 1), GCFLIP_MADE);
+    work.steps = 77;
+    EXPECT(gcflip_heap_work_within(&heap, 0, 8, &work) == GCFLIP_OUT_OF_RANGE && work.steps == 77);
+    REPLIES(gcflip_heap_step_give_up(&heap), GCFLIP_IDLE);
+    EXPECT(gcflip_heap_work_within(&heap, 1000, 0, &work) == GCFLIP_DONE);
+    EXPECT(work.steps == 1 && work.copied == 0 && work.last == GCFLIP_BEGUN);
+    EXPECT(gcflip_heap_work_within(&heap, 1000, 1, &work) == GCFLIP_DONE);
+    EXPECT(work.steps == 1 && work.copied == 3 && work.last == GCFLIP_COPIED);
+    EXPECT(gcflip_heap_work_within(&heap, 2, 1, &work) == GCFLIP_DONE);
+    EXPECT(work.steps == 2 && work.copied == 0 && work.last == GCFLIP_PASSED);
+    EXPECT(gcflip_heap_work_within(&heap, 1000, UINT32_MAX, &work) == GCFLIP_DONE);
+    EXPECT(work.steps == 1 && work.copied == 0 && work.last == GCFLIP_FLIPPED && work.pairs == 1);
+    /* a whole collection, which takes fewer words */
+    EXPECT(gcflip_heap_work_within(&heap, 1000, 4, &work) == GCFLIP_DONE);
+    EXPECT(work.steps == 5 && work.copied == 3 && work.last == GCFLIP_FLIPPED && work.pairs == 1);
+    REPLIES(gcflip_heap_step_begin_sized(&heap, 3), GCFLIP_BEGUN);
+    EXPECT(gcflip_heap_work_within(&heap, 1000, 4, &work) == GCFLIP_DONE);
+    EXPECT(work.steps == 1 && work.copied == 0 && work.last == GCFLIP_NO_ROOM);
+    close_heap();
+}
+
+/* Tests that each call takes its words, but no object more, on 16 raw objects of 2 to 602 words. Only the flip ends a call before. */
+static void words_of_a_call(void)
+{
+    static const uint32_t bounds[] = {0, 1, 2, 100, 602, 1000, UINT32_MAX};
+    uint32_t live = 0, largest = 602;
+    open_heap(8192, 1);
+    for (uint8_t s = 0; s < 16; s++) {
+        REPLIES(gcflip_heap_new_raw(&heap, 0, s, KIND, (uint16_t)(s * 40)), GCFLIP_MADE);
+        live += 2 + s * 40;
+    }
+    for (size_t k = 0; k < sizeof bounds / sizeof *bounds; k++) {
+        uint32_t words = bounds[k], copied = 0;
+        do {
+            EXPECT(gcflip_heap_work_within(&heap, UINT32_MAX, words, &work) == GCFLIP_DONE);
+            EXPECT(work.copied >= words || work.last == GCFLIP_FLIPPED);
+            EXPECT(words > 0 ? work.copied < (uint64_t)words + largest : work.steps == 1 && work.copied <= largest);
+            copied += work.copied;
+        } while (work.last != GCFLIP_FLIPPED);
+        EXPECT(copied == live && work.pairs == 16);
+    }
+    close_heap();
+}
+
+static bool is_entry(size_t k, uint32_t object, uint32_t field)
+{
+    gcflip_log_entry entry = {77, 77};
+    return gcflip_heap_log_entry(&heap, 0, k, &entry) == GCFLIP_DONE && entry.object == object && entry.field == field;
+}
+
+/* Tests a log of several segments of 1,024 entries: entries are read, applied from the oldest on, and added meanwhile. */
+static void long_log(void)
+{
+    enum { FIELDS = 5000 };
+    size_t length = 0;
+    uint16_t put = 0, applied = 0;
+    uint64_t number = 0;
+    open_heap(8192, 1);
+    REPLIES(gcflip_heap_new_raw(&heap, 0, 0, KIND, FIELDS), GCFLIP_MADE);
+    EXPECT(gcflip_heap_work(&heap, 3, &work) == GCFLIP_DONE && work.last == GCFLIP_PASSED);
+    while (applied < FIELDS) {
+        /* 2,500 entries first, and then three for each two that are applied */
+        for (int more = put == 0 ? 2500 : 3; more > 0 && put < FIELDS; more--, put++)
+            REPLIES(gcflip_heap_put_number(&heap, 0, 0, put, 1, put), GCFLIP_DONE);
+        EXPECT(gcflip_heap_log_length(&heap, 0, &length) == GCFLIP_DONE && length == (size_t)(put - applied));
+        for (size_t k = 0; k < length; k += 341)
+            EXPECT(is_entry(k, 1, applied + (uint32_t)k));
+        EXPECT(is_entry(length - 1, 1, put - 1u));
+        EXPECT(gcflip_heap_log_entry(&heap, 0, length, &entry) == GCFLIP_OUT_OF_RANGE);
+        for (int less = 2; less > 0 && applied < FIELDS; less--, applied++)
+            REPLIES(gcflip_heap_step_apply(&heap, 0), GCFLIP_APPLIED);
+    }
+    REPLIES(gcflip_heap_step_apply(&heap, 0), GCFLIP_CLEAN);
+    REPLIES(gcflip_heap_put_number(&heap, 0, 0, 7, 1, 77), GCFLIP_DONE);
+    EXPECT(is_entry(0, 1, 7));
+    EXPECT(gcflip_heap_work(&heap, 100, &work) == GCFLIP_DONE && work.last == GCFLIP_FLIPPED && work.pairs == 1);
+    EXPECT(gcflip_heap_get(&heap, 0, 1, 0, 7, &number) == GCFLIP_NUMBER && number == 77);
+    EXPECT(gcflip_heap_get(&heap, 0, 1, 0, FIELDS - 1, &number) == GCFLIP_NUMBER && number == FIELDS - 1);
+    close_heap();
+}
+
 static bool are_counts(uint32_t size, uint32_t end, uint32_t is_open, uint32_t new_size, uint32_t new_end, uint32_t place, uint32_t field)
 {
     EXPECT(gcflip_heap_counts(&heap, &counts) == GCFLIP_DONE);
@@ -662,6 +747,8 @@ static void closed(void)
     EXPECT(gcflip_heap_work(&heap, 1, &work) == GCFLIP_CLOSED);
     EXPECT(gcflip_heap_work_sized(&heap, 1, 8, &work) == GCFLIP_CLOSED);
     EXPECT(gcflip_heap_work_sized(&heap, 0, 0, &work) == GCFLIP_CLOSED);
+    EXPECT(gcflip_heap_work_within(&heap, 1, 8, &work) == GCFLIP_CLOSED);
+    EXPECT(gcflip_heap_work_within(&heap, 0, 8, &work) == GCFLIP_CLOSED);
     EXPECT(gcflip_heap_useful(&heap, &step) == GCFLIP_CLOSED && step.name == 77 && step.mutator == 77);
     EXPECT(gcflip_heap_counts(&heap, &counts) == GCFLIP_CLOSED);
     EXPECT(gcflip_heap_log_length(&heap, 0, &length) == GCFLIP_CLOSED);
@@ -697,6 +784,9 @@ int main(void)
     useful_steps();
     useful_step_names();
     sized_work();
+    work_within_words();
+    words_of_a_call();
+    long_log();
     readings();
     copied_images_are_certified();
     out_of_range();

@@ -87,16 +87,18 @@ static void print_work(const gcflip_work *work)
         EXPECT(work->pairs == 0);
 }
 
-/* Works with a size for the new space, or without one if it is NO_SIZE. */
-#define NO_SIZE UINT64_MAX
-static void work(uint32_t most, uint64_t size)
+/* Works with a size for the new space, unless it is NO_BOUND, or within so many words, unless they are. */
+#define NO_BOUND UINT64_MAX
+static void work(uint32_t most, uint64_t size, uint64_t words)
 {
     gcflip_work work = {KEPT_32, KEPT_32, KEPT_32, KEPT_32};
 #ifdef BASIC
-    EXPECT(size == NO_SIZE);
+    EXPECT(size == NO_BOUND && words == NO_BOUND);
     uint32_t answer = gcflip_heap_work(&heap, most, &work);
 #else
-    uint32_t answer = size == NO_SIZE ? gcflip_heap_work(&heap, most, &work) : gcflip_heap_work_sized(&heap, most, (uint32_t)size, &work);
+    uint32_t answer = size != NO_BOUND    ? gcflip_heap_work_sized(&heap, most, (uint32_t)size, &work)
+                      : words != NO_BOUND ? gcflip_heap_work_within(&heap, most, (uint32_t)words, &work)
+                                          : gcflip_heap_work(&heap, most, &work);
 #endif
     if (answer != GCFLIP_DONE) {
         EXPECT(work.steps == KEPT_32 && work.copied == KEPT_32 && work.last == KEPT_32 && work.pairs == KEPT_32);
@@ -337,7 +339,7 @@ static void perform(const char *name)
     if (IS("look")) look(m, d);
     else if (IS("get")) get(m, d, (uint8_t)a[2], (uint16_t)a[3]);
     else if (IS("flip")) flip();
-    else if (IS("work")) work((uint32_t)a[0], NO_SIZE);
+    else if (IS("work")) work((uint32_t)a[0], NO_BOUND, NO_BOUND);
     else if (IS("useful")) useful();
     else if (IS("counts")) counts();
     else if (IS("log")) print_log(m);
@@ -349,7 +351,8 @@ static void perform(const char *name)
     else if (IS("raw_read")) raw_read();
     else if (IS("address")) address();
 #ifndef BASIC
-    else if (IS("work_sized")) work((uint32_t)a[0], a[1]);
+    else if (IS("work_sized")) work((uint32_t)a[0], a[1], NO_BOUND);
+    else if (IS("work_within")) work((uint32_t)a[0], NO_BOUND, a[1]);
     else if (IS("pace")) set_pace();
     else if (IS("work_paced")) work_paced((uint32_t)a[0]);
     else if (IS("frame_push")) frame(true);

@@ -141,6 +141,7 @@ static void make_steps(bool is_recorded)
     REPLIES(gcflip_heap_step_begin_sized(&heap, 128), GCFLIP_BEGUN, is_recorded);
     REPLIES(gcflip_heap_work(&heap, 1, &work), GCFLIP_DONE, is_recorded);
     REPLIES(gcflip_heap_work_sized(&heap, 1, 128, &work), GCFLIP_DONE, is_recorded);
+    REPLIES(gcflip_heap_work_within(&heap, 1, 128, &work), GCFLIP_DONE, is_recorded);
     REPLIES(gcflip_heap_work_paced(&heap, &pace, UINT32_MAX, &work), GCFLIP_DONE, is_recorded); /* there is no room, so it flips */
     EXPECT(work.last == GCFLIP_FLIPPED && work.pairs == 4);
 }

@@ -78,6 +78,9 @@ int main(int count, char **names)
     EXPECT(gcflip_heap_work_sized(&heap, 100, 0, &none) == GCFLIP_OUT_OF_RANGE);
     EXPECT(gcflip_heap_work_sized(&heap, 100, 3, &none) == GCFLIP_DONE && none.steps == 2 && none.last == GCFLIP_NO_ROOM);
     gcflip_heap_step_give_up(&heap);
+    EXPECT(gcflip_heap_work_within(&heap, 0, 9, &none) == GCFLIP_OUT_OF_RANGE);
+    EXPECT(gcflip_heap_work_within(&heap, 100, 1, &none) == GCFLIP_DONE && none.steps == 2 && none.copied == 4 && none.last == GCFLIP_COPIED);
+    gcflip_heap_step_give_up(&heap);
     /* calls that are several commands; the last finds no room, and is then one command */
     EXPECT(gcflip_heap_put_number(&heap, 1, 16, 0, 5, 9) == GCFLIP_DONE);
     EXPECT(gcflip_heap_new_pair(&heap, 1, 6, 3, 16, 5) == GCFLIP_MADE);

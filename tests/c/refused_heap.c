@@ -69,6 +69,14 @@ static void set_up_raw_open(void)
     EXPECT(gcflip_heap_step_begin(&heap) == GCFLIP_BEGUN);
 }
 
+/* A log whose segment is full, so that the next entry takes another segment, and a row of segments. */
+static void set_up_full_log(void)
+{
+    set_up_open();
+    for (int k = 0; k < 1024; k++)
+        EXPECT(gcflip_heap_put_nil(&heap, 0, 0, 0, 1) == GCFLIP_DONE);
+}
+
 static void set_up_ready(void)
 {
     set_up_open();
@@ -116,6 +124,7 @@ static uint32_t paced_work(void)
     return answer;
 }
 static uint32_t sized_work(void) { return gcflip_heap_work_sized(&heap, 1, 64, &work); }
+static uint32_t work_of_a_word(void) { return gcflip_heap_work_within(&heap, 1, 1, &work); }
 
 static void free_all(void)
 {
@@ -236,9 +245,23 @@ static void calls_that_do_not_allocate(void)
     EXPECT(!has_failed());
 }
 
-/* Checks how many allocations of each call can fail. `tables` is how many tables the checker has between two calls, and `flipping` how many
-   allocations a flip makes. */
-static void allocations(int tables, int flipping)
+/* A heap after a flip, in which no collection is open. */
+static void set_up_flipped(void)
+{
+    set_up_ready();
+    EXPECT(gcflip_heap_step_flip(&heap, &pairs) == GCFLIP_FLIPPED);
+}
+
+/* The same with a second collection that is ready. */
+static void set_up_ready_again(void)
+{
+    set_up_flipped();
+    EXPECT(gcflip_heap_work(&heap, 4, &work) == GCFLIP_DONE && work.last == GCFLIP_PASSED);
+}
+
+/* Checks how many allocations of each call can fail. `tables` is how many tables the checker has between two calls, `flipping` how many
+   allocations the first flip makes, `again` how many a second one makes, and `room` how many the begin between them. */
+static void allocations(int tables, int flipping, int again, int room)
 {
     opening(3 + tables); /* the words, the roots, and the heap itself */
     EXPECT(failures(set_up, begin) == 2); /* the new space, and the list of logs */
@@ -246,6 +269,7 @@ static void allocations(int tables, int flipping)
     EXPECT(failures(set_up, begin_larger) == 2 + tables); /* the tables grow, too */
     EXPECT(failures(set_up, put) == 0);
     EXPECT(failures(set_up_open, put) == 1);
+    EXPECT(failures(set_up_full_log, put) == 2);
     EXPECT(failures(set_up, put_number) == 0);
     EXPECT(failures(set_up_open, put_number) == 1);
     EXPECT(failures(set_up, put_nil) == 0);
@@ -266,7 +290,13 @@ static void allocations(int tables, int flipping)
     EXPECT(failures(set_up_ready, work_1) == flipping);
     EXPECT(failures(set_up, sized_work) == 2);
     EXPECT(failures(set_up_ready, sized_work) == flipping);
+    EXPECT(failures(set_up, work_of_a_word) == 2);
+    EXPECT(failures(set_up_ready, work_of_a_word) == flipping);
     EXPECT(failures(set_up_ready, paced_work) == flipping);
+    EXPECT(failures(set_up_flipped, begin) == room);
+    EXPECT(failures(set_up_flipped, begin_sized) == 2); /* another size takes no room that is left */
+    EXPECT(failures(set_up_ready_again, check) == 5);
+    EXPECT(failures(set_up_ready_again, flip) == again);
     work_before_a_failure();
     calls_that_do_not_allocate();
 }
@@ -274,8 +304,8 @@ static void allocations(int tables, int flipping)
 int main(void)
 {
     checking = GCFLIP_ALONG;
-    allocations(3, 1); /* the moved roots */
+    allocations(3, 1, 0, 0); /* the row for the moved roots, which stays, as the old space does */
     checking = GCFLIP_AT_FLIP;
-    allocations(0, 5); /* the certificate, the moved roots, and the checker's three tables */
+    allocations(0, 5, 5, 2); /* the certificate, the moved roots, and the checker's three tables */
     return 0;
 }

@@ -171,7 +171,7 @@ def plays(_program, folder):
 # The replies to the events that record_work.c records. The second field is written again after its object was scanned.
 REPLIES_OF_RECORDED_WORK = (
     b"made\nmade\ndone\nbegun\ncopied\ncopied\nscanned\ndone\nscanned\npassed\nscanned\npassed\napplied\nflipped 2\n"
-    b"begun\ncopied\ncopied\nscanned\nscanned\npassed\nscanned\npassed\nflipped 2\nbegun\nno room\ndropped\nbegun\nno room\ndropped\n"
+    b"begun\ncopied\ncopied\nscanned\nscanned\npassed\nscanned\npassed\nflipped 2\nbegun\nno room\ndropped\nbegun\nno room\ndropped\nbegun\ncopied\ndropped\n"
     b"done\ndone\nmade\ndone\ndone\nmade\ndone\ndone\ndone\nmade\nfull\nfull\n"
 )
 

@@ -11,6 +11,7 @@ from prover.axioms import PRODUCTS, counts_in, lines_to_keep, row_of, verdict_of
 from prover.crates import CRATES, TOP, crates_listed
 from prover.doors import faults, imports_of, rows
 from prover.edits import BadEdit, Edit, edits_of
+from prover.meanings import unlisted
 
 from .c_builds import library
 from .harness import Skipped, addresses_numbered
@@ -759,6 +760,11 @@ def axioms(_program, _folder):
         yield "a verdict with %r" % new, None if is_right else "found %s" % (found,)
 
 
+def meanings(_program, _folder):
+    """Checks that each name of a definition has one meaning, or that tests/two_meanings.txt says why it has several."""
+    yield "names with one meaning", "; ".join(unlisted()) or None
+
+
 def why_not_applied(crate, name):
     """Returns why a must-fail edit cannot be applied, or None."""
     try:
@@ -774,4 +780,4 @@ def applied_edits(_program, _folder):
             yield "edit %s/%s" % (crate, name), why_not_applied(crate, name)
 
 
-GROUPS = [names, words, files, memory_answers, names_of_calls, old_names, edits, edits_in_ci, crates_tried, hand_tried, doors, applied_edits, quotes, names_in_c, outputs_in_c, c_of_readme, adapter_shown, first_screen, commands, commands_of_tables, definitions, counts, architecture, glossary, told_again, axioms]
+GROUPS = [names, words, files, memory_answers, names_of_calls, old_names, edits, edits_in_ci, crates_tried, hand_tried, doors, meanings, applied_edits, quotes, names_in_c, outputs_in_c, c_of_readme, adapter_shown, first_screen, commands, commands_of_tables, definitions, counts, architecture, glossary, told_again, axioms]

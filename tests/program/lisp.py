@@ -385,7 +385,7 @@ def refused_allocations(_program, folder):
         refused += 1
         errors += found.stderr.count(b"error: ")
         yield "refused allocation %d" % refused, wrong_refusal(found)
-    yield "allocations were refused", None if refused > 20 and errors > 0 else "%d, with %d errors" % (refused, errors)
+    yield "allocations were refused", None if refused > 8 and errors > 0 else "%d, with %d errors" % (refused, errors)
 
 
 # More memory than the program takes with one space of 8 MiB and the checker's tables of 6 MiB, and less than with two spaces.

@@ -47,8 +47,9 @@ PLACES = {
     "gcflip_heap_c/src/opening.rt": {("gcflip_heap_open", BY_ARM): 1},
     "gcflip_heap_c/src/stepping.rt": {("gcflip_heap_step_begin", BY_ARM): 1, ("gcflip_heap_step_begin_sized", BY_ARM): 1, ("gcflip_heap_step_flip", BY_ARM): 1},
     "gcflip_heap_c/src/pace.rt": {("gcflip_heap_work_paced", BY_ARM): 1},
-    "gcflip_heap_c/src/work.rt": {("work_sized", BY_ARM): 1},
+    "gcflip_heap_c/src/work.rt": {("work_sized", BY_ARM): 1, ("gcflip_heap_work_within", BY_ARM): 1},
     "gcflip_heap_c/src/checking.rt": {("gcflip_heap_check", BY_ARM): 1},
+    "gc_copy/src/log.rt": {("add_segment", BY_HAND): 1},
     "gc_core/src/checking.rt": {("found_by", BY_ARM): 1},
     "gc_core/src/flipping.rt": {("accepts", BY_ARM): 1},
     "gc_shared/src/closing.rt": {("fault", BY_ARM): 1},
@@ -61,6 +62,7 @@ PLACES = {
 
 # Why a place is not in one of the two ways.
 BY_HAND_REASONS = {
+    ("gc_copy/src/log.rt", "add_segment"): "so many segments would take 8 EiB, more than an allocator can give",
     ("gcflip/src/program.rt", "open"): "a file's error tells that an allocation failed by its kind",
     ("gcflip/src/program.rt", "arguments"): "the error of reading the arguments tells it by its kind",
     ("gcflip/src/program.rt", "refuse"): "clap's error tells it by its kind",

@@ -13,7 +13,7 @@ WEIGHTS = {"new": 8, "raw": 4, "num": 5, "nil": 2, "move": 6, "get": 9, "put": 1
            "begin": 2, "begin_sized": 1, "roots": 7, "scan": 14, "apply": 5, "flip": 4, "drop": 0.4, "work": 4, "useful": 4, "counts": 3, "log": 2,
            "image": 2, "new_words": 2, "wrong": 4, "session": 0.7}
 # Calls that not every driver has: paced work, and extra roots, for which a trace has no lines.
-PACED = {"work_sized": 2, "pace": 0.7, "work_paced": 6}
+PACED = {"work_sized": 2, "work_within": 3, "pace": 0.7, "work_paced": 6}
 LOOSE = {"root_load": 5, "root_store": 6, "root_clear": 1}
 FRAMES = {"frame_push": 4, "frame_pop": 4}
 COMMANDS = ("new", "raw", "num", "nil", "move", "get", "put", "same", "look")
@@ -288,15 +288,16 @@ class Calls:
         reply = self.model.step("apply", m)
         self.call(["apply", m], reply, ["c apply %d" % m], [reply])
 
-    def worked(self, most, size=None):
-        """Performs useful steps, at least one, and returns their lines with their replies, and the report."""
+    def worked(self, most, size=None, words=None):
+        """Performs useful steps, at least one, and returns their lines with their replies, and the report. Ends once replicas take this many
+        words, if a number is given."""
         start = len(self.model.new.words) if self.model.new else 1
-        made = []
-        while len(made) < most and (not made or not (made[-1][1].startswith("flipped") or made[-1][1] == "no room")):
+        made, copied, last = [], 0, None
+        while not made or (len(made) < most and not last.startswith("flipped") and last != "no room" and (words is None or copied < words)):
             made.append(self.model.useful(size))
-        last = made[-1][1]
-        end = len(self.model.space.words) if last.startswith("flipped") else len(self.model.new.words)
-        return made, "worked %d %d %s" % (len(made), end - start, last)
+            last = made[-1][1]
+            copied = len((self.model.space if last.startswith("flipped") else self.model.new).words) - start
+        return made, "worked %d %d %s" % (len(made), copied, last)
 
     def add_work(self):
         most = self.chance.choice([1, 1, 2, 3, 5, 20, 100])
@@ -307,6 +308,11 @@ class Calls:
         most, size = self.chance.choice([1, 2, 20, 100]), self.chance.choice([1, len(self.model.space.words), self.model.space.size, self.model.space.size + 7])
         made, report = self.worked(most, size)
         self.call(["work_sized", most, size], report, [line for line, _ in made], [reply for _, reply in made])
+
+    def add_work_within(self):
+        most, words = self.chance.choice([1, 2, 20, 100]), self.chance.choice([0, 1, 3, 4, 10, 40, (1 << 32) - 1])
+        made, report = self.worked(most, words=words)
+        self.call(["work_within", most, words], report, [line for line, _ in made], [reply for _, reply in made])
 
     # ---- paced work
 
@@ -412,7 +418,7 @@ class Calls:
 
     def more_that_are_wrong(self, beyond, slot):
         """Returns calls with one argument out of range, of those that not every driver has."""
-        sized = [["work_sized", 0, 5], ["work_sized", 1, 0]] if "work_sized" in self.weights else []
+        sized = [["work_sized", 0, 5], ["work_sized", 1, 0], ["work_within", 0, 5]] if "work_sized" in self.weights else []
         if "root_load" not in self.weights or self.model.extra_roots == 0:
             return sized
         return sized + [["root_load", beyond, 0, 0], ["root_load", 0, slot, 0], ["root_store", beyond, 0, 0], ["root_store", 0, 0, slot]]

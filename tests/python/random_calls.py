@@ -100,6 +100,8 @@ def performed(heap, name, numbers):
         return reading(heap, name, numbers)
     if name in ("work", "work_sized"):
         return worked(heap.work(*numbers))
+    if name == "work_within":
+        return worked(heap.work_within(*numbers))
     if name == "useful":
         return "useful " + " ".join(str(part) for part in heap.useful() if part is not None)
     if name == "flip":

@@ -205,7 +205,7 @@ class Commands(unittest.TestCase):
             lambda: self.mutator.new(0, 0, 65536), lambda: self.mutator.num(0, 1 << 63), lambda: self.mutator.num(0, 1 << 64),
             lambda: self.mutator.num(0, -1), lambda: self.mutator.get(0, 0, 65536), lambda: self.heap.begin(0),
             lambda: self.heap.begin(1 << 32), lambda: self.heap.apply(2), lambda: self.heap.work(0), lambda: self.heap.work(0, size=8),
-            lambda: self.heap.work(1, size=0), lambda: self.heap.log_length(2),
+            lambda: self.heap.work_within(0, 8), lambda: self.heap.work(1, size=0), lambda: self.heap.log_length(2),
             lambda: self.heap.log_entry(0, 0), lambda: self.heap.new_words(), lambda: self.mutator.raw_read(32, 0, 0),
             lambda: self.mutator.raw_read(0, 65536, 0), lambda: self.mutator.raw_read(0, 0, 65536), lambda: self.mutator.address(32),
         ]
@@ -255,6 +255,16 @@ class Steps(unittest.TestCase):
             self.assertEqual(heap.work(9, size=20), (5, 3, Step.FLIPPED, 1))
             self.assertEqual(heap.counts().size, 20)
             self.assertEqual(heap.work(9, 3), (2, 0, Step.NO_ROOM, 0))
+
+    def test_work_within(self):
+        """Performs the same five steps. With the second one, three words are copied."""
+        with Heap(16) as heap:
+            heap.mutator(0).new(own(0), 1, 1)
+            self.assertEqual(heap.work_within(9, 3), (2, 3, Step.COPIED, 0))
+            self.assertEqual(heap.work_within(9, 0), (1, 0, Step.SCANNED, 0))
+            self.assertEqual(heap.work_within(9, 1), (2, 0, Step.FLIPPED, 1))
+            self.assertEqual(heap.work_within(9, 4), (5, 3, Step.FLIPPED, 1))
+            self.assertEqual(heap.work_within(1, 3), (1, 0, Step.BEGUN, 0))
 
 
 class Readings(unittest.TestCase):

@@ -330,6 +330,13 @@ class Heap:
             self._call("work_sized", most, size, work)
         return _work_of(work)
 
+    def work_within(self, most: int, words: int) -> Work:
+        """Does the same as `work`, but also ends after the step with which the replicas of this call take `words` words or more. A step copies
+        at most one object, so the call passes `words` by less than one object. With 0 words it performs one step."""
+        work = library.Work()
+        self._call("work_within", most, words, work)
+        return _work_of(work)
+
     def work_paced(self, pace: Pace, wanted: int = 0) -> Work | None:
         """Performs the useful steps that are due before the program allocates `wanted` words, and remembers the heap in the pace. Returns None
         if none is due. Ends early for the reasons of `work`. Raises OutOfRange if the pace's factor is out of range, and OutOfMemory if an

@@ -180,6 +180,7 @@ HEAP: Dict[str, List[Any]] = {
     "pace": [POINTER(RawPace)],
     "work_paced": [POINTER(RawPace), c_uint32, POINTER(Work)],
     "work_sized": [c_uint32, c_uint32, POINTER(Work)],
+    "work_within": [c_uint32, c_uint32, POINTER(Work)],
     "counts": [POINTER(Counts)],
     "log_length": [MUTATOR, POINTER(c_size_t)],
     "log_entry": [MUTATOR, c_size_t, POINTER(LogEntry)],

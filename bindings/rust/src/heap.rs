@@ -522,6 +522,18 @@ impl Heap {
         Ok(work_of(&work))
     }
 
+    /// Does the same as [`Heap::work`], but also ends after the step with which the replicas of this call take `words` words or more. A step
+    /// copies at most one object, so the call passes `words` by less than one object. With 0 words it performs one step.
+    ///
+    /// # Errors
+    ///
+    /// Returns `OutOfRange` if `most` is 0, or `NoMemory` if an allocation of the first step fails.
+    pub fn work_within(&self, most: u32, words: u32) -> Result<Work> {
+        let (answer, work) = self.handle.work_within(most, words);
+        done(answer, ())?;
+        Ok(work_of(&work))
+    }
+
     /// Performs the useful steps that are due before the program allocates `wanted` words, which may be 0, and remembers the heap in the pace.
     /// Returns `None` if no step is due. Ends early for the reasons of [`Heap::work`].
     ///

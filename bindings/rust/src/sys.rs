@@ -304,10 +304,11 @@ calls! {
     gcflip_heap_step_flip(*mut RawHeap, *mut u32);
     gcflip_heap_step_give_up(*mut RawHeap);
     gcflip_heap_flip_checks(*const RawHeap, *mut FlipChecks);
-    gcflip_heap_check(*const RawHeap, *mut RawVerdict);
+    gcflip_heap_check(*mut RawHeap, *mut RawVerdict);
     gcflip_heap_useful(*mut RawHeap, *mut RawStep);
     gcflip_heap_work(*mut RawHeap, u32, *mut RawWork);
     gcflip_heap_work_sized(*mut RawHeap, u32, u32, *mut RawWork);
+    gcflip_heap_work_within(*mut RawHeap, u32, u32, *mut RawWork);
     gcflip_heap_pace(*const RawHeap, *mut Pace);
     gcflip_pace_due(*const Pace, *const RawCounts, u32);
     gcflip_heap_work_paced(*mut RawHeap, *mut Pace, u32, *mut RawWork);
@@ -478,6 +479,7 @@ results! {
     useful: gcflip_heap_useful() -> RawStep;
     work: gcflip_heap_work(most: u32) -> RawWork;
     work_sized: gcflip_heap_work_sized(most: u32, size: u32) -> RawWork;
+    work_within: gcflip_heap_work_within(most: u32, words: u32) -> RawWork;
     work_paced: gcflip_heap_work_paced(pace: &mut Pace, wanted: u32) -> RawWork;
     counts: gcflip_heap_counts() -> RawCounts;
     log_length: gcflip_heap_log_length(m: u8) -> usize;

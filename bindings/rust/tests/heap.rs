@@ -240,6 +240,19 @@ fn work() {
 }
 
 #[test]
+fn work_within_words() {
+    let heap = prepared();
+    assert_eq!(heap.work_within(0, 9), Err(Error::OutOfRange));
+    // begin, and the root, whose replica has four words
+    let copied = heap.work_within(9, 1).unwrap();
+    assert_eq!((copied.steps, copied.copied, copied.last), (2, 4, Step::Copied));
+    let scanned = heap.work_within(9, 0).unwrap();
+    assert_eq!((scanned.steps, scanned.copied), (1, 0));
+    let flipped = heap.work_within(9, 1).unwrap();
+    assert_eq!((flipped.steps, flipped.copied, flipped.last), (3, 0, Step::Flipped { pairs: 1 }));
+}
+
+#[test]
 fn useful_steps_are_named() {
     let heap = prepared();
     let mutator = heap.mutator(0).unwrap();

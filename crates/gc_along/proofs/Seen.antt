@@ -10,6 +10,7 @@ use Rattle.gc_words.specs.Word.{field_words_correspond}
 use Rattle.gc_words.specs.Image.{Image, Block, HasShape, IsShaped, block_at}
 use Rattle.gc_words.specs.Certificate.{BlocksCorrespond, Certified}
 use Rattle.gc_words.proofs.Public.{stands_in}
+use Rattle.gc_along.specs.Outline.{outline_of}
 use Rattle.gc_along.specs.Watch.{Watch, IsSeen, IsWatched, Watches, HasSeenAll, IsSized, RootsCorrespond, is_due, seen_at, bit}
 
 pub all_of : (n : ℕ) (words : List ℕ) → n ≡ length words → take n words ≡ words
@@ -18,7 +19,7 @@ all_of n words e = take_all n words (omega arith)
 pub shape_of : (n : ℕ) (words : List ℕ) → IsSeen n words → n ≡ length words → HasShape true 4294967295 (length words) words
 shape_of n words seen e = subst (λ ws. HasShape true 4294967295 (length ws) ws) (all_of n words e) seen.space
 
-pub shaped_of : (n : ℕ) (image : Image) → IsSeen n image.words → n ≡ length image.words → IsSized image → IsShaped image
+pub shaped_of : (n : ℕ) (image : Image) → IsSeen n image.words → n ≡ length image.words → IsSized (outline_of image) → IsShaped image
 shaped_of n image seen e sized =
     let shape = shape_of n image.words seen e in
     let low = sized.low in
@@ -60,7 +61,7 @@ alike w b (Some x) (Some y) none f g h =
 alike w b (Some x) None none f g h = absurd h
 alike w b None q none f g h = absurd h
 
-pub certified : (old new : Image) (w : Watch) → Watches old.words new.words w → HasSeenAll old.words new.words w → IsSized old → IsSized new → RootsCorrespond w.pairs old.roots new.roots → Certified old new w.pairs
+pub certified : (old new : Image) (w : Watch) → Watches old.words new.words w → HasSeenAll old.words new.words w → IsSized (outline_of old) → IsSized (outline_of new) → RootsCorrespond w.pairs old.roots new.roots → Certified old new w.pairs
 certified old new w h all old_sized new_sized roots =
     let old_is = all_of w.old_seen old.words all.old_seen in
     let new_is = all_of w.new_seen new.words all.new_seen in

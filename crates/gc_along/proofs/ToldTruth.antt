@@ -1,28 +1,28 @@
 -- The tables tell the truth of the words, whatever happens.
-use Rattle.std.proofs.Common.{◌≡◌, ◌≢◌, ◌⊎◌, inl, inr, ⊎_elim, ℕ, zero, suc, ◌+◌, ◌-◌, ◌<◌, ◌≤◌, ◌==◌, Bool, true, false, not, cond, List, [], ◌∷◌, ◌++◌, length, map, set, get_or, take, drop, replicate, Option, Some, None, is_some, All, AllPairs, refl, sym, ◌∙◌, ap, subst, arith, length-append, length-set, length-take, set-set}
+use Rattle.std.proofs.Common.{◌≡◌, ◌≢◌, inl, inr, ⊎_elim, ℕ, zero, suc, ◌+◌, ◌-◌, ◌<◌, ◌≤◌, ◌==◌, Bool, true, false, not, cond, List, [], ◌∷◌, ◌++◌, length, set, get_or, take, drop, replicate, Option, Some, None, is_some, All, AllPairs, refl, sym, ◌∙◌, ap, subst, arith, length-append, length-set, length-take, set-set}
 use Rattle.std.specs.Prelude.{slice_get, slice_set, slice_index, IsSome}
 use Rattle.std.proofs.lemmas.Bool.{cases_eq, cases_lt, eq-eqb}
 use Rattle.std.proofs.lemmas.List.{take-append-le, drop-take, take-take, get_or-take, get_or-append-add, get_or-replicate, get_or_default, get_or-set_same, length-replicate, length-map}
 use Rattle.std.proofs.lemmas.List.Elements.{All-push}
 use Rattle.std.proofs.lemmas.List.Quantifiers.{all_pairs_push}
-use Rattle.std.proofs.lemmas.Option.{slice_get_within, slice_get-get_or}
+use Rattle.std.proofs.lemmas.Option.{slice_get-get_or}
 use Rattle.gc_words.specs.Word.{read_header, words_correspond, field_words_correspond}
 use Rattle.gc_words.specs.Image.{Image, Block, block_at, header_of, header_at, is_start, field_in, field_at}
 use Rattle.gc_words.specs.Walking.{StandsIn, block_from}
 use Rattle.gc_words.specs.Certificate.{Certified}
-use Rattle.gc_words.specs.Layout.{field_place, fields_place, link_place}
+use Rattle.gc_words.specs.Layout.{field_place, link_place}
 use Rattle.gc_words.specs.declared.header.Header.{Header}
-use Rattle.gc_words.proofs.Public.{stands_in, header_read, field_read, space_of, some_of}
-use Rattle.gc_along.specs.Watch.{Watch, IsSeen, IsNext, IsWatched, Watches, OldIsDue, NewIsDue, mark, is_due, pair_at, seen_at, looked, old_walked, opening}
-use Rattle.gc_along.specs.Watch.{placed as placed_watch}
+use Rattle.gc_words.proofs.Public.{stands_in, field_read, space_of, some_of}
+use Rattle.gc_along.specs.Watch.{Watch, IsSeen, IsNext, IsWatched, Watches, OldIsDue, NewIsDue, mark, is_due, pair_at, seen_at, looked}
 use Rattle.gc_along.specs.Origins.{pairs_in, pairs_from}
-use Rattle.gc_along.specs.Tables.{Tables, IsKept, CertifiedBy, watch_of, due_in, missing_in}
+use Rattle.gc_along.specs.Outline.{outline_of}
+use Rattle.gc_along.specs.Tables.{Tables, IsKept, CertifiedBy, watch_of, due_in}
 use Rattle.gc_along.specs.Telling.{IsMark, MarksStarts, Tells}
 use Rattle.gc_along.specs.Events.{code_of, object_codes, with_news, with_due, old_added, replica_added, IsClaim, IsCopy, Made, Placed, IsFieldOf, Looked, IsReplicaAt, HasNoReplica, Wrote, Applied, Freed, opening_tables, flipped_tables}
 use Rattle.gc_along.proofs.Codes.{code_set}
 use Rattle.gc_along.proofs.Kept.{kept_due, kept_old, kept_replica, map_append, codes_length, code_is}
 use Rattle.gc_along.proofs.Origins.{placed as pairs_placed}
-use Rattle.gc_along.proofs.Looks.{watched_by, taken_for_due, compared, set_true}
+use Rattle.gc_along.proofs.Looks.{watched_by, taken_for_due, compared}
 use Rattle.gc_along.proofs.Walked.{begun, old_goes_on, paired_next, seen_next, kept, came, grown, true_stays, fields_more, below_seen}
 use Rattle.gc_along.proofs.Written.{old_field, new_field, old_link, new_link}
 use Rattle.gc_along.proofs.Marks.{no_zero, no_code, none_yet, marks_more, marks_set, marks_taken, marks_written, marks_linked, marks_behind}
@@ -64,8 +64,8 @@ module _ (t : Tables) (k : ℕ) (d : ℕ × ℕ) (l : k < length (pairs_in t.ori
 
 -- ---- a yes
 
-pub sound : (old new : Image) (t : Tables) → Tells old.words new.words t → CertifiedBy t old new → Certified old new (pairs_in t.origins)
-sound old new t tells said = said.1 tells.watches
+pub sound : (old new : Image) (t : Tables) → Tells old.words new.words t → CertifiedBy t (outline_of old) (outline_of new) → Certified old new (pairs_in t.origins)
+sound old new t tells said = said.1 old new refl refl tells.watches
 
 -- ---- nothing is seen of a new space
 

@@ -1,8 +1,8 @@
 -- What has to be true of what a checker is told, so that it does not become lost.
-use Rattle.std.specs.Prelude.{◌≡◌, ◌≤◌, ◌<◌, ◌+◌, ℕ, IsFalse, false, List, length, slice_index, slice_index_or}
-use Rattle.gc_words.specs.Image.{Image}
+use Rattle.std.specs.Prelude.{◌≡◌, ◌≤◌, ◌<◌, ◌+◌, ◌%◌, ◌^◌, ℕ, IsFalse, false, List, length, slice_index, slice_index_or}
 use Rattle.gc_words.specs.Layout.{field_place, fields_place, link_place}
 use Rattle.gc_words.specs.declared.header.Header.{Header}
+use Rattle.gc_along.specs.Outline.{ImageOutline}
 use Rattle.gc_along.specs.Watch.{IsNext, IsSized, RootsCorrespond}
 use Rattle.gc_along.specs.Origins.{pairs_in}
 use Rattle.gc_along.specs.Tables.{Tables}
@@ -26,11 +26,11 @@ OwesNone old new t after = (h : Header) (a : ℕ) → IsClaim old new t h a → 
 abbrev pub CanLook : List ℕ → List ℕ → ℕ → ℕ → Tables → Type 0
 CanLook old new b i t = (h : Header) × (a : ℕ) × IsFieldOf new t h a b i × (field_place a i < length old) × (field_place b i < length new)
 
--- the link of the object at a leads to its replica at b
+-- the low 32 bits of the link of the object at a lead to its replica at b
 pub record IsLinked (old : List ℕ) (t : Tables) (a b : ℕ) : Type 0 where
   pub low : 1 ≤ a
   pub within : link_place a < length old
-  pub link : slice_index old (link_place a) ≡ b
+  pub link : slice_index old (link_place a) % 2 ^ 32 ≡ b
   pub high : b < 4294967295
   pub origin : slice_index_or t.origins b 0 ≡ a
 
@@ -42,12 +42,12 @@ CanApply old new a i t = slice_index_or t.olds a 0 ≡ 2 → (b : ℕ) × IsLink
 abbrev pub CanWrite : List ℕ → ℕ → ℕ → Tables → Type 0
 CanWrite old a i t = slice_index_or t.olds a 0 ≡ 2 → (b : ℕ) × IsLinked old t a b × (field_place b i < length t.news)
 
--- nothing is lost or due, all words of both images were seen, and the roots correspond
-pub record Accepts (t : Tables) (old new : Image) : Type 0 where
+-- nothing is lost or due, as many words were seen as both images have, and the roots correspond
+pub record Accepts (t : Tables) (old new : ImageOutline) : Type 0 where
   pub found : IsFalse t.lost
   pub none_due : t.missing ≡ 0
-  pub old_seen : length t.olds ≡ length old.words
-  pub new_seen : length t.news ≡ length new.words
+  pub old_seen : length t.olds ≡ old.count
+  pub new_seen : length t.news ≡ new.count
   pub old_sized : IsSized old
   pub new_sized : IsSized new
   pub roots : RootsCorrespond (pairs_in t.origins) old.roots new.roots

@@ -1,3 +1,4 @@
+pub mod Outline
 pub mod Watch
 pub mod Origins
 pub mod Tables

@@ -3,6 +3,7 @@ use Rattle.std.specs.Prelude.{◌≡◌, ◌≤◌, ℕ, Bool, ◌==◌, List, l
 use Rattle.std.specs.List.{sum_by}
 use Rattle.gc_words.specs.Image.{Image}
 use Rattle.gc_words.specs.Certificate.{Certified}
+use Rattle.gc_along.specs.Outline.{ImageOutline, outline_of}
 use Rattle.gc_along.specs.Watch.{Watch, Watches, bit}
 use Rattle.gc_along.specs.Origins.{pairs_in}
 
@@ -35,6 +36,8 @@ pub record IsKept (t : Tables) : Type 0 where
 abbrev pub watch_of : Tables → Watch
 watch_of t = record { pairs = pairs_in t.origins; old_seen = length t.olds; new_seen = length t.news; due = due_in t.news }
 
--- what a yes says of both images: nothing was lost, and if the tables tell the truth of their words, the certificate holds
-abbrev pub CertifiedBy : Tables → Image → Image → Type 0
-CertifiedBy t old new = IsFalse t.lost × (Watches old.words new.words (watch_of t) → Certified old new (pairs_in t.origins))
+-- what a yes says of two outlines: nothing was lost, and the certificate holds of all images with these outlines if the tables tell the
+-- truth of their words
+abbrev pub CertifiedBy : Tables → ImageOutline → ImageOutline → Type 0
+CertifiedBy t o n = IsFalse t.lost × ((old new : Image) → outline_of old ≡ o → outline_of new ≡ n
+    → Watches old.words new.words (watch_of t) → Certified old new (pairs_in t.origins))

@@ -2,10 +2,11 @@
 use Rattle.std.specs.Prelude.{◌≡◌, ◌≢◌, ◌⊎◌, ℕ, ◌<◌, ◌≤◌, ◌+◌, Bool, true, false, not, List, ◌∷◌, [], ◌++◌, length, take, replicate, slice_index, slice_get, slice_set, slice_index_or, Option, Some, None, IsTrue}
 use Rattle.std.specs.List.{All, AllPairs, AllZip, sum_by}
 use Rattle.gc_words.specs.Word.{read_header, words_correspond, field_words_correspond}
-use Rattle.gc_words.specs.Image.{Image, Block, block_at}
+use Rattle.gc_words.specs.Image.{Block, block_at}
 use Rattle.gc_words.specs.Space.{SpaceWords, IsSpace}
 use Rattle.gc_words.specs.Layout.{field_place}
 use Rattle.gc_words.specs.declared.header.Header.{Header}
+use Rattle.gc_along.specs.Outline.{ImageOutline}
 
 -- Pairs in the order in which they were seen, how far the walks over both spaces have come, and by place of the new
 -- space, as far as it is walked, which words are due, that is fields of replicas that have yet to be compared.
@@ -74,12 +75,12 @@ pub record HasSeenAll (old new : List ℕ) (w : Watch) : Type 0 where
 -- ---- at the flip
 
 -- the numbers of an image
-pub record IsSized (image : Image) : Type 0 where
-  pub low : 1 ≤ image.end
-  pub high : image.end ≤ image.size
-  pub size : image.size ≤ 4294967295
-  pub count : length image.words ≡ image.end
-  pub raws : image.raws ≡ true
+pub record IsSized (outline : ImageOutline) : Type 0 where
+  pub low : 1 ≤ outline.end
+  pub high : outline.end ≤ outline.size
+  pub size : outline.size ≤ 4294967295
+  pub count : outline.count ≡ outline.end
+  pub raws : outline.raws ≡ true
 
 abbrev pub RootsCorrespond : List (ℕ × ℕ) → List ℕ → List ℕ → Type 0
 RootsCorrespond pairs vs ws = AllZip (λ v w. IsTrue (words_correspond pairs v w)) vs ws

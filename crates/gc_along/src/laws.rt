@@ -9,13 +9,14 @@ ghost use Rattle.gc_words.specs.Layout.{field_place, link_place};
 ghost use Rattle.gc_words.specs.Word.{field_words_correspond};
 ghost use Rattle.gc_words.specs.declared.header.Header.{Header};
 ghost use Rattle.gc_along.specs.Origins.{pairs_in};
+ghost use Rattle.gc_along.specs.Outline.{outline_of};
 ghost use Rattle.gc_along.specs.Watch.{Watch, OldIsDue, NewIsDue, looked, pair_at, IsSeen, IsNext, old_walked, new_walked, placed, opening, Watches, HasSeenAll, is_due_at, due_count, bit, IsSized, RootsCorrespond, mark, front, is_due, seen_at};
 
 /// Where all is seen, the certificate is as good as its roots.
 pub fn what_is_seen_is_certified()
     ensures { (old new : Image) (w : Watch)
         → Watches old.words new.words w → HasSeenAll old.words new.words w
-        → IsSized old → IsSized new → RootsCorrespond w.pairs old.roots new.roots
+        → IsSized (outline_of old) → IsSized (outline_of new) → RootsCorrespond w.pairs old.roots new.roots
         → Certified old new w.pairs }
 {}
 
@@ -72,7 +73,7 @@ pub fn walks_keep_watching()
 pub fn the_answer_is_exact()
     ensures answer { (old new : Image) (w : Watch) → old.raws ≡ true → new.raws ≡ true
         → Watches old.words new.words w → HasSeenAll old.words new.words w
-        → Certified old new w.pairs ↔ (IsSized old × IsSized new × RootsCorrespond w.pairs old.roots new.roots) }
+        → Certified old new w.pairs ↔ (IsSized (outline_of old) × IsSized (outline_of new) × RootsCorrespond w.pairs old.roots new.roots) }
     ensures progress { (old new : Image) (w : Watch) (k i v u : ℕ) (h : Header)
         → Certified old new w.pairs → k < length w.pairs
         → header_at old.words (pair_at w k).0 ≡ Some h

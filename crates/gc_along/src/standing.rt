@@ -1,7 +1,8 @@
+use crate::outline::Outline;
 use crate::watcher::Watcher;
 use crate::{origins_tell_pairs, what_is_seen_is_certified};
 use gc_graph::NoMemory;
-use gc_words::{Addr, Header, ImageRef, Value, decode_wide, field_index};
+use gc_words::{Addr, Header, Value, decode_wide, field_index};
 use std::alloc::Global;
 use std::marker::Model;
 use std::mem::swap;
@@ -12,6 +13,9 @@ const START: u8 = 1;
 const TAKEN: u8 = 2;
 /// In the new table: a field that has yet to be compared.
 const DUE: u8 = 3;
+
+/// A link modulo this number, which is its low 32 bits, is the place that it claims. The checker does not read the other bits.
+const PLACES: u64 = 1 << 32;
 
 /// A checker that goes along with collections. It has its own tables, and believes nobody, but that each write is told.
 #[derive(Debug, Drop)]
@@ -51,13 +55,13 @@ impl Model for Standing {
 }
 
 impl Standing {
-    ghost use Rattle.std.specs.Prelude.{◌≡◌, ◌<◌, ◌≤◌, ◌==◌, ◌↔◌, ◌∷◌, [], ℕ, true, IsTrue, IsFalse, ◌⊎◌, IfOk, IfSome, OnOk, OnErr, MatchOption, length, slice_index, slice_index_or};
+    ghost use Rattle.std.specs.Prelude.{◌≡◌, ◌<◌, ◌≤◌, ◌==◌, ◌%◌, ◌^◌, ◌↔◌, ◌∷◌, [], ℕ, true, IsTrue, IsFalse, ◌⊎◌, IfOk, IfSome, OnOk, OnErr, MatchOption, length, slice_index, slice_index_or};
     ghost use Rattle.gc_graph.specs.Correspond.{paired};
     ghost use Rattle.gc_words.specs.Word.{words_correspond, field_words_correspond};
     ghost use Rattle.gc_words.specs.declared.header.Header.{Header};
-    ghost use Rattle.gc_words.specs.Views.{image_of};
     ghost use Rattle.gc_words.specs.Layout.{field_place, link_place};
     ghost use Rattle.gc_along.specs.Origins.{pairs_in};
+    ghost use Rattle.gc_along.specs.Outline.{outline_in};
     ghost use Rattle.gc_along.specs.Watch.{RootsCorrespond};
     ghost use Rattle.gc_along.specs.Tables.{CertifiedBy};
     ghost use Rattle.gc_along.specs.Telling.{Tells};
@@ -315,11 +319,11 @@ impl Standing {
         from < self.olds.len() && self.olds[from] == TAKEN
     }
 
-    // The replica of the object at `a`, if its link tells it.
+    // The replica of the object at `a`, if the low 32 bits of its link tell it.
     #[inline(always)]
     fn replica(&self, old: &[u64], a: u32) -> Option<u32>
         ensures claim { MatchOption result ((b : ℕ) → IsLinked old.now self.now a b → ⊥) (λ b. (1 ≤ a) × (slice_index_or self.now.origins b 0 ≡ a)) }
-        ensures link { IfSome result (λ b. slice_index old.now (link_place a) ≡ b) }
+        ensures link { IfSome result (λ b. slice_index old.now (link_place a) % 2 ^ 32 ≡ b) }
     {
         let link = a as usize + 1;
         if a == 0 {
@@ -328,7 +332,7 @@ impl Standing {
         if link >= old.len() {
             return None;
         }
-        let claim = old[link];
+        let claim = old[link] % PLACES;
         if claim >= u64::from(u32::MAX) {
             return None;
         }
@@ -428,9 +432,9 @@ impl Standing {
     }
 
     /// Returns whether all is seen and compared, and the roots correspond.
-    pub fn says_yes(&self, old: ImageRef, new: ImageRef) -> bool
-        ensures yes { IsTrue result → CertifiedBy self.now (image_of old.entry) (image_of new.entry) }
-        ensures accepts { Accepts self.now (image_of old.entry) (image_of new.entry) → IsTrue result }
+    pub fn says_yes(&self, old: Outline, new: Outline) -> bool
+        ensures yes { IsTrue result → CertifiedBy self.now (outline_in old.entry) (outline_in new.entry) }
+        ensures accepts { Accepts self.now (outline_in old.entry) (outline_in new.entry) → IsTrue result }
     {
         what_is_seen_is_certified();
         if self.lost {
@@ -439,10 +443,10 @@ impl Standing {
         if self.missing != 0 {
             return false;
         }
-        if self.olds.len() != old.words.len() {
+        if self.olds.len() != old.count {
             return false;
         }
-        if self.news.len() != new.words.len() {
+        if self.news.len() != new.count {
             return false;
         }
         if !is_sized(old) {
@@ -497,12 +501,12 @@ impl Watcher for Standing {
 
     ghost sure = { Accepts };
 
-    fn accepts(&self, old: ImageRef, new: ImageRef) -> bool {
+    fn accepts(&self, old: Outline, new: Outline) -> bool {
         self.says_yes(old, new)
     }
 }
 
-ghost use Rattle.gc_words.specs.Views.{image_of};
+ghost use Rattle.gc_along.specs.Outline.{outline_in};
 ghost use Rattle.std.specs.Prelude.{◌≡◌, ◌⊎◌, ◌↔◌, OnOk, ◌≤◌, ◌<◌, ◌+◌, ◌==◌, ◌∷◌, ◌++◌, ℕ, IsTrue, MatchOption, length, replicate, slice_index, slice_index_or, vec_len, vec_capacity};
 ghost use Rattle.gc_words.specs.Layout.{fields_place, link_place};
 ghost use Rattle.gc_words.specs.declared.header.Header.{Header};
@@ -637,14 +641,14 @@ fn free_originals(olds: &mut [u8], origins: &[u32])
     }
 }
 
-// Whether the numbers of an image fit its words.
-fn is_sized(image: ImageRef) -> bool
-    ensures { IsTrue result ↔ IsSized (image_of image.entry) }
+// Whether the numbers of an image fit the number of its words.
+fn is_sized(outline: Outline) -> bool
+    ensures { IsTrue result ↔ IsSized (outline_in outline.entry) }
 {
-    image.raws
-        && 1 <= image.end
-        && image.end <= image.size
-        && image.words.len() == image.end as usize
+    outline.raws
+        && 1 <= outline.end
+        && outline.end <= outline.size
+        && outline.count == outline.end as usize
 }
 
 // The count of due places after one that was due or not is due or not.

@@ -7,13 +7,14 @@ ghost use Rattle.gc_words.specs.Image.{Image, field_at, is_start};
 ghost use Rattle.gc_words.specs.Layout.{field_place, link_place};
 ghost use Rattle.gc_along.specs.Events.{Applied, Freed, Looked, Made, Placed, Wrote, flipped_tables, opening_tables};
 ghost use Rattle.gc_along.specs.Origins.{pairs_in};
+ghost use Rattle.gc_along.specs.Outline.{outline_of};
 ghost use Rattle.gc_along.specs.Tables.{CertifiedBy, Tables, watch_of};
 ghost use Rattle.gc_along.specs.Telling.{Tells};
 ghost use Rattle.gc_along.specs.Watch.{NewIsDue};
 
 /// A yes of tables that tell the truth is sound. Nothing is assumed of the collector.
 pub fn a_yes_is_sound()
-    ensures { (old new : Image) (t : Tables) → Tells old.words new.words t → CertifiedBy t old new
+    ensures { (old new : Image) (t : Tables) → Tells old.words new.words t → CertifiedBy t (outline_of old) (outline_of new)
         → Certified old new (pairs_in t.origins) }
 {}
 

@@ -1,7 +1,6 @@
 //! Tests of the standing checker: collectors that are wrong, and what it says of them.
 
-use crate::Standing;
-use gc_words::ImageRef;
+use crate::{Outline, Standing};
 use std::alloc::Global;
 use std::process::Abort;
 use std::test::Fail;
@@ -16,18 +15,18 @@ const OLD: [u64; 7] = [0, PAIR, 1, 10, 15, EMPTY, 5];
 
 const NEW: [u64; 7] = [0, PAIR, 1, 10, 15, EMPTY, 5];
 
-fn image<'a>(words: &'a [u64], roots: &'a [u64]) -> ImageRef<'a> {
-    ImageRef {
+fn outline<'a>(words: &[u64], roots: &'a [u64]) -> Outline<'a> {
+    Outline {
         size: 32,
         end: 7,
-        words,
+        count: words.len(),
         roots,
         raws: true,
     }
 }
 
 fn says(standing: &Standing, old: &[u64], new: &[u64], root: u64) -> bool {
-    standing.says_yes(image(old, &[2]), image(new, &[root]))
+    standing.says_yes(outline(old, &[2]), outline(new, &[root]))
 }
 
 /// Returns a checker that has walked over both spaces and looked at both fields.
@@ -47,7 +46,7 @@ fn what_is_right_is_accepted(rt: HostRuntime) -> Result<(), Fail> {
     let standing = looked(rt.alloc(), &OLD, &NEW)?;
     assert!(rt; says(&standing, &OLD, &NEW, 2));
     assert!(rt; !says(&standing, &OLD, &NEW, 10));
-    assert!(rt; !standing.says_yes(image(&OLD, &[2]), image(&NEW, &[])));
+    assert!(rt; !standing.says_yes(outline(&OLD, &[2]), outline(&NEW, &[])));
     Ok(())
 }
 
@@ -58,6 +57,22 @@ fn a_field_that_is_due_is_not_accepted(rt: HostRuntime) -> Result<(), Fail> {
     assert!(rt; !says(&standing, &OLD, &NEW, 2));
     standing.look(&OLD, &NEW, 1, 1);
     assert!(rt; says(&standing, &OLD, &NEW, 2));
+    Ok(())
+}
+
+#[test]
+fn a_link_claims_by_its_low_bits(rt: HostRuntime) -> Result<(), Fail> {
+    // The link of the first object is 1 in its low 32 bits, and 5 above them.
+    let old = [0, PAIR, 21474836481, 10, 15, EMPTY, 5];
+    let mut standing = looked(rt.alloc(), &old, &NEW)?;
+    standing.written(&old, 1, 1);
+    assert!(rt; !says(&standing, &old, &NEW, 2));
+    standing.applied(&old, &NEW, 1, 1);
+    assert!(rt; says(&standing, &old, &NEW, 2));
+    // A link that leads elsewhere.
+    let wrong = [0, PAIR, 21474836485, 10, 15, EMPTY, 5];
+    standing.written(&wrong, 1, 1);
+    assert!(rt; !says(&standing, &old, &NEW, 2));
     Ok(())
 }
 
@@ -96,9 +111,9 @@ fn raw_says(alloc: Global, old: &[u64], new: &[u64]) -> Result<bool, Fail> {
     standing.placed(old, new);
     standing.placed(old, new);
     standing.look(old, new, 3, 0);
-    let mut before = image(old, &[]);
+    let mut before = outline(old, &[]);
     before.end = 6;
-    let mut after = image(new, &[]);
+    let mut after = outline(new, &[]);
     after.end = 6;
     Ok(standing.says_yes(before, after))
 }
@@ -113,12 +128,12 @@ struct Collected<'a> {
     fields: &'a [(u32, u16)],
 }
 
-fn whole<'a>(words: &'a [u64], roots: &'a [u64]) -> ImageRef<'a> {
+fn whole<'a>(words: &[u64], roots: &'a [u64]) -> Outline<'a> {
     let end = words.len().min(32) as u32;
-    ImageRef {
+    Outline {
         size: 32,
         end,
-        words,
+        count: words.len(),
         roots,
         raws: true,
     }

@@ -1,12 +1,12 @@
 -- What a standing checker is told at a collector's step is true, so that it is not lost.
-use Rattle.std.proofs.Common.{◌≡◌, inl, inr, ⊎_elim, ℕ, ◌+◌, ◌<◌, ◌≤◌, true, map, length, get_or, take, drop, Some, ap, sym, ◌∙◌, subst, arith}
+use Rattle.std.proofs.Common.{◌≡◌, inl, inr, ⊎_elim, ℕ, ◌+◌, ◌%◌, ◌<◌, ◌≤◌, true, map, length, get_or, take, drop, Some, ap, sym, ◌∙◌, subst, arith}
 use Rattle.std.specs.Prelude.{slice_index}
 use Rattle.std.proofs.lemmas.Bool.{eqb-true}
 use Rattle.gc_graph.specs.Graph.{Object, lookup}
 use Rattle.gc_words.specs.Word.{header_word, read_header}
 use Rattle.gc_words.specs.Layout.{fields_place, link_place}
 use Rattle.gc_plan.specs.State.{Replica, Collection, State, heap_end, new_end}
-use Rattle.gc_plan.specs.Linked.{object_header, field_word, old_links, place_or_zero}
+use Rattle.gc_plan.specs.Linked.{LeadsTo, object_header, field_word}
 use Rattle.gc_plan.specs.Members.{In}
 use Rattle.gc_plan.specs.Belonging.{IsDue, IsSpaceGraph, IsOpened}
 use Rattle.gc_plan.proofs.Public.{laid_range, lookup_in, end_is, found_by_name, in_map, pair, placed, in_paired}
@@ -77,9 +77,9 @@ module _ (s : State) (next : Collection) (links : ℕ → ℕ) (heap : IsSpaceGr
         omega arith,
       )
 
-  -- the link of an original leads to its replica
-  pub linked : (t : Tables) (r : Replica) → In r next.replicas → ((a : ℕ) → links a ≡ old_links next a) → Fits (heap_end s) next (watch_of t) → IsLinked (heap_words links s) t r.original r.place
-  linked t r l same fits =
+  -- the low bits of an original's link lead to its replica
+  pub linked : (t : Tables) (r : Replica) → In r next.replicas → LeadsTo links next → Fits (heap_end s) next (watch_of t) → IsLinked (heap_words links s) t r.original r.place
+  linked t r l lead fits =
       let at = is_at r l in
       let a : r.original + (length r.object.fields + 2) ≤ length (heap_words links s) = at.within in
       let b : r.place + (length r.object.fields + 2) ≤ new_end next = at.place_within in
@@ -87,21 +87,21 @@ module _ (s : State) (next : Collection) (links : ℕ → ℕ) (heap : IsSpaceGr
       record {
         low = at.low;
         within = omega arith;
-        link = (original_shown s next links heap opened r l).link_is ∙ (same r.original ∙ ap place_or_zero (found_by_name (IsDue next) s.heap.graph.objects next opened.belongs r l));
+        link = ap (λ n. n % 4294967296) (original_shown s next links heap opened r l).link_is ∙ lead r.original r (found_by_name (IsDue next) s.heap.graph.objects next opened.belongs r l);
         high = omega arith;
         origin = origin_is (heap_end s) next t r fits l at.low;
       }
 
   -- an entry can be applied
-  pub can_apply : (t : Tables) (a i : ℕ) → ((b : ℕ) → links b ≡ old_links next b) → Fits (heap_end s) next (watch_of t) → Marks s.heap.graph.objects next.replicas t
+  pub can_apply : (t : Tables) (a i : ℕ) → LeadsTo links next → Fits (heap_end s) next (watch_of t) → Marks s.heap.graph.objects next.replicas t
       → ((o : Object) → lookup s.heap.graph.objects a ≡ Some o → i < length o.fields) → CanApply (heap_words links s) (replica_words next) a i t
-  can_apply t a i same fits marks has taken =
+  can_apply t a i lead fits marks has taken =
       let r = marks.taken a taken in
       let ok = opened.belongs.replicas r.0 r.1 in
       let small : i < length ok.original.fields = has ok.original (ap (lookup s.heap.graph.objects) (sym r.2) ∙ ok.found) in
       let len : length r.0.object.fields ≡ length ok.original.fields = ok.len in (
         r.0.place,
-        subst (λ n. IsLinked (heap_words links s) t n r.0.place) r.2 (linked t r.0 r.1 same fits),
+        subst (λ n. IsLinked (heap_words links s) t n r.0.place) r.2 (linked t r.0 r.1 lead fits),
         can_look t r.0 i r.1 fits (omega arith),
       )
 

@@ -14,7 +14,7 @@ use Rattle.gc_words.specs.Layout.{field_place}
 use Rattle.gc_words.specs.declared.header.Header.{Header}
 use Rattle.gc_plan.specs.State.{Replica, Collection, State, heap_end, new_end}
 use Rattle.gc_plan.specs.Steps.{log_at, log_or_nil, with_log, logged, written, mutate, fresh_collection}
-use Rattle.gc_plan.specs.Linked.{object_header, old_links}
+use Rattle.gc_plan.specs.Linked.{LeadsTo, object_header}
 use Rattle.gc_plan.specs.Members.{In}
 use Rattle.gc_plan.specs.Belonging.{IsDue, IsLogged, IsNamed, IsSpaceGraph, IsOpened, IsOpen}
 use Rattle.gc_plan.proofs.Public.{WrittenBy, set_from, laid_range, laid_apart, end_is, in_left, in_right, in_push, in_map, placed}
@@ -303,10 +303,10 @@ module _ (s : State) (d : Collection) (links : ℕ → ℕ) (heap : IsSpaceGraph
       let less : i < length q.object.fields = field_is q l name in
       omega arith
 
-  pub can_write : ((b : ℕ) → links b ≡ old_links d b) → CanWrite (heap_words links s) a i t
-  can_write same taken =
+  pub can_write : LeadsTo links d → CanWrite (heap_words links s) a i t
+  can_write lead taken =
       let r = k.marks.taken a taken in
-      (r.0.place, subst (λ n. IsLinked (heap_words links s) t n r.0.place) r.2 (linked s d links heap opened t r.0 r.1 same fits), row_has r.0 r.1 r.2)
+      (r.0.place, subst (λ n. IsLinked (heap_words links s) t n r.0.place) r.2 (linked s d links heap opened t r.0 r.1 lead fits), row_has r.0 r.1 r.2)
 
   pub wrote_known : (after : Tables) → Wrote a i t after → Knows s d after × Fits (heap_end s) d (watch_of after)
   wrote_known after (inl (none, same)) = subst (λ (x : Tables). Knows s d x × Fits (heap_end s) d (watch_of x)) (sym same) (k, fits)

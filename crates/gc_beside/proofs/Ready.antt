@@ -11,6 +11,7 @@ use Rattle.gc_plan.specs.Linked.{old_image, new_image, old_links, new_links}
 use Rattle.gc_plan.specs.Belonging.{IsSpaceGraph, IsOpened}
 use Rattle.gc_plan.proofs.Public.{certified, end_is, IsReady, ready_parts, none_due}
 use Rattle.gc_along.specs.Claims.{Accepts}
+use Rattle.gc_along.specs.Outline.{outline_of}
 use Rattle.gc_along.specs.Tables.{Tables, watch_of}
 use Rattle.gc_along.specs.Watch.{IsSized, is_due_at}
 use Rattle.gc_along.proofs.Public.{all_done}
@@ -18,11 +19,11 @@ use Rattle.gc_beside.specs.Knows.{Knows}
 use Rattle.gc_beside.proofs.Agree.{replicas_shown}
 use Rattle.gc_beside.proofs.Events.{Goes}
 
-sized : (image : Image) → IsShaped image → image.raws ≡ true → IsSized image
+sized : (image : Image) → IsShaped image → image.raws ≡ true → IsSized (outline_of image)
 sized image k raws = record { low = k.end_low; high = k.end_high; size = k.size_high; count = k.count; raws = raws }
 
 pub accepts : (s : State) (c : Collection) (t : Tables) → IsSpaceGraph s.size s.heap.free s.heap.graph → IsOpened s c → is_ready c s.heap.graph ≡ true → t.lost ≡ false → Goes s c (watch_of t) → Knows s c t
-    → Accepts t (old_image s c) (new_image s c)
+    → Accepts t (outline_of (old_image s c)) (outline_of (new_image s c))
 accepts s c t heap opened ready found goes knows = record {
   found = found;
   none_due = knows.kept.counted ∙ all_done (watch_of t) (λ place. none place);

@@ -5,7 +5,7 @@ use Rattle.std.proofs.lemmas.Bool.{cases_eq, eqb-true, eq-eqb, or_cases}
 use Rattle.gc_graph.specs.Graph.{Object, lookup}
 use Rattle.gc_words.specs.Layout.{field_place}
 use Rattle.gc_plan.specs.State.{Replica, Collection, State, heap_end, new_end, new_objects}
-use Rattle.gc_plan.specs.Linked.{old_links}
+use Rattle.gc_plan.specs.Linked.{LeadsTo}
 use Rattle.gc_plan.specs.Steps.{log_at, log_or_nil, with_log, root_target, copy_root, scan, apply_log, next_object}
 use Rattle.gc_plan.specs.Members.{In}
 use Rattle.gc_plan.specs.Belonging.{IsDue, IsLogged, IsUnscanned, IsScanPlace, IsSpaceGraph, IsOpened}
@@ -296,7 +296,7 @@ module _ (s : State) (c next : Collection) (t : Tables) (links : ℕ → ℕ) (h
       entry_mid : KnowsBy (IsDue c) s next mid × (mid.room ≡ t.room)
       entry_mid = placed_known s c next t links heap before opened goes knows entry_did.adds entry_did.fresh mid placed_is owes
 
-      pub entry_looked : ((a : ℕ) → links a ≡ old_links next a) → CanApply (heap_words links s) (replica_words next) entry.0 entry.1 mid
+      pub entry_looked : LeadsTo links next → CanApply (heap_words links s) (replica_words next) entry.0 entry.1 mid
       entry_looked same = can_apply s next links heap opened mid entry.0 entry.1 same entry_told.0 entry_mid.0.marks has
 
       old_rooms : (s.size ≤ mid.room) × (next.size ≤ mid.room)

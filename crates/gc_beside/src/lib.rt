@@ -13,10 +13,11 @@ ghost use Rattle.gc_plan.specs.Members.{In};
 ghost use Rattle.gc_plan.specs.State.{State, Collection, Replica, heap_end, new_end, replica_at};
 ghost use Rattle.gc_plan.specs.Steps.{collect, mutate, written, log_at, root_target, copy_root, scan, apply_log, flipped, fresh_collection, is_ready, with_collection};
 ghost use Rattle.gc_plan.specs.Belonging.{IsLogged, IsOpened, IsSpaceGraph};
-ghost use Rattle.gc_plan.specs.Linked.{linked_image, old_image, new_image};
+ghost use Rattle.gc_plan.specs.Linked.{LeadsTo, linked_image, old_image, new_image};
 ghost use Rattle.gc_copy.specs.Words.{CollectionWords, IsCollection, BelongsTo, collection_in};
 ghost use Rattle.gc_plan.specs.declared.step.StepReply.{StepReply};
 ghost use Rattle.gc_along.specs.Watch.{Watch, Watches, opening};
+ghost use Rattle.gc_along.specs.Outline.{outline_of};
 ghost use Rattle.gc_along.specs.Tables.{Tables, watch_of};
 ghost use Rattle.gc_along.specs.Claims.{Accepts, CanApply, CanLook, CanMake, CanPlace, CanWrite, OwesNone};
 ghost use Rattle.gc_along.specs.Events.{Applied, Freed, Looked, Made, Placed, Wrote, flipped_tables, opening_tables};
@@ -64,35 +65,36 @@ pub fn watches_go_along()
 {}
 
 /// What a standing checker is told of a collection that its tables know is true, so it is not lost, and then its tables know the later
-/// collection. Once that is ready, it is accepted.
+/// collection. Once that is ready, it is accepted. At events that read no link, the old space may have any links. Where a link is read, its
+/// low 32 bits have to be the replica's address.
 pub fn checkers_are_never_lost()
-    ensures roots { (s after : State) (c next : Collection) (t told : Tables)
+    ensures roots { (s after : State) (c next : Collection) (t told : Tables) (links : ℕ → ℕ)
         → IsSpaceGraph s.size s.heap.free s.heap.graph → IsOpened s c → IsOpened s next
         → GoesAlong s.heap.graph.objects (heap_end s) c (watch_of t) → Knows s c t
         → copy_root s c (root_target c s.heap.graph) ≡ (StepReply.Copied, after) → after.collection ≡ Some next
-        → let old = (old_image s next).words in let new = (new_image s next).words in
+        → let old = (linked_image links s.size s.heap.graph).words in let new = (new_image s next).words in
         CanPlace old new t × (Placed old new t told → OwesNone old new t told → Knows s next told) }
-    ensures scan { (s after : State) (c next : Collection) (t mid told : Tables)
+    ensures scan { (s after : State) (c next : Collection) (t mid told : Tables) (links : ℕ → ℕ)
         → IsSpaceGraph s.size s.heap.free s.heap.graph → IsOpened s c → IsOpened s next
         → GoesAlong s.heap.graph.objects (heap_end s) c (watch_of t) → Knows s c t
         → scan s c ≡ (StepReply.Scanned, after) → after.collection ≡ Some next
-        → let old = (old_image s next).words in let new = (new_image s next).words in
+        → let old = (linked_image links s.size s.heap.graph).words in let new = (new_image s next).words in
         CanPlace old new t × (Placed old new t mid → OwesNone old new t mid → CanLook old new c.scan_place c.scan_field mid
         × (Looked old new c.scan_place c.scan_field mid told → Knows s next told)) }
     ensures passed { (s after : State) (c next : Collection) (t : Tables)
         → IsSpaceGraph s.size s.heap.free s.heap.graph → IsOpened s c → IsOpened s next
         → GoesAlong s.heap.graph.objects (heap_end s) c (watch_of t) → Knows s c t
         → scan s c ≡ (StepReply.Passed, after) → after.collection ≡ Some next → Knows s next t }
-    ensures apply { (s after : State) (c next : Collection) (m : ℕ) (entry : ℕ × ℕ) (rest : List (ℕ × ℕ)) (t mid told : Tables)
+    ensures apply { (s after : State) (c next : Collection) (m : ℕ) (entry : ℕ × ℕ) (rest : List (ℕ × ℕ)) (t mid told : Tables) (links : ℕ → ℕ)
         → IsSpaceGraph s.size s.heap.free s.heap.graph → IsOpened s c → IsOpened s next
         → GoesAlong s.heap.graph.objects (heap_end s) c (watch_of t) → Knows s c t → log_at c m ≡ entry ∷ rest
-        → apply_log s c m (entry ∷ rest) ≡ (StepReply.Applied, after) → after.collection ≡ Some next
-        → let old = (old_image s next).words in let new = (new_image s next).words in
+        → apply_log s c m (entry ∷ rest) ≡ (StepReply.Applied, after) → after.collection ≡ Some next → LeadsTo links next
+        → let old = (linked_image links s.size s.heap.graph).words in let new = (new_image s next).words in
         CanPlace old new t × (Placed old new t mid → OwesNone old new t mid → CanApply old new entry.0 entry.1 mid
         × (Applied old new entry.0 entry.1 mid told → Knows s next told)) }
-    ensures written { (s : State) (c : Collection) (t told : Tables) (a i : ℕ)
+    ensures written { (s : State) (c : Collection) (t told : Tables) (a i : ℕ) (links : ℕ → ℕ)
         → IsSpaceGraph s.size s.heap.free s.heap.graph → IsOpened s c → Fits (heap_end s) c (watch_of t) → Knows s c t → IsLogged c a i
-        → CanWrite (old_image s c).words a i t × (Wrote a i t told → Knows s c told) }
+        → LeadsTo links c → CanWrite (linked_image links s.size s.heap.graph).words a i t × (Wrote a i t told → Knows s c told) }
     ensures made { (s after : State) (m : ℕ) (op : Op) (reply : Reply) (t told : Tables) (links : ℕ → ℕ)
         → IsSpaceGraph s.size s.heap.free s.heap.graph → IsSpaceGraph after.size after.heap.free after.heap.graph
         → mutate s m op ≡ (reply, after) → MakesObject op → length t.olds ≡ heap_end s → KnowsAll s t
@@ -111,5 +113,5 @@ pub fn checkers_are_never_lost()
     ensures ready { (s : State) (c : Collection) (t : Tables)
         → IsSpaceGraph s.size s.heap.free s.heap.graph → IsOpened s c
         → GoesAlong s.heap.graph.objects (heap_end s) c (watch_of t) → Knows s c t → IsFalse t.lost → IsTrue (is_ready c s.heap.graph)
-        → Accepts t (old_image s c) (new_image s c) }
+        → Accepts t (outline_of (old_image s c)) (outline_of (new_image s c)) }
 {}

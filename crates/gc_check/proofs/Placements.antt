@@ -60,7 +60,7 @@ joins old new before k p e =
     let s1 : (when (not (is_start old.words p.0)) (OldNotStart k) ≡ None) × (when (not (is_start new.words p.1)) (NewNotStart k) ≡ None) = or_none _ _ s2.0 in
     (not-false _ (when_none _ _ s1.0), not-false _ (when_none _ _ s1.1))
 
-all_join : (old new : Image) (all rest : List (ℕ × ℕ)) (k j : ℕ) (d : ℕ × ℕ) → first_over_pairs (λ k. place_fault old new (take k all) k) k rest ≡ None → j < length rest → JoinsStarts old new (get_or rest j d)
+pub all_join : (old new : Image) (all rest : List (ℕ × ℕ)) (k j : ℕ) (d : ℕ × ℕ) → first_over_pairs (λ k. place_fault old new (take k all) k) k rest ≡ None → j < length rest → JoinsStarts old new (get_or rest j d)
 all_join old new all [] k j d e inside = absurd (omega arith)
 all_join old new all (p ∷ rest) k zero d e inside = joins old new (take k all) k p (or_none _ _ e).0
 all_join old new all (p ∷ rest) k (suc j) d e inside = all_join old new all rest (suc k) j d (or_none _ _ e).1 (omega arith)

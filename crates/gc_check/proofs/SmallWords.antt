@@ -1,17 +1,22 @@
--- In small images the same words correspond if only words of small spaces are values.
-use Rattle.std.proofs.Common.{◌≡◌, ◌⊎◌, inl, inr, ℕ, ◌/◌, ◌%◌, ◌<◌, ◌≤◌, ◌==◌, nat_lt, true, false, cond, List, [], ◌∷◌, Option, Some, None, refl, sym, ap, ◌∙◌, subst, arith}
-use Rattle.std.specs.List.{All}
-use Rattle.std.specs.Prelude.{IsTrue, IsOk}
-use Rattle.std.proofs.lemmas.Bool.{cases_Bool, cond-true, cond-false, or_cases, or_left, or_right, or_parts, ltb-true, lt-ltb, ltb-false, ne_eqb, false_from_ne_true}
-use Rattle.std.proofs.lemmas.List.Elements.{All-head, All-tail}
+-- Small images mean the same if only words of small spaces are values: words, certificates and first faults.
+use Rattle.std.proofs.Common.{◌≡◌, ◌⊎◌, inl, inr, ℕ, ◌/◌, ◌%◌, ◌<◌, ◌≤◌, ◌==◌, nat_lt, Bool, true, false, cond, List, [], ◌∷◌, Option, Some, None, refl, sym, ap, ◌∙◌, subst, arith}
+use Rattle.std.specs.List.{All, AllZip}
+use Rattle.std.specs.Prelude.{◌↔◌, nat_le, is_some, IsTrue, IsOk}
+use Rattle.std.proofs.lemmas.Bool.{cases_Bool, cond-true, cond-false, or_cases, or_left, or_right, or_parts, ltb-true, leb-true, lt-ltb, ltb-false, ne_eqb, false_from_ne_true}
+use Rattle.std.proofs.lemmas.List.Elements.{All-head, All-tail, All-weaker}
 use Rattle.gc_graph.specs.Graph.{Value, Nil, Num, Ref}
 use Rattle.gc_graph.specs.Correspond.{paired}
 use Rattle.gc_graph.proofs.Public.{paired_cases}
 use Rattle.gc_words.specs.Word.{value_of, is_value_within, is_value, read_value_within, read_value, read_correspond, words_correspond}
 use Rattle.gc_words.specs.Image.{Image, Block, IsShaped, walk_words, block_at, is_start}
 use Rattle.gc_words.specs.Walking.{StandsIn}
-use Rattle.gc_words.proofs.Public.{stands_in, same_walk, some_of}
-use Rattle.gc_check.specs.Profile.{words_correspond_within, MeanTheSame}
+use Rattle.gc_words.proofs.Public.{stands_in, same_walk, some_of, or_none, at_place_none}
+use Rattle.gc_words.specs.Certificate.{BlocksCorrespond}
+use Rattle.gc_words.specs.Fault.{◌or_else◌, at_place, shape_fault, first_over_pairs, place_faults, table_fault, first_difference, same_header, block_fault, object_faults, root_fault}
+use Rattle.gc_words.specs.declared.refusal.Refusal.{Refusal}
+use Rattle.gc_words.specs.declared.refusal.Refusal.TheVariants.{OldShape, NewShape, HeaderDiffers, FieldDiffers, RootDiffers}
+use Rattle.gc_check.specs.Profile.{CertifiedSmall, small_shape_fault, first_small_fault, small_table_fault, small_words_correspond, SmallBlocksCorrespond, CertifiedAsSmall, small_block_fault, first_fault_as_small, MeanTheSame}
+use Rattle.gc_check.proofs.Placements.{Fits, JoinsStarts, table_parts, all_join}
 
 -- ---- words
 
@@ -62,10 +67,10 @@ module _ (pairs : List (ℕ × ℕ)) (below : (a b : ℕ) → paired pairs a b �
   far_right (Some (Num n)) b high = refl
   far_right (Some (Ref a)) b high = false_from_ne_true (paired pairs a b) (λ t. omega (arith, high, (below a b t).1))
 
-  same_words : (v w : ℕ) → words_correspond_within 1048576 pairs v w ≡ words_correspond pairs v w
+  same_words : (v w : ℕ) → small_words_correspond pairs v w ≡ words_correspond pairs v w
   same_words v w = go (reads v) (reads w)
     where
-      go : Reads v → Reads w → words_correspond_within 1048576 pairs v w ≡ words_correspond pairs v w
+      go : Reads v → Reads w → small_words_correspond pairs v w ≡ words_correspond pairs v w
       go (inr beyond) other = ap (λ o. read_correspond pairs o (read_value_within 1048576 w)) beyond.0 ∙ sym (ap (λ o. read_correspond pairs o (read_value w)) beyond.1 ∙ far_left (v / 2) (read_value w) beyond.2)
       go (inl near) (inl also) = λ i. read_correspond pairs (near i) (also i)
       go (inl near) (inr beyond) =
@@ -90,8 +95,126 @@ pairs_below old new (p ∷ rest) o n all a b e = elim (paired_cases p rest a b e
   | inr later ↦ pairs_below old new rest o n (All-tail (λ p. IsTrue (is_start old.words p.0) × IsTrue (is_start new.words p.1)) p rest all) a b later
 ]
 
-pub mean_the_same : (old new : Image) (pairs : List (ℕ × ℕ)) → MeanTheSame old new pairs
-mean_the_same old new pairs o n small also placed =
+same_where_joined : (old new : Image) (pairs : List (ℕ × ℕ)) → IsShaped old → IsShaped new → old.size ≤ 1048576 → new.size ≤ 1048576 → All (JoinsStarts old new) pairs
+    → small_words_correspond pairs ≡ words_correspond pairs
+same_where_joined old new pairs o n small also starts =
     let below : (a b : ℕ) → paired pairs a b ≡ true → (a < 1048576) × (b < 1048576) =
-    λ a b t. (let within = pairs_below old new pairs o n placed.starts a b t in (omega (arith, within.0, small), omega (arith, within.1, also))) in
+    λ a b t. (let within = pairs_below old new pairs o n starts a b t in (omega (arith, within.0, small), omega (arith, within.1, also))) in
     λ i v w. same_words pairs below v w i
+
+pub mean_the_same : (old new : Image) (pairs : List (ℕ × ℕ)) → MeanTheSame old new pairs
+mean_the_same old new pairs o n small also placed = same_where_joined old new pairs o n small also placed.starts
+
+-- ---- certificates
+
+module _ (old new : Image) (pairs : List (ℕ × ℕ)) where
+  abbrev Small : ℕ × ℕ → Type 0
+  Small p = SmallBlocksCorrespond pairs (block_at old.words p.0) (block_at new.words p.1)
+
+  abbrev Wide : ℕ × ℕ → Type 0
+  Wide p = BlocksCorrespond pairs (block_at old.words p.0) (block_at new.words p.1)
+
+  both_small : (o q : Option Block) → SmallBlocksCorrespond pairs o q → (is_some o ≡ true) × (is_some q ≡ true)
+  both_small (Some a) (Some b) c = (refl, refl)
+  both_small (Some a) None c = absurd c
+  both_small None q c = absurd c
+
+  both_wide : (o q : Option Block) → BlocksCorrespond pairs o q → (is_some o ≡ true) × (is_some q ≡ true)
+  both_wide (Some a) (Some b) c = (refl, refl)
+  both_wide (Some a) None c = absurd c
+  both_wide None q c = absurd c
+
+  widened : small_words_correspond pairs ≡ words_correspond pairs → (o q : Option Block) → SmallBlocksCorrespond pairs o q → BlocksCorrespond pairs o q
+  widened e (Some a) (Some b) c = (c.0, subst (λ alike. AllZip (λ v w. IsTrue (cond a.header.raw (v == w) (alike v w))) a.fields b.fields) e c.1)
+  widened e (Some a) None c = absurd c
+  widened e None q c = absurd c
+
+  narrowed : small_words_correspond pairs ≡ words_correspond pairs → (o q : Option Block) → BlocksCorrespond pairs o q → SmallBlocksCorrespond pairs o q
+  narrowed e (Some a) (Some b) c = (c.0, subst (λ alike. AllZip (λ v w. IsTrue (cond a.header.raw (v == w) (alike v w))) a.fields b.fields) (sym e) c.1)
+  narrowed e (Some a) None c = absurd c
+  narrowed e None q c = absurd c
+
+  pub certified_same : CertifiedAsSmall old new pairs ↔ CertifiedSmall old new pairs
+  certified_same = (wide, small)
+    where
+      wide : CertifiedAsSmall old new pairs → CertifiedSmall old new pairs
+      wide c =
+          let starts : All (JoinsStarts old new) pairs = All-weaker Small (JoinsStarts old new) (λ p h. both_small _ _ h) pairs c.objects in
+          let e : small_words_correspond pairs ≡ words_correspond pairs = same_where_joined old new pairs c.old_shaped c.new_shaped c.old_small c.new_small starts in
+          record {
+            old_small = c.old_small;
+            new_small = c.new_small;
+            certified = record {
+              old_shaped = c.old_shaped;
+              new_shaped = c.new_shaped;
+              objects = All-weaker Small Wide (λ p h. widened e _ _ h) pairs c.objects;
+              rising = c.rising;
+              once = c.once;
+              roots = subst (λ alike. AllZip (λ v w. IsTrue (alike v w)) old.roots new.roots) e c.roots;
+            };
+          }
+
+      small : CertifiedSmall old new pairs → CertifiedAsSmall old new pairs
+      small s =
+          let c = s.certified in
+          let starts : All (JoinsStarts old new) pairs = All-weaker Wide (JoinsStarts old new) (λ p h. both_wide _ _ h) pairs c.objects in
+          let e : small_words_correspond pairs ≡ words_correspond pairs = same_where_joined old new pairs c.old_shaped c.new_shaped s.old_small s.new_small starts in
+          record {
+            old_small = s.old_small;
+            new_small = s.new_small;
+            old_shaped = c.old_shaped;
+            new_shaped = c.new_shaped;
+            objects = All-weaker Wide Small (λ p h. narrowed e _ _ h) pairs c.objects;
+            rising = c.rising;
+            once = c.once;
+            roots = subst (λ alike. AllZip (λ v w. IsTrue (alike v w)) old.roots new.roots) (sym e) c.roots;
+          }
+
+-- ---- first faults
+
+-- the conditions that come first may be grouped by themselves
+grouped : {X : Type 0} (a b t c d : Option X) → ((a or_else b or_else t) or_else c or_else d) ≡ (a or_else b or_else (t or_else c or_else d))
+grouped (Some x) b t c d = refl
+grouped None (Some y) t c d = refl
+grouped None None t c d = refl
+
+-- an image without a fault is small and shaped
+small_and_shaped : (image : Image) → small_shape_fault image ≡ None → (image.size ≤ 1048576) × (shape_fault image ≡ None)
+small_and_shaped image e = go (nat_le image.size 1048576) refl e
+  where
+    go : (b : Bool) → nat_le image.size 1048576 ≡ b → cond b (shape_fault image) (Some 0) ≡ None → (image.size ≤ 1048576) × (shape_fault image ≡ None)
+    go true is e = (leb-true _ _ is, e)
+    go false is e = absurd cc
+
+module _ (old new : Image) (pairs : List (ℕ × ℕ)) where
+  same_block_fault : small_words_correspond pairs ≡ words_correspond pairs → (k : ℕ) (o q : Option Block) → small_block_fault pairs k o q ≡ block_fault pairs k o q
+  same_block_fault e k (Some a) (Some b) =
+      ap (λ alike. cond (same_header a.header b.header) (at_place (first_difference (λ v w. cond a.header.raw (v == w) (alike v w)) 0 a.fields b.fields) (λ i. FieldDiffers k i)) (Some (HeaderDiffers k))) e
+  same_block_fault e k (Some a) None = refl
+  same_block_fault e k None b = refl
+
+  abbrev small_objects : Option Refusal
+  small_objects = first_over_pairs (λ k p. small_block_fault pairs k (block_at old.words p.0) (block_at new.words p.1)) 0 pairs
+
+  abbrev small_roots : Option Refusal
+  small_roots = at_place (first_difference (small_words_correspond pairs) 0 old.roots new.roots) (λ slot. RootDiffers slot)
+
+  same_rest : small_words_correspond pairs ≡ words_correspond pairs → (small_objects or_else small_roots) ≡ (object_faults old new pairs or_else root_fault old new pairs)
+  same_rest e = λ i. first_over_pairs (λ k p. same_block_fault e k (block_at old.words p.0) (block_at new.words p.1) i) 0 pairs or_else at_place (first_difference (e i) 0 old.roots new.roots) (λ slot. RootDiffers slot)
+
+  no_table_fault : small_table_fault old new pairs ≡ None → small_words_correspond pairs ≡ words_correspond pairs
+  no_table_fault e =
+      let tables : ((at_place (small_shape_fault old) (λ at. OldShape at) or_else at_place (small_shape_fault new) (λ at. NewShape at)) ≡ None) × (table_fault old new pairs ≡ None) = or_none _ _ e in
+      let shapes : (at_place (small_shape_fault old) (λ at. OldShape at) ≡ None) × (at_place (small_shape_fault new) (λ at. NewShape at) ≡ None) = or_none _ _ tables.0 in
+      let first = small_and_shaped old (at_place_none (small_shape_fault old) (λ at. OldShape at) shapes.0) in
+      let second = small_and_shaped new (at_place_none (small_shape_fault new) (λ at. NewShape at) shapes.1) in
+      let parts : Fits old new × (place_faults old new pairs ≡ None) = table_parts old new pairs tables.1 in
+      same_where_joined old new pairs parts.0.old_shaped parts.0.new_shaped first.0 second.0 (λ j d inside. all_join old new pairs pairs 0 j d parts.1 inside)
+
+  pub fault_same : first_fault_as_small old new pairs ≡ first_small_fault old new pairs
+  fault_same = go (small_table_fault old new pairs) refl ∙ grouped (at_place (small_shape_fault old) (λ at. OldShape at)) (at_place (small_shape_fault new) (λ at. NewShape at)) (table_fault old new pairs) (object_faults old new pairs) (root_fault old new pairs)
+    where
+      go : (t : Option Refusal) → small_table_fault old new pairs ≡ t
+          → (small_table_fault old new pairs or_else small_objects or_else small_roots) ≡ (small_table_fault old new pairs or_else object_faults old new pairs or_else root_fault old new pairs)
+      go (Some r) is = ap (λ t. t or_else small_objects or_else small_roots) is ∙ sym (ap (λ t. t or_else object_faults old new pairs or_else root_fault old new pairs) is)
+      go None is = ap (λ t. t or_else small_objects or_else small_roots) is ∙ same_rest (no_table_fault is) ∙ sym (ap (λ t. t or_else object_faults old new pairs or_else root_fault old new pairs) is)

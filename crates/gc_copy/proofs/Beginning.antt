@@ -1,23 +1,42 @@
 -- A collection that has just begun belongs to its heap.
-use Rattle.std.proofs.Common.{◌≡◌, ℕ, ◌≤◌, List, [], map, length, replicate, sym, ◌∙◌, ap, subst}
+use Rattle.std.proofs.Common.{◌≡◌, ℕ, ◌≤◌, Bool, List, [], map, length, replicate, sym, ◌∙◌, ap, subst, arith}
 use Rattle.std.proofs.lemmas.List.{length-map, length-replicate}
+use Rattle.gc_words.specs.Image.{blocks}
+use Rattle.gc_words.specs.Spelling.{link_at}
 use Rattle.gc_words.specs.Space.{SpaceWords, empty_space}
 use Rattle.gc_heap.specs.Heap.{HeapWords, graph_in}
 use Rattle.gc_plan.specs.State.{Collection}
 use Rattle.gc_plan.specs.Steps.{fresh_collection}
 use Rattle.gc_plan.specs.Linked.{old_links}
 use Rattle.gc_plan.specs.Belonging.{Belongs}
-use Rattle.gc_copy.specs.Words.{Log, replicas_in, entries_of, collection_in, HasNoLinks, BelongsTo}
+use Rattle.gc_copy.specs.Words.{Log, IsCollection, replicas_in, entries_of, collection_in, HasNoLinks, LinksNothing, BelongsTo}
+use Rattle.gc_plan.specs.Members.{In}
+use Rattle.gc_copy.specs.Internal.Words.{IsRoom}
 use Rattle.gc_plan.proofs.Public.{begun_belongs}
 use Rattle.gc_copy.proofs.Words.{words_numbers}
 
-pub begun : (heap : HeapWords) (space : SpaceWords) (logs : List Log) (size : ℕ) → HasNoLinks heap → 1 ≤ size → space ≡ empty_space size → map entries_of logs ≡ replicate heap.mutators []
-    → BelongsTo heap (record { space = space; logs = logs; scan_place = 1; scan_field = 0 })
-begun heap space logs size none low empty entries = record {
+-- where no object has a link, none is above any mark
+pub unlinked : (heap : HeapWords) (marked : Bool) → HasNoLinks heap → LinksNothing marked heap
+unlinked heap marked none a start = let zero : link_at heap.space.words a ≡ 0 = none a start in omega arith
+
+pub begun : (heap : HeapWords) (space : SpaceWords) (logs : List Log) (size : ℕ) (marked : Bool) → LinksNothing marked heap → 1 ≤ size → space ≡ empty_space size → map entries_of logs ≡ replicate heap.mutators []
+    → BelongsTo heap (record { space = space; logs = logs; scan_place = 1; scan_field = 0; marked = marked })
+begun heap space logs size marked none low empty entries = record {
   belongs = subst (Belongs (graph_in heap).objects) (sym same) (begun_belongs (graph_in heap).objects heap.mutators size (words_numbers heap.space.words) low);
   links = λ a start. none a start ∙ sym (ap (λ (c : Collection). old_links c a) same);
   logs = sym (length-map logs entries_of) ∙ (ap length entries ∙ length-replicate heap.mutators []);
 }
   where
-    same : collection_in (record { space = space; logs = logs; scan_place = 1; scan_field = 0 }) ≡ fresh_collection heap.mutators size
+    same : collection_in (record { space = space; logs = logs; scan_place = 1; scan_field = 0; marked = marked }) ≡ fresh_collection heap.mutators size
     same = λ i. record { size = (empty i).size; replicas = replicas_in (empty i).words; logs = entries i; scan_place = 1; scan_field = 0 }
+
+-- a collection in an empty space
+pub begun_sound : (space : SpaceWords) (logs : List Log) (marked : Bool) → IsRoom space logs → IsCollection (record { space = space; logs = logs; scan_place = 1; scan_field = 0; marked = marked }) × (0 ≡ length (blocks space.words))
+begun_sound space logs marked room = (
+  record {
+    space = room.shaped;
+    logs = room.few;
+    originals = λ r l. absurd (subst (λ (s : SpaceWords). In r (replicas_in s.words)) room.empty l);
+  },
+  ap (λ (s : SpaceWords). length (blocks s.words)) (sym room.empty),
+)

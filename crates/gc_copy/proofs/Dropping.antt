@@ -1,5 +1,5 @@
 -- The loop that drops a collection: it clears the link of each original, to which the replica's link leads.
-use Rattle.std.proofs.Common.{◌≡◌, ◌⊎◌, ⊎_elim, inl, inr, ℕ, ◌<◌, ◌≤◌, ◌==◌, true, List, [], ◌∷◌, length, Option, Some, None, is_some, refl, ap, sym, ◌∙◌, subst}
+use Rattle.std.proofs.Common.{◌≡◌, ◌⊎◌, ⊎_elim, inl, inr, ℕ, ◌-◌, ◌<◌, ◌≤◌, ◌==◌, Bool, true, false, List, [], ◌∷◌, length, Option, Some, None, is_some, refl, ap, sym, ◌∙◌, subst, arith}
 use Rattle.std.specs.Prelude.{◌^◌}
 use Rattle.std.specs.Option.{option_map}
 use Rattle.std.proofs.lemmas.Bool.{cases_Bool, eqb-true, eqb-false}
@@ -14,12 +14,12 @@ use Rattle.gc_heap.specs.Heap.{HeapWords, IsHeap}
 use Rattle.gc_plan.specs.State.{Replica, replica_of}
 use Rattle.gc_plan.specs.Linked.{place_or_zero}
 use Rattle.gc_plan.specs.Members.{In}
-use Rattle.gc_copy.specs.Words.{CollectionWords, IsCollection, replica_entry, replicas_in, collection_in, BelongsTo}
+use Rattle.gc_copy.specs.Words.{CollectionWords, IsCollection, replica_entry, replicas_in, collection_in, idle_state, mark_of, LinksNothing, BelongsTo}
 use Rattle.gc_copy.specs.Internal.Words.{KeepsGraph}
 use Rattle.gc_plan.proofs.Public.{in_map, in_map_from, replica_in}
 use Rattle.gc_copy.proofs.Spaces.{in_start}
 use Rattle.gc_copy.proofs.ObjectWalks.{Met, met_none, Passing, passing}
-use Rattle.gc_copy.proofs.OpenCollection.{linked_heap, same_graph, start_kept}
+use Rattle.gc_copy.proofs.OpenCollection.{linked_heap, same_graph, start_kept, state_kept}
 use Rattle.gc_copy.proofs.LinkedImages.{spelled_agree}
 
 -- ---- the loop's invariant
@@ -32,18 +32,18 @@ IsAhead words at a = (e : ℕ × Block) × In e (ok_or_nil (walk_from words at))
 abbrev pub HasOriginals : List ℕ → HeapWords → Type 0
 HasOriginals words heap = (r : Replica) → In r (replicas_in words) → (is_start heap.space.words r.original ≡ true) × (r.original < 2 ^ 32)
 
--- The heap differs from the old one only in links. An object's link is 0, or its replica is still ahead.
-pub record Clears (words : List ℕ) (old now : HeapWords) (at : ℕ) : Type 0 where
+-- The heap differs from the old one only in links. An object's link is not above the mark, or its replica is still ahead.
+pub record Clears (marked : Bool) (words : List ℕ) (old now : HeapWords) (at : ℕ) : Type 0 where
   pub done : List (ℕ × Block)
   pub met : Met words at done
   pub originals : HasOriginals words old
   pub sound : IsHeap now
   pub graph : KeepsGraph old now
-  pub links : (a : ℕ) → is_start old.space.words a ≡ true → (link_at now.space.words a ≡ 0) ⊎ IsAhead words at a
+  pub links : (a : ℕ) → is_start old.space.words a ≡ true → (link_at now.space.words a - mark_of marked ≡ 0) ⊎ IsAhead words at a
 
 -- ---- its steps
 
-then_kept : (old now new : HeapWords) → KeepsGraph old now → KeepsGraph now new → KeepsGraph old new
+pub then_kept : (old now new : HeapWords) → KeepsGraph old now → KeepsGraph now new → KeepsGraph old new
 then_kept old now new k l = record {
   mutators = l.mutators ∙ k.mutators;
   size = l.size ∙ k.size;
@@ -53,7 +53,7 @@ then_kept old now new k l = record {
 }
 
 -- at first every replica is ahead
-pub clears_none : (heap : HeapWords) (x c : CollectionWords) → x ≡ c → IsHeap heap → IsCollection x → BelongsTo heap c → Clears x.space.words heap heap 1
+pub clears_none : (heap : HeapWords) (x c : CollectionWords) → x ≡ c → IsHeap heap → IsCollection x → BelongsTo heap c → Clears x.marked x.space.words heap heap 1
 clears_none heap x c seen sound is belongs = record {
   done = [];
   met = met;
@@ -73,7 +73,7 @@ clears_none heap x c seen sound is belongs = record {
     there None object e = absurd (let no : None ≡ Some object = e in cc)
     there (Some b) object e = refl
 
-    from : (a : ℕ) → is_start heap.space.words a ≡ true → (o : Option Replica) → replica_of (collection_in x) a ≡ o → (link_at heap.space.words a ≡ 0) ⊎ IsAhead x.space.words 1 a
+    from : (a : ℕ) → is_start heap.space.words a ≡ true → (o : Option Replica) → replica_of (collection_in x) a ≡ o → (link_at heap.space.words a - mark_of x.marked ≡ 0) ⊎ IsAhead x.space.words 1 a
     from a start None e = inl (k.links a start ∙ ap place_or_zero e)
     from a start (Some r) e =
         let found = replica_in (collection_in x) a r e in
@@ -81,18 +81,18 @@ clears_none heap x c seen sound is belongs = record {
         inr (entry.0, subst (In entry.0) met.split entry.1, ap (λ (q : Replica). q.original) entry.2 ∙ found.1)
 
 -- the original that the link of the replica here leads to
-pub original_here : (words : List ℕ) (old now : HeapWords) (at : ℕ) → Clears words old now at → at < length words → (is_start now.space.words (link_at words at) ≡ true) × (link_at words at < 2 ^ 32)
-original_here words old now at k less =
+pub original_here : (marked : Bool) (words : List ℕ) (old now : HeapWords) (at : ℕ) → Clears marked words old now at → at < length words → (is_start now.space.words (link_at words at) ≡ true) × (link_at words at < 2 ^ 32)
+original_here marked words old now at k less =
     let n = some_of (next_of words at) (has_next words at less (k.met).walked) in
     let p : Passing words at n.0 k.done = passing words at n.0 k.done k.met less n.1 in
     let original = k.originals (replica_entry words (at, p.block)) (in_map (replica_entry words) (at, p.block) (blocks words) p.found) in
     (start_kept old now (link_at words at) k.graph ∙ original.0, original.1)
 
 -- the link of one replica's original is cleared
-pub clears_more : (words : List ℕ) (old now new : HeapWords) (at next : ℕ) → Clears words old now at → at < length words → next_of words at ≡ Some next
-    → new ≡ record now { space = with_word now.space (link_place (link_at words at)) 0 } → IsHeap new → Clears words old new next
-clears_more words old now new at next k less e is sound =
-    subst (λ h. Clears words old h next) (sym is) (record {
+pub clears_more : (marked : Bool) (words : List ℕ) (old now new : HeapWords) (at next : ℕ) → Clears marked words old now at → at < length words → next_of words at ≡ Some next
+    → new ≡ record now { space = with_word now.space (link_place (link_at words at)) 0 } → IsHeap new → Clears marked words old new next
+clears_more marked words old now new at next k less e is sound =
+    subst (λ h. Clears marked words old h next) (sym is) (record {
       done = _;
       met = p.met;
       originals = k.originals;
@@ -111,10 +111,10 @@ clears_more words old now new at next k less e is sound =
     b = behind words at next less (k.met).walked e
 
     there : is_start now.space.words (link_at words at) ≡ true
-    there = (original_here words old now at k less).0
+    there = (original_here marked words old now at k less).0
 
-    cleared : (a : ℕ) → link_at words at ≡ a → link_at after.space.words a ≡ 0
-    cleared a same = ap (link_at after.space.words) (sym same) ∙ link_written_there now.space (link_at words at) 0 (k.sound).space there
+    cleared : (a : ℕ) → link_at words at ≡ a → link_at after.space.words a - mark_of marked ≡ 0
+    cleared a same = let zero : link_at after.space.words a ≡ 0 = ap (link_at after.space.words) (sym same) ∙ link_written_there now.space (link_at words at) 0 (k.sound).space there in omega arith
 
     behind_it : (a : ℕ) → (link_at words at ≡ a → ⊥) → IsAhead words at a → IsAhead words next a
     behind_it a other ahead = from (subst (In ahead.0) b.objects ahead.1)
@@ -123,18 +123,27 @@ clears_more words old now new at next k less e is sound =
         from (inl here) = absurd (other (ap (λ (x : ℕ × Block). link_at words x.0) here ∙ ahead.2))
         from (inr later) = (ahead.0, later, ahead.2)
 
-    beside : (a : ℕ) → (link_at words at ≡ a → ⊥) → (link_at now.space.words a ≡ 0) ⊎ IsAhead words at a → (link_at after.space.words a ≡ 0) ⊎ IsAhead words next a
-    beside a other (inl zero) = inl (link_written_beside now.space (link_at words at) 0 a other ∙ zero)
+    beside : (a : ℕ) → (link_at words at ≡ a → ⊥) → (link_at now.space.words a - mark_of marked ≡ 0) ⊎ IsAhead words at a → (link_at after.space.words a - mark_of marked ≡ 0) ⊎ IsAhead words next a
+    beside a other (inl zero) = inl (ap (λ l. l - mark_of marked) (link_written_beside now.space (link_at words at) 0 a other) ∙ zero)
     beside a other (inr ahead) = inr (behind_it a other ahead)
 
 -- ---- after the last replica
 
-all_zero : (words : List ℕ) (old now : HeapWords) (at : ℕ) → Clears words old now at → length words ≤ at → (a : ℕ) → is_start old.space.words a ≡ true → link_at now.space.words a ≡ 0
-all_zero words old now at k past a start = ⊎_elim (λ zero. zero) (λ ahead. absurd (subst (In ahead.0) (ap ok_or_nil (at_end words at past)) ahead.1)) (k.links a start)
+pub none_above : (marked : Bool) (words : List ℕ) (old now : HeapWords) (at : ℕ) → Clears marked words old now at → length words ≤ at → LinksNothing marked now
+none_above marked words old now at k past a start =
+    let there : is_start old.space.words a ≡ true = sym (start_kept old now a k.graph) ∙ start in
+    ⊎_elim (λ zero. zero) (λ ahead. absurd (subst (In ahead.0) (ap ok_or_nil (at_end words at past)) ahead.1)) (k.links a there)
 
-pub all_cleared : (words : List ℕ) (old now : HeapWords) (at : ℕ) → Clears words old now at → length words ≤ at → now ≡ record old { space = without_links old.space }
+-- the heap without a collection is that of the old one
+pub dropped_state : (marked : Bool) (words : List ℕ) (old now : HeapWords) (at : ℕ) → Clears marked words old now at → idle_state now ≡ idle_state old
+dropped_state marked words old now at k = state_kept old now None k.graph
+
+pub all_cleared : (words : List ℕ) (old now : HeapWords) (at : ℕ) → Clears false words old now at → length words ≤ at → now ≡ record old { space = without_links old.space }
 all_cleared words old now at k past =
     let is : IsSpace now.space = (k.sound).space in
-    let zero = spelled_agree (link_at now.space.words) no_links (blocks now.space.words) (λ e l. all_zero words old now at k past e.0 (sym (start_kept old now e.0 k.graph) ∙ in_start now.space.words e l)) in
+    let none : mark_of false ≡ 0 = refl in
+    let each : (e : ℕ × Block) → In e (blocks now.space.words) → link_at now.space.words e.0 ≡ 0
+    = λ e l. let above : link_at now.space.words e.0 - mark_of false ≡ 0 = none_above false words old now at k past e.0 (in_start now.space.words e l) in omega arith in
+    let zero = spelled_agree (link_at now.space.words) no_links (blocks now.space.words) each in
     let all : now.space.words ≡ spelled no_links (blocks old.space.words) = spelled_words now.space.words is.walked is.end_low is.reserved ∙ ap (λ ws. 0 ∷ ws) zero ∙ ap (spelled no_links) (k.graph).blocks in
     λ i. record { space = record { size = (k.graph).size i; words = all i }; roots = (k.graph).roots i; mutators = (k.graph).mutators i }

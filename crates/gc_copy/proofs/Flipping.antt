@@ -18,10 +18,10 @@ use Rattle.gc_plan.specs.State.{Collection, State, new_objects, new_end, new_fre
 use Rattle.gc_plan.specs.Steps.{is_ready, flip, flipped, with_collection}
 use Rattle.gc_plan.specs.Members.{In}
 use Rattle.gc_plan.specs.Belonging.{IsSmall, IsNamed, RefersTo, IsSpaceGraph}
-use Rattle.gc_copy.specs.Words.{CollectionWords, IsCollection, collection_in, idle_state, open_state, BelongsTo, HasNoLinks, new_root_words}
+use Rattle.gc_copy.specs.Words.{CollectionWords, IsCollection, collection_in, idle_state, open_state, mark_of, replica_entry, BelongsTo, HasNoLinks, new_root_words}
 use Rattle.gc_plan.specs.declared.step.StepReply.{StepReply}
 use Rattle.gc_plan.specs.declared.step.StepReply.TheVariants.{Flipped, Dropped}
-use Rattle.gc_copy.proofs.Words.{heap_graph}
+use Rattle.gc_copy.proofs.Words.{heap_graph, block_found_in}
 use Rattle.gc_copy.proofs.Spaces.{in_start, new_objects_are, new_end_is}
 use Rattle.gc_copy.proofs.OpenCollection.{opened}
 
@@ -30,14 +30,13 @@ use Rattle.gc_copy.proofs.OpenCollection.{opened}
 pub cleared_links : (s : SpaceWords) → IsSpace s → (a : ℕ) → is_start (without_links s).words a ≡ true → link_at (without_links s).words a ≡ 0
 cleared_links s is a start = link_cleared s a is (sym (ap (λ bs. Rattle.std.proofs.Common.is_some (block_in bs a)) (cleared s is).1) ∙ start)
 
-pub cleared_heap : (heap : HeapWords) → IsHeap heap → HasNoLinks (record heap { space = without_links heap.space })
-cleared_heap heap is a start = cleared_links heap.space is.space a start
-
-pub dropped : (heap : HeapWords) (c : CollectionWords) → IsHeap heap → ◌≡◌ {A = StepReply × State} (Dropped, with_collection (open_state heap c) None) (Dropped, idle_state (record heap { space = without_links heap.space }))
-dropped heap c is =
-    let graph = graph_cleared heap.space heap.roots is.space in
-    let end = end_cleared heap.space is.space in
-    λ i. (Dropped, record { mutators = heap.mutators; size = heap.space.size; heap = record { graph = sym graph i; free = heap.space.size - sym end i }; collection = None })
+-- the links of replicas are addresses, so none is above the mark
+pub below_the_mark : (c : CollectionWords) → IsCollection c → (a : ℕ) → is_start c.space.words a ≡ true → link_at c.space.words a - mark_of true ≡ 0
+below_the_mark c is a start =
+    let b = block_found_in (blocks c.space.words) a start in
+    let small : link_at c.space.words a < 2 ^ 32 = is.originals (replica_entry c.space.words (a, b.0)) (in_map (replica_entry c.space.words) (a, b.0) (blocks c.space.words) b.1) in
+    let mark : mark_of true ≡ 4294967296 = refl in
+    omega arith
 
 -- ---- words that refer to objects
 
@@ -82,7 +81,21 @@ word_fine words w address named = by (w == 0) refl (w % 2 == 1) refl named
 
 -- ---- the flip
 
-module _ (heap : HeapWords) (x : CollectionWords) (heap_is : IsHeap heap) (is : IsCollection x) (k : BelongsTo heap x) (ready : is_ready (collection_in x) (graph_in heap) ≡ true) where
+-- a space that differs from another one in links alone
+pub record HasObjectsOf (old new : SpaceWords) : Type 0 where
+  pub space : IsSpace new
+  pub size : new.size ≡ old.size
+  pub blocks : blocks new.words ≡ blocks old.words
+  pub end : end_of new ≡ end_of old
+
+pub without_its_links : (s : SpaceWords) → IsSpace s → HasObjectsOf s (without_links s)
+without_its_links s is = record { space = (cleared s is).0; size = refl; blocks = (cleared s is).1; end = end_cleared s is }
+
+pub with_its_links : (s : SpaceWords) → IsSpace s → HasObjectsOf s s
+with_its_links s is = record { space = is; size = refl; blocks = refl; end = refl }
+
+-- the heap gets this space, which has the objects of the collection's
+module _ (heap : HeapWords) (x : CollectionWords) (space : SpaceWords) (heap_is : IsHeap heap) (is : IsCollection x) (k : BelongsTo heap x) (ready : is_ready (collection_in x) (graph_in heap) ≡ true) (same : HasObjectsOf x.space space) where
   old_ok : IsSpaceGraph heap.space.size (free_in heap.space) (graph_in heap)
   old_ok = heap_graph heap heap_is
 
@@ -95,8 +108,8 @@ module _ (heap : HeapWords) (x : CollectionWords) (heap_is : IsHeap heap) (is : 
   address : (a : ℕ) → IsNamed (objects_of x.space.words) a → (1 ≤ a) × (a < 4294967295)
   address a n = named_address x.space.size (new_free (collection_in x)) (new_graph (collection_in x) (graph_in heap).roots) a new_ok (subst (λ os. IsNamed os a) (sym (new_objects_are x)) n)
 
-  here : (v : Value) → RefersTo (IsNamed (new_objects (collection_in x))) v → RefersTo (IsNamed (objects_of x.space.words)) v
-  here v h = subst (λ os. RefersTo (IsNamed os) v) (new_objects_are x) h
+  here_refers : (v : Value) → RefersTo (IsNamed (new_objects (collection_in x))) v → RefersTo (IsNamed (objects_of x.space.words)) v
+  here_refers v h = subst (λ os. RefersTo (IsNamed os) v) (new_objects_are x) h
 
   has_address : (v : Value) → RefersTo (IsNamed (objects_of x.space.words)) v → HasAddress v
   has_address Nil h = tt
@@ -134,12 +147,12 @@ module _ (heap : HeapWords) (x : CollectionWords) (heap_is : IsHeap heap) (is : 
   field_words e l = all_from_in (IsFieldWord x.space.words e.1.header) e.1.fields (λ w m.
       let o : In (object_entry e) (new_objects (collection_in x)) = subst (In (object_entry e)) (sym (new_objects_are x)) (in_map object_entry e (blocks x.space.words) l) in
       field_fine e.1.header w (λ raw. raw_small e l raw w m)
-      (here (field_value e.1.header w) ((new_ok.objects e.0 (object_of_block e.1) o).fields (field_value e.1.header w) (in_map (field_value e.1.header) w e.1.fields m))))
+      (here_refers (field_value e.1.header w) ((new_ok.objects e.0 (object_of_block e.1) o).fields (field_value e.1.header w) (in_map (field_value e.1.header) w e.1.fields m))))
 
   root_words : (w : ℕ) → In w (new_root_words heap (collection_in x)) → IsRootWord x.space.words w
   root_words w l =
       let v = in_map_from word_of w (new_graph (collection_in x) (graph_in heap).roots).roots l in
-      let refers = here v.0 (new_ok.roots v.0 v.1) in
+      let refers = here_refers v.0 (new_ok.roots v.0 v.1) in
       let back : value_of w ≡ v.0 = ap value_of (sym v.2) ∙ (meaning_back v.0 (has_address v.0 refers)).1 in
       word_fine x.space.words w address (subst (RefersTo (IsNamed (objects_of x.space.words))) (sym back) refers)
 
@@ -149,10 +162,10 @@ module _ (heap : HeapWords) (x : CollectionWords) (heap_is : IsHeap heap) (is : 
       ∙ length-map (graph_in heap).roots (moved (collection_in x))
       ∙ length-map heap.roots value_of
 
-  pub flipped_sound : IsHeap (record heap { space = without_links x.space; roots = new_root_words heap (collection_in x) })
+  pub flipped_sound : IsHeap (record heap { space = space; roots = new_root_words heap (collection_in x) })
   flipped_sound = record {
-    space = (cleared x.space is.space).0;
-    closed = closed_objects x.space.words (without_links x.space).words (new_root_words heap (collection_in x)) (cleared x.space is.space).1 (record {
+    space = same.space;
+    closed = closed_objects x.space.words space.words (new_root_words heap (collection_in x)) same.blocks (record {
       fields = all_from_in (λ (e : ℕ × Block). HasFieldWords x.space.words e.1) (blocks x.space.words) field_words;
       roots = all_from_in (IsRootWord x.space.words) (new_root_words heap (collection_in x)) root_words;
     });
@@ -160,20 +173,22 @@ module _ (heap : HeapWords) (x : CollectionWords) (heap_is : IsHeap heap) (is : 
     few = omega (arith, moved_count, heap_is.few);
   }
 
-  graph_after : graph_in (record heap { space = without_links x.space; roots = new_root_words heap (collection_in x) }) ≡ new_graph (collection_in x) (graph_in heap).roots
+  graph_after : graph_in (record heap { space = space; roots = new_root_words heap (collection_in x) }) ≡ new_graph (collection_in x) (graph_in heap).roots
   graph_after =
-      graph_cleared x.space (new_root_words heap (collection_in x)) is.space
-      ∙ (let objects = new_objects_are x in
-      let roots = roots_back (new_graph (collection_in x) (graph_in heap).roots).roots (λ v l. here v (new_ok.roots v l)) in
-      λ i. record { objects = sym objects i; roots = roots i })
+      let objects = new_objects_are x in
+      let here = ap (λ bs. map object_entry bs) same.blocks in
+      let roots = roots_back (new_graph (collection_in x) (graph_in heap).roots).roots (λ v l. here_refers v (new_ok.roots v l)) in
+      (λ i. record { objects = here i; roots = map value_of (new_root_words heap (collection_in x)) })
+      ∙ (λ i. record { objects = sym objects i; roots = roots i })
 
-  state_after : flipped (open_state heap x) (collection_in x) ≡ idle_state (record heap { space = without_links x.space; roots = new_root_words heap (collection_in x) })
+  state_after : flipped (open_state heap x) (collection_in x) ≡ idle_state (record heap { space = space; roots = new_root_words heap (collection_in x) })
   state_after =
       let graph = graph_after in
-      let end : new_end (collection_in x) ≡ end_of (without_links x.space) = new_end_is x is.space ∙ sym (end_cleared x.space is.space) in
-      λ i. record { mutators = heap.mutators; size = x.space.size; heap = record { graph = sym graph i; free = x.space.size - end i }; collection = None }
+      let end : new_end (collection_in x) ≡ end_of space = new_end_is x is.space ∙ sym same.end in
+      let size = same.size in
+      λ i. record { mutators = heap.mutators; size = sym size i; heap = record { graph = sym graph i; free = sym size i - end i }; collection = None }
 
-  pub flip_is : flip (open_state heap x) (collection_in x) ≡ (Flipped (length (pairs_of (collection_in x))), idle_state (record heap { space = without_links x.space; roots = new_root_words heap (collection_in x) }))
+  pub flip_is : flip (open_state heap x) (collection_in x) ≡ (Flipped (length (pairs_of (collection_in x))), idle_state (record heap { space = space; roots = new_root_words heap (collection_in x) }))
   flip_is =
       let count : length (pairs_of (collection_in x)) ≡ length (collection_in x).replicas = length-map (collection_in x).replicas (λ (r : Rattle.gc_plan.specs.State.Replica). (r.original, r.place)) in
       let state = state_after in

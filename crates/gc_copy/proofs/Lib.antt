@@ -4,6 +4,7 @@ pub mod Spaces
 pub mod OpenCollection
 pub mod RootWalks
 pub mod Logs
+pub mod Segments
 pub mod Scanning
 pub mod Applying
 pub mod ObjectWalks
@@ -11,7 +12,8 @@ mod FieldWords
 pub mod Flipping
 pub mod LinkedImages
 pub mod Dropping
+pub mod Lowering
 pub mod Mutating
 pub mod Opening
-pub mod Room
+pub mod LargeSpaces
 pub mod Public

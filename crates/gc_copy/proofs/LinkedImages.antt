@@ -1,8 +1,8 @@
 -- The images that a heap and its collection give the checker, and how commands change them.
-use Rattle.std.proofs.Common.{◌≡◌, ⊎_elim, inl, inr, ℕ, true, false, List, [], ◌∷◌, ◌++◌, map, flat_map, length, Option, Some, None, is_some, refl, ap, sym, ◌∙◌, subst}
+use Rattle.std.proofs.Common.{◌≡◌, ⊎_elim, inl, inr, ℕ, ◌-◌, ◌%◌, ◌≤◌, ◌<◌, Bool, true, false, List, [], ◌∷◌, ◌++◌, map, flat_map, length, Option, Some, None, is_some, refl, ap, sym, ◌∙◌, subst, arith}
 use Rattle.std.specs.Option.{option_map}
 use Rattle.std.proofs.lemmas.Bool.{cases_Bool}
-use Rattle.gc_graph.specs.Graph.{lookup}
+use Rattle.gc_graph.specs.Graph.{Object, lookup}
 use Rattle.gc_graph.specs.Machine.{Roomy, roomy_step}
 use Rattle.gc_graph.specs.declared.command.Op.{Op}
 use Rattle.gc_graph.specs.declared.reply.Reply.{Reply}
@@ -10,19 +10,24 @@ use Rattle.gc_words.specs.Image.{Block, blocks, block_at, is_start, objects_of, 
 use Rattle.gc_words.specs.Spelling.{block_words, spelled, no_links, link_at}
 use Rattle.gc_words.specs.Space.{SpaceWords, IsSpace, end_of, free_in, image_with}
 use Rattle.gc_words.specs.Certificate.{Certified}
-use Rattle.gc_words.proofs.Public.{object_found}
+use Rattle.gc_words.proofs.Public.{length_relinked, object_found, relinked}
 use Rattle.gc_heap.specs.Heap.{HeapWords, IsHeap, KeepsLinks, image_of, graph_in, roomy_in}
-use Rattle.gc_plan.specs.State.{Replica, pairs_of, replica_of}
-use Rattle.gc_plan.specs.Linked.{image_of_graph, block_entry, place_or_zero, original_or_zero, old_links, new_links, old_image, new_image}
+use Rattle.gc_plan.specs.State.{Replica, Collection, pairs_of, replica_of}
+use Rattle.gc_plan.specs.Linked.{image_of_graph, linked_image, block_entry, place_or_zero, original_or_zero, old_links, new_links, old_image, new_image, LeadsTo}
 use Rattle.gc_plan.specs.Steps.{written, is_ready}
 use Rattle.gc_plan.specs.Members.{In}
 use Rattle.gc_plan.specs.Belonging.{IsDue, Belongs, BelongsBut}
-use Rattle.gc_copy.specs.Words.{CollectionWords, IsCollection, replica_entry, collection_in, open_state, LinksReplicas, BelongsTo, BelongsToBut, HasNoLinks, new_root_words}
+use Rattle.gc_copy.specs.Words.{CollectionWords, IsCollection, replica_entry, collection_in, open_state, mark_of, LinksNothing, LinksReplicas, BelongsTo, BelongsToBut, HasNoLinks, new_root_words}
 use Rattle.gc_plan.proofs.Public.{in_map, replica_in, replicas_due, its_replicas, belongs_from, ready_parts, found_by_place, command_kept, certified}
-use Rattle.gc_copy.proofs.Words.{heap_graph, space_blocks, space_spelled, words_back}
+use Rattle.gc_copy.proofs.Words.{heap_graph, heap_image, space_blocks, space_spelled, words_back}
 use Rattle.gc_copy.proofs.Spaces.{in_start, new_objects_are}
+use Rattle.gc_copy.proofs.OpenCollection.{replica_address}
 
 -- ---- links
+
+-- each link is exactly the replica's place, or 0
+abbrev LinksExactly : HeapWords → Collection → Type 0
+LinksExactly heap c = (a : ℕ) → is_start heap.space.words a ≡ true → link_at heap.space.words a ≡ old_links c a
 
 -- equal objects with equal links have equal words
 pub spelled_agree : (links others : ℕ → ℕ) (bs : List (ℕ × Block)) → ((e : ℕ × Block) → In e bs → links e.0 ≡ others e.0) → flat_map (λ e. block_words (links e.0) e.1) bs ≡ flat_map (λ (e : ℕ × Block). block_words (others e.0) e.1) bs
@@ -41,9 +46,16 @@ links_told space links is told =
     ∙ ap (λ ws. 0 ∷ ws) (spelled_agree (link_at space.words) links (blocks space.words) told)
     ∙ ap (spelled links) (sym same)
 
-pub old_shown : (heap : HeapWords) (c : CollectionWords) → IsHeap heap → BelongsTo heap c → image_of heap ≡ old_image (open_state heap c) (collection_in c)
-old_shown heap c is k =
-    let all = links_told heap.space (old_links (collection_in c)) is.space (λ e l. k.links e.0 (in_start heap.space.words e l)) in
+-- links without a mark are what they have above it
+unmarked : (heap : HeapWords) (c : CollectionWords) → BelongsTo heap c → c.marked ≡ false → LinksExactly heap (collection_in c)
+unmarked heap c k plain a start =
+    let above : link_at heap.space.words a - mark_of false ≡ old_links (collection_in c) a = subst (λ m. LinksReplicas m heap (collection_in c)) plain k.links a start in
+    let none : mark_of false ≡ 0 = refl in
+    omega arith
+
+pub old_shown : (heap : HeapWords) (c : CollectionWords) → IsHeap heap → BelongsTo heap c → c.marked ≡ false → image_of heap ≡ old_image (open_state heap c) (collection_in c)
+old_shown heap c is k plain =
+    let all = links_told heap.space (old_links (collection_in c)) is.space (λ e l. unmarked heap c k plain e.0 (in_start heap.space.words e l)) in
     let rs = words_back heap.roots in
     λ i. record { size = heap.space.size; end = length (all i); words = all i; roots = sym rs i; raws = true }
 
@@ -63,9 +75,48 @@ new_shown heap c is k =
 pub shown_certified : (heap : HeapWords) (c : CollectionWords) → IsHeap heap → IsCollection c → BelongsTo heap c → is_ready (collection_in c) (graph_in heap) ≡ true
     → Certified (image_of heap) (image_with c.space (new_root_words heap (collection_in c))) (pairs_of (collection_in c))
 shown_certified heap c heap_is is k ready =
-    subst (λ x. Certified x (image_with c.space (new_root_words heap (collection_in c))) (pairs_of (collection_in c))) (sym (old_shown heap c heap_is k))
-    (subst (λ x. Certified (old_image (open_state heap c) (collection_in c)) x (pairs_of (collection_in c))) (sym (new_shown heap c is k))
-    (certified (old_links (collection_in c)) (new_links (collection_in c)) heap.space.size (free_in heap.space) (graph_in heap) (collection_in c) (heap_graph heap heap_is) k.belongs (is.space).size_high (ready_parts (collection_in c) (graph_in heap) ready)))
+    subst (λ x. Certified x (image_with c.space (new_root_words heap (collection_in c))) (pairs_of (collection_in c))) (sym (heap_image heap heap_is))
+    (subst (λ x. Certified (linked_image (link_at heap.space.words) heap.space.size (graph_in heap)) x (pairs_of (collection_in c))) (sym (new_shown heap c is k))
+    (certified (link_at heap.space.words) (new_links (collection_in c)) heap.space.size (free_in heap.space) (graph_in heap) (collection_in c) (heap_graph heap heap_is) k.belongs (is.space).size_high (ready_parts (collection_in c) (graph_in heap) ready)))
+
+-- an object with a replica starts in the heap
+starts : (heap : HeapWords) (c : CollectionWords) (a : ℕ) (r : Replica) → BelongsTo heap c → replica_of (collection_in c) a ≡ Some r → is_start heap.space.words a ≡ true
+starts heap c a r k e =
+    let l = replica_in (collection_in c) a r e in
+    let ok = (k.belongs).replicas r l.0 in
+    let found : lookup (graph_in heap).objects a ≡ Some ok.original = subst (λ n. lookup (graph_in heap).objects n ≡ Some ok.original) l.1 ok.found in
+    there (block_at heap.space.words a) ok.original (sym (object_found heap.space.words a) ∙ found)
+  where
+    there : (o : Option Block) (object : Object) → option_map object_of_block o ≡ Some object → is_some o ≡ true
+    there None object e = absurd (let no : None ≡ Some object = e in cc)
+    there (Some b) object e = refl
+
+-- links lead to the replicas, whether or not they are marked
+pub linked : (heap : HeapWords) (c : CollectionWords) → BelongsTo heap c → IsCollection c → LeadsTo (link_at heap.space.words) (collection_in c)
+linked heap c k is a r e =
+    let above : link_at heap.space.words a - mark_of c.marked ≡ r.place = k.links a (starts heap c a r k e) ∙ ap place_or_zero e in
+    let range : (1 ≤ r.place) × (r.place < 4294967295) = replica_address (graph_in heap).objects c r is k.belongs (replica_in (collection_in c) a r e).0 in
+    by c.marked refl above range
+  where
+    by : (marked : Bool) → c.marked ≡ marked → link_at heap.space.words a - mark_of c.marked ≡ r.place → (1 ≤ r.place) × (r.place < 4294967295) → link_at heap.space.words a % 4294967296 ≡ r.place
+    by true m above range = let mark : mark_of c.marked ≡ 4294967296 = ap mark_of m in omega arith
+    by false m above range = let mark : mark_of c.marked ≡ 0 = ap mark_of m in omega arith
+
+-- a heap's words with other links are a space with the same objects
+pub other_links : (heap : HeapWords) → IsHeap heap → (links : ℕ → ℕ) → let words = (linked_image links heap.space.size (graph_in heap)).words in
+    IsSpace (record heap.space { words = words }) × (blocks words ≡ blocks heap.space.words) × (length words ≡ length heap.space.words)
+other_links heap is links =
+    let space = is.space in
+    let same = space_blocks heap.space space in
+    subst (λ (entries : List (ℕ × Block)). IsSpace (record heap.space { words = spelled links entries }) × (blocks (spelled links entries) ≡ blocks heap.space.words) × (length (spelled links entries) ≡ length heap.space.words)) (sym same)
+    ((relinked links heap.space space).0, (relinked links heap.space space).1, length_relinked links heap.space.words space.walked space.end_low space.reserved)
+
+-- a heap's words with its links lowered are its image with the links that they then are
+pub lowered_words : (heap : HeapWords) (links : ℕ → ℕ) (mark : ℕ) → IsHeap heap → ((a : ℕ) → is_start heap.space.words a ≡ true → link_at heap.space.words a - mark ≡ links a)
+    → spelled (λ a. link_at heap.space.words a - mark) (blocks heap.space.words) ≡ (linked_image links heap.space.size (graph_in heap)).words
+lowered_words heap links mark is told =
+    ap (λ ws. 0 ∷ ws) (spelled_agree (λ a. link_at heap.space.words a - mark) links (blocks heap.space.words) (λ e l. told e.0 (in_start heap.space.words e l)))
+    ∙ ap (spelled links) (sym (space_blocks heap.space is.space))
 
 -- ---- commands
 
@@ -86,10 +137,10 @@ no_link heap c a k none = from (replica_of (collection_in c) a) refl
         absent None e = refl
         absent (Some b) e = absurd (let no : true ≡ false = e in cc)
 
-links_kept : (heap new : HeapWords) (c : CollectionWords) → BelongsTo heap c → KeepsLinks heap.space.words new.space.words → LinksReplicas new (collection_in c)
+links_kept : (heap new : HeapWords) (c : CollectionWords) → BelongsTo heap c → KeepsLinks heap.space.words new.space.words → LinksReplicas c.marked new (collection_in c)
 links_kept heap new c k kept a there = ⊎_elim
-    (λ t. kept.kept a t ∙ k.links a t)
-    (λ f. kept.fresh a f there ∙ sym (no_link heap c a k f))
+    (λ t. ap (λ l. l - mark_of c.marked) (kept.kept a t) ∙ k.links a t)
+    (λ f. let fresh : link_at new.space.words a ≡ 0 = kept.fresh a f there in let none : link_at new.space.words a - mark_of c.marked ≡ 0 = omega arith in none ∙ sym (no_link heap c a k f))
     (cases_Bool (is_start heap.space.words a))
 
 pub command_leaves : (heap new : HeapWords) (c : CollectionWords) (m : ℕ) (op : Op) (reply : Reply) → BelongsTo heap c → KeepsLinks heap.space.words new.space.words → new.mutators ≡ heap.mutators
@@ -112,3 +163,9 @@ nothing_left heap c k = record { belongs = same; links = k.links; logs = k.logs 
 -- a command sets no link
 pub no_links_kept : (heap new : HeapWords) → HasNoLinks heap → KeepsLinks heap.space.words new.space.words → HasNoLinks new
 no_links_kept heap new none kept a there = ⊎_elim (λ t. kept.kept a t ∙ none a t) (λ f. kept.fresh a f there) (cases_Bool (is_start heap.space.words a))
+
+pub nothing_linked : (heap new : HeapWords) (marked : Bool) → LinksNothing marked heap → KeepsLinks heap.space.words new.space.words → LinksNothing marked new
+nothing_linked heap new marked none kept a there = ⊎_elim
+    (λ t. ap (λ l. l - mark_of marked) (kept.kept a t) ∙ none a t)
+    (λ f. let fresh : link_at new.space.words a ≡ 0 = kept.fresh a f there in omega arith)
+    (cases_Bool (is_start heap.space.words a))

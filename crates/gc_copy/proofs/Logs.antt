@@ -62,10 +62,10 @@ entry_dropped c m log later there less =
     λ i. record (collection_in c) { logs = logs i }
 
 -- a collection still belongs to the heap when a log gains room
-pub same_belongs : (heap : HeapWords) (c next : CollectionWords) → collection_in next ≡ collection_in c → length next.logs ≡ length c.logs → BelongsTo heap c → BelongsTo heap next
-same_belongs heap c next same count k = record {
+pub same_belongs : (heap : HeapWords) (c next : CollectionWords) → collection_in next ≡ collection_in c → next.marked ≡ c.marked → length next.logs ≡ length c.logs → BelongsTo heap c → BelongsTo heap next
+same_belongs heap c next same marks count k = record {
   belongs = subst (Belongs (graph_in heap).objects) (sym same) k.belongs;
-  links = subst (LinksReplicas heap) (sym same) k.links;
+  links = subst (λ m. LinksReplicas m heap (collection_in next)) (sym marks) (subst (LinksReplicas c.marked heap) (sym same) k.links);
   logs = count ∙ k.logs;
 }
 
@@ -73,11 +73,11 @@ only : (objects : List (ℕ × Object)) (a f : ℕ) → HasField objects a f →
 only objects a f field b j (inl e) = subst (λ (p : ℕ × ℕ). HasField objects p.0 p.1) e field
 only objects a f field b j (inr none) = absurd none
 
-pub noted_belongs : (heap : HeapWords) (c next : CollectionWords) (m a f : ℕ) → m < length c.logs → collection_in next ≡ with_log (collection_in c) m (log_at (collection_in c) m ++ (a, f) ∷ []) → length next.logs ≡ length c.logs
+pub noted_belongs : (heap : HeapWords) (c next : CollectionWords) (m a f : ℕ) → m < length c.logs → collection_in next ≡ with_log (collection_in c) m (log_at (collection_in c) m ++ (a, f) ∷ []) → next.marked ≡ c.marked → length next.logs ≡ length c.logs
     → HasField (graph_in heap).objects a f → BelongsToBut ((a, f) ∷ []) heap c → BelongsTo heap next
-noted_belongs heap c next m a f less same count field k = record {
+noted_belongs heap c next m a f less same marks count field k = record {
   belongs = subst (Belongs (graph_in heap).objects) (sym same) (belongs_noted (graph_in heap).objects (collection_in c) m ((a, f) ∷ []) (let n = length-map c.logs entries_of in omega arith) k.belongs (only (graph_in heap).objects a f field));
-  links = subst (LinksReplicas heap) (sym same) k.links;
+  links = subst (λ m. LinksReplicas m heap (collection_in next)) (sym marks) (subst (LinksReplicas c.marked heap) (sym same) k.links);
   logs = count ∙ k.logs;
 }
 

@@ -1,5 +1,5 @@
 -- The code of a mutator's command with its write barrier.
-use Rattle.std.proofs.Common.{◌≡◌, ◌≢◌, inl, ℕ, zero, suc, ◌-◌, List, [], ◌∷◌, ◌++◌, Option, Some, None, refl, ap, sym, ◌∙◌, subst, arith, append-nil}
+use Rattle.std.proofs.Common.{◌≡◌, ◌≢◌, inl, ℕ, zero, suc, ◌-◌, Bool, List, [], ◌∷◌, ◌++◌, Option, Some, None, refl, ap, sym, ◌∙◌, subst, arith, append-nil}
 use Rattle.std.specs.Prelude.{slice_get, slice_set}
 use Rattle.std.specs.Option.{option_to_list}
 use Rattle.gc_graph.specs.Machine.{Roomy, roomy_step}
@@ -17,9 +17,9 @@ use Rattle.gc_graph.specs.Slots.{SlotName}
 use Rattle.gc_copy.specs.Internal.Entries.{if_done}
 use Rattle.gc_plan.specs.Members.{In}
 use Rattle.gc_plan.specs.Belonging.{HasField}
-use Rattle.gc_copy.specs.Words.{CollectionWords, collection_in, idle_state, open_state, HasNoLinks, BelongsTo, BelongsToBut}
+use Rattle.gc_copy.specs.Words.{CollectionWords, collection_in, idle_state, open_state, LinksNothing, BelongsTo, BelongsToBut}
 use Rattle.gc_plan.proofs.Public.{field_there}
-use Rattle.gc_copy.proofs.LinkedImages.{command_leaves, nothing_left, no_links_kept}
+use Rattle.gc_copy.proofs.LinkedImages.{command_leaves, nothing_left, nothing_linked}
 
 -- appending nothing does not change a log
 set_kept : (logs : List (List (ℕ × ℕ))) (m : ℕ) → slice_set logs m (log_or_nil (slice_get logs m) ++ []) ≡ logs
@@ -111,15 +111,15 @@ open_left heap new c m op reply is belongs none performs = (
   nothing_belongs heap new c m op reply belongs performs.links performs.mutators performs.step (no_put (graph_in heap) m op reply none),
 )
 
-pub idle_left : (heap new : HeapWords) (m : ℕ) (op : Op) (reply : Reply) → IsHeap heap → HasNoLinks heap → Performs heap m op reply new
-    → (mutate (idle_state heap) m op ≡ (reply, idle_state new)) × HasNoLinks new
-idle_left heap new m op reply is none performs =
+pub idle_left : (heap new : HeapWords) (m : ℕ) (op : Op) (reply : Reply) → IsHeap heap → Performs heap m op reply new → mutate (idle_state heap) m op ≡ (reply, idle_state new)
+idle_left heap new m op reply is performs =
     let end : heap.space.size - (heap.space.size - end_of heap.space) ≡ end_of heap.space = (let high = (is.space).end_high in omega arith) in
     let steps : roomy_step (roomy_in heap) m op (heap.space.size - (heap.space.size - end_of heap.space)) ≡ (reply, roomy_in new) = ap (roomy_step (roomy_in heap) m op) end ∙ performs.step in
-    let left : Reply × Roomy → Reply × State = λ x. (x.0, record (idle_state heap) { heap = x.1 }) in (
-      ap left steps ∙ (λ i. (reply, record { mutators = sym performs.mutators i; size = sym performs.size i; heap = roomy_in new; collection = None })),
-      no_links_kept heap new none performs.links,
-    )
+    let left : Reply × Roomy → Reply × State = λ x. (x.0, record (idle_state heap) { heap = x.1 }) in
+    ap left steps ∙ (λ i. (reply, record { mutators = sym performs.mutators i; size = sym performs.size i; heap = roomy_in new; collection = None }))
+
+pub still_unlinked : (marked : Bool) (heap new : HeapWords) (m : ℕ) (op : Op) (reply : Reply) → Performs heap m op reply new → LinksNothing marked heap → LinksNothing marked new
+still_unlinked marked heap new m op reply performs none = nothing_linked heap new marked none performs.links
 
 -- a command other than `Put` writes no field
 pub no_other_writes : (op : Op) → ((s : SlotName) (i : ℕ) (t : SlotName) → op ≡ ops.Put s i t → ⊥) → ¬ WritesField op

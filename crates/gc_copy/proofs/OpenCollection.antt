@@ -10,7 +10,7 @@ use Rattle.gc_heap.proofs.Public.{named}
 use Rattle.gc_graph.specs.Graph.{Value, Nil, Num, Ref, Object, Graph, lookup, field_of}
 use Rattle.gc_words.specs.Word.{HasAddress, word_of, field_value}
 use Rattle.gc_words.specs.Word.{value_of}
-use Rattle.gc_words.specs.Image.{walk_words, Block, fresh_block, header_of, block_in, block_at, is_start, header_at, field_in, field_at, object_of_block, objects_of}
+use Rattle.gc_words.specs.Image.{walk_words, Block, blocks, fresh_block, header_of, block_in, block_at, is_start, header_at, field_in, field_at, object_of_block, objects_of}
 use Rattle.gc_words.specs.Spelling.{link_at, IsBlock}
 use Rattle.gc_words.specs.Layout.{link_place, field_place}
 use Rattle.gc_words.specs.Space.{SpaceWords, IsSpace, HasRoomFor, end_of, free_in, with_block, with_word}
@@ -25,14 +25,14 @@ use Rattle.gc_plan.specs.Steps.{fresh_replica, place_replica, with_replica, with
 use Rattle.gc_plan.specs.Members.{In}
 use Rattle.gc_plan.proofs.Public.{in_push, in_right, in_map, in_map_from, find_exists, get_within, get_past, laid_range, lookup_laid, placed, place_written, with_written_pair, replica_in, open_keeps, placing_keeps, bringing_keeps}
 use Rattle.gc_plan.specs.Belonging.{IsDue, Belongs, IsOpen, IsOpened}
-use Rattle.gc_copy.specs.Words.{CollectionWords, IsCollection, entries_of, replicas_in, collection_in, state_of, open_state, LinksReplicas, BelongsTo}
+use Rattle.gc_copy.specs.Words.{CollectionWords, IsCollection, entries_of, replicas_in, collection_in, state_of, open_state, mark_of, LinksReplicas, BelongsTo}
 use Rattle.gc_plan.specs.Staying.{HasReplicaOf}
 use Rattle.gc_copy.specs.Internal.Words.{replica_block, KeepsGraph, KeepsRest}
 use Rattle.gc_plan.specs.declared.step.Step.{Step}
 use Rattle.gc_plan.specs.declared.step.Step.TheVariants as steps
 use Rattle.gc_plan.specs.declared.step.StepReply.{StepReply}
 use Rattle.gc_copy.proofs.Words.{word_back}
-use Rattle.gc_copy.proofs.Spaces.{replica_at_end, replica_block_object, space_placed, space_written, new_objects_are, new_end_is}
+use Rattle.gc_copy.proofs.Spaces.{count_placed, replica_at_end, replica_block_object, space_placed, space_written, new_objects_are, new_end_is}
 
 -- ---- the heap without its links
 
@@ -75,7 +75,7 @@ pub opened : (heap : HeapWords) (c : CollectionWords) → IsCollection c → Bel
 opened heap c is k = record { belongs = k.belongs; size = (is.space).size_high; logs = length-map c.logs entries_of ∙ k.logs }
 
 -- a collection belongs to the heap of words if it belongs to the state and the links lead to its replicas
-pub closed : (heap new : HeapWords) (before after : CollectionWords) → KeepsGraph heap new → BelongsTo heap before → length after.logs ≡ length before.logs → IsOpened (open_state heap before) (collection_in after) → LinksReplicas new (collection_in after) → BelongsTo new after
+pub closed : (heap new : HeapWords) (before after : CollectionWords) → KeepsGraph heap new → BelongsTo heap before → length after.logs ≡ length before.logs → IsOpened (open_state heap before) (collection_in after) → LinksReplicas after.marked new (collection_in after) → BelongsTo new after
 closed heap new before after same k count is links = record {
   belongs = subst (λ (g : Graph). Belongs g.objects (collection_in after)) (sym (graph_kept heap new same)) is.belongs;
   links = links;
@@ -84,7 +84,7 @@ closed heap new before after same k count is links = record {
 
 -- after a step other than a flip
 pub after_step : (heap new : HeapWords) (c next : CollectionWords) (step : Step) (reply : StepReply) → step ≢ steps.Flip → IsCollection c → BelongsTo heap c → KeepsGraph heap new → length next.logs ≡ length c.logs
-    → collect (open_state heap c) step ≡ (reply, open_state new next) → LinksReplicas new (collection_in next) → BelongsTo new next
+    → collect (open_state heap c) step ≡ (reply, open_state new next) → LinksReplicas next.marked new (collection_in next) → BelongsTo new next
 after_step heap new c next step reply other is k same count e links =
     closed heap new c next same k count
     (subst (λ (x : StepReply × State). IsOpen (open_state heap c) x.1.collection) e (open_keeps (open_state heap c) (collection_in c) step refl (opened heap c is k) other))
@@ -119,17 +119,20 @@ links_written c name i a v = zero_of_none (replica_of (write_replica c name i v)
 
 -- ---- a replica is placed
 
-links_placed : (heap : HeapWords) (c : Collection) (r : Replica) → IsHeap heap → is_start heap.space.words r.original ≡ true → LinksReplicas heap c → replica_of c r.original ≡ None
-    → LinksReplicas (record heap { space = with_word heap.space (link_place r.original) r.place }) (record c { replicas = c.replicas ++ r ∷ [] })
-links_placed heap c r is start links none a there = ⊎_elim
+links_placed : (heap : HeapWords) (marked : Bool) (c : Collection) (r : Replica) → IsHeap heap → is_start heap.space.words r.original ≡ true → LinksReplicas marked heap c → replica_of c r.original ≡ None
+    → LinksReplicas marked (record heap { space = with_word heap.space (link_place r.original) (mark_of marked + r.place) }) (record c { replicas = c.replicas ++ r ∷ [] })
+links_placed heap marked c r is start links none a there = ⊎_elim
     (λ t.
     let here : r.original ≡ a = eqb-true r.original a t in
     let found : replica_of (record c { replicas = c.replicas ++ r ∷ [] }) a ≡ Some r = find_push (λ (q : Replica). q.original == a) c.replicas r (subst (λ n. replica_of c n ≡ None) here none) t in
-    subst (λ n. link_at (with_word heap.space (link_place r.original) r.place).words n ≡ r.place) here (link_written_there heap.space r.original r.place is.space start) ∙ sym (ap place_or_zero found))
+    let written : link_at (with_word heap.space (link_place r.original) (mark_of marked + r.place)).words a ≡ mark_of marked + r.place
+    = subst (λ n. link_at (with_word heap.space (link_place r.original) (mark_of marked + r.place)).words n ≡ mark_of marked + r.place) here (link_written_there heap.space r.original (mark_of marked + r.place) is.space start) in
+    let above : link_at (with_word heap.space (link_place r.original) (mark_of marked + r.place)).words a - mark_of marked ≡ r.place = omega arith in
+    above ∙ sym (ap place_or_zero found))
     (λ f.
     let found : replica_of (record c { replicas = c.replicas ++ r ∷ [] }) a ≡ replica_of c a = find_push_other (λ (q : Replica). q.original == a) c.replicas r f in
-    let old : is_start heap.space.words a ≡ true = sym (start_kept heap (record heap { space = with_word heap.space (link_place r.original) r.place }) a (linked_heap heap r.original r.place is start)) ∙ there in
-    link_written_beside heap.space r.original r.place a (eqb-false r.original a f) ∙ links a old ∙ sym (ap place_or_zero found))
+    let old : is_start heap.space.words a ≡ true = sym (start_kept heap (record heap { space = with_word heap.space (link_place r.original) (mark_of marked + r.place) }) a (linked_heap heap r.original (mark_of marked + r.place) is start)) ∙ there in
+    ap (λ l. l - mark_of marked) (link_written_beside heap.space r.original (mark_of marked + r.place) a (eqb-false r.original a f)) ∙ links a old ∙ sym (ap place_or_zero found))
     (cases_Bool (r.original == a))
 
 can_place_replica : (s : SpaceWords) (b : Block) → IsSpace s → IsBlock b → HasRoomFor s b.header.len → CanPlaceBlock s (replica_block b)
@@ -152,6 +155,7 @@ pub record Placing (heap new : HeapWords) (c next : CollectionWords) (name : ℕ
   pub belongs : BelongsTo new next
   pub graph : KeepsGraph heap new
   pub rest : KeepsRest c next
+  pub counted : (n : ℕ) → n ≡ length (blocks c.space.words) → n + 1 ≡ length (blocks next.space.words)
 
 module _ (heap : HeapWords) (c : CollectionWords) (name : ℕ) (h : Header) (heap_is : IsHeap heap) (is : IsCollection c) (header : header_at heap.space.words name ≡ Some h) where
   abbrev pub block : (b : Block) × (block_at heap.space.words name ≡ Some b) × (b.header ≡ h)
@@ -182,7 +186,7 @@ module _ (heap : HeapWords) (c : CollectionWords) (name : ℕ) (h : Header) (hea
   small = let fits = stands.fits in let count = (heap_is.space).count in let high = (heap_is.space).end_high in let size = (heap_is.space).size_high in omega arith
 
   pub placing : BelongsTo heap c → is_start heap.space.words name ≡ true → replica_of (collection_in c) name ≡ None → HasRoomFor c.space h.len
-      → Placing heap (record heap { space = with_word heap.space (link_place name) (end_of c.space) }) c (record c { space = with_word (with_block c.space (replica_block block.0)) (link_place (end_of c.space)) name }) name
+      → Placing heap (record heap { space = with_word heap.space (link_place name) (mark_of c.marked + end_of c.space) }) c (record c { space = with_word (with_block c.space (replica_block block.0)) (link_place (end_of c.space)) name }) name
   placing k start none room = record {
     sound = record {
       space = made.0;
@@ -193,18 +197,19 @@ module _ (heap : HeapWords) (c : CollectionWords) (name : ℕ) (h : Header) (hea
           (in_push r (replica_at_end c.space (replica_block block.0) name) (replicas_in c.space.words) (subst (In r) made.1 l));
     };
     placed = step;
-    belongs = closed heap next_heap c next (linked_heap heap name (end_of c.space) heap_is start) k refl
+    belongs = closed heap next_heap c next (linked_heap heap name (mark_of c.marked + end_of c.space) heap_is start) k refl
         (placing_keeps (open_state heap c) (collection_in c) (collection_in next) name (opened heap c is k) none step)
-        (subst (LinksReplicas next_heap) (sym grown) (links_placed heap (collection_in c) (replica_at_end c.space (replica_block block.0) name) heap_is start k.links none));
-    graph = linked_heap heap name (end_of c.space) heap_is start;
-    rest = record { size = refl; logs = refl; scan_place = refl; scan_field = refl };
+        (subst (LinksReplicas c.marked next_heap) (sym grown) (links_placed heap c.marked (collection_in c) (replica_at_end c.space (replica_block block.0) name) heap_is start k.links none));
+    graph = linked_heap heap name (mark_of c.marked + end_of c.space) heap_is start;
+    rest = record { size = refl; logs = refl; scan_place = refl; scan_field = refl; marked = refl };
+    counted = λ n e. count_placed n c.space.words next.space.words (replica_at_end c.space (replica_block block.0) name) e made.1;
   }
     where
       next : CollectionWords
       next = record c { space = with_word (with_block c.space (replica_block block.0)) (link_place (end_of c.space)) name }
 
       next_heap : HeapWords
-      next_heap = record heap { space = with_word heap.space (link_place name) (end_of c.space) }
+      next_heap = record heap { space = with_word heap.space (link_place name) (mark_of c.marked + end_of c.space) }
 
       made : IsSpace (next.space) × (replicas_in next.space.words ≡ replicas_in c.space.words ++ replica_at_end c.space (replica_block block.0) name ∷ [])
       made = space_placed c.space (replica_block block.0) name (can_place_replica c.space block.0 is.space stands.whole (subst (λ (k : Header). HasRoomFor c.space k.len) (sym block.2) room))
@@ -277,7 +282,7 @@ bringing objects c name i w place v is belongs found there means = from (replica
                 subst (λ n. n < 2 ^ 32) o (is.originals k.0 k.1);
           };
           copied = λ j. record (collection_in c) { replicas = made.1 j };
-          rest = record { size = refl; logs = refl; scan_place = refl; scan_field = refl };
+          rest = record { size = refl; logs = refl; scan_place = refl; scan_field = refl; marked = refl };
         }
 
     from : (o : Option Replica) → replica_of (collection_in c) name ≡ o → option_map (λ r. r.place) o ≡ Some place → Bringing c (record c { space = with_word c.space (field_place place i) w }) name i v
@@ -423,14 +428,14 @@ kept_replica c next g v a place e found = by v e
         at true t e = same (let f : Some c ≡ Some next = e in cc)
         at false t e = grown name (lookup g.objects name) (none_of (replica_of c name) t) e
 
--- an object's link is its replica's address, or 0
+-- what an object's link has above the mark is its replica's address, or 0
 pub record Tells (c : CollectionWords) (a link : ℕ) : Type 0 where
   pub small : link < 2 ^ 32
   pub none : link ≡ 0 → option_map (λ r. r.place) (replica_of (collection_in c) a) ≡ None
   pub some : (link ≡ 0 → ⊥) → option_map (λ r. r.place) (replica_of (collection_in c) a) ≡ Some link
   pub address : (link ≡ 0 → ⊥) → (1 ≤ link) × (link < 4294967295)
 
-pub link_tells : (heap : HeapWords) (c : CollectionWords) (a link : ℕ) → IsCollection c → BelongsTo heap c → is_start heap.space.words a ≡ true → link ≡ link_at heap.space.words a → Tells c a link
+pub link_tells : (heap : HeapWords) (c : CollectionWords) (a link : ℕ) → IsCollection c → BelongsTo heap c → is_start heap.space.words a ≡ true → link ≡ link_at heap.space.words a - mark_of c.marked → Tells c a link
 link_tells heap c a link is k start e = from (replica_of (collection_in c) a) refl (e ∙ k.links a start)
   where
     from : (o : Option Replica) → replica_of (collection_in c) a ≡ o → link ≡ place_or_zero o → Tells c a link
@@ -448,15 +453,15 @@ link_tells heap c a link is k start e = from (replica_of (collection_in c) a) re
 -- the code that places a replica, from the clauses of its calls
 pub placing_done : (heap new : HeapWords) (c next : CollectionWords) (name end link place : ℕ) (h : Header) (one : SpaceWords) → IsHeap heap → IsCollection c → BelongsTo heap c → is_start heap.space.words name ≡ true → replica_of (collection_in c) name ≡ None
     → header_at heap.space.words name ≡ Some h → HasRoomFor c.space h.len
-    → end ≡ end_of c.space → ((b : Block) → block_at heap.space.words name ≡ Some b → one ≡ with_block c.space (replica_block b)) → link ≡ name → next ≡ record c { space = with_word one (link_place end) link } → place ≡ end → new ≡ record heap { space = with_word heap.space (link_place name) place }
+    → end ≡ end_of c.space → ((b : Block) → block_at heap.space.words name ≡ Some b → one ≡ with_block c.space (replica_block b)) → link ≡ name → next ≡ record c { space = with_word one (link_place end) link } → place ≡ mark_of c.marked + end → new ≡ record heap { space = with_word heap.space (link_place name) place }
     → Placing heap new c next name
 placing_done heap new c next name end link place h one heap_is is k start none header room at made linked after there heap_after =
     let b = block_of_header heap.space.words name h header in
     let placed_one : one ≡ with_block c.space (replica_block b.0) = made b.0 b.1 in
     let next_is : next ≡ record c { space = with_word (with_block c.space (replica_block b.0)) (link_place (end_of c.space)) name } = after ∙ (λ i. record c { space = with_word (placed_one i) (link_place (at i)) (linked i) }) in
-    let new_is : new ≡ record heap { space = with_word heap.space (link_place name) (end_of c.space) } = heap_after ∙ ap (λ n. record heap { space = with_word heap.space (link_place name) n }) (there ∙ at) in
+    let new_is : new ≡ record heap { space = with_word heap.space (link_place name) (mark_of c.marked + end_of c.space) } = heap_after ∙ ap (λ n. record heap { space = with_word heap.space (link_place name) n }) (there ∙ ap (λ n. mark_of c.marked + n) at) in
     let done = placing heap c name h heap_is is header k start none room in
-    subst (λ x. Placing heap x c next name) (sym new_is) (subst (λ x. Placing heap (record heap { space = with_word heap.space (link_place name) (end_of c.space) }) c x name) (sym next_is) done)
+    subst (λ x. Placing heap x c next name) (sym new_is) (subst (λ x. Placing heap (record heap { space = with_word heap.space (link_place name) (mark_of c.marked + end_of c.space) }) c x name) (sym next_is) done)
 
 -- ---- results
 
@@ -521,7 +526,7 @@ module _ (heap new : HeapWords) (c one x : CollectionWords) (name i w place : �
         (bringing_keeps (open_state new x) (collection_in x) (collection_in after_words) name i (opened new x is belongs_here)
         (brought (graph_in new) (collection_in x) (collection_in x) name i (value_of w) (plain_value_is new name i w plain_new field_new) (replicated_already (collection_in x) (graph_in new) w has_here) ∙ ap Some (sym copied)))
         (λ a start. (belongs_here.links) a start ∙ sym (links_written (collection_in x) name i a (moved (collection_in x) (value_of w))) ∙ sym (ap (λ d. old_links d a) copied));
-    rest = subst (λ (y : CollectionWords). KeepsRest c (record y { space = with_word y.space (field_place place i) moved_word })) (sym seen) (record { size = rest.size; logs = rest.logs; scan_place = rest.scan_place; scan_field = rest.scan_field });
+    rest = subst (λ (y : CollectionWords). KeepsRest c (record y { space = with_word y.space (field_place place i) moved_word })) (sym seen) (record { size = rest.size; logs = rest.logs; scan_place = rest.scan_place; scan_field = rest.scan_field; marked = rest.marked });
   })
     where
       after_words : CollectionWords
@@ -563,7 +568,7 @@ module _ (heap : HeapWords) (c x : CollectionWords) (name i w place : ℕ) (heap
     belongs = closed heap heap x after_words (same_graph heap) belongs_raw refl
         (bringing_keeps (open_state heap x) (collection_in x) (collection_in after_words) name i (opened heap x is belongs_raw) step)
         (λ a start. (belongs_raw.links) a start ∙ sym (links_written (collection_in x) name i a (Num w)) ∙ sym (ap (λ d. old_links d a) made.copied));
-    rest = record { size = refl; logs = refl; scan_place = refl; scan_field = refl };
+    rest = record { size = refl; logs = refl; scan_place = refl; scan_field = refl; marked = refl };
   }))
     where
       after_words : CollectionWords

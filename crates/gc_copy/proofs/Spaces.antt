@@ -1,15 +1,15 @@
 -- The replicas in the words of a space, and what writes do to them.
-use Rattle.std.proofs.Common.{◌≡◌, ⊎_elim, inl, inr, ℕ, ◌-◌, ◌==◌, Bool, true, false, cond, length, List, [], ◌∷◌, ◌++◌, map, Option, Some, None, is_some, refl, ap, sym, ◌∙◌, subst, arith}
+use Rattle.std.proofs.Common.{◌≡◌, ⊎_elim, inl, inr, ℕ, suc, ◌+◌, ◌-◌, ◌<◌, ◌≤◌, ◌==◌, Bool, true, false, cond, length, List, [], ◌∷◌, ◌++◌, map, Option, Some, None, is_some, refl, ap, sym, ◌∙◌, subst, arith, length-append}
 use Rattle.std.specs.Prelude.{IsSome}
 use Rattle.std.proofs.lemmas.Bool.{cases_Bool, cond-true, cond-false, eq-eqb}
 use Rattle.std.proofs.lemmas.List.{length-map, map-append}
 use Rattle.gc_graph.specs.Graph.{Value, Num, Object, lookup, set_field, new_object}
 use Rattle.gc_words.specs.Word.{value_of, field_value}
-use Rattle.gc_words.specs.Image.{Block, blocks, block_in, block_at, is_start, field_at, fresh_block, set_block, object_of_block, object_entry, objects_of}
-use Rattle.gc_words.specs.Spelling.{link_at, IsBlock}
+use Rattle.gc_words.specs.Image.{Block, blocks, block_in, block_at, is_start, field_at, fresh_block, with_field_word, set_block, object_of_block, object_entry, objects_of}
+use Rattle.gc_words.specs.Spelling.{block_words, spelled_from, link_at, IsBlock}
 use Rattle.gc_words.specs.Layout.{link_place, field_place}
 use Rattle.gc_words.specs.Space.{SpaceWords, IsSpace, end_of, free_in, with_block, with_word}
-use Rattle.gc_words.proofs.Public.{objects_set, CanPlaceBlock, block_placed, field_written, link_written, none_at_end, block_there, link_placed_beside, link_beside_field, link_written_there, link_written_beside, object_found, fresh_object as new_block_object}
+use Rattle.gc_words.proofs.Public.{spelled_words, objects_set, CanPlaceBlock, block_placed, field_written, link_written, none_at_end, block_there, link_placed_beside, link_beside_field, link_written_there, link_written_beside, object_found, fresh_object as new_block_object}
 use Rattle.gc_plan.specs.State.{Replica, Collection, new_objects, new_end, replica_of, fresh_object}
 use Rattle.gc_plan.specs.Steps.{with_written, write_replica}
 use Rattle.gc_copy.specs.Words.{CollectionWords, replica_entry, replicas_in, collection_in}
@@ -193,3 +193,38 @@ space_written Due objects c name i w r v is belongs found there means = (done.0,
         ∙ ap (set_field (objects_of c.space.words) r.place i) (ap (λ (o : Object). cond o.raw (Num w) (value_of w)) same_object ∙ means)
         ∙ ap (λ os. set_field os r.place i v) (sym (new_objects_are c))
         ∙ sym (write_is_set Due objects (collection_in c) belongs name i v r found)
+
+-- ---- how many objects a space has
+
+set_block_keeps_count : (bs : List (ℕ × Block)) (place i w : ℕ) → length (set_block bs place i w) ≡ length bs
+set_block_keeps_count [] place i w = refl
+set_block_keeps_count (e ∷ bs) place i w = ⊎_elim
+    (λ t. ap length (cond-true (e.0 == place) ((e.0, with_field_word e.1 i w) ∷ bs) (e ∷ set_block bs place i w) t))
+    (λ f. ap length (cond-false (e.0 == place) ((e.0, with_field_word e.1 i w) ∷ bs) (e ∷ set_block bs place i w) f) ∙ ap suc (set_block_keeps_count bs place i w))
+    (cases_Bool (e.0 == place))
+
+-- a written field changes no count
+pub count_written : (n : ℕ) (old new : List (ℕ × Block)) (place i w : ℕ) → n ≡ length old → new ≡ set_block old place i w → n ≡ length new
+count_written n old new place i w counted written = counted ∙ sym (ap length written ∙ set_block_keeps_count old place i w)
+
+two_words_each : (links : ℕ → ℕ) (bs : List (ℕ × Block)) → length bs + length bs ≤ length (spelled_from links bs)
+two_words_each links [] = omega arith
+two_words_each links (e ∷ bs) =
+    let rest : length bs + length bs ≤ length (spelled_from links bs) = two_words_each links bs in
+    let here : length (spelled_from links (e ∷ bs)) ≡ suc (suc (length e.1.fields)) + length (spelled_from links bs) = length-append (block_words (links e.0) e.1) (spelled_from links bs) in
+    omega arith
+
+-- each object takes two words at least, and word 0 belongs to none
+pub count_small : (s : SpaceWords) → IsSpace s → length (blocks s.words) + length (blocks s.words) < length s.words
+count_small s is =
+    let all : length s.words ≡ suc (length (spelled_from (link_at s.words) (blocks s.words))) = ap length (spelled_words s.words is.walked is.end_low is.reserved) in
+    let each : length (blocks s.words) + length (blocks s.words) ≤ length (spelled_from (link_at s.words) (blocks s.words)) = two_words_each (link_at s.words) (blocks s.words) in
+    omega arith
+
+-- a replica more
+pub count_placed : (n : ℕ) (old new : List ℕ) (r : Replica) → n ≡ length (blocks old) → replicas_in new ≡ replicas_in old ++ r ∷ [] → n + 1 ≡ length (blocks new)
+count_placed n old new r counted grown =
+    let before : length (replicas_in old) ≡ length (blocks old) = length-map (blocks old) (replica_entry old) in
+    let after : length (replicas_in new) ≡ length (blocks new) = length-map (blocks new) (replica_entry new) in
+    let more : length (replicas_in new) ≡ length (replicas_in old) + 1 = ap length grown ∙ length-append (replicas_in old) (r ∷ []) in
+    omega (arith, counted, before, after, more)

@@ -1,6 +1,6 @@
 -- A collection as contracts see it: a new space whose links are the originals' addresses, logs with spare capacity, and the scan
 -- pointer.
-use Rattle.std.specs.Prelude.{◌≡◌, ℕ, ◌<◌, ◌^◌, List, length, map, slice_get, IsTrue, Option, Some, None}
+use Rattle.std.specs.Prelude.{◌≡◌, ℕ, ◌-◌, ◌<◌, ◌^◌, Bool, if◌then◌else◌, List, length, map, slice_get, IsTrue, Option, Some, None}
 use Rattle.gc_words.specs.Word.{word_of}
 use Rattle.gc_words.specs.Image.{Block, blocks, is_start, object_of_block}
 use Rattle.gc_words.specs.Spelling.{link_at}
@@ -16,11 +16,18 @@ pub record Log : Type 0 where
   pub entries : List (ℕ × ℕ)
   pub spare : ℕ
 
+-- `marked` says whether the links of originals have a mark in addition to the places of their replicas
 pub record CollectionWords : Type 0 where
   pub space : SpaceWords
   pub logs : List Log
   pub scan_place : ℕ
   pub scan_field : ℕ
+  pub marked : Bool
+
+-- the memory of a collection: the size of an empty space, and the number of empty logs
+pub record RoomWords : Type 0 where
+  pub size : ℕ
+  pub mutators : ℕ
 
 -- ---- the collection that the words represent
 
@@ -59,20 +66,28 @@ open_state heap c = state_of heap (Some (collection_in c))
 abbrev pub HasNoLinks : HeapWords → Type 0
 HasNoLinks heap = (a : ℕ) → IsTrue (is_start heap.space.words a) → link_at heap.space.words a ≡ 0
 
--- an original's link is its replica's place; every other link is 0
-abbrev pub LinksReplicas : HeapWords → Collection → Type 0
-LinksReplicas heap c = (a : ℕ) → IsTrue (is_start heap.space.words a) → link_at heap.space.words a ≡ old_links c a
+-- The mark is greater than each address. So where links are marked, a link that an earlier collection left is not above it.
+abbrev pub mark_of : Bool → ℕ
+mark_of marked = if marked then 2 ^ 32 else 0
+
+-- no object has a link above the mark
+abbrev pub LinksNothing : Bool → HeapWords → Type 0
+LinksNothing marked heap = (a : ℕ) → IsTrue (is_start heap.space.words a) → link_at heap.space.words a - mark_of marked ≡ 0
+
+-- what an original's link has above the mark is its replica's place; no other link is above the mark
+abbrev pub LinksReplicas : Bool → HeapWords → Collection → Type 0
+LinksReplicas marked heap c = (a : ℕ) → IsTrue (is_start heap.space.words a) → link_at heap.space.words a - mark_of marked ≡ old_links c a
 
 -- the collection belongs to the heap, the heap's links lead to the replicas, and each mutator has a log
 pub record BelongsTo (heap : HeapWords) (c : CollectionWords) : Type 0 where
   pub belongs : Belongs (graph_in heap).objects (collection_in c)
-  pub links : LinksReplicas heap (collection_in c)
+  pub links : LinksReplicas c.marked heap (collection_in c)
   pub logs : length c.logs ≡ heap.mutators
 
 -- the same, but these fields, as (object, field number), may be out of date
 pub record BelongsToBut (fields : List (ℕ × ℕ)) (heap : HeapWords) (c : CollectionWords) : Type 0 where
   pub belongs : BelongsBut (λ a i. In {X = ℕ × ℕ} (a, i) fields) (graph_in heap).objects (collection_in c)
-  pub links : LinksReplicas heap (collection_in c)
+  pub links : LinksReplicas c.marked heap (collection_in c)
   pub logs : length c.logs ≡ heap.mutators
 
 -- the root words after the roots are moved to replicas

@@ -1,6 +1,6 @@
 //! Laws that follow from the definitions, for heaps and collections of words. Crates that depend on this one use them in proofs by calling these functions.
 
-ghost use Rattle.std.specs.Prelude.{◌≡◌, ◌≢◌, [], ℕ, List, ◌-◌, ◌≤◌, IsTrue};
+ghost use Rattle.std.specs.Prelude.{◌≡◌, ◌≢◌, [], ℕ, List, ◌-◌, ◌≤◌, Bool, IsTrue, IsFalse};
 ghost use Rattle.gc_graph.specs.Limits.{largest_space};
 ghost use Rattle.gc_graph.specs.Graph.{Graph, IsUnused, root};
 ghost use Rattle.gc_graph.specs.Machine.{roomy_step};
@@ -11,11 +11,11 @@ ghost use Rattle.gc_words.specs.Certificate.{Certified};
 ghost use Rattle.gc_heap.specs.Heap.{HeapWords, IsHeap, KeepsLinks, image_of, graph_in, roomy_in};
 ghost use Rattle.gc_heap.specs.Commands.{Performs};
 ghost use Rattle.gc_heap.specs.declared.options.HeapOptions.{HeapOptions};
-ghost use Rattle.gc_copy.specs.Words.{CollectionWords, IsCollection, BelongsTo, BelongsToBut, HasNoLinks, collection_in, idle_state, open_state, new_root_words};
+ghost use Rattle.gc_copy.specs.Words.{CollectionWords, IsCollection, BelongsTo, BelongsToBut, HasNoLinks, LinksNothing, collection_in, idle_state, open_state, new_root_words};
 ghost use Rattle.gc_graph.specs.declared.reply.Reply.{Reply};
 ghost use Rattle.gc_plan.specs.State.{pairs_of};
 ghost use Rattle.gc_copy.specs.Opening.{opening_state_with};
-ghost use Rattle.gc_plan.specs.Linked.{image_of_graph, linked_image, old_image, new_image};
+ghost use Rattle.gc_plan.specs.Linked.{image_of_graph, linked_image, old_image, new_image, LeadsTo};
 ghost use Rattle.gc_plan.specs.Steps.{written, WritesField, mutate, collect, is_ready};
 ghost use Rattle.gc_plan.specs.Belonging.{IsSpaceGraph, IsState};
 ghost use Rattle.gc_plan.specs.Runs.{AreRootEvents, state_after};
@@ -40,8 +40,11 @@ pub fn heaps_have_addresses_as_names()
 pub fn images_show_links()
     ensures idle { (heap : HeapWords) → IsHeap heap → HasNoLinks heap
         → image_of heap ≡ image_of_graph heap.space.size (graph_in heap) }
-    ensures old { (heap : HeapWords) (c : CollectionWords) → IsHeap heap → BelongsTo heap c
+    ensures old { (heap : HeapWords) (c : CollectionWords) → IsHeap heap → BelongsTo heap c → IsFalse c.marked
         → image_of heap ≡ old_image (open_state heap c) (collection_in c) }
+    // Marked links lead to the replicas all the same.
+    ensures linked { (heap : HeapWords) (c : CollectionWords) → BelongsTo heap c → IsCollection c
+        → LeadsTo (link_at heap.space.words) (collection_in c) }
     ensures new { (heap : HeapWords) (c : CollectionWords) → IsCollection c → BelongsTo heap c
         → image_with c.space (new_root_words heap (collection_in c))
         ≡ new_image (open_state heap c) (collection_in c) }
@@ -62,20 +65,23 @@ pub fn commands_keep_collections()
         → BelongsToBut (written (graph_in heap) m op reply) new c }
     ensures none { (heap : HeapWords) (c : CollectionWords)
         → BelongsToBut [] heap c → BelongsTo heap c }
-    // While no collection is open, no object has a link.
+    // While no collection is open, no object has a link, or none above the mark.
     ensures idle { (heap new : HeapWords)
         → HasNoLinks heap → KeepsLinks heap.space.words new.space.words → HasNoLinks new }
+    ensures nothing { (heap new : HeapWords) (marked : Bool)
+        → LinksNothing marked heap → KeepsLinks heap.space.words new.space.words → LinksNothing marked new }
 {}
 
 /// A command other than `Put` leaves an open collection unchanged, and the collection still belongs to the heap. If no collection
-/// is open, no command opens one or gives an object a link.
+/// is open, no command opens one, or gives an object a link above the mark.
 pub fn commands_leave_collections()
     ensures collecting { (heap new : HeapWords) (c : CollectionWords) (m : ℕ) (op : Op) (reply : Reply)
         → IsHeap heap → BelongsTo heap c → ¬ WritesField op → Performs heap m op reply new
         → (mutate (open_state heap c) m op ≡ (reply, open_state new c)) × BelongsTo new c }
     ensures idle { (heap new : HeapWords) (m : ℕ) (op : Op) (reply : Reply)
-        → IsHeap heap → HasNoLinks heap → Performs heap m op reply new
-        → (mutate (idle_state heap) m op ≡ (reply, idle_state new)) × HasNoLinks new }
+        → IsHeap heap → Performs heap m op reply new → mutate (idle_state heap) m op ≡ (reply, idle_state new) }
+    ensures linked { (marked : Bool) (heap new : HeapWords) (m : ℕ) (op : Op) (reply : Reply)
+        → Performs heap m op reply new → LinksNothing marked heap → LinksNothing marked new }
 {}
 
 /// A heap that was opened with extra roots is well formed, and so is every state that a run leads it to. A command may name an extra root.

@@ -1,15 +1,16 @@
 -- A watch that goes along with the open collection watches the words of both images.
-use Rattle.std.proofs.Common.{◌≡◌, ◌-◌, arith, Option, Some, None, ap, sym, ◌∙◌, subst}
+use Rattle.std.proofs.Common.{◌≡◌, ◌-◌, ◌≤◌, ℕ, arith, Bool, List, length, take, All, Option, Some, None, refl, ap, sym, ◌∙◌, subst}
+use Rattle.std.proofs.lemmas.List.{take_all}
 use Rattle.std.specs.Option.{option_map}
-use Rattle.gc_words.specs.Image.{Image}
-use Rattle.gc_words.specs.Space.{end_of}
+use Rattle.gc_words.specs.Image.{Block, Image, blocks, block_in, block_at}
+use Rattle.gc_words.specs.Space.{IsSpace, end_of}
 use Rattle.gc_heap.specs.Heap.{HeapWords, IsHeap}
 use Rattle.gc_plan.specs.State.{State, Collection, heap_end}
-use Rattle.gc_plan.specs.Linked.{old_image, new_image}
+use Rattle.gc_plan.specs.Linked.{old_links, old_image, new_image}
 use Rattle.gc_copy.specs.Words.{CollectionWords, IsCollection, BelongsTo, collection_in, state_of, open_state}
-use Rattle.gc_copy.proofs.Public.{old_shown, new_shown}
+use Rattle.gc_copy.proofs.Public.{new_shown, other_links}
 use Rattle.gc_core.specs.Internal.CollectedHeap.{Fits}
-use Rattle.gc_along.specs.Watch.{Watch, Watches}
+use Rattle.gc_along.specs.Watch.{Watch, Watches, IsWatched, seen_at}
 use Rattle.gc_beside.specs.Stays.{GoesAlong}
 use Rattle.gc_beside.proofs.Public.{watches}
 
@@ -17,18 +18,49 @@ use Rattle.gc_beside.proofs.Public.{watches}
 end_is : (heap : HeapWords) → IsHeap heap → heap.space.size - (heap.space.size - end_of heap.space) ≡ end_of heap.space
 end_is heap sound = let a = sound.space.end_high in omega arith
 
+-- a watch that has come to the end of the old space watches it with any links
+relinked : (old other new : List ℕ) (w : Watch) → w.old_seen ≡ length old → length other ≡ length old → blocks other ≡ blocks old → IsSpace (record { size = 4294967295; words = other }) → Watches old new w → Watches other new w
+relinked old other new w end count same space k = record {
+  old_seen = record { within = omega (arith, end, count); space = subst (λ ws. IsSpace (record { size = 4294967295; words = ws })) (sym whole) space };
+  new_seen = k.new_seen;
+  pairs = subst (λ (seen : ℕ → Option Block). All (λ p. IsWatched w p.1 (seen p.0) (seen_at w.new_seen new p.1)) w.pairs) (λ i a. here a i) k.pairs;
+  row = k.row;
+  rising = k.rising;
+  once = k.once;
+}
+  where
+    whole : take w.old_seen other ≡ other
+    whole = take_all w.old_seen other (omega (arith, end, count))
+
+    before : take w.old_seen old ≡ old
+    before = take_all w.old_seen old (omega (arith, end))
+
+    here : (a : ℕ) → seen_at w.old_seen old a ≡ seen_at w.old_seen other a
+    here a = ap (λ ws. block_at ws a) before ∙ ap (λ bs. block_in bs a) (sym same) ∙ ap (λ ws. block_at ws a) (sym whole)
+
 shown : (heap : HeapWords) (col : CollectionWords) (w : Watch) → IsHeap heap → IsCollection col → BelongsTo heap col
     → GoesAlong (open_state heap col).heap.graph.objects (heap_end (open_state heap col)) (collection_in col) w
     → Watches (old_image (open_state heap col) (collection_in col)).words (new_image (open_state heap col) (collection_in col)).words w
 shown heap col w sound is belongs goes =
-    subst (λ (image : Image). Watches image.words (new_image (open_state heap col) (collection_in col)).words w) (old_shown heap col sound belongs)
-    (subst (λ (image : Image). Watches heap.space.words image.words w) (new_shown heap col is belongs)
-    (watches heap col w sound is belongs (subst (λ n. GoesAlong (open_state heap col).heap.graph.objects n (collection_in col) w) (end_is heap sound) goes)))
+    let along = subst (λ n. GoesAlong (open_state heap col).heap.graph.objects n (collection_in col) w) (end_is heap sound) goes in
+    let exact = other_links heap sound (old_links (collection_in col)) in
+    let size = (exact.0).size_high in
+    let wide : IsSpace (record { size = 4294967295; words = (old_image (open_state heap col) (collection_in col)).words }) = record {
+      size_low = omega arith;
+      size_high = omega arith;
+      end_low = (exact.0).end_low;
+      end_high = let high = (exact.0).end_high in omega arith;
+      count = refl;
+      reserved = (exact.0).reserved;
+      walked = (exact.0).walked;
+    } in
+    relinked heap.space.words (old_image (open_state heap col) (collection_in col)).words (new_image (open_state heap col) (collection_in col)).words w (along.fits).old_seen exact.2 exact.1 wide
+    (subst (λ (image : Image). Watches heap.space.words image.words w) (new_shown heap col is belongs) (watches heap col w sound is belongs along))
 
-pub watched : (heap : HeapWords) (o : Option CollectionWords) (col : CollectionWords) (s : State) → o ≡ Some col → state_of heap (option_map collection_in o) ≡ s → Fits heap o → IsHeap heap → IsCollection col
+pub watched : (marked : Bool) (heap : HeapWords) (o : Option CollectionWords) (col : CollectionWords) (s : State) → o ≡ Some col → state_of heap (option_map collection_in o) ≡ s → Fits marked heap o → IsHeap heap → IsCollection col
     → (c : Collection) (w : Watch) → s.collection ≡ Some c → GoesAlong s.heap.graph.objects (heap_end s) c w → Watches (old_image s c).words (new_image s c).words w
-watched heap None col s e same fits sound is c w there goes = absurd (let no : None ≡ Some col = e in cc)
-watched heap (Some x) col s e same fits sound is c w there goes =
+watched marked heap None col s e same fits sound is c w there goes = absurd (let no : None ≡ Some col = e in cc)
+watched marked heap (Some x) col s e same fits sound is c w there goes =
     let x_is : x ≡ col = cc e in
     let c_is : collection_in x ≡ c = (let a : Some (collection_in x) ≡ Some c = ap (λ (s : State). s.collection) same ∙ there in cc) in
     subst (λ (s : State). Watches (old_image s c).words (new_image s c).words w) same

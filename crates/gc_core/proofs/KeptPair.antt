@@ -1,5 +1,5 @@
 -- The pair that a flip returns, put together from its parts.
-use Rattle.std.proofs.Common.{◌≡◌, ℕ, Bool, true, List, Option, Some, refl, sym, subst}
+use Rattle.std.proofs.Common.{◌≡◌, ℕ, Bool, true, false, List, Option, Some, refl, sym, subst}
 use Rattle.std.specs.Option.{option_map}
 use Rattle.gc_words.specs.Image.{Image}
 use Rattle.gc_words.specs.Certificate.{Certified}
@@ -11,7 +11,8 @@ use Rattle.gc_copy.specs.Words.{CollectionWords, collection_in, state_of, open_s
 use Rattle.gc_plan.specs.declared.step.StepReply.{StepReply}
 use Rattle.gc_plan.specs.declared.step.StepReply.TheVariants.{Flipped}
 use Rattle.gc_plan.specs.Steps.{is_ready}
-use Rattle.gc_core.specs.Flip.{flip_pair, IsSureIfReady, kept_after, replaced}
+use Rattle.gc_along.specs.Outline.{ImageOutline}
+use Rattle.gc_core.specs.Flip.{HasAccepted, flip_pair, IsSureIfReady, kept_after, replaced}
 
 pub same_image : (size end s e : ℕ) (words roots w r : List ℕ) (raws : Bool) → size ≡ s → end ≡ e → words ≡ w → roots ≡ r → raws ≡ true
     → ◌≡◌ {A = Image} (record { size = size; end = end; words = words; roots = roots; raws = raws }) (record { size = s; end = e; words = w; roots = r; raws = true })
@@ -38,9 +39,13 @@ pair_now says heap was c now is view h =
     (subst (λ o. IfSome (option_map collection_in o) (λ d. says (flip_pair (state_of heap (option_map collection_in o)) d))) (sym is) h)
 
 -- a checker that is sure of a ready collection of this state is sure of the one that is open
-pub sure_then : (sure : Image → Image → Type 0) (heap : HeapWords) (was : Option CollectionWords) (c : CollectionWords) (now : State) → was ≡ Some c → state_of heap (option_map collection_in was) ≡ now
-    → IsSureIfReady sure now → is_ready (collection_in c) (graph_in heap) ≡ true → sure (flip_pair (open_state heap c) (collection_in c)).old (flip_pair (open_state heap c) (collection_in c)).new
+pub sure_then : (sure : ImageOutline → ImageOutline → Type 0) (heap : HeapWords) (was : Option CollectionWords) (c : CollectionWords) (now : State) → was ≡ Some c → state_of heap (option_map collection_in was) ≡ now
+    → IsSureIfReady sure now → is_ready (collection_in c) (graph_in heap) ≡ true → HasAccepted sure (flip_pair (open_state heap c) (collection_in c))
 sure_then sure heap was c now is view h =
     let a : IsSureIfReady sure (state_of heap (option_map collection_in was)) = subst (IsSureIfReady sure) (sym view) h in
     let b : IsSureIfReady sure (open_state heap c) = subst (λ o. IsSureIfReady sure (state_of heap (option_map collection_in o))) is a in
     b
+
+-- the pair of a collection without its mark is that of the collection with it
+pub same_pair : (heap new : HeapWords) (c after : CollectionWords) → open_state new after ≡ open_state heap c → after ≡ record c { marked = false } → flip_pair (open_state new after) (collection_in after) ≡ flip_pair (open_state heap c) (collection_in c)
+same_pair heap new c after state unmarked = λ i. flip_pair (state i) (collection_in (unmarked i))

@@ -9,4 +9,5 @@ mod NewFrom
 mod NumbersPut
 mod OtherCommands
 pub mod Public
+mod Shown
 mod SourcesPut

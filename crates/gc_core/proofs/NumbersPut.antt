@@ -1,5 +1,5 @@
 -- Numbers that are written to a raw object in one call.
-use Rattle.std.proofs.Common.{◌≡◌, ◌<◌, ◌≤◌, ◌+◌, ℕ, suc, cond, true, List, [], ◌∷◌, length, Option, Some, None, refl, ap, subst, ◌∙◌, arith}
+use Rattle.std.proofs.Common.{Bool, ◌≡◌, ◌<◌, ◌≤◌, ◌+◌, ℕ, suc, cond, true, List, [], ◌∷◌, length, Option, Some, None, refl, ap, subst, ◌∙◌, arith}
 use Rattle.std.specs.List.{list_all}
 use Rattle.std.specs.Option.{option_map}
 use Rattle.std.proofs.lemmas.Bool.{le-leb}
@@ -12,8 +12,8 @@ use Rattle.gc_heap.specs.Filling.{WritesNumbers}
 use Rattle.gc_heap.specs.Raws.{raw_numbers}
 use Rattle.gc_plan.specs.State.{State}
 use Rattle.gc_plan.specs.Steps.{mutate}
-use Rattle.gc_copy.specs.Words.{idle_state, HasNoLinks}
-use Rattle.gc_copy.proofs.Public.{idle_left}
+use Rattle.gc_copy.specs.Words.{idle_state, LinksNothing}
+use Rattle.gc_copy.proofs.Public.{idle_left, still_unlinked}
 use Rattle.gc_core.specs.Internal.KnownRoots.{KnowsRoots}
 use Rattle.gc_core.specs.Writing.{is_number_word, numbers_step, numbers_reply, after_reply, put_numbers_step}
 use Rattle.gc_core.specs.declared.known.KnownRoots.{KnownRoots}
@@ -40,13 +40,14 @@ numbers_know (n ∷ rest) known s m i d t low less k =
 
 -- ---- while no collection is open
 
-pub idle_written : (numbers : List ℕ) (heap new : HeapWords) (m i : ℕ) (s t : SlotName) → IsHeap heap → HasNoLinks heap → WritesNumbers heap m s t i numbers new → (numbers_step (idle_state heap) m s t i numbers ≡ idle_state new) × HasNoLinks new
-idle_written [] heap new m i s t is links same = (ap idle_state same, subst HasNoLinks same links)
-idle_written (n ∷ rest) heap new m i s t is links (next, w, further) =
-    let one = idle_left heap w.between m (ops.Num t n) Done is links w.sets in
-    let two = idle_left w.between next m (ops.Put s i t) Done w.sound.0 one.1 w.puts in
-    let all = idle_written rest next new m (suc i) s t w.sound.1 two.1 further in
-    (ap (λ (x : Reply × State). numbers_step (mutate x.1 m (ops.Put s i t)).1 m s t (suc i) rest) one.0 ∙ ap (λ (x : Reply × State). numbers_step x.1 m s t (suc i) rest) two.0 ∙ all.0, all.1)
+pub idle_written : (marked : Bool) (numbers : List ℕ) (heap new : HeapWords) (m i : ℕ) (s t : SlotName) → IsHeap heap → LinksNothing marked heap → WritesNumbers heap m s t i numbers new → (numbers_step (idle_state heap) m s t i numbers ≡ idle_state new) × LinksNothing marked new
+idle_written marked [] heap new m i s t is links same = (ap idle_state same, subst (LinksNothing marked) same links)
+idle_written marked (n ∷ rest) heap new m i s t is links (next, w, further) =
+    let one = idle_left heap w.between m (ops.Num t n) Done is w.sets in
+    let two = idle_left w.between next m (ops.Put s i t) Done w.sound.0 w.puts in
+    let between = still_unlinked marked heap w.between m (ops.Num t n) Done w.sets links in
+    let all = idle_written marked rest next new m (suc i) s t w.sound.1 (still_unlinked marked w.between next m (ops.Put s i t) Done w.puts between) further in
+    (ap (λ (x : Reply × State). numbers_step (mutate x.1 m (ops.Put s i t)).1 m s t (suc i) rest) one ∙ ap (λ (x : Reply × State). numbers_step x.1 m s t (suc i) rest) two ∙ all.0, all.1)
 
 -- ---- the reply
 

@@ -1,7 +1,7 @@
 -- What a flip shows its checker, and the pair of heaps that the checker accepts.
 use Rattle.std.specs.Prelude.{◌≡◌, ◌≢◌, ◌≤◌, ℕ, length, Option, Some, None, IfSome, IsTrue}
-use Rattle.gc_words.specs.Image.{Image}
 use Rattle.gc_words.specs.Certificate.{Certified}
+use Rattle.gc_along.specs.Outline.{ImageOutline, outline_of}
 use Rattle.gc_cert.specs.Grammar.{CertifiedPair}
 use Rattle.gc_plan.specs.State.{State, Collection, pairs_of}
 use Rattle.gc_plan.specs.Steps.{is_ready}
@@ -45,10 +45,10 @@ PassesIfReady s reply = IfSome s.collection (λ c. IsTrue (is_ready c s.heap.gra
 abbrev pub HasRoomIfLarge : State → StepReply → Type 0
 HasRoomIfLarge s reply = IfSome s.collection (λ c. s.size ≤ c.size → reply ≢ NoRoom)
 
--- a checker that went along accepts the images of the pair
-abbrev pub HasAccepted : (Image → Image → Type 0) → CertifiedPair → Type 0
-HasAccepted accepted pair = accepted pair.old pair.new
+-- a checker that went along accepts the outlines of the pair's images
+abbrev pub HasAccepted : (ImageOutline → ImageOutline → Type 0) → CertifiedPair → Type 0
+HasAccepted accepted pair = accepted (outline_of pair.old) (outline_of pair.new)
 
--- if the open collection is ready, a checker that went along is sure of the images of its pair
-abbrev pub IsSureIfReady : (Image → Image → Type 0) → State → Type 0
+-- if the open collection is ready, a checker that went along is sure of the outlines of its pair's images
+abbrev pub IsSureIfReady : (ImageOutline → ImageOutline → Type 0) → State → Type 0
 IsSureIfReady sure s = IfSome s.collection (λ c. IsTrue (is_ready c s.heap.graph) → HasAccepted sure (flip_pair s c))

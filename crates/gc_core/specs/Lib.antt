@@ -5,6 +5,7 @@ pub mod ExtraRoots
 pub mod Flip
 pub mod Internal
 pub mod Mixed
+pub mod Performing
 pub mod Readings
 pub mod Replies
 pub mod Writing

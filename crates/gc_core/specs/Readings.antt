@@ -1,10 +1,10 @@
 -- What callers can read of a state: both spaces with their links, the progress of a collection, and the logs.
-use Rattle.std.specs.Prelude.{ℕ, List, [], Option, Some, None}
+use Rattle.std.specs.Prelude.{◌≡◌, ℕ, List, [], Option, Some, None}
 use Rattle.std.specs.Option.{option_map}
 use Rattle.gc_words.specs.Image.{Image}
 use Rattle.gc_words.specs.Spelling.{no_links}
 use Rattle.gc_plan.specs.State.{State, Collection, new_end}
-use Rattle.gc_plan.specs.Linked.{linked_image, old_links, new_image}
+use Rattle.gc_plan.specs.Linked.{LeadsToOpen, linked_image, old_links, new_image}
 use Rattle.gc_plan.specs.Steps.{log_at}
 use Rattle.gc_core.specs.declared.reading.NewSpace.{NewSpace}
 
@@ -15,6 +15,10 @@ links_of (Some c) = old_links c
 
 abbrev pub heap_image : State → Image
 heap_image s = linked_image (links_of s.collection) s.size s.heap.graph
+
+-- An image of the mutators' space. Its links need not be exact: their low 32 bits have to lead to the open collection's replicas.
+abbrev pub ShowsHeap : State → Image → Type 0
+ShowsHeap s image = (links : ℕ → ℕ) × LeadsToOpen links s.collection × (image ≡ linked_image links s.size s.heap.graph)
 
 -- the words of the open collection's new space
 abbrev pub new_words : State → Option (List ℕ)

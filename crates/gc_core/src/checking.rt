@@ -1,4 +1,4 @@
-ghost use Rattle.std.specs.Prelude.{◌≡◌, ◌<◌, ◌^◌, IfOk, IsTrue, OnErr, length};
+ghost use Rattle.std.specs.Prelude.{◌≡◌, ◌<◌, ◌^◌, IfOk, IsTrue, IsFalse, OnErr, length};
 ghost use Rattle.gc_heap.specs.Heap.{graph_in};
 ghost use Rattle.gc_plan.specs.Steps.{is_ready};
 ghost use Rattle.gc_copy.specs.Words.{BelongsTo, collection_in, open_state};
@@ -34,24 +34,27 @@ impl CollectedHeap {
     ghost use Rattle.gc_core.specs.Checking.{finding, HoldsOnly};
     ghost use Rattle.gc_plan.specs.declared.step.Step.{Step};
 
-    /// Checks the certificate of the open collection, if that is ready, by both spaces whole. Changes nothing. Allocates what a checked flip
-    /// does, and frees it before it returns.
-    pub fn check<C: Checks>(&self, checker: &C) -> Result<Finding, NoMemory>
+    /// Checks the certificate of the open collection, if that is ready, by both spaces whole. The heap stays as it is. Allocates what a
+    /// checked flip does, and frees it before it returns.
+    pub fn check<C: Checks>(&mut self, checker: &C) -> Result<Finding, NoMemory>
         requires { C.can_check checker.now }
-        ensures finding { IfOk result (λ found. found ≡ finding self.now) }
+        ensures finding { IfOk result (λ found. found ≡ finding self.old) }
         // It finds that the certificate holds only if this checker said yes.
-        ensures asked { IfOk result (HoldsOnly (C.says_yes checker.now) self.now) }
-        ensures sound { IfOk result (HoldsOnly IsCertified self.now) }
+        ensures asked { IfOk result (HoldsOnly (C.says_yes checker.now) self.old) }
+        ensures sound { IfOk result (HoldsOnly IsCertified self.old) }
         // Only the check of a ready collection allocates.
-        ensures allocates { OnErr result (Allocates self.now Step.Flip) }
+        ensures allocates { OnErr result (Allocates self.old Step.Flip) }
+        ensures same { self.new ≡ self.old }
     {
-        let Some(collection) = &self.collection else {
+        let Some(collection) = &mut self.collection else {
             return Ok(Finding::Idle);
         };
         let roots_done = search(collection, &self.heap, self.known).missing.is_none();
         if !collection.ready_with(&self.heap, roots_done) {
             return Ok(Finding::NotReady);
         }
+        // The checker sees the links as they are without a mark.
+        collection.unmark(&mut self.heap);
         let draft = Draft::new(self.alloc, &self.heap, collection)?;
         found_by(checker, self.alloc, &self.heap, collection, &draft)
     }
@@ -68,6 +71,7 @@ fn found_by<C: Checks>(
     requires can { C.can_check checker.now }
     requires belongs { BelongsTo heap.now collection.now }
     requires ready { IsTrue (is_ready (collection_in collection.now) (graph_in heap.now)) }
+    requires unmarked { IsFalse collection.now.marked }
     requires draft { IsDraft heap.now collection.now draft.now }
     requires few { length draft.now.pairs.items < 2 ^ 32 }
     ensures holds { IfOk result (λ found. found ≡ Finding.Holds (length (collection_in collection.now).replicas)) }

@@ -1,5 +1,5 @@
 use crate::known::KnownRoots;
-use gc_copy::Collection;
+use gc_copy::{Collection, Room};
 use gc_graph::NoMemory;
 use gc_heap::{Heap, HeapOptions};
 use std::alloc::Global;
@@ -17,6 +17,12 @@ pub struct CollectedHeap {
     pub(crate) heap: Heap,
     pub(crate) collection: Option<Collection>,
     pub(crate) known: KnownRoots,
+    /// Whether objects may have links of an earlier collection, so that those of the next one are marked.
+    pub(crate) marked: bool,
+    /// What the last flip left for the next collection.
+    pub(crate) room: Option<Room>,
+    /// A row for the moved roots, so that a flip need not ask for one.
+    pub(crate) roots: Vec<u64>,
 }
 
 impl Model for CollectedHeap {
@@ -30,7 +36,7 @@ impl Model for CollectedHeap {
 
     ghost view = { λ h. state_of h.heap (option_map collection_in h.collection) };
 
-    ghost invariant = { λ h. Fits h.heap h.collection × KnowsRoots h.known (state_of h.heap (option_map collection_in h.collection)) };
+    ghost invariant = { λ h. Fits h.marked h.heap h.collection × KnowsRoots h.known (state_of h.heap (option_map collection_in h.collection)) };
 }
 
 impl CollectedHeap {
@@ -64,6 +70,9 @@ impl CollectedHeap {
             heap,
             collection: None,
             known: KnownRoots::new(),
+            marked: false,
+            room: None,
+            roots: Vec::new(alloc),
         })
     }
 

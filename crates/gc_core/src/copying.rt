@@ -1,6 +1,6 @@
 //! Copies fields from one object to another.
 
-ghost use Rattle.std.specs.Prelude.{◌≡◌, ◌≢◌, ◌<◌, ◌≤◌, ◌+◌, ◌||◌, not, length, IfOk, IfSome, OnErr, IsSome};
+ghost use Rattle.std.specs.Prelude.{Bool, ◌≡◌, ◌≢◌, ◌<◌, ◌≤◌, ◌+◌, ◌||◌, not, length, IfOk, IfSome, OnErr, IsSome};
 ghost use Rattle.std.specs.List.{list_all};
 ghost use Rattle.std.specs.Option.{option_map};
 ghost use Rattle.gc_graph.specs.Slots.{place};
@@ -10,7 +10,7 @@ ghost use Rattle.gc_words.specs.Image.{object_of_block};
 ghost use Rattle.gc_graph.specs.declared.command.Op.{Op};
 ghost use Rattle.gc_heap.specs.Heap.{graph_in};
 ghost use Rattle.gc_plan.specs.Steps.{mutate};
-ghost use Rattle.gc_copy.specs.Words.{idle_state, open_state, HasNoLinks, BelongsTo, spare_of};
+ghost use Rattle.gc_copy.specs.Words.{idle_state, open_state, LinksNothing, BelongsTo, spare_of};
 ghost use Rattle.gc_core.specs.Copying.{object_in, copy_reply as reply_of, copy_step, copy_fields_step};
 
 use crate::collected_heap::CollectedHeap;
@@ -123,9 +123,8 @@ fn copy_reply(heap: &Heap, m: u8, d: Slot, to: u16, s: Slot, from: u16, count: u
 // Copies one field, while no collection is open.
 fn copy_field(heap: &mut Heap, m: u8, d: Slot, i: u16, s: Slot, j: u16, t: Slot)
     requires mutator { m < heap.old.mutators }
-    requires links { HasNoLinks heap.old }
     ensures step { (mutate (mutate (idle_state heap.old) m (Op.Get t s j)).1 m (Op.Put d i t)).1 ≡ idle_state heap.new }
-    ensures links { HasNoLinks heap.new }
+    ensures links { (marked : Bool) → LinksNothing marked heap.old → LinksNothing marked heap.new }
     ensures mutators { heap.new.mutators ≡ heap.old.mutators }
 {
     commands_leave_collections();
@@ -139,11 +138,10 @@ fn copy_field(heap: &mut Heap, m: u8, d: Slot, i: u16, s: Slot, j: u16, t: Slot)
 #[tactic(auto, using(crate::proofs::Copies::one_copied))]
 fn copy(heap: &mut Heap, m: u8, d: Slot, to: u16, s: Slot, from: u16, t: Slot, count: u16)
     requires mutator { m < heap.old.mutators }
-    requires links { HasNoLinks heap.old }
     requires target { to + count ≤ 65535 }
     requires source { from + count ≤ 65535 }
     ensures step { copy_step (idle_state heap.old) m d to s from t count ≡ idle_state heap.new }
-    ensures links { HasNoLinks heap.new }
+    ensures links { (marked : Bool) → LinksNothing marked heap.old → LinksNothing marked heap.new }
     ensures mutators { heap.new.mutators ≡ heap.old.mutators }
 {
     for k in 0..count {

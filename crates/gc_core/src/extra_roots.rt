@@ -1,6 +1,6 @@
 //! Commands on extra roots.
 
-ghost use Rattle.std.specs.Prelude.{◌≡◌, ◌<◌, ◌≤◌, ◌-◌};
+ghost use Rattle.std.specs.Prelude.{◌≡◌, ◌<◌, ◌≤◌, ◌-◌, Bool, IfSome};
 ghost use Rattle.std.specs.Option.{option_map};
 ghost use Rattle.gc_graph.specs.declared.command.Op.{Op};
 ghost use Rattle.gc_graph.specs.declared.reply.Reply.{Reply};
@@ -8,7 +8,7 @@ ghost use Rattle.gc_heap.specs.ExtraRoots.{extra_slot};
 ghost use Rattle.gc_heap.specs.Heap.{extra_roots_in};
 ghost use Rattle.gc_plan.specs.State.{extra_roots_of};
 ghost use Rattle.gc_plan.specs.Steps.{mutate};
-ghost use Rattle.gc_copy.specs.Words.{collection_in, state_of};
+ghost use Rattle.gc_copy.specs.Words.{BelongsTo, collection_in, state_of};
 ghost use Rattle.gc_core.specs.ExtraRoots.{clear_step};
 ghost use Rattle.gc_core.specs.Internal.CollectedHeap.{Fits};
 
@@ -68,11 +68,11 @@ impl CollectedHeap {
 
 /// Sets these extra roots to nil. The collection, if one is open, stays as it is.
 fn clear_each(heap: &mut Heap, collection: &Option<Collection>, from: u32, to: u32)
-    requires fits { Fits heap.old collection.now }
+    requires belongs { IfSome collection.now (BelongsTo heap.old) }
     requires within { to ≤ extra_roots_in heap.old }
     ensures step { clear_step (state_of heap.old (option_map collection_in collection.now)) from (to - from)
         ≡ state_of heap.new (option_map collection_in collection.now) }
-    ensures fits { Fits heap.new collection.now }
+    ensures fits { (marked : Bool) → Fits marked heap.old collection.now → Fits marked heap.new collection.now }
     ensures mutators { heap.new.mutators ≡ heap.old.mutators }
 {
     for k in from..to {

@@ -1,9 +1,9 @@
 //! Fills the fields of a new object from slots.
 
-ghost use Rattle.std.specs.Prelude.{◌≡◌, ◌<◌, ◌≤◌, List, length, get_or};
+ghost use Rattle.std.specs.Prelude.{Bool, ◌≡◌, ◌<◌, ◌≤◌, List, length, get_or};
 ghost use Rattle.gc_graph.specs.Slots.{SlotName, place};
 ghost use Rattle.gc_heap.specs.Filling.{TakesFields};
-ghost use Rattle.gc_copy.specs.Words.{idle_state, open_state, HasNoLinks, BelongsTo, spare_of};
+ghost use Rattle.gc_copy.specs.Words.{idle_state, open_state, LinksNothing, BelongsTo, spare_of};
 ghost use Rattle.gc_core.specs.CollectedHeap.{fill_step};
 
 use gc_copy::Collection;
@@ -35,9 +35,8 @@ pub(crate) fn fill<R: SlotRow>(heap: &mut Heap, m: u8, d: Slot, object: OldAddr,
     requires mutator { m < heap.old.mutators }
     requires row { R.is_row fields.now }
     requires takes { TakesFields heap.old (place d m) object.0 (length (R.slots fields.now)) }
-    requires links { HasNoLinks heap.old }
     ensures step { fill_step (idle_state heap.old) m d 0 (R.slots fields.now) ≡ idle_state heap.new }
-    ensures links { HasNoLinks heap.new }
+    ensures links { (marked : Bool) → LinksNothing marked heap.old → LinksNothing marked heap.new }
     ensures mutators { heap.new.mutators ≡ heap.old.mutators }
 {
     for i in 0..fields.count() {

@@ -7,24 +7,25 @@ ghost use Rattle.gc_copy.specs.Words.{BelongsTo, HasNoLinks, collection_in, idle
 ghost use Rattle.gc_plan.specs.State.{pairs_of};
 ghost use Rattle.gc_plan.specs.declared.step.Step.{Step};
 ghost use Rattle.gc_plan.specs.declared.step.StepReply.{StepReply};
-ghost use Rattle.gc_core.specs.Flip.{flip_pair, IsCertified};
+ghost use Rattle.gc_core.specs.Flip.{HasAccepted, flip_pair, IsCertified};
 ghost use Rattle.gc_core.specs.Internal.Flip.{IsDraft, AreCopies};
 
 use crate::collected_heap::CollectedHeap;
 use crate::flip::{AlongFlip, Copies, Draft, Flip, Keep};
 use crate::known::search;
-use gc_along::Watcher;
+use gc_along::{Outline, Watcher};
 use gc_cert::{Image, PairFile};
 use gc_check::{CheckFault, Checks};
-use gc_copy::{Collection, StepReply, images_show_links};
+use gc_copy::{Collection, StepReply, heaps_have_addresses_as_names, images_show_links};
 use gc_graph::NoMemory;
 use gc_heap::Heap;
 use gc_words::no_fault_where_certified;
 use std::alloc::Global;
+use std::mem::replace;
 
 impl CollectedHeap {
     ghost use Rattle.gc_core.specs.CollectedHeap.{Allocates};
-    ghost use Rattle.gc_core.specs.Flip.{FlipsOnly, HasAccepted, IsSureIfReady, PassesIfReady, kept_after, replaced};
+    ghost use Rattle.gc_core.specs.Flip.{FlipsOnly, IsSureIfReady, PassesIfReady, kept_after, replaced};
     ghost use Rattle.gc_cert.specs.Grammar.{CertifiedPair};
     ghost use Rattle.std.specs.Prelude.{Option};
     ghost use Rattle.gc_core.specs.declared.flip.Keep.{Keep};
@@ -55,13 +56,15 @@ impl CollectedHeap {
         ensures allocates { OnErr result (Allocates self.old Step.Flip) }
         ensures mutators { self.new.mutators ≡ self.old.mutators }
     {
-        let Some(collection) = &self.collection else {
+        let Some(collection) = &mut self.collection else {
             return Ok(without_pair(StepReply::Idle));
         };
         let roots_done = search(collection, &self.heap, self.known).missing.is_none();
         if !collection.ready_with(&self.heap, roots_done) {
             return Ok(without_pair(StepReply::NotReady));
         }
+        // The checker and the pair that is kept see the links as they are without a mark.
+        collection.unmark(&mut self.heap);
         let draft = Draft::new(self.alloc, &self.heap, collection)?;
         if !accepts(checker, self.alloc, &self.heap, collection, &draft)? {
             return Ok(without_pair(StepReply::Refused));
@@ -71,8 +74,8 @@ impl CollectedHeap {
         Ok(carry_out(&mut self.heap, collection, draft, copies))
     }
 
-    /// Flips if the open collection is ready, and a checker that went along accepts both images, or else this checker the
-    /// certificate. No pair is kept.
+    /// Flips if the open collection is ready, and a checker that went along accepts the outlines of both images, or else this checker
+    /// the certificate. No pair is kept.
     #[inline(never)]
     pub fn flip_along<W: Watcher, C: Checks>(
         &mut self,
@@ -104,12 +107,17 @@ impl CollectedHeap {
         if !is_ready {
             return Ok(unasked(StepReply::NotReady));
         }
-        let roots = collection.new_roots(self.alloc, &self.heap)?;
+        let mut roots = replace(&mut self.roots, Vec::new(self.alloc));
+        collection.move_roots(&self.heap, &mut roots)?;
         if !is_accepted(along, &self.heap, collection, &roots) {
             return self.flip_whole(checker);
         }
         let collection = self.collection.take().unwrap();
-        Ok(unasked(carry_out_along(&mut self.heap, collection, roots)))
+        let (room, roots, pairs) = collection.flip_marked(&mut self.heap, roots);
+        self.marked = true;
+        self.room = Some(room);
+        self.roots = roots;
+        Ok(unasked(StepReply::Flipped { pairs }))
     }
 
     /// Flips if the open collection is ready and the checker accepts its certificate, as `flip` does. No pair is kept.
@@ -144,35 +152,20 @@ fn unasked(reply: StepReply) -> AlongFlip
     }
 }
 
-// Returns whether the checker that went along accepts both images as they are now.
+// Returns whether the checker that went along accepts the outlines of both images as they are now.
 fn is_accepted<W: Watcher>(along: &W, heap: &Heap, collection: &Collection, roots: &[u64]) -> bool
     requires belongs { BelongsTo heap.now collection.now }
     requires roots { roots.now ≡ new_root_words heap.now (collection_in collection.now) }
-    ensures yes { IsTrue result → W.accepted along.now
-        (flip_pair (open_state heap.now collection.now) (collection_in collection.now)).old
-        (flip_pair (open_state heap.now collection.now) (collection_in collection.now)).new }
-    ensures sure { W.sure along.now
-        (flip_pair (open_state heap.now collection.now) (collection_in collection.now)).old
-        (flip_pair (open_state heap.now collection.now) (collection_in collection.now)).new → IsTrue result }
+    ensures yes { IsTrue result → HasAccepted (W.accepted along.now)
+        (flip_pair (open_state heap.now collection.now) (collection_in collection.now)) }
+    ensures sure { HasAccepted (W.sure along.now)
+        (flip_pair (open_state heap.now collection.now) (collection_in collection.now)) → IsTrue result }
 {
+    heaps_have_addresses_as_names();
     images_show_links();
-    let old = heap.image();
-    let new = collection.new_image(roots);
+    let old = Outline::of(heap.image());
+    let new = Outline::of(collection.new_image(roots));
     along.accepts(old, new)
-}
-
-// Carries out a flip that the checker that went along accepted. No pair is kept.
-fn carry_out_along(heap: &mut Heap, collection: Collection, roots: Vec<u64>) -> StepReply
-    requires belongs { BelongsTo heap.old collection }
-    requires ready { IsTrue (is_ready (collection_in collection) (graph_in heap.old)) }
-    requires roots { roots.items ≡ new_root_words heap.old (collection_in collection) }
-    ensures step { collect (open_state heap.old collection) Step.Flip ≡ (result, idle_state heap.new) }
-    ensures reply { result ≡ StepReply.Flipped (length (collection_in collection).replicas) }
-    ensures links { HasNoLinks heap.new }
-    ensures mutators { heap.new.mutators ≡ heap.old.mutators }
-{
-    let (_, _, pairs) = collection.flip_counted(heap, roots);
-    StepReply::Flipped { pairs }
 }
 
 // Returns the reply of a step that did not flip.
@@ -193,6 +186,7 @@ fn accepts<C: Checks>(
     requires can { C.can_check checker.now }
     requires belongs { BelongsTo heap.now collection.now }
     requires ready { IsTrue (is_ready (collection_in collection.now) (graph_in heap.now)) }
+    requires unmarked { IsFalse collection.now.marked }
     requires draft { IsDraft heap.now collection.now draft.now }
     requires few { length draft.now.pairs.items < 2 ^ 32 }
     ensures yes { IfOk result (λ yes. IsTrue yes) }
@@ -217,6 +211,7 @@ fn accepts<C: Checks>(
 fn carry_out(heap: &mut Heap, collection: Collection, draft: Draft, copies: Option<Copies>) -> Flip
     requires belongs { BelongsTo heap.old collection }
     requires ready { IsTrue (is_ready (collection_in collection) (graph_in heap.old)) }
+    requires unmarked { IsFalse collection.marked }
     requires draft { IsDraft heap.old collection draft }
     requires copies { IfSome copies (AreCopies collection draft.roots.items) }
     requires few { length draft.pairs.items < 2 ^ 32 }

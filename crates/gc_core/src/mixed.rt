@@ -1,8 +1,8 @@
 //! Makes objects whose fields take numbers and the values of slots.
 
-ghost use Rattle.std.specs.Prelude.{◌≡◌, ◌≢◌, ◌<◌, ◌≤◌, ◌+◌, List, length, get_or, IfOk, OnErr, IsSome};
+ghost use Rattle.std.specs.Prelude.{Bool, ◌≡◌, ◌≢◌, ◌<◌, ◌≤◌, ◌+◌, List, length, get_or, IfOk, OnErr, IsSome};
 ghost use Rattle.gc_graph.specs.Slots.{place};
-ghost use Rattle.gc_copy.specs.Words.{idle_state, open_state, HasNoLinks, BelongsTo, spare_of};
+ghost use Rattle.gc_copy.specs.Words.{idle_state, open_state, LinksNothing, BelongsTo, spare_of};
 ghost use Rattle.gc_core.specs.Mixed.{source_step, sources_step, new_with_step};
 ghost use Rattle.gc_core.specs.declared.mixed.FieldSource.{FieldSource};
 
@@ -92,9 +92,8 @@ impl CollectedHeap {
 // Fills one field of the new object in `d`, while no collection is open.
 fn fill_one(heap: &mut Heap, m: u8, d: Slot, t: Slot, i: u16, source: FieldSource)
     requires mutator { m < heap.old.mutators }
-    requires links { HasNoLinks heap.old }
     ensures step { source_step (idle_state heap.old) m d t i source ≡ idle_state heap.new }
-    ensures links { HasNoLinks heap.new }
+    ensures links { (marked : Bool) → LinksNothing marked heap.old → LinksNothing marked heap.new }
     ensures mutators { heap.new.mutators ≡ heap.old.mutators }
 {
     commands_leave_collections();
@@ -116,9 +115,8 @@ fn fill_one(heap: &mut Heap, m: u8, d: Slot, t: Slot, i: u16, source: FieldSourc
 fn fill<R: SourceRow>(heap: &mut Heap, m: u8, d: Slot, t: Slot, fields: &R)
     requires mutator { m < heap.old.mutators }
     requires row { R.is_row fields.now }
-    requires links { HasNoLinks heap.old }
     ensures step { sources_step (idle_state heap.old) m d t 0 (R.sources fields.now) ≡ idle_state heap.new }
-    ensures links { HasNoLinks heap.new }
+    ensures links { (marked : Bool) → LinksNothing marked heap.old → LinksNothing marked heap.new }
     ensures mutators { heap.new.mutators ≡ heap.old.mutators }
 {
     for i in 0..fields.count() {

@@ -8,12 +8,12 @@ ghost use Rattle.gc_heap.specs.Raws.{raw_numbers};
 ghost use Rattle.gc_words.specs.Views.{image_of};
 ghost use Rattle.gc_copy.specs.Entries.{entry_in};
 ghost use Rattle.gc_plan.specs.State.{heap_end};
-ghost use Rattle.gc_core.specs.Readings.{heap_image, new_words, new_space, log_of};
+ghost use Rattle.gc_core.specs.Readings.{ShowsHeap, heap_image, new_words, new_space, log_of};
 
 use crate::collected_heap::CollectedHeap;
-use gc_copy::{LogEntry, images_show_links};
+use gc_copy::{LogEntry, heaps_have_addresses_as_names, images_show_links, link_mark};
 use gc_graph::Slot;
-use gc_words::{ImageRef, OldAddr};
+use gc_words::{ImageRef, OldAddr, lower_links};
 
 /// The new space of an open collection, and how far the scan has come.
 #[derive(Clone, Copy, Debug, PartialEq, Eq)]
@@ -102,14 +102,34 @@ impl CollectedHeap {
         }
     }
 
-    /// Returns the mutators' space with its links, and the roots.
+    /// Returns the mutators' space and the roots. The low 32 bits of an original's link are its replica's address. All other bits of
+    /// links may have any value: `copy_words` copies the exact links.
     pub fn image(&self) -> ImageRef<'_>
-        ensures { image_of result ≡ heap_image self.now }
+        ensures shows { ShowsHeap self.now (image_of result) }
+        ensures count { length result.words.now ≡ length (heap_image self.now).words }
     {
+        heaps_have_addresses_as_names();
         images_show_links();
+        // Here the prover learns that the heap and the collection are sound.
+        let _ = self.heap.space();
+        if let Some(collection) = &self.collection {
+            let _ = collection.new_image(&[]);
+        }
+        self.heap.image()
+    }
+
+    /// Copies the words of the mutators' space with their exact links, for callers that show them to a person or to C.
+    pub fn copy_words(&self, words: &mut [u64])
+        requires { length words.old ≡ length (heap_image self.now).words }
+        ensures { words.new ≡ (heap_image self.now).words }
+    {
         // Here the prover learns that the heap is sound.
         let _ = self.heap.space();
-        self.heap.image()
+        words.copy_from_slice(self.heap.image().words);
+        match &self.collection {
+            None => lower_links(words, link_mark(self.marked)),
+            Some(collection) => lower_links(words, link_mark(collection.is_marked())),
+        }
     }
 
     /// Returns the words of the open collection's new space (to-space) with its links, or `None` if none is open.

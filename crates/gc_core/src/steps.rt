@@ -1,4 +1,4 @@
-ghost use Rattle.std.specs.Prelude.{◌≡◌, not, if◌then◌else◌};
+ghost use Rattle.std.specs.Prelude.{◌≡◌, ◌≤◌, IfOk, not, if◌then◌else◌};
 ghost use Rattle.gc_plan.specs.Steps.{scan_done, apply_or_flip, first_log};
 ghost use Rattle.gc_copy.specs.Words.{collection_in};
 ghost use Rattle.gc_plan.specs.declared.step.Step.{Step};
@@ -7,9 +7,11 @@ use crate::collected_heap::CollectedHeap;
 use crate::flip::Keep;
 use crate::known::{Searched, search};
 use gc_check::Checks;
-use gc_copy::{Collection, Step, StepReply};
+use gc_copy::{Collection, Room, Step, StepReply};
 use gc_graph::{NoMemory, root_count};
+use gc_heap::Heap;
 use gc_plan::root_replicas_stay;
+use std::alloc::Global;
 
 impl CollectedHeap {
     ghost use Rattle.std.specs.Prelude.{◌≢◌, ◌<◌, ◌≤◌, IfOk, OnErr};
@@ -62,7 +64,8 @@ impl CollectedHeap {
         if self.collection.is_some() {
             return Ok(StepReply::Busy);
         }
-        self.collection = Some(Collection::begin_sized(self.alloc, &self.heap, size)?);
+        let room = room_for(self.alloc, &self.heap, size, self.room.take())?;
+        self.collection = Some(Collection::begin_in(room, &self.heap, self.marked));
         self.known.slots = 0;
         self.known.extra = 0;
         Ok(StepReply::Begun)
@@ -138,6 +141,7 @@ impl CollectedHeap {
         let Some(collection) = self.collection.take() else {
             return StepReply::Idle;
         };
+        self.marked = collection.is_marked();
         collection.drop_into(&mut self.heap);
         StepReply::Dropped
     }
@@ -175,6 +179,19 @@ impl CollectedHeap {
         }
         step_after_roots(collection)
     }
+}
+
+/// Returns the room that a collection was left if it has this size, and otherwise new room.
+fn room_for(alloc: Global, heap: &Heap, size: u32, left: Option<Room>) -> Result<Room, NoMemory>
+    requires { 1 ≤ size }
+    ensures { IfOk result (λ room. room ≡ record { size = size; mutators = heap.now.mutators }) }
+{
+    if let Some(room) = left {
+        if room.size() == size && room.mutators() == usize::from(heap.mutators()) {
+            return Ok(room);
+        }
+    }
+    Room::new(alloc, size, heap.mutators())
 }
 
 /// Returns the useful step of a collection that has a replica of each root's target.

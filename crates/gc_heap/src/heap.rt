@@ -207,6 +207,16 @@ impl Heap {
         self.space.set_link(Addr(old.0), u64::from(new.0));
     }
 
+    /// Writes any word as the link of the object that starts at `old`.
+    pub fn set_link_word(&mut self, old: OldAddr, word: u64)
+        requires { IsTrue (is_start self.old.space.words old.0) }
+        ensures words { self.new ≡ record self.old { space = with_word self.old.space (link_place old.0) word } }
+        ensures graph { graph_in self.new ≡ graph_in self.old }
+        ensures sound { IsHeap self.new }
+    {
+        self.space.set_link(Addr(old.0), word);
+    }
+
     /// Sets all link words to 0.
     pub fn clear_links(&mut self)
         ensures words { self.new ≡ record self.old { space = without_links self.old.space } }

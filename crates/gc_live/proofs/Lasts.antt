@@ -3,10 +3,10 @@ use Rattle.std.proofs.Common.{◌≡◌, ◌⊎◌, inl, inr, ⊎_elim, ℕ, ◌
 use Rattle.std.specs.Prelude.{IfSome, IsTrue}
 use Rattle.gc_words.specs.Spelling.{no_links}
 use Rattle.gc_heap.specs.declared.options.HeapOptions.{HeapOptions}
-use Rattle.gc_plan.specs.State.{Collection, State, heap_end}
+use Rattle.gc_plan.specs.State.{Collection, State}
 use Rattle.gc_copy.specs.Opening.{opening_state_with}
 use Rattle.gc_along.specs.Watch.{opening}
-use Rattle.gc_plan.specs.Linked.{old_links}
+use Rattle.gc_plan.specs.Linked.{LeadsToOpen}
 use Rattle.gc_plan.specs.Steps.{is_ready, log_at, apply_log, collect, collect_with, step_in, with_collection, fresh_collection, flipped, passes_check}
 use Rattle.gc_plan.specs.Belonging.{IsSpaceGraph, IsOpened, IsOpen}
 use Rattle.gc_plan.specs.declared.step.Step.{Step}
@@ -16,7 +16,6 @@ use Rattle.gc_plan.specs.declared.step.StepReply.TheVariants.{Idle, Copied, Pass
 use Rattle.std.proofs.lemmas.List.{length-map, length-replicate}
 use Rattle.gc_plan.proofs.Public.{begun_belongs, steps_stay}
 use Rattle.gc_core.specs.Flip.{flip_pair, HasAccepted, IsSureIfReady}
-use Rattle.gc_core.specs.Readings.{links_of}
 use Rattle.gc_along.specs.Claims.{Accepts, CanPlace, CanLook, CanApply, OwesNone}
 use Rattle.gc_along.specs.Events.{Placed, Looked, Applied as AppliedTo, Freed, flipped_tables, opening_tables}
 use Rattle.gc_along.specs.Tables.{Tables, watch_of}
@@ -76,9 +75,13 @@ opened_by s words are = go s.collection refl are
     go None e h = absurd (let no : None ≡ Some words = h in cc)
     go (Some next) e h = (next, e, (let r : Some (replica_words next) ≡ Some words = h in cc))
 
-module _ (s s' : State) (old words : List ℕ) (heap : IsSpaceGraph s.size s.heap.free s.heap.graph) (is_open : IsOpen s s.collection) (is_open' : IsOpen s' s'.collection) (old_is : old ≡ heap_words (links_of s'.collection) s') (are : AreNew s' words) where
-  old_words : (next : Collection) → s' ≡ with_collection s (Some next) → old ≡ heap_words (links_of s'.collection) s
-  old_words next is = old_is ∙ ap (λ (x : State). heap_words (links_of s'.collection) x) is
+-- the words that a caller read are those of the mutators' space, with links that lead to the open collection's replicas
+abbrev pub AreOld : State → List ℕ → Type 0
+AreOld s old = (links : ℕ → ℕ) × LeadsToOpen links s.collection × (old ≡ heap_words links s)
+
+module _ (s s' : State) (old words : List ℕ) (heap : IsSpaceGraph s.size s.heap.free s.heap.graph) (is_open : IsOpen s s.collection) (is_open' : IsOpen s' s'.collection) (olds : AreOld s' old) (are : AreNew s' words) where
+  old_words : (next : Collection) → s' ≡ with_collection s (Some next) → old ≡ heap_words olds.0 s
+  old_words next is = olds.2 ∙ ap (heap_words olds.0) is
 
   pub lasts_roots : (t after : Tables) → collect s steps.Roots ≡ (Copied, s') → (t.lost ≡ false → CanPlace old words t → after.lost ≡ false) → (after.lost ≡ false → Placed old words t after) → (after.lost ≡ false → OwesNone old words t after)
       → IsLive s t → IsNeverLost s t → IsNeverLost s' after
@@ -88,7 +91,7 @@ module _ (s s' : State) (old words : List ℕ) (heap : IsSpaceGraph s.size s.hea
       let new = opened_by s' words are in
       let next = new.0 in
       let x = in_open s s' steps.Roots Copied c next (λ e. cc) said is_open is_open' first.1 new.1 in
-      let links = links_of s'.collection in
+      let links = olds.0 in
       let goes = goes_in s c t first.1 live k.found in
       let knows = knows_in s c t first.1 k in
       let o = old_words next x.is in
@@ -109,7 +112,7 @@ module _ (s s' : State) (old words : List ℕ) (heap : IsSpaceGraph s.size s.hea
       let new = opened_by s' words are in
       let next = new.0 in
       let x = in_open s s' steps.Scan Scanned c next (λ e. cc) said is_open is_open' first new.1 in
-      let links = links_of s'.collection in
+      let links = olds.0 in
       let goes = goes_in s c t first live k.found in
       let knows = knows_in s c t first k in
       let o = old_words next x.is in
@@ -135,7 +138,7 @@ module _ (s s' : State) (old words : List ℕ) (heap : IsSpaceGraph s.size s.hea
       let new = opened_by s' words are in
       let next = new.0 in
       let x = in_open s s' (steps.Apply m) Applied c next (λ e. cc) said is_open is_open' first.1 new.1 in
-      let links = links_of s'.collection in
+      let links = olds.0 in
       let goes = goes_in s c t first.1 live k.found in
       let knows = knows_in s c t first.1 k in
       let o = old_words next x.is in
@@ -145,7 +148,7 @@ module _ (s s' : State) (old words : List ℕ) (heap : IsSpaceGraph s.size s.hea
       let found : mid.lost ≡ false = stays k.found (subst (λ ws. CanPlace ws words t) (sym o) (subst (λ ws. CanPlace (heap_words links s) ws t) (sym new.2) can)) in
       let is_placed = subst (λ ws. Placed ws (replica_words next) t mid) o (subst (λ ws. Placed old ws t mid) new.2 (placed found)) in
       let owes = subst (λ ws. OwesNone ws (replica_words next) t mid) o (subst (λ ws. OwesNone old ws t mid) new.2 (copied found)) in
-      let see = entry_looked s c next t links heap x.before x.opened goes knows s' m entry l.0 l.1 did new.1 mid is_placed owes (λ a. ap (λ p. links_of p a) new.1) in
+      let see = entry_looked s c next t links heap x.before x.opened goes knows s' m entry l.0 l.1 did new.1 mid is_placed owes (subst (LeadsToOpen links) new.1 olds.1) in
       let found' : after.lost ≡ false = stays' found (subst (λ ws. CanApply ws words entry.0 entry.1 mid) (sym o) (subst (λ ws. CanApply (heap_words links s) ws entry.0 entry.1 mid) (sym new.2) see)) in
       record {
         found = found';

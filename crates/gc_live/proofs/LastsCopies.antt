@@ -1,5 +1,5 @@
 -- A standing checker that is not lost stays so, through fields that are copied in one call.
-use Rattle.std.proofs.Common.{◌≡◌, ◌⊎◌, inl, inr, ⊎_elim, ◌<◌, ◌≤◌, ◌+◌, ℕ, zero, suc, true, false, List, map, length, Option, Some, None, refl, sym, ap, subst, ◌∙◌, arith}
+use Rattle.std.proofs.Common.{◌≡◌, inl, inr, ⊎_elim, ◌<◌, ◌≤◌, ◌+◌, ℕ, zero, suc, List, map, Option, Some, None, refl, sym, ap, subst, ◌∙◌, arith}
 use Rattle.std.proofs.lemmas.Bool.{cases_eq}
 use Rattle.std.specs.Prelude.{Result, Ok, Err, IfOk, OnErr}
 use Rattle.std.specs.Option.{option_map}
@@ -15,13 +15,13 @@ use Rattle.gc_plan.specs.Steps.{mutate}
 use Rattle.gc_plan.specs.Members.{In}
 use Rattle.gc_plan.specs.Belonging.{IsLogged, IsSpaceGraph, IsOpened, IsOpen}
 use Rattle.gc_plan.proofs.Public.{WrittenBy, root_kept}
-use Rattle.gc_core.specs.Readings.{links_of}
 use Rattle.gc_core.specs.Copying.{object_in, copy_reply, copy_step, copy_fields_step, AllCopied}
 use Rattle.gc_along.specs.Tables.{Tables}
-use Rattle.gc_beside.specs.Internal.Live.{IsLive, heap_words, IsNeverLost}
+use Rattle.gc_beside.specs.Internal.Live.{IsLive, IsNeverLost}
 use Rattle.gc_beside.proofs.Public.{Continues, continues_same}
 use Rattle.gc_live.specs.Internal.Told.{ToldTruly}
 use Rattle.gc_live.proofs.CopiesTold.{all_or_none, copies_lead, slot_kept}
+use Rattle.gc_live.proofs.Lasts.{AreOld}
 use Rattle.gc_live.proofs.LastsOn.{NoName, HasLog, beside, beside_lasts, open_after, lasts_quietly, log_of_open, log_after, noted, quiet_one, quiet_two}
 use Rattle.gc_live.proofs.LastsNumbers.{carried, told_all}
 
@@ -56,7 +56,7 @@ copies_logged (suc count) s m i j a d from t apart at has all e there x low high
 
 pub lasts_copied : (s s' : State) (m to from count a : ℕ) (d src t : SlotName) (old : List ℕ) (w after : Tables) → IsOpen s s.collection → IsOpen s' s'.collection → IsSpaceGraph s'.size s'.heap.free s'.heap.graph → m < s.mutators
     → (place t m ≡ place d m → ⊥) → root s.heap.graph (place d m) ≡ Ref a → AllCopied s m d to src from t count → copy_step s m d to src from t count ≡ s' → (s.collection ≡ None → ⊥)
-    → old ≡ heap_words (links_of s'.collection) s' → ToldTruly old a to count w after → IsLive s w → IsNeverLost s w → IsNeverLost s' after
+    → AreOld s' old → ToldTruly old a to count w after → IsLive s w → IsNeverLost s w → IsNeverLost s' after
 lasts_copied s s' m to from count a d src t old w after is_open is_open' heap less apart at all is not_closed old_is told live k =
     let on = subst (λ (x : State). Continues s x NoName) is (copies_quiet count s m to from d src t) in
     let end : heap_end s ≡ heap_end s' = (copies_lead count s m to from a d src t apart at).1 ∙ ap heap_end is in

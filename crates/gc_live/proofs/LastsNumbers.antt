@@ -17,13 +17,13 @@ use Rattle.gc_plan.specs.Steps.{mutate}
 use Rattle.gc_plan.specs.Members.{In}
 use Rattle.gc_plan.specs.Belonging.{IsLogged, IsSpaceGraph, IsOpened, IsOpen}
 use Rattle.gc_plan.proofs.Public.{WrittenBy, get_within, get_set_same}
-use Rattle.gc_core.specs.Readings.{links_of}
 use Rattle.gc_core.specs.Writing.{is_number_word, numbers_step, numbers_reply, put_numbers_step}
 use Rattle.gc_graph.specs.declared.no_memory.NoMemory.{NoMemory}
 use Rattle.gc_along.specs.Tables.{Tables}
-use Rattle.gc_beside.specs.Internal.Live.{IsLive, heap_words, IsNeverLost}
+use Rattle.gc_beside.specs.Internal.Live.{IsLive, IsNeverLost}
 use Rattle.gc_beside.proofs.Public.{Continues, SameOpen, continues_same, leads_one, put_roots}
 use Rattle.gc_live.specs.Internal.Told.{ToldTruly}
+use Rattle.gc_live.proofs.Lasts.{AreOld}
 use Rattle.gc_live.proofs.LastsOn.{NoName, IsBeside, HasLog, beside, beside_lasts, told_write, open_after, lasts_quietly, log_of_open, log_after, noted, quiet_one, quiet_two}
 use Rattle.gc_live.proofs.NumbersTold.{all_or_none, num_roots, numbers_lead}
 
@@ -106,7 +106,7 @@ numbers_logged (n ∷ rest) s m i a d t o apart at less has found fits e there j
 
 -- ---- all are told
 
-pub told_all : (n : ℕ) (s : State) (d : Collection) (old : List ℕ) (t after : Tables) (a i : ℕ) → s.collection ≡ Some d → IsSpaceGraph s.size s.heap.free s.heap.graph → IsOpened s d → old ≡ heap_words (links_of s.collection) s
+pub told_all : (n : ℕ) (s : State) (d : Collection) (old : List ℕ) (t after : Tables) (a i : ℕ) → s.collection ≡ Some d → IsSpaceGraph s.size s.heap.free s.heap.graph → IsOpened s d → AreOld s old
     → ((j : ℕ) → i ≤ j → j < i + n → IsLogged d a j) → ToldTruly old a i n t after → IsBeside s d t → IsBeside s d after
 told_all zero s d old t after a i there heap opened is logged same k = subst (IsBeside s d) same k
 told_all (suc n) s d old t after a i there heap opened is logged (next, stays, wrote, rest) k =
@@ -131,7 +131,7 @@ taker g m first a d words at done = go (lookup g.objects a) refl (subst (λ v. n
 
 pub lasts_numbers : (s s' : State) (m first a : ℕ) (d t : SlotName) (words old : List ℕ) (w after : Tables) → IsOpen s s.collection → IsOpen s' s'.collection → IsSpaceGraph s'.size s'.heap.free s'.heap.graph → m < s.mutators
     → (place t m ≡ place d m → ⊥) → root s.heap.graph (place d m) ≡ Ref a → place t m < length s.heap.graph.roots → numbers_reply first words (raw_numbers s.heap.graph d m) ≡ replies.Done
-    → numbers_step s m d t first words ≡ s' → (s.collection ≡ None → ⊥) → old ≡ heap_words (links_of s'.collection) s' → ToldTruly old a first (length words) w after → IsLive s w → IsNeverLost s w → IsNeverLost s' after
+    → numbers_step s m d t first words ≡ s' → (s.collection ≡ None → ⊥) → AreOld s' old → ToldTruly old a first (length words) w after → IsLive s w → IsNeverLost s w → IsNeverLost s' after
 lasts_numbers s s' m first a d t words old w after is_open is_open' heap less apart at in_roots done is not_closed old_is told live k =
     let on = subst (λ (x : State). Continues s x NoName) is (numbers_quiet words s m first d t) in
     let end : heap_end s ≡ heap_end s' = (numbers_lead words s m first a d t apart at).1 ∙ ap heap_end is in

@@ -20,16 +20,15 @@ use Rattle.gc_plan.specs.Belonging.{IsLogged, IsNamed, RefersTo, IsSpaceGraph, I
 use Rattle.gc_plan.proofs.Public.{WrittenBy, root_fine, laid_range, in_right, pair, replicas_end}
 use Rattle.gc_core.specs.CollectedHeap.{fill_step, filled, new_from_step}
 use Rattle.gc_core.specs.ExtraRoots.{clear_step}
-use Rattle.gc_core.specs.Readings.{links_of}
-use Rattle.gc_core.specs.Writing.{numbers_step}
+use Rattle.gc_plan.specs.Linked.{LeadsToOpen}
 use Rattle.gc_along.specs.Claims.{CanMake, CanWrite}
 use Rattle.gc_along.specs.Events.{Made, Wrote}
 use Rattle.gc_along.specs.Tables.{Tables, watch_of}
 use Rattle.gc_beside.specs.Internal.Live.{GoesBeside, IsLive, heap_words, IsNeverLost}
-use Rattle.gc_beside.specs.Knows.{Knows, KnowsAll, open_or_fresh}
+use Rattle.gc_beside.specs.Knows.{Knows, open_or_fresh}
 use Rattle.gc_beside.specs.Stays.{Fits}
 use Rattle.gc_beside.proofs.Public.{Continues, SameBut, SameOpen, NewName, continues_same, continues_on, continues_one, quiet_known, can_make, made_known, can_write, wrote_known, EndsMore, ends_more, lives_quiet, lives_unopened, new_op, not_done, end_by, lives_number, lives_number_closed, was_open}
-use Rattle.gc_live.proofs.Lasts.{goes_of, goes_in}
+use Rattle.gc_live.proofs.Lasts.{AreOld, goes_of}
 
 -- no object was made
 abbrev pub NoName : ℕ → Type 0
@@ -158,11 +157,11 @@ beside s s' d t on end there live k = record {
 
 module _ (s : State) (d : Collection) (there : s.collection ≡ Some d) (heap : IsSpaceGraph s.size s.heap.free s.heap.graph) (opened : IsOpened s d) where
   -- one of them is told
-  pub told_write : (old : List ℕ) (t after : Tables) (a i : ℕ) → old ≡ heap_words (links_of s.collection) s → IsBeside s d t → IsLogged d a i → (t.lost ≡ false → CanWrite old a i t → after.lost ≡ false) → (after.lost ≡ false → Wrote a i t after) → IsBeside s d after
-  told_write old t after a i is k noted stays wrote =
-      let can = can_write s d (links_of s.collection) heap opened t k.fits k.knows a i noted (λ b. ap (λ o. links_of o b) there) in
-      let found : after.lost ≡ false = stays k.found (subst (λ ws. CanWrite ws a i t) (sym is) can) in
-      let h = wrote_known s d (links_of s.collection) heap opened t k.fits k.knows a i noted after (wrote found) in
+  pub told_write : (old : List ℕ) (t after : Tables) (a i : ℕ) → AreOld s old → IsBeside s d t → IsLogged d a i → (t.lost ≡ false → CanWrite old a i t → after.lost ≡ false) → (after.lost ≡ false → Wrote a i t after) → IsBeside s d after
+  told_write old t after a i olds k noted stays wrote =
+      let can = can_write s d olds.0 heap opened t k.fits k.knows a i noted (subst (LeadsToOpen olds.0) there olds.1) in
+      let found : after.lost ≡ false = stays k.found (subst (λ ws. CanWrite ws a i t) (sym olds.2) can) in
+      let h = wrote_known s d olds.0 heap opened t k.fits k.knows a i noted after (wrote found) in
       record { found = found; fits = h.1; knows = h.0 }
 
   pub beside_lasts : (t : Tables) → IsBeside s d t → IsNeverLost s t
@@ -215,7 +214,7 @@ noted s s' m op reply a i has said w d there = go s.collection has (ap (λ (x : 
 -- ---- one field, by the last of some commands
 
 pub lasts_written_by : (s mid s' : State) (m : ℕ) (put : Op) (reply : Reply) (old : List ℕ) (t after : Tables) (a i : ℕ) → HasLog mid.collection m → IsOpen s' s'.collection → IsSpaceGraph s'.size s'.heap.free s'.heap.graph
-    → Continues s mid NoName → heap_end s ≡ heap_end mid → mutate mid m put ≡ (reply, s') → words_taken put ≡ 0 → WrittenBy mid.heap.graph m put reply a i → (s.collection ≡ None → ⊥) → old ≡ heap_words (links_of s'.collection) s'
+    → Continues s mid NoName → heap_end s ≡ heap_end mid → mutate mid m put ≡ (reply, s') → words_taken put ≡ 0 → WrittenBy mid.heap.graph m put reply a i → (s.collection ≡ None → ⊥) → AreOld s' old
     → (t.lost ≡ false → CanWrite old a i t → after.lost ≡ false) → (after.lost ≡ false → Wrote a i t after) → IsLive s t → IsNeverLost s t → IsNeverLost s' after
 lasts_written_by s mid s' m put reply old t after a i has is_open heap first end said none wrote_it not_closed is stays wrote live k =
     let on = quiet_two s mid s' first (quiet_one mid s' m put reply said none) in
@@ -225,13 +224,13 @@ lasts_written_by s mid s' m put reply old t after a i has is_open heap first end
     beside_lasts s' d.0 d.1 heap opened after (told_write s' d.0 d.1 heap opened old t after a i is b (noted mid s' m put reply a i has said wrote_it d.0 d.1) stays wrote)
 
 pub lasts_written : (s s' : State) (m : ℕ) (put : Op) (reply : Reply) (old : List ℕ) (t after : Tables) (a i : ℕ) → IsOpen s s.collection → IsOpen s' s'.collection → IsSpaceGraph s'.size s'.heap.free s'.heap.graph → m < s.mutators
-    → mutate s m put ≡ (reply, s') → words_taken put ≡ 0 → WrittenBy s.heap.graph m put reply a i → (s.collection ≡ None → ⊥) → old ≡ heap_words (links_of s'.collection) s'
+    → mutate s m put ≡ (reply, s') → words_taken put ≡ 0 → WrittenBy s.heap.graph m put reply a i → (s.collection ≡ None → ⊥) → AreOld s' old
     → (t.lost ≡ false → CanWrite old a i t → after.lost ≡ false) → (after.lost ≡ false → Wrote a i t after) → IsLive s t → IsNeverLost s t → IsNeverLost s' after
 lasts_written s s' m put reply old t after a i is_open is_open' heap less said none wrote_it not_closed is stays wrote live k =
     lasts_written_by s s s' m put reply old t after a i (log_of_open s m is_open less) is_open' heap (continues_same s NoName) refl said none wrote_it not_closed is stays wrote live k
 
 pub lasts_number : (s mid s' : State) (m : ℕ) (op : Op) (one : Reply) (put : Op) (reply : Reply) (old : List ℕ) (t after : Tables) (a i : ℕ) → IsOpen s s.collection → IsOpen s' s'.collection → IsSpaceGraph s'.size s'.heap.free s'.heap.graph → m < s.mutators
-    → mutate s m op ≡ (one, mid) → words_taken op ≡ 0 → mutate mid m put ≡ (reply, s') → words_taken put ≡ 0 → WrittenBy mid.heap.graph m put reply a i → (s.collection ≡ None → ⊥) → old ≡ heap_words (links_of s'.collection) s'
+    → mutate s m op ≡ (one, mid) → words_taken op ≡ 0 → mutate mid m put ≡ (reply, s') → words_taken put ≡ 0 → WrittenBy mid.heap.graph m put reply a i → (s.collection ≡ None → ⊥) → AreOld s' old
     → (t.lost ≡ false → CanWrite old a i t → after.lost ≡ false) → (after.lost ≡ false → Wrote a i t after) → IsLive s t → IsNeverLost s t → IsNeverLost s' after
 lasts_number s mid s' m op one put reply old t after a i is_open is_open' heap less first none said none' wrote_it not_closed is stays wrote live k =
     lasts_written_by s mid s' m put reply old t after a i (log_after s mid m m op one first (log_of_open s m is_open less)) is_open' heap (quiet_one s mid m op one first none) (end_by s mid m op one first none) said none' wrote_it not_closed is stays wrote live k

@@ -130,7 +130,7 @@ impl LiveHeap {
     ghost use Rattle.std.specs.Option.{option_map};
     ghost use Rattle.gc_words.specs.Views.{image_of};
     ghost use Rattle.gc_copy.specs.Entries.{entry_in};
-    ghost use Rattle.gc_core.specs.Readings.{heap_image, new_words, new_space, log_of};
+    ghost use Rattle.gc_core.specs.Readings.{ShowsHeap, heap_image, new_words, new_space, log_of};
 
     /// Returns an empty heap of `size` words, at least 1, for 1 to 16 mutators, whose flips are checked along with the collection.
     pub fn open(alloc: Global, size: u32, mutators: u8) -> Result<LiveHeap, NoMemory>
@@ -680,11 +680,21 @@ impl LiveHeap {
         self.inner.log_entry(m, k)
     }
 
-    /// Returns the mutators' space with its links, and the roots.
+    /// Returns the mutators' space and the roots. The low 32 bits of an original's link are its replica's address. All other bits of
+    /// links may have any value: `copy_words` copies the exact links.
     pub fn image(&self) -> ImageRef<'_>
-        ensures { image_of result ≡ heap_image self.now }
+        ensures shows { ShowsHeap self.now (image_of result) }
+        ensures count { length result.words.now ≡ length (heap_image self.now).words }
     {
         self.inner.image()
+    }
+
+    /// Copies the words of the mutators' space with their exact links, for callers that show them to a person or to C.
+    pub fn copy_words(&self, words: &mut [u64])
+        requires { length words.old ≡ length (heap_image self.now).words }
+        ensures { words.new ≡ (heap_image self.now).words }
+    {
+        self.inner.copy_words(words);
     }
 
     /// Returns the words of the open collection's new space (to-space) with its links, or `None` if none is open.
@@ -720,16 +730,17 @@ impl LiveHeap {
         }
     }
 
-    /// Checks the certificate of the open collection, if that is ready, by both spaces whole. Changes nothing. Allocates what a flip that is
-    /// checked whole does, and frees it before it returns.
-    pub fn check<C: Checks>(&self, checker: &C) -> Result<Finding, NoMemory>
+    /// Checks the certificate of the open collection, if that is ready, by both spaces whole. The heap stays as it is. Allocates what a flip
+    /// that is checked whole does, and frees it before it returns.
+    pub fn check<C: Checks>(&mut self, checker: &C) -> Result<Finding, NoMemory>
         requires { C.can_check checker.now }
-        ensures finding { IfOk result (λ found. found ≡ finding self.now) }
+        ensures finding { IfOk result (λ found. found ≡ finding self.old) }
         // It finds that the certificate holds only if this checker said yes.
-        ensures asked { IfOk result (HoldsOnly (C.says_yes checker.now) self.now) }
-        ensures sound { IfOk result (HoldsOnly IsCertified self.now) }
+        ensures asked { IfOk result (HoldsOnly (C.says_yes checker.now) self.old) }
+        ensures sound { IfOk result (HoldsOnly IsCertified self.old) }
         // Only the check of a ready collection allocates.
-        ensures allocates { OnErr result (Allocates self.now Step.Flip) }
+        ensures allocates { OnErr result (Allocates self.old Step.Flip) }
+        ensures same { self.new ≡ self.old }
     {
         self.inner.check(checker)
     }

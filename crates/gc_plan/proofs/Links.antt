@@ -1,12 +1,13 @@
 -- What the links in the two spaces of a collection mean.
-use Rattle.std.proofs.Common.{Bool, ◌≡◌, inl, inr, ⊎_elim, ℕ, ◌+◌, ◌==◌, true, false, List, [], ◌∷◌, map, length, Option, Some, None, is_none, refl, ap, sym, ◌∙◌, subst, arith}
+use Rattle.std.proofs.Common.{Bool, ◌≡◌, inl, inr, ⊎_elim, ℕ, ◌+◌, ◌%◌, ◌≤◌, ◌==◌, true, false, List, [], ◌∷◌, map, length, Option, Some, None, is_none, refl, ap, sym, ◌∙◌, subst, arith}
 use Rattle.std.proofs.lemmas.Bool.{cases_Bool, cond-true, cond-false, eqb-true, eqb-false, eq-eqb, ne_eqb}
+use Rattle.gc_graph.specs.Limits.{largest_space}
 use Rattle.gc_graph.specs.Graph.{Value, Ref, Object, set_field, with_field}
-use Rattle.gc_plan.specs.State.{Replica, Collection, new_objects, replica_of, replica_at, moved, moved_name}
+use Rattle.gc_plan.specs.State.{Replica, Collection, new_end, new_objects, replica_of, replica_at, moved, moved_name}
 use Rattle.gc_plan.specs.Steps.{with_written, write_replica}
 use Rattle.gc_plan.specs.Members.{In, Distinct}
 use Rattle.gc_plan.specs.Belonging.{Laid, BelongsBy}
-use Rattle.gc_plan.specs.Linked.{place_or_zero, original_or_zero, old_links, new_links}
+use Rattle.gc_plan.specs.Linked.{LeadsTo, place_or_zero, original_or_zero, old_links, new_links}
 use Rattle.gc_plan.proofs.Lists.{in_map, find_some, find_exists}
 use Rattle.gc_plan.proofs.Heap.{laid_range}
 use Rattle.gc_plan.proofs.Replicas.{placed, replicas_end, replica_in, replica_exists}

@@ -1,5 +1,5 @@
 -- The image of a graph whose names are addresses, with links. What the collector and the mutators do is defined without links.
-use Rattle.std.specs.Prelude.{ℕ, if◌then◌else◌, List, length, map, Option, Some, None}
+use Rattle.std.specs.Prelude.{◌≡◌, ℕ, ◌%◌, ◌^◌, if◌then◌else◌, List, length, map, Option, Some, None, IfSome}
 use Rattle.gc_graph.specs.Graph.{Value, Num, Object, Graph}
 use Rattle.gc_words.specs.Word.{word_of}
 use Rattle.gc_words.specs.Image.{Block, Image}
@@ -55,6 +55,14 @@ old_links c a = place_or_zero (replica_of c a)
 -- in the new space a replica's link is its original's address
 abbrev pub new_links : Collection → ℕ → ℕ
 new_links c b = original_or_zero (replica_at c b)
+
+-- The low 32 bits of an original's link are its replica's address. The other bits, and the links of other objects, may have any value.
+abbrev pub LeadsTo : (ℕ → ℕ) → Collection → Type 0
+LeadsTo links c = (a : ℕ) (r : Replica) → replica_of c a ≡ Some r → links a % 2 ^ 32 ≡ r.place
+
+-- the same of the open collection, if there is one
+abbrev pub LeadsToOpen : (ℕ → ℕ) → Option Collection → Type 0
+LeadsToOpen links collection = IfSome collection (LeadsTo links)
 
 -- the two images, with links, that the checker gets and a flip keeps; the new one has the moved roots
 abbrev pub old_image : State → Collection → Image

@@ -13,7 +13,7 @@ use Rattle.gc_graph.specs.declared.command.Op.{Op}
 use Rattle.gc_shared.specs.Seats.{SeatValue}
 use Rattle.gc_shared.specs.declared.fault.ThreadsFault.{ThreadsFault}
 use Rattle.gc_shared.specs.Scripts.{script_at}
-use Rattle.gc_shared.specs.Internal.Scripts.{HasPlayed, HasTurned, HavePlayed, HaveEnded}
+use Rattle.gc_shared.specs.Internal.Scripts.{HasPerformed, HasTurned, HavePlayed, HaveEnded}
 use Rattle.gc_shared.specs.Internal.Players.{Player, AreToPlay, AreNext, IsToPlay}
 
 -- the first of the seats from a on, and the others
@@ -44,11 +44,11 @@ pub script_here : (scripts : List (Vec Op Global)) (m : ℕ) (v : Vec Op Global)
 script_here scripts m v lt is = ap (λ (v : Vec Op Global). v.items) is ∙ sym (get_or-map (λ (v : Vec Op Global). v.items) scripts m v [] lt)
 
 -- one more seat has played
-pub HavePlayed-more : (scripts : List (Vec Op Global)) (n : ℕ) (seats : List SeatValue) (s : SeatValue) → HavePlayed scripts n seats → HasPlayed n (script_at scripts n) s → HavePlayed scripts (n + 1) (seats ++ s ∷ [])
+pub HavePlayed-more : (scripts : List (Vec Op Global)) (n : ℕ) (seats : List SeatValue) (s : SeatValue) → HavePlayed scripts n seats → HasPerformed n (script_at scripts n) s → HavePlayed scripts (n + 1) (seats ++ s ∷ [])
 HavePlayed-more scripts n seats s all here = record {
   count = omega (arith, all.count, length-append seats (s ∷ []));
   each = λ m d lt.
-      let P : ℕ → SeatValue → Type 0 = λ i t. HasPlayed i (script_at scripts i) t in
+      let P : ℕ → SeatValue → Type 0 = λ i t. HasPerformed i (script_at scripts i) t in
       at_more P seats s (λ i e below. all.each i e (omega (arith, below, all.count))) (rw all.count here) m d (omega (arith, lt, all.count, length-append seats (s ∷ [])));
 }
 

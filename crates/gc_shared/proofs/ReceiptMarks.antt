@@ -13,30 +13,30 @@ use Rattle.gc_shared.specs.Receipts.{IsRecorded, times_at}
 use Rattle.gc_shared.specs.Closing.{floor_of, Stands, AllStand, IsFirstTorn, SeatsStand, receipts_of, receipts_below}
 use Rattle.gc_shared.specs.Internal.Marks.{IsMarked, IsFree, AgreeByNumber}
 
-pub floor_of-snoc : (low : ℕ) (rs : List Receipt) (r : Receipt) → floor_of low (rs ++ r ∷ []) ≡ r.place + 1
+floor_of-snoc : (low : ℕ) (rs : List Receipt) (r : Receipt) → floor_of low (rs ++ r ∷ []) ≡ r.place + 1
 floor_of-snoc low [] r = refl
 floor_of-snoc low (q ∷ rs) r = floor_of-snoc (q.place + 1) rs r
 
 -- one more receipt stands
-pub AllStand-snoc : (history : List Entry) (earlier : List Receipt) (low : ℕ) (rs : List Receipt) (r : Receipt) → AllStand history earlier low rs → Stands history earlier (floor_of low rs) r → AllStand history earlier low (rs ++ r ∷ [])
+AllStand-snoc : (history : List Entry) (earlier : List Receipt) (low : ℕ) (rs : List Receipt) (r : Receipt) → AllStand history earlier low rs → Stands history earlier (floor_of low rs) r → AllStand history earlier low (rs ++ r ∷ [])
 AllStand-snoc history earlier low [] r all one = (one, tt)
 AllStand-snoc history earlier low (q ∷ rs) r all one = (all.0, AllStand-snoc history earlier (q.place + 1) rs r all.1 one)
 
-pub floor_above : (history : List Entry) (earlier : List Receipt) (low : ℕ) (rs : List Receipt) → AllStand history earlier low rs → low ≤ floor_of low rs
+floor_above : (history : List Entry) (earlier : List Receipt) (low : ℕ) (rs : List Receipt) → AllStand history earlier low rs → low ≤ floor_of low rs
 floor_above history earlier low [] all = omega arith
 floor_above history earlier low (q ∷ rs) all = omega (arith, all.0.above, floor_above history earlier (q.place + 1) rs all.1)
 
 pub times_at-append : (p : ℕ) (xs ys : List Receipt) → times_at p (xs ++ ys) ≡ times_at p xs + times_at p ys
 times_at-append p xs ys = sum_by-append (λ r. cond (r.place == p) 1 0) xs ys
 
-pub times_at-one : (p : ℕ) (r : Receipt) → r.place ≡ p → times_at p (r ∷ []) ≡ 1
+times_at-one : (p : ℕ) (r : Receipt) → r.place ≡ p → times_at p (r ∷ []) ≡ 1
 times_at-one p r e = grind (arith, nat_tests)
 
-pub times_at-other : (p : ℕ) (r : Receipt) → r.place ≢ p → times_at p (r ∷ []) ≡ 0
+times_at-other : (p : ℕ) (r : Receipt) → r.place ≢ p → times_at p (r ∷ []) ≡ 0
 times_at-other p r e = grind (arith, nat_tests)
 
 -- no receipt of a seat has a place above that of the last receipt
-pub none_at : (history : List Entry) (earlier : List Receipt) (low : ℕ) (rs : List Receipt) (p : ℕ) → AllStand history earlier low rs → floor_of low rs ≤ p → times_at p rs ≡ 0
+none_at : (history : List Entry) (earlier : List Receipt) (low : ℕ) (rs : List Receipt) (p : ℕ) → AllStand history earlier low rs → floor_of low rs ≤ p → times_at p rs ≡ 0
 none_at history earlier low [] p all above = refl
 none_at history earlier low (q ∷ rs) p all above =
     let up = floor_above history earlier (q.place + 1) rs all.1 in
@@ -56,7 +56,7 @@ all_recorded history earlier low (q ∷ rs) all zero d lt = all.0.recorded
 all_recorded history earlier low (q ∷ rs) all (suc k) d lt = all_recorded history earlier (q.place + 1) rs all.1 k d (omega arith)
 
 -- one more mark
-pub marked_more : (marks : List Bool) (rs : List Receipt) (r : Receipt) → r.place < length marks → get_or marks r.place false ≡ false → IsMarked marks rs → IsMarked (set marks r.place true) (rs ++ r ∷ [])
+marked_more : (marks : List Bool) (rs : List Receipt) (r : Receipt) → r.place < length marks → get_or marks r.place false ≡ false → IsMarked marks rs → IsMarked (set marks r.place true) (rs ++ r ∷ [])
 marked_more marks rs r lt free is = record {
   once = λ p below.
       ⊎_elim
@@ -93,7 +93,7 @@ every_counted p (x ∷ xs) all k d lt =
     (cases_Bool (p x))
 
 -- a receipt at a free place stands, if the marks are those of the earlier seats and of the seat's earlier receipts
-pub stands_if_free : (history : List Entry) (earlier before : List Receipt) (marks : List Bool) (r : Receipt) → IsMarked marks (earlier ++ before) → r.place < length marks → IsFree history marks (floor_of 0 before) r → Stands history earlier (floor_of 0 before) r
+stands_if_free : (history : List Entry) (earlier before : List Receipt) (marks : List Bool) (r : Receipt) → IsMarked marks (earlier ++ before) → r.place < length marks → IsFree history marks (floor_of 0 before) r → Stands history earlier (floor_of 0 before) r
 stands_if_free history earlier before marks r is lt free = record {
   recorded = free.recorded;
   above = free.above;
@@ -104,7 +104,7 @@ zero_false : (b : Bool) → ◌≡◌ {A = ℕ} (cond b 1 0) 0 → b ≡ false
 zero_false true e = absurd (omega (arith, e))
 zero_false false e = refl
 
-pub free_if_stands : (history : List Entry) (earlier before : List Receipt) (marks : List Bool) (r : Receipt) → AllStand history earlier 0 before → IsMarked marks (earlier ++ before) → length marks ≡ length history → Stands history earlier (floor_of 0 before) r → IsFree history marks (floor_of 0 before) r
+free_if_stands : (history : List Entry) (earlier before : List Receipt) (marks : List Bool) (r : Receipt) → AllStand history earlier 0 before → IsMarked marks (earlier ++ before) → length marks ≡ length history → Stands history earlier (floor_of 0 before) r → IsFree history marks (floor_of 0 before) r
 free_if_stands history earlier before marks r all is len stands = record {
   recorded = stands.recorded;
   above = stands.above;

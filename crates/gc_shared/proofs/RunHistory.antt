@@ -16,7 +16,7 @@ use Rattle.gc_shared.specs.Seats.{SeatValue, Opening, count_of_seats}
 use Rattle.gc_shared.specs.Closing.{receipts_of, IsWhole}
 use Rattle.gc_shared.specs.Internal.Marks.{AgreeByNumber}
 use Rattle.gc_shared.proofs.SeatNumbers.{agree_by_number}
-use Rattle.gc_shared.specs.Scripts.{HasRun, IsUsefulStep, script_at, is_collect, steps_of}
+use Rattle.gc_shared.specs.Scripts.{HasRunScripts, IsUsefulStep, script_at, is_collect, steps_of}
 use Rattle.gc_plan.specs.Runs.{command_by, commands_of}
 use Rattle.gc_world.specs.History.{events_of}
 use Rattle.gc_shared.specs.Internal.Scripts.{HaveEnded}
@@ -120,7 +120,7 @@ module _ (scripts : List (Vec Op Global)) (turns : ℕ) (seats : List SeatValue)
       let is = receipts (length scripts) (omega arith) in
       ap (map entry_on) (sym is) ∙ selected h seats (length scripts + 1) (length scripts) is_collect agree (omega arith) mine not_mine
 
-pub has_run : (size : ℕ) (scripts : List (Vec Op Global)) (turns : ℕ) (seats : List SeatValue) (o : Opening) (w : Past) → o ≡ record { size = size; mutators = length scripts; collectors = 1 } → HaveEnded scripts turns seats → IsWhole o w seats → HasRun size scripts turns w
+pub has_run : (size : ℕ) (scripts : List (Vec Op Global)) (turns : ℕ) (seats : List SeatValue) (o : Opening) (w : Past) → o ≡ record { size = size; mutators = length scripts; collectors = 1 } → HaveEnded scripts turns seats → IsWhole o w seats → HasRunScripts size scripts turns w
 has_run size scripts turns seats o w is ended whole =
     let n = length scripts in
     let count : count_of_seats o ≡ n + 1 = ap count_of_seats is in

@@ -6,13 +6,13 @@ use Rattle.gc_plan.specs.declared.event.Event.TheVariants.{Mutate}
 use Rattle.gc_plan.specs.declared.event.Answer.{Answer}
 use Rattle.gc_shared.specs.declared.seat.Receipt.{Receipt}
 use Rattle.gc_shared.specs.Seats.{SeatValue, AddsReceipt, receipt}
-use Rattle.gc_shared.specs.Internal.Scripts.{events_of}
+use Rattle.gc_shared.specs.Internal.Scripts.{events_on}
 
 -- one more command of the script was performed
-pub played_more : {Can : Receipt → Type 0} (m : ℕ) (script : List Op) (n : ℕ) (op : Op) (s t : SeatValue) (a : Answer) → n < length script → op ≡ get_or script n op → AddsReceipt Can s t (Mutate s.number op) a → s.number ≡ m → events_of s ≡ map (Mutate m) (take n script) → (t.number ≡ m) × (events_of t ≡ map (Mutate m) (take (n + 1) script))
+pub played_more : {Can : Receipt → Type 0} (m : ℕ) (script : List Op) (n : ℕ) (op : Op) (s t : SeatValue) (a : Answer) → n < length script → op ≡ get_or script n op → AddsReceipt Can s t (Mutate s.number op) a → s.number ≡ m → events_on s ≡ map (Mutate m) (take n script) → (t.number ≡ m) × (events_on t ≡ map (Mutate m) (take (n + 1) script))
 played_more m script n op s t a lt at adds same events =
     let more : take (n + 1) script ≡ take n script ++ op ∷ [] = take_more script n op lt ∙ ap (λ (x : Op). take n script ++ x ∷ []) (sym at) in
-    let grown : events_of t ≡ events_of s ++ Mutate s.number op ∷ [] = ap events_of adds.added ∙ map-append (λ (r : Receipt). r.event) s.receipts (receipt adds.place (Mutate s.number op) a ∷ []) in (
+    let grown : events_on t ≡ events_on s ++ Mutate s.number op ∷ [] = ap events_on adds.added ∙ map-append (λ (r : Receipt). r.event) s.receipts (receipt adds.place (Mutate s.number op) a ∷ []) in (
       ap (λ (h : SeatValue). h.number) adds.added ∙ same,
       rw (grown, events, same, more, map-append (Mutate m) (take n script) (op ∷ [])) refl,
     )

@@ -28,7 +28,7 @@ use Rattle.gc_shared.specs.Scripts.{IsUsefulStep}
 abbrev pub entry_on : Receipt → Entry
 entry_on r = entry_of r.event r.answer
 
-abbrev pub mark : Bool → ℕ
+abbrev mark : Bool → ℕ
 mark b = cond b 1 0
 
 -- the places of the receipts rise from `low`, and each receipt has the entry at its place in a history that starts at

@@ -13,7 +13,7 @@ use Rattle.gc_shared.specs.declared.fault.CloseKind.{CloseKind}
 use Rattle.gc_shared.specs.declared.fault.CloseKind.TheVariants.{Seats, Torn, Extra, NoMemory}
 use Rattle.gc_shared.specs.Seats.{SeatValue, Opening, count_of_seats}
 use Rattle.gc_shared.specs.Receipts.{IsRecorded, times_at, places_of, ReceiptsAgree}
-use Rattle.gc_shared.specs.Closing.{HasEachOnce, IsSeated, IsWhole, IsFirstFault, receipts_of, receipts_below}
+use Rattle.gc_shared.specs.Closing.{HasEachOnce, IsSeated, IsWhole, IsFirstCloseFault, receipts_of, receipts_below}
 use Rattle.gc_shared.specs.Internal.Marks.{AgreeByNumber, IsFault}
 use Rattle.gc_shared.proofs.ReceiptMarks.{times_at-append, every_counted}
 
@@ -148,7 +148,7 @@ of_number Q n (t ∷ ts) none all =
     (cases_Bool (eqb t.number n))
 
 -- receipts that agree with the seats taken by number also agree in the given order
-pub agree_as_handed_in : (history : List Entry) (seats : List SeatValue) (count : ℕ) → length seats ≡ count → HasEachOnce seats count → AgreeByNumber history seats count → ReceiptsAgree history seats
+agree_as_handed_in : (history : List Entry) (seats : List SeatValue) (count : ℕ) → length seats ≡ count → HasEachOnce seats count → AgreeByNumber history seats count → ReceiptsAgree history seats
 agree_as_handed_in history seats count len once agree = record {
   recorded = λ k d lt. rw (← receipts_here count seats k d len once lt) (agree.recorded (get_or seats k d).number (number_within count seats k d len once lt));
   rising = λ k d lt. rw (← receipts_here count seats k d len once lt) (agree.rising (get_or seats k d).number (number_within count seats k d len once lt));
@@ -164,7 +164,7 @@ agree_by_number history seats count len once agree = record {
 }
 
 -- the first fault of the seats is the one found when they are taken by number
-pub first_fault_of : (r : Option CloseKind) (o : Opening) (w : Past) (seats : List SeatValue) → IsSeated o w seats → MatchOption r (AgreeByNumber w.entries seats (count_of_seats o)) (IsFault w.entries seats (count_of_seats o)) → MatchOption r (IsWhole o w seats) (IsFirstFault o w seats)
+pub first_fault_of : (r : Option CloseKind) (o : Opening) (w : Past) (seats : List SeatValue) → IsSeated o w seats → MatchOption r (AgreeByNumber w.entries seats (count_of_seats o)) (IsFault w.entries seats (count_of_seats o)) → MatchOption r (IsWhole o w seats) (IsFirstCloseFault o w seats)
 first_fault_of None o w seats seated agree = record { seated = seated; agree = agree_as_handed_in w.entries seats (count_of_seats o) seated.count seated.once agree }
 first_fault_of (Some Seats) o w seats seated is = absurd is
 first_fault_of (Some (Torn seat n)) o w seats seated is = (seated, is)

@@ -81,8 +81,8 @@ pub record IsExtra (history : List Entry) (seats : List SeatValue) (count : ℕ)
   pub fewer : length (receipts_below seats count) < length history
 
 -- the first fault that comparing the given seats with the returned world finds
-abbrev pub IsFirstFault : Opening → Past → List SeatValue → CloseKind → Type 0
-IsFirstFault o w seats Seats = IsSeated o w seats → ⊥
-IsFirstFault o w seats (Torn seat n) = IsSeated o w seats × IsTorn w.entries seats (count_of_seats o) seat n
-IsFirstFault o w seats Extra = IsSeated o w seats × IsExtra w.entries seats (count_of_seats o)
-IsFirstFault o w seats NoMemory = IsSeated o w seats
+abbrev pub IsFirstCloseFault : Opening → Past → List SeatValue → CloseKind → Type 0
+IsFirstCloseFault o w seats Seats = IsSeated o w seats → ⊥
+IsFirstCloseFault o w seats (Torn seat n) = IsSeated o w seats × IsTorn w.entries seats (count_of_seats o) seat n
+IsFirstCloseFault o w seats Extra = IsSeated o w seats × IsExtra w.entries seats (count_of_seats o)
+IsFirstCloseFault o w seats NoMemory = IsSeated o w seats

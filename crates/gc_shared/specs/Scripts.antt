@@ -38,7 +38,7 @@ steps_of entries = filter (λ entry. is_collect entry.event) entries
 
 -- The world was opened with this size and a mutator for each script. The commands of mutator m are those of script m,
 -- in order. The collector performed this many steps, and the answer to each is marked `Useful`.
-pub record HasRun (size : ℕ) (scripts : List (Vec Op Global)) (turns : ℕ) (w : Past) : Type 0 where
+pub record HasRunScripts (size : ℕ) (scripts : List (Vec Op Global)) (turns : ℕ) (w : Past) : Type 0 where
   pub opened : w.size ≡ size
   pub mutators : w.mutators ≡ length scripts
   pub commands : (m : ℕ) → m < length scripts → commands_of m (events_of w.entries) ≡ script_at scripts m

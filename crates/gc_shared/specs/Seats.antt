@@ -16,8 +16,8 @@ pub record Opening : Type 0 where
   pub mutators : ℕ
   pub collectors : ℕ
 
-abbrev pub opening : ℕ → ℕ → ℕ → Opening
-opening size mutators collectors = record { size = size; mutators = mutators; collectors = collectors }
+abbrev pub opened_with : ℕ → ℕ → ℕ → Opening
+opened_with size mutators collectors = record { size = size; mutators = mutators; collectors = collectors }
 
 abbrev pub count_of_seats : Opening → ℕ
 count_of_seats o = o.mutators + o.collectors

@@ -2,9 +2,9 @@ ghost use Rattle.std.specs.Prelude.{◌≡◌, ◌↔◌, ◌<◌, ◌≤◌, �
 ghost use Rattle.std.specs.List.{find};
 ghost use Rattle.std.specs.Option.{option_copied};
 ghost use Rattle.gc_world.specs.World.{entry_of};
-ghost use Rattle.gc_shared.specs.Seats.{opening};
+ghost use Rattle.gc_shared.specs.Seats.{opened_with};
 ghost use Rattle.gc_shared.specs.Receipts.{IsRecorded};
-ghost use Rattle.gc_shared.specs.Closing.{IsSeated, IsWhole, IsFirstFault, IsFirstTorn, AllStand, HasEachOnce, receipts_of, receipts_below};
+ghost use Rattle.gc_shared.specs.Closing.{IsSeated, IsWhole, IsFirstCloseFault, IsFirstTorn, AllStand, HasEachOnce, receipts_of, receipts_below};
 ghost use Rattle.gc_shared.specs.Internal.Marks.{IsMarked, IsFree, IsFault, AgreeByNumber};
 
 use crate::fault::{CloseFault, CloseKind};
@@ -24,9 +24,9 @@ pub(crate) fn compare(
     requires { mutators + collectors ≤ 32 }
     // The world that comes back is the one that was given.
     ensures same { MatchResult result (λ given. given ≡ world) (λ fault. fault.world ≡ world) }
-    ensures ok { IfOk result (λ given. IsWhole (opening size mutators collectors) given seats.now) }
+    ensures ok { IfOk result (λ given. IsWhole (opened_with size mutators collectors) given seats.now) }
     ensures err { IfErr result (λ fault.
-        IsFirstFault (opening size mutators collectors) fault.world seats.now fault.kind) }
+        IsFirstCloseFault (opened_with size mutators collectors) fault.world seats.now fault.kind) }
 {
     match fault(alloc, size, mutators, collectors, &world, seats) {
         None => Ok(world),
@@ -46,8 +46,8 @@ fn fault(
 ) -> Option<CloseKind>
     requires { mutators + collectors ≤ 32 }
     ensures { MatchOption result
-        (IsWhole (opening size mutators collectors) world.now seats.now)
-        (IsFirstFault (opening size mutators collectors) world.now seats.now) }
+        (IsWhole (opened_with size mutators collectors) world.now seats.now)
+        (IsFirstCloseFault (opened_with size mutators collectors) world.now seats.now) }
 {
     if !is_seated(size, mutators, collectors, world, seats) {
         return Some(CloseKind::Seats);
@@ -64,7 +64,7 @@ fn fault(
 // Returns whether each seat number of the opening occurs once, and the world has the opening's size and mutators.
 fn is_seated(size: u32, mutators: u8, collectors: u8, world: &World, seats: &[Seat]) -> bool
     requires { mutators + collectors ≤ 32 }
-    ensures { IsTrue result ↔ IsSeated (opening size mutators collectors) world.now seats.now }
+    ensures { IsTrue result ↔ IsSeated (opened_with size mutators collectors) world.now seats.now }
 {
     if world.size() != size {
         return false;

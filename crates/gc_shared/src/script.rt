@@ -1,5 +1,5 @@
 ghost use Rattle.std.specs.Prelude.{◌≡◌, [], IfOk};
-ghost use Rattle.gc_shared.specs.Internal.Scripts.{HasPlayed, HasTurned};
+ghost use Rattle.gc_shared.specs.Internal.Scripts.{HasPerformed, HasTurned};
 
 use crate::fault::ThreadsFault;
 use crate::gate::Gate;
@@ -18,7 +18,7 @@ pub(crate) fn play<R: Wait, G: Gate>(
     gate: &G,
 ) -> Result<Seat, ThreadsFault>
     requires { seat.receipts ≡ [] }
-    ensures { IfOk result (HasPlayed seat.number script.now) }
+    ensures { IfOk result (HasPerformed seat.number script.now) }
 {
     let number = u32::from(seat.number());
     for n in 0..script.len() {

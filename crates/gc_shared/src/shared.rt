@@ -43,8 +43,8 @@ impl Shared {
     ghost use Rattle.gc_plan.specs.Runs.{IsStepWithin};
     ghost use Rattle.gc_plan.specs.declared.event.Event.{Event};
     ghost use Rattle.gc_plan.specs.declared.event.Answer.{Answer};
-    ghost use Rattle.gc_shared.specs.Seats.{opening, fresh, IsPossible, IsPossibleIn, AddsReceipt, HasSize, IsApply};
-    ghost use Rattle.gc_shared.specs.Closing.{IsWhole, IsFirstFault};
+    ghost use Rattle.gc_shared.specs.Seats.{opened_with, fresh, IsPossible, IsPossibleIn, AddsReceipt, HasSize, IsApply};
+    ghost use Rattle.gc_shared.specs.Closing.{IsWhole, IsFirstCloseFault};
 
     /// Opens a world of `size` words, 1 to 1048576, behind a lock. Returns it with the seats of its 1 to 16 mutators
     /// and, after them, those of its 0 to 16 collectors.
@@ -59,7 +59,7 @@ impl Shared {
         requires some { 1 ≤ mutators }
         requires few { mutators ≤ most_mutators }
         requires few_collectors { collectors ≤ 16 }
-        ensures opening { IfOk result (λ opened. opened.0 ≡ opening size mutators collectors) }
+        ensures opening { IfOk result (λ opened. opened.0 ≡ opened_with size mutators collectors) }
         ensures seats { IfOk result (λ opened.
             opened.1.items ≡ map (fresh mutators) (range_with_len 0 (mutators + collectors))) }
     {
@@ -191,7 +191,7 @@ impl Shared {
     /// agree, otherwise the first fault together with the world. Does not wait. Drops the seats in either case.
     pub fn close(self, seats: Vec<Seat>) -> Result<World, CloseFault>
         ensures ok { IfOk result (λ world. IsWhole self world seats.items) }
-        ensures err { IfErr result (λ fault. IsFirstFault self fault.world seats.items fault.kind) }
+        ensures err { IfErr result (λ fault. IsFirstCloseFault self fault.world seats.items fault.kind) }
     {
         let Shared {
             alloc,

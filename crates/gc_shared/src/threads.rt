@@ -2,8 +2,8 @@ ghost use Rattle.std.specs.Prelude.{◌≡◌, ◌≤◌, ◌<◌, ◌+◌, [], 
 ghost use Rattle.std.specs.List.{range_with_len};
 ghost use Rattle.gc_graph.specs.Limits.{most_words, most_mutators};
 ghost use Rattle.gc_shared.specs.Seats.{fresh};
-ghost use Rattle.gc_shared.specs.Scripts.{HasRun};
-ghost use Rattle.gc_shared.specs.Internal.Scripts.{HasPlayed, HasTurned, HavePlayed, HaveEnded};
+ghost use Rattle.gc_shared.specs.Scripts.{HasRunScripts};
+ghost use Rattle.gc_shared.specs.Internal.Scripts.{HasPerformed, HasTurned, HavePlayed, HaveEnded};
 ghost use Rattle.gc_shared.specs.Internal.Players.{AreToPlay};
 
 use crate::fault::ThreadsFault;
@@ -26,7 +26,7 @@ struct Plays<'a> {
 }
 
 impl<'a> Promise<Result<Seat, ThreadsFault>> for Plays<'a> {
-    ghost kept_by = { λ plays result. IfOk result (HasPlayed plays.number plays.script.now) };
+    ghost kept_by = { λ plays result. IfOk result (HasPerformed plays.number plays.script.now) };
 }
 
 /// What the collector's thread promises: it returns its seat with the receipts of this many useful steps.
@@ -57,7 +57,7 @@ pub fn run_threads<R: Threads + Wait + Sync, G: Gate + Sync>(
     requires high { size ≤ most_words }
     requires some { 1 ≤ vec_len scripts }
     requires few { vec_len scripts ≤ most_mutators }
-    ensures { IfOk result (HasRun size scripts.items turns) }
+    ensures { IfOk result (HasRunScripts size scripts.items turns) }
 {
     let mutators = scripts.len() as u8;
     let (shared, seats) = Shared::open(alloc, size, mutators, 1)?;

@@ -10,10 +10,10 @@ use Rattle.gc_plan.specs.declared.step.Step.TheVariants as steps
 use Rattle.gc_plan.specs.declared.event.Event.{Event}
 use Rattle.gc_plan.specs.declared.event.Event.TheVariants.{Mutate, Collect}
 use Rattle.gc_trace.specs.Grammar.{op_tokens, step_tokens, event_tokens, event_line}
-use Rattle.gc_trace.specs.Internal.Fronts.{spelled}
+use Rattle.gc_trace.specs.Internal.Fronts.{spaced}
 use Rattle.gc_trace.proofs.OneReading.{event_line-more}
 
-pub command_spelled : (m : ℕ) (op : Op) (rest : List ℕ) → spelled (event_tokens (Mutate m op)) rest ≡ codes "m" ++ space ∷ (decimal m ++ space ∷ spelled (op_tokens op) rest)
+pub command_spelled : (m : ℕ) (op : Op) (rest : List ℕ) → spaced (event_tokens (Mutate m op)) rest ≡ codes "m" ++ space ∷ (decimal m ++ space ∷ spaced (op_tokens op) rest)
 unfolding event_tokens op_tokens
 command_spelled m (ops.New d kind len) rest = refl
 command_spelled m (ops.NewRaw d kind len) rest = refl
@@ -25,7 +25,7 @@ command_spelled m (ops.Put s i t) rest = refl
 command_spelled m (ops.Same s t) rest = refl
 command_spelled m (ops.Look s) rest = refl
 
-pub collect_spelled : (step : Step) (rest : List ℕ) → spelled (event_tokens (Collect step)) rest ≡ codes "c" ++ space ∷ spelled (step_tokens step) rest
+pub collect_spelled : (step : Step) (rest : List ℕ) → spaced (event_tokens (Collect step)) rest ≡ codes "c" ++ space ∷ spaced (step_tokens step) rest
 unfolding event_tokens step_tokens
 collect_spelled steps.Begin rest = refl
 collect_spelled (steps.BeginSized size) rest = refl
@@ -35,13 +35,13 @@ collect_spelled (steps.Apply k) rest = refl
 collect_spelled steps.Flip rest = refl
 collect_spelled steps.Drop rest = refl
 
-spelled-joined : (tokens : List (List ℕ)) (rest : List ℕ) → joined tokens ++ rest ≡ spelled tokens rest
+spelled-joined : (tokens : List (List ℕ)) (rest : List ℕ) → joined tokens ++ rest ≡ spaced tokens rest
 spelled-joined [] rest = refl
 spelled-joined (token ∷ []) rest = refl
 spelled-joined (token ∷ next ∷ tokens) rest = append_assoc token (space ∷ joined (next ∷ tokens)) rest ∙ ap (λ (t : List ℕ). token ++ space ∷ t) (spelled-joined (next ∷ tokens) rest)
 
 -- an event's tokens with a line feed are the event's line
-pub line_spelled : (event : Event) (rest : List ℕ) → spelled (event_tokens event) (newline ∷ rest) ≡ event_line event ++ rest
+pub line_spelled : (event : Event) (rest : List ℕ) → spaced (event_tokens event) (newline ∷ rest) ≡ event_line event ++ rest
 line_spelled event rest = sym (spelled-joined (event_tokens event) (newline ∷ rest)) ∙ sym (event_line-more event rest)
 
 -- the line of an event has at least one byte

@@ -14,7 +14,7 @@ use Rattle.gc_plan.specs.declared.step.Step.{Step}
 use Rattle.gc_plan.specs.declared.step.Step.TheVariants as steps
 use Rattle.gc_plan.specs.declared.event.Event.{Event}
 use Rattle.gc_plan.specs.declared.event.Event.TheVariants.{Mutate, Collect}
-use Rattle.gc_trace.specs.Grammar.{slot, op_tokens, step_tokens, event_tokens, version_tokens, size_tokens, IsEvent, IsHeading}
+use Rattle.gc_trace.specs.Grammar.{slot, op_tokens, step_tokens, event_tokens, version_tokens, size_tokens, HasLine, IsHeading}
 
 HasNo-slot : (c : ℕ) (s : SlotName) → c < 48 → IsSlot s → HasNo c (slot s)
 unfolding slot
@@ -42,17 +42,17 @@ AllHaveNo-step c (steps.Apply k) low fits = (HasNo-name c (codes "apply") low re
 AllHaveNo-step c steps.Flip low fits = (HasNo-name c (codes "flip") low refl, tt)
 AllHaveNo-step c steps.Drop low fits = (HasNo-name c (codes "drop") low refl, tt)
 
-AllHaveNo-event : (c version : ℕ) (event : Event) → c < 48 → IsEvent version event → AllHaveNo c (event_tokens event)
+AllHaveNo-event : (c version : ℕ) (event : Event) → c < 48 → HasLine version event → AllHaveNo c (event_tokens event)
 unfolding event_tokens
 AllHaveNo-event c version (Mutate m op) low fits = (HasNo-name c (codes "m") low refl, (HasNo-decimal c m low (omega (arith, fits.range.0)), AllHaveNo-op c op low fits.range.1))
 AllHaveNo-event c version (Collect step) low fits = (HasNo-name c (codes "c") low refl, AllHaveNo-step c step low fits.range)
 
-pub tokens_of-event : (version : ℕ) (event : Event) → IsEvent version event → tokens_of (joined (event_tokens event)) ≡ event_tokens event
+pub tokens_of-event : (version : ℕ) (event : Event) → HasLine version event → tokens_of (joined (event_tokens event)) ≡ event_tokens event
 unfolding event_tokens
 tokens_of-event version (Mutate m op) fits = tokens_of-joined (codes "m") (decimal m ∷ op_tokens op) (AllHaveNo-event space version (Mutate m op) (omega arith) fits)
 tokens_of-event version (Collect step) fits = tokens_of-joined (codes "c") (step_tokens step) (AllHaveNo-event space version (Collect step) (omega arith) fits)
 
-pub HasNo-event : (version : ℕ) (event : Event) → IsEvent version event → HasNo newline (joined (event_tokens event))
+pub HasNo-event : (version : ℕ) (event : Event) → HasLine version event → HasNo newline (joined (event_tokens event))
 HasNo-event version event fits = HasNo-joined (event_tokens event) (AllHaveNo-event newline version event (omega arith) fits)
 
 AllHaveNo-version : (c version size mutators : ℕ) → c < 48 → IsHeading version size mutators → AllHaveNo c (version_tokens version)

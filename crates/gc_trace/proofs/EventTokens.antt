@@ -1,22 +1,22 @@
 -- Reading the tokens of an event gives the event.
-use Rattle.std.proofs.Common.{◌≡◌, ℕ, ◌<◌, ◌≤◌, Bool, true, false, cond, eqb, ltb, [], ◌∷◌, refl, arith, Some}
+use Rattle.std.proofs.Common.{◌≡◌, ℕ, ◌<◌, ◌≤◌, ◌^◌, Bool, true, false, cond, eqb, ltb, [], ◌∷◌, refl, arith, Some}
 use Rattle.std.specs.Prelude.{codes}
 use Rattle.std.specs.Fmt.{decimal}
 use Rattle.std.proofs.lemmas.Bool.{ne_eqb, le-ltb}
 use Rattle.gc_graph.specs.Slots.{SlotName}
 use Rattle.gc_graph.specs.Range.{IsSlot, IsCommand}
-use Rattle.gc_graph.specs.Tokens.{Tokens}
+use Rattle.gc_graph.specs.Tokens.{Tokens, token_at}
 use Rattle.gc_graph.specs.declared.command.Op.{Op}
 use Rattle.gc_graph.specs.declared.command.Op.TheVariants as ops
 use Rattle.gc_graph.specs.Limits.{most_words}
 use Rattle.gc_plan.specs.Runs.{IsStepWithin}
-use Rattle.gc_graph.proofs.Public.{number_again, number_at_again, token_at_again, end_again}
+use Rattle.gc_graph.proofs.Public.{number_again, number_at_again, end_again}
 use Rattle.gc_plan.specs.declared.step.Step.{Step}
 use Rattle.gc_plan.specs.declared.step.Step.TheVariants as steps
 use Rattle.gc_plan.specs.declared.event.Event.{Event}
 use Rattle.gc_plan.specs.declared.event.Event.TheVariants.{Mutate, Collect}
-use Rattle.gc_trace.specs.Internal.Parsers.{slot_of, slot_at, new_op, new_of, raw_of, num_of, nil_of, move_of, get_of, put_of, same_of, look_of, op_of, begin_of, apply_of, step_of, command_of, collect_of, event_of, version_at, sizes_of}
-use Rattle.gc_trace.specs.Grammar.{newest, slot, object_tokens, op_tokens, step_tokens, event_tokens, version_tokens, size_tokens, op_version, step_version, IsEvent, IsHeading}
+use Rattle.gc_trace.specs.Internal.Parsers.{slot_of, slot_at, positive_at, op_at, begin_at, step_at, command_of, collect_of, event_of, version_at, sizes_at}
+use Rattle.gc_trace.specs.Grammar.{newest, slot, op_tokens, step_tokens, event_tokens, version_tokens, size_tokens, op_version, step_version, HasLine, IsHeading}
 
 slot_again : (s : SlotName) → IsSlot s → slot_of (slot s) ≡ Some s
 unfolding slot_of slot
@@ -30,21 +30,19 @@ slot_at_again : (s : SlotName) (tokens : Tokens) → IsSlot s → slot_at (slot 
 unfolding slot_at
 slot_at_again s tokens fits = rw (slot_again s fits) refl
 
-object_again : (raw : Bool) (d : SlotName) (kind len : ℕ) → IsSlot d → kind < 256 → len < 65536 → new_of raw (object_tokens d kind len) ≡ Some (new_op raw d kind len)
-unfolding new_of
-object_again raw d kind len slot_fits kind_fits len_fits =
-    rw (slot_at_again d (decimal kind ∷ decimal len ∷ []) slot_fits, number_at_again 255 kind (decimal len ∷ []) (omega (arith, kind_fits)) (omega (arith, kind_fits)), number_at_again 65535 len [] (omega (arith, len_fits)) (omega (arith, len_fits)), end_again (new_op raw d kind len)) refl
+positive_at_again : (most n : ℕ) (tokens : Tokens) → 1 ≤ n → n ≤ most → n < 2 ^ 64 → positive_at most (decimal n ∷ tokens) ≡ Some (n, tokens)
+unfolding positive_at
+positive_at_again most n tokens some few small =
+    let positive : eqb n 0 ≡ false = ne_eqb n 0 (omega (arith, some)) in
+    rw (number_at_again most n tokens few small, positive) refl
 
-raw_again : (version kind len : ℕ) (d : SlotName) → IsCommand (ops.NewRaw d kind len) → 3 ≤ version → raw_of version (object_tokens d kind len) ≡ Some (ops.NewRaw d kind len)
-unfolding raw_of
-raw_again version kind len d fits known =
+op_again : (version : ℕ) (op : Op) → IsCommand op → op_version op ≤ version → op_at version (op_tokens op) ≡ Some op
+unfolding op_at op_tokens
+op_again version (ops.New d kind len) fits known =
+    rw (slot_at_again d (decimal kind ∷ decimal len ∷ []) fits.0, number_at_again 255 kind (decimal len ∷ []) (omega (arith, fits.1)) (omega (arith, fits.1)), number_at_again 65535 len [] (omega (arith, fits.2)) (omega (arith, fits.2)), end_again (ops.New d kind len)) refl
+op_again version (ops.NewRaw d kind len) fits known =
     let has_raws : ltb version 3 ≡ false = le-ltb version 3 known in
-    rw has_raws (object_again true d kind len fits.0 fits.1 fits.2)
-
-op_again : (version : ℕ) (op : Op) → IsCommand op → op_version op ≤ version → op_of version (op_tokens op) ≡ Some op
-unfolding op_of op_tokens num_of nil_of move_of get_of put_of same_of look_of
-op_again version (ops.New d kind len) fits known = object_again false d kind len fits.0 fits.1 fits.2
-op_again version (ops.NewRaw d kind len) fits known = raw_again version kind len d fits known
+    rw (has_raws, slot_at_again d (decimal kind ∷ decimal len ∷ []) fits.0, number_at_again 255 kind (decimal len ∷ []) (omega (arith, fits.1)) (omega (arith, fits.1)), number_at_again 65535 len [] (omega (arith, fits.2)) (omega (arith, fits.2)), end_again (ops.NewRaw d kind len)) refl
 op_again version (ops.Num d n) fits known =
     rw (slot_at_again d (decimal n ∷ []) fits.0, number_at_again 9223372036854775807 n [] (omega (arith, fits.1)) (omega (arith, fits.1)), end_again (ops.Num d n)) refl
 op_again version (ops.Nil d) fits known = rw (slot_at_again d [] fits, end_again (ops.Nil d)) refl
@@ -56,37 +54,28 @@ op_again version (ops.Put s i t) fits known =
 op_again version (ops.Same s t) fits known = rw (slot_at_again s (slot t ∷ []) fits.0, slot_at_again t [] fits.1, end_again (ops.Same s t)) refl
 op_again version (ops.Look s) fits known = rw (slot_at_again s [] fits, end_again (ops.Look s)) refl
 
-sized_again : (version size : ℕ) → 2 ≤ version → 1 ≤ size → size ≤ 1048576 → begin_of version (decimal size ∷ []) ≡ Some (steps.BeginSized size)
-unfolding begin_of
-sized_again version size sized some few =
-    let known : ltb version 2 ≡ false = le-ltb version 2 sized in
-    let positive : eqb size 0 ≡ false = ne_eqb size 0 (omega (arith, some)) in
-    rw (known, number_at_again 1048576 size [] few (omega (arith, few)), positive, end_again (steps.BeginSized size)) refl
-
-step_again : (version : ℕ) (step : Step) → IsStepWithin most_words 16 step → step_version step ≤ version → step_of version (step_tokens step) ≡ Some step
-unfolding step_of step_tokens apply_of begin_of
+step_again : (version : ℕ) (step : Step) → IsStepWithin most_words 16 step → step_version step ≤ version → step_at version (step_tokens step) ≡ Some step
+unfolding step_at step_tokens begin_at
 step_again version steps.Begin fits known = refl
-step_again version (steps.BeginSized size) fits known = sized_again version size known fits.0 fits.1
+step_again version (steps.BeginSized size) fits known =
+    let sized : ltb version 2 ≡ false = le-ltb version 2 known in
+    rw (sized, positive_at_again 1048576 size [] fits.0 fits.1 (omega (arith, fits.1)), end_again (steps.BeginSized size)) refl
 step_again version steps.Roots fits known = rw (end_again steps.Roots) refl
 step_again version steps.Scan fits known = rw (end_again steps.Scan) refl
 step_again version (steps.Apply k) fits known = rw (number_at_again 15 k [] (omega (arith, fits)) (omega (arith, fits)), end_again (steps.Apply k)) refl
 step_again version steps.Flip fits known = rw (end_again steps.Flip) refl
 step_again version steps.Drop fits known = rw (end_again steps.Drop) refl
 
-pub event_again : (version : ℕ) (event : Event) → IsEvent version event → event_of version (event_tokens event) ≡ Some event
+pub event_again : (version : ℕ) (event : Event) → HasLine version event → event_of version (event_tokens event) ≡ Some event
 unfolding event_of event_tokens command_of collect_of
 event_again version (Mutate m op) fits = rw (number_at_again 15 m (op_tokens op) (omega (arith, fits.range.0)) (omega (arith, fits.range.0)), op_again version op fits.range.1 fits.known) refl
 event_again version (Collect step) fits = rw (step_again version step fits.range fits.known) refl
 
 pub version_again : (version size mutators : ℕ) → IsHeading version size mutators → version_at (version_tokens version) ≡ Some version
-unfolding version_at version_tokens
-version_again version size mutators fits =
-    let some : eqb version 0 ≡ false = ne_eqb version 0 (omega (arith, fits.0)) in
-    rw (token_at_again (codes "heaptrace") (decimal version ∷ []), number_at_again newest version [] fits.1 (omega (arith, fits.1)), some, end_again version) refl
+unfolding version_at version_tokens token_at
+version_again version size mutators fits = rw (positive_at_again newest version [] fits.0 fits.1 (omega (arith, fits.1)), end_again version) refl
 
-pub sizes_again : (version size mutators : ℕ) → IsHeading version size mutators → sizes_of (size_tokens size mutators) ≡ Some (size, mutators)
-unfolding sizes_of size_tokens
+pub sizes_again : (version size mutators : ℕ) → IsHeading version size mutators → sizes_at (size_tokens size mutators) ≡ Some (size, mutators)
+unfolding sizes_at size_tokens token_at
 sizes_again version size mutators fits =
-    let s : eqb size 0 ≡ false = ne_eqb size 0 (omega (arith, fits.2)) in
-    let m : eqb mutators 0 ≡ false = ne_eqb mutators 0 (omega (arith, fits.4)) in
-    rw (token_at_again (codes "space") (decimal size ∷ codes "mutators" ∷ decimal mutators ∷ []), number_at_again 1048576 size (codes "mutators" ∷ decimal mutators ∷ []) fits.3 (omega (arith, fits.3)), token_at_again (codes "mutators") (decimal mutators ∷ []), number_at_again 16 mutators [] fits.5 (omega (arith, fits.5)), end_again {A = ℕ × ℕ} (size, mutators), s, m) refl
+    rw (positive_at_again 1048576 size (codes "mutators" ∷ decimal mutators ∷ []) fits.2 fits.3 (omega (arith, fits.3)), positive_at_again 16 mutators [] fits.4 fits.5 (omega (arith, fits.5)), end_again {A = ℕ × ℕ} (size, mutators)) refl

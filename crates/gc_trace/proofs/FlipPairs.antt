@@ -1,8 +1,7 @@
 -- The pairs of a run's flips.
 use Rattle.std.proofs.Common.{◌≡◌, ℕ, suc, ◌+◌, ◌<◌, ◌≤◌, List, ◌∷◌, drop, length, map, get_or, refl, sym, ap, ◌∙◌, arith, subst, Option, Some, None, inl, inr, ◌⊎◌}
-use Rattle.std.specs.Prelude.{slice_get, IfSome, IfOk, Result, Ok, Err}
+use Rattle.std.specs.Prelude.{slice_get, IfSome}
 use Rattle.gc_graph.specs.Limits.{most_words}
-use Rattle.gc_graph.specs.declared.no_memory.NoMemory.{NoMemory}
 use Rattle.std.specs.Option.{option_map}
 use Rattle.std.proofs.lemmas.List.{drop_more, length-map}
 use Rattle.gc_cert.specs.Grammar.{CertifiedPair}
@@ -20,7 +19,8 @@ use Rattle.gc_plan.specs.declared.step.StepReply.TheVariants.{Busy, Begun, Idle,
 use Rattle.gc_core.specs.Flip.{flip_pair, open_pair, kept_after, IsCertified}
 use Rattle.gc_plan.specs.declared.event.Event.{Event}
 use Rattle.gc_plan.specs.declared.event.Event.TheVariants.{Mutate, Collect}
-use Rattle.gc_trace.specs.Flips.{flip_at, with_flip, flips}
+use Rattle.gc_core.specs.Performing.{flip_at}
+use Rattle.gc_trace.specs.Flips.{with_flip, flips}
 
 -- ---- what is kept
 
@@ -63,12 +63,11 @@ pub flip_counts : (s : State) (event : Event) (pair : CertifiedPair) → IsState
 flip_counts s (Mutate m op) pair ok sizes small few certified is = absurd cc
 flip_counts s (Collect step) pair ok sizes small few certified is = kept_counts s s.collection pair ok sizes sizes.collection small few refl certified (kept_by_reply s (collect s step).0 pair is)
 
--- so is the pair of a flip
-pub counts_of_result : (s : State) (event : Event) (result : Result (Option PairFile) NoMemory) → IsState s → HasSizesWithin most_words s → HasFewPairs s → s.mutators ≤ 16 → IfOk result (λ kept. option_map pair_in kept ≡ flip_at s event)
-    → IfOk result (λ kept. IfSome kept (λ file. IsCertified (pair_in file))) → IfOk result (λ kept. IfSome kept (λ file. HasCounts (pair_in file)))
-counts_of_result s event (Ok None) ok sizes small few is certified = tt
-counts_of_result s event (Ok (Some file)) ok sizes small few is certified = flip_counts s event (pair_in file) ok sizes small few certified (sym is)
-counts_of_result s event (Err fault) ok sizes small few is certified = tt
+-- so is the pair that an event's flip keeps
+pub counts_of_kept : (s : State) (event : Event) (kept : Option PairFile) → IsState s → HasSizesWithin most_words s → HasFewPairs s → s.mutators ≤ 16 → option_map pair_in kept ≡ flip_at s event
+    → IfSome kept (λ file. IsCertified (pair_in file)) → IfSome kept (λ file. HasCounts (pair_in file))
+counts_of_kept s event None ok sizes small few is certified = tt
+counts_of_kept s event (Some file) ok sizes small few is certified = flip_counts s event (pair_in file) ok sizes small few certified (sym is)
 
 -- ---- the n-th flip
 

@@ -1,8 +1,8 @@
 -- Faults that a prefix of a text already shows.
 use Rattle.std.proofs.Common.{◌≡◌, ℕ, List, ◌∷◌, ◌++◌, sym, ap, ◌∙◌, Some, None}
 use Rattle.gc_graph.specs.Lines.{newline, joined, tokens_of, HasNo}
-use Rattle.gc_trace.specs.Internal.Parsers.{event_of, version_at, sizes_of}
-use Rattle.gc_trace.specs.Grammar.{event_tokens, version_tokens, size_tokens, heading, IsHeading}
+use Rattle.gc_trace.specs.Internal.Parsers.{event_of, version_at, sizes_at}
+use Rattle.gc_trace.specs.Grammar.{event_tokens, version_tokens, size_tokens, trace_heading, IsHeading}
 use Rattle.gc_trace.specs.Faults.{HasNoHeading, BeginsWithNoEvent}
 use Rattle.gc_trace.proofs.EventTokens.{event_again, version_again, sizes_again}
 use Rattle.gc_trace.proofs.EventLines.{tokens_of-event, HasNo-event, heading_lines}
@@ -31,7 +31,7 @@ no_version text first rest parts h none version size mutators more fits is =
     let read : version_at (tokens_of first) ≡ Some version = ap (λ (t : List ℕ). version_at (tokens_of t)) cut.0 ∙ ap version_at lines.first_tokens ∙ version_again version size mutators fits in
     absurd cc
 
-second : (text first rest : List ℕ) (version size mutators : ℕ) (more : List ℕ) → text ≡ first ++ newline ∷ rest → HasNo newline first → IsHeading version size mutators → text ≡ heading version size mutators ++ more
+second : (text first rest : List ℕ) (version size mutators : ℕ) (more : List ℕ) → text ≡ first ++ newline ∷ rest → HasNo newline first → IsHeading version size mutators → text ≡ trace_heading version size mutators ++ more
     → rest ≡ joined (size_tokens size mutators) ++ newline ∷ more
 second text first rest version size mutators more parts h fits is =
     (one_cut newline first rest (joined (version_tokens version)) (joined (size_tokens size mutators) ++ newline ∷ more) h (heading_lines version size mutators fits).first_line (sym parts ∙ is ∙ heading-more version size mutators more)).1
@@ -40,9 +40,9 @@ pub no_second : (text first rest : List ℕ) → text ≡ first ++ newline ∷ r
 no_second text first rest parts h h' version size mutators more fits is =
     not_cut newline rest (joined (size_tokens size mutators)) more h' (second text first rest version size mutators more parts h fits is)
 
-pub no_sizes : (text first rest sizes after : List ℕ) → text ≡ first ++ newline ∷ rest → HasNo newline first → rest ≡ sizes ++ newline ∷ after → HasNo newline sizes → sizes_of (tokens_of sizes) ≡ None → HasNoHeading text
+pub no_sizes : (text first rest sizes after : List ℕ) → text ≡ first ++ newline ∷ rest → HasNo newline first → rest ≡ sizes ++ newline ∷ after → HasNo newline sizes → sizes_at (tokens_of sizes) ≡ None → HasNoHeading text
 no_sizes text first rest sizes after parts h parts' h' none version size mutators more fits is =
     let lines = heading_lines version size mutators fits in
     let cut = one_cut newline sizes after (joined (size_tokens size mutators)) more h' lines.second_line (sym parts' ∙ second text first rest version size mutators more parts h fits is) in
-    let read : sizes_of (tokens_of sizes) ≡ Some (size, mutators) = ap (λ (t : List ℕ). sizes_of (tokens_of t)) cut.0 ∙ ap sizes_of lines.second_tokens ∙ sizes_again version size mutators fits in
+    let read : sizes_at (tokens_of sizes) ≡ Some (size, mutators) = ap (λ (t : List ℕ). sizes_at (tokens_of t)) cut.0 ∙ ap sizes_at lines.second_tokens ∙ sizes_again version size mutators fits in
     absurd cc

@@ -6,8 +6,8 @@ use Rattle.std.proofs.lemmas.List.Concat.{flat_map-cons}
 use Rattle.std.proofs.lemmas.Option.{same_Some}
 use Rattle.gc_graph.specs.Lines.{newline, joined, line, tokens_of}
 use Rattle.gc_plan.specs.declared.event.Event.{Event}
-use Rattle.gc_trace.specs.Internal.Parsers.{event_of, version_at, sizes_of}
-use Rattle.gc_trace.specs.Grammar.{Recording, event_tokens, event_line, version_tokens, size_tokens, heading, spelling, IsEvent, IsOf, IsHeading, IsRecording, IsTextOf}
+use Rattle.gc_trace.specs.Internal.Parsers.{event_of, version_at, sizes_at}
+use Rattle.gc_trace.specs.Grammar.{Recording, event_tokens, event_line, version_tokens, size_tokens, trace_heading, trace_text, HasLine, IsOf, IsHeading, IsRecording, IsTraceText}
 use Rattle.gc_trace.specs.Faults.{HasNoHeading, GoodBefore, BeginsWithNoEvent, HasBadLine, HasStranger, IsTraceFaultOf, IsReadAsTrace}
 use Rattle.gc_trace.specs.declared.fault.TraceFault.{TraceFault}
 use Rattle.gc_trace.specs.declared.fault.TraceFault.TheVariants.{Read, TooLarge, BadHeader, BadLine, NoSuchMutator, NoMemory}
@@ -20,14 +20,14 @@ unfolding event_line
 event_line-more event more = append_assoc (joined (event_tokens event)) (newline ∷ []) more
 
 -- two event lines at the start of the same text are the same
-pub event_line_injective : (version : ℕ) (e d : Event) (x y : List ℕ) → IsEvent version e → IsEvent version d → event_line e ++ x ≡ event_line d ++ y → (e ≡ d) × (x ≡ y)
+pub event_line_injective : (version : ℕ) (e d : Event) (x y : List ℕ) → HasLine version e → HasLine version d → event_line e ++ x ≡ event_line d ++ y → (e ≡ d) × (x ≡ y)
 event_line_injective version e d x y p q same =
     let cut = one_cut newline (joined (event_tokens e)) x (joined (event_tokens d)) y (HasNo-event version e p) (HasNo-event version d q) (sym (event_line-more e x) ∙ same ∙ event_line-more d y) in
     let tokens : event_tokens e ≡ event_tokens d = sym (tokens_of-event version e p) ∙ ap tokens_of cut.0 ∙ tokens_of-event version d q in
     (same_Some e d (sym (event_again version e p) ∙ ap (event_of version) tokens ∙ event_again version d q), cut.1)
 
-pub heading-more : (version size mutators : ℕ) (more : List ℕ) → heading version size mutators ++ more ≡ joined (version_tokens version) ++ newline ∷ (joined (size_tokens size mutators) ++ newline ∷ more)
-unfolding heading
+pub heading-more : (version size mutators : ℕ) (more : List ℕ) → trace_heading version size mutators ++ more ≡ joined (version_tokens version) ++ newline ∷ (joined (size_tokens size mutators) ++ newline ∷ more)
+unfolding trace_heading
 heading-more version size mutators more =
     append_assoc (line (version_tokens version)) (line (size_tokens size mutators)) more
     ∙ append_assoc (joined (version_tokens version)) (newline ∷ []) (line (size_tokens size mutators) ++ more)
@@ -39,7 +39,7 @@ pub record SameHeading (v s m w t n : ℕ) : Type 0 where
   pub size : s ≡ t
   pub mutators : m ≡ n
 
-heading_injective : (v s m w t n : ℕ) (x y : List ℕ) → IsHeading v s m → IsHeading w t n → heading v s m ++ x ≡ heading w t n ++ y → SameHeading v s m w t n × (x ≡ y)
+heading_injective : (v s m w t n : ℕ) (x y : List ℕ) → IsHeading v s m → IsHeading w t n → trace_heading v s m ++ x ≡ trace_heading w t n ++ y → SameHeading v s m w t n × (x ≡ y)
 heading_injective v s m w t n x y p q same =
     let a = heading_lines v s m p in
     let b = heading_lines w t n q in
@@ -47,7 +47,7 @@ heading_injective v s m w t n x y p q same =
     let second = one_cut newline (joined (size_tokens s m)) x (joined (size_tokens t n)) y a.second_line b.second_line first.1 in
     let versions : version_tokens v ≡ version_tokens w = sym a.first_tokens ∙ ap tokens_of first.0 ∙ b.first_tokens in
     let sizes : size_tokens s m ≡ size_tokens t n = sym a.second_tokens ∙ ap tokens_of second.0 ∙ b.second_tokens in
-    let both : ◌≡◌ {A = ℕ × ℕ} (s, m) (t, n) = same_Some (s, m) (t, n) (sym (sizes_again v s m p) ∙ ap sizes_of sizes ∙ sizes_again w t n q) in (
+    let both : ◌≡◌ {A = ℕ × ℕ} (s, m) (t, n) = same_Some (s, m) (t, n) (sym (sizes_again v s m p) ∙ ap sizes_at sizes ∙ sizes_again w t n q) in (
       record {
         version = same_Some v w (sym (version_again v s m p) ∙ ap version_at versions ∙ version_again w t n q);
         size = ap (λ (p : ℕ × ℕ). p.0) both;
@@ -60,10 +60,10 @@ heading_injective v s m w t n x y p q same =
 
 -- the text does not begin with an event line of a trace of this version and number of mutators
 abbrev pub Stops : ℕ → ℕ → List ℕ → Type 0
-Stops version mutators rest = (event : Event) (more : List ℕ) → IsEvent version event → IsOf mutators event → rest ≢ event_line event ++ more
+Stops version mutators rest = (event : Event) (more : List ℕ) → HasLine version event → IsOf mutators event → rest ≢ event_line event ++ more
 
 abbrev Fit : ℕ → ℕ → List Event → Type 0
-Fit version mutators events = AllByRecursion (λ event. IsEvent version event × IsOf mutators event) events
+Fit version mutators events = AllByRecursion (λ event. HasLine version event × IsOf mutators event) events
 
 abbrev lines : List Event → List ℕ
 lines events = flat_map event_line events
@@ -82,16 +82,16 @@ same_stop v m (e ∷ es) (d ∷ ds) x y p q stop stop' same =
 
 -- the lines of this trace, and a rest that does not begin with another event line
 abbrev pub StopsAt : Recording → List ℕ → List ℕ → Type 0
-StopsAt t rest text = IsRecording t × (text ≡ spelling t ++ rest) × Stops t.version t.mutators rest
+StopsAt t rest text = IsRecording t × (text ≡ trace_text t ++ rest) × Stops t.version t.mutators rest
 
 abbrev together : ℕ → ℕ → ℕ → List Event → Recording
 together v s m events = record { version = v; size = s; mutators = m; events = events }
 
 pub one_stop : (t u : Recording) (x y text : List ℕ) → StopsAt t x text → StopsAt u y text → (t ≡ u) × (x ≡ y)
-unfolding spelling
+unfolding trace_text
 one_stop t u x y text p q =
-    let l : text ≡ heading t.version t.size t.mutators ++ (lines t.events ++ x) = p.1 ∙ append_assoc (heading t.version t.size t.mutators) (lines t.events) x in
-    let r : text ≡ heading u.version u.size u.mutators ++ (lines u.events ++ y) = q.1 ∙ append_assoc (heading u.version u.size u.mutators) (lines u.events) y in
+    let l : text ≡ trace_heading t.version t.size t.mutators ++ (lines t.events ++ x) = p.1 ∙ append_assoc (trace_heading t.version t.size t.mutators) (lines t.events) x in
+    let r : text ≡ trace_heading u.version u.size u.mutators ++ (lines u.events ++ y) = q.1 ∙ append_assoc (trace_heading u.version u.size u.mutators) (lines u.events) y in
     let head = heading_injective t.version t.size t.mutators u.version u.size u.mutators (lines t.events ++ x) (lines u.events ++ y) p.0.heading q.0.heading (sym l ∙ r) in
     let fit : Fit u.version u.mutators t.events = subst (λ (v : ℕ). Fit v u.mutators t.events) head.0.version (subst (λ (m : ℕ). Fit t.version m t.events) head.0.mutators p.0.events) in
     let stop : Stops u.version u.mutators x = subst (λ (v : ℕ). Stops v u.mutators x) head.0.version (subst (λ (m : ℕ). Stops t.version m x) head.0.mutators p.2) in
@@ -108,10 +108,10 @@ some_cut (x ∷ a) b e = cc
 line_some : (e : Event) (more : List ℕ) → event_line e ++ more ≢ []
 line_some e more is = some_cut (joined (event_tokens e)) more (sym (event_line-more e more) ∙ is)
 
-good_stop : (t : Recording) (text : List ℕ) → IsTextOf t text → StopsAt t [] text
-good_stop t text p = (p.recording, p.spelled ∙ sym (append-nil (spelling t)), λ e more _ _ is. line_some e more (sym is))
+good_stop : (t : Recording) (text : List ℕ) → IsTraceText t text → StopsAt t [] text
+good_stop t text p = (p.recording, p.spelled ∙ sym (append-nil (trace_text t)), λ e more _ _ is. line_some e more (sym is))
 
-before_parts : (text : List ℕ) (n : ℕ) (t : Recording) (rest : List ℕ) → GoodBefore text n t rest → text ≡ spelling t ++ rest
+before_parts : (text : List ℕ) (n : ℕ) (t : Recording) (rest : List ℕ) → GoodBefore text n t rest → text ≡ trace_text t ++ rest
 before_parts text n t rest b = b.parts ∙ ap (λ (l : List ℕ). l ++ rest) b.good.spelled
 
 abbrev BadStop : List ℕ → ℕ → Type 0
@@ -122,7 +122,7 @@ bad_stop text n (t, rest, before, some, none) =
     (t, rest, (before.good.recording, before_parts text n t rest before, λ e more p _ is. none e more p is), before.number, some, none)
 
 abbrev StrangeStop : List ℕ → ℕ → Type 0
-StrangeStop text n = (t : Recording) × (e : Event) × (more : List ℕ) × StopsAt t (event_line e ++ more) text × (n ≡ 3 + length t.events) × IsEvent t.version e
+StrangeStop text n = (t : Recording) × (e : Event) × (more : List ℕ) × StopsAt t (event_line e ++ more) text × (n ≡ 3 + length t.events) × HasLine t.version e
 
 strange_stop : (text : List ℕ) (n : ℕ) → HasStranger text n → StrangeStop text n
 strange_stop text n (t, e, more, before, fits, strange) = (
@@ -142,19 +142,19 @@ strange_stop text n (t, e, more, before, fits, strange) = (
 
 -- ---- one reading
 
-pub one_value : (t u : Recording) (text : List ℕ) → IsTextOf t text → IsTextOf u text → t ≡ u
+pub one_value : (t u : Recording) (text : List ℕ) → IsTraceText t text → IsTraceText u text → t ≡ u
 one_value t u text p q = (one_stop t u [] [] text (good_stop t text p) (good_stop u text q)).0
 
 headed : (t : Recording) (x text : List ℕ) → StopsAt t x text → HasNoHeading text → ⊥
-unfolding spelling
-headed t x text p none = none t.version t.size t.mutators (lines t.events ++ x) p.0.heading (p.1 ∙ append_assoc (heading t.version t.size t.mutators) (lines t.events) x)
+unfolding trace_text
+headed t x text p none = none t.version t.size t.mutators (lines t.events ++ x) p.0.heading (p.1 ∙ append_assoc (trace_heading t.version t.size t.mutators) (lines t.events) x)
 
-good_bad : (t : Recording) (text : List ℕ) (n : ℕ) → IsTextOf t text → HasBadLine text n → ⊥
+good_bad : (t : Recording) (text : List ℕ) (n : ℕ) → IsTraceText t text → HasBadLine text n → ⊥
 good_bad t text n p h =
     let b = bad_stop text n h in
     b.4 (sym (one_stop t b.0 [] b.1 text (good_stop t text p) b.2).1)
 
-good_strange : (t : Recording) (text : List ℕ) (n : ℕ) → IsTextOf t text → HasStranger text n → ⊥
+good_strange : (t : Recording) (text : List ℕ) (n : ℕ) → IsTraceText t text → HasStranger text n → ⊥
 good_strange t text n p h =
     let b = strange_stop text n h in
     line_some b.1 b.2 (sym (one_stop t b.0 [] (event_line b.1 ++ b.2) text (good_stop t text p) b.3).1)
@@ -186,7 +186,7 @@ bad_strange text n m h k =
     let a = bad_stop text n h in
     let b = strange_stop text m k in
     let same = one_stop a.0 b.0 a.1 (event_line b.1 ++ b.2) text a.2 b.3 in
-    a.5 b.1 b.2 (subst (λ (t : Recording). IsEvent t.version b.1) (sym same.0) b.5) same.1
+    a.5 b.1 b.2 (subst (λ (t : Recording). HasLine t.version b.1) (sym same.0) b.5) same.1
 
 bad_headed : (text : List ℕ) (n : ℕ) → HasBadLine text n → HasNoHeading text → ⊥
 bad_headed text n h none = let a = bad_stop text n h in headed a.0 a.1 text a.2 none

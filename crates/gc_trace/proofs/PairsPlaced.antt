@@ -18,7 +18,7 @@ use Rattle.gc_plan.specs.declared.step.StepReply.{StepReply}
 use Rattle.gc_plan.specs.declared.step.StepReply.TheVariants.{Busy, Idle, Clean, Copied, Scanned, Applied, NotReady, Refused}
 use Rattle.gc_world.specs.History.{IsHistory, events_of, answers_of, unmarked}
 use Rattle.gc_world.specs.declared.entry.Entry.{Entry}
-use Rattle.gc_trace.specs.Report.{pairs_in}
+use Rattle.gc_trace.specs.Report.{flipped_pairs}
 
 -- the number of replicas of the open collection, or 0 if none is open
 abbrev replicas_in : Option Collection → ℕ
@@ -27,7 +27,7 @@ replicas_in (Some c) = length c.replicas
 
 -- after a step that starts with n replicas, the pairs in the reply and the replicas together are at most n + 1
 abbrev PlacesOne : ℕ → StepReply × State → Type 0
-PlacesOne n next = pairs_in (Collector next.0) + replicas_in next.1.collection ≤ n + 1
+PlacesOne n next = flipped_pairs (Collector next.0) + replicas_in next.1.collection ≤ n + 1
 
 -- ---- steps that place a replica
 
@@ -54,11 +54,11 @@ brought_up c g name i = brought c g name i (field_of (lookup g.objects name) i)
 -- ---- steps
 
 -- a step that does not change the state
-unchanged : (s : State) (o : Option Collection) (reply : StepReply) → s.collection ≡ o → pairs_in (Collector reply) ≡ 0 → PlacesOne (replicas_in o) (reply, s)
+unchanged : (s : State) (o : Option Collection) (reply : StepReply) → s.collection ≡ o → flipped_pairs (Collector reply) ≡ 0 → PlacesOne (replicas_in o) (reply, s)
 unchanged s o reply e none = let same : replicas_in s.collection ≡ replicas_in o = ap replicas_in e in omega arith
 
 -- with room, and without
-room_places : (n : ℕ) (s : State) (reply : StepReply) (o : Option Collection) → pairs_in (Collector reply) ≡ 0 → replicas_in s.collection ≡ n → replicas_in o ≤ n + 1 → PlacesOne n (if_room s reply o)
+room_places : (n : ℕ) (s : State) (reply : StepReply) (o : Option Collection) → flipped_pairs (Collector reply) ≡ 0 → replicas_in s.collection ≡ n → replicas_in o ≤ n + 1 → PlacesOne n (if_room s reply o)
 room_places n s reply None none same few = omega arith
 room_places n s reply (Some c) none same few = omega arith
 
@@ -118,21 +118,21 @@ logged_same : (o : Option Collection) (m : ℕ) (entries : List (ℕ × ℕ)) �
 logged_same None m entries = refl
 logged_same (Some c) m entries = refl
 
-event_places : (s : State) (event : Event) → pairs_in (answer s event) + replicas_in (after s event).collection ≤ replicas_in s.collection + 1
+event_places : (s : State) (event : Event) → flipped_pairs (answer s event) + replicas_in (after s event).collection ≤ replicas_in s.collection + 1
 event_places s (Mutate m op) = omega (arith, logged_same s.collection m (written s.heap.graph m op (roomy_step s.heap m op (heap_end s)).0))
 event_places s (Collect step) = step_places s s.collection step refl
 
-pub run_places : (s : State) (events : List Event) → sum_by pairs_in (answers s events) ≤ length events + replicas_in s.collection
+pub run_places : (s : State) (events : List Event) → sum_by flipped_pairs (answers s events) ≤ length events + replicas_in s.collection
 run_places s [] = omega arith
 run_places s (event ∷ events) =
     let first = event_places s event in
     let rest = run_places (after s event) events in
-    let sum = sum_by-cons pairs_in (answer s event) (answers (after s event) events) in
+    let sum = sum_by-cons flipped_pairs (answer s event) (answers (after s event) events) in
     omega (arith, first, rest, sum)
 
 -- in a history
-pub few_pairs : (size mutators : ℕ) (entries : List Entry) → IsHistory size mutators entries → sum_by pairs_in (answers_of entries) ≤ length (answers_of entries)
+pub few_pairs : (size mutators : ℕ) (entries : List Entry) → IsHistory size mutators entries → sum_by flipped_pairs (answers_of entries) ≤ length (answers_of entries)
 few_pairs size mutators entries h =
     let few = run_places (opening_state size mutators) (events_of entries) in
-    let same : sum_by pairs_in (answers_of entries) ≡ sum_by pairs_in (answers (opening_state size mutators) (events_of entries)) = ap (sum_by pairs_in) h.run in
+    let same : sum_by flipped_pairs (answers_of entries) ≡ sum_by flipped_pairs (answers (opening_state size mutators) (events_of entries)) = ap (sum_by flipped_pairs) h.run in
     omega (arith, few, same, length-map entries (λ (entry : Entry). entry.event), length-map entries (λ (entry : Entry). unmarked entry.answer))

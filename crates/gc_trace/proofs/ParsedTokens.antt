@@ -1,12 +1,12 @@
 -- The parsers read exactly the tokens of the grammar.
-use Rattle.std.proofs.Common.{◌≡◌, ℕ, ◌<◌, ◌≤◌, Bool, true, false, cond, eqb, ltb, sym, List, [], ◌∷◌, refl, ap, ◌∙◌, arith, Option, Some, None, subst, inl, inr, ◌⊎◌}
+use Rattle.std.proofs.Common.{◌≡◌, ℕ, ◌≤◌, Bool, true, false, cond, eqb, ltb, sym, List, [], ◌∷◌, refl, ap, ◌∙◌, arith, Option, Some, None, subst, inl, inr, ◌⊎◌}
 use Rattle.std.specs.Prelude.{codes}
 use Rattle.std.specs.Fmt.{decimal}
 use Rattle.std.proofs.lemmas.Bool.{eqb-true, ltb-false}
 use Rattle.std.proofs.lemmas.Option.{cond_some}
 use Rattle.gc_graph.specs.Slots.{SlotName}
 use Rattle.gc_graph.specs.Range.{IsSlot, IsCommand}
-use Rattle.gc_graph.specs.Tokens.{◌>>=◌, Tokens, number_of, number_at, token_at, if_all_taken}
+use Rattle.gc_graph.specs.Tokens.{Tokens, number_of, number_at, token_at, if_all_taken}
 use Rattle.gc_graph.specs.declared.command.Op.{Op}
 use Rattle.gc_graph.specs.declared.command.Op.TheVariants as ops
 use Rattle.gc_graph.specs.Limits.{most_words}
@@ -16,8 +16,8 @@ use Rattle.gc_plan.specs.declared.step.Step.{Step}
 use Rattle.gc_plan.specs.declared.step.Step.TheVariants as steps
 use Rattle.gc_plan.specs.declared.event.Event.{Event}
 use Rattle.gc_plan.specs.declared.event.Event.TheVariants.{Mutate, Collect}
-use Rattle.gc_trace.specs.Internal.Parsers.{slot_of, slot_at, new_op, new_of, raw_of, num_of, nil_of, move_of, get_of, put_of, same_of, look_of, op_of, begin_of, apply_of, step_of, command_of, collect_of, event_of, version_at, sizes_of}
-use Rattle.gc_trace.specs.Grammar.{newest, slot, object_tokens, op_tokens, step_tokens, event_tokens, version_tokens, size_tokens, op_version, step_version, IsEvent}
+use Rattle.gc_trace.specs.Internal.Parsers.{slot_of, slot_at, positive_at, with, with_token, since, by_name, command_lines, op_at, begin_at, step_lines, step_at, command_of, collect_of, event_lines, event_of, version_at, sizes_at}
+use Rattle.gc_trace.specs.Grammar.{newest, slot, op_tokens, step_tokens, event_tokens, version_tokens, size_tokens, op_version, step_version, HasLine}
 
 own_or_shared : Bool → ℕ → SlotName
 own_or_shared b i = record { shared = b; index = i }
@@ -45,230 +45,139 @@ slot_at_found (token ∷ tokens) x e =
     let s = slot_found token b.0 b.1 in
     subst (λ (y : SlotName × Tokens). (token ∷ tokens ≡ slot y.0 ∷ y.1) × IsSlot y.0) (some_is (b.0, tokens) x b.2) (ap (λ (w : List ℕ). w ∷ tokens) s.0, s.1)
 
+positive_at_found : (most : ℕ) (tokens : Tokens) (x : ℕ × Tokens) → positive_at most tokens ≡ Some x → (tokens ≡ decimal x.0 ∷ x.1) × ((1 ≤ x.0) × (x.0 ≤ most))
+unfolding positive_at
+positive_at_found most tokens x e =
+    let a = bind_some (number_at most tokens) (λ n. cond (eqb n.0 0) None (some n)) x e in
+    let c = positive a.0.0 (eqb a.0.0 0) (some a.0) x refl a.2 in
+    let w = number_at_found most tokens a.0 a.1 in
+    subst (λ (y : ℕ × Tokens). (tokens ≡ decimal y.0 ∷ y.1) × ((1 ≤ y.0) × (y.0 ≤ most))) (some_is a.0 x c.1) (w.0, (c.0, w.1))
+
+-- ---- what is read of a line was written
+
+-- P holds of each result and the tokens that it was read from
+abbrev Reads : {X : Type 0} → (Tokens → Option X) → (X → Tokens → Type 0) → Type 0
+Reads {X} parser P = (tokens : Tokens) (x : X) → parser tokens ≡ Some x → P x tokens
+
+end_reads : {X : Type 0} (x : X) (P : X → Tokens → Type 0) → P x [] → Reads (if_all_taken x) P
+end_reads x P holds tokens y e = (let z = end_found x tokens y e in subst (P y) (sym z.0) (subst (λ u. P u []) z.1 holds))
+
+-- whatever is read of an argument was written as `word` writes it
+with_reads : {A X : Type 0} (argument : Tokens → Option (A × Tokens)) (word : A → List ℕ) (Fits : A → Type 0) → ((tokens : Tokens) (a : A × Tokens) → argument tokens ≡ Some a → (tokens ≡ word a.0 ∷ a.1) × Fits a.0)
+    → (rest : A → Tokens → Option X) (P : X → Tokens → Type 0) → ((a : A) → Fits a → Reads (rest a) (λ x more. P x (word a ∷ more))) → Reads (with argument rest) P
+with_reads argument word Fits found rest P each tokens x e =
+    let a = bind_some (argument tokens) (λ a. rest a.0 a.1) x e in
+    let w = found tokens a.0 a.1 in
+    subst (P x) (sym w.0) (each a.0.0 w.1 a.0.1 x a.2)
+
+slot_reads : {X : Type 0} (rest : SlotName → Tokens → Option X) (P : X → Tokens → Type 0) → ((s : SlotName) → IsSlot s → Reads (rest s) (λ x more. P x (slot s ∷ more))) → Reads (with slot_at rest) P
+slot_reads = with_reads slot_at slot IsSlot slot_at_found
+
+number_reads : {X : Type 0} (most : ℕ) (rest : ℕ → Tokens → Option X) (P : X → Tokens → Type 0) → ((n : ℕ) → n ≤ most → Reads (rest n) (λ x more. P x (decimal n ∷ more))) → Reads (with (number_at most) rest) P
+number_reads most = with_reads (number_at most) decimal (λ n. n ≤ most) (number_at_found most)
+
+positive_reads : {X : Type 0} (most : ℕ) (rest : ℕ → Tokens → Option X) (P : X → Tokens → Type 0) → ((n : ℕ) → (1 ≤ n) × (n ≤ most) → Reads (rest n) (λ x more. P x (decimal n ∷ more))) → Reads (with (positive_at most) rest) P
+positive_reads most = with_reads (positive_at most) decimal (λ n. (1 ≤ n) × (n ≤ most)) (positive_at_found most)
+
+since_reads : {X : Type 0} (first version : ℕ) (rest : Tokens → Option X) (P : X → Tokens → Type 0) → (first ≤ version → Reads rest P) → Reads (since first version rest) P
+since_reads first version rest P each tokens x e = go (ltb version first) refl e
+  where
+    go : (b : Bool) → ltb version first ≡ b → cond b None (rest tokens) ≡ Some x → P x tokens
+    go true is e = absurd cc
+    go false is e = each (ltb-false version first is) tokens x e
+
+token_reads : {X : Type 0} (wanted : List ℕ) (rest : Tokens → Option X) (P : X → Tokens → Type 0) → Reads rest (λ x more. P x (wanted ∷ more)) → Reads (with_token wanted rest) P
+token_reads wanted rest P here tokens x e =
+    let a = bind_some (token_at wanted tokens) rest x e in
+    subst (P x) (sym (token_at_found wanted tokens a.0 a.1)) (here a.0 x a.2)
+
+infixr 5 ◌also◌
+pub ◌also◌ : {A B : Type 0} → A → B → A × B
+a also b = (a, b)
+
+-- each entry of the table reads what follows its name
+abbrev EntriesRead : {X : Type 0} → (X → Tokens → Type 0) → List (List ℕ × (Tokens → Option X)) → Type 0
+EntriesRead P [] = Unit {0}
+EntriesRead P (entry ∷ table) = Reads entry.1 (λ x tokens. P x (entry.0 ∷ tokens)) × EntriesRead P table
+
+table_reads : {X : Type 0} (table : List (List ℕ × (Tokens → Option X))) (P : X → Tokens → Type 0) → EntriesRead P table → Reads (by_name table) P
+table_reads [] P each tokens x e = absurd cc
+table_reads (entry ∷ table) P each [] x e = absurd cc
+table_reads (entry ∷ table) P each (name ∷ tokens) x e =
+    name_case (λ w. P x (w ∷ tokens)) name entry.0 (entry.1 tokens) (by_name table (name ∷ tokens)) x e (each.0 tokens x) (table_reads table P each.1 (name ∷ tokens) x)
+
+-- ---- commands, steps and events
+
 abbrev IsRead : ℕ → Op → Tokens → Type 0
 IsRead version op tokens = (tokens ≡ op_tokens op) × IsCommand op × (op_version op ≤ version)
 
--- what parsing the tokens of a new object gives
-record IsNewObject (raw : Bool) (op : Op) (tokens : Tokens) : Type 0 where
-  d : SlotName
-  kind : ℕ
-  len : ℕ
-  made : op ≡ new_op raw d kind len
-  spelled : tokens ≡ object_tokens d kind len
-  range : IsSlot d × (kind < 256) × (len < 65536)
-
-object_found : (raw : Bool) (tokens : Tokens) (op : Op) → new_of raw tokens ≡ Some op → IsNewObject raw op tokens
-unfolding new_of
-object_found raw tokens op e =
-    let a0 = bind_some (slot_at tokens) (λ x0. number_at 255 x0.1 >>= λ x1. number_at 65535 x1.1 >>= λ x2. if_all_taken (new_op raw x0.0 x1.0 x2.0) x2.1) op e in
-    let a1 = bind_some (number_at 255 a0.0.1) (λ x1. number_at 65535 x1.1 >>= λ x2. if_all_taken (new_op raw a0.0.0 x1.0 x2.0) x2.1) op a0.2 in
-    let a2 = bind_some (number_at 65535 a1.0.1) (λ x2. if_all_taken (new_op raw a0.0.0 a1.0.0 x2.0) x2.1) op a1.2 in
-    let z = end_found (new_op raw a0.0.0 a1.0.0 a2.0.0) a2.0.1 op a2.2 in
-    let w0 = slot_at_found tokens a0.0 a0.1 in
-    let w1 = number_at_found 255 a0.0.1 a1.0 a1.1 in
-    let w2 = number_at_found 65535 a1.0.1 a2.0 a2.1 in
-    record {
-      d = a0.0.0;
-      kind = a1.0.0;
-      len = a2.0.0;
-      made = sym z.1;
-      spelled = w0.0 ∙ onto (slot a0.0.0) (w1.0 ∙ onto (decimal a1.0.0) (w2.0 ∙ onto (decimal a2.0.0) z.0));
-      range = (w0.1, omega (arith, w1.1), omega (arith, w2.1));
-    }
-
-new_found : (version : ℕ) (tokens : Tokens) (op : Op) → 1 ≤ version → new_of false tokens ≡ Some op → IsRead version op (codes "new" ∷ tokens)
-unfolding op_tokens
-new_found version tokens op known e =
-    let f = object_found false tokens op e in
-    subst (λ (o : Op). IsRead version o (codes "new" ∷ tokens)) (sym f.made) (onto (codes "new") f.spelled, f.range, known)
-
-raw_found : (version : ℕ) (tokens : Tokens) (op : Op) → raw_of version tokens ≡ Some op → IsRead version op (codes "raw" ∷ tokens)
-unfolding raw_of op_tokens
-raw_found version tokens op e = by_version (ltb version 3) refl e
-  where
-    by_version : (b : Bool) → ltb version 3 ≡ b → cond b None (new_of true tokens) ≡ Some op → IsRead version op (codes "raw" ∷ tokens)
-    by_version true is e = absurd cc
-    by_version false is e =
-        let f = object_found true tokens op e in
-        subst (λ (o : Op). IsRead version o (codes "raw" ∷ tokens)) (sym f.made) (onto (codes "raw") f.spelled, f.range, ltb-false version 3 is)
-
-num_found : (version : ℕ) (tokens : Tokens) (op : Op) → 1 ≤ version → num_of tokens ≡ Some op → IsRead version op (codes "num" ∷ tokens)
-unfolding num_of op_tokens
-num_found version tokens op known e =
-    let a0 = bind_some (slot_at tokens) (λ x0. number_at 9223372036854775807 x0.1 >>= λ x1. if_all_taken (ops.Num x0.0 x1.0) x1.1) op e in
-    let a1 = bind_some (number_at 9223372036854775807 a0.0.1) (λ x1. if_all_taken (ops.Num a0.0.0 x1.0) x1.1) op a0.2 in
-    let z = end_found (ops.Num a0.0.0 a1.0.0) a1.0.1 op a1.2 in
-    let w0 = slot_at_found tokens a0.0 a0.1 in
-    let w1 = number_at_found 9223372036854775807 a0.0.1 a1.0 a1.1 in
-    subst (λ (o : Op). IsRead version o (codes "num" ∷ tokens)) z.1 (onto (codes "num") (w0.0 ∙ onto (slot a0.0.0) (w1.0 ∙ onto (decimal a1.0.0) z.0)), (w0.1, omega (arith, w1.1)), known)
-
-nil_found : (version : ℕ) (tokens : Tokens) (op : Op) → 1 ≤ version → nil_of tokens ≡ Some op → IsRead version op (codes "nil" ∷ tokens)
-unfolding nil_of op_tokens
-nil_found version tokens op known e =
-    let a0 = bind_some (slot_at tokens) (λ x0. if_all_taken (ops.Nil x0.0) x0.1) op e in
-    let z = end_found (ops.Nil a0.0.0) a0.0.1 op a0.2 in
-    let w0 = slot_at_found tokens a0.0 a0.1 in
-    subst (λ (o : Op). IsRead version o (codes "nil" ∷ tokens)) z.1 (onto (codes "nil") (w0.0 ∙ onto (slot a0.0.0) z.0), w0.1, known)
-
-move_found : (version : ℕ) (tokens : Tokens) (op : Op) → 1 ≤ version → move_of tokens ≡ Some op → IsRead version op (codes "move" ∷ tokens)
-unfolding move_of op_tokens
-move_found version tokens op known e =
-    let a0 = bind_some (slot_at tokens) (λ x0. slot_at x0.1 >>= λ x1. if_all_taken (ops.Move x0.0 x1.0) x1.1) op e in
-    let a1 = bind_some (slot_at a0.0.1) (λ x1. if_all_taken (ops.Move a0.0.0 x1.0) x1.1) op a0.2 in
-    let z = end_found (ops.Move a0.0.0 a1.0.0) a1.0.1 op a1.2 in
-    let w0 = slot_at_found tokens a0.0 a0.1 in
-    let w1 = slot_at_found a0.0.1 a1.0 a1.1 in
-    subst (λ (o : Op). IsRead version o (codes "move" ∷ tokens)) z.1 (onto (codes "move") (w0.0 ∙ onto (slot a0.0.0) (w1.0 ∙ onto (slot a1.0.0) z.0)), (w0.1, w1.1), known)
-
-get_found : (version : ℕ) (tokens : Tokens) (op : Op) → 1 ≤ version → get_of tokens ≡ Some op → IsRead version op (codes "get" ∷ tokens)
-unfolding get_of op_tokens
-get_found version tokens op known e =
-    let a0 = bind_some (slot_at tokens) (λ x0. slot_at x0.1 >>= λ x1. number_at 65535 x1.1 >>= λ x2. if_all_taken (ops.Get x0.0 x1.0 x2.0) x2.1) op e in
-    let a1 = bind_some (slot_at a0.0.1) (λ x1. number_at 65535 x1.1 >>= λ x2. if_all_taken (ops.Get a0.0.0 x1.0 x2.0) x2.1) op a0.2 in
-    let a2 = bind_some (number_at 65535 a1.0.1) (λ x2. if_all_taken (ops.Get a0.0.0 a1.0.0 x2.0) x2.1) op a1.2 in
-    let z = end_found (ops.Get a0.0.0 a1.0.0 a2.0.0) a2.0.1 op a2.2 in
-    let w0 = slot_at_found tokens a0.0 a0.1 in
-    let w1 = slot_at_found a0.0.1 a1.0 a1.1 in
-    let w2 = number_at_found 65535 a1.0.1 a2.0 a2.1 in
-    subst (λ (o : Op). IsRead version o (codes "get" ∷ tokens)) z.1 (onto (codes "get") (w0.0 ∙ onto (slot a0.0.0) (w1.0 ∙ onto (slot a1.0.0) (w2.0 ∙ onto (decimal a2.0.0) z.0))), (w0.1, w1.1, omega (arith, w2.1)), known)
-
-put_found : (version : ℕ) (tokens : Tokens) (op : Op) → 1 ≤ version → put_of tokens ≡ Some op → IsRead version op (codes "put" ∷ tokens)
-unfolding put_of op_tokens
-put_found version tokens op known e =
-    let a0 = bind_some (slot_at tokens) (λ x0. number_at 65535 x0.1 >>= λ x1. slot_at x1.1 >>= λ x2. if_all_taken (ops.Put x0.0 x1.0 x2.0) x2.1) op e in
-    let a1 = bind_some (number_at 65535 a0.0.1) (λ x1. slot_at x1.1 >>= λ x2. if_all_taken (ops.Put a0.0.0 x1.0 x2.0) x2.1) op a0.2 in
-    let a2 = bind_some (slot_at a1.0.1) (λ x2. if_all_taken (ops.Put a0.0.0 a1.0.0 x2.0) x2.1) op a1.2 in
-    let z = end_found (ops.Put a0.0.0 a1.0.0 a2.0.0) a2.0.1 op a2.2 in
-    let w0 = slot_at_found tokens a0.0 a0.1 in
-    let w1 = number_at_found 65535 a0.0.1 a1.0 a1.1 in
-    let w2 = slot_at_found a1.0.1 a2.0 a2.1 in
-    subst (λ (o : Op). IsRead version o (codes "put" ∷ tokens)) z.1 (onto (codes "put") (w0.0 ∙ onto (slot a0.0.0) (w1.0 ∙ onto (decimal a1.0.0) (w2.0 ∙ onto (slot a2.0.0) z.0))), (w0.1, omega (arith, w1.1), w2.1), known)
-
-same_found : (version : ℕ) (tokens : Tokens) (op : Op) → 1 ≤ version → same_of tokens ≡ Some op → IsRead version op (codes "same" ∷ tokens)
-unfolding same_of op_tokens
-same_found version tokens op known e =
-    let a0 = bind_some (slot_at tokens) (λ x0. slot_at x0.1 >>= λ x1. if_all_taken (ops.Same x0.0 x1.0) x1.1) op e in
-    let a1 = bind_some (slot_at a0.0.1) (λ x1. if_all_taken (ops.Same a0.0.0 x1.0) x1.1) op a0.2 in
-    let z = end_found (ops.Same a0.0.0 a1.0.0) a1.0.1 op a1.2 in
-    let w0 = slot_at_found tokens a0.0 a0.1 in
-    let w1 = slot_at_found a0.0.1 a1.0 a1.1 in
-    subst (λ (o : Op). IsRead version o (codes "same" ∷ tokens)) z.1 (onto (codes "same") (w0.0 ∙ onto (slot a0.0.0) (w1.0 ∙ onto (slot a1.0.0) z.0)), (w0.1, w1.1), known)
-
-look_found : (version : ℕ) (tokens : Tokens) (op : Op) → 1 ≤ version → look_of tokens ≡ Some op → IsRead version op (codes "look" ∷ tokens)
-unfolding look_of op_tokens
-look_found version tokens op known e =
-    let a0 = bind_some (slot_at tokens) (λ x0. if_all_taken (ops.Look x0.0) x0.1) op e in
-    let z = end_found (ops.Look a0.0.0) a0.0.1 op a0.2 in
-    let w0 = slot_at_found tokens a0.0 a0.1 in
-    subst (λ (o : Op). IsRead version o (codes "look" ∷ tokens)) z.1 (onto (codes "look") (w0.0 ∙ onto (slot a0.0.0) z.0), w0.1, known)
-
-op_found : (version : ℕ) (tokens : Tokens) (op : Op) → 1 ≤ version → op_of version tokens ≡ Some op → IsRead version op tokens
-unfolding op_of
-op_found version [] op known e = absurd cc
-op_found version (name ∷ tokens) op known e =
-    let P = λ (w : List ℕ). IsRead version op (w ∷ tokens) in
-    name_case P name (codes "new") (new_of false tokens) _ op e (new_found version tokens op known) (λ e1. name_case P name (codes "raw") (raw_of version tokens) _ op e1 (raw_found version tokens op) (λ e2. name_case P name (codes "num") (num_of tokens) _ op e2 (num_found version tokens op known) (λ e3. name_case P name (codes "nil") (nil_of tokens) _ op e3 (nil_found version tokens op known) (λ e4. name_case P name (codes "move") (move_of tokens) _ op e4 (move_found version tokens op known) (λ e5. name_case P name (codes "get") (get_of tokens) _ op e5 (get_found version tokens op known) (λ e6. name_case P name (codes "put") (put_of tokens) _ op e6 (put_found version tokens op known) (λ e7. name_case P name (codes "same") (same_of tokens) _ op e7 (same_found version tokens op known) (λ e8. name_case P name (codes "look") (look_of tokens) _ op e8 (look_found version tokens op known) (λ e9. absurd cc)))))))))
-
-abbrev IsReadEvent : ℕ → Event → Tokens → Type 0
-IsReadEvent version event tokens = (tokens ≡ event_tokens event) × IsEvent version event
-
-command_found : (version : ℕ) (tokens : Tokens) (event : Event) → 1 ≤ version → command_of version tokens ≡ Some event → IsReadEvent version event (codes "m" ∷ tokens)
-unfolding command_of event_tokens
-command_found version tokens event known e =
-    let a = bind_some (number_at 15 tokens) (λ m. op_of version m.1 >>= λ op. Some (Mutate m.0 op)) event e in
-    let b = bind_some (op_of version a.0.1) (λ op. Some (Mutate a.0.0 op)) event a.2 in
-    let w = number_at_found 15 tokens a.0 a.1 in
-    let op = op_found version a.0.1 b.0 known b.1 in
-    subst (λ (x : Event). IsReadEvent version x (codes "m" ∷ tokens)) (some_is (Mutate a.0.0 b.0) event b.2) (onto (codes "m") (w.0 ∙ onto (decimal a.0.0) op.0), record { range = (omega (arith, w.1), op.1); known = op.2 })
+op_reads : (version : ℕ) → 1 ≤ version → Reads (op_at version) (IsRead version)
+unfolding op_at op_tokens
+op_reads version known = table_reads (command_lines version) (IsRead version)
+    (slot_reads _ _ (λ d d_fits. number_reads 255 _ _ (λ kind kind_fits. number_reads 65535 _ _ (λ len len_fits. end_reads (ops.New d kind len) _ (refl, (d_fits, omega (arith, kind_fits), omega (arith, len_fits)), known))))
+    also since_reads 3 version _ _ (λ has_raws. slot_reads _ _ (λ d d_fits. number_reads 255 _ _ (λ kind kind_fits. number_reads 65535 _ _ (λ len len_fits. end_reads (ops.NewRaw d kind len) _ (refl, (d_fits, omega (arith, kind_fits), omega (arith, len_fits)), has_raws)))))
+    also slot_reads _ _ (λ d d_fits. number_reads 9223372036854775807 _ _ (λ n n_fits. end_reads (ops.Num d n) _ (refl, (d_fits, omega (arith, n_fits)), known)))
+    also slot_reads _ _ (λ d d_fits. end_reads (ops.Nil d) _ (refl, d_fits, known))
+    also slot_reads _ _ (λ d d_fits. slot_reads _ _ (λ s s_fits. end_reads (ops.Move d s) _ (refl, (d_fits, s_fits), known)))
+    also slot_reads _ _ (λ d d_fits. slot_reads _ _ (λ s s_fits. number_reads 65535 _ _ (λ i i_fits. end_reads (ops.Get d s i) _ (refl, (d_fits, s_fits, omega (arith, i_fits)), known))))
+    also slot_reads _ _ (λ s s_fits. number_reads 65535 _ _ (λ i i_fits. slot_reads _ _ (λ t t_fits. end_reads (ops.Put s i t) _ (refl, (s_fits, omega (arith, i_fits), t_fits), known))))
+    also slot_reads _ _ (λ s s_fits. slot_reads _ _ (λ t t_fits. end_reads (ops.Same s t) _ (refl, (s_fits, t_fits), known)))
+    also slot_reads _ _ (λ s s_fits. end_reads (ops.Look s) _ (refl, s_fits, known))
+    also tt)
 
 abbrev IsReadStep : ℕ → Step → Tokens → Type 0
 IsReadStep version step tokens = (tokens ≡ step_tokens step) × IsStepWithin most_words 16 step × (step_version step ≤ version)
 
-sized_found : (version : ℕ) (tokens : Tokens) (step : Step) → 2 ≤ version → (number_at 1048576 tokens >>= λ size. cond (eqb size.0 0) None (if_all_taken (steps.BeginSized size.0) size.1)) ≡ Some step → IsReadStep version step (codes "begin" ∷ tokens)
-unfolding step_tokens
-sized_found version tokens step sized e =
-    let a = bind_some (number_at 1048576 tokens) (λ size. cond (eqb size.0 0) None (if_all_taken (steps.BeginSized size.0) size.1)) step e in
-    let c = positive a.0.0 (eqb a.0.0 0) (if_all_taken (steps.BeginSized a.0.0) a.0.1) step refl a.2 in
-    let z = end_found (steps.BeginSized a.0.0) a.0.1 step c.1 in
-    let w = number_at_found 1048576 tokens a.0 a.1 in
-    subst (λ (s : Step). IsReadStep version s (codes "begin" ∷ tokens)) z.1 (onto (codes "begin") (w.0 ∙ onto (decimal a.0.0) z.0), (c.0, w.1), sized)
+begin_reads : (version : ℕ) → 1 ≤ version → Reads (begin_at version) (λ step tokens. IsReadStep version step (codes "begin" ∷ tokens))
+unfolding begin_at step_tokens
+begin_reads version known [] step e = subst (λ (s : Step). IsReadStep version s (codes "begin" ∷ [])) (some_is steps.Begin step e) (refl, tt, known)
+begin_reads version known (token ∷ tokens) step e =
+    since_reads 2 version _ _ (λ sized. positive_reads 1048576 _ (λ step tokens. IsReadStep version step (codes "begin" ∷ tokens)) (λ size fits. end_reads (steps.BeginSized size) _ (refl, fits, sized))) (token ∷ tokens) step e
 
-begin_found : (version : ℕ) (tokens : Tokens) (step : Step) → 1 ≤ version → begin_of version tokens ≡ Some step → IsReadStep version step (codes "begin" ∷ tokens)
-unfolding begin_of step_tokens
-begin_found version [] step known e = subst (λ (s : Step). IsReadStep version s (codes "begin" ∷ [])) (some_is steps.Begin step e) (refl, tt, known)
-begin_found version (token ∷ tokens) step known e = by_version (ltb version 2) refl e
-  where
-    by_version : (b : Bool) → ltb version 2 ≡ b → cond b None (number_at 1048576 (token ∷ tokens) >>= λ size. cond (eqb size.0 0) None (if_all_taken (steps.BeginSized size.0) size.1)) ≡ Some step → IsReadStep version step (codes "begin" ∷ token ∷ tokens)
-    by_version true is e = absurd cc
-    by_version false is e = sized_found version (token ∷ tokens) step (ltb-false version 2 is) e
+step_reads : (version : ℕ) → 1 ≤ version → Reads (step_at version) (IsReadStep version)
+unfolding step_at step_tokens
+step_reads version known = table_reads (step_lines version) (IsReadStep version)
+    (begin_reads version known
+    also end_reads steps.Roots _ (refl, tt, known)
+    also end_reads steps.Scan _ (refl, tt, known)
+    also number_reads 15 _ _ (λ k k_fits. end_reads (steps.Apply k) _ (refl, omega (arith, k_fits), known))
+    also end_reads steps.Flip _ (refl, tt, known)
+    also end_reads steps.Drop _ (refl, tt, known)
+    also tt)
 
-apply_found : (version : ℕ) (tokens : Tokens) (step : Step) → 1 ≤ version → apply_of tokens ≡ Some step → IsReadStep version step (codes "apply" ∷ tokens)
-unfolding apply_of step_tokens
-apply_found version tokens step known e =
-    let a = bind_some (number_at 15 tokens) (λ k. if_all_taken (steps.Apply k.0) k.1) step e in
-    let z = end_found (steps.Apply a.0.0) a.0.1 step a.2 in
-    let w = number_at_found 15 tokens a.0 a.1 in
-    subst (λ (s : Step). IsReadStep version s (codes "apply" ∷ tokens)) z.1 (onto (codes "apply") (w.0 ∙ onto (decimal a.0.0) z.0), omega (arith, w.1), known)
+abbrev IsReadEvent : ℕ → Event → Tokens → Type 0
+IsReadEvent version event tokens = (tokens ≡ event_tokens event) × HasLine version event
 
--- a step of one token
-alone_found : (version : ℕ) (name : List ℕ) (tokens : Tokens) (wanted step : Step) → step_tokens wanted ≡ name ∷ [] → IsStepWithin most_words 16 wanted → step_version wanted ≤ version → if_all_taken wanted tokens ≡ Some step → IsReadStep version step (name ∷ tokens)
-alone_found version name tokens wanted step alone fits known e =
-    let z = end_found wanted tokens step e in
-    subst (λ (s : Step). IsReadStep version s (name ∷ tokens)) z.1 (onto name z.0 ∙ sym alone, fits, known)
+command_reads : (version m : ℕ) → 1 ≤ version → m ≤ 15 → Reads (command_of version m) (λ event tokens. IsReadEvent version event (codes "m" ∷ decimal m ∷ tokens))
+unfolding command_of event_tokens
+command_reads version m known fits tokens event e =
+    let a = bind_some (op_at version tokens) (λ op. Some (Mutate m op)) event e in
+    let op = op_reads version known tokens a.0 a.1 in
+    subst (λ (x : Event). IsReadEvent version x (codes "m" ∷ decimal m ∷ tokens)) (some_is (Mutate m a.0) event a.2) (onto (codes "m") (onto (decimal m) op.0), record { range = (omega (arith, fits), op.1); known = op.2 })
 
-step_found : (version : ℕ) (tokens : Tokens) (step : Step) → 1 ≤ version → step_of version tokens ≡ Some step → IsReadStep version step tokens
-unfolding step_of step_tokens
-step_found version [] step known e = absurd cc
-step_found version (name ∷ tokens) step known e =
-    let P = λ (w : List ℕ). IsReadStep version step (w ∷ tokens) in
-    name_case P name (codes "begin") (begin_of version tokens) _ step e (begin_found version tokens step known) (λ e1. name_case P name (codes "roots") (if_all_taken steps.Roots tokens) _ step e1 (alone_found version (codes "roots") tokens steps.Roots step refl tt known) (λ e2. name_case P name (codes "scan") (if_all_taken steps.Scan tokens) _ step e2 (alone_found version (codes "scan") tokens steps.Scan step refl tt known) (λ e3. name_case P name (codes "apply") (apply_of tokens) _ step e3 (apply_found version tokens step known) (λ e4. name_case P name (codes "flip") (if_all_taken steps.Flip tokens) _ step e4 (alone_found version (codes "flip") tokens steps.Flip step refl tt known) (λ e5. name_case P name (codes "drop") (if_all_taken steps.Drop tokens) _ step e5 (alone_found version (codes "drop") tokens steps.Drop step refl tt known) (λ e6. absurd cc))))))
-
-collect_found : (version : ℕ) (tokens : Tokens) (event : Event) → 1 ≤ version → collect_of version tokens ≡ Some event → IsReadEvent version event (codes "c" ∷ tokens)
+collect_reads : (version : ℕ) → 1 ≤ version → Reads (collect_of version) (λ event tokens. IsReadEvent version event (codes "c" ∷ tokens))
 unfolding collect_of event_tokens
-collect_found version tokens event known e =
-    let a = bind_some (step_of version tokens) (λ step. Some (Collect step)) event e in
-    let s = step_found version tokens a.0 known a.1 in
+collect_reads version known tokens event e =
+    let a = bind_some (step_at version tokens) (λ step. Some (Collect step)) event e in
+    let s = step_reads version known tokens a.0 a.1 in
     subst (λ (x : Event). IsReadEvent version x (codes "c" ∷ tokens)) (some_is (Collect a.0) event a.2) (onto (codes "c") s.0, record { range = s.1; known = s.2 })
 
 pub event_found : (version : ℕ) (tokens : Tokens) (event : Event) → 1 ≤ version → event_of version tokens ≡ Some event → IsReadEvent version event tokens
 unfolding event_of
-event_found version [] event known e = absurd cc
-event_found version (letter ∷ tokens) event known e =
-    let P = λ (w : List ℕ). IsReadEvent version event (w ∷ tokens) in
-    name_case P letter (codes "m") (command_of version tokens) _ event e (command_found version tokens event known) (λ e1. name_case P letter (codes "c") (collect_of version tokens) None event e1 (collect_found version tokens event known) (λ e2. absurd cc))
+event_found version tokens event known e =
+    table_reads (event_lines version) (IsReadEvent version) (number_reads 15 _ _ (λ m m_fits. command_reads version m known m_fits), (collect_reads version known, tt)) tokens event e
+
+-- ---- the heading
 
 pub version_found : (tokens : Tokens) (v : ℕ) → version_at tokens ≡ Some v → (tokens ≡ version_tokens v) × (1 ≤ v) × (v ≤ newest)
 unfolding version_at version_tokens
-version_found tokens v e =
-    let a = bind_some (token_at (codes "heaptrace") tokens) (λ rest. number_at newest rest >>= λ version. cond (eqb version.0 0) None (if_all_taken version.0 version.1)) v e in
-    let b = bind_some (number_at newest a.0) (λ version. cond (eqb version.0 0) None (if_all_taken version.0 version.1)) v a.2 in
-    let c = positive b.0.0 (eqb b.0.0 0) (if_all_taken b.0.0 b.0.1) v refl b.2 in
-    let z = end_found b.0.0 b.0.1 v c.1 in
-    let w = token_at_found (codes "heaptrace") tokens a.0 a.1 in
-    let n = number_at_found newest a.0 b.0 b.1 in
-    subst (λ (u : ℕ). (tokens ≡ codes "heaptrace" ∷ decimal u ∷ []) × (1 ≤ u) × (u ≤ newest)) z.1 (w ∙ onto (codes "heaptrace") (n.0 ∙ onto (decimal b.0.0) z.0), c.0, n.1)
+version_found tokens v e = token_reads _ _ (λ v tokens. (tokens ≡ version_tokens v) × (1 ≤ v) × (v ≤ newest)) (positive_reads newest _ _ (λ n fits. end_reads n _ (refl, fits.0, fits.1))) tokens v e
 
 abbrev AreSizes : ℕ → ℕ → Type 0
 AreSizes s m = (1 ≤ s) × (s ≤ 1048576) × (1 ≤ m) × (m ≤ 16)
 
-pub sizes_found : (tokens : Tokens) (x : ℕ × ℕ) → sizes_of tokens ≡ Some x → (tokens ≡ size_tokens x.0 x.1) × AreSizes x.0 x.1
-unfolding sizes_of size_tokens
+pub sizes_found : (tokens : Tokens) (x : ℕ × ℕ) → sizes_at tokens ≡ Some x → (tokens ≡ size_tokens x.0 x.1) × AreSizes x.0 x.1
+unfolding sizes_at size_tokens
 sizes_found tokens x e =
-    let finish = λ (sizes : ℕ × ℕ). cond (eqb sizes.0 0) None (cond (eqb sizes.1 0) None (some sizes)) in
-    let a = bind_some (token_at (codes "space") tokens) (λ rest. number_at 1048576 rest >>= λ size. token_at (codes "mutators") size.1 >>= λ rest. number_at 16 rest >>= λ mutators. if_all_taken (size.0, mutators.0) mutators.1 >>= finish) x e in
-    let b = bind_some (number_at 1048576 a.0) (λ size. token_at (codes "mutators") size.1 >>= λ rest. number_at 16 rest >>= λ mutators. if_all_taken (size.0, mutators.0) mutators.1 >>= finish) x a.2 in
-    let c = bind_some (token_at (codes "mutators") b.0.1) (λ rest. number_at 16 rest >>= λ mutators. if_all_taken (b.0.0, mutators.0) mutators.1 >>= finish) x b.2 in
-    let d = bind_some (number_at 16 c.0) (λ mutators. if_all_taken (b.0.0, mutators.0) mutators.1 >>= finish) x c.2 in
-    let f = bind_some (if_all_taken (b.0.0, d.0.0) d.0.1) finish x d.2 in
-    let end = end_found (b.0.0, d.0.0) d.0.1 f.0 f.1 in
-    let w1 = token_at_found (codes "space") tokens a.0 a.1 in
-    let size = number_at_found 1048576 a.0 b.0 b.1 in
-    let w2 = token_at_found (codes "mutators") b.0.1 c.0 c.1 in
-    let mutators = number_at_found 16 c.0 d.0 d.1 in
-    let nz = positive f.0.0 (eqb f.0.0 0) (cond (eqb f.0.1 0) None (some f.0)) x refl f.2 in
-    let nz2 = positive f.0.1 (eqb f.0.1 0) (some f.0) x refl nz.1 in
-    let whole : (b.0.0, d.0.0) ≡ x = end.1 ∙ some_is f.0 x nz2.1 in
-    subst (λ (p : ℕ × ℕ). (tokens ≡ codes "space" ∷ decimal p.0 ∷ codes "mutators" ∷ decimal p.1 ∷ []) × AreSizes p.0 p.1) whole (
-      w1 ∙ onto (codes "space") (size.0 ∙ onto (decimal b.0.0) (w2 ∙ onto (codes "mutators") (mutators.0 ∙ onto (decimal d.0.0) end.0))),
-      (omega (arith, nz.0, ap (λ (p : ℕ × ℕ). p.0) end.1), size.1, omega (arith, nz2.0, ap (λ (p : ℕ × ℕ). p.1) end.1), mutators.1),
-    )
+    token_reads _ _ (λ x tokens. (tokens ≡ size_tokens x.0 x.1) × AreSizes x.0 x.1)
+    (positive_reads 1048576 _ _ (λ s some. token_reads _ _ _ (positive_reads 16 _ _ (λ m few. end_reads (s, m) _ (refl, (some.0, some.1, few.0, few.1)))))) tokens x e

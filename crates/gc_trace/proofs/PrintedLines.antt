@@ -9,7 +9,7 @@ use Rattle.gc_graph.specs.Streams.{SendsFront, HasSent}
 use Rattle.gc_graph.proofs.Public.{sent_then, sent_at_last, front_sent}
 use Rattle.gc_world.specs.History.{events_of}
 use Rattle.gc_world.specs.declared.entry.Entry.{Entry}
-use Rattle.gc_trace.specs.Grammar.{event_line, heading, spelling, least_version, written}
+use Rattle.gc_trace.specs.Grammar.{event_line, trace_heading, trace_text, least_version, least_trace}
 
 -- a text, followed by the lines of the first i elements
 abbrev pub lines_to : {X : Type 0} → List ℕ → (X → List ℕ) → List X → ℕ → List ℕ
@@ -49,6 +49,6 @@ entry_lines : (entries : List Entry) → flat_map entry_line entries ≡ flat_ma
 entry_lines entries = sym (flat_map-map event_line (λ (entry : Entry). entry.event) entries)
 
 -- the heading and the lines of a history's events are its text
-pub whole_text : (size mutators : ℕ) (entries : List Entry) → heading (least_version (events_of entries)) size mutators ++ flat_map entry_line entries ≡ spelling (written size mutators (events_of entries))
-unfolding spelling
-whole_text size mutators entries = ap (λ (t : List ℕ). heading (least_version (events_of entries)) size mutators ++ t) (entry_lines entries)
+pub whole_text : (size mutators : ℕ) (entries : List Entry) → trace_heading (least_version (events_of entries)) size mutators ++ flat_map entry_line entries ≡ trace_text (least_trace size mutators (events_of entries))
+unfolding trace_text
+whole_text size mutators entries = ap (λ (t : List ℕ). trace_heading (least_version (events_of entries)) size mutators ++ t) (entry_lines entries)

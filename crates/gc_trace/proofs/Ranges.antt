@@ -1,7 +1,7 @@
 -- Every event that has a text can happen.
 use Rattle.std.proofs.Common.{List, [], ◌∷◌}
 use Rattle.std.specs.List.{AllByRecursion}
-use Rattle.gc_trace.specs.Grammar.{Recording, IsEvent, IsOf, IsInRange, IsRecording}
+use Rattle.gc_trace.specs.Grammar.{Recording, HasLine, IsOf, IsInRange, IsRecording}
 
 All-second : {A : Type 0} (P Q : A → Type 0) (xs : List A) → AllByRecursion (λ x. P x × Q x) xs → AllByRecursion Q xs
 All-second P Q [] all = tt
@@ -13,5 +13,5 @@ in_range t sound = record {
   high = sound.heading.3;
   some = sound.heading.4;
   few = sound.heading.5;
-  events = All-second (IsEvent t.version) (IsOf t.mutators) t.events sound.events;
+  events = All-second (HasLine t.version) (IsOf t.mutators) t.events sound.events;
 }

@@ -1,16 +1,16 @@
 -- How much of a text an event reader has read.
-use Rattle.std.proofs.Common.{◌≡◌, ◌≢◌, ℕ, ◌+◌, ◌≤◌, List, [], ◌∷◌, ◌++◌, length, drop, refl, sym, ap, ◌∙◌, arith, subst, append_assoc, Option}
+use Rattle.std.proofs.Common.{◌≡◌, ◌≢◌, ℕ, ◌+◌, List, [], ◌∷◌, ◌++◌, drop, refl, sym, ap, ◌∙◌, arith, subst, append_assoc, Option}
 use Rattle.std.specs.List.{AllByRecursion}
 use Rattle.gc_graph.specs.ReadFaults.{MayFailReading}
 use Rattle.gc_graph.specs.declared.text.pieces.ReadFault.{ReadFault}
 use Rattle.gc_graph.specs.declared.text.pieces.ReadFault.TheVariants as reading
 use Rattle.gc_graph.specs.Pieces.{Progress, IsWithin}
 use Rattle.gc_plan.specs.declared.event.Event.{Event}
-use Rattle.gc_trace.specs.Grammar.{Recording, heading, event_line, IsHeading, IsEvent, IsOf, IsRecording}
-use Rattle.gc_trace.specs.Faults.{limit, GoodBefore, HasStranger, HasBadLine, BeginsWithNoEvent, MayFail}
+use Rattle.gc_trace.specs.Grammar.{Recording, trace_heading, event_line, IsHeading, HasLine, IsOf, IsRecording}
+use Rattle.gc_trace.specs.Faults.{trace_limit, GoodBefore, HasStranger, HasBadLine, BeginsWithNoEvent, ReadingMayFail}
 use Rattle.gc_trace.specs.declared.fault.TraceFault.TheVariants.{TooLarge}
-use Rattle.gc_trace.specs.Internal.Faults.{fault_of_reading}
-use Rattle.gc_trace.specs.Internal.Reading.{IsReading, HasRead, read_so_far}
+use Rattle.gc_trace.specs.Internal.Faults.{trace_fault_of}
+use Rattle.gc_trace.specs.Internal.Reading.{IsReadingTrace, HasRead, read_so_far}
 use Rattle.gc_trace.specs.declared.event_reader.EventReader.{EventReader}
 use Rattle.gc_graph.proofs.Public.{all_push}
 use Rattle.gc_trace.proofs.EventFronts.{line_takes}
@@ -18,12 +18,12 @@ use Rattle.gc_trace.proofs.Total.{made_of, good_start, good_more}
 
 -- ---- faults of reading
 
-pub may_fail : (fault : ReadFault) (most : ℕ) (text : List ℕ) → most ≡ limit → MayFailReading fault most text → MayFail (fault_of_reading fault) text
+pub may_fail : (fault : ReadFault) (most : ℕ) (text : List ℕ) → most ≡ trace_limit → MayFailReading fault most text → ReadingMayFail (trace_fault_of fault) text
 may_fail reading.Read most text is h = tt
 may_fail reading.TooLarge most text is h = omega (arith, is, h)
 may_fail reading.NoMemory most text is h = tt
 
-pub too_large : (fault : ReadFault) → fault_of_reading fault ≡ TooLarge → fault ≡ reading.TooLarge
+pub too_large : (fault : ReadFault) → trace_fault_of fault ≡ TooLarge → fault ≡ reading.TooLarge
 too_large reading.Read e = absurd cc
 too_large reading.TooLarge e = refl
 too_large reading.NoMemory e = absurd cc
@@ -31,11 +31,11 @@ too_large reading.NoMemory e = absurd cc
 -- ---- lines that were read
 
 -- the heading
-pub heading_read : (text : List ℕ) (r : EventReader) (p : Progress) (left : Option (List ℕ)) → IsWithin text text p left → IsHeading r.version r.size r.mutators → p.waiting ≡ heading r.version r.size r.mutators ++ r.pieces.waiting → r.pieces ≡ record p { waiting = r.pieces.waiting } → r.number ≡ 3
+pub heading_read : (text : List ℕ) (r : EventReader) (p : Progress) (left : Option (List ℕ)) → IsWithin text text p left → IsHeading r.version r.size r.mutators → p.waiting ≡ trace_heading r.version r.size r.mutators ++ r.pieces.waiting → r.pieces ≡ record p { waiting = r.pieces.waiting } → r.number ≡ 3
     → HasRead text [] r left
 heading_read text r p left h fits line same number =
     let more = drop p.read text in
-    let parts : text ≡ heading r.version r.size r.mutators ++ (r.pieces.waiting ++ more) = h.rest_is ∙ ap (λ (l : List ℕ). l ++ more) line ∙ append_assoc (heading r.version r.size r.mutators) r.pieces.waiting more in
+    let parts : text ≡ trace_heading r.version r.size r.mutators ++ (r.pieces.waiting ++ more) = h.rest_is ∙ ap (λ (l : List ℕ). l ++ more) line ∙ append_assoc (trace_heading r.version r.size r.mutators) r.pieces.waiting more in
     record {
       rest = r.pieces.waiting ++ more;
       within = subst (λ (q : Progress). IsWithin text (r.pieces.waiting ++ more) q left) (sym same) (record { left_is = h.left_is; read_is = h.read_is; rest_is = refl; end_is = h.end_is });
@@ -47,7 +47,7 @@ behind : (text rest : List ℕ) (p : Progress) (waiting : List ℕ) (left : Opti
 behind text rest p waiting left event h line = h.rest_is ∙ ap (λ (l : List ℕ). l ++ drop p.read text) line ∙ append_assoc (event_line event) waiting (drop p.read text)
 
 -- one more event
-pub event_read : (text : List ℕ) (events : List Event) (r : EventReader) (waiting : List ℕ) (left : Option (List ℕ)) (event : Event) → HasRead text events r left → IsEvent r.version event → IsOf r.mutators event → r.pieces.waiting ≡ event_line event ++ waiting
+pub event_read : (text : List ℕ) (events : List Event) (r : EventReader) (waiting : List ℕ) (left : Option (List ℕ)) (event : Event) → HasRead text events r left → HasLine r.version event → IsOf r.mutators event → r.pieces.waiting ≡ event_line event ++ waiting
     → HasRead text (events ++ event ∷ []) (record r { pieces = record r.pieces { waiting = waiting }; number = r.number + 1 }) left
 event_read text events r waiting left event h fits of line = record {
   rest = waiting ++ drop r.pieces.read text;
@@ -56,7 +56,7 @@ event_read text events r waiting left event h fits of line = record {
 }
 
 -- an event of a mutator that does not exist
-pub stranger_read : (text : List ℕ) (events : List Event) (r : EventReader) (waiting : List ℕ) (left : Option (List ℕ)) (event : Event) → HasRead text events r left → IsEvent r.version event → ¬ IsOf r.mutators event → r.pieces.waiting ≡ event_line event ++ waiting
+pub stranger_read : (text : List ℕ) (events : List Event) (r : EventReader) (waiting : List ℕ) (left : Option (List ℕ)) (event : Event) → HasRead text events r left → HasLine r.version event → ¬ IsOf r.mutators event → r.pieces.waiting ≡ event_line event ++ waiting
     → HasStranger text r.number
 stranger_read text events r waiting left event h fits strange line =
     (read_so_far r events, event, waiting ++ drop r.pieces.read text, subst (GoodBefore text r.number (read_so_far r events)) (behind text h.rest r.pieces waiting left event h.within line) h.good, fits, strange)
@@ -70,19 +70,19 @@ pub within_taken : (text : List ℕ) (events : List Event) (r next : EventReader
 within_taken text events r next left event h taken =
     subst (λ (n : EventReader). IsWithin text (next.pieces.waiting ++ drop r.pieces.read text) n.pieces left) (sym taken.1) (record { left_is = h.within.left_is; read_is = h.within.read_is; rest_is = refl; end_is = h.within.end_is })
 
-pub event_taken : (text : List ℕ) (events : List Event) (r next : EventReader) (left : Option (List ℕ)) (event : Event) → HasRead text events r left → HasTakenLine r next event → IsEvent r.version event → IsOf next.mutators event
+pub event_taken : (text : List ℕ) (events : List Event) (r next : EventReader) (left : Option (List ℕ)) (event : Event) → HasRead text events r left → HasTakenLine r next event → HasLine r.version event → IsOf next.mutators event
     → HasRead text (events ++ event ∷ []) (record next { number = next.number + 1 }) left
 event_taken text events r next left event h taken fits of =
     subst (λ (n : EventReader). HasRead text (events ++ event ∷ []) (record n { number = n.number + 1 }) left) (sym taken.1)
     (event_read text events r next.pieces.waiting left event h fits (subst (λ (m : ℕ). IsOf m event) (ap (λ (n : EventReader). n.mutators) taken.1) of) taken.0)
 
-pub stranger_taken : (text : List ℕ) (events : List Event) (r next : EventReader) (left : Option (List ℕ)) (event : Event) → HasRead text events r left → HasTakenLine r next event → IsEvent r.version event → ¬ IsOf next.mutators event → HasStranger text next.number
+pub stranger_taken : (text : List ℕ) (events : List Event) (r next : EventReader) (left : Option (List ℕ)) (event : Event) → HasRead text events r left → HasTakenLine r next event → HasLine r.version event → ¬ IsOf next.mutators event → HasStranger text next.number
 stranger_taken text events r next left event h taken fits strange =
     subst (λ (n : EventReader). HasStranger text n.number) (sym taken.1)
     (stranger_read text events r next.pieces.waiting left event h fits (λ of. strange (subst (λ (m : ℕ). IsOf m event) (sym (ap (λ (n : EventReader). n.mutators) taken.1)) of)) taken.0)
 
 -- after one more line, the count of lines is still bounded by the count of bytes
-pub still_counted : (r next : EventReader) (event : Event) → IsReading r → HasTakenLine r next event → IsReading next → IsReading (record next { number = next.number + 1 })
+pub still_counted : (r next : EventReader) (event : Event) → IsReadingTrace r → HasTakenLine r next event → IsReadingTrace next → IsReadingTrace (record next { number = next.number + 1 })
 still_counted r next event reading taken after = record {
   heading = after.heading;
   counted = omega (arith, reading.counted, line_takes event r.pieces.waiting next.pieces.waiting taken.0, ap (λ (n : EventReader). n.number) taken.1, ap (λ (n : EventReader). n.pieces.read) taken.1);
@@ -99,16 +99,16 @@ bad_line text events r left h same some none = (read_so_far r events, h.rest, h.
 
 -- each event can happen
 abbrev pub AllCan : EventReader → List Event → Type 0
-AllCan r events = AllByRecursion (λ event. IsEvent r.version event × IsOf r.mutators event) events
+AllCan r events = AllByRecursion (λ event. HasLine r.version event × IsOf r.mutators event) events
 
 -- reading more does not change the heading
 pub same_heading : (r next : EventReader) (events : List Event) → read_so_far next [] ≡ read_so_far r [] → read_so_far next events ≡ read_so_far r events
 same_heading r next events same = ap (λ (t : Recording). made_of t.version t.size t.mutators events) same
 
-pub all_can : (r next : EventReader) (events : List Event) (event : Event) → read_so_far next [] ≡ read_so_far r [] → AllCan r events → IsEvent r.version event × IsOf r.mutators event → AllCan next (events ++ event ∷ [])
+pub all_can : (r next : EventReader) (events : List Event) (event : Event) → read_so_far next [] ≡ read_so_far r [] → AllCan r events → HasLine r.version event × IsOf r.mutators event → AllCan next (events ++ event ∷ [])
 all_can r next events event same all can =
-    subst (λ (t : Recording). AllByRecursion (λ e. IsEvent t.version e × IsOf t.mutators e) (events ++ event ∷ [])) (sym same)
-    (all_push (λ e. IsEvent r.version e × IsOf r.mutators e) events event all can)
+    subst (λ (t : Recording). AllByRecursion (λ e. HasLine t.version e × IsOf t.mutators e) (events ++ event ∷ [])) (sym same)
+    (all_push (λ e. HasLine r.version e × IsOf r.mutators e) events event all can)
 
-pub still_recording : (r next : EventReader) (events : List Event) → read_so_far next [] ≡ read_so_far r [] → IsReading r → AllCan r events → IsRecording (read_so_far next events)
+pub still_recording : (r next : EventReader) (events : List Event) → read_so_far next [] ≡ read_so_far r [] → IsReadingTrace r → AllCan r events → IsRecording (read_so_far next events)
 still_recording r next events same reading all = subst IsRecording (sym (same_heading r next events same)) (record { heading = reading.heading; events = all })

@@ -10,7 +10,7 @@ use Rattle.gc_plan.specs.declared.event.Event.{Event}
 use Rattle.gc_world.specs.History.{unmarked, answers_of, IsHistory}
 use Rattle.gc_world.specs.declared.entry.Entry.{Entry}
 use Rattle.gc_trace.specs.declared.report.Report.{Report}
-use Rattle.gc_trace.specs.Report.{is_made, is_full, is_begun, is_copied, is_scanned, is_applied, is_flip, is_dropped, is_refused, pairs_in, report_of}
+use Rattle.gc_trace.specs.Report.{is_made, tells_full, tells_begun, is_copied, is_scanned, is_applied, is_flip, is_dropped, is_refused, flipped_pairs, report_of}
 use Rattle.gc_trace.specs.Internal.Report.{one_more_if, with_answer, FitsU64}
 use Rattle.gc_trace.proofs.PairsPlaced.{few_pairs, run_places}
 
@@ -28,13 +28,13 @@ pub report_push : (answers : List Answer) (answer : Answer) (s : State) → with
 report_push answers answer s =
     let events : length (answers ++ answer ∷ []) ≡ length answers + 1 = length-append answers (answer ∷ []) in
     let made = count_push is_made answers answer in
-    let full = count_push is_full answers answer in
-    let begun = count_push is_begun answers answer in
+    let full = count_push tells_full answers answer in
+    let begun = count_push tells_begun answers answer in
     let copied = count_push is_copied answers answer in
     let scanned = count_push is_scanned answers answer in
     let applied = count_push is_applied answers answer in
     let flips = count_push is_flip answers answer in
-    let pairs = sum_by_push pairs_in answers answer in
+    let pairs = sum_by_push flipped_pairs answers answer in
     let dropped = count_push is_dropped answers answer in
     let refused = count_push is_refused answers answer in
     cc
@@ -52,12 +52,12 @@ next_counted items i entry r s lt is so_far =
     ∙ ap (λ (e : Entry). report_of (answers_of (take i items) ++ answer_of e ∷ []) s) is
     ∙ ap (λ (answers : List Answer). report_of answers s) (sym (map_more answer_of items i entry lt))
 
-report_fits : (answers : List Answer) (s : State) → length answers < 2 ^ 64 → sum_by pairs_in answers < 2 ^ 64 → FitsU64 (report_of answers s)
+report_fits : (answers : List Answer) (s : State) → length answers < 2 ^ 64 → sum_by flipped_pairs answers < 2 ^ 64 → FitsU64 (report_of answers s)
 report_fits answers s few few_pairs = record {
   events = few;
   made = omega (arith, few, count_by-le-length is_made answers);
-  full = omega (arith, few, count_by-le-length is_full answers);
-  begun = omega (arith, few, count_by-le-length is_begun answers);
+  full = omega (arith, few, count_by-le-length tells_full answers);
+  begun = omega (arith, few, count_by-le-length tells_begun answers);
   copied = omega (arith, few, count_by-le-length is_copied answers);
   scanned = omega (arith, few, count_by-le-length is_scanned answers);
   applied = omega (arith, few, count_by-le-length is_applied answers);
@@ -73,7 +73,7 @@ front_fits size mutators items i s h few =
     let answers = answers_of items in
     let front : take i answers ≡ answers_of (take i items) = take-map answer_of i items in
     let short : length (take i answers) < 2 ^ 64 = omega (arith, few, length-take i answers, length-map items answer_of) in
-    let pairs : sum_by pairs_in (take i answers) < 2 ^ 64 = omega (arith, few, sum_by-take-le pairs_in answers i, few_pairs size mutators items h, length-map items answer_of) in
+    let pairs : sum_by flipped_pairs (take i answers) < 2 ^ 64 = omega (arith, few, sum_by-take-le flipped_pairs answers i, few_pairs size mutators items h, length-map items answer_of) in
     subst (λ (answers : List Answer). FitsU64 (report_of answers s)) front (report_fits (take i answers) s short pairs)
 
 -- a run has as many answers as events

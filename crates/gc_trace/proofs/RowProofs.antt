@@ -11,38 +11,38 @@ use Rattle.gc_graph.specs.declared.command.Op.TheVariants as ops
 use Rattle.gc_plan.specs.declared.step.Step.TheVariants as steps
 use Rattle.gc_graph.proofs.Public.{lacks, HasNo-lacks}
 use Rattle.gc_plan.specs.declared.event.Event.TheVariants.{Mutate, Collect}
-use Rattle.gc_trace.specs.Grammar.{Recording, slot, op_tokens, step_tokens, event_tokens, event_line, version_tokens, size_tokens, heading, spelling, IsTextOf}
-use Rattle.gc_trace.specs.Faults.{limit, BeginsWithNoEvent, IsTraceFaultOf}
-use Rattle.gc_trace.specs.Internal.Parsers.{slot_of, slot_at, new_of, raw_of, num_of, look_of, op_of, begin_of, apply_of, step_of, command_of, collect_of, event_of, version_at, sizes_of}
+use Rattle.gc_trace.specs.Grammar.{Recording, slot, op_tokens, step_tokens, event_tokens, event_line, version_tokens, size_tokens, trace_heading, trace_text, IsTraceText}
+use Rattle.gc_trace.specs.Faults.{trace_limit, BeginsWithNoEvent, IsTraceFaultOf}
+use Rattle.gc_trace.specs.Internal.Parsers.{slot_of, slot_at, positive_at, op_at, begin_at, step_at, command_of, collect_of, event_of, version_at, sizes_at}
 use Rattle.gc_trace.specs.Replies.{view_tokens, reply_tokens, step_reply_tokens, answer_tokens}
 use Rattle.gc_trace.specs.Rows.{small, TextRows, SizedRows, RawRows, LineRows}
 use Rattle.gc_trace.specs.declared.fault.TraceFault.TheVariants.{BadHeader, BadLine}
 use Rattle.gc_trace.proofs.FrontFaults.{no_line, no_event, no_first, no_version, no_second, no_sizes}
 
 pub line_rows : LineRows
-unfolding digits slot op_tokens step_tokens event_tokens event_line version_tokens size_tokens heading spelling view_tokens reply_tokens step_reply_tokens answer_tokens
+unfolding digits slot op_tokens step_tokens event_tokens event_line version_tokens size_tokens trace_heading trace_text view_tokens reply_tokens step_reply_tokens answer_tokens
 line_rows = record { events = refl; replies = refl; step_replies = refl }
 
-short : (text : List ℕ) → leb (length text) limit ≡ true → length text ≤ limit
-short text e = leb-true (length text) limit e
+short : (text : List ℕ) → leb (length text) trace_limit ≡ true → length text ≤ trace_limit
+short text e = leb-true (length text) trace_limit e
 
 -- lines 1 and 2 of a trace of this version
 abbrev first : ℕ → List ℕ
-first version = heading version 8 1
+first version = trace_heading version 8 1
 
-opening_text : (version : ℕ) → 1 ≤ version → version ≤ 3 → IsTextOf (small version []) (first version)
-unfolding spelling
+opening_text : (version : ℕ) → 1 ≤ version → version ≤ 3 → IsTraceText (small version []) (first version)
+unfolding trace_text
 opening_text version low high = record { recording = record { heading = (low, high, omega arith, omega arith, omega arith, omega arith); events = tt }; spelled = sym (append-nil (first version)) }
 
 abbrev one_nil : Recording
 one_nil = small 1 (Mutate 0 (ops.Nil (shared_slot 0)) ∷ [])
 
-nil_text : IsTextOf one_nil (codes "heaptrace 1\nspace 8 mutators 1\nm 0 nil g0\n")
-unfolding digits slot op_tokens event_tokens event_line version_tokens size_tokens heading spelling
+nil_text : IsTraceText one_nil (codes "heaptrace 1\nspace 8 mutators 1\nm 0 nil g0\n")
+unfolding digits slot op_tokens event_tokens event_line version_tokens size_tokens trace_heading trace_text
 nil_text = record { recording = record { heading = (omega arith, omega arith, omega arith, omega arith, omega arith, omega arith); events = ((record { range = (omega arith, omega arith); known = omega arith }, (omega arith, omega arith)), tt) }; spelled = refl }
 
 -- line 3 is bad
-third : (version : ℕ) (rest : List ℕ) → 1 ≤ version → version ≤ 3 → rest ≢ [] → BeginsWithNoEvent version rest → leb (length (first version ++ rest)) limit ≡ true → IsTraceFaultOf (BadLine 3) (first version ++ rest)
+third : (version : ℕ) (rest : List ℕ) → 1 ≤ version → version ≤ 3 → rest ≢ [] → BeginsWithNoEvent version rest → leb (length (first version ++ rest)) trace_limit ≡ true → IsTraceFaultOf (BadLine 3) (first version ++ rest)
 third version rest low high some none small-enough = (short (first version ++ rest) small-enough, (small version [], rest, record { lines = first version; good = opening_text version low high; parts = refl; number = refl }, some, none))
 
 some_line : (line : List ℕ) → ended line ≢ []
@@ -50,18 +50,18 @@ some_line [] e = cc
 some_line (b ∷ line) e = cc
 
 -- the whole of line 3 is bad
-third_line : (version : ℕ) (line : List ℕ) → 1 ≤ version → version ≤ 3 → lacks newline line ≡ true → event_of version (tokens_of line) ≡ None → leb (length (first version ++ ended line)) limit ≡ true → IsTraceFaultOf (BadLine 3) (first version ++ ended line)
+third_line : (version : ℕ) (line : List ℕ) → 1 ≤ version → version ≤ 3 → lacks newline line ≡ true → event_of version (tokens_of line) ≡ None → leb (length (first version ++ ended line)) trace_limit ≡ true → IsTraceFaultOf (BadLine 3) (first version ++ ended line)
 third_line version line low high h none small-enough = third version (ended line) low high (some_line line) (no_event version (ended line) line [] refl (HasNo-lacks newline line h) none) small-enough
 
 -- line 2 is bad
-second_line : (line : List ℕ) → lacks newline line ≡ true → sizes_of (tokens_of line) ≡ None → leb (length (codes "heaptrace 1\n" ++ ended line)) limit ≡ true → IsTraceFaultOf BadHeader (codes "heaptrace 1\n" ++ ended line)
+second_line : (line : List ℕ) → lacks newline line ≡ true → sizes_at (tokens_of line) ≡ None → leb (length (codes "heaptrace 1\n" ++ ended line)) trace_limit ≡ true → IsTraceFaultOf BadHeader (codes "heaptrace 1\n" ++ ended line)
 second_line line h none small-enough = (
   short (codes "heaptrace 1\n" ++ ended line) small-enough,
   no_sizes (codes "heaptrace 1\n" ++ ended line) (codes "heaptrace 1") (ended line) line [] refl (HasNo-lacks newline (codes "heaptrace 1") refl) refl (HasNo-lacks newline line h) none,
 )
 
 pub text_rows : TextRows
-unfolding digits slot op_tokens step_tokens event_tokens event_line version_tokens size_tokens heading number_of slot_of number_at slot_at token_at if_all_taken new_of num_of look_of op_of apply_of step_of command_of collect_of event_of sizes_of
+unfolding digits slot op_tokens step_tokens event_tokens event_line version_tokens size_tokens trace_heading number_of slot_of number_at slot_at token_at if_all_taken positive_at op_at step_at command_of collect_of event_of sizes_at
 text_rows = record {
   nothing = (short [] refl, no_first [] tt);
   no_size = second_line (codes "space 0 mutators 1") refl refl refl;
@@ -91,8 +91,8 @@ text_rows = record {
   );
 }
 
-sized_text : IsTextOf (small 2 (Collect steps.Begin ∷ Collect (steps.BeginSized 12) ∷ [])) (codes "heaptrace 2\nspace 8 mutators 1\nc begin\nc begin 12\n")
-unfolding digits step_tokens event_tokens event_line version_tokens size_tokens heading spelling
+sized_text : IsTraceText (small 2 (Collect steps.Begin ∷ Collect (steps.BeginSized 12) ∷ [])) (codes "heaptrace 2\nspace 8 mutators 1\nc begin\nc begin 12\n")
+unfolding digits step_tokens event_tokens event_line version_tokens size_tokens trace_heading trace_text
 sized_text = record {
   recording = record {
     heading = (omega arith, omega arith, omega arith, omega arith, omega arith, omega arith);
@@ -102,7 +102,7 @@ sized_text = record {
 }
 
 pub sized_rows : SizedRows
-unfolding digits step_tokens event_tokens event_line version_tokens size_tokens heading spelling number_of number_at token_at if_all_taken begin_of step_of collect_of event_of version_at
+unfolding digits step_tokens event_tokens event_line version_tokens size_tokens trace_heading trace_text number_of number_at token_at if_all_taken positive_at begin_at step_at collect_of event_of version_at
 sized_rows = record {
   read = (sized_text, short (codes "heaptrace 2\nspace 8 mutators 1\nc begin\nc begin 12\n") refl);
   low = third_line 2 (codes "c begin 0") (omega arith) (omega arith) refl refl refl;
@@ -112,8 +112,8 @@ sized_rows = record {
   lower = refl;
 }
 
-raw_text : IsTextOf (small 3 (Mutate 0 (ops.NewRaw (own_slot 0) 7 2) ∷ [])) (codes "heaptrace 3\nspace 8 mutators 1\nm 0 raw r0 7 2\n")
-unfolding digits slot op_tokens event_tokens event_line version_tokens size_tokens heading spelling
+raw_text : IsTraceText (small 3 (Mutate 0 (ops.NewRaw (own_slot 0) 7 2) ∷ [])) (codes "heaptrace 3\nspace 8 mutators 1\nm 0 raw r0 7 2\n")
+unfolding digits slot op_tokens event_tokens event_line version_tokens size_tokens trace_heading trace_text
 raw_text = record {
   recording = record {
     heading = (omega arith, omega arith, omega arith, omega arith, omega arith, omega arith);
@@ -123,7 +123,7 @@ raw_text = record {
 }
 
 pub raw_rows : RawRows
-unfolding digits slot op_tokens step_tokens event_tokens event_line version_tokens size_tokens heading spelling view_tokens reply_tokens step_reply_tokens answer_tokens number_of slot_of number_at slot_at token_at if_all_taken new_of raw_of op_of command_of event_of version_at
+unfolding digits slot op_tokens step_tokens event_tokens event_line version_tokens size_tokens trace_heading trace_text view_tokens reply_tokens step_reply_tokens answer_tokens number_of slot_of number_at slot_at token_at if_all_taken positive_at op_at command_of event_of version_at
 raw_rows = record {
   read = (raw_text, short (codes "heaptrace 3\nspace 8 mutators 1\nm 0 raw r0 7 2\n") refl);
   long = third_line 3 (codes "m 0 raw r0 7 65536") (omega arith) (omega arith) refl refl refl;

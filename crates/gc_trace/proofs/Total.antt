@@ -12,9 +12,9 @@ use Rattle.gc_plan.specs.declared.step.Step.{Step}
 use Rattle.gc_plan.specs.declared.step.Step.TheVariants as steps
 use Rattle.gc_plan.specs.declared.event.Event.{Event}
 use Rattle.gc_plan.specs.declared.event.Event.TheVariants.{Mutate, Collect}
-use Rattle.gc_trace.specs.Internal.Parsers.{event_of, version_at, sizes_of}
-use Rattle.gc_trace.specs.Grammar.{Recording, event_tokens, event_line, version_tokens, size_tokens, heading, spelling, IsHeading, IsEvent, IsOf, IsTextOf}
-use Rattle.gc_trace.specs.Faults.{limit, GoodBefore, HasNoHeading, HasBadLine, HasStranger, IsTraceFaultOf, IsReadAsTrace}
+use Rattle.gc_trace.specs.Internal.Parsers.{event_of, version_at, sizes_at}
+use Rattle.gc_trace.specs.Grammar.{Recording, event_tokens, event_line, version_tokens, size_tokens, trace_heading, trace_text, IsHeading, HasLine, IsOf, IsTraceText}
+use Rattle.gc_trace.specs.Faults.{trace_limit, GoodBefore, HasNoHeading, HasBadLine, HasStranger, IsTraceFaultOf, IsReadAsTrace}
 use Rattle.gc_trace.specs.declared.fault.TraceFault.{TraceFault}
 use Rattle.gc_trace.specs.declared.fault.TraceFault.TheVariants.{TooLarge, BadHeader, BadLine, NoSuchMutator}
 use Rattle.gc_trace.proofs.ParsedTokens.{event_found, version_found, sizes_found}
@@ -37,7 +37,7 @@ dec_step mutators (steps.Apply k) fits = dec_le (suc k) mutators
 dec_step mutators steps.Flip fits = inl tt
 dec_step mutators steps.Drop fits = inl tt
 
-dec_of : (version mutators : ℕ) (event : Event) → IsEvent version event → IsOf mutators event ⊎ (IsOf mutators event → ⊥)
+dec_of : (version mutators : ℕ) (event : Event) → HasLine version event → IsOf mutators event ⊎ (IsOf mutators event → ⊥)
 dec_of version mutators (Mutate m op) fits =
     elim (dec_le (suc m) mutators) [
       | inl le ↦ inl (le, fits.range.1)
@@ -46,15 +46,15 @@ dec_of version mutators (Mutate m op) fits =
 dec_of version mutators (Collect step) fits = dec_step mutators step fits.range
 
 -- the event that the text begins with
-pub one_event : (version : ℕ) (rest line after : List ℕ) (e : Event) → 1 ≤ version → rest ≡ line ++ newline ∷ after → event_of version (tokens_of line) ≡ Some e → IsEvent version e × (rest ≡ event_line e ++ after)
+pub one_event : (version : ℕ) (rest line after : List ℕ) (e : Event) → 1 ≤ version → rest ≡ line ++ newline ∷ after → event_of version (tokens_of line) ≡ Some e → HasLine version e × (rest ≡ event_line e ++ after)
 one_event version rest line after e known parts read =
     let found = event_found version (tokens_of line) e known read in
     let whole : joined (event_tokens e) ≡ line = ap joined (sym found.0) ∙ joined-tokens_of line in
     (found.1, parts ∙ ap (λ (t : List ℕ). t ++ newline ∷ after) (sym whole) ∙ sym (event_line-more e after))
 
 -- the heading of these two lines
-pub one_heading : (text first rest second body : List ℕ) (v s m : ℕ) → text ≡ first ++ newline ∷ rest → version_at (tokens_of first) ≡ Some v → rest ≡ second ++ newline ∷ body → sizes_of (tokens_of second) ≡ Some (s, m)
-    → IsHeading v s m × (text ≡ heading v s m ++ body)
+pub one_heading : (text first rest second body : List ℕ) (v s m : ℕ) → text ≡ first ++ newline ∷ rest → version_at (tokens_of first) ≡ Some v → rest ≡ second ++ newline ∷ body → sizes_at (tokens_of second) ≡ Some (s, m)
+    → IsHeading v s m × (text ≡ trace_heading v s m ++ body)
 one_heading text first rest second body v s m parts e parts' k =
     let version = version_found (tokens_of first) v e in
     let sizes = sizes_found (tokens_of second) (s, m) k in
@@ -69,40 +69,40 @@ abbrev pub made_of : ℕ → ℕ → ℕ → List Event → Recording
 made_of version size mutators events = record { version = version; size = size; mutators = mutators; events = events }
 
 -- no line of an event was read yet
-pub good_start : (text rest : List ℕ) (v s m : ℕ) → IsHeading v s m → text ≡ heading v s m ++ rest → GoodBefore text 3 (made_of v s m []) rest
-unfolding spelling
+pub good_start : (text rest : List ℕ) (v s m : ℕ) → IsHeading v s m → text ≡ trace_heading v s m ++ rest → GoodBefore text 3 (made_of v s m []) rest
+unfolding trace_text
 good_start text rest v s m fits is = record {
-  lines = heading v s m;
-  good = record { recording = record { heading = fits; events = tt }; spelled = sym (append-nil (heading v s m)) };
+  lines = trace_heading v s m;
+  good = record { recording = record { heading = fits; events = tt }; spelled = sym (append-nil (trace_heading v s m)) };
   parts = is;
   number = refl;
 }
 
 -- one more line was read
-pub good_more : (text : List ℕ) (n v s m : ℕ) (events : List Event) (rest : List ℕ) (e : Event) (after : List ℕ) → GoodBefore text n (made_of v s m events) rest → IsEvent v e → IsOf m e → rest ≡ event_line e ++ after
+pub good_more : (text : List ℕ) (n v s m : ℕ) (events : List Event) (rest : List ℕ) (e : Event) (after : List ℕ) → GoodBefore text n (made_of v s m events) rest → HasLine v e → IsOf m e → rest ≡ event_line e ++ after
     → GoodBefore text (n + 1) (made_of v s m (events ++ e ∷ [])) after
-unfolding spelling
+unfolding trace_text
 good_more text n v s m events rest e after so_far fits of is =
     let more : flat_map event_line (events ++ e ∷ []) ≡ flat_map event_line events ++ event_line e = flat_map-append event_line events (e ∷ []) ∙ ap (λ (l : List ℕ). flat_map event_line events ++ l) (flat_map-cons event_line e [] ∙ append-nil (event_line e)) in
     record {
       lines = so_far.lines ++ event_line e;
       good = record {
-        recording = record { heading = so_far.good.recording.heading; events = all_push (λ event. IsEvent v event × IsOf m event) events e so_far.good.recording.events (fits, of) };
-        spelled = ap (λ (l : List ℕ). l ++ event_line e) so_far.good.spelled ∙ append_assoc (heading v s m) (flat_map event_line events) (event_line e) ∙ ap (λ (l : List ℕ). heading v s m ++ l) (sym more);
+        recording = record { heading = so_far.good.recording.heading; events = all_push (λ event. HasLine v event × IsOf m event) events e so_far.good.recording.events (fits, of) };
+        spelled = ap (λ (l : List ℕ). l ++ event_line e) so_far.good.spelled ∙ append_assoc (trace_heading v s m) (flat_map event_line events) (event_line e) ∙ ap (λ (l : List ℕ). trace_heading v s m ++ l) (sym more);
       };
       parts = so_far.parts ∙ ap (λ (l : List ℕ). so_far.lines ++ l) is ∙ sym (append_assoc so_far.lines (event_line e) after);
       number = omega (arith, so_far.number, length-append events (e ∷ []));
     }
 
 -- all lines were read
-pub good_end : (text : List ℕ) (n : ℕ) (t : Recording) (rest : List ℕ) → GoodBefore text n t rest → rest ≡ [] → IsTextOf t text
+pub good_end : (text : List ℕ) (n : ℕ) (t : Recording) (rest : List ℕ) → GoodBefore text n t rest → rest ≡ [] → IsTraceText t text
 good_end text n t rest so_far none = record {
   recording = so_far.good.recording;
   spelled = so_far.parts ∙ ap (λ (l : List ℕ). so_far.lines ++ l) none ∙ append-nil so_far.lines ∙ so_far.good.spelled;
 }
 
 abbrev Reading : List ℕ → Type 0
-Reading text = ((t : Recording) × IsTextOf t text) ⊎ ((n : ℕ) × HasBadLine text n) ⊎ ((n : ℕ) × HasStranger text n)
+Reading text = ((t : Recording) × IsTraceText t text) ⊎ ((n : ℕ) × HasBadLine text n) ⊎ ((n : ℕ) × HasStranger text n)
 
 reading : (fuel : ℕ) (text : List ℕ) (n v s m : ℕ) (events : List Event) (rest : List ℕ) → length rest < fuel → GoodBefore text n (made_of v s m events) rest → Reading text
 reading zero text n v s m events rest lt good = absurd (omega (arith, lt))
@@ -130,12 +130,12 @@ record Headed (text : List ℕ) : Type 0 where
   mutators : ℕ
   rest : List ℕ
   fits : IsHeading version size mutators
-  parts : text ≡ heading version size mutators ++ rest
+  parts : text ≡ trace_heading version size mutators ++ rest
 
 headed_by : (text : List ℕ) (c : Cut text) (d : Cut c.rest) → Headed text ⊎ HasNoHeading text
-headed_by text c d = at (version_at (tokens_of c.line)) refl (sizes_of (tokens_of d.line)) refl
+headed_by text c d = at (version_at (tokens_of c.line)) refl (sizes_at (tokens_of d.line)) refl
   where
-    at : (o : Option ℕ) → version_at (tokens_of c.line) ≡ o → (p : Option (ℕ × ℕ)) → sizes_of (tokens_of d.line) ≡ p → Headed text ⊎ HasNoHeading text
+    at : (o : Option ℕ) → version_at (tokens_of c.line) ≡ o → (p : Option (ℕ × ℕ)) → sizes_at (tokens_of d.line) ≡ p → Headed text ⊎ HasNoHeading text
     at None e p k = inr (no_version text c.line c.rest c.parts c.whole e)
     at (Some v) e None k = inr (no_sizes text c.line c.rest d.line d.rest c.parts c.whole d.parts d.whole k)
     at (Some v) e (Some x) k =
@@ -156,14 +156,14 @@ headed text =
 abbrev pub Answered : List ℕ → Type 0
 Answered text = ((t : Recording) × IsReadAsTrace t text) ⊎ ((f : TraceFault) × IsTraceFaultOf f text)
 
-answered : (text : List ℕ) → length text ≤ limit → Reading text → Answered text
+answered : (text : List ℕ) → length text ≤ trace_limit → Reading text → Answered text
 answered text le (inl r) = inl (r.0, (r.1, le))
 answered text le (inr (inl r)) = inr (BadLine r.0, (le, r.1))
 answered text le (inr (inr r)) = inr (NoSuchMutator r.0, (le, r.1))
 
 pub each_is_answered : (text : List ℕ) → Answered text
 each_is_answered text =
-    elim (dec_le (length text) limit) [
+    elim (dec_le (length text) trace_limit) [
       | inr above ↦ inr (TooLarge, (grind (arith, above)))
       | inl le ↦ elim (headed text) [
         | inr none ↦ inr (BadHeader, (le, none))

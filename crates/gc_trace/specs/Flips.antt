@@ -6,14 +6,10 @@ use Rattle.gc_cert.specs.Grammar as pairs
 use Rattle.gc_cert.specs.Grammar.{CertifiedPair}
 use Rattle.gc_plan.specs.State.{State}
 use Rattle.gc_plan.specs.Runs.{after}
+use Rattle.gc_core.specs.Performing.{flip_at}
 use Rattle.gc_plan.specs.declared.event.Event.{Event}
 use Rattle.gc_trace.specs.Grammar.{Recording}
-use Rattle.gc_trace.specs.Plays.{IsTraceFrom, opening}
-use Rattle.gc_trace.specs.WorldRuns.{kept_with}
-
--- the pair of the event's flip, if the event flips in this state
-abbrev pub flip_at : State → Event → Option CertifiedPair
-flip_at s event = kept_with None s event
+use Rattle.gc_trace.specs.Plays.{IsTraceFrom, trace_opening}
 
 abbrev pub with_flip : Option CertifiedPair → List CertifiedPair → List CertifiedPair
 with_flip None more = more
@@ -26,7 +22,7 @@ flips s (event ∷ events) = with_flip (flip_at s event) (flips (after s event) 
 
 -- the pair of the trace's n-th flip, counted from 1
 abbrev pub nth_flip : ℕ → Recording → Option CertifiedPair
-nth_flip n t = slice_get (flips (opening t) t.events) (n - 1)
+nth_flip n t = slice_get (flips (trace_opening t) t.events) (n - 1)
 
 -- ---- what is written, whether or not the reader's text is known
 

@@ -63,11 +63,11 @@ unfoldable pub size_tokens : ℕ → ℕ → List (List ℕ)
 size_tokens size mutators = codes "space" ∷ decimal size ∷ codes "mutators" ∷ decimal mutators ∷ []
 
 -- lines 1 and 2
-unfoldable pub heading : ℕ → ℕ → ℕ → List ℕ
-heading version size mutators = line (version_tokens version) ++ line (size_tokens size mutators)
+unfoldable pub trace_heading : ℕ → ℕ → ℕ → List ℕ
+trace_heading version size mutators = line (version_tokens version) ++ line (size_tokens size mutators)
 
-unfoldable pub spelling : Recording → List ℕ
-spelling t = heading t.version t.size t.mutators ++ flat_map event_line t.events
+unfoldable pub trace_text : Recording → List ℕ
+trace_text t = trace_heading t.version t.size t.mutators ++ flat_map event_line t.events
 
 -- ---- which traces have a text
 
@@ -93,7 +93,7 @@ version_of (Mutate m op) = op_version op
 version_of (Collect step) = step_version step
 
 -- an event of this version's grammar, whatever the number of mutators
-pub record IsEvent (version : ℕ) (event : Event) : Type 0 where
+pub record HasLine (version : ℕ) (event : Event) : Type 0 where
   pub range : runs.IsEventWithin most_words most_mutators event
   pub known : version_of event ≤ version
 
@@ -103,7 +103,7 @@ IsOf mutators event = runs.IsEventWithin most_words mutators event
 
 pub record IsRecording (t : Recording) : Type 0 where
   pub heading : IsHeading t.version t.size t.mutators
-  pub events : AllByRecursion (λ event. IsEvent t.version event × IsOf t.mutators event) t.events
+  pub events : AllByRecursion (λ event. HasLine t.version event × IsOf t.mutators event) t.events
 
 -- the trace's numbers are in range, whatever its version
 pub record IsInRange (t : Recording) : Type 0 where
@@ -114,9 +114,9 @@ pub record IsInRange (t : Recording) : Type 0 where
   pub events : AllByRecursion (IsOf t.mutators) t.events
 
 -- the trace has a text, and this is it
-pub record IsTextOf (t : Recording) (text : List ℕ) : Type 0 where
+pub record IsTraceText (t : Recording) (text : List ℕ) : Type 0 where
   pub recording : IsRecording t
-  pub spelled : text ≡ spelling t
+  pub spelled : text ≡ trace_text t
 
 -- ---- the trace that is written for events
 
@@ -125,5 +125,5 @@ abbrev pub least_version : List Event → ℕ
 least_version [] = 1
 least_version (event ∷ events) = max (version_of event) (least_version events)
 
-abbrev pub written : ℕ → ℕ → List Event → Recording
-written size mutators events = record { version = least_version events; size = size; mutators = mutators; events = events }
+abbrev pub least_trace : ℕ → ℕ → List Event → Recording
+least_trace size mutators events = record { version = least_version events; size = size; mutators = mutators; events = events }

@@ -12,20 +12,20 @@ use Rattle.gc_trace.specs.Report.{report_of, report_text}
 use Rattle.gc_trace.specs.declared.report.Report.{Report}
 
 -- the state before the first event
-abbrev pub opening : Recording → State
-opening t = opening_state t.size t.mutators
+abbrev pub trace_opening : Recording → State
+trace_opening t = opening_state t.size t.mutators
 
 -- the core's answers to the events, in order
-abbrev pub answers : Recording → List Answer
-answers t = runs.answers (opening t) t.events
+abbrev pub trace_answers : Recording → List Answer
+trace_answers t = runs.answers (trace_opening t) t.events
 
 -- the state after the last event
 abbrev pub last_state : Recording → State
-last_state t = runs.state_after (opening t) t.events
+last_state t = runs.state_after (trace_opening t) t.events
 
 -- the report of the trace's run
 abbrev pub report_in : Recording → Report
-report_in t = report_of (answers t) (last_state t)
+report_in t = report_of (trace_answers t) (last_state t)
 
 -- ---- what is written, whether or not the reader's text is known
 
@@ -36,11 +36,11 @@ pub record IsTraceFrom (text : Option (List ℕ)) (t : Recording) : Type 0 where
 
 -- the reply lines of the reader's trace were written, and this is its report
 abbrev pub Plays : Option (List ℕ) → Report → Option (List ℕ) → Option (List ℕ) → Type 0
-Plays text report old new = (t : Recording) × IsTraceFrom text t × (report ≡ report_in t) × Appends old new (reply_text (answers t))
+Plays text report old new = (t : Recording) × IsTraceFrom text t × (report ≡ report_in t) × Appends old new (reply_text (trace_answers t))
 
 -- a prefix of the reply lines of the reader's trace was written
 abbrev pub PlaysFront : Option (List ℕ) → Option (List ℕ) → Option (List ℕ) → Type 0
-PlaysFront text old new = (t : Recording) × IsTraceFrom text t × SendsFront old new (reply_text (answers t))
+PlaysFront text old new = (t : Recording) × IsTraceFrom text t × SendsFront old new (reply_text (trace_answers t))
 
 -- this is the report of the reader's trace, and the report's text was written
 abbrev pub Reports : Option (List ℕ) → Report → Option (List ℕ) → Option (List ℕ) → Type 0

@@ -16,13 +16,13 @@ abbrev pub is_made : Answer → Bool
 is_made (Mutator replies.Made) = true
 is_made answer = false
 
-abbrev pub is_full : Answer → Bool
-is_full (Mutator replies.Full) = true
-is_full answer = false
+abbrev pub tells_full : Answer → Bool
+tells_full (Mutator replies.Full) = true
+tells_full answer = false
 
-abbrev pub is_begun : Answer → Bool
-is_begun (Collector steps.Begun) = true
-is_begun answer = false
+abbrev pub tells_begun : Answer → Bool
+tells_begun (Collector steps.Begun) = true
+tells_begun answer = false
 
 abbrev pub is_copied : Answer → Bool
 is_copied (Collector steps.Copied) = true
@@ -49,9 +49,9 @@ is_refused (Collector steps.Refused) = true
 is_refused answer = false
 
 -- the number of pairs, if the answer is a flip's
-abbrev pub pairs_in : Answer → ℕ
-pairs_in (Collector (steps.Flipped pairs)) = pairs
-pairs_in answer = 0
+abbrev pub flipped_pairs : Answer → ℕ
+flipped_pairs (Collector (steps.Flipped pairs)) = pairs
+flipped_pairs answer = 0
 
 -- ---- the report
 
@@ -60,13 +60,13 @@ abbrev pub report_of : List Answer → State → Report
 report_of answers s = record {
   events = length answers;
   made = count_by is_made answers;
-  full = count_by is_full answers;
-  begun = count_by is_begun answers;
+  full = count_by tells_full answers;
+  begun = count_by tells_begun answers;
   copied = count_by is_copied answers;
   scanned = count_by is_scanned answers;
   applied = count_by is_applied answers;
   flips = count_by is_flip answers;
-  pairs = sum_by pairs_in answers;
+  pairs = sum_by flipped_pairs answers;
   dropped = count_by is_dropped answers;
   refused = count_by is_refused answers;
   end = heap_end s;

@@ -11,7 +11,7 @@ use Rattle.gc_plan.specs.State.{opening_state}
 use Rattle.gc_plan.specs.Runs.{answers}
 use Rattle.gc_plan.specs.declared.event.Event.{Event}
 use Rattle.gc_plan.specs.declared.event.Event.TheVariants.{Mutate, Collect}
-use Rattle.gc_trace.specs.Grammar.{Recording, spelling, written}
+use Rattle.gc_trace.specs.Grammar.{Recording, trace_text, least_trace}
 use Rattle.gc_trace.specs.Faults.{IsReadAsTrace, IsTraceFaultOf}
 use Rattle.gc_trace.specs.Replies.{reply_text}
 use Rattle.gc_trace.specs.declared.fault.TraceFault.TheVariants.{BadHeader, BadLine, NoSuchMutator}
@@ -42,8 +42,8 @@ pub record SizedRows : Type 0 where
   pub low : IsTraceFaultOf (BadLine 3) (codes "heaptrace 2\nspace 8 mutators 1\nc begin 0\n")
   pub high : IsTraceFaultOf (BadLine 3) (codes "heaptrace 2\nspace 8 mutators 1\nc begin 1048577\n")
   pub not_in_first : IsTraceFaultOf (BadLine 3) (codes "heaptrace 1\nspace 8 mutators 1\nc begin 12\n")
-  pub least : spelling (written 8 1 (Collect (steps.BeginSized 12) ∷ [])) ≡ codes "heaptrace 2\nspace 8 mutators 1\nc begin 12\n"
-  pub lower : spelling (written 8 1 (Collect steps.Begin ∷ [])) ≡ codes "heaptrace 1\nspace 8 mutators 1\nc begin\n"
+  pub least : trace_text (least_trace 8 1 (Collect (steps.BeginSized 12) ∷ [])) ≡ codes "heaptrace 2\nspace 8 mutators 1\nc begin 12\n"
+  pub lower : trace_text (least_trace 8 1 (Collect steps.Begin ∷ [])) ≡ codes "heaptrace 1\nspace 8 mutators 1\nc begin\n"
 
 -- events on a raw object; a `Put` writes to it while a collection is open
 abbrev pub raw_events : List Event
@@ -59,8 +59,8 @@ pub record RawRows : Type 0 where
   pub not_in_first : IsTraceFaultOf (BadLine 3) (codes "heaptrace 1\nspace 8 mutators 1\nm 0 raw r0 7 2\n")
   pub not_in_second : IsTraceFaultOf (BadLine 3) (codes "heaptrace 2\nspace 8 mutators 1\nm 0 raw r0 7 2\n")
   pub no_fourth : IsTraceFaultOf BadHeader (codes "heaptrace 4\nspace 8 mutators 1\n")
-  pub least : spelling (written 8 1 (Collect (steps.BeginSized 12) ∷ Mutate 0 (ops.NewRaw (own_slot 0) 7 2) ∷ [])) ≡ codes "heaptrace 3\nspace 8 mutators 1\nc begin 12\nm 0 raw r0 7 2\n"
-  pub played : spelling (written 16 1 raw_events)
+  pub least : trace_text (least_trace 8 1 (Collect (steps.BeginSized 12) ∷ Mutate 0 (ops.NewRaw (own_slot 0) 7 2) ∷ [])) ≡ codes "heaptrace 3\nspace 8 mutators 1\nc begin 12\nm 0 raw r0 7 2\n"
+  pub played : trace_text (least_trace 16 1 raw_events)
       ≡ codes "heaptrace 3\nspace 16 mutators 1\nm 0 raw r0 7 2\nm 0 look r0\nm 0 get r1 r0 1\nm 0 put r0 0 r2\nm 0 put r0 2 r2\nm 0 num r1 8\nm 0 put r0 0 r1\nc begin\nc roots\nm 0 num r1 10\nm 0 put r0 1 r1\nc scan\nc scan\nc flip\nc apply 0\nc flip\nm 0 get r2 r0 0\nm 0 get r2 r0 1\n"
   pub replies : reply_text (answers (opening_state 16 1) raw_events)
       ≡ codes "made\nsaw raw 7 2\nsaw num 0\nno number\nno field\ndone\ndone\nbegun\ncopied\ndone\ndone\npassed\nclean\nnot ready\napplied\nflipped 1\nsaw num 8\nsaw num 10\n"
@@ -73,7 +73,7 @@ all_lines =
     ∷ Collect steps.Begin ∷ Collect steps.Roots ∷ Collect steps.Scan ∷ Collect (steps.Apply 1) ∷ Collect steps.Flip ∷ Collect steps.Drop ∷ []
 
 pub record LineRows : Type 0 where
-  pub events : spelling (written 9 2 all_lines)
+  pub events : trace_text (least_trace 9 2 all_lines)
       ≡ codes "heaptrace 1\nspace 9 mutators 2\nm 0 new r0 255 65535\nm 1 num r1 9223372036854775807\nm 0 nil g15\nm 0 move g0 r0\nm 0 get r1 r0 0\nm 0 put r0 7 r1\nm 0 same r0 g1\nm 0 look r9\nc begin\nc roots\nc scan\nc apply 1\nc flip\nc drop\n"
   pub replies : reply_text (Mutator replies.Full ∷ Mutator replies.Made ∷ Mutator replies.Done ∷ Mutator replies.NoObject ∷ Mutator replies.NoField ∷ Mutator replies.NoNumber ∷ Mutator replies.Yes ∷ Mutator replies.No
       ∷ Mutator (replies.Saw views.Nil) ∷ Mutator (replies.Saw (views.Num 9)) ∷ Mutator (replies.Saw (views.Obj 1 2)) ∷ Mutator (replies.Saw (views.RawObj 1 2)) ∷ [])

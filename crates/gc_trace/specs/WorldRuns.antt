@@ -1,20 +1,11 @@
 -- What the events of a trace do to a world.
-use Rattle.std.specs.Prelude.{◌≡◌, [], ◌∷◌, ◌++◌, Option}
-use Rattle.gc_cert.specs.Grammar.{CertifiedPair}
-use Rattle.gc_plan.specs.State.{State}
-use Rattle.gc_plan.specs.Steps.{collect}
+use Rattle.std.specs.Prelude.{◌≡◌, [], ◌∷◌, ◌++◌}
 use Rattle.gc_plan.specs.Runs.{after}
-use Rattle.gc_core.specs.Flip.{kept_after}
+use Rattle.gc_core.specs.Performing.{kept_with}
 use Rattle.gc_world.specs.History.{events_of}
 use Rattle.gc_world.specs.World.{Past, present}
 use Rattle.gc_plan.specs.declared.event.Event.{Event}
-use Rattle.gc_plan.specs.declared.event.Event.TheVariants.{Mutate, Collect}
 use Rattle.gc_trace.specs.Grammar.{Recording}
-
--- the pair kept after this event happens in this state; `kept` is the one kept before
-abbrev pub kept_with : Option CertifiedPair → State → Event → Option CertifiedPair
-kept_with kept s (Mutate m op) = kept
-kept_with kept s (Collect step) = kept_after kept s (collect s step).0
 
 -- this event happened in the world, and nothing else did
 pub record Happens (old : Past) (event : Event) (new : Past) : Type 0 where

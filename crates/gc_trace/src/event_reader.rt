@@ -2,8 +2,8 @@ ghost use Rattle.std.specs.Prelude.{◌≡◌, ◌≢◌, ◌≤◌, ◌<◌, �
 ghost use Rattle.gc_graph.specs.Lines.{HasNo, newline};
 ghost use Rattle.gc_graph.specs.Pieces.{IsWithin, nothing_read};
 ghost use Rattle.gc_graph.specs.Streams.{bytes_left, source_failed};
-ghost use Rattle.gc_trace.specs.Grammar.{IsHeading, IsEvent, IsOf, newest, heading, event_line};
-ghost use Rattle.gc_trace.specs.Faults.{limit, HasNoHeading, BeginsWithNoEvent, MayFail};
+ghost use Rattle.gc_trace.specs.Grammar.{IsHeading, HasLine, IsOf, newest, trace_heading, event_line};
+ghost use Rattle.gc_trace.specs.Faults.{trace_limit, HasNoHeading, BeginsWithNoEvent, ReadingMayFail};
 
 use crate::fault::TraceFault;
 use crate::front;
@@ -38,7 +38,7 @@ fn split_line(text: &[u8]) -> Option<(&[u8], &[u8])>
 fn split_heading(text: &[u8]) -> Option<(Heading, &[u8])>
     ensures { MatchOption result (HasNoHeading text.now)
         (λ found. IsHeading found.0.version found.0.size found.0.mutators
-        × (text.now ≡ heading found.0.version found.0.size found.0.mutators ++ found.1.now)) }
+        × (text.now ≡ trace_heading found.0.version found.0.size found.0.mutators ++ found.1.now)) }
 {
     let Some((first, rest)) = split_line(text) else {
         return None;
@@ -65,7 +65,7 @@ fn split_heading(text: &[u8]) -> Option<(Heading, &[u8])>
 /// Returns whether the event's mutator, or the mutator of its log, is below `mutators`.
 #[inline(always)]
 fn is_of(mutators: u8, event: &Event) -> bool
-    requires { IsEvent newest event.now }
+    requires { HasLine newest event.now }
     ensures yes { result ≡ true → IsOf mutators event.now }
     ensures no { result ≡ false → ¬ IsOf mutators event.now }
 {
@@ -81,7 +81,7 @@ fn is_of(mutators: u8, event: &Event) -> bool
 fn take_event(version: u8, front: &mut Front<'_>) -> Option<Event>
     requires { 1 ≤ version }
     ensures { MatchOption result (BeginsWithNoEvent version front.old)
-        (λ event. IsEvent version event × (front.old ≡ event_line event ++ front.new)) }
+        (λ event. HasLine version event × (front.old ≡ event_line event ++ front.new)) }
 {
     let text = front.rest();
     if let Some(event) = front::line(version, front) {
@@ -101,7 +101,7 @@ fn take_event(version: u8, front: &mut Front<'_>) -> Option<Event>
 fn heading_at(text: &[u8]) -> Option<(Heading, usize)>
     ensures { MatchOption result (HasNoHeading text.now)
         (λ found. IsHeading found.0.version found.0.size found.0.mutators × (found.1 ≤ length text.now)
-        × (text.now ≡ heading found.0.version found.0.size found.0.mutators ++ drop (length text.now - found.1) text.now)) }
+        × (text.now ≡ trace_heading found.0.version found.0.size found.0.mutators ++ drop (length text.now - found.1) text.now)) }
 {
     let (heading, body) = split_heading(text)?;
     Some((heading, body.len()))
@@ -112,7 +112,7 @@ fn heading_at(text: &[u8]) -> Option<(Heading, usize)>
 fn event_at(version: u8, text: &[u8]) -> Option<(Event, usize)>
     requires { 1 ≤ version }
     ensures { MatchOption result (BeginsWithNoEvent version text.now)
-        (λ found. IsEvent version found.0 × (found.1 ≤ length text.now)
+        (λ found. HasLine version found.0 × (found.1 ≤ length text.now)
         × (text.now ≡ event_line found.0 ++ drop (length text.now - found.1) text.now)) }
 {
     let mut front = Front::new(text);
@@ -122,19 +122,19 @@ fn event_at(version: u8, text: &[u8]) -> Option<(Event, usize)>
 
 /// Reads more of the text. Returns false at its end.
 fn read_more<R: Read>(pieces: &mut Pieces, reader: &mut Source<R>) -> Result<bool, TraceFault>
-    requires { pieces.old.limit ≡ limit }
+    requires { pieces.old.limit ≡ trace_limit }
     ensures within { (text rest : List ℕ) → IsWithin text rest pieces.old (bytes_left R.remaining reader.old) → MatchResult result
         (λ _. IsWithin text rest pieces.new (bytes_left R.remaining reader.new))
-        (λ fault. MayFail fault text) }
+        (λ fault. ReadingMayFail fault text) }
     ensures whole { result ≡ Ok false → (pieces.new.ended ≡ true) × (pieces.new.read ≡ pieces.old.read) }
     ensures grows { result ≡ Ok true → pieces.old.read < pieces.new.read }
-    ensures counts { IfOk result (λ _. (pieces.old.read ≤ pieces.new.read) × (pieces.new.read ≤ limit)
+    ensures counts { IfOk result (λ _. (pieces.old.read ≤ pieces.new.read) × (pieces.new.read ≤ trace_limit)
         × (pieces.new.read + length pieces.old.waiting ≡ pieces.old.read + length pieces.new.waiting)) }
-    ensures limit { pieces.new.limit ≡ limit }
+    ensures limit { pieces.new.limit ≡ trace_limit }
     ensures stops { (text rest : List ℕ) → IsWithin text rest pieces.old (bytes_left R.remaining reader.old)
         → result ≡ Err TraceFault.TooLarge
-        → bytes_left R.remaining reader.new ≡ Some (drop (limit + 1) text) }
-    ensures first { pieces.old ≡ nothing_read limit → ((result ≡ Err TraceFault.Read) ↔ (source_failed reader.new ≡ true)) }
+        → bytes_left R.remaining reader.new ≡ Some (drop (trace_limit + 1) text) }
+    ensures first { pieces.old ≡ nothing_read trace_limit → ((result ≡ Err TraceFault.Read) ↔ (source_failed reader.new ≡ true)) }
     ensures later { source_failed reader.old ≡ false → ((result ≡ Err TraceFault.Read) ↔ (source_failed reader.new ≡ true)) }
 {
     match pieces.more(reader) {
@@ -145,14 +145,14 @@ fn read_more<R: Read>(pieces: &mut Pieces, reader: &mut Source<R>) -> Result<boo
 
 /// Reads to the end of the text.
 fn read_to_end<R: Read>(pieces: &mut Pieces, reader: &mut Source<R>) -> Result<(), TraceFault>
-    requires limit { pieces.old.limit ≡ limit }
-    requires bounded { pieces.old.read ≤ limit }
+    requires limit { pieces.old.limit ≡ trace_limit }
+    requires bounded { pieces.old.read ≤ trace_limit }
     requires unfailed { source_failed reader.old ≡ false }
     ensures exact { (text rest : List ℕ) → IsWithin text rest pieces.old (bytes_left R.remaining reader.old) → MatchResult result
-        (λ _. length text ≤ limit) (λ fault. MayFail fault text) }
+        (λ _. length text ≤ trace_limit) (λ fault. ReadingMayFail fault text) }
     ensures stops { (text rest : List ℕ) → IsWithin text rest pieces.old (bytes_left R.remaining reader.old)
         → result ≡ Err TraceFault.TooLarge
-        → bytes_left R.remaining reader.new ≡ Some (drop (limit + 1) text) }
+        → bytes_left R.remaining reader.new ≡ Some (drop (trace_limit + 1) text) }
     ensures read { (result ≡ Err TraceFault.Read) ↔ (source_failed reader.new ≡ true) }
 {
     while read_more(pieces, reader)? {}
@@ -174,19 +174,19 @@ impl EventReader {
     ghost use Rattle.std.specs.Prelude.{◌≡◌, ◌≢◌, ◌≤◌, ◌+◌, ◌∷◌, ◌++◌, ◌↔◌, ℕ, List, [], true, false, drop, IfOk, IfSome, MatchOption, MatchResult, Err, Some};
     ghost use Rattle.gc_graph.specs.Streams.{bytes_left, source_failed};
     ghost use Rattle.gc_plan.specs.declared.event.Event.{Event};
-    ghost use Rattle.gc_trace.specs.Grammar.{IsEvent, IsOf};
-    ghost use Rattle.gc_trace.specs.Faults.{limit, IsReadAsTrace, MayFail};
-    ghost use Rattle.gc_trace.specs.Internal.Reading.{IsReading, HasRead, read_so_far};
+    ghost use Rattle.gc_trace.specs.Grammar.{HasLine, IsOf};
+    ghost use Rattle.gc_trace.specs.Faults.{trace_limit, IsReadAsTrace, ReadingMayFail};
+    ghost use Rattle.gc_trace.specs.Internal.Reading.{IsReadingTrace, HasRead, read_so_far};
 
     /// Reads the heading of a trace text.
     pub fn open<R: Read>(alloc: Global, reader: &mut Source<R>) -> Result<EventReader, TraceFault>
         ensures exact { (text : List ℕ) → bytes_left R.remaining reader.old ≡ Some text → MatchResult result
             (λ read. HasRead text [] read (bytes_left R.remaining reader.new))
-            (λ fault. MayFail fault text) }
-        ensures reading { IfOk result IsReading }
+            (λ fault. ReadingMayFail fault text) }
+        ensures reading { IfOk result IsReadingTrace }
         ensures number { IfOk result (λ read. read.number ≡ 3) }
         ensures stops { (text : List ℕ) → bytes_left R.remaining reader.old ≡ Some text → result ≡ Err TraceFault.TooLarge
-            → bytes_left R.remaining reader.new ≡ Some (drop (limit + 1) text) }
+            → bytes_left R.remaining reader.new ≡ Some (drop (trace_limit + 1) text) }
         ensures read { (result ≡ Err TraceFault.Read) ↔ (source_failed reader.new ≡ true) }
     {
         let mut pieces = Pieces::new(alloc, LIMIT);
@@ -212,14 +212,14 @@ impl EventReader {
     /// Takes the event whose line is at the start of the waiting bytes, if there is one.
     #[inline(always)]
     fn take_waiting(&mut self) -> Option<Event>
-        requires reading { IsReading self.old }
-        ensures event { IfSome result (λ event. IsEvent self.old.version event) }
+        requires reading { IsReadingTrace self.old }
+        ensures event { IfSome result (λ event. HasLine self.old.version event) }
         ensures none { result ≡ None → BeginsWithNoEvent self.old.version self.old.pieces.waiting × (self.new ≡ self.old) }
         ensures line { IfSome result (λ event. (self.old.pieces.waiting ≡ event_line event ++ self.new.pieces.waiting)
             × (self.new ≡ record self.old {
               pieces = record self.old.pieces { waiting = self.new.pieces.waiting };
             })) }
-        ensures reading { IsReading self.new }
+        ensures reading { IsReadingTrace self.new }
     {
         let (event, left) = event_at(self.version, self.pieces.waiting())?;
         self.pieces.leave(left);
@@ -229,20 +229,20 @@ impl EventReader {
     /// Reads the next event. Returns `None` at the end of the text.
     #[inline(always)]
     pub fn next<R: Read>(&mut self, reader: &mut Source<R>) -> Result<Option<Event>, TraceFault>
-        requires reading { IsReading self.old }
+        requires reading { IsReadingTrace self.old }
         requires unfailed { source_failed reader.old ≡ false }
         ensures exact { (text : List ℕ) (events : List Event) → HasRead text events self.old (bytes_left R.remaining reader.old)
             → MatchResult result
             (λ found. MatchOption found (IsReadAsTrace (read_so_far self.old events) text)
             (λ event. HasRead text (events ++ event ∷ []) self.new (bytes_left R.remaining reader.new)))
-            (λ fault. MayFail fault text) }
-        ensures event { IfOk result (λ found. IfSome found (λ event. IsEvent self.old.version event × IsOf self.old.mutators event)) }
+            (λ fault. ReadingMayFail fault text) }
+        ensures event { IfOk result (λ found. IfSome found (λ event. HasLine self.old.version event × IsOf self.old.mutators event)) }
         ensures number { IfOk result (λ found. MatchOption found (self.new.number ≡ self.old.number) (λ _. self.new.number ≡ self.old.number + 1)) }
         ensures heading { read_so_far self.new [] ≡ read_so_far self.old [] }
-        ensures reading { IfOk result (λ _. IsReading self.new) }
+        ensures reading { IfOk result (λ _. IsReadingTrace self.new) }
         ensures stops { (text : List ℕ) (events : List Event) → HasRead text events self.old (bytes_left R.remaining reader.old)
             → result ≡ Err TraceFault.TooLarge
-            → bytes_left R.remaining reader.new ≡ Some (drop (limit + 1) text) }
+            → bytes_left R.remaining reader.new ≡ Some (drop (trace_limit + 1) text) }
         ensures read { (result ≡ Err TraceFault.Read) ↔ (source_failed reader.new ≡ true) }
     {
         loop {

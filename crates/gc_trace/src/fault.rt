@@ -45,9 +45,9 @@ impl TraceFault {
 
 impl From<ReadFault> for TraceFault {
     ghost use Rattle.std.specs.Prelude.{◌≡◌};
-    ghost use Rattle.gc_trace.specs.Internal.Faults.{fault_of_reading};
+    ghost use Rattle.gc_trace.specs.Internal.Faults.{trace_fault_of};
 
-    ghost from_gives = { λ fault made. made ≡ fault_of_reading fault };
+    ghost from_gives = { λ fault made. made ≡ trace_fault_of fault };
 
     fn from(fault: ReadFault) -> TraceFault {
         match fault {

@@ -4,40 +4,23 @@ ghost use Rattle.gc_graph.specs.Limits.{most_words, most_mutators};
 ghost use Rattle.gc_cert.specs.Counts.{HasCounts};
 ghost use Rattle.gc_cert.specs.Views.{pair_in};
 ghost use Rattle.gc_plan.specs.Belonging.{IsState};
-ghost use Rattle.gc_plan.specs.Runs.{IsEventWithin, IsStep, HasSizesWithin, after};
-ghost use Rattle.gc_plan.specs.Steps.{collect};
-ghost use Rattle.gc_core.specs.Flip.{kept_after, IsCertified};
-ghost use Rattle.gc_trace.specs.Flips.{flip_at, nth_flip};
+ghost use Rattle.gc_plan.specs.Runs.{IsEventWithin, HasSizesWithin, after};
+ghost use Rattle.gc_core.specs.Performing.{flip_at};
+ghost use Rattle.gc_trace.specs.Flips.{nth_flip};
 ghost use Rattle.gc_trace.specs.Grammar.{IsRecording};
 ghost use Rattle.gc_trace.specs.Views.{recording};
 
 use crate::trace::Trace;
 use gc_cert::PairFile;
 use gc_check::Sequential;
-use gc_copy::Step;
+use gc_copy::StepReply;
 use gc_core::{CollectedHeap, Keep};
-use gc_graph::{NoMemory, View};
+use gc_graph::{NoMemory, Reply, View};
 use gc_plan::{Event, scans_and_pairs_are_bounded, states_are_kept};
 use std::alloc::Global;
 
-/// Performs a collector step. If it flips, returns the pair of the flip.
-fn flip_of_step(heap: &mut CollectedHeap, step: Step) -> Result<Option<PairFile>, NoMemory>
-    requires { IsStep heap.old.mutators step }
-    ensures flip { IfOk result (λ kept. option_map pair_in kept
-        ≡ kept_after None heap.old (collect heap.old step).0) }
-    ensures certified { IfOk result (λ kept. IfSome kept (λ file. IsCertified (pair_in file))) }
-    ensures happened { OnOk result (heap.new ≡ (collect heap.old step).1) }
-    ensures mutators { heap.new.mutators ≡ heap.old.mutators }
-{
-    let Step::Flip = step else {
-        heap.collect(&Sequential, step)?;
-        return Ok(None);
-    };
-    Ok(heap.flip(&Sequential, Keep::Pair)?.pair)
-}
-
 /// Performs the event. If it flips, returns the pair of the flip.
-#[tactic(auto, using(crate::proofs::Sizes::heap_step, crate::proofs::Sizes::event_within))]
+#[tactic(auto, using(crate::proofs::Sizes::heap_event))]
 fn flip_in(heap: &mut CollectedHeap, event: &Event) -> Result<Option<PairFile>, NoMemory>
     requires event { IsEventWithin most_words heap.old.mutators event.now }
     requires few { heap.old.mutators ≤ most_mutators }
@@ -52,15 +35,9 @@ fn flip_in(heap: &mut CollectedHeap, event: &Event) -> Result<Option<PairFile>, 
 {
     states_are_kept();
     scans_and_pairs_are_bounded();
-    // A body that drops a reply must name this type.
-    let _named: Option<View> = None;
-    match event {
-        Event::Mutate { m, op } => {
-            heap.mutate(*m, op)?;
-            Ok(None)
-        }
-        Event::Collect(step) => flip_of_step(heap, *step),
-    }
+    // A body that drops an answer must name the types of its parts.
+    let _named: (Option<Reply>, Option<StepReply>, Option<View>) = (None, None, None);
+    Ok(heap.perform(&Sequential, event, Keep::Pair)?.pair)
 }
 
 /// Returns the pair of the trace's n-th flip, counted from 1, or `None` if the trace has fewer flips.

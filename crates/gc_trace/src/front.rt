@@ -3,8 +3,8 @@ ghost use Rattle.gc_graph.specs.Limits.{most_words};
 ghost use Rattle.gc_graph.specs.Lines.{space};
 ghost use Rattle.gc_graph.specs.Range.{IsCommand};
 ghost use Rattle.gc_plan.specs.Runs.{IsStepWithin};
-ghost use Rattle.gc_trace.specs.Grammar.{slot, op_tokens, step_tokens, op_version, step_version, event_tokens, event_line, IsEvent};
-ghost use Rattle.gc_trace.specs.Internal.Fronts.{spelled};
+ghost use Rattle.gc_trace.specs.Grammar.{slot, op_tokens, step_tokens, op_version, step_version, event_tokens, event_line, HasLine};
+ghost use Rattle.gc_trace.specs.Internal.Fronts.{spaced};
 
 use crate::parser::{RAW, SIZED};
 use gc_copy::Step;
@@ -83,7 +83,7 @@ fn next_number(front: &mut Front<'_>, most: u64) -> Option<u64>
 #[tactic(auto, unfolding(crate::specs::Grammar::op_tokens))]
 fn new_op(front: &mut Front<'_>) -> Option<Op>
     ensures { IfSome result (λ op. IsCommand op × (op_version op ≡ 1)
-        × (codes "new" ++ front.old ≡ spelled (op_tokens op) front.new)) }
+        × (codes "new" ++ front.old ≡ spaced (op_tokens op) front.new)) }
 {
     let d = next_slot(front)?;
     let kind = next_number(front, 255)? as u8;
@@ -95,7 +95,7 @@ fn new_op(front: &mut Front<'_>) -> Option<Op>
 #[tactic(auto, unfolding(crate::specs::Grammar::op_tokens))]
 fn raw_op(front: &mut Front<'_>) -> Option<Op>
     ensures { IfSome result (λ op. IsCommand op × (op_version op ≡ 3)
-        × (codes "raw" ++ front.old ≡ spelled (op_tokens op) front.new)) }
+        × (codes "raw" ++ front.old ≡ spaced (op_tokens op) front.new)) }
 {
     let d = next_slot(front)?;
     let kind = next_number(front, 255)? as u8;
@@ -107,7 +107,7 @@ fn raw_op(front: &mut Front<'_>) -> Option<Op>
 #[tactic(auto, unfolding(crate::specs::Grammar::op_tokens))]
 fn num_op(front: &mut Front<'_>) -> Option<Op>
     ensures { IfSome result (λ op. IsCommand op × (op_version op ≡ 1)
-        × (codes "num" ++ front.old ≡ spelled (op_tokens op) front.new)) }
+        × (codes "num" ++ front.old ≡ spaced (op_tokens op) front.new)) }
 {
     let d = next_slot(front)?;
     let n = Number::new(next_number(front, 9223372036854775807)?)?;
@@ -118,7 +118,7 @@ fn num_op(front: &mut Front<'_>) -> Option<Op>
 #[tactic(auto, unfolding(crate::specs::Grammar::op_tokens))]
 fn nil_op(front: &mut Front<'_>) -> Option<Op>
     ensures { IfSome result (λ op. IsCommand op × (op_version op ≡ 1)
-        × (codes "nil" ++ front.old ≡ spelled (op_tokens op) front.new)) }
+        × (codes "nil" ++ front.old ≡ spaced (op_tokens op) front.new)) }
 {
     let d = next_slot(front)?;
     Some(Op::Nil { d })
@@ -128,7 +128,7 @@ fn nil_op(front: &mut Front<'_>) -> Option<Op>
 #[tactic(auto, unfolding(crate::specs::Grammar::op_tokens))]
 fn move_op(front: &mut Front<'_>) -> Option<Op>
     ensures { IfSome result (λ op. IsCommand op × (op_version op ≡ 1)
-        × (codes "move" ++ front.old ≡ spelled (op_tokens op) front.new)) }
+        × (codes "move" ++ front.old ≡ spaced (op_tokens op) front.new)) }
 {
     let d = next_slot(front)?;
     let s = next_slot(front)?;
@@ -139,7 +139,7 @@ fn move_op(front: &mut Front<'_>) -> Option<Op>
 #[tactic(auto, unfolding(crate::specs::Grammar::op_tokens))]
 fn get_op(front: &mut Front<'_>) -> Option<Op>
     ensures { IfSome result (λ op. IsCommand op × (op_version op ≡ 1)
-        × (codes "get" ++ front.old ≡ spelled (op_tokens op) front.new)) }
+        × (codes "get" ++ front.old ≡ spaced (op_tokens op) front.new)) }
 {
     let d = next_slot(front)?;
     let s = next_slot(front)?;
@@ -151,7 +151,7 @@ fn get_op(front: &mut Front<'_>) -> Option<Op>
 #[tactic(auto, unfolding(crate::specs::Grammar::op_tokens))]
 fn put_op(front: &mut Front<'_>) -> Option<Op>
     ensures { IfSome result (λ op. IsCommand op × (op_version op ≡ 1)
-        × (codes "put" ++ front.old ≡ spelled (op_tokens op) front.new)) }
+        × (codes "put" ++ front.old ≡ spaced (op_tokens op) front.new)) }
 {
     let s = next_slot(front)?;
     let i = next_number(front, 65535)? as u16;
@@ -163,7 +163,7 @@ fn put_op(front: &mut Front<'_>) -> Option<Op>
 #[tactic(auto, unfolding(crate::specs::Grammar::op_tokens))]
 fn same_op(front: &mut Front<'_>) -> Option<Op>
     ensures { IfSome result (λ op. IsCommand op × (op_version op ≡ 1)
-        × (codes "same" ++ front.old ≡ spelled (op_tokens op) front.new)) }
+        × (codes "same" ++ front.old ≡ spaced (op_tokens op) front.new)) }
 {
     let s = next_slot(front)?;
     let t = next_slot(front)?;
@@ -174,7 +174,7 @@ fn same_op(front: &mut Front<'_>) -> Option<Op>
 #[tactic(auto, unfolding(crate::specs::Grammar::op_tokens))]
 fn look_op(front: &mut Front<'_>) -> Option<Op>
     ensures { IfSome result (λ op. IsCommand op × (op_version op ≡ 1)
-        × (codes "look" ++ front.old ≡ spelled (op_tokens op) front.new)) }
+        × (codes "look" ++ front.old ≡ spaced (op_tokens op) front.new)) }
 {
     let s = next_slot(front)?;
     Some(Op::Look { s })
@@ -185,7 +185,7 @@ fn look_op(front: &mut Front<'_>) -> Option<Op>
 fn op(version: u8, front: &mut Front<'_>) -> Option<Op>
     requires { 1 ≤ version }
     ensures { IfSome result (λ op. IsCommand op × (op_version op ≤ version)
-        × (front.old ≡ spelled (op_tokens op) front.new)) }
+        × (front.old ≡ spaced (op_tokens op) front.new)) }
 {
     match front.rest() {
         [b'p', b'u', b't', rest @ ..] => {
@@ -234,7 +234,7 @@ fn op(version: u8, front: &mut Front<'_>) -> Option<Op>
 fn begin(version: u8, front: &mut Front<'_>) -> Option<Step>
     requires { 1 ≤ version }
     ensures { IfSome result (λ step. IsStepWithin most_words 16 step × (step_version step ≤ version)
-        × (codes "begin" ++ front.old ≡ spelled (step_tokens step) front.new)) }
+        × (codes "begin" ++ front.old ≡ spaced (step_tokens step) front.new)) }
 {
     if version < SIZED || front.rest().first() != Some(&b' ') {
         return Some(Step::Begin);
@@ -251,7 +251,7 @@ fn begin(version: u8, front: &mut Front<'_>) -> Option<Step>
 #[tactic(auto, unfolding(crate::specs::Grammar::step_tokens))]
 fn apply(front: &mut Front<'_>) -> Option<Step>
     ensures { IfSome result (λ step. IsStepWithin most_words 16 step × (step_version step ≡ 1)
-        × (codes "apply" ++ front.old ≡ spelled (step_tokens step) front.new)) }
+        × (codes "apply" ++ front.old ≡ spaced (step_tokens step) front.new)) }
 {
     let k = next_small_number(front)?;
     Some(Step::Apply(k))
@@ -263,7 +263,7 @@ fn apply(front: &mut Front<'_>) -> Option<Step>
 fn step(version: u8, front: &mut Front<'_>) -> Option<Step>
     requires { 1 ≤ version }
     ensures { IfSome result (λ step. IsStepWithin most_words 16 step × (step_version step ≤ version)
-        × (front.old ≡ spelled (step_tokens step) front.new)) }
+        × (front.old ≡ spaced (step_tokens step) front.new)) }
 {
     match front.rest() {
         [b's', b'c', b'a', b'n', rest @ ..] => {
@@ -299,8 +299,8 @@ fn step(version: u8, front: &mut Front<'_>) -> Option<Step>
 #[tactic(auto, unfolding(crate::specs::Grammar::event_tokens))]
 fn command(version: u8, front: &mut Front<'_>) -> Option<Event>
     requires { 1 ≤ version }
-    ensures { IfSome result (λ event. IsEvent version event
-        × (codes "m" ++ front.old ≡ spelled (event_tokens event) front.new)) }
+    ensures { IfSome result (λ event. HasLine version event
+        × (codes "m" ++ front.old ≡ spaced (event_tokens event) front.new)) }
 {
     let m = next_small_number(front)?;
     front.byte(b' ')?;
@@ -313,8 +313,8 @@ fn command(version: u8, front: &mut Front<'_>) -> Option<Event>
 #[tactic(auto, unfolding(crate::specs::Grammar::event_tokens))]
 fn collect(version: u8, front: &mut Front<'_>) -> Option<Event>
     requires { 1 ≤ version }
-    ensures { IfSome result (λ event. IsEvent version event
-        × (codes "c" ++ front.old ≡ spelled (event_tokens event) front.new)) }
+    ensures { IfSome result (λ event. HasLine version event
+        × (codes "c" ++ front.old ≡ spaced (event_tokens event) front.new)) }
 {
     front.byte(b' ')?;
     let step = step(version, front)?;
@@ -325,8 +325,8 @@ fn collect(version: u8, front: &mut Front<'_>) -> Option<Event>
 #[inline(always)]
 fn event(version: u8, front: &mut Front<'_>) -> Option<Event>
     requires { 1 ≤ version }
-    ensures { IfSome result (λ event. IsEvent version event
-        × (front.old ≡ spelled (event_tokens event) front.new)) }
+    ensures { IfSome result (λ event. HasLine version event
+        × (front.old ≡ spaced (event_tokens event) front.new)) }
 {
     match front.rest() {
         [b'm', rest @ ..] => {
@@ -345,7 +345,7 @@ fn event(version: u8, front: &mut Front<'_>) -> Option<Event>
 #[inline(always)]
 pub fn line(version: u8, front: &mut Front<'_>) -> Option<Event>
     requires { 1 ≤ version }
-    ensures { IfSome result (λ event. IsEvent version event × (front.old ≡ event_line event ++ front.new)) }
+    ensures { IfSome result (λ event. HasLine version event × (front.old ≡ event_line event ++ front.new)) }
 {
     let event = event(version, front)?;
     front.byte(b'\n')?;

@@ -4,9 +4,9 @@ ghost use Rattle.gc_graph.specs.Range.{IsCommand};
 ghost use Rattle.gc_world.specs.History.{IsHistory, answers_of, state_after, events_of};
 ghost use Rattle.gc_world.specs.declared.entry.Entry.{Entry};
 ghost use Rattle.gc_plan.specs.declared.event.Event.{Event};
-ghost use Rattle.gc_trace.specs.Grammar.{Recording, IsTextOf, IsOf, spelling, written};
-ghost use Rattle.gc_trace.specs.Faults.{limit, IsTraceFaultOf, IsReadAsTrace};
-ghost use Rattle.gc_trace.specs.Plays.{answers};
+ghost use Rattle.gc_trace.specs.Grammar.{Recording, IsTraceText, IsOf, trace_text, least_trace};
+ghost use Rattle.gc_trace.specs.Faults.{trace_limit, IsTraceFaultOf, IsReadAsTrace};
+ghost use Rattle.gc_trace.specs.Plays.{trace_answers};
 ghost use Rattle.gc_trace.specs.Rows.{TextRows, SizedRows, RawRows, LineRows};
 ghost use Rattle.gc_trace.specs.Report.{report_of};
 ghost use Rattle.gc_trace.specs.ReportRows.{ReportRows};
@@ -16,7 +16,7 @@ ghost use Rattle.gc_trace.specs.declared.fault.TraceFault.{TraceFault};
 
 /// A text has one reading: one trace, or one first fault.
 pub fn texts_have_one_reading()
-    ensures value { (t u : Recording) (text : List ℕ) → IsTextOf t text → IsTextOf u text → t ≡ u }
+    ensures value { (t u : Recording) (text : List ℕ) → IsTraceText t text → IsTraceText u text → t ≡ u }
     ensures good { (t : Recording) (fault : TraceFault) (text : List ℕ) → IsReadAsTrace t text → IsTraceFaultOf fault text → ⊥ }
     ensures some { (text : List ℕ) → ((t : Recording) × IsReadAsTrace t text) ⊎ ((f : TraceFault) × IsTraceFaultOf f text) }
     ensures fault { (f g : TraceFault) (text : List ℕ) → IsTraceFaultOf f text → IsTraceFaultOf g text → f ≡ g }
@@ -27,10 +27,10 @@ pub fn texts_have_one_reading()
 pub fn written_is_read()
     ensures read { (size mutators : ℕ) (entries : List Entry)
         → IsHistory size mutators entries
-        → length (spelling (written size mutators (events_of entries))) ≤ limit
-        → IsReadAsTrace (written size mutators (events_of entries)) (spelling (written size mutators (events_of entries))) }
+        → length (trace_text (least_trace size mutators (events_of entries))) ≤ trace_limit
+        → IsReadAsTrace (least_trace size mutators (events_of entries)) (trace_text (least_trace size mutators (events_of entries))) }
     ensures answers { (size mutators : ℕ) (entries : List Entry) → IsHistory size mutators entries
-        → answers (written size mutators (events_of entries)) ≡ answers_of entries }
+        → trace_answers (least_trace size mutators (events_of entries)) ≡ answers_of entries }
 {}
 
 /// The worked examples hold of the definitions, by computation.

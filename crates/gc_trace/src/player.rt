@@ -1,6 +1,6 @@
 ghost use Rattle.std.specs.Prelude.{◌≡◌, ◌≢◌, ◌≤◌, ◌↔◌, true, IfSome, IfOk, OnOk, OnErr, Err};
 ghost use Rattle.gc_graph.specs.Streams.{bytes_left, bytes_written, source_failed, sink_failed};
-ghost use Rattle.gc_trace.specs.Faults.{MayFail};
+ghost use Rattle.gc_trace.specs.Faults.{ReadingMayFail};
 ghost use Rattle.gc_trace.specs.Plays.{Plays, PlaysFront, Reports, ReportsFront};
 ghost use Rattle.gc_trace.specs.Flips.{PlaysPair, PlaysPairFront, HasNoFlip};
 ghost use Rattle.gc_trace.specs.declared.fault.TraceFault.{TraceFault};
@@ -26,7 +26,7 @@ pub fn play<R: Read, W: Write>(
         (bytes_written W.contents writer.old) (bytes_written W.contents writer.new)) }
     // A bad text gives its first fault.
     ensures fault { (fault : TraceFault) → result ≡ Err (PlayFault.Trace fault) →
-        IfSome (bytes_left R.remaining reader.old) (λ text. MayFail fault text) }
+        IfSome (bytes_left R.remaining reader.old) (λ text. ReadingMayFail fault text) }
     ensures memory { result ≢ Err (PlayFault.Trace TraceFault.NoMemory) }
     ensures runs { result ≢ Err PlayFault.NoSuchFlip }
     ensures unread { (result ≡ Err (PlayFault.Trace TraceFault.Read)) ↔ (source_failed reader.new ≡ true) }
@@ -55,7 +55,7 @@ pub fn play_report<R: Read, W: Write>(
         (bytes_written W.contents writer.old) (bytes_written W.contents writer.new)) }
     // A bad text gives its first fault.
     ensures fault { (fault : TraceFault) → result ≡ Err (PlayFault.Trace fault) →
-        IfSome (bytes_left R.remaining reader.old) (λ text. MayFail fault text) }
+        IfSome (bytes_left R.remaining reader.old) (λ text. ReadingMayFail fault text) }
     ensures memory { result ≢ Err (PlayFault.Trace TraceFault.NoMemory) }
     ensures runs { result ≢ Err PlayFault.NoSuchFlip }
     ensures unread { (result ≡ Err (PlayFault.Trace TraceFault.Read)) ↔ (source_failed reader.new ≡ true) }
@@ -89,7 +89,7 @@ pub fn play_pair<R: Read, W: Write>(
     ensures none { result ≡ Err PlayFault.NoSuchFlip → HasNoFlip n (bytes_left R.remaining reader.old) }
     // A bad text gives its first fault.
     ensures fault { (fault : TraceFault) → result ≡ Err (PlayFault.Trace fault) →
-        IfSome (bytes_left R.remaining reader.old) (λ text. MayFail fault text) }
+        IfSome (bytes_left R.remaining reader.old) (λ text. ReadingMayFail fault text) }
     ensures memory { result ≢ Err (PlayFault.Trace TraceFault.NoMemory) }
     ensures unread { (result ≡ Err (PlayFault.Trace TraceFault.Read)) ↔ (source_failed reader.new ≡ true) }
     ensures unwritten { result ≡ Err PlayFault.Write → sink_failed writer.new ≡ true }

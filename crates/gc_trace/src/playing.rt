@@ -5,11 +5,11 @@ ghost use Rattle.gc_plan.specs.State.{State, opening_state};
 ghost use Rattle.gc_plan.specs.Belonging.{IsState};
 ghost use Rattle.gc_plan.specs.Runs.{IsEvent, IsEventWithin, after, answer, answers, state_after};
 ghost use Rattle.gc_plan.specs.declared.event.Event.{Event};
-ghost use Rattle.gc_trace.specs.Faults.{MayFail};
+ghost use Rattle.gc_trace.specs.Faults.{ReadingMayFail};
 ghost use Rattle.gc_trace.specs.Internal.Playing.{HasPlayed, HasPlayedRest, HasResults};
-ghost use Rattle.gc_trace.specs.Internal.Reading.{IsReading, HasRead, read_so_far};
+ghost use Rattle.gc_trace.specs.Internal.Reading.{IsReadingTrace, HasRead, read_so_far};
 ghost use Rattle.gc_trace.specs.Internal.Report.{with_answer, FitsU64};
-ghost use Rattle.gc_trace.specs.Plays.{opening};
+ghost use Rattle.gc_trace.specs.Plays.{trace_opening};
 ghost use Rattle.gc_trace.specs.Replies.{reply_text};
 ghost use Rattle.gc_trace.specs.Report.{report_of};
 
@@ -19,33 +19,13 @@ use crate::replies::{LINE, print_answer};
 use crate::report::Report;
 use gc_check::Sequential;
 use gc_copy::{StepReply, heaps_have_addresses_as_names};
-use gc_core::CollectedHeap;
+use gc_core::{CollectedHeap, Keep};
 use gc_graph::text::Printer;
 use gc_graph::{NoMemory, Op, Reply, Source, View};
 use gc_plan::{Answer, Event, states_are_kept};
 use std::alloc::Global;
 use std::io::Read;
 use std::mem::replace;
-
-/// Performs the event in the heap, and returns its answer. On `NoMemory` the heap is unchanged.
-pub fn answer_in(heap: &mut CollectedHeap, event: &Event) -> Result<Answer, NoMemory>
-    requires { IsEvent heap.old.mutators event.now }
-    ensures answer { IfOk result (λ told. told ≡ answer heap.old event.now) }
-    ensures happened { OnOk result (heap.new ≡ after heap.old event.now) }
-    ensures refused { OnErr result (heap.new ≡ heap.old) }
-    ensures mutators { heap.new.mutators ≡ heap.old.mutators }
-{
-    match event {
-        Event::Mutate { m, op } => {
-            let reply = heap.mutate(*m, op)?;
-            Ok(Answer::Mutator(reply))
-        }
-        Event::Collect(step) => {
-            let reply = heap.collect(&Sequential, *step)?;
-            Ok(Answer::Collector(reply))
-        }
-    }
-}
 
 /// Whether a player gathers the reply lines.
 #[derive(Clone, Copy, Debug, PartialEq, Eq)]
@@ -116,7 +96,7 @@ impl Player {
         states_are_kept();
         // A body that holds an answer must name the types of its parts.
         let _named: (Option<Reply>, Option<StepReply>, Option<View>) = (None, None, None);
-        let answer = answer_in(&mut self.heap, event)?;
+        let answer = self.heap.perform(&Sequential, event, Keep::Nothing)?.answer;
         self.report.count(&answer);
         let Gather::Replies = self.gather else {
             return Ok(());
@@ -132,15 +112,15 @@ impl Player {
         lines: &mut EventReader,
         reader: &mut Source<R>,
     ) -> Result<(), TraceFault>
-        requires reading { IsReading lines.old }
+        requires reading { IsReadingTrace lines.old }
         requires number { lines.old.number ≡ 3 }
         requires unfailed { source_failed reader.old ≡ false }
-        requires opened { HasPlayed (opening (read_so_far lines.old [])) [] self.old }
+        requires opened { HasPlayed (trace_opening (read_so_far lines.old [])) [] self.old }
         requires sound { IsState self.old.heap }
         requires mutators { self.old.heap.mutators ≡ lines.old.mutators }
         ensures played { OnOk result (HasPlayedRest lines.old (bytes_left R.remaining reader.old) self.new) }
         ensures fault { IfErr result (λ fault. (text : List ℕ)
-            → HasRead text [] lines.old (bytes_left R.remaining reader.old) → MayFail fault text) }
+            → HasRead text [] lines.old (bytes_left R.remaining reader.old) → ReadingMayFail fault text) }
         ensures sound { OnOk result (IsState self.new.heap) }
         ensures gather { self.new.gather ≡ self.old.gather }
         ensures read { (result ≡ Err TraceFault.Read) ↔ (source_failed reader.new ≡ true) }
@@ -180,7 +160,7 @@ pub fn play_all<R: Read>(
     gather: Gather,
 ) -> Result<Played, TraceFault>
     ensures played { IfOk result (HasResults (bytes_left R.remaining reader.old) gather) }
-    ensures fault { IfErr result (λ fault. IfSome (bytes_left R.remaining reader.old) (λ text. MayFail fault text)) }
+    ensures fault { IfErr result (λ fault. IfSome (bytes_left R.remaining reader.old) (λ text. ReadingMayFail fault text)) }
     ensures read { (result ≡ Err TraceFault.Read) ↔ (source_failed reader.new ≡ true) }
 {
     let mut lines = EventReader::open(alloc, reader)?;

@@ -1,7 +1,7 @@
 ghost use Rattle.std.specs.Prelude.{◌≡◌, ◌+◌, ◌↔◌, drop, Some, true, IfSome, IfOk, MatchResult, Err};
 ghost use Rattle.gc_graph.specs.Streams.{bytes_left, source_failed};
 ghost use Rattle.gc_trace.specs.Grammar.{IsRecording, IsInRange};
-ghost use Rattle.gc_trace.specs.Faults.{limit, IsReadAsTrace, MayFail};
+ghost use Rattle.gc_trace.specs.Faults.{trace_limit, IsReadAsTrace, ReadingMayFail};
 ghost use Rattle.gc_trace.specs.Views.{recording};
 
 use crate::event_reader::EventReader;
@@ -16,11 +16,11 @@ use std::io::Read;
 /// reads 16777217 of them and returns `TooLarge`.
 pub fn read_trace<R: Read>(alloc: Global, reader: &mut Source<R>) -> Result<Trace, TraceFault>
     ensures exact { IfSome (bytes_left R.remaining reader.old) (λ text.
-        MatchResult result (λ t. IsReadAsTrace (recording t) text) (λ fault. MayFail fault text)) }
+        MatchResult result (λ t. IsReadAsTrace (recording t) text) (λ fault. ReadingMayFail fault text)) }
     ensures sound { IfOk result (λ t. IsRecording (recording t)) }
     ensures ranges { IfOk result (λ t. IsInRange (recording t)) }
     ensures stops { result ≡ Err TraceFault.TooLarge → IfSome (bytes_left R.remaining reader.old)
-        (λ text. bytes_left R.remaining reader.new ≡ Some (drop (limit + 1) text)) }
+        (λ text. bytes_left R.remaining reader.new ≡ Some (drop (trace_limit + 1) text)) }
     ensures read { (result ≡ Err TraceFault.Read) ↔ (source_failed reader.new ≡ true) }
 {
     let mut lines = EventReader::open(alloc, reader)?;

@@ -4,7 +4,7 @@ ghost use Rattle.gc_plan.specs.Runs.{IsEventWithin};
 ghost use Rattle.gc_world.specs.History.{answers_of};
 ghost use Rattle.gc_world.specs.World.{present};
 ghost use Rattle.gc_trace.specs.Grammar.{IsInRange};
-ghost use Rattle.gc_trace.specs.Plays.{answers, last_state};
+ghost use Rattle.gc_trace.specs.Plays.{trace_answers, last_state};
 ghost use Rattle.gc_trace.specs.WorldRuns.{Happens, HasRun};
 ghost use Rattle.gc_trace.specs.Views.{recording};
 
@@ -37,7 +37,7 @@ pub fn run_trace(alloc: Global, trace: &Trace) -> Result<World, NoMemory>
     requires { IsInRange (recording trace.now) }
     ensures run { IfOk result (λ world. HasRun (recording trace.now) world) }
     // Its answers and its state are the core's.
-    ensures answers { IfOk result (λ world. answers_of world.entries ≡ answers (recording trace.now)) }
+    ensures answers { IfOk result (λ world. answers_of world.entries ≡ trace_answers (recording trace.now)) }
     ensures state { IfOk result (λ world. present world ≡ last_state (recording trace.now)) }
 {
     let mut world = World::open(alloc, trace.size, trace.mutators)?;

@@ -2,7 +2,7 @@ ghost use Rattle.std.specs.Prelude.{◌≡◌, ◌∷◌, ◌++◌, ◌+◌, ◌
 ghost use Rattle.std.specs.Io.KnownBytes.{Appends};
 ghost use Rattle.gc_graph.specs.Streams.{bytes_written, sink_failed, SendsFront, HasSent};
 ghost use Rattle.gc_graph.specs.Lines.{space};
-ghost use Rattle.gc_trace.specs.Grammar.{slot, event_line, heading, spelling, version_of, least_version, written};
+ghost use Rattle.gc_trace.specs.Grammar.{slot, event_line, trace_heading, trace_text, version_of, least_version, least_trace};
 ghost use Rattle.gc_world.specs.History.{events_of};
 ghost use Rattle.gc_plan.specs.declared.event.Event.TheVariants.{Mutate, Collect};
 
@@ -145,10 +145,10 @@ fn print_event(printer: &mut Printer, event: &Event)
 }
 
 /// Prints lines 1 and 2.
-#[tactic(auto, unfolding(crate::specs::Grammar::version_tokens, crate::specs::Grammar::size_tokens, crate::specs::Grammar::heading))]
+#[tactic(auto, unfolding(crate::specs::Grammar::version_tokens, crate::specs::Grammar::size_tokens, crate::specs::Grammar::trace_heading))]
 fn print_heading(printer: &mut Printer, version: u8, size: u32, mutators: u8)
     requires { printer.old ≡ [] }
-    ensures { printer.new ≡ heading version size mutators }
+    ensures { printer.new ≡ trace_heading version size mutators }
 {
     printer.bytes(b"heaptrace");
     number_token(printer, u64::from(version));
@@ -195,10 +195,10 @@ pub fn write_trace<W: Write>(
 ) -> Result<(), WriteFault>
     ensures ok { OnOk result (Appends
         (bytes_written W.contents writer.old) (bytes_written W.contents writer.new)
-        (spelling (written size mutators (events_of history.now)))) }
+        (trace_text (least_trace size mutators (events_of history.now)))) }
     ensures err { OnErr result (SendsFront
         (bytes_written W.contents writer.old) (bytes_written W.contents writer.new)
-        (spelling (written size mutators (events_of history.now)))) }
+        (trace_text (least_trace size mutators (events_of history.now)))) }
     ensures failed { OnErr result (sink_failed writer.new ≡ true) }
 {
     let mut printer = Printer::new();

@@ -152,14 +152,22 @@ length_any_links (entry ∷ rest) links others =
     ∙ ap (λ n. length (block_words (links entry.0) entry.1) + n) (length_any_links rest links others)
     ∙ sym (length-append (block_words (others entry.0) entry.1) (spelled_from others rest))
 
-pub length_cleared : (words : List ℕ) → IsOk (walk_words words) → 1 ≤ length words → slice_index words 0 ≡ 0 → length (spelled no_links (blocks words)) ≡ length words
-length_cleared words ok low reserved =
-    ap suc (length_any_links (blocks words) no_links (link_at words)) ∙ ap length (sym (spelled_words words ok low reserved))
+-- words with other links have as many words
+pub length_relinked : (links : ℕ → ℕ) (words : List ℕ) → IsOk (walk_words words) → 1 ≤ length words → slice_index words 0 ≡ 0 → length (spelled links (blocks words)) ≡ length words
+length_relinked links words ok low reserved =
+    ap suc (length_any_links (blocks words) links (link_at words)) ∙ ap length (sym (spelled_words words ok low reserved))
 
-pub cleared : (s : SpaceWords) → IsSpace s → IsSpace (without_links s) × (blocks (without_links s).words ≡ blocks s.words)
-cleared s space =
-    let same : length (spelled no_links (blocks s.words)) ≡ length s.words = length_cleared s.words space.walked space.end_low space.reserved in
+-- a space with other links has the same objects
+pub relinked : (links : ℕ → ℕ) (s : SpaceWords) → IsSpace s → IsSpace (record s { words = spelled links (blocks s.words) }) × (blocks (spelled links (blocks s.words)) ≡ blocks s.words)
+relinked links s space =
+    let same : length (spelled links (blocks s.words)) ≡ length s.words = length_relinked links s.words space.walked space.end_low space.reserved in
     let low : 1 ≤ length s.words = space.end_low in
     let high : length s.words ≤ s.size = space.end_high in
-    space_of s.size (spelled no_links (blocks s.words)) (blocks s.words) (omega arith) (omega arith) space.size_high refl
-    (walk_spelled (blocks s.words) no_links 1 (laid_out_words s.words space.walked))
+    space_of s.size (spelled links (blocks s.words)) (blocks s.words) (omega arith) (omega arith) space.size_high refl
+    (walk_spelled (blocks s.words) links 1 (laid_out_words s.words space.walked))
+
+pub length_cleared : (words : List ℕ) → IsOk (walk_words words) → 1 ≤ length words → slice_index words 0 ≡ 0 → length (spelled no_links (blocks words)) ≡ length words
+length_cleared words ok low reserved = length_relinked no_links words ok low reserved
+
+pub cleared : (s : SpaceWords) → IsSpace s → IsSpace (without_links s) × (blocks (without_links s).words ≡ blocks s.words)
+cleared s space = relinked no_links s space

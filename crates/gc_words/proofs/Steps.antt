@@ -6,7 +6,7 @@ use Rattle.std.proofs.lemmas.Bool.{eq-eqb, ne_eqb, leb-true, leb-false, cases_eq
 use Rattle.std.proofs.lemmas.List.{drop_more, drop-drop, drop-set-lt, drop-set-add, drop-take, drop_all, take-append-drop, take-set-le, take-take}
 use Rattle.gc_words.specs.Word.{header_in, header_word}
 use Rattle.gc_words.specs.Image.{Block, walk, with_front, walk_all, ok_or_nil, block_in}
-use Rattle.gc_words.specs.Spelling.{block_words, spelled_from, no_links}
+use Rattle.gc_words.specs.Spelling.{block_words, spelled_from}
 use Rattle.gc_words.specs.Fault.{fault_of_walk, words_fault}
 use Rattle.gc_words.specs.Walking.{next_after, next_in, next_of, walk_on, walk_from, block_from, StepsIn, StepsTo}
 use Rattle.gc_words.specs.declared.header.Header.{Header}
@@ -159,40 +159,40 @@ found_start words at place inside reached ok =
       | inr other ↦ ne_eqb at place other ∙ sym (no_start_below words at place (omega arith) ok)
     ]
 
--- ---- clearing links, one object at a time
+-- ---- setting links, one object at a time
 
--- the words up to a place, and the objects from there on without links
-abbrev pub cleared_from : List ℕ → ℕ → List ℕ
-cleared_from words at = take at words ++ spelled_from no_links (ok_or_nil (walk_from words at))
+-- the words up to a place, and the objects from there on with these links
+abbrev pub relinked_from : (ℕ → ℕ) → List ℕ → ℕ → List ℕ
+relinked_from links words at = take at words ++ spelled_from links (ok_or_nil (walk_from words at))
 
 take_add : (n k : ℕ) (xs : List ℕ) → take (n + k) xs ≡ take n xs ++ take k (drop n xs)
 take_add n k xs = sym (take-append-drop n (take (n + k) xs)) ∙ (λ i. take-take n (n + k) xs (omega arith) i ++ drop-take n k xs i)
 
-pub cleared_step : (words : List ℕ) (at next : ℕ) → at < length words → IsOk (walk_from words at) → next_of words at ≡ Some next
-    → let after = slice_set words (at + 1) 0 in IsOk (walk_from after next) × (cleared_from words at ≡ cleared_from after next)
-cleared_step words at next inside ok e =
+pub relinked_step : (links : ℕ → ℕ) (words : List ℕ) (at next : ℕ) → at < length words → IsOk (walk_from words at) → next_of words at ≡ Some next
+    → let after = slice_set words (at + 1) (links at) in IsOk (walk_from after next) × (relinked_from links words at ≡ relinked_from links after next)
+relinked_step links words at next inside ok e =
     let b : Behind words at next = behind words at next inside ok e in
     let h : Header = b.step.header in
-    let after : List ℕ = slice_set words (at + 1) 0 in
+    let after : List ℕ = slice_set words (at + 1) (links at) in
     let place : next ≡ at + (h.len + 2) = b.step.place in
     let within : next ≤ length words = b.step.within in
-    let kept : drop next after ≡ drop next words = drop-set-lt next words (at + 1) 0 (omega arith) in
+    let kept : drop next after ≡ drop next words = drop-set-lt next words (at + 1) (links at) (omega arith) in
     let same : walk_from after next ≡ walk_from words next = ap (walk true 0 next) kept in
     let word : header_word h ≡ slice_index words at = (written_back (slice_index words at) h b.step.word).1 in
     let two : at + 1 + 1 ≡ at + 2 = omega arith in
     let rest : List ℕ = drop (at + 2) words in
     let open_words : drop at words ≡ slice_index words at ∷ slice_index words (at + 1) ∷ rest
     = opened words at inside ∙ ap (λ xs. slice_index words at ∷ xs) (opened words (at + 1) (omega arith) ∙ ap (λ n. slice_index words (at + 1) ∷ drop n words) two) in
-    let open_after : drop at after ≡ slice_index words at ∷ 0 ∷ rest = drop-set-add at words 1 0 ∙ ap (λ xs. slice_set xs 1 0) open_words in
+    let open_after : drop at after ≡ slice_index words at ∷ links at ∷ rest = drop-set-add at words 1 (links at) ∙ ap (λ xs. slice_set xs 1 (links at)) open_words in
     let size : h.len + 2 ≡ suc (suc h.len) = omega arith in
-    let front : take next after ≡ take at words ++ (slice_index words at ∷ 0 ∷ take h.len rest)
+    let front : take next after ≡ take at words ++ (slice_index words at ∷ links at ∷ take h.len rest)
     = ap (λ n. take n after) place ∙ take_add at (h.len + 2) after
-    ∙ (λ i. take-set-le at words (at + 1) 0 (omega arith) i ++ take (size i) (open_after i)) in
-    let block : List ℕ = block_words 0 (block_from words at h) in (
+    ∙ (λ i. take-set-le at words (at + 1) (links at) (omega arith) i ++ take (size i) (open_after i)) in
+    let block : List ℕ = block_words (links at) (block_from words at h) in (
       subst IsOk (sym same) b.walked,
-      ap (λ bs. take at words ++ spelled_from no_links bs) b.objects
-          ∙ sym (append_assoc (take at words) block (spelled_from no_links (ok_or_nil (walk_from words next))))
-          ∙ ap (λ w. (take at words ++ (w ∷ 0 ∷ take h.len rest)) ++ spelled_from no_links (ok_or_nil (walk_from words next))) word
-          ∙ ap (λ xs. xs ++ spelled_from no_links (ok_or_nil (walk_from words next))) (sym front)
-          ∙ ap (λ r. take next after ++ spelled_from no_links (ok_or_nil r)) (sym same),
+      ap (λ bs. take at words ++ spelled_from links bs) b.objects
+          ∙ sym (append_assoc (take at words) block (spelled_from links (ok_or_nil (walk_from words next))))
+          ∙ ap (λ w. (take at words ++ (w ∷ links at ∷ take h.len rest)) ++ spelled_from links (ok_or_nil (walk_from words next))) word
+          ∙ ap (λ xs. xs ++ spelled_from links (ok_or_nil (walk_from words next))) (sym front)
+          ∙ ap (λ r. take next after ++ spelled_from links (ok_or_nil r)) (sym same),
     )

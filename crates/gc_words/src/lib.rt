@@ -22,7 +22,7 @@ pub use laws::{
     references_stay_to_starts, shape_fault_is_first, spaces_are_spelled, walks_go_by_steps,
     words_are_read_back, worked_rows, writes_keep_spaces,
 };
-pub use layout::field_index;
+pub use layout::{field_index, lower_links};
 pub use refusal::Refusal;
 pub use shape::{ShapeFault, next_in, walk};
 pub use space::Space;

@@ -49,6 +49,17 @@ impl Space {
         Ok(Space { size, words })
     }
 
+    /// Returns the space without its objects. Allocates nothing, and frees nothing.
+    pub fn emptied(self) -> Space
+        ensures empty { result ≡ empty_space self.size }
+        ensures shaped { IsSpace result }
+    {
+        let Space { size, mut words } = self;
+        words.clear();
+        words.push_reserved(0);
+        Space { size, words }
+    }
+
     /// Returns the size in words.
     pub fn size(&self) -> u32
         ensures value { result ≡ self.now.size }

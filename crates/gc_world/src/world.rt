@@ -255,7 +255,7 @@ fn record_command(history: &mut Vec<Entry>, m: u8, op: Op, reply: &Reply)
     history.push_reserved(Entry::command(m, &op, reply));
 }
 
-// Performs a step, and keeps the pair if it flipped. Every other step goes straight to the heap.
+// Performs a step, and keeps the pair if it flipped.
 #[tactic(auto, using(crate::proofs::Sizes::heap_step))]
 fn perform<C: Checks>(
     heap: &mut CollectedHeap,
@@ -277,10 +277,7 @@ fn perform<C: Checks>(
     ensures unkept { OnErr result (kept.new ≡ kept.old) }
     ensures mutators { heap.new.mutators ≡ heap.old.mutators }
 {
-    let Step::Flip = step else {
-        return heap.collect(checker, step);
-    };
-    let Flip { reply, pair } = heap.flip(checker, Keep::Pair)?;
+    let Flip { reply, pair } = heap.collect_keeping(checker, step, Keep::Pair)?;
     match pair {
         None => {}
         Some(pair) => *kept = Some(pair),

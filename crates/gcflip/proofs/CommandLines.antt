@@ -12,7 +12,7 @@ use Rattle.clap.proofs.OnLiterals.{clap_on_literals}
 use Rattle.clap.proofs.WalkLemmas.{first_value-rows}
 use Rattle.clap.specs.declared.builder.command.Command.{Command}
 use Rattle.clap.specs.declared.builder.command.Command.TheViews.{out-Command}
-use Rattle.gcflip.specs.CommandLine.{command_line, Finds, FindsFile, IsAskedBy, IsFor, IsInRange, IsPlainArgument}
+use Rattle.gcflip.specs.CommandLine.{command_line, Finds, FindsFile, IsAskedBy, IsFor, HasNumberInRange, IsPlainArgument}
 use Rattle.gcflip.specs.declared.task.Task.{Task}
 
 -- ---- no arguments after the program's name
@@ -158,7 +158,7 @@ present_has_text (Some r) s v text is same found = let both : r ≡ s = cc in cc
 -- ---- a subcommand with a number
 
 -- a task for this subcommand and file is the one that its rows ask for
-pub number_task_asked : (o : Option Task) (name file : Text) (found : Option (Text × List Row)) → IfSome o (λ task. IsFor name file task × IsInRange task) → FindsFile name file found → IfSome o (IsAskedBy found)
+pub number_task_asked : (o : Option Task) (name file : Text) (found : Option (Text × List Row)) → IfSome o (λ task. IsFor name file task × HasNumberInRange task) → FindsFile name file found → IfSome o (IsAskedBy found)
 number_task_asked None name file found is finds = tt
 number_task_asked (Some task) name file found is finds = let P = λ (wanted : Option (Text × Text)). Finds wanted found in subst P (sym is.0) finds
 

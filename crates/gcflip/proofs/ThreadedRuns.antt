@@ -6,7 +6,7 @@ use Rattle.std.proofs.lemmas.List.{length-map}
 use Rattle.std.proofs.lemmas.List.FromFn.{length-map-range_with_len, get_or-map-range_with_len}
 use Rattle.std.specs.Prelude.{slice_index_or}
 use Rattle.gc_graph.specs.declared.command.Op.{Op}
-use Rattle.gc_shared.specs.Scripts.{HasRun}
+use Rattle.gc_shared.specs.Scripts.{HasRunScripts}
 use Rattle.gc_trace.specs.Grammar.{Recording}
 use Rattle.gc_plan.specs.Runs.{commands_of}
 use Rattle.gc_trace.specs.Scripts.{scripts}
@@ -22,7 +22,7 @@ AreScripts t given = map (λ script. script.items) given ≡ scripts t.mutators 
 pub count_is : (t : Recording) (given : List (Vec Op Global)) → AreScripts t given → length given ≡ t.mutators
 count_is t given are = sym (length-map given (λ script. script.items)) ∙ ap length are ∙ length-map-range_with_len (λ m. commands_of m t.events) 0 t.mutators
 
-pub threaded : (t : Recording) (turns : ℕ) (given : List (Vec Op Global)) (past : Past) → AreScripts t given → HasRun t.size given turns past → IsHistory past.size past.mutators past.entries → IsThreadedRun t turns past.entries
+pub threaded : (t : Recording) (turns : ℕ) (given : List (Vec Op Global)) (past : Past) → AreScripts t given → HasRunScripts t.size given turns past → IsHistory past.size past.mutators past.entries → IsThreadedRun t turns past.entries
 threaded t turns given past are ran history =
     let count : length given ≡ t.mutators = count_is t given are in
     record {

@@ -61,13 +61,13 @@ abbrev pub IsFor : List ℕ → List ℕ → Task → Type 0
 IsFor name path task = asked task ≡ Some (name, path)
 
 -- the number of the task is in range; flips are counted from 1
-abbrev pub IsInRange : Task → Type 0
-IsInRange PlayInput = ⊤
-IsInRange (Play file) = ⊤
-IsInRange (Check file) = ⊤
-IsInRange (Report file) = ⊤
-IsInRange (Pair file n) = 1 ≤ n
-IsInRange (Threads file turns) = turns ≤ 1000000
+abbrev pub HasNumberInRange : Task → Type 0
+HasNumberInRange PlayInput = ⊤
+HasNumberInRange (Play file) = ⊤
+HasNumberInRange (Check file) = ⊤
+HasNumberInRange (Report file) = ⊤
+HasNumberInRange (Pair file n) = 1 ≤ n
+HasNumberInRange (Threads file turns) = turns ≤ 1000000
 
 -- clap found the subcommand with this name, and this path as its FILE
 abbrev pub FindsFile : List ℕ → List ℕ → Option (List ℕ × List Row) → Type 0

@@ -3,7 +3,7 @@ use Rattle.std.specs.Prelude.{◌≡◌, ℕ, ◌<◌, List, Option, length, All
 use Rattle.std.specs.Io.KnownBytes.{Appends}
 use Rattle.gc_graph.specs.Streams.{SendsFront}
 use Rattle.gc_shared.specs.Scripts.{IsUsefulStep, steps_of}
-use Rattle.gc_trace.specs.Grammar.{Recording, spelling, written}
+use Rattle.gc_trace.specs.Grammar.{Recording, trace_text, least_trace}
 use Rattle.gc_trace.specs.Plays.{IsTraceFrom}
 use Rattle.gc_plan.specs.Runs.{commands_of}
 use Rattle.gc_world.specs.History.{events_of, IsHistory}
@@ -19,7 +19,7 @@ pub record IsThreadedRun (t : Recording) (turns : ℕ) (entries : List Entry) : 
 
 -- the trace text of a history, with the size and the number of mutators of t
 abbrev pub recorded : Recording → List Entry → List ℕ
-recorded t entries = spelling (written t.size t.mutators (events_of entries))
+recorded t entries = trace_text (least_trace t.size t.mutators (events_of entries))
 
 -- the trace text of a run of the scripts of the reader's trace went out
 abbrev pub WritesRun : Option (List ℕ) → ℕ → Option (List ℕ) → Option (List ℕ) → Type 0

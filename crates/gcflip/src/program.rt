@@ -1,6 +1,6 @@
 ghost use Rattle.std.specs.Prelude.{◌≡◌, ◌≢◌, ◌⊎◌, Contains, IfOk, IfErr};
 ghost use Rattle.clap.specs.Values.{kind_of};
-ghost use Rattle.gcflip.specs.CommandLine.{IsInRange};
+ghost use Rattle.gcflip.specs.CommandLine.{HasNumberInRange};
 ghost use Rattle.gcflip.specs.Statuses.{status_of};
 ghost use Rattle.gcflip.specs.Internal.Outcomes.{IsTaskFault, IsOfOpening, IsStatusOf};
 ghost use Rattle.gcflip.specs.Statuses.{statuses};
@@ -34,7 +34,7 @@ fn perform<R: Files + Input + Print + AllocGlobal + Threads + Wait + Sync>(
     rt: &R,
     task: Task<'_>,
 ) -> Result<u8, Fault>
-    requires { IsInRange task }
+    requires { HasNumberInRange task }
     ensures done { IfOk result (IsStatusOf task.entry) }
     ensures failed { IfErr result (IsTaskFault task.entry) }
 {

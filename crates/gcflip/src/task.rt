@@ -2,7 +2,7 @@ ghost use Rattle.std.specs.Prelude.{◌≡◌, ◌⊎◌, ℕ, List, [], ◌∷�
 ghost use Rattle.std.specs.Prelude.{Some, None, IfSome, IfOk, IfErr, IsSomeAnd, MatchResult};
 ghost use Rattle.clap.specs.Words.{Row, app_of, fault_of, first_of, kind_of, rule_of, subcommand_of, subcommand_rows_of};
 ghost use Rattle.clap.specs.declared.builder.Command.TheViews.{out-Command};
-ghost use Rattle.gcflip.specs.CommandLine.{IsAskedBy, IsFor, IsInRange, IsPlainArgument, command_line, file_command, files_line, number_command, flip_rule, turns_rule};
+ghost use Rattle.gcflip.specs.CommandLine.{IsAskedBy, IsFor, HasNumberInRange, IsPlainArgument, command_line, file_command, files_line, number_command, flip_rule, turns_rule};
 
 use clap::error::ErrorKind;
 use clap::{Arg, ArgMatches, Command, Error, value_parser};
@@ -117,7 +117,7 @@ fn command<'a>(alloc: Global) -> Result<Command<'a>, Error>
 
 /// Returns the task of `pair FILE N`. Clap has checked the number's range; the check here proves it.
 fn pair_task<'a>(matches: &ArgMatches<'_>, file: &'a str) -> Option<Task<'a>>
-    ensures { IfSome result (λ task. IsFor (codes "pair") file.entry.now task × IsInRange task) }
+    ensures { IfSome result (λ task. IsFor (codes "pair") file.entry.now task × HasNumberInRange task) }
 {
     let n = matches.get_one::<u32>("N")?;
     if n == 0 {
@@ -128,7 +128,7 @@ fn pair_task<'a>(matches: &ArgMatches<'_>, file: &'a str) -> Option<Task<'a>>
 
 /// Returns the task of `threads FILE TURNS`.
 fn threads_task<'a>(matches: &ArgMatches<'_>, file: &'a str) -> Option<Task<'a>>
-    ensures { IfSome result (λ task. IsFor (codes "threads") file.entry.now task × IsInRange task) }
+    ensures { IfSome result (λ task. IsFor (codes "threads") file.entry.now task × HasNumberInRange task) }
 {
     let turns = matches.get_one::<u64>("TURNS")?;
     if turns > 1000000 {
@@ -150,7 +150,7 @@ fn found_task<'a>(matches: &ArgMatches<'a>) -> Option<Task<'a>>
         → subcommand_rows_of matches.now ≡ Some (codes "report", rows)
         → first_of (codes "FILE") rows ≡ Some path → IsSomeAnd result (IsFor (codes "report") path) }
     ensures asked { IfSome result (IsAskedBy (subcommand_rows_of matches.now)) }
-    ensures range { IfSome result IsInRange }
+    ensures range { IfSome result HasNumberInRange }
 {
     let Some((name, matches)) = matches.subcommand() else {
         return Some(Task::PlayInput);
@@ -182,7 +182,7 @@ pub fn task_of<'a>(alloc: Global, arguments: &'a [String]) -> Result<Task<'a>, E
         MatchResult result (IsFor (codes "report") path) (λ e. kind_of e ≡ ErrorKind.OutOfMemory) }
     // The task is the one that clap's definitions find in the arguments.
     ensures asked { IfOk result (IsAskedBy (subcommand_of command_line (map string_bytes arguments.now))) }
-    ensures range { IfOk result IsInRange }
+    ensures range { IfOk result HasNumberInRange }
     // Arguments in which clap finds an error, or a request for help, give no task.
     ensures faultless { IfOk result (λ _. fault_of command_line (map string_bytes arguments.now) ≡ []) }
 {

@@ -1,16 +1,14 @@
 -- One more useful step.
-use Rattle.std.proofs.Common.{◌≡◌, ℕ, suc, ◌-◌, ◌<◌, ◌≤◌, Option, true, false, sym, ap, ◌∙◌, subst, ⊎_elim, arith}
+use Rattle.std.proofs.Common.{◌≡◌, ℕ, suc, ◌+◌, ◌-◌, ◌<◌, Option, true, sym, ap, ◌∙◌, subst, ⊎_elim, arith}
 use Rattle.std.specs.Prelude.{◌≢◌}
-use Rattle.std.proofs.lemmas.Bool.{cases_Bool, cases_lt}
+use Rattle.std.proofs.lemmas.Bool.{cases_lt}
 use Rattle.gc_plan.specs.State.{State}
 use Rattle.gc_plan.specs.Steps.{collect}
-use Rattle.gc_plan.specs.Progress.{work_left}
 use Rattle.gc_plan.specs.declared.step.StepReply.{StepReply}
 use Rattle.gc_plan.specs.declared.step.StepReply.TheVariants.{NoRoom}
 use Rattle.gcflip_heap_c.specs.Internal.Leaving.{LeavesLess}
 use Rattle.gcflip_heap_c.specs.Work.{sized_step, after_useful, useful_reply, goes_on, IsSoundReply, IsLarge, IsRun}
 use Rattle.gcflip_heap_c.proofs.Useful.{large_run, finds_room}
-use Rattle.gcflip_heap_c.proofs.Left.{some_left}
 
 made : (size : Option ℕ) (s : State) (n : ℕ) (t u : State) (reply : StepReply) → t ≡ after_useful size n s → collect t (sized_step size t) ≡ (reply, u)
     → (reply ≡ useful_reply size n s) × (u ≡ after_useful size (suc n) s)
@@ -81,3 +79,18 @@ longer_run size s t u n before reply run on step sound leaves =
         (λ early. run.going k early)
         (λ late. let last : n - 1 ≡ k = omega arith in subst (λ (j : ℕ). goes_on (useful_reply size j s) ≡ true) last (ap goes_on (sym run.reply_is) ∙ on))
         (cases_lt (suc k) n)
+
+-- ---- steps that were not enough
+
+-- what holds after each step but the last holds after the last too, if it holds of this state and reply
+pub short_more : (Short : State → StepReply → Type 0) (size : Option ℕ) (s t : State) (n : ℕ) (reply : StepReply) → IsRun size n s t reply → Short t reply
+    → ((k : ℕ) → suc k < n → Short (after_useful size (suc k) s) (useful_reply size k s)) → (k : ℕ) → suc k < n + 1 → Short (after_useful size (suc k) s) (useful_reply size k s)
+short_more Short size s t n reply run now before k less = ⊎_elim
+    (λ early. before k early)
+    (λ late.
+    let at : n ≡ suc k = omega arith in
+    let last : n - 1 ≡ k = omega arith in
+    let state : t ≡ after_useful size (suc k) s = run.state ∙ ap (λ (j : ℕ). after_useful size j s) at in
+    let said : reply ≡ useful_reply size k s = run.reply_is ∙ ap (λ (j : ℕ). useful_reply size j s) last in
+    subst (λ (x : State). Short x (useful_reply size k s)) state (subst (Short t) said now))
+    (cases_lt (suc k) n)

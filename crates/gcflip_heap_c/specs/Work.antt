@@ -119,3 +119,38 @@ pub record IsWorkCall (size : Option ℕ) (most : ℕ) (old new : Option State) 
   pub memory : answer ≡ 1 → IsSomeAnd old (λ s. Allocates s (sized_step size s))
   pub outside : (answer ≡ 2) ↔ IsSomeAnd old (λ s. IsNoWork size most)
   pub closed : (answer ≡ 3) ↔ (old ≡ None)
+
+-- ---- work that also ends once its replicas take so many words
+
+-- why there was no further step: for a reason of `IsEnd`, or because these words were copied
+abbrev pub IsEndWithin : ℕ → State → StepReply → GcflipWork → Type 0
+IsEndWithin words t reply work = (goes_on reply ≡ false) ⊎ (Allocates t (sized_step None t) ⊎ (words ≤ work.copied))
+
+-- what such work reports
+pub record IsWorkWithin (most words : ℕ) (s t : State) (work : GcflipWork) : Type 0 where
+  pub reply : StepReply
+  pub run : IsRun None work.steps s t reply
+  pub last : work.last ≡ step_reply_in_c reply
+  pub pairs : work.pairs ≡ pairs_after 0 reply
+  pub within : work.steps ≤ most
+  pub ended : work.steps < most → IsEndWithin words t reply work
+  -- as many steps as work is left are enough
+  pub enough : work_left s ≤ most → IsEndWithin words t reply work
+  pub copied : work.copied ≡ words_copied s t reply
+  -- before the last step, replicas took fewer words
+  pub short : (k : ℕ) → suc k < work.steps → words_copied s (after_useful None (suc k) s) (useful_reply None k s) < words
+
+abbrev pub WorksWithin : ℕ → ℕ → Option State → Option State → GcflipWork → Type 0
+WorksWithin most words (Some old) (Some new) work = IsWorkWithin most words old new work
+WorksWithin most words old new work = ⊥
+
+-- what such a call returns, and the heap and C's report after it
+pub record IsWithinCall (most words : ℕ) (old new : Option State) (before after : GcflipWork) (answer : ℕ) : Type 0 where
+  pub answers : answer ≤ 3
+  pub done : answer ≡ 0 → WorksWithin most words old new after
+  -- a refused call changes nothing
+  pub heap : 1 ≤ answer → new ≡ old
+  pub silent : 1 ≤ answer → after ≡ before
+  pub memory : answer ≡ 1 → IsSomeAnd old (λ s. Allocates s (sized_step None s))
+  pub outside : (answer ≡ 2) ↔ IsSomeAnd old (λ s. most ≡ 0)
+  pub closed : (answer ≡ 3) ↔ (old ≡ None)

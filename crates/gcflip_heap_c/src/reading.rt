@@ -174,7 +174,7 @@ fn copy_image(heap: &LiveHeap, words: &mut [u64], roots: &mut [u64]) -> bool
     if words.len() != image.words.len() || roots.len() != image.roots.len() {
         return false;
     }
-    words.copy_from_slice(image.words);
+    heap.copy_words(words);
     roots.copy_from_slice(image.roots);
     true
 }

@@ -1,13 +1,15 @@
 //! Many useful steps in one call.
 
-ghost use Rattle.std.specs.Prelude.{◌≡◌, ◌⊎◌, ◌<◌, ◌≤◌, ℕ, false, Option, Some, None, IfSome, IsTrue, ◌↔◌, Ok, IfOk, OnErr};
+ghost use Rattle.std.specs.Prelude.{◌≡◌, ◌⊎◌, ◌<◌, ◌≤◌, ◌-◌, ℕ, suc, true, false, ⊤, Option, Some, None, IfSome, IsTrue, ◌↔◌, Ok, IfOk, OnErr};
 ghost use Rattle.gc_plan.specs.State.{State};
 ghost use Rattle.gc_plan.specs.Steps.{collect};
 ghost use Rattle.gc_plan.specs.Runs.{IsStep};
 ghost use Rattle.gc_plan.specs.Progress.{work_left};
+ghost use Rattle.gc_plan.specs.declared.step.StepReply.{StepReply};
 ghost use Rattle.gc_core.specs.CollectedHeap.{Allocates};
 ghost use Rattle.gcflip_heap_c.specs.Internal.Leaving.{LeavesLess};
-ghost use Rattle.gcflip_heap_c.specs.Work.{IsSoundReply, IsRun, IsWork, IsWorkCall, with_size, sized_step, goes_on, end_in, end_after};
+ghost use Rattle.gcflip_heap_c.specs.Replies.{step_reply_in_c, pairs_after};
+ghost use Rattle.gcflip_heap_c.specs.Work.{IsSoundReply, IsRun, IsWork, IsWorkCall, IsWorkWithin, IsWithinCall, with_size, sized_step, after_useful, useful_reply, goes_on, end_in, end_after};
 
 use crate::answer::{CLOSED, DONE, NO_MEMORY, OUT_OF_RANGE};
 use crate::handle::GcflipHeap;
@@ -67,11 +69,17 @@ fn one_step(heap: &mut LiveHeap, size: Option<u32>) -> Result<StepReply, NoMemor
     heap.collect(&Sequential, step)
 }
 
-/// Performs single steps for `useful_steps`. Generic code knows nothing of `failed`, and gets it only from a step that
-/// returned `NoMemory`.
+/// Performs single steps for `useful_steps`, and tells when they are enough. Generic code knows nothing of `failed`, and gets it only
+/// from a step that returned `NoMemory`.
 trait Performs {
     // Holds of a state in which an allocation of the useful step failed.
     ghost failed: { Self → Option ℕ → State → Type 0 };
+
+    // Holds of the state after a step with this reply, which goes on, if no further step is performed.
+    ghost stops: { Self → Option ℕ → State → StepReply → Type 0 };
+
+    // Holds of the state after a step with this reply if that is not enough.
+    ghost short: { Self → State → StepReply → Type 0 };
 
     fn perform(&self, heap: &mut LiveHeap, size: Option<u32>) -> Result<StepReply, NoMemory>
         requires { IfSome size (λ words. 1 ≤ words) }
@@ -79,18 +87,57 @@ trait Performs {
         ensures sound { IfOk result (IsSoundReply heap.old) }
         ensures leaves { IfOk result (LeavesLess heap.old heap.new) }
         ensures refused { OnErr result (heap.new ≡ heap.old) }
-        ensures failed { OnErr result (failed self.now size heap.old) };
+        ensures failed { OnErr result (failed self.now size heap.old) }
+        ensures stops { OnErr result ((reply : StepReply) → stops self.now size heap.old reply) };
+
+    fn has_enough(&self, heap: &LiveHeap, reply: StepReply) -> bool
+        ensures stops { result ≡ true → (size : Option ℕ) → stops self.now size heap.now reply }
+        ensures short { result ≡ false → short self.now heap.now reply };
 }
 
-/// Performs the useful step.
+/// Performs useful steps, of which there are never enough.
 struct Useful;
 
 impl Performs for Useful {
     ghost failed = { λ _ size s. Allocates s (sized_step size s) };
 
+    ghost stops = { λ _ size s _. Allocates s (sized_step size s) };
+
+    ghost short = { λ _ _ _. ⊤ };
+
     #[inline(always)]
     fn perform(&self, heap: &mut LiveHeap, size: Option<u32>) -> Result<StepReply, NoMemory> {
         one_step(heap, size)
+    }
+
+    #[inline(always)]
+    fn has_enough(&self, _heap: &LiveHeap, _reply: StepReply) -> bool {
+        false
+    }
+}
+
+/// Performs useful steps until replicas have taken `words` words from `start` on.
+#[derive(Drop)]
+struct Within {
+    start: u32,
+    words: u32,
+}
+
+impl Performs for Within {
+    ghost failed = { λ _ size s. Allocates s (sized_step size s) };
+
+    ghost stops = { λ w size s reply. Allocates s (sized_step size s) ⊎ (w.words ≤ end_after s reply - w.start) };
+
+    ghost short = { λ w s reply. end_after s reply - w.start < w.words };
+
+    #[inline(always)]
+    fn perform(&self, heap: &mut LiveHeap, size: Option<u32>) -> Result<StepReply, NoMemory> {
+        one_step(heap, size)
+    }
+
+    #[inline(always)]
+    fn has_enough(&self, heap: &LiveHeap, reply: StepReply) -> bool {
+        end_behind(heap, reply).saturating_sub(self.start) >= self.words
     }
 }
 
@@ -101,8 +148,8 @@ fn can_go_on(reply: StepReply) -> bool
     !matches!(reply, StepReply::Flipped { .. } | StepReply::NoRoom)
 }
 
-/// Performs at most `most` useful steps, and stops after one that flips or finds no room. If an allocation fails, it
-/// stops before that step, and returns `NoMemory` only if that was the first step.
+/// Performs at most `most` useful steps, and stops after one that flips or finds no room, and after one that is enough. If an
+/// allocation fails, it stops before that step, and returns `NoMemory` only if that was the first step.
 fn useful_steps<P: Performs>(
     performs: &P,
     heap: &mut LiveHeap,
@@ -115,16 +162,22 @@ fn useful_steps<P: Performs>(
     ensures within { IfOk result (λ run. run.steps ≤ most) }
     // It stops early only after such a reply, or because a step failed for lack of memory.
     ensures ended { IfOk result (λ run. run.steps < most
-        → (goes_on run.reply ≡ false) ⊎ P.failed performs.now size heap.new) }
-    // It makes no more than the steps that are left, so as many are enough.
+        → (goes_on run.reply ≡ false) ⊎ P.stops performs.now size heap.new run.reply) }
+    // It makes no more than the steps that are left, so as many lead to such an end.
     ensures enough { IfOk result (λ run. work_left heap.old ≤ most
-        → (goes_on run.reply ≡ false) ⊎ P.failed performs.now size heap.new) }
+        → (goes_on run.reply ≡ false) ⊎ P.stops performs.now size heap.new run.reply) }
+    // No step before the last one was enough.
+    ensures short { IfOk result (λ run. (k : ℕ) → suc k < run.steps
+        → P.short performs.now (after_useful size (suc k) heap.old) (useful_reply size k heap.old)) }
     ensures refused { OnErr result (heap.new ≡ heap.old) }
     ensures failed { OnErr result (P.failed performs.now size heap.old) }
 {
     let mut reply = performs.perform(heap, size)?;
     for steps in 1..most {
         if !can_go_on(reply) {
+            return Ok(Run { steps, reply });
+        }
+        if performs.has_enough(heap, reply) {
             return Ok(Run { steps, reply });
         }
         match performs.perform(heap, size) {
@@ -155,6 +208,23 @@ fn end_behind(heap: &LiveHeap, reply: StepReply) -> u32
     }
 }
 
+/// Returns what C is told of these steps. The new space ended at `start` before them.
+#[inline(always)]
+fn report(heap: &LiveHeap, start: u32, run: Run) -> GcflipWork
+    ensures steps { result.steps ≡ run.steps }
+    ensures copied { result.copied ≡ end_after heap.now run.reply - start }
+    ensures last { result.last ≡ step_reply_in_c run.reply }
+    ensures pairs { result.pairs ≡ pairs_after 0 run.reply }
+{
+    let Run { steps, reply } = run;
+    GcflipWork {
+        steps,
+        copied: end_behind(heap, reply).saturating_sub(start),
+        last: of_step(reply),
+        pairs: pairs_of(reply, 0),
+    }
+}
+
 /// Performs useful steps and reports them.
 pub(crate) fn work_on(
     heap: &mut LiveHeap,
@@ -168,13 +238,20 @@ pub(crate) fn work_on(
     ensures allocates { OnErr result (Allocates heap.old (sized_step size heap.old)) }
 {
     let start = end_of_new(heap);
-    let Run { steps, reply } = useful_steps(&Useful, heap, size, most)?;
-    Ok(GcflipWork {
-        steps,
-        copied: end_behind(heap, reply).saturating_sub(start),
-        last: of_step(reply),
-        pairs: pairs_of(reply, 0),
-    })
+    let run = useful_steps(&Useful, heap, size, most)?;
+    Ok(report(heap, start, run))
+}
+
+/// Performs useful steps until replicas have taken `words` words, and reports them.
+fn work_within_on(heap: &mut LiveHeap, most: u32, words: u32) -> Result<GcflipWork, NoMemory>
+    requires { 1 ≤ most }
+    ensures work { IfOk result (IsWorkWithin most words heap.old heap.new) }
+    ensures refused { OnErr result (heap.new ≡ heap.old) }
+    ensures allocates { OnErr result (Allocates heap.old (sized_step None heap.old)) }
+{
+    let start = end_of_new(heap);
+    let run = useful_steps(&Within { start, words }, heap, None, most)?;
+    Ok(report(heap, start, run))
 }
 
 // Returns whether work can perform this many steps with a begin of this size.
@@ -223,4 +300,29 @@ pub extern "C" fn gcflip_heap_work_sized(
     ensures { IsWorkCall (Some size) most heap.old.state heap.new.state work.old work.new result }
 {
     work_sized(heap, Some(size), most, work)
+}
+
+/// Does the same as `gcflip_heap_work`, but also stops after the step with which the replicas of this call take `words` words or more.
+#[unsafe(no_mangle)]
+pub extern "C" fn gcflip_heap_work_within(
+    heap: &mut GcflipHeap,
+    most: u32,
+    words: u32,
+    work: &mut GcflipWork,
+) -> u32
+    ensures { IsWithinCall most words heap.old.state heap.new.state work.old work.new result }
+{
+    if heap.is_empty() {
+        return CLOSED;
+    }
+    if most == 0 {
+        return OUT_OF_RANGE;
+    }
+    match work_within_on(heap.heap_mut(), most, words) {
+        Ok(made) => {
+            *work = made;
+            DONE
+        }
+        Err(NoMemory) => NO_MEMORY,
+    }
 }

@@ -3,7 +3,6 @@ use Rattle.gc_graph.specs.Machine.{MakesObject, words_taken}
 use Rattle.gc_graph.specs.declared.command.Op.{Op}
 use Rattle.gc_graph.specs.declared.command.Op.TheVariants as ops
 use Rattle.gc_graph.specs.declared.reply.Reply.{Reply}
-use Rattle.gc_plan.specs.Linked.{old_links}
 use Rattle.gc_plan.specs.State.{State, heap_end}
 use Rattle.gc_plan.specs.Steps.{mutate}
 use Rattle.gc_plan.specs.Belonging.{IsSpaceGraph}
@@ -46,25 +45,25 @@ some_room s t heap room = let less : s.heap.free < s.size = heap.room in omega a
 
 pub returns : goal.returns
 returns c = record {
-  roots = λ s s' c next t told heap before opened goes knows said is.
-      (roots_told s c next t (old_links next) heap before opened goes knows s' said is, λ placed owes. roots_known s c next t (old_links next) heap before opened goes knows s' said is told placed owes);
-  scan = λ s s' c next t mid told heap before opened goes knows said is. (
-    scan_placed s c next t (old_links next) heap before opened goes knows s' said is,
+  roots = λ s s' c next t told links heap before opened goes knows said is.
+      (roots_told s c next t links heap before opened goes knows s' said is, λ placed owes. roots_known s c next t links heap before opened goes knows s' said is told placed owes);
+  scan = λ s s' c next t mid told links heap before opened goes knows said is. (
+    scan_placed s c next t links heap before opened goes knows s' said is,
     λ placed owes. (
-      scan_looked s c next t (old_links next) heap before opened goes knows s' said is mid placed owes,
-      λ looked. scan_known s c next t (old_links next) heap before opened goes knows s' said is mid placed owes told looked,
+      scan_looked s c next t links heap before opened goes knows s' said is mid placed owes,
+      λ looked. scan_known s c next t links heap before opened goes knows s' said is mid placed owes told looked,
     ),
   );
-  passed = λ s s' c next t heap before opened goes knows said is. passed_known s c next t (old_links next) heap before opened goes knows s' said is;
-  apply = λ s s' c next m entry rest t mid told heap before opened goes knows log said is. (
-    entry_placed s c next t (old_links next) heap before opened goes knows s' m entry rest log said is,
+  passed = λ s s' c next t heap before opened goes knows said is. passed_known s c next t (λ a. 0) heap before opened goes knows s' said is;
+  apply = λ s s' c next m entry rest t mid told links heap before opened goes knows log said is lead. (
+    entry_placed s c next t links heap before opened goes knows s' m entry rest log said is,
     λ placed owes. (
-      entry_looked s c next t (old_links next) heap before opened goes knows s' m entry rest log said is mid placed owes (λ a. refl),
-      λ applied. entry_known s c next t (old_links next) heap before opened goes knows s' m entry rest log said is mid placed owes told applied,
+      entry_looked s c next t links heap before opened goes knows s' m entry rest log said is mid placed owes lead,
+      λ applied. entry_known s c next t links heap before opened goes knows s' m entry rest log said is mid placed owes told applied,
     ),
   );
-  written = λ s c t told a i heap opened fits knows noted.
-      (can_write s c (old_links c) heap opened t fits knows a i noted (λ b. refl), λ wrote. (wrote_known s c (old_links c) heap opened t fits knows a i noted told wrote).0);
+  written = λ s c t told a i links heap opened fits knows noted lead.
+      (can_write s c links heap opened t fits knows a i noted lead, λ wrote. (wrote_known s c links heap opened t fits knows a i noted told wrote).0);
   made = λ s s' m op reply t told links before later said makes seen knows.
       let more = one_more s s' m op reply before said makes in
       let on = new_only s s' op (continues_one s s' m op reply said) in

@@ -1,11 +1,12 @@
 -- What private steps leave unchanged in a heap and in a collection, and words whose targets have replicas.
-use Rattle.std.specs.Prelude.{◌≡◌, ℕ, if◌then◌else◌}
+use Rattle.std.specs.Prelude.{◌≡◌, ℕ, ◌<◌, if◌then◌else◌, List, [], map, length, replicate}
 use Rattle.gc_words.specs.Word.{value_of}
 use Rattle.gc_words.specs.Image.{Block, fresh_block, blocks}
+use Rattle.gc_words.specs.Space.{SpaceWords, IsSpace, empty_space}
 use Rattle.gc_heap.specs.Heap.{HeapWords, roomy_in}
 use Rattle.gc_plan.specs.State.{Collection}
 use Rattle.gc_plan.specs.Staying.{HasReplicaOf}
-use Rattle.gc_copy.specs.Words.{CollectionWords}
+use Rattle.gc_copy.specs.Words.{Log, CollectionWords, entries_of}
 
 abbrev pub HasReplicaWord : Collection → ℕ → Type 0
 HasReplicaWord c word = HasReplicaOf c (value_of word)
@@ -28,3 +29,11 @@ pub record KeepsRest (old new : CollectionWords) : Type 0 where
   pub logs : new.logs ≡ old.logs
   pub scan_place : new.scan_place ≡ old.scan_place
   pub scan_field : new.scan_field ≡ old.scan_field
+  pub marked : new.marked ≡ old.marked
+
+-- an empty space, and at most 255 empty logs
+pub record IsRoom (space : SpaceWords) (each : List Log) : Type 0 where
+  pub shaped : IsSpace space
+  pub empty : space ≡ empty_space space.size
+  pub logs : map entries_of each ≡ replicate (length each) []
+  pub few : length each < 256

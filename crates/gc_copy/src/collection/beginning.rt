@@ -1,14 +1,14 @@
-ghost use Rattle.std.specs.Prelude.{◌≡◌, ◌≤◌, [], IfOk, map, replicate};
+ghost use Rattle.std.specs.Prelude.{◌≡◌, ◌≤◌, IfOk};
 ghost use Rattle.gc_plan.specs.Steps.{collect};
-ghost use Rattle.gc_copy.specs.Words.{entries_of, idle_state, open_state, HasNoLinks, BelongsTo};
+ghost use Rattle.gc_copy.specs.Words.{idle_state, open_state, HasNoLinks, LinksNothing, BelongsTo};
 ghost use Rattle.gc_plan.specs.declared.step.Step.{Step};
 ghost use Rattle.gc_plan.specs.declared.step.StepReply.{StepReply};
 
 use super::Collection;
-use crate::log::MutationLog;
+use super::room::Room;
 use gc_graph::NoMemory;
 use gc_heap::Heap;
-use gc_words::{Addr, Space};
+use gc_words::Addr;
 use std::alloc::Global;
 
 impl Collection {
@@ -28,24 +28,26 @@ impl Collection {
         ensures step { IfOk result (λ c. collect (idle_state heap.now) (Step.BeginSized size) ≡ (StepReply.Begun, open_state heap.now c)) }
         ensures belongs { IfOk result (BelongsTo heap.now) }
     {
-        let space = Space::new(alloc, size)?;
-        let logs = empty_logs(alloc, heap.mutators())?;
-        Ok(Collection {
+        let room = Room::new(alloc, size, heap.mutators())?;
+        Ok(Collection::begin_in(room, heap, false))
+    }
+
+    /// Opens a collection of this heap in this room, whose links are marked or not. Does not allocate.
+    pub fn begin_in(room: Room, heap: &Heap, marked: bool) -> Collection
+        requires links { LinksNothing marked heap.now }
+        requires mutators { room.mutators ≡ heap.now.mutators }
+        ensures step { collect (idle_state heap.now) (Step.BeginSized room.size) ≡ (StepReply.Begun, open_state heap.now result) }
+        ensures belongs { BelongsTo heap.now result }
+        ensures marked { result.marked ≡ marked }
+    {
+        let Room { space, logs } = room;
+        Collection {
             space,
             logs,
             scan_place: Addr(1),
             scan_field: 0,
-        })
+            marked,
+            replicas: 0,
+        }
     }
-}
-
-// Returns an empty log for each mutator.
-fn empty_logs(alloc: Global, mutators: u8) -> Result<Vec<MutationLog>, NoMemory>
-    ensures { IfOk result (λ logs. map entries_of logs.items ≡ replicate mutators []) }
-{
-    let mut logs = Vec::with_capacity(alloc, usize::from(mutators))?;
-    for _ in 0..mutators {
-        logs.push(MutationLog::new(alloc))?;
-    }
-    Ok(logs)
 }

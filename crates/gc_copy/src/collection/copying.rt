@@ -12,7 +12,7 @@ ghost use Rattle.gc_plan.specs.State.{replica_of as replica_in, moved};
 ghost use Rattle.gc_plan.specs.Steps.{place_replica as placed_in, with_replica as with_replica_in};
 ghost use Rattle.gc_plan.specs.Steps.{bring_up_to_date as brought_in, apply_entry as applied_in};
 ghost use Rattle.gc_copy.specs.Entries.{entry_in};
-ghost use Rattle.gc_copy.specs.Words.{collection_in, BelongsTo};
+ghost use Rattle.gc_copy.specs.Words.{collection_in, mark_of, BelongsTo};
 ghost use Rattle.gc_copy.specs.Internal.Words.{replica_block, HasReplicaWord, KeepsGraph, KeepsRest};
 
 use super::Collection;
@@ -25,7 +25,7 @@ use gc_words::{Addr, NewAddr, OldAddr, Space, Value, encode, target_of};
 pub(super) struct NoRoom;
 
 impl Collection {
-    /// Returns the address of an object's replica, which is the object's link, or `None` if the link is 0.
+    /// Returns the address of an object's replica, which is what the object's link has above the mark, or `None` if it is not above it.
     pub(super) fn replica_of(&self, heap: &Heap, original: OldAddr) -> Option<NewAddr>
         requires belongs { BelongsTo heap.now self.now }
         requires start { IsTrue (is_start heap.now.space.words original.0) }
@@ -34,11 +34,14 @@ impl Collection {
     {
         // Here the prover learns how large the new space is.
         let _ = &self.space;
-        let link = heap.space().link(Addr(original.0));
-        if link == 0 {
+        let place = heap
+            .space()
+            .link(Addr(original.0))
+            .saturating_sub(link_mark(self.marked));
+        if place == 0 {
             None
         } else {
-            Some(NewAddr(link as u32))
+            Some(NewAddr(place as u32))
         }
     }
 
@@ -77,7 +80,8 @@ impl Collection {
         }
         let replica = place_fresh(&mut self.space, heap, original);
         self.space.set_link(replica, u64::from(original.0));
-        heap.set_link(original, NewAddr(replica.0));
+        self.replicas += 1;
+        heap.set_link_word(original, link_mark(self.marked) + u64::from(replica.0));
         Ok(())
     }
 
@@ -191,6 +195,14 @@ impl Collection {
             None => Ok(()),
         }
     }
+}
+
+/// Returns what the links of originals have in addition to the places of their replicas.
+#[inline(always)]
+pub fn link_mark(marked: bool) -> u64
+    ensures { result ≡ mark_of marked }
+{
+    if marked { 1 << 32 } else { 0 }
 }
 
 /// Places a fresh replica in the new space, and returns its address.

@@ -1,15 +1,20 @@
-ghost use Rattle.std.specs.Prelude.{◌≡◌, ◌<◌, ◌^◌, IfOk, IsTrue, map, length};
+ghost use Rattle.std.specs.Prelude.{◌≡◌, ◌-◌, ◌<◌, ◌^◌, ℕ, IfOk, IsTrue, IsFalse, true, false, map, length};
+ghost use Rattle.gc_words.specs.Image.{is_start};
+ghost use Rattle.gc_words.specs.Spelling.{link_at};
 ghost use Rattle.gc_words.specs.Space.{image_with, without_links};
 ghost use Rattle.gc_words.specs.Views.{image_of as image_in, addresses};
 ghost use Rattle.gc_heap.specs.Heap.{IsHeap, graph_in};
 ghost use Rattle.gc_plan.specs.State.{pairs_of};
 ghost use Rattle.gc_plan.specs.Steps.{collect, is_ready};
-ghost use Rattle.gc_copy.specs.Words.{IsCollection, collection_in, idle_state, open_state, BelongsTo, HasNoLinks, new_root_words};
+ghost use Rattle.gc_copy.specs.Words.{IsCollection, collection_in, idle_state, open_state, BelongsTo, HasNoLinks, LinksNothing, new_root_words};
+ghost use Rattle.gc_copy.specs.Internal.Words.{KeepsGraph};
 ghost use Rattle.gc_plan.specs.declared.step.Step.{Step};
 ghost use Rattle.gc_plan.specs.declared.step.StepReply.{StepReply};
 
 use super::Collection;
-use crate::pairs::{clear_and_count, count_objects, linked_pairs};
+use super::copying::link_mark;
+use super::room::Room;
+use crate::pairs::linked_pairs;
 use gc_graph::NoMemory;
 use gc_heap::Heap;
 use gc_words::{Addr, ImageRef, NewAddr, OldAddr, Pair, Space};
@@ -21,14 +26,14 @@ impl Collection {
         ensures few { IfOk result (λ pairs. length pairs.items < 2 ^ 32) }
         ensures pairs { IfOk result (λ pairs. map addresses pairs.items ≡ pairs_of (collection_in self.now)) }
     {
-        linked_pairs(alloc, &self.space)
+        linked_pairs(alloc, &self.space, self.replicas)
     }
 
-    /// Returns the number of pairs. Does not allocate.
-    pub fn count_pairs(&self) -> usize
+    /// Returns the number of pairs. Does not allocate, and reads none of them.
+    pub fn count_pairs(&self) -> u32
         ensures { result ≡ length (pairs_of (collection_in self.now)) }
     {
-        count_objects(&self.space)
+        self.replicas
     }
 
     /// Returns the image of the new space with these roots, including links.
@@ -53,30 +58,63 @@ impl Collection {
         ensures roots { result.1.items ≡ heap.old.roots }
         ensures sound { IsHeap heap.new }
     {
-        let (space, roots, _) = self.flip_counted(heap, roots);
-        (space, roots)
+        // Here the prover learns that the heap is sound.
+        let _ = heap.space();
+        let Collection { mut space, .. } = self;
+        space.clear_links();
+        heap.replace(space, roots)
     }
 
-    /// Does what `flip_into` does, and also returns the number of pairs, which it counts while it clears the links.
-    pub fn flip_counted(self, heap: &mut Heap, roots: Vec<u64>) -> (Space, Vec<u64>, u32)
+    /// Switches the mutators to the new space and to these roots, which `new_roots` returned. Clears no link: the new space keeps those of
+    /// the replicas, which lead nowhere in a collection whose links are marked. Returns the room of this collection's heap for the next one, the
+    /// old roots and the number of pairs. Takes the same time however large the spaces are.
+    pub fn flip_marked(self, heap: &mut Heap, roots: Vec<u64>) -> (Room, Vec<u64>, u32)
         requires belongs { BelongsTo heap.old self }
         requires ready { IsTrue (is_ready (collection_in self) (graph_in heap.old)) }
         requires roots { roots.items ≡ new_root_words heap.old (collection_in self) }
         ensures step { collect (open_state heap.old self) Step.Flip
             ≡ (StepReply.Flipped (length (pairs_of (collection_in self))), idle_state heap.new) }
-        ensures heap { heap.new ≡ record heap.old { space = without_links self.space; roots = roots.items } }
-        ensures links { HasNoLinks heap.new }
-        ensures space { result.0 ≡ heap.old.space }
+        ensures heap { heap.new ≡ record heap.old { space = self.space; roots = roots.items } }
+        ensures links { LinksNothing true heap.new }
+        ensures room { result.0 ≡ record { size = heap.old.space.size; mutators = heap.old.mutators } }
         ensures roots { result.1.items ≡ heap.old.roots }
         ensures count { result.2 ≡ length (pairs_of (collection_in self)) }
         ensures sound { IsHeap heap.new }
     {
         // Here the prover learns that the heap is sound.
         let _ = heap.space();
-        let Collection { mut space, .. } = self;
-        let pairs = clear_and_count(&mut space);
+        let Collection {
+            space,
+            logs,
+            replicas,
+            ..
+        } = self;
         let (old_space, old_roots) = heap.replace(space, roots);
-        (old_space, old_roots, pairs)
+        let room = Room {
+            space: old_space.emptied(),
+            logs,
+        };
+        (room, old_roots, replicas)
+    }
+
+    /// Takes the mark from the links of originals, and clears all other links of the old space, so that its words are those of a collection
+    /// without a mark. Reads each object of the heap once, if the links are marked.
+    pub fn unmark(&mut self, heap: &mut Heap)
+        requires belongs { BelongsTo heap.old self.old }
+        ensures belongs { BelongsTo heap.new self.new }
+        ensures state { open_state heap.new self.new ≡ open_state heap.old self.old }
+        ensures unmarked { self.new ≡ record self.old { marked = false } }
+        ensures sound { IsHeap heap.new }
+    {
+        // Here the prover learns that the heap is sound.
+        let _ = heap.space();
+        if !self.marked {
+            return;
+        }
+        lower_links(heap, link_mark(self.marked));
+        self.marked = false;
+        // Here the prover learns that it still is.
+        let _ = heap.space();
     }
 
     /// Ends the collection without a flip: frees the new space (to-space) and the logs, and clears the old space's
@@ -85,8 +123,8 @@ impl Collection {
     pub fn drop_into(self, heap: &mut Heap)
         requires { BelongsTo heap.old self }
         ensures step { collect (open_state heap.old self) Step.Drop ≡ (StepReply.Dropped, idle_state heap.new) }
-        ensures heap { heap.new ≡ record heap.old { space = without_links heap.old.space } }
-        ensures links { HasNoLinks heap.new }
+        ensures heap { IsFalse self.marked → heap.new ≡ record heap.old { space = without_links heap.old.space } }
+        ensures links { LinksNothing self.marked heap.new }
         ensures sound { IsHeap heap.new }
     {
         // Here the prover learns that the heap is sound.
@@ -97,5 +135,21 @@ impl Collection {
             heap.set_link(original, NewAddr(0));
             at = self.space.next_start(at);
         }
+    }
+}
+
+/// Takes this number from each link of the heap, or sets the link to 0 if it is not larger.
+fn lower_links(heap: &mut Heap, mark: u64)
+    ensures links { (a : ℕ) → IsTrue (is_start heap.old.space.words a) → link_at heap.new.space.words a ≡ link_at heap.old.space.words a - mark }
+    ensures graph { KeepsGraph heap.old heap.new }
+{
+    // Here the prover learns that the heap is sound.
+    let _ = heap.space();
+    let mut at = Addr(1);
+    while at.0 < heap.space().end() {
+        let next = heap.space().next_start(at);
+        let link = heap.space().link(at).saturating_sub(mark);
+        heap.set_link_word(OldAddr(at.0), link);
+        at = next;
     }
 }

@@ -39,6 +39,13 @@ impl Collection {
         self.scan_field
     }
 
+    /// Returns whether the links of originals are marked.
+    pub fn is_marked(&self) -> bool
+        ensures { result ≡ self.now.marked }
+    {
+        self.marked
+    }
+
     /// Returns the number of entries in mutator `m`'s log.
     pub fn log_len(&self, m: u8) -> usize
         requires { m < length self.now.logs }

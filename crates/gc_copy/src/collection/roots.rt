@@ -1,4 +1,4 @@
-ghost use Rattle.std.specs.Prelude.{IfSome, ◌≡◌, ◌≤◌, ◌<◌, ℕ, IfOk, IsTrue, length, None};
+ghost use Rattle.std.specs.Prelude.{IfSome, ◌≡◌, ◌≤◌, ◌<◌, ℕ, IfOk, OnOk, IsTrue, length, None};
 ghost use Rattle.std.specs.Option.{option_map};
 ghost use Rattle.gc_words.specs.Word.{value_of};
 ghost use Rattle.gc_graph.specs.Graph.{names_of, root};
@@ -82,10 +82,22 @@ impl Collection {
         requires done { IsTrue (roots_done_in (collection_in self.now) (graph_in heap.now)) }
         ensures { IfOk result (λ words. words.items ≡ new_root_words heap.now (collection_in self.now)) }
     {
-        let mut roots = Vec::with_capacity(alloc, heap.roots().len())?;
-        for word in heap.roots() {
-            roots.push(self.moved_word(heap, *word))?;
-        }
+        let mut roots = Vec::new(alloc);
+        self.move_roots(heap, &mut roots)?;
         Ok(roots)
+    }
+
+    /// Writes the same root words into a row, in the place of what is in it. Allocates at most once, and not at all if the row has room.
+    pub fn move_roots(&self, heap: &Heap, row: &mut Vec<u64>) -> Result<(), NoMemory>
+        requires belongs { BelongsTo heap.now self.now }
+        requires done { IsTrue (roots_done_in (collection_in self.now) (graph_in heap.now)) }
+        ensures { OnOk result (row.new.items ≡ new_root_words heap.now (collection_in self.now)) }
+    {
+        row.clear();
+        row.reserve_exact(heap.roots().len())?;
+        for word in heap.roots() {
+            row.push(self.moved_word(heap, *word))?;
+        }
+        Ok(())
     }
 }

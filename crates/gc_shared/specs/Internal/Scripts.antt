@@ -9,13 +9,13 @@ use Rattle.gc_shared.specs.Seats.{SeatValue}
 use Rattle.gc_shared.specs.Scripts.{script_at, IsUsefulStep}
 
 -- the events on a seat's receipts, in order
-abbrev pub events_of : SeatValue → List Event
-events_of seat = map (λ r. r.event) seat.receipts
+abbrev pub events_on : SeatValue → List Event
+events_on seat = map (λ r. r.event) seat.receipts
 
 -- the seat with this number has performed the commands of the script, in order, and nothing else
-pub record HasPlayed (number : ℕ) (script : List Op) (seat : SeatValue) : Type 0 where
+pub record HasPerformed (number : ℕ) (script : List Op) (seat : SeatValue) : Type 0 where
   pub same : seat.number ≡ number
-  pub events : events_of seat ≡ map (Mutate number) script
+  pub events : events_on seat ≡ map (Mutate number) script
 
 -- the seat with this number has performed this many useful steps, and nothing else
 pub record HasTurned (number turns : ℕ) (seat : SeatValue) : Type 0 where
@@ -26,10 +26,10 @@ pub record HasTurned (number turns : ℕ) (seat : SeatValue) : Type 0 where
 -- the first n seats have run their scripts
 pub record HavePlayed (scripts : List (Vec Op Global)) (n : ℕ) (seats : List SeatValue) : Type 0 where
   pub count : length seats ≡ n
-  pub each : (m : ℕ) (d : SeatValue) → m < n → HasPlayed m (script_at scripts m) (slice_index_or seats m d)
+  pub each : (m : ℕ) (d : SeatValue) → m < n → HasPerformed m (script_at scripts m) (slice_index_or seats m d)
 
 -- each mutator's seat has run its script, and the collector's seat, the last, has performed this many useful steps
 pub record HaveEnded (scripts : List (Vec Op Global)) (turns : ℕ) (seats : List SeatValue) : Type 0 where
   pub count : length seats ≡ length scripts + 1
-  pub each : (m : ℕ) (d : SeatValue) → m < length scripts → HasPlayed m (script_at scripts m) (slice_index_or seats m d)
+  pub each : (m : ℕ) (d : SeatValue) → m < length scripts → HasPerformed m (script_at scripts m) (slice_index_or seats m d)
   pub last : (d : SeatValue) → HasTurned (length scripts) turns (slice_index_or seats (length scripts) d)

@@ -110,11 +110,19 @@ fn words_at(words: &[u64], first: usize, second: usize) -> (Option<u64>, Option<
     (words.get(first).copied(), words.get(second).copied())
 }
 
+/// Returns the words of the mutators' space, with their exact links.
+fn copied_words(alloc: Global, heap: &CollectedHeap) -> Result<Vec<u64>, Fail> {
+    let mut words = Vec::from_slice(alloc, heap.image().words)?;
+    heap.copy_words(&mut words);
+    Ok(words)
+}
+
 #[test]
 fn words_of_an_open_collection(rt: HostRuntime) -> Result<(), Fail> {
     let heap = written_while_scanning(&rt, rt.alloc())?;
+    let words = copied_words(rt.alloc(), &heap)?;
     // The original's link is its replica, and the replica's its original.
-    assert_eq!(rt; words_at(heap.image().words, 2, 3), (Some(1), Some(19)));
+    assert_eq!(rt; words_at(&words, 2, 3), (Some(1), Some(19)));
     let new_words = heap.new_words().ok_or("no words")?;
     assert_eq!(rt; words_at(new_words, 2, 3), (Some(1), Some(0)));
     Ok(())

@@ -8,10 +8,10 @@ use Rattle.gc_trace.specs.declared.fault.PlayFault.TheVariants as plays
 use Rattle.gc_trace.specs.declared.fault.PlayFault.TheVariants.{Trace}
 
 -- the trace fault for a reader's fault
-abbrev pub fault_of_reading : ReadFault → TraceFault
-fault_of_reading reading.Read = Read
-fault_of_reading reading.TooLarge = TooLarge
-fault_of_reading reading.NoMemory = NoMemory
+abbrev pub trace_fault_of : ReadFault → TraceFault
+trace_fault_of reading.Read = Read
+trace_fault_of reading.TooLarge = TooLarge
+trace_fault_of reading.NoMemory = NoMemory
 
 -- the player's fault for a trace fault; out of memory is a fault of the player itself
 abbrev pub fault_of_trace : TraceFault → PlayFault

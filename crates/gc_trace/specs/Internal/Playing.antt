@@ -26,7 +26,7 @@ pub record HasPlayed (s : State) (events : List Event) (player : Player) : Type 
 pub record HasPlayedRest (lines : EventReader) (left : Option (List ℕ)) (player : Player) : Type 0 where
   pub events : List Event
   pub recording : IsRecording (read_so_far lines events)
-  pub played : HasPlayed (plays.opening (read_so_far lines [])) events player
+  pub played : HasPlayed (plays.trace_opening (read_so_far lines [])) events player
   pub read : (text : List ℕ) → HasRead text [] lines left → IsReadAsTrace (read_so_far lines events) text
 
 -- the results of playing the reader's trace; the reply lines are there if they were gathered
@@ -34,4 +34,4 @@ pub record HasResults (text : Option (List ℕ)) (gather : Gather) (played : Pla
   pub trace : Recording
   pub from : plays.IsTraceFrom text trace
   pub report : played.report ≡ plays.report_in trace
-  pub replies : gather ≡ Replies → played.replies.items ≡ reply_text (plays.answers trace)
+  pub replies : gather ≡ Replies → played.replies.items ≡ reply_text (plays.trace_answers trace)

@@ -2,7 +2,7 @@
 use Rattle.std.specs.Prelude.{◌≡◌, ◌+◌, ◌≤◌, ℕ, List, length, Option}
 use Rattle.gc_graph.specs.Pieces.{IsWithin}
 use Rattle.gc_plan.specs.declared.event.Event.{Event}
-use Rattle.gc_trace.specs.Faults.{limit, GoodBefore}
+use Rattle.gc_trace.specs.Faults.{trace_limit, GoodBefore}
 use Rattle.gc_trace.specs.Grammar.{Recording, IsHeading}
 use Rattle.gc_trace.specs.declared.event_reader.EventReader.{EventReader}
 
@@ -11,11 +11,11 @@ abbrev pub read_so_far : EventReader → List Event → Recording
 read_so_far reader events = record { version = reader.version; size = reader.size; mutators = reader.mutators; events = events }
 
 -- the heading is valid, and no more lines were counted than bytes were read
-pub record IsReading (reader : EventReader) : Type 0 where
+pub record IsReadingTrace (reader : EventReader) : Type 0 where
   pub heading : IsHeading reader.version reader.size reader.mutators
   pub counted : reader.number + length reader.pieces.waiting ≤ 3 + reader.pieces.read
-  pub bounded : reader.pieces.read ≤ limit
-  pub limit_is : reader.pieces.limit ≡ limit
+  pub bounded : reader.pieces.read ≤ trace_limit
+  pub limit_is : reader.pieces.limit ≡ trace_limit
 
 -- the lines of these events were read from the text, and these bytes are left in the source
 pub record HasRead (text : List ℕ) (events : List Event) (reader : EventReader) (left : Option (List ℕ)) : Type 0 where

@@ -6,9 +6,9 @@ use Rattle.gc_trace.specs.declared.fault.TraceFault.TheVariants as trace
 use Rattle.gcflip.specs.declared.commands.threads.ThreadsRunFault.{ThreadsRunFault}
 use Rattle.gcflip.specs.declared.commands.threads.ThreadsRunFault.TheVariants.{Trace, Threads, NoMemory}
 
-abbrev pub fault_of_trace : TraceFault → ThreadsRunFault
-fault_of_trace trace.NoMemory = NoMemory
-fault_of_trace fault = Trace fault
+abbrev pub threads_fault_of : TraceFault → ThreadsRunFault
+threads_fault_of trace.NoMemory = NoMemory
+threads_fault_of fault = Trace fault
 
 abbrev pub fault_of_threads : ThreadsFault → ThreadsRunFault
 fault_of_threads threads.NoMemory = NoMemory

@@ -1,6 +1,6 @@
 ghost use Rattle.std.specs.Prelude.{◌≡◌, ◌≢◌, ◌↔◌, true, IfSome, IfOk, IfErr, OnOk, OnErr, Err};
 ghost use Rattle.gc_graph.specs.Streams.{bytes_left, bytes_written, source_failed, sink_failed};
-ghost use Rattle.gc_trace.specs.Faults.{MayFail};
+ghost use Rattle.gc_trace.specs.Faults.{ReadingMayFail};
 ghost use Rattle.gc_trace.specs.declared.fault.TraceFault.{TraceFault};
 ghost use Rattle.gc_shared.specs.declared.fault.ThreadsFault.{ThreadsFault};
 ghost use Rattle.gcflip.specs.Outcomes.{IsOfThreads};
@@ -51,9 +51,9 @@ impl ThreadsRunFault {
 
 impl From<TraceFault> for ThreadsRunFault {
     ghost use Rattle.std.specs.Prelude.{◌≡◌};
-    ghost use Rattle.gcflip.specs.Internal.ThreadedRuns.{fault_of_trace};
+    ghost use Rattle.gcflip.specs.Internal.ThreadedRuns.{threads_fault_of};
 
-    ghost from_gives = { λ fault made. made ≡ fault_of_trace fault };
+    ghost from_gives = { λ fault made. made ≡ threads_fault_of fault };
 
     fn from(fault: TraceFault) -> ThreadsRunFault {
         match fault {
@@ -117,7 +117,7 @@ pub fn threads_run<R: Read, W: Write>(
         (bytes_written W.contents writer.old) (bytes_written W.contents writer.new)) }
     // A bad text gives its first fault.
     ensures fault { (fault : TraceFault) → result ≡ Err (ThreadsRunFault.Trace fault) →
-        IfSome (bytes_left R.remaining reader.old) (λ text. MayFail fault text) }
+        IfSome (bytes_left R.remaining reader.old) (λ text. ReadingMayFail fault text) }
     ensures memory { (result ≢ Err (ThreadsRunFault.Trace TraceFault.NoMemory))
         × (result ≢ Err (ThreadsRunFault.Threads ThreadsFault.NoMemory)) }
     ensures unread { (result ≡ Err (ThreadsRunFault.Trace TraceFault.Read)) ↔ (source_failed reader.new ≡ true) }
@@ -153,7 +153,7 @@ pub fn threads_from<R: Read, W: Write>(
     ensures threads { IfErr result IsOfThreads }
     // A bad text gives its first fault.
     ensures fault { (fault : TraceFault) → result ≡ Err (Fault.Threads (ThreadsRunFault.Trace fault)) →
-        IfSome (bytes_left R.remaining reader.old) (λ text. MayFail fault text) }
+        IfSome (bytes_left R.remaining reader.old) (λ text. ReadingMayFail fault text) }
     ensures memory { (result ≢ Err (Fault.Threads (ThreadsRunFault.Trace TraceFault.NoMemory)))
         × (result ≢ Err (Fault.Threads (ThreadsRunFault.Threads ThreadsFault.NoMemory))) }
     ensures unread { (result ≡ Err (Fault.Threads (ThreadsRunFault.Trace TraceFault.Read)))

@@ -1,5 +1,5 @@
-use Rattle.gc_copy.proofs.LinkedImages.{command_leaves, nothing_left, no_links_kept}
+use Rattle.gc_copy.proofs.LinkedImages.{command_leaves, nothing_left, no_links_kept, nothing_linked}
 use Rattle.gc_copy.proofs.laws.commands_keep_collections.Goals as goal
 
 pub returns : goal.returns
-returns c = record { but = command_leaves; none = nothing_left; idle = no_links_kept }
+returns c = record { but = command_leaves; none = nothing_left; idle = no_links_kept; nothing = nothing_linked }

@@ -1,4 +1,4 @@
-use Rattle.gc_copy.proofs.Room.{words_have_room}
+use Rattle.gc_copy.proofs.LargeSpaces.{words_have_room}
 use Rattle.gc_copy.proofs.laws.new_spaces_have_room.Goals as goal
 
 pub returns : goal.returns

@@ -10,7 +10,7 @@ use Rattle.gc_copy.specs.Words.{collection_in, state_of}
 use Rattle.gc_plan.proofs.Public.{roots_counted}
 use Rattle.gc_core.specs.ExtraRoots.{clear_step}
 use Rattle.gc_core.proofs.Marks.{clear_next}
-use Rattle.gc_core.proofs.OtherCommands.{still_fits, mutated}
+use Rattle.gc_core.proofs.OtherCommands.{still_fits, still_belongs, performed}
 use Rattle.gc_core.proofs.extra_roots.clear_each.Goals as goal
 
 pub loop-k-preserved : goal.loop-k-preserved
@@ -20,7 +20,7 @@ loop-k-preserved c =
     let o = c.args.collection.now in
     let op = Nil (extra_slot heap.mutators 0 c.loop-k.k) in
     let before : State = state_of heap (option_map collection_in o) in
-    let step = mutated heap new o 0 op c.clear-done.result c.space.ensures.sound (λ none. none) c.clear-done.ensures.performs c.loop-k.invariant.fits in
+    let step = performed heap new o 0 op c.clear-done.result c.space.ensures.sound (λ none. none) c.clear-done.ensures.performs c.loop-k.invariant.belongs in
     let rest = c.args.to - (c.loop-k.k + 1) in
     let count : length new.roots ≡ length heap.roots =
     sym (length-map new.roots value_of) ∙ sym (ap (λ (x : Reply × State). length x.1.heap.graph.roots) step) ∙ roots_counted before 0 op ∙ length-map heap.roots value_of in
@@ -29,7 +29,8 @@ loop-k-preserved c =
       rest = ap (λ (x : Reply × State). clear_step x.1 (c.loop-k.k + 1) rest) (sym step)
           ∙ sym (clear_next before c.loop-k.k (c.loop-k.k + 1) rest (c.args.to - c.loop-k.k) (omega (arith, c.loop-k-test.true)) (omega arith))
           ∙ c.loop-k.invariant.rest;
-      fits = still_fits heap new o 0 op c.clear-done.result c.space.ensures.sound (λ none. none) c.clear-done.ensures.performs c.loop-k.invariant.fits;
+      belongs = still_belongs heap new o 0 op c.clear-done.result c.space.ensures.sound (λ none. none) c.clear-done.ensures.performs c.loop-k.invariant.belongs;
+      fits = λ marked fits. still_fits marked heap new o 0 op c.clear-done.result c.space.ensures.sound (λ none. none) c.clear-done.ensures.performs (c.loop-k.invariant.fits marked fits);
       extra = omega (arith, count, mutators, c.loop-k.invariant.extra);
       mutators = mutators ∙ c.loop-k.invariant.mutators;
     }

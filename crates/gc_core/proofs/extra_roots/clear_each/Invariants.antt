@@ -1,9 +1,10 @@
-use Rattle.std.proofs.Common.{◌≡◌, ◌-◌}
+use Rattle.std.proofs.Common.{◌≡◌, ◌-◌, Bool}
 use Rattle.std.specs.Option.{option_map}
 use Rattle.gc_heap.specs.Heap.{extra_roots_in}
 use Rattle.gc_copy.specs.Words.{collection_in, state_of}
 use Rattle.gc_core.specs.ExtraRoots.{clear_step}
 use Rattle.gc_core.specs.Internal.CollectedHeap.{Fits}
+use Rattle.gc_core.proofs.OtherCommands.{BelongsIfOpen}
 use Rattle.gc_core.proofs.extra_roots.clear_each.Given as goal
 
 -- the roots so far are nil, and making the rest nil makes all nil
@@ -11,7 +12,8 @@ abbrev pub invariant-loop-k : goal.invariant-loop-k
 invariant-loop-k l = record {
   rest : clear_step (state_of l.heap (option_map collection_in l.collection)) l.k (l.to - l.k)
       ≡ clear_step (state_of l.fn.heap (option_map collection_in l.collection)) l.from (l.to - l.from);
-  fits : Fits l.heap l.collection;
+  belongs : BelongsIfOpen l.heap l.collection;
+  fits : (marked : Bool) → Fits marked l.fn.heap l.collection → Fits marked l.heap l.collection;
   extra : extra_roots_in l.heap ≡ extra_roots_in l.fn.heap;
   mutators : l.heap.mutators ≡ l.fn.heap.mutators;
 }

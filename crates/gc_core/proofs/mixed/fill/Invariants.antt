@@ -1,5 +1,5 @@
-use Rattle.std.proofs.Common.{◌≡◌, drop}
-use Rattle.gc_copy.specs.Words.{idle_state, HasNoLinks}
+use Rattle.std.proofs.Common.{◌≡◌, Bool, drop}
+use Rattle.gc_copy.specs.Words.{idle_state, LinksNothing}
 use Rattle.gc_core.specs.Mixed.{sources_step}
 use Rattle.gc_core.proofs.mixed.fill.Given as goal
 
@@ -7,6 +7,6 @@ use Rattle.gc_core.proofs.mixed.fill.Given as goal
 abbrev pub invariant-loop-i : goal.invariant-loop-i
 invariant-loop-i g l = record {
   rest : sources_step (idle_state l.heap) l.m l.d l.t l.i (drop l.i (g.R.SourceRow.sources l.fields)) ≡ sources_step (idle_state l.fn.heap) l.m l.d l.t 0 (g.R.SourceRow.sources l.fields);
-  links : HasNoLinks l.heap;
+  links : (marked : Bool) → LinksNothing marked l.fn.heap → LinksNothing marked l.heap;
   mutators : l.heap.mutators ≡ l.fn.heap.mutators;
 }

@@ -1,10 +1,10 @@
 use Rattle.std.proofs.Common.{◌≡◌, map, take}
 use Rattle.gc_plan.specs.declared.event.Event.TheVariants.{Mutate}
-use Rattle.gc_shared.specs.Internal.Scripts.{events_of}
+use Rattle.gc_shared.specs.Internal.Scripts.{events_on}
 use Rattle.gc_shared.proofs.script.play.Given as goal
 
 abbrev pub invariant-loop-n : goal.invariant-loop-n
 invariant-loop-n g l = record {
   same : l.seat.number ≡ l.fn.seat.number;
-  events : events_of l.seat ≡ map (Mutate l.fn.seat.number) (take l.n l.script);
+  events : events_on l.seat ≡ map (Mutate l.fn.seat.number) (take l.n l.script);
 }

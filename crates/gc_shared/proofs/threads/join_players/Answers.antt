@@ -1,7 +1,7 @@
 use Rattle.std.proofs.Common.{◌≡◌, ℕ, ◌+◌, ◌-◌, ◌≤◌, List, arith, subst, vec_len}
 use Rattle.std.specs.Vec.Iter.{into_iter_items, into_iter_len}
 use Rattle.gc_shared.specs.Scripts.{script_at}
-use Rattle.gc_shared.specs.Internal.Scripts.{HasPlayed}
+use Rattle.gc_shared.specs.Internal.Scripts.{HasPerformed}
 use Rattle.gc_shared.specs.Internal.Players.{Player, AreNext, IsToPlay}
 use Rattle.gc_shared.proofs.Players.{next_player, HavePlayed-more, on_ok, on_no_ok}
 use Rattle.gc_shared.proofs.threads.join_players.Goals as goal
@@ -40,7 +40,7 @@ loop-player-preserved-in-Ok g c =
     let t = turned g a in
     let mine = (turn g a).0 in
     let n = vec_len c.args.players - into_iter_len c.loop-player.player-iterator in
-    let played : HasPlayed n (script_at c.args.scripts.now n) c.in-Ok.seat = rw (mine.0, mine.1) at c.in-Ok.ensures in
+    let played : HasPerformed n (script_at c.args.scripts.now n) c.in-Ok.seat = rw (mine.0, mine.1) at c.in-Ok.ensures in
     record {
       left = t.left;
       rest = t.rest;

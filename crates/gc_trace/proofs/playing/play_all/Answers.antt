@@ -1,7 +1,7 @@
 use Rattle.std.proofs.Common.{◌∙◌}
 use Rattle.gc_trace.specs.Faults.{IsReadAsTrace}
 use Rattle.gc_trace.specs.Internal.Reading.{read_so_far}
-use Rattle.gc_trace.specs.Plays.{opening}
+use Rattle.gc_trace.specs.Plays.{trace_opening}
 use Rattle.gc_graph.proofs.Public.{if_known}
 use Rattle.gc_trace.proofs.playing.play_all.Goals as goal
 
@@ -13,6 +13,6 @@ returns-in-Ok-clause-played g c =
     record {
       trace = trace;
       from = record { recording = rest.recording; read = if_known {P = IsReadAsTrace trace} _ (λ text is. rest.read text (c.in_ok-lines.ensures.exact text is)) };
-      report = finished.report (opening trace) rest.events rest.played;
-      replies = λ gathered. finished.replies (opening trace) rest.events rest.played (c.take_all.ensures.gather ∙ c.in_ok-player.ensures.gather ∙ gathered);
+      report = finished.report (trace_opening trace) rest.events rest.played;
+      replies = λ gathered. finished.replies (trace_opening trace) rest.events rest.played (c.take_all.ensures.gather ∙ c.in_ok-player.ensures.gather ∙ gathered);
     }

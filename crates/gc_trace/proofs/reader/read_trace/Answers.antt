@@ -3,7 +3,7 @@ use Rattle.std.specs.Result.{is_ok}
 use Rattle.std.proofs.lemmas.Result.{err_from_is_err_and}
 use Rattle.gc_graph.specs.Streams.{source_failed}
 use Rattle.gc_trace.specs.Grammar.{Recording}
-use Rattle.gc_trace.specs.Faults.{IsReadAsTrace, MayFail}
+use Rattle.gc_trace.specs.Faults.{IsReadAsTrace, ReadingMayFail}
 use Rattle.gc_trace.specs.Internal.Reading.{read_so_far}
 use Rattle.gc_trace.specs.Views.{recording}
 use Rattle.gc_trace.proofs.Ranges.{in_range}
@@ -22,7 +22,7 @@ loop-events-init g c =
     }
 
 pub returns-in_err-event-clause-exact : goal.returns-in_err-event-clause-exact
-returns-in_err-event-clause-exact g c = if_known {P = λ text. MatchResult c.from_residual-in_err-event.result (λ t. IsReadAsTrace (recording t) text) (λ fault. MayFail fault text)} _ (λ text is.
+returns-in_err-event-clause-exact g c = if_known {P = λ text. MatchResult c.from_residual-in_err-event.result (λ t. IsReadAsTrace (recording t) text) (λ fault. ReadingMayFail fault text)} _ (λ text is.
     let p = err_from_is_err_and c.from_residual-in_err-event.result c.from_residual-in_err-event.ensures.1 in
     rw (p.1, p.2) (c.in_err-event.ensures.exact text c.loop-events.events.items (c.loop-events.invariant.read text is)))
 

@@ -1,12 +1,12 @@
 use Rattle.std.proofs.Common.{ℕ, List}
 use Rattle.gc_world.specs.declared.entry.Entry.{Entry}
-use Rattle.gc_trace.specs.Grammar.{heading, least_version}
+use Rattle.gc_trace.specs.Grammar.{trace_heading, least_version}
 use Rattle.gc_world.specs.History.{events_of}
 use Rattle.gc_trace.proofs.PrintedLines.{line_sent, line_failed, lines_sent, entry_line, whole_text}
 use Rattle.gc_trace.proofs.writer.write_trace.Goals as goal
 
 abbrev first_lines : ℕ → ℕ → List Entry → List ℕ
-first_lines size mutators history = heading (least_version (events_of history)) size mutators
+first_lines size mutators history = trace_heading (least_version (events_of history)) size mutators
 
 pub returns-in-Err-clause-err : goal.returns-in-Err-clause-err
 returns-in-Err-clause-err g c =

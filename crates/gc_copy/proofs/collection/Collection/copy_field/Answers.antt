@@ -1,23 +1,25 @@
 use Rattle.std.proofs.Common.{ap}
+use Rattle.gc_words.specs.Image.{blocks}
 use Rattle.gc_words.specs.Space.{SpaceWords}
 use Rattle.gc_copy.specs.Words.{CollectionWords}
 use Rattle.gc_copy.proofs.FieldWords.{read_in_heap}
+use Rattle.gc_copy.proofs.Spaces.{count_written}
 use Rattle.gc_copy.proofs.OpenCollection.{raw_present, Brought, copied_words}
 use Rattle.gc_copy.proofs.collection.Collection.copy_field.Goals as goal
 
 pub set_field-requires : goal.set_field-requires
-set_field-requires c = raw_present c.args.heap.now c.args.self.now _ c.args.original.0 c.args.field c.field-word.result c.args.replica.0 c.space.ensures.sound c.requires.raw c.self.invariant c.self.view_is
+set_field-requires c = raw_present c.args.heap.now c.args.self.now _ c.args.original.0 c.args.field c.field-word.result c.args.replica.0 c.space.ensures.sound c.requires.raw c.self.invariant.0 c.self.view_is
     c.requires.belongs (read_in_heap c.args.heap.now _ _ _ _ c.space.ensures.value c.field-word.ensures) c.requires.replica
 
-done : (c : goal.After-set_field) → Brought c.args.heap.now c.args.heap.now c.args.self.now (record { space = c.set_field.new.self; logs = c.self.inside.logs.items; scan_place = c.self.inside.scan_place.0; scan_field = c.self.inside.scan_field }) c.args.original.0 c.args.field
+done : (c : goal.After-set_field) → Brought c.args.heap.now c.args.heap.now c.args.self.now (record { space = c.set_field.new.self; logs = c.self.inside.logs.items; scan_place = c.self.inside.scan_place.0; scan_field = c.self.inside.scan_field; marked = c.self.inside.marked }) c.args.original.0 c.args.field
 done c =
-    let x : CollectionWords = record { space = c.self.inside.space; logs = c.self.inside.logs.items; scan_place = c.self.inside.scan_place.0; scan_field = c.self.inside.scan_field } in
-    copied_words c.args.heap.now c.args.self.now x c.args.original.0 c.args.field c.field-word.result c.args.replica.0 c.space.ensures.sound c.requires.raw c.self.invariant c.self.view_is
+    let x : CollectionWords = record { space = c.self.inside.space; logs = c.self.inside.logs.items; scan_place = c.self.inside.scan_place.0; scan_field = c.self.inside.scan_field; marked = c.self.inside.marked } in
+    copied_words c.args.heap.now c.args.self.now x c.args.original.0 c.args.field c.field-word.result c.args.replica.0 c.space.ensures.sound c.requires.raw c.self.invariant.0 c.self.view_is
     c.requires.belongs (read_in_heap c.args.heap.now _ _ _ _ c.space.ensures.value c.field-word.ensures) c.requires.replica
     (record x { space = c.set_field.new.self }) (ap (λ (s : SpaceWords). record x { space = s }) c.set_field.ensures.words)
 
 pub invariant_of-self : goal.invariant_of-self
-invariant_of-self c = (done c).sound
+invariant_of-self c = ((done c).sound, count_written c.self.inside.replicas (blocks c.self.inside.space.words) (blocks c.set_field.new.self.words) _ _ _ c.self.invariant.1 c.set_field.ensures.objects)
 
 pub returns-clause-brought : goal.returns-clause-brought
 returns-clause-brought c = (done c).brought

@@ -1,18 +1,17 @@
-use Rattle.std.proofs.Common.{arith, rules, ◌<◌, ℕ, length, sym, ap, ◌∙◌, subst}
+use Rattle.std.proofs.Common.{◌≡◌, arith, rules, ◌<◌, ℕ, List, false, length, sym, ap, ◌∙◌, subst}
 use Rattle.std.specs.Prelude.{◌^◌}
 use Rattle.gc_words.specs.Image.{is_start}
 use Rattle.gc_words.specs.Layout.{link_place}
 use Rattle.gc_words.specs.Space.{with_word}
 use Rattle.gc_heap.specs.Heap.{HeapWords}
-use Rattle.gc_copy.specs.Words.{idle_state, HasNoLinks}
+use Rattle.gc_copy.specs.Words.{CollectionWords, LinksNothing}
 use Rattle.gc_plan.specs.declared.step.StepReply.TheVariants.{Dropped}
-use Rattle.gc_copy.proofs.Flipping.{cleared_heap, dropped}
 use Rattle.gc_copy.proofs.ObjectWalks.{start_met}
-use Rattle.gc_copy.proofs.Dropping.{clears_none, original_here, clears_more, all_cleared}
+use Rattle.gc_copy.proofs.Dropping.{Clears, clears_none, original_here, clears_more, none_above, dropped_state, all_cleared}
 use Rattle.gc_copy.proofs.collection.Collection.drop_into.Goals as goal
 
 pub loop-at-init : goal.loop-at-init
-loop-at-init c = clears_none c.args.heap.now _ c.args.self c.self.view_is c.space.ensures.sound c.self.invariant c.requires
+loop-at-init c = clears_none c.args.heap.now _ c.args.self c.self.view_is c.space.ensures.sound c.self.invariant.0 c.requires
 
 pub link-requires : goal.link-requires
 link-requires c = start_met c.self.inside.space.words c.loop-at.at.0 c.loop-at.invariant.done c.loop-at.invariant.met (omega arith)
@@ -20,14 +19,14 @@ link-requires c = start_met c.self.inside.space.words c.loop-at.at.0 c.loop-at.i
 pub overflow_cast-original : goal.overflow_cast-original
 overflow_cast-original c =
     let less : c.loop-at.at.0 < length c.self.inside.space.words = omega arith in
-    let here = original_here c.self.inside.space.words c.args.heap.now c.loop-at.heap c.loop-at.at.0 c.loop-at.invariant less in
+    let here = original_here c.self.inside.marked c.self.inside.space.words c.args.heap.now c.loop-at.heap c.loop-at.at.0 c.loop-at.invariant less in
     let small : c.link.result < 2 ^ 32 = subst (λ n. n < 2 ^ 32) (sym c.link.ensures) here.1 in
     search rules
 
 pub set_link-requires : goal.set_link-requires
 set_link-requires c =
     let less : c.loop-at.at.0 < length c.self.inside.space.words = omega arith in
-    let here = original_here c.self.inside.space.words c.args.heap.now c.loop-at.heap c.loop-at.at.0 c.loop-at.invariant less in
+    let here = original_here c.self.inside.marked c.self.inside.space.words c.args.heap.now c.loop-at.heap c.loop-at.at.0 c.loop-at.invariant less in
     ap (is_start c.loop-at.heap.space.words) c.link.ensures ∙ here.0
 
 pub next_start-at-requires : goal.next_start-at-requires
@@ -37,17 +36,20 @@ pub loop-at-preserved : goal.loop-at-preserved
 loop-at-preserved c =
     let less : c.loop-at.at.0 < length c.self.inside.space.words = omega arith in
     let linked = c.set_link.ensures.words ∙ ap (λ (n : ℕ). record c.loop-at.heap { space = with_word c.loop-at.heap.space (link_place n) 0 }) c.link.ensures in
-    clears_more c.self.inside.space.words c.args.heap.now c.loop-at.heap c.set_link.new.self c.loop-at.at.0 c.next_start-at.result.0 c.loop-at.invariant less c.next_start-at.ensures.next linked c.set_link.ensures.sound
+    clears_more c.self.inside.marked c.self.inside.space.words c.args.heap.now c.loop-at.heap c.set_link.new.self c.loop-at.at.0 c.next_start-at.result.0 c.loop-at.invariant less c.next_start-at.ensures.next linked c.set_link.ensures.sound
+
+same_mark : (x c : CollectionWords) (words : List ℕ) (old now : HeapWords) (at : ℕ) → x ≡ c → c.marked ≡ false → Clears x.marked words old now at → Clears false words old now at
+same_mark x c words old now at seen plain k = subst (λ m. Clears m words old now at) (ap (λ (y : CollectionWords). y.marked) seen ∙ plain) k
 
 pub returns-clause-heap : goal.returns-clause-heap
-returns-clause-heap c = all_cleared c.self.inside.space.words c.args.heap.now c.loop-at.heap c.loop-at.at.0 c.loop-at.invariant (omega arith)
+returns-clause-heap c = λ plain. all_cleared c.self.inside.space.words c.args.heap.now c.loop-at.heap c.loop-at.at.0 (same_mark _ c.args.self _ _ _ _ c.self.view_is plain c.loop-at.invariant) (omega arith)
 
 pub returns-clause-step : goal.returns-clause-step
 returns-clause-step c =
-    let cleared = all_cleared c.self.inside.space.words c.args.heap.now c.loop-at.heap c.loop-at.at.0 c.loop-at.invariant (omega arith) in
-    dropped c.args.heap.now c.args.self c.space.ensures.sound ∙ ap (λ (h : HeapWords). (Dropped, idle_state h)) (sym cleared)
+    let same = dropped_state c.self.inside.marked c.self.inside.space.words c.args.heap.now c.loop-at.heap c.loop-at.at.0 c.loop-at.invariant in
+    λ i. (Dropped, sym same i)
 
 pub returns-clause-links : goal.returns-clause-links
 returns-clause-links c =
-    let cleared = all_cleared c.self.inside.space.words c.args.heap.now c.loop-at.heap c.loop-at.at.0 c.loop-at.invariant (omega arith) in
-    subst HasNoLinks (sym cleared) (cleared_heap c.args.heap.now c.space.ensures.sound)
+    subst (λ (y : CollectionWords). LinksNothing y.marked c.loop-at.heap) c.self.view_is
+    (none_above c.self.inside.marked c.self.inside.space.words c.args.heap.now c.loop-at.heap c.loop-at.at.0 c.loop-at.invariant (omega arith))

@@ -9,18 +9,18 @@ loop-m-init c = ap (λ (y : CollectionWords). first_log 0 (collection_in y).logs
 
 pub returns-then-not-is_empty : goal.returns-then-not-is_empty
 returns-then-not-is_empty c =
-    let x : CollectionWords = record { space = c.self.inside.space; logs = c.self.inside.logs.items; scan_place = c.self.inside.scan_place.0; scan_field = c.self.inside.scan_field } in
+    let x : CollectionWords = record { space = c.self.inside.space; logs = c.self.inside.logs.items; scan_place = c.self.inside.scan_place.0; scan_field = c.self.inside.scan_field; marked = c.self.inside.marked } in
     let less : c.loop-m.m < length x.logs = omega arith in
     sym (first_here x c.loop-m.m c.index.result.now (there_in x x c.loop-m.m c.index.result.now refl less c.index.ensures) (sym c.is_empty.ensures ∙ c.if-not-is_empty.true)) ∙ c.loop-m.invariant
 
 pub loop-m-preserved : goal.loop-m-preserved
 loop-m-preserved c =
-    let x : CollectionWords = record { space = c.self.inside.space; logs = c.self.inside.logs.items; scan_place = c.self.inside.scan_place.0; scan_field = c.self.inside.scan_field } in
+    let x : CollectionWords = record { space = c.self.inside.space; logs = c.self.inside.logs.items; scan_place = c.self.inside.scan_place.0; scan_field = c.self.inside.scan_field; marked = c.self.inside.marked } in
     let less : c.loop-m.m < length x.logs = omega arith in
     first_later x c.loop-m.m c.index.result.now (there_in x x c.loop-m.m c.index.result.now refl less c.index.ensures) (sym c.is_empty.ensures ∙ c.if-not-is_empty.false) ∙ c.loop-m.invariant
 
 pub returns : goal.returns
 returns c =
-    let x : CollectionWords = record { space = c.self.inside.space; logs = c.self.inside.logs.items; scan_place = c.self.inside.scan_place.0; scan_field = c.self.inside.scan_field } in
+    let x : CollectionWords = record { space = c.self.inside.space; logs = c.self.inside.logs.items; scan_place = c.self.inside.scan_place.0; scan_field = c.self.inside.scan_field; marked = c.self.inside.marked } in
     let past : length x.logs ≤ c.loop-m.m = omega arith in
     sym (first_none x c.loop-m.m past) ∙ c.loop-m.invariant

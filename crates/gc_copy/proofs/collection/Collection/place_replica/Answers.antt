@@ -1,6 +1,6 @@
-use Rattle.std.proofs.Common.{◌≡◌, ℕ, List, true, false, Some, None, refl, ap, sym, ◌∙◌, subst}
+use Rattle.std.proofs.Common.{◌≡◌, ℕ, ◌+◌, ◌<◌, ◌≤◌, length, arith, List, true, false, Some, None, refl, ap, sym, ◌∙◌, subst}
 use Rattle.gc_graph.specs.Graph.{lookup}
-use Rattle.gc_words.specs.Image.{header_at}
+use Rattle.gc_words.specs.Image.{blocks, header_at}
 use Rattle.gc_words.specs.declared.header.Header.{Header}
 use Rattle.gc_words.specs.Space.{HasRoomFor}
 use Rattle.gc_heap.specs.Heap.{graph_in}
@@ -8,6 +8,7 @@ use Rattle.gc_plan.specs.State.{replica_of}
 use Rattle.gc_plan.specs.Steps.{place_replica}
 use Rattle.gc_copy.specs.Words.{CollectionWords, collection_in, BelongsTo}
 use Rattle.gc_copy.specs.Internal.Words.{KeepsRest}
+use Rattle.gc_copy.proofs.Spaces.{count_small}
 use Rattle.gc_copy.proofs.OpenCollection.{Placing, placed_start, placing_done, full}
 use Rattle.gc_copy.proofs.collection.Collection.place_replica.Goals as goal
 
@@ -16,32 +17,40 @@ same_header words a g h e f = (let both : Some g ≡ Some h = sym e ∙ f in cc)
 
 pub returns-then-not-has_room-clause-full : goal.returns-then-not-has_room-clause-full
 returns-then-not-has_room-clause-full c =
-    let x : CollectionWords = record { space = c.self.inside.space; logs = c.self.inside.logs.items; scan_place = c.self.inside.scan_place.0; scan_field = c.self.inside.scan_field } in
+    let x : CollectionWords = record { space = c.self.inside.space; logs = c.self.inside.logs.items; scan_place = c.self.inside.scan_place.0; scan_field = c.self.inside.scan_field; marked = c.self.inside.marked } in
     let header : header_at c.args.heap.now.space.words c.args.original.0 ≡ Some c.header-header.result = subst (λ (s : Rattle.gc_words.specs.Space.SpaceWords). header_at s.words c.args.original.0 ≡ Some c.header-header.result) c.space.ensures.value c.header-header.ensures in
     let none : HasRoomFor x.space c.header-header.result.len → ⊥ = λ r. (let no : false ≡ true = sym c.if-not-has_room.true ∙ c.has_room.ensures.1 (subst (HasRoomFor x.space) (sym c.len.ensures) r) in absurd cc) in
-    (subst (λ y. place_replica (collection_in y) c.args.original.0 (lookup (graph_in c.args.heap.now).objects c.args.original.0) ≡ None) c.self.view_is (full c.args.heap.now x c.args.original.0 c.header-header.result c.space.ensures.sound c.self.invariant header none), refl, refl)
+    (subst (λ y. place_replica (collection_in y) c.args.original.0 (lookup (graph_in c.args.heap.now).objects c.args.original.0) ≡ None) c.self.view_is (full c.args.heap.now x c.args.original.0 c.header-header.result c.space.ensures.sound c.self.invariant.0 header none), refl, refl)
 
 pub set_link-requires : goal.set_link-requires
 set_link-requires c =
-    placed_start c.self.inside.space c.place_fresh-replica.new.space c.args.heap.now.space.words c.args.original.0 c.place_fresh-replica.result.0 c.self.invariant.space (c.space.ensures.sound.space).walked c.requires.start
+    placed_start c.self.inside.space c.place_fresh-replica.new.space c.args.heap.now.space.words c.args.original.0 c.place_fresh-replica.result.0 c.self.invariant.0.space (c.space.ensures.sound.space).walked c.requires.start
     (λ h e. subst (HasRoomFor c.self.inside.space) (ap (λ (g : Header). g.len) (same_header c.args.heap.now.space.words c.args.original.0 c.header-header.result h (subst (λ (s : Rattle.gc_words.specs.Space.SpaceWords). header_at s.words c.args.original.0 ≡ Some c.header-header.result) c.space.ensures.value c.header-header.ensures) e)) (subst (HasRoomFor c.self.inside.space) c.len.ensures (c.has_room.ensures.0 c.if-not-has_room.false)))
     c.place_fresh-replica.ensures.words c.place_fresh-replica.ensures.at
 
-made : (c : goal.After-set_link-2) → Placing c.args.heap.now c.set_link-2.new.self (record { space = c.self.inside.space; logs = c.self.inside.logs.items; scan_place = c.self.inside.scan_place.0; scan_field = c.self.inside.scan_field })
-    (record { space = c.set_link.new.self; logs = c.self.inside.logs.items; scan_place = c.self.inside.scan_place.0; scan_field = c.self.inside.scan_field }) c.args.original.0
+made : (c : goal.After-set_link_word) → Placing c.args.heap.now c.set_link_word.new.self (record { space = c.self.inside.space; logs = c.self.inside.logs.items; scan_place = c.self.inside.scan_place.0; scan_field = c.self.inside.scan_field; marked = c.self.inside.marked })
+    (record { space = c.set_link.new.self; logs = c.self.inside.logs.items; scan_place = c.self.inside.scan_place.0; scan_field = c.self.inside.scan_field; marked = c.self.inside.marked }) c.args.original.0
 made c =
-    let x : CollectionWords = record { space = c.self.inside.space; logs = c.self.inside.logs.items; scan_place = c.self.inside.scan_place.0; scan_field = c.self.inside.scan_field } in
+    let x : CollectionWords = record { space = c.self.inside.space; logs = c.self.inside.logs.items; scan_place = c.self.inside.scan_place.0; scan_field = c.self.inside.scan_field; marked = c.self.inside.marked } in
     let header : header_at c.args.heap.now.space.words c.args.original.0 ≡ Some c.header-header.result = subst (λ (s : Rattle.gc_words.specs.Space.SpaceWords). header_at s.words c.args.original.0 ≡ Some c.header-header.result) c.space.ensures.value c.header-header.ensures in
     let room : HasRoomFor x.space c.header-header.result.len = subst (HasRoomFor x.space) c.len.ensures (c.has_room.ensures.0 c.if-not-has_room.false) in
-    placing_done c.args.heap.now c.set_link-2.new.self x (record x { space = c.set_link.new.self }) c.args.original.0 c.place_fresh-replica.result.0 c.from.result c.place_fresh-replica.result.0 c.header-header.result c.place_fresh-replica.new.space
-    c.space.ensures.sound c.self.invariant (subst (BelongsTo c.args.heap.now) (sym c.self.view_is) c.requires.belongs) c.requires.start (subst (λ y. replica_of (collection_in y) c.args.original.0 ≡ None) (sym c.self.view_is) c.requires.missing)
-    header room c.place_fresh-replica.ensures.at c.place_fresh-replica.ensures.words c.from.ensures (ap (λ (s : Rattle.gc_words.specs.Space.SpaceWords). record x { space = s }) c.set_link.ensures.words) refl c.set_link-2.ensures.words
+    placing_done c.args.heap.now c.set_link_word.new.self x (record x { space = c.set_link.new.self }) c.args.original.0 c.place_fresh-replica.result.0 c.from.result _ c.header-header.result c.place_fresh-replica.new.space
+    c.space.ensures.sound c.self.invariant.0 (subst (BelongsTo c.args.heap.now) (sym c.self.view_is) c.requires.belongs) c.requires.start (subst (λ y. replica_of (collection_in y) c.args.original.0 ≡ None) (sym c.self.view_is) c.requires.missing)
+    header room c.place_fresh-replica.ensures.at c.place_fresh-replica.ensures.words c.from.ensures (ap (λ (s : Rattle.gc_words.specs.Space.SpaceWords). record x { space = s }) c.set_link.ensures.words) (λ i. c.link_mark.ensures i + c.from-2.ensures i) c.set_link_word.ensures.words
 
 pub invariant_of-self : goal.invariant_of-self
-invariant_of-self c = (made c).sound
+invariant_of-self c = ((made c).sound, (made c).counted c.self.inside.replicas c.self.invariant.1)
+
+pub overflow_add-self : goal.overflow_add-self
+overflow_add-self c =
+    let small : length (blocks c.self.inside.space.words) + length (blocks c.self.inside.space.words) < length c.self.inside.space.words = count_small c.self.inside.space c.self.invariant.0.space in
+    let counted : c.self.inside.replicas ≡ length (blocks c.self.inside.space.words) = c.self.invariant.1 in
+    let high : length c.self.inside.space.words ≤ c.self.inside.space.size = (c.self.invariant.0.space).end_high in
+    let size : c.self.inside.space.size ≤ 4294967295 = (c.self.invariant.0.space).size_high in
+    omega arith
 
 pub returns-clause-placed : goal.returns-clause-placed
-returns-clause-placed c = let m = made c in subst (λ y. place_replica (collection_in y) c.args.original.0 (lookup (graph_in c.args.heap.now).objects c.args.original.0) ≡ Some (collection_in (record { space = c.set_link.new.self; logs = c.self.inside.logs.items; scan_place = c.self.inside.scan_place.0; scan_field = c.self.inside.scan_field }))) c.self.view_is m.placed
+returns-clause-placed c = let m = made c in subst (λ y. place_replica (collection_in y) c.args.original.0 (lookup (graph_in c.args.heap.now).objects c.args.original.0) ≡ Some (collection_in (record { space = c.set_link.new.self; logs = c.self.inside.logs.items; scan_place = c.self.inside.scan_place.0; scan_field = c.self.inside.scan_field; marked = c.self.inside.marked }))) c.self.view_is m.placed
 
 pub returns-clause-belongs : goal.returns-clause-belongs
 returns-clause-belongs c = (made c).belongs
@@ -52,4 +61,4 @@ returns-clause-graph c = (made c).graph
 pub returns-clause-rest : goal.returns-clause-rest
 returns-clause-rest c =
     let m = made c in
-    subst (λ y. KeepsRest y (record { space = c.set_link.new.self; logs = c.self.inside.logs.items; scan_place = c.self.inside.scan_place.0; scan_field = c.self.inside.scan_field })) c.self.view_is m.rest
+    subst (λ y. KeepsRest y (record { space = c.set_link.new.self; logs = c.self.inside.logs.items; scan_place = c.self.inside.scan_place.0; scan_field = c.self.inside.scan_field; marked = c.self.inside.marked })) c.self.view_is m.rest

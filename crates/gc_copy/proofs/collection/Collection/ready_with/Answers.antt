@@ -21,7 +21,7 @@ returns-else-scan_done-clause-ready c =
 
 pub returns-then-scan_done-clause-certified : goal.returns-then-scan_done-clause-certified
 returns-then-scan_done-clause-certified c = λ t.
-    let sound : IsCollection c.args.self.now = subst IsCollection c.self.view_is c.self.invariant in
+    let sound : IsCollection c.args.self.now = subst IsCollection c.self.view_is c.self.invariant.0 in
     c.images_show_links.ensures.certified c.args.heap.now c.args.self.now c.space.ensures.sound sound c.requires.belongs (sym (returns-then-scan_done-clause-ready c) ∙ t)
 
 pub returns-else-scan_done-clause-certified : goal.returns-else-scan_done-clause-certified

@@ -18,5 +18,5 @@ returns-in-Err-clause-step c = search rules
 
 pub returns-in-Err-clause-room : goal.returns-in-Err-clause-room
 returns-in-Err-clause-room c larger same =
-    c.new_spaces_have_room.ensures c.args.heap.now c.args.self.now steps.Roots c.space.ensures.sound (subst IsCollection c.self.view_is c.self.invariant) c.requires.belongs larger
+    c.new_spaces_have_room.ensures c.args.heap.now c.args.self.now steps.Roots c.space.ensures.sound (subst IsCollection c.self.view_is c.self.invariant.0) c.requires.belongs larger
     (ap (λ (next : StepReply × State). next.0) (returns-in-Err-clause-step c))

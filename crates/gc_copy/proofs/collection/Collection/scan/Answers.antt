@@ -26,64 +26,64 @@ not_scanned false field len e = (refl, eqb-false field len e)
 
 pub header-header-requires : goal.header-header-requires
 header-header-requires c =
-    let x : CollectionWords = record { space = c.self.inside.space; logs = c.self.inside.logs.items; scan_place = c.self.inside.scan_place.0; scan_field = c.self.inside.scan_field } in
+    let x : CollectionWords = record { space = c.self.inside.space; logs = c.self.inside.logs.items; scan_place = c.self.inside.scan_place.0; scan_field = c.self.inside.scan_field; marked = c.self.inside.marked } in
     let k : BelongsTo c.args.heap.now x = subst (BelongsTo c.args.heap.now) (sym c.self.view_is) c.requires in
     let more : scan_done (collection_in x) ≡ false = ap (λ (y : CollectionWords). scan_done (collection_in y)) c.self.view_is ∙ sym c.scan_done.ensures ∙ c.if-scan_done.false in
-    start c.args.heap.now x c.self.invariant k more
+    start c.args.heap.now x c.self.invariant.0 k more
 
 pub next_start-self-inside-requires : goal.next_start-self-inside-requires
 next_start-self-inside-requires c =
-    let x : CollectionWords = record { space = c.self.inside.space; logs = c.self.inside.logs.items; scan_place = c.self.inside.scan_place.0; scan_field = c.self.inside.scan_field } in
+    let x : CollectionWords = record { space = c.self.inside.space; logs = c.self.inside.logs.items; scan_place = c.self.inside.scan_place.0; scan_field = c.self.inside.scan_field; marked = c.self.inside.marked } in
     let k : BelongsTo c.args.heap.now x = subst (BelongsTo c.args.heap.now) (sym c.self.view_is) c.requires in
     let more : scan_done (collection_in x) ≡ false = ap (λ (y : CollectionWords). scan_done (collection_in y)) c.self.view_is ∙ sym c.scan_done.ensures ∙ c.if-scan_done.false in
-    start c.args.heap.now x c.self.invariant k more
+    start c.args.heap.now x c.self.invariant.0 k more
 
 pub returns-then-is_scanned-clause-step : goal.returns-then-is_scanned-clause-step
 returns-then-is_scanned-clause-step c =
-    let x : CollectionWords = record { space = c.self.inside.space; logs = c.self.inside.logs.items; scan_place = c.self.inside.scan_place.0; scan_field = c.self.inside.scan_field } in
+    let x : CollectionWords = record { space = c.self.inside.space; logs = c.self.inside.logs.items; scan_place = c.self.inside.scan_place.0; scan_field = c.self.inside.scan_field; marked = c.self.inside.marked } in
     let k : BelongsTo c.args.heap.now x = subst (BelongsTo c.args.heap.now) (sym c.self.view_is) c.requires in
     let more : scan_done (collection_in x) ≡ false = ap (λ (y : CollectionWords). scan_done (collection_in y)) c.self.view_is ∙ sym c.scan_done.ensures ∙ c.if-scan_done.false in
     subst (λ y. scan (open_state c.args.heap.now y) (collection_in y) ≡ (Passed, open_state c.args.heap.now (record x { scan_place = c.next_start-self-inside.result.0; scan_field = 0 }))) c.self.view_is
-    (passed c.args.heap.now x c.self.invariant k more c.header-header.result c.header-header.ensures (scanned_by c.header-header.result.raw c.self.inside.scan_field c.header-header.result.len (sym c.is_scanned.ensures ∙ c.if-is_scanned.true)) c.next_start-self-inside.result.0 (c.next_start-self-inside.ensures.place c.header-header.result c.header-header.ensures))
+    (passed c.args.heap.now x c.self.invariant.0 k more c.header-header.result c.header-header.ensures (scanned_by c.header-header.result.raw c.self.inside.scan_field c.header-header.result.len (sym c.is_scanned.ensures ∙ c.if-is_scanned.true)) c.next_start-self-inside.result.0 (c.next_start-self-inside.ensures.place c.header-header.result c.header-header.ensures))
 
 pub returns-then-is_scanned-clause-belongs : goal.returns-then-is_scanned-clause-belongs
 returns-then-is_scanned-clause-belongs c =
-    let x : CollectionWords = record { space = c.self.inside.space; logs = c.self.inside.logs.items; scan_place = c.self.inside.scan_place.0; scan_field = c.self.inside.scan_field } in
+    let x : CollectionWords = record { space = c.self.inside.space; logs = c.self.inside.logs.items; scan_place = c.self.inside.scan_place.0; scan_field = c.self.inside.scan_field; marked = c.self.inside.marked } in
     let k : BelongsTo c.args.heap.now x = subst (BelongsTo c.args.heap.now) (sym c.self.view_is) c.requires in
     let more : scan_done (collection_in x) ≡ false = ap (λ (y : CollectionWords). scan_done (collection_in y)) c.self.view_is ∙ sym c.scan_done.ensures ∙ c.if-scan_done.false in
-    passed_belongs c.args.heap.now x c.self.invariant k more c.header-header.result c.header-header.ensures (scanned_by c.header-header.result.raw c.self.inside.scan_field c.header-header.result.len (sym c.is_scanned.ensures ∙ c.if-is_scanned.true)) c.next_start-self-inside.result.0 (c.next_start-self-inside.ensures.place c.header-header.result c.header-header.ensures)
+    passed_belongs c.args.heap.now x c.self.invariant.0 k more c.header-header.result c.header-header.ensures (scanned_by c.header-header.result.raw c.self.inside.scan_field c.header-header.result.len (sym c.is_scanned.ensures ∙ c.if-is_scanned.true)) c.next_start-self-inside.result.0 (c.next_start-self-inside.ensures.place c.header-header.result c.header-header.ensures)
 
 pub overflow_cast-original : goal.overflow_cast-original
 overflow_cast-original c =
-    let x : CollectionWords = record { space = c.self.inside.space; logs = c.self.inside.logs.items; scan_place = c.self.inside.scan_place.0; scan_field = c.self.inside.scan_field } in
+    let x : CollectionWords = record { space = c.self.inside.space; logs = c.self.inside.logs.items; scan_place = c.self.inside.scan_place.0; scan_field = c.self.inside.scan_field; marked = c.self.inside.marked } in
     let k : BelongsTo c.args.heap.now x = subst (BelongsTo c.args.heap.now) (sym c.self.view_is) c.requires in
     let more : scan_done (collection_in x) ≡ false = ap (λ (y : CollectionWords). scan_done (collection_in y)) c.self.view_is ∙ sym c.scan_done.ensures ∙ c.if-scan_done.false in
-    let fits : c.link.result < 2 ^ 32 = subst (λ n. n < 2 ^ 32) (sym c.link.ensures) (small c.args.heap.now x c.self.invariant k more) in
+    let fits : c.link.result < 2 ^ 32 = subst (λ n. n < 2 ^ 32) (sym c.link.ensures) (small c.args.heap.now x c.self.invariant.0 k more) in
     search rules
 
 pub bring_up_to_date-requires-clause-field : goal.bring_up_to_date-requires-clause-field
 bring_up_to_date-requires-clause-field c =
-    let x : CollectionWords = record { space = c.self.inside.space; logs = c.self.inside.logs.items; scan_place = c.self.inside.scan_place.0; scan_field = c.self.inside.scan_field } in
+    let x : CollectionWords = record { space = c.self.inside.space; logs = c.self.inside.logs.items; scan_place = c.self.inside.scan_place.0; scan_field = c.self.inside.scan_field; marked = c.self.inside.marked } in
     let k : BelongsTo c.args.heap.now x = subst (BelongsTo c.args.heap.now) (sym c.self.view_is) c.requires in
     let more : scan_done (collection_in x) ≡ false = ap (λ (y : CollectionWords). scan_done (collection_in y)) c.self.view_is ∙ sym c.scan_done.ensures ∙ c.if-scan_done.false in
     subst (λ a. IsSome (field_at c.args.heap.now.space.words a c.self.inside.scan_field)) (sym c.link.ensures)
-    (field_there c.args.heap.now x c.self.invariant k more c.header-header.result c.header-header.ensures (not_scanned c.header-header.result.raw c.self.inside.scan_field c.header-header.result.len (sym c.is_scanned.ensures ∙ c.if-is_scanned.false)).1)
+    (field_there c.args.heap.now x c.self.invariant.0 k more c.header-header.result c.header-header.ensures (not_scanned c.header-header.result.raw c.self.inside.scan_field c.header-header.result.len (sym c.is_scanned.ensures ∙ c.if-is_scanned.false)).1)
 
 pub bring_up_to_date-requires-clause-replica : goal.bring_up_to_date-requires-clause-replica
 bring_up_to_date-requires-clause-replica c =
-    let x : CollectionWords = record { space = c.self.inside.space; logs = c.self.inside.logs.items; scan_place = c.self.inside.scan_place.0; scan_field = c.self.inside.scan_field } in
+    let x : CollectionWords = record { space = c.self.inside.space; logs = c.self.inside.logs.items; scan_place = c.self.inside.scan_place.0; scan_field = c.self.inside.scan_field; marked = c.self.inside.marked } in
     let k : BelongsTo c.args.heap.now x = subst (BelongsTo c.args.heap.now) (sym c.self.view_is) c.requires in
     let more : scan_done (collection_in x) ≡ false = ap (λ (y : CollectionWords). scan_done (collection_in y)) c.self.view_is ∙ sym c.scan_done.ensures ∙ c.if-scan_done.false in
     subst (λ y. option_map (λ (r : Replica). r.place) (replica_of (collection_in y) c.link.result) ≡ Some c.self.inside.scan_place.0) c.self.view_is
-    (subst (λ a. option_map (λ (r : Replica). r.place) (replica_of (collection_in x) a) ≡ Some c.self.inside.scan_place.0) (sym c.link.ensures) (replica c.args.heap.now x c.self.invariant k more))
+    (subst (λ a. option_map (λ (r : Replica). r.place) (replica_of (collection_in x) a) ≡ Some c.self.inside.scan_place.0) (sym c.link.ensures) (replica c.args.heap.now x c.self.invariant.0 k more))
 
 pub overflow_add-self : goal.overflow_add-self
 overflow_add-self c =
-    let x : CollectionWords = record { space = c.self.inside.space; logs = c.self.inside.logs.items; scan_place = c.self.inside.scan_place.0; scan_field = c.self.inside.scan_field } in
+    let x : CollectionWords = record { space = c.self.inside.space; logs = c.self.inside.logs.items; scan_place = c.self.inside.scan_place.0; scan_field = c.self.inside.scan_field; marked = c.self.inside.marked } in
     let k : BelongsTo c.args.heap.now x = subst (BelongsTo c.args.heap.now) (sym c.self.view_is) c.requires in
     let more : scan_done (collection_in x) ≡ false = ap (λ (y : CollectionWords). scan_done (collection_in y)) c.self.view_is ∙ sym c.scan_done.ensures ∙ c.if-scan_done.false in
-    let most = next_small c.args.heap.now x c.self.invariant k more c.header-header.result c.header-header.ensures (not_scanned c.header-header.result.raw c.self.inside.scan_field c.header-header.result.len (sym c.is_scanned.ensures ∙ c.if-is_scanned.false)).1 in
-    let fits : c.self.inside.scan_field + 1 < 2 ^ 16 = (let t = len_small c.args.heap.now x c.self.invariant k more c.header-header.result c.header-header.ensures in omega (arith, most, t)) in
+    let most = next_small c.args.heap.now x c.self.invariant.0 k more c.header-header.result c.header-header.ensures (not_scanned c.header-header.result.raw c.self.inside.scan_field c.header-header.result.len (sym c.is_scanned.ensures ∙ c.if-is_scanned.false)).1 in
+    let fits : c.self.inside.scan_field + 1 < 2 ^ 16 = (let t = len_small c.args.heap.now x c.self.invariant.0 k more c.header-header.result c.header-header.ensures in omega (arith, most, t)) in
     search rules
 
 -- a call's clause on whole collections, restated for their parts
@@ -96,31 +96,31 @@ brought_here heap x c after one a link i e f g b =
 
 pub returns-in-Ok-clause-step : goal.returns-in-Ok-clause-step
 returns-in-Ok-clause-step c =
-    let x : CollectionWords = record { space = c.self.inside.space; logs = c.self.inside.logs.items; scan_place = c.self.inside.scan_place.0; scan_field = c.self.inside.scan_field } in
+    let x : CollectionWords = record { space = c.self.inside.space; logs = c.self.inside.logs.items; scan_place = c.self.inside.scan_place.0; scan_field = c.self.inside.scan_field; marked = c.self.inside.marked } in
     let k : BelongsTo c.args.heap.now x = subst (BelongsTo c.args.heap.now) (sym c.self.view_is) c.requires in
     let more : scan_done (collection_in x) ≡ false = ap (λ (y : CollectionWords). scan_done (collection_in y)) c.self.view_is ∙ sym c.scan_done.ensures ∙ c.if-scan_done.false in
     let left = not_scanned c.header-header.result.raw c.self.inside.scan_field c.header-header.result.len (sym c.is_scanned.ensures ∙ c.if-is_scanned.false) in
-    let after : CollectionWords = record { space = c.self-2.inside.space; logs = c.self-2.inside.logs.items; scan_place = c.self-2.inside.scan_place.0; scan_field = c.self-2.inside.scan_field } in
+    let after : CollectionWords = record { space = c.self-2.inside.space; logs = c.self-2.inside.logs.items; scan_place = c.self-2.inside.scan_place.0; scan_field = c.self-2.inside.scan_field; marked = c.self-2.inside.marked } in
     let rest : KeepsRest x after = kept x c.args.self.now after c.bring_up_to_date.new.self c.self.view_is c.self-2.view_is c.in-Ok.ensures.rest in
     let brought = brought_here c.args.heap.now x c.args.self.now after c.bring_up_to_date.new.self c.link.result (link_at x.space.words x.scan_place) x.scan_field c.self.view_is c.self-2.view_is c.link.ensures c.in-Ok.ensures.brought in
     subst (λ y. scan (open_state c.args.heap.now y) (collection_in y) ≡ (Scanned, open_state c.bring_up_to_date.new.heap (record after { scan_field = c.self.inside.scan_field + 1 }))) c.self.view_is
-    (scanned c.args.heap.now x c.self.invariant k more c.header-header.result c.header-header.ensures left.0 left.1 c.bring_up_to_date.new.heap after c.in-Ok.ensures.graph rest brought)
+    (scanned c.args.heap.now x c.self.invariant.0 k more c.header-header.result c.header-header.ensures left.0 left.1 c.bring_up_to_date.new.heap after c.in-Ok.ensures.graph rest brought)
 
 pub returns-in-Ok-clause-belongs : goal.returns-in-Ok-clause-belongs
 returns-in-Ok-clause-belongs c =
-    let x : CollectionWords = record { space = c.self.inside.space; logs = c.self.inside.logs.items; scan_place = c.self.inside.scan_place.0; scan_field = c.self.inside.scan_field } in
+    let x : CollectionWords = record { space = c.self.inside.space; logs = c.self.inside.logs.items; scan_place = c.self.inside.scan_place.0; scan_field = c.self.inside.scan_field; marked = c.self.inside.marked } in
     let k : BelongsTo c.args.heap.now x = subst (BelongsTo c.args.heap.now) (sym c.self.view_is) c.requires in
     let more : scan_done (collection_in x) ≡ false = ap (λ (y : CollectionWords). scan_done (collection_in y)) c.self.view_is ∙ sym c.scan_done.ensures ∙ c.if-scan_done.false in
     let left = not_scanned c.header-header.result.raw c.self.inside.scan_field c.header-header.result.len (sym c.is_scanned.ensures ∙ c.if-is_scanned.false) in
-    let after : CollectionWords = record { space = c.self-2.inside.space; logs = c.self-2.inside.logs.items; scan_place = c.self-2.inside.scan_place.0; scan_field = c.self-2.inside.scan_field } in
+    let after : CollectionWords = record { space = c.self-2.inside.space; logs = c.self-2.inside.logs.items; scan_place = c.self-2.inside.scan_place.0; scan_field = c.self-2.inside.scan_field; marked = c.self-2.inside.marked } in
     let rest : KeepsRest x after = kept x c.args.self.now after c.bring_up_to_date.new.self c.self.view_is c.self-2.view_is c.in-Ok.ensures.rest in
     let brought = brought_here c.args.heap.now x c.args.self.now after c.bring_up_to_date.new.self c.link.result (link_at x.space.words x.scan_place) x.scan_field c.self.view_is c.self-2.view_is c.link.ensures c.in-Ok.ensures.brought in
-    scanned_belongs c.args.heap.now x c.self.invariant k more c.header-header.result c.header-header.ensures left.0 left.1 c.bring_up_to_date.new.heap after c.in-Ok.ensures.graph rest
+    scanned_belongs c.args.heap.now x c.self.invariant.0 k more c.header-header.result c.header-header.ensures left.0 left.1 c.bring_up_to_date.new.heap after c.in-Ok.ensures.graph rest
     (subst (BelongsTo c.bring_up_to_date.new.heap) (sym c.self-2.view_is) c.in-Ok.ensures.belongs) brought
 
 pub returns-in-Err-clause-step : goal.returns-in-Err-clause-step
 returns-in-Err-clause-step c =
-    let x : CollectionWords = record { space = c.self.inside.space; logs = c.self.inside.logs.items; scan_place = c.self.inside.scan_place.0; scan_field = c.self.inside.scan_field } in
+    let x : CollectionWords = record { space = c.self.inside.space; logs = c.self.inside.logs.items; scan_place = c.self.inside.scan_place.0; scan_field = c.self.inside.scan_field; marked = c.self.inside.marked } in
     let k : BelongsTo c.args.heap.now x = subst (BelongsTo c.args.heap.now) (sym c.self.view_is) c.requires in
     let more : scan_done (collection_in x) ≡ false = ap (λ (y : CollectionWords). scan_done (collection_in y)) c.self.view_is ∙ sym c.scan_done.ensures ∙ c.if-scan_done.false in
     let left = not_scanned c.header-header.result.raw c.self.inside.scan_field c.header-header.result.len (sym c.is_scanned.ensures ∙ c.if-is_scanned.false) in
@@ -128,10 +128,10 @@ returns-in-Err-clause-step c =
     let none : bring_up_to_date (collection_in x) (graph_in c.args.heap.now) (link_at x.space.words x.scan_place) x.scan_field ≡ None
     = ap (λ (y : CollectionWords). bring_up_to_date (collection_in y) (graph_in c.args.heap.now) (link_at x.space.words x.scan_place) x.scan_field) c.self.view_is
     ∙ ap (λ n. bring_up_to_date (collection_in c.args.self.now) (graph_in c.args.heap.now) n x.scan_field) (sym c.link.ensures) ∙ full.0 in
-    subst (λ y. scan (open_state c.args.heap.now y) (collection_in y) ≡ (NoRoom, open_state c.args.heap.now y)) c.self.view_is (no_room c.args.heap.now x c.self.invariant k more c.header-header.result c.header-header.ensures left.0 left.1 none)
+    subst (λ y. scan (open_state c.args.heap.now y) (collection_in y) ≡ (NoRoom, open_state c.args.heap.now y)) c.self.view_is (no_room c.args.heap.now x c.self.invariant.0 k more c.header-header.result c.header-header.ensures left.0 left.1 none)
     ∙ (λ i. (NoRoom, open_state (sym full.2 i) (sym full.1 i)))
 
 pub returns-in-Err-clause-room : goal.returns-in-Err-clause-room
 returns-in-Err-clause-room c larger same =
-    c.new_spaces_have_room.ensures c.args.heap.now c.args.self.now steps.Scan c.space.ensures.sound (subst IsCollection c.self.view_is c.self.invariant) c.requires larger
+    c.new_spaces_have_room.ensures c.args.heap.now c.args.self.now steps.Scan c.space.ensures.sound (subst IsCollection c.self.view_is c.self.invariant.0) c.requires larger
     (ap (λ (next : StepReply × State). next.0) (returns-in-Err-clause-step c))

@@ -1,5 +1,6 @@
-use Rattle.std.proofs.Common.{refl, sym, ◌∙◌, subst}
+use Rattle.std.proofs.Common.{true, refl, sym, ◌∙◌, ap, subst}
 use Rattle.std.specs.Option.{option_map}
+use Rattle.gc_heap.specs.Heap.{HeapWords}
 use Rattle.gc_copy.specs.Words.{collection_in, state_of, open_state, idle_state}
 use Rattle.gc_core.specs.Flip.{HasAccepted}
 use Rattle.gc_core.specs.Internal.CollectedHeap.{Fits}
@@ -12,12 +13,13 @@ pub returns-clause-along : goal.returns-clause-along
 returns-clause-along g c unasked pairs told =
     pair_now (HasAccepted (g.W.Watcher.accepted c.args.along.now)) c.self.inside.heap c.self.inside.collection c.in-Some.collection c.args.self.now c.in-Some.is c.self.view_is (c.is_accepted.ensures.yes c.if-not-is_accepted.false)
 
-pub invariant_of-self : goal.invariant_of-self
-invariant_of-self g c =
+pub invariant_of-self-2 : goal.invariant_of-self-2
+invariant_of-self-2 g c =
     let heap = c.self.inside.heap in
-    let new = c.carry_out_along.new.heap in
+    let new = c.flip_marked-room.new.heap in
     let known = c.self.inside.known in
     let was = sym c.take.ensures.value ∙ c.unwrap-collection.ensures in
     let before = subst (λ o. KnowsRoots known (state_of heap (option_map collection_in o))) was c.self.invariant.1 in
-    subst (λ o. Fits new o × KnowsRoots known (state_of new (option_map collection_in o))) (sym c.take.ensures.after)
-    (c.carry_out_along.ensures.links, flipped_knows known (open_state heap c.unwrap-collection.result) (idle_state new) c.carry_out_along.result refl c.carry_out_along.ensures.mutators c.carry_out_along.ensures.step before)
+    let count = ap (λ (h : HeapWords). h.mutators) c.flip_marked-room.ensures.heap in
+    subst (λ o. Fits true new o × KnowsRoots known (state_of new (option_map collection_in o))) (sym c.take.ensures.after)
+    (c.flip_marked-room.ensures.links, flipped_knows known (open_state heap c.unwrap-collection.result) (idle_state new) _ refl count c.flip_marked-room.ensures.step before)

@@ -35,7 +35,7 @@ invariant_of-self-in-Some c =
       lives_copied s c.copy_fields-2.new.self c.args.m c.args.to c.args.from c.args.count c.in-Some.object.0 c.args.d c.args.s c.args.t c.self.inside.watch c.tell_written.new.watch c.is_sound.ensures.open c.requires.target at low done
           (subst (λ n. ToldWritten c.in-Some.object.0 c.args.to n c.self.inside.watch c.tell_written.new.watch) c.from.ensures c.tell_written.ensures.written) some c.self.invariant.0,
       λ on. lasts_copied s c.copy_fields-2.new.self c.args.m c.args.to c.args.from c.args.count c.in-Some.object.0 c.args.d c.args.s c.args.t _ c.self.inside.watch c.tell_written.new.watch c.is_sound.ensures.open c.is_sound-2.ensures.open c.is_sound-2.ensures.heap less c.requires.target at
-          all done some (ap (λ (image : Image). image.words) c.image.ensures) (truly_counted _ c.in-Some.object.0 c.args.to _ c.args.count c.self.inside.watch c.tell_written.new.watch c.from.ensures c.tell_written.ensures.truly) c.self.invariant.0 (c.self.invariant.1 on),
+          all done some (c.image.ensures.shows.0, c.image.ensures.shows.1, ap (λ (image : Image). image.words) c.image.ensures.shows.2) (truly_counted _ c.in-Some.object.0 c.args.to _ c.args.count c.self.inside.watch c.tell_written.new.watch c.from.ensures c.tell_written.ensures.truly) c.self.invariant.0 (c.self.invariant.1 on),
     )
 
 pub invariant_of-self-in-None : goal.invariant_of-self-in-None

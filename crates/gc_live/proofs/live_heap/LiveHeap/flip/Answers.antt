@@ -6,6 +6,7 @@ use Rattle.gc_cert.specs.Grammar.{CertifiedPair}
 use Rattle.gc_plan.specs.State.{State, Collection, heap_end}
 use Rattle.gc_plan.specs.declared.step.StepReply.{StepReply}
 use Rattle.gc_core.specs.Flip.{flip_pair, FlipsOnly, HasAccepted, IsCertified}
+use Rattle.gc_along.specs.Outline.{outline_of}
 use Rattle.gc_along.specs.Watch.{Watch, Watches}
 use Rattle.gc_along.specs.Tables.{Tables, CertifiedBy, watch_of}
 use Rattle.gc_beside.specs.Stays.{GoesAlong}
@@ -20,11 +21,11 @@ certified : (s : State) (t : Tables) (reply : StepReply) → IsLive s t
     → FlipsOnly (HasAccepted (CertifiedBy t)) s reply → FlipsOnly IsCertified s reply
 certified s t reply live watched accepted pairs is = go s.collection refl (accepted pairs is)
   where
-    certain : (c : Collection) → s.collection ≡ Some c → CertifiedBy t (flip_pair s c).old (flip_pair s c).new → IsCertified (flip_pair s c)
+    certain : (c : Collection) → s.collection ≡ Some c → CertifiedBy t (outline_of (flip_pair s c).old) (outline_of (flip_pair s c).new) → IsCertified (flip_pair s c)
     certain c e said = ⊎_elim
         (λ lost. absurd (let no : true ≡ false = sym lost ∙ said.0 in cc))
         (λ beside. (let goes : GoesAlong s.heap.graph.objects (heap_end s) c (watch_of t) = subst (λ o. GoesBeside s o (watch_of t)) e beside in
-        subst (λ pairs. Certified (flip_pair s c).old (flip_pair s c).new pairs) goes.fits.pairs (said.1 (watched c (watch_of t) e goes))))
+        subst (λ pairs. Certified (flip_pair s c).old (flip_pair s c).new pairs) goes.fits.pairs (said.1 (flip_pair s c).old (flip_pair s c).new refl refl (watched c (watch_of t) e goes))))
         live
 
     go : (o : Option Collection) → s.collection ≡ o → IfSome o (λ c. HasAccepted (CertifiedBy t) (flip_pair s c)) → IfSome o (λ c. IsCertified (flip_pair s c))

@@ -1,7 +1,6 @@
 use Rattle.std.proofs.Common.{◌≡◌, ◌<◌, ◌≤◌, ℕ, Option, None, is_some, true, false, inl, map, refl, sym, ap, subst, ◌∙◌}
 use Rattle.gc_graph.specs.Graph.{Value, Ref, Graph, root, names_of}
 use Rattle.gc_graph.specs.Slots.{place}
-use Rattle.gc_graph.specs.Machine.{Roomy}
 use Rattle.gc_graph.specs.declared.reply.Reply.{Reply}
 use Rattle.gc_graph.specs.declared.reply.Reply.TheVariants as replies
 use Rattle.gc_graph.specs.declared.command.Op.TheVariants as ops
@@ -25,7 +24,7 @@ invariant_of-self-in-Some c =
     let some : c.self.inside.inner.collection ≡ None → ⊥ = (λ e. (let no : true ≡ false = sym c.if-not-is_open.false ∙ (c.is_open.ensures ∙ ap (λ (o : Option Collection). is_some o) e) in absurd cc)) in (
       lives_written c.self.inside.inner c.put-2.new.self c.args.m (ops.Put c.args.s c.args.i c.args.t) replies.Done c.self.inside.watch c.written.new.self c.is_sound.ensures.open done a c.args.i refl low wrote_it some c.written.ensures.lost c.written.ensures.wrote c.self.invariant.0,
       λ on. lasts_written c.self.inside.inner c.put-2.new.self c.args.m (ops.Put c.args.s c.args.i c.args.t) replies.Done _ c.self.inside.watch c.written.new.self a c.args.i c.is_sound.ensures.open c.is_sound-2.ensures.open c.is_sound-2.ensures.heap (subst (λ (s : State). c.args.m < s.mutators) (sym c.self.view_is) c.requires)
-          done refl (subst (In {X = ℕ × ℕ} (a, c.args.i)) (sym wrote_it) (inl refl)) some (ap (λ (image : Image). image.words) c.image.ensures) c.written.ensures.stays c.written.ensures.wrote c.self.invariant.0 (c.self.invariant.1 on),
+          done refl (subst (In {X = ℕ × ℕ} (a, c.args.i)) (sym wrote_it) (inl refl)) some (c.image.ensures.shows.0, c.image.ensures.shows.1, ap (λ (image : Image). image.words) c.image.ensures.shows.2) c.written.ensures.stays c.written.ensures.wrote c.self.invariant.0 (c.self.invariant.1 on),
     )
 
 pub invariant_of-self-in_default : goal.invariant_of-self-in_default

@@ -1,7 +1,6 @@
 use Rattle.std.proofs.Common.{◌≡◌, ◌<◌, ◌≤◌, ℕ, List, Option, None, is_some, true, false, inl, inr, map, refl, sym, ap, subst, ◌∙◌}
 use Rattle.gc_graph.specs.Graph.{Value, Ref, Graph, root, names_of, value_or_nil, name_of}
 use Rattle.gc_graph.specs.Slots.{place}
-use Rattle.gc_graph.specs.Machine.{Roomy}
 use Rattle.gc_graph.specs.declared.reply.Reply.{Reply}
 use Rattle.gc_graph.specs.declared.reply.Reply.TheVariants as replies
 use Rattle.gc_graph.specs.declared.command.Op.TheVariants as ops
@@ -32,7 +31,7 @@ invariant_of-self-in-Some c =
       lives_number s first.1 s' c.args.m (ops.Num c.args.t c.args.n) first.0 replies.Done (ops.Put c.args.s c.args.i c.args.t) c.self.inside.watch c.written.new.self a c.args.i c.is_sound.ensures.open refl refl refl said refl
           (inr (low, wrote_it, (c.written.ensures.lost, c.written.ensures.wrote))) some c.self.invariant.0,
       λ on. lasts_number s first.1 s' c.args.m (ops.Num c.args.t c.args.n) first.0 (ops.Put c.args.s c.args.i c.args.t) replies.Done _ c.self.inside.watch c.written.new.self a c.args.i c.is_sound.ensures.open c.is_sound-2.ensures.open c.is_sound-2.ensures.heap (subst (λ (s : State). c.args.m < s.mutators) (sym c.self.view_is) c.requires)
-          refl refl said refl (subst (In {X = ℕ × ℕ} (a, c.args.i)) (sym wrote_it) (inl refl)) some (ap (λ (image : Image). image.words) c.image.ensures) c.written.ensures.stays c.written.ensures.wrote c.self.invariant.0 (c.self.invariant.1 on),
+          refl refl said refl (subst (In {X = ℕ × ℕ} (a, c.args.i)) (sym wrote_it) (inl refl)) some (c.image.ensures.shows.0, c.image.ensures.shows.1, ap (λ (image : Image). image.words) c.image.ensures.shows.2) c.written.ensures.stays c.written.ensures.wrote c.self.invariant.0 (c.self.invariant.1 on),
     )
 
 pub invariant_of-self-then-not-is_open : goal.invariant_of-self-then-not-is_open

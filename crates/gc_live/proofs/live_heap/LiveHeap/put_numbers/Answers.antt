@@ -1,6 +1,5 @@
 use Rattle.std.proofs.Common.{◌≡◌, ◌≤◌, ◌<◌, length, subst, Option, None, is_some, true, false, sym, ap, ◌∙◌, arith}
 use Rattle.gc_graph.specs.Graph.{Ref, root}
-use Rattle.gc_graph.specs.Machine.{Roomy}
 use Rattle.gc_graph.specs.Slots.{place, roots_of}
 use Rattle.gc_graph.specs.declared.reply.Reply.{Reply}
 use Rattle.gc_plan.specs.State.{Collection, State}
@@ -33,7 +32,7 @@ invariant_of-self-in-Some c =
     let some : s.collection ≡ None → ⊥ = (λ e. (let no : true ≡ false = sym c.if-not-is_open.false ∙ (c.is_open.ensures ∙ ap (λ (o : Option Collection). is_some o) e) in absurd cc)) in (
       lives_numbers s c.put_numbers-2.new.self c.args.m c.args.first c.in-Some.object.0 c.args.s c.args.t c.args.words.now c.self.inside.watch c.tell_written.new.watch c.is_sound.ensures.open c.requires.apart at low done c.tell_written.ensures.written some c.self.invariant.0,
       λ on. lasts_numbers s c.put_numbers-2.new.self c.args.m c.args.first c.in-Some.object.0 c.args.s c.args.t c.args.words.now _ c.self.inside.watch c.tell_written.new.watch c.is_sound.ensures.open c.is_sound-2.ensures.open c.is_sound-2.ensures.heap less c.requires.apart at in_roots
-          (ap (λ (x : Reply × State). x.0) c.in_ok-reply.ensures.step ∙ c.in-Done.is) done some (ap (λ (image : Image). image.words) c.image.ensures) c.tell_written.ensures.truly c.self.invariant.0 (c.self.invariant.1 on),
+          (ap (λ (x : Reply × State). x.0) c.in_ok-reply.ensures.step ∙ c.in-Done.is) done some (c.image.ensures.shows.0, c.image.ensures.shows.1, ap (λ (image : Image). image.words) c.image.ensures.shows.2) c.tell_written.ensures.truly c.self.invariant.0 (c.self.invariant.1 on),
     )
 
 pub invariant_of-self-in-None : goal.invariant_of-self-in-None

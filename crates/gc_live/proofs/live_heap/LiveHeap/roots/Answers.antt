@@ -9,7 +9,7 @@ pub invariant_of-self-in-Some : goal.invariant_of-self-in-Some
 invariant_of-self-in-Some c = (
   lives_roots c.self.inside.inner c.roots-reply.new.self _ c.in-Some.new.now c.self.inside.watch c.placed.new.self c.is_sound.ensures.heap c.is_sound.ensures.open c.is_sound-2.ensures.open c.in-Copied.ensures.step (sym c.in-Some.ensures)
       c.placed.ensures.lost c.placed.ensures.placed c.self.invariant.0,
-  λ on. lasts_roots c.self.inside.inner c.roots-reply.new.self _ c.in-Some.new.now c.is_sound.ensures.heap c.is_sound.ensures.open c.is_sound-2.ensures.open (ap (λ (image : Image). image.words) c.image.ensures) (sym c.in-Some.ensures)
+  λ on. lasts_roots c.self.inside.inner c.roots-reply.new.self _ c.in-Some.new.now c.is_sound.ensures.heap c.is_sound.ensures.open c.is_sound-2.ensures.open (c.image.ensures.shows.0, c.image.ensures.shows.1, ap (λ (image : Image). image.words) c.image.ensures.shows.2) (sym c.in-Some.ensures)
       c.self.inside.watch c.placed.new.self c.in-Copied.ensures.step c.placed.ensures.stays c.placed.ensures.placed c.placed.ensures.copied c.self.invariant.0 (c.self.invariant.1 on),
 )
 

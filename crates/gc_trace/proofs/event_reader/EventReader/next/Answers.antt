@@ -1,7 +1,7 @@
 use Rattle.std.proofs.Common.{rules, arith, refl, ◌≡◌, ◌≢◌, [], false, length, ap, sym, ◌∙◌, subst}
 use Rattle.std.proofs.lemmas.Result.{err_from_is_err_and}
 use Rattle.gc_graph.specs.Streams.{source_failed}
-use Rattle.gc_trace.specs.Grammar.{Recording, IsTextOf}
+use Rattle.gc_trace.specs.Grammar.{Recording, IsTraceText}
 use Rattle.gc_trace.specs.Internal.Reading.{read_so_far}
 use Rattle.gc_trace.specs.declared.event_reader.EventReader.{EventReader}
 use Rattle.gc_trace.proofs.Total.{good_end}
@@ -55,7 +55,7 @@ returns-then-is_empty-clause-exact g c text events h =
     let all = all_waits text read.rest c.read_more.new.pieces _ within whole.0 in
     let none : length c.read_more.new.pieces.waiting ≡ 0 = search rules in
     let same : read_so_far c.loop-event.self events ≡ read_so_far c.args.self.now events = ap (λ (r : EventReader). read_so_far r events) i.same in (
-      subst (λ (t : Recording). IsTextOf t text) same (good_end text c.loop-event.self.number (read_so_far c.loop-event.self events) read.rest read.good (all.0 ∙ no_byte c.read_more.new.pieces.waiting none)),
+      subst (λ (t : Recording). IsTraceText t text) same (good_end text c.loop-event.self.number (read_so_far c.loop-event.self events) read.rest read.good (all.0 ∙ no_byte c.read_more.new.pieces.waiting none)),
       omega (arith, all.1, c.in_ok-read_more.ensures.counts.1),
     )
 

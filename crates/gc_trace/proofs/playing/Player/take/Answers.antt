@@ -1,5 +1,7 @@
-use Rattle.std.proofs.Common.{rules}
+use Rattle.std.proofs.Common.{sym, subst, rules}
+use Rattle.gc_plan.specs.Belonging.{IsState}
 use Rattle.gc_trace.proofs.PlayedEvents.{state_is, counts_are, lines_are}
+use Rattle.gc_trace.proofs.Sizes.{state_kept}
 use Rattle.gc_trace.proofs.playing.Player.take.Goals as goal
 
 pub returns-in_default-clause-played : goal.returns-in_default-clause-played
@@ -21,3 +23,9 @@ returns-clause-played c s events h =
       counts = counts_are s events c.args.event.now player.heap _ player.report _ h.state made.answer h.counts c.count.ensures;
       lines = λ told. lines_are s events c.args.event.now player.heap _ _ c.gather.new.text.items c.gather.new.self _ h.state made.answer (h.lines told) c.gather.ensures.moved c.print_answer.ensures;
     }
+
+pub returns-in_default-clause-sound : goal.returns-in_default-clause-sound
+returns-in_default-clause-sound c = subst IsState (sym c.in_ok-answer.ensures.happened) (state_kept c.args.self.now.heap c.args.event.now c.states_are_kept.ensures.commands c.states_are_kept.ensures.steps c.requires.sound c.requires.event)
+
+pub returns-clause-sound : goal.returns-clause-sound
+returns-clause-sound c = subst IsState (sym c.in_ok-answer.ensures.happened) (state_kept c.args.self.now.heap c.args.event.now c.states_are_kept.ensures.commands c.states_are_kept.ensures.steps c.requires.sound c.requires.event)

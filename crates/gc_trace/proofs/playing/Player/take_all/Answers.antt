@@ -4,7 +4,7 @@ use Rattle.gc_graph.specs.Streams.{source_failed}
 use Rattle.gc_trace.specs.Faults.{IsReadAsTrace}
 use Rattle.gc_trace.specs.Grammar.{Recording, IsRecording}
 use Rattle.gc_trace.specs.Internal.Reading.{read_so_far}
-use Rattle.gc_trace.specs.Plays.{opening}
+use Rattle.gc_trace.specs.Plays.{trace_opening}
 use Rattle.gc_trace.proofs.PlayedEvents.{next_fits}
 use Rattle.gc_trace.proofs.ReadLines.{same_heading, all_can}
 use Rattle.gc_trace.proofs.playing.Player.take_all.Goals as goal
@@ -29,7 +29,7 @@ loop-event-preserved g c =
     let good : source_failed c.next.new.reader ≡ false = search rules in (
       i.0 ++ event ∷ [],
       record {
-        played = c.in_ok-take.ensures.played (opening (read_so_far c.args.lines.now [])) i.0 i.1.played;
+        played = c.in_ok-take.ensures.played (trace_opening (read_so_far c.args.lines.now [])) i.0 i.1.played;
         number = omega (arith, i.1.number, rw c.in-Some.is at c.in_ok-event.ensures.number, length-append i.0 (event ∷ []));
         read = λ text h. rw c.in-Some.is at c.in_ok-event.ensures.exact text i.0 (i.1.read text h);
         reading = c.in_ok-event.ensures.reading;

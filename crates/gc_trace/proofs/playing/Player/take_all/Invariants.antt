@@ -3,20 +3,20 @@ use Rattle.gc_graph.specs.Streams.{bytes_left, source_failed}
 use Rattle.std.specs.List.{AllByRecursion}
 use Rattle.gc_plan.specs.Belonging.{IsState}
 use Rattle.gc_plan.specs.declared.event.Event.{Event}
-use Rattle.gc_trace.specs.Faults.{limit}
-use Rattle.gc_trace.specs.Grammar.{IsEvent, IsOf}
+use Rattle.gc_trace.specs.Faults.{trace_limit}
+use Rattle.gc_trace.specs.Grammar.{HasLine, IsOf}
 use Rattle.gc_trace.specs.Internal.Playing.{HasPlayed}
-use Rattle.gc_trace.specs.Internal.Reading.{IsReading, HasRead, read_so_far}
-use Rattle.gc_trace.specs.Plays.{opening}
+use Rattle.gc_trace.specs.Internal.Reading.{IsReadingTrace, HasRead, read_so_far}
+use Rattle.gc_trace.specs.Plays.{trace_opening}
 use Rattle.gc_trace.proofs.playing.Player.take_all.Given as goal
 
 abbrev pub invariant-loop-event : goal.invariant-loop-event
 invariant-loop-event g l = (events : List Event) × record {
-  played : HasPlayed (opening (read_so_far l.initial.lines [])) events l.self;
+  played : HasPlayed (trace_opening (read_so_far l.initial.lines [])) events l.self;
   number : l.lines.number ≡ 3 + length events;
   read : (text : List ℕ) → HasRead text [] l.initial.lines (bytes_left g.R.Read.remaining l.initial.reader) → HasRead text events l.lines (bytes_left g.R.Read.remaining l.reader);
-  reading : IsReading l.lines;
-  all : AllByRecursion (λ event. IsEvent l.lines.version event × IsOf l.lines.mutators event) events;
+  reading : IsReadingTrace l.lines;
+  all : AllByRecursion (λ event. HasLine l.lines.version event × IsOf l.lines.mutators event) events;
   heading : read_so_far l.lines [] ≡ read_so_far l.initial.lines [];
   sound : IsState l.self.heap;
   mutators : l.self.heap.mutators ≡ l.lines.mutators;
@@ -25,4 +25,4 @@ invariant-loop-event g l = (events : List Event) × record {
 }
 
 abbrev pub decreases-loop-event : goal.decreases-loop-event
-decreases-loop-event g l = limit + 4 - l.lines.number
+decreases-loop-event g l = trace_limit + 4 - l.lines.number

@@ -1,0 +1,68 @@
+use Rattle.std.proofs.Common.{◌≡◌, ℕ, List, [], ◌∷◌, true, false, map, length, replicate, refl, sym, ap, ◌∙◌, subst}
+use Rattle.std.specs.List.{list_all}
+use Rattle.std.proofs.lemmas.Bool.{and_parts}
+use Rattle.std.specs.Prelude.{IsTrue}
+use Rattle.gc_words.specs.Space.{SpaceWords, empty_space}
+use Rattle.gc_heap.specs.Heap.{HeapWords, IsHeap, graph_in}
+use Rattle.gc_plan.specs.State.{pairs_of}
+use Rattle.gc_plan.specs.Steps.{is_ready, is_empty}
+use Rattle.gc_copy.specs.Words.{Log, CollectionWords, IsCollection, entries_of, BelongsTo, collection_in, new_root_words, idle_state, LinksNothing}
+use Rattle.gc_plan.specs.declared.step.StepReply.TheVariants.{Flipped}
+use Rattle.gc_plan.proofs.Public.{ready_parts}
+use Rattle.gc_copy.proofs.Flipping.{flipped_sound, flip_is, with_its_links, below_the_mark}
+use Rattle.gc_copy.proofs.collection.Collection.flip_marked.Goals as goal
+
+-- a ready collection has only empty logs
+logs_empty : (x c : CollectionWords) (heap : HeapWords) → x ≡ c → IsTrue (is_ready (collection_in c) (graph_in heap)) → list_all is_empty (map entries_of x.logs) ≡ true
+logs_empty x c heap seen ready = (ready_parts (collection_in x) (graph_in heap) (subst (λ (y : CollectionWords). is_ready (collection_in y) (graph_in heap) ≡ true) (sym seen) ready)).logs
+
+empty_logs : (logs : List Log) → list_all is_empty (map entries_of logs) ≡ true → map entries_of logs ≡ replicate (length logs) []
+empty_logs [] h = refl
+empty_logs (l ∷ logs) h =
+    let parts = and_parts (is_empty l.entries) (list_all is_empty (map entries_of logs)) h in
+    let here : l.entries ≡ [] = nothing l.entries parts.0 in
+    let rest = empty_logs logs parts.1 in
+    λ i. here i ∷ rest i
+  where
+    nothing : (es : List (ℕ × ℕ)) → is_empty es ≡ true → es ≡ []
+    nothing [] e = refl
+    nothing (x ∷ xs) e = absurd (let no : false ≡ true = e in cc)
+
+-- the heap after the flip
+sound : (heap : HeapWords) (c : CollectionWords) (space : SpaceWords) (roots : List ℕ) → IsHeap heap → IsCollection c → BelongsTo heap c → IsTrue (is_ready (collection_in c) (graph_in heap)) → roots ≡ new_root_words heap (collection_in c) → space ≡ c.space
+    → IsHeap (record { space = space; roots = roots; mutators = heap.mutators })
+sound heap c space roots is whole belongs ready new same =
+    subst IsHeap (λ i. record { space = sym same i; roots = sym new i; mutators = heap.mutators }) (flipped_sound heap c c.space is whole belongs ready (with_its_links c.space whole.space))
+
+pub replace-old_space-requires : goal.replace-old_space-requires
+replace-old_space-requires c =
+    sound c.args.heap.now c.args.self c.self.inside.space c.args.roots.items c.space.ensures.sound (subst IsCollection c.self.view_is c.self.invariant.0) c.requires.belongs c.requires.ready c.requires.roots
+    (ap (λ (y : CollectionWords). y.space) c.self.view_is)
+
+pub returns-clause-sound : goal.returns-clause-sound
+returns-clause-sound c =
+    subst IsHeap (sym c.replace-old_space.ensures.heap)
+    (sound c.args.heap.now c.args.self c.self.inside.space c.args.roots.items c.space.ensures.sound (subst IsCollection c.self.view_is c.self.invariant.0) c.requires.belongs c.requires.ready c.requires.roots
+    (ap (λ (y : CollectionWords). y.space) c.self.view_is))
+
+pub returns-clause-step : goal.returns-clause-step
+returns-clause-step c =
+    let sound : IsCollection c.args.self = subst IsCollection c.self.view_is c.self.invariant.0 in
+    let space : c.self.inside.space ≡ c.args.self.space = ap (λ (y : CollectionWords). y.space) c.self.view_is in
+    flip_is c.args.heap.now c.args.self c.args.self.space c.space.ensures.sound sound c.requires.belongs c.requires.ready (with_its_links c.args.self.space sound.space)
+    ∙ (λ i. (Flipped (length (pairs_of (collection_in c.args.self))), idle_state (record { space = sym space i; roots = sym c.requires.roots i; mutators = c.args.heap.now.mutators })))
+    ∙ ap (λ (h : HeapWords). (Flipped (length (pairs_of (collection_in c.args.self))), idle_state h)) (sym c.replace-old_space.ensures.heap)
+
+pub returns-clause-links : goal.returns-clause-links
+returns-clause-links c =
+    let sound : IsCollection c.args.self = subst IsCollection c.self.view_is c.self.invariant.0 in
+    let space : c.self.inside.space ≡ c.args.self.space = ap (λ (y : CollectionWords). y.space) c.self.view_is in
+    subst (LinksNothing true) (sym c.replace-old_space.ensures.heap) (subst (λ s. LinksNothing true (record { space = s; roots = c.args.roots.items; mutators = c.args.heap.now.mutators })) (sym space) (below_the_mark c.args.self sound))
+
+pub invariant_of-room : goal.invariant_of-room
+invariant_of-room c = record {
+  shaped = c.emptied.ensures.shaped;
+  empty = c.emptied.ensures.empty ∙ ap empty_space (sym (ap (λ (s : SpaceWords). s.size) c.emptied.ensures.empty));
+  logs = empty_logs c.self.inside.logs.items (logs_empty _ c.args.self c.args.heap.now c.self.view_is c.requires.ready);
+  few = c.self.invariant.0.logs;
+}

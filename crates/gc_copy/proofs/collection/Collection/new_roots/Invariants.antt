@@ -1,8 +1,0 @@
-use Rattle.std.proofs.Common.{◌≡◌, ◌++◌, map, drop}
-use Rattle.gc_copy.specs.Words.{collection_in}
-use Rattle.gc_copy.proofs.RootWalks.{moved_to}
-use Rattle.gc_copy.proofs.collection.Collection.new_roots.Given as goal
-
--- the roots so far, and then the moved rest, are all roots moved
-abbrev pub invariant-loop-word : goal.invariant-loop-word
-invariant-loop-word l = l.roots.items ++ map (moved_to (collection_in l.self)) (drop l.word-index l.word-items) ≡ map (moved_to (collection_in l.self)) l.word-items

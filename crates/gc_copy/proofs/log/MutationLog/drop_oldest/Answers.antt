@@ -1,0 +1,33 @@
+use Rattle.std.proofs.Common.{[], ◌≡◌, drop, sym, ap, ◌∙◌, arith}
+use Rattle.std.proofs.lemmas.Bool.{eqb-true}
+use Rattle.gc_copy.specs.Words.{Log}
+use Rattle.gc_copy.proofs.Segments.{none_left, dropped_here, dropped_all, dropped_first}
+use Rattle.gc_copy.proofs.log.MutationLog.drop_oldest.Goals as goal
+
+pub returns-then-is_empty : goal.returns-then-is_empty
+returns-then-is_empty c =
+    let l = c.self.inside in
+    let none : c.args.self.now.entries ≡ [] = sym (ap (λ (log : Log). log.entries) c.self.view_is) ∙ none_left _ l.full l.last l.gone c.self.invariant (eqb-true _ 0 (sym c.is_empty.ensures ∙ c.if-is_empty.true)) in
+    none ∙ sym (ap (drop 1) none)
+
+pub returns-then-self-len : goal.returns-then-self-len
+returns-then-self-len c =
+    let l = c.self.inside in
+    dropped_all _ l.full l.last l.gone c.self.invariant c.clear.new.self c.clear.ensures.items c.if-self-eq0.true (c.if-self-len.true ∙ c.len.ensures)
+    ∙ ap (λ (log : Log). drop 1 log.entries) c.self.view_is
+
+pub returns-else-self-len : goal.returns-else-self-len
+returns-else-self-len c =
+    let l = c.self.inside in
+    dropped_here _ l.full l.last l.gone c.self.invariant ∙ ap (λ (log : Log). drop 1 log.entries) c.self.view_is
+
+pub returns-then-self-eq-SEGMENT : goal.returns-then-self-eq-SEGMENT
+returns-then-self-eq-SEGMENT c =
+    let l = c.self.inside in
+    dropped_first _ l.full l.last l.gone c.self.invariant c.drop_first.new.segments.items c.drop_first.ensures.joined (omega arith) c.if-self-eq-SEGMENT.true
+    ∙ ap (λ (log : Log). drop 1 log.entries) c.self.view_is
+
+pub returns-else-self-eq-SEGMENT : goal.returns-else-self-eq-SEGMENT
+returns-else-self-eq-SEGMENT c =
+    let l = c.self.inside in
+    dropped_here _ l.full l.last l.gone c.self.invariant ∙ ap (λ (log : Log). drop 1 log.entries) c.self.view_is

@@ -1,0 +1,15 @@
+use Rattle.std.proofs.Common.{ap, ◌∙◌, length, arith}
+use Rattle.gc_copy.specs.Words.{Log}
+use Rattle.gc_copy.proofs.Segments.{bounded, counted}
+use Rattle.gc_copy.proofs.log.MutationLog.len.Goals as goal
+
+pub overflow_mul-result : goal.overflow_mul-result
+overflow_mul-result c = let l = c.self.inside in let b = bounded _ l.full l.last l.gone c.self.invariant in omega arith
+
+pub overflow_add-result : goal.overflow_add-result
+overflow_add-result c = let l = c.self.inside in let b = bounded _ l.full l.last l.gone c.self.invariant in omega arith
+
+pub returns : goal.returns
+returns c =
+    let l = c.self.inside in
+    rw c.len.ensures (counted _ l.full l.last l.gone c.self.invariant ∙ ap (λ (log : Log). length log.entries) c.self.view_is)

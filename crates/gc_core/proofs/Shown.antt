@@ -1,0 +1,42 @@
+-- What is shown of the mutators' space: an image whose links lead to the replicas, and words with the exact links.
+use Rattle.std.proofs.Common.{◌≡◌, ◌-◌, Bool, ℕ, Option, Some, None, true, map, length, sym, ◌∙◌, ap, subst}
+use Rattle.std.specs.Option.{option_map}
+use Rattle.gc_words.specs.Word.{value_of, word_of}
+use Rattle.gc_words.specs.Image.{Image, blocks, is_start}
+use Rattle.gc_words.specs.Spelling.{link_at, spelled}
+use Rattle.gc_heap.specs.Heap.{HeapWords, IsHeap, image_of, graph_in}
+use Rattle.gc_plan.specs.State.{State, Collection}
+use Rattle.gc_plan.specs.Linked.{LeadsTo, LeadsToOpen, linked_image, old_links}
+use Rattle.gc_copy.specs.Words.{CollectionWords, IsCollection, BelongsTo, LinksNothing, collection_in, mark_of, state_of}
+use Rattle.gc_copy.proofs.Public.{lowered_words, other_links}
+use Rattle.gc_along.specs.Outline.{outline_of}
+use Rattle.gc_core.specs.Internal.CollectedHeap.{Fits}
+use Rattle.gc_core.specs.Readings.{ShowsHeap, heap_image, links_of}
+
+-- the heap has as many words as its image with the exact links
+pub shown_count : (heap : HeapWords) (o : Option CollectionWords) → IsHeap heap → length (heap_image (state_of heap (option_map collection_in o))).words ≡ length heap.space.words
+shown_count heap o is = (other_links heap is (links_of (option_map collection_in o))).2
+
+pub shown_idle : (heap : HeapWords) (s : State) (image : Image) → state_of heap None ≡ s → image ≡ image_of heap → image_of heap ≡ linked_image (link_at heap.space.words) heap.space.size (graph_in heap) → ShowsHeap s image
+shown_idle heap s image seen is all = subst (λ s. ShowsHeap s image) seen (link_at heap.space.words, tt, is ∙ all)
+
+pub shown_open : (heap : HeapWords) (c : CollectionWords) (s : State) (image : Image) → state_of heap (Some (collection_in c)) ≡ s → image ≡ image_of heap → image_of heap ≡ linked_image (link_at heap.space.words) heap.space.size (graph_in heap)
+    → LeadsTo (link_at heap.space.words) (collection_in c) → ShowsHeap s image
+shown_open heap c s image seen is all leads = subst (λ s. ShowsHeap s image) seen (link_at heap.space.words, leads, is ∙ all)
+
+-- lowered links are the exact ones
+pub idle_words : (marked : Bool) (heap : HeapWords) → IsHeap heap → LinksNothing marked heap
+    → spelled (λ a. link_at heap.space.words a - mark_of marked) (blocks heap.space.words) ≡ (heap_image (state_of heap None)).words
+idle_words marked heap is none = lowered_words heap (links_of None) (mark_of marked) is none
+
+pub open_words : (heap : HeapWords) (c : CollectionWords) → IsHeap heap → BelongsTo heap c
+    → spelled (λ a. link_at heap.space.words a - mark_of c.marked) (blocks heap.space.words) ≡ (heap_image (state_of heap (Some (collection_in c)))).words
+open_words heap c is belongs = lowered_words heap (old_links (collection_in c)) (mark_of c.marked) is belongs.links
+
+-- the outline of an image does not depend on links
+pub same_outline : (heap : HeapWords) → IsHeap heap → (links : ℕ → ℕ) → image_of heap ≡ linked_image (link_at heap.space.words) heap.space.size (graph_in heap) → outline_of (image_of heap) ≡ outline_of (linked_image links heap.space.size (graph_in heap))
+same_outline heap is links all =
+    let here = (other_links heap is (link_at heap.space.words)).2 in
+    let there = (other_links heap is links).2 in
+    let count = here ∙ sym there in
+    ap outline_of all ∙ (λ i. record { size = heap.space.size; end = count i; count = count i; roots = map word_of (map value_of heap.roots); raws = true })

@@ -1,0 +1,24 @@
+use Rattle.std.proofs.Common.{◌≡◌, ◌⊎◌, ◌<◌, ◌≤◌, ◌-◌, ℕ, suc, false, None, ap, sym, ◌∙◌, subst, arith}
+use Rattle.gc_core.specs.CollectedHeap.{Allocates}
+use Rattle.gcflip_heap_c.specs.Work.{IsRun, sized_step, after_useful, useful_reply, goes_on, end_in, end_after}
+use Rattle.gcflip_heap_c.proofs.work.work_within_on.Goals as goal
+
+pub returns-clause-work : goal.returns-clause-work
+returns-clause-work c =
+    let s = c.args.heap.now in
+    let t = c.useful_steps.new.heap in
+    let reply = c.in_ok-run.run'.reply in
+    let e = c.in_ok-run.ensures in
+    let r = c.report.ensures in
+    let start : c.end_of_new-start.result ≡ end_in s.collection = c.end_of_new-start.ensures in
+    record {
+      reply = reply;
+      run = subst (λ (n : ℕ). IsRun None n s t reply) (sym r.steps) e.run;
+      last = r.last;
+      pairs = r.pairs;
+      within = omega (arith, e.within, r.steps);
+      ended = λ less. subst (λ (n : ℕ). (goes_on reply ≡ false) ⊎ (Allocates t (sized_step None t) ⊎ (c.args.words ≤ n))) (sym r.copied) (e.ended (omega (arith, r.steps)));
+      enough = λ few. subst (λ (n : ℕ). (goes_on reply ≡ false) ⊎ (Allocates t (sized_step None t) ⊎ (c.args.words ≤ n))) (sym r.copied) (e.enough few);
+      copied = r.copied ∙ ap (λ (n : ℕ). end_after t reply - n) start;
+      short = λ k less. subst (λ (n : ℕ). end_after (after_useful None (suc k) s) (useful_reply None k s) - n < c.args.words) start (e.short k (omega (arith, r.steps)));
+    }
