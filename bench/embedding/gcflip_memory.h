@@ -1,14 +1,17 @@
 /* The machine on the proved collector, and on the same heap in plain C: registers are the mutator's own slots, and the stack is an object in slot 16. A
- * collection begins when three quarters of the heap are in use, or, without incremental steps, when the heap is full. The
- * steps for eight objects are made together. */
+ * collection begins when three quarters of the heap are in use, or, without incremental steps, when the heap is full. While one is open, the program
+ * owes steps for each word that it allocates, and one for each field that it writes. It performs those that it owes together, some at a time. */
 #include "gcflip_heap.h"
 #include <malloc.h>
 
-enum { MUST_FREE = 0, KIND = 1, STACK_SLOT = 16, SCRATCH = 15, WORDS_OF_MEGABYTE = 65536, MOST_STEPS = 1 << 30, BATCH = 8 };
+enum { MUST_FREE = 0, KIND = 1, STACK_SLOT = 16, SCRATCH = 15, WORDS_OF_MEGABYTE = 65536 };
+/* A payment: at least so many steps that are owed, at most so many, and none after these have copied so many words. */
+enum { LEAST_OWED = 128, MOST_PAID = 512, MOST_COPIED = 1024 };
 
 static gcflip_heap heap = GCFLIP_NO_HEAP;
 static uint64_t number;
-static unsigned depth, owed; /* owed: objects since the last steps */
+static unsigned depth;
+static uint64_t owed; /* steps */
 static unsigned long collections;
 static long space_words, words_in_use;
 static bool is_open;
@@ -19,27 +22,51 @@ static inline void expect(uint32_t answer, uint32_t wanted, const char *what)
         give_up(what);
 }
 
-static inline void work(uint32_t most)
+/* Takes note of what a call of work did. */
+static void worked(uint32_t answer, const gcflip_work *done)
 {
-    gcflip_work done;
     gcflip_counts counts;
-    if (gcflip_heap_work(&heap, most, &done) != GCFLIP_DONE || done.last == GCFLIP_NO_ROOM)
+    if (answer != GCFLIP_DONE || done->last == GCFLIP_NO_ROOM)
         give_up("work");
-    is_open = done.last != GCFLIP_FLIPPED;
+    owed = done->steps < owed ? owed - done->steps : 0;
+    is_open = done->last != GCFLIP_FLIPPED;
     if (!is_open && gcflip_heap_counts(&heap, &counts) == GCFLIP_DONE) {
         words_in_use = counts.end;
+        owed = 0;
         collections++;
     }
 }
 
-/* Performs the steps that are due for an object with this many fields. */
-static inline void pay(int fields)
+/* Performs the steps until the flip. */
+static void collect(void)
 {
-    if (options.steps && (is_open || words_in_use > space_words / 4 * 3) && ++owed == BATCH) {
-        owed = 0;
-        work((uint32_t)options.steps * BATCH);
+    gcflip_work done;
+    worked(gcflip_heap_work(&heap, UINT32_MAX, &done), &done);
+}
+
+/* Performs steps if enough of them are owed. */
+static inline void pay(void)
+{
+    gcflip_work done;
+    if (owed < LEAST_OWED)
+        return;
+    worked(gcflip_heap_work_within(&heap, owed < MOST_PAID ? (uint32_t)owed : MOST_PAID, MOST_COPIED, &done), &done);
+}
+
+/* Pays for an object with this many fields. */
+static inline void pay_for(int fields)
+{
+    if (options.steps && (is_open || words_in_use > space_words / 4 * 3)) {
+        owed += (uint64_t)options.steps * (unsigned)(fields + 2);
+        pay();
     }
     words_in_use += fields + 2;
+}
+
+/* The write of a field is logged while a collection is open, so that a step has to apply it. */
+static inline void owe_for_write(void)
+{
+    owed += options.steps && is_open;
 }
 
 /* Makes the object, after a whole collection if the heap has no room for it. */
@@ -49,24 +76,24 @@ static inline void pay(int fields)
         if (answer_ == GCFLIP_MADE)           \
             break;                            \
         expect(answer_, GCFLIP_FULL, "new");  \
-        work(MOST_STEPS);                     \
+        collect();                            \
     } while (1)
 
 static inline void make(int d, int fields)
 {
-    pay(fields);
+    pay_for(fields);
     MADE(gcflip_heap_new_object(&heap, 0, (uint8_t)d, KIND, (uint16_t)fields));
 }
 
 static inline void make_numbers(int d, int fields)
 {
-    pay(fields);
+    pay_for(fields);
     MADE(gcflip_heap_new_raw(&heap, 0, (uint8_t)d, KIND, (uint16_t)fields));
 }
 
 static inline void make_pair(int d, int s, int t)
 {
-    pay(2);
+    pay_for(2);
     MADE(gcflip_heap_new_pair(&heap, 0, (uint8_t)d, KIND, (uint8_t)s, (uint8_t)t));
 }
 
@@ -94,11 +121,13 @@ static inline uint64_t get_number(int s, int i)
 static inline void put(int s, int i, int t)
 {
     TIMED(expect(gcflip_heap_put(&heap, 0, (uint8_t)s, (uint16_t)i, (uint8_t)t), GCFLIP_DONE, "put"));
+    owe_for_write();
 }
 
 static inline void put_number(int s, int i, uint64_t n)
 {
     TIMED(expect(gcflip_heap_put_number(&heap, 0, (uint8_t)s, (uint16_t)i, SCRATCH, n), GCFLIP_DONE, "put_number"));
+    owe_for_write();
 }
 
 static inline void move(int d, int s)
