@@ -1,4 +1,4 @@
--- Each of the last two subcommands adds itself to the command line, so the definition is the one in the contract.
+-- Two subcommands with a file and a number are added to the others, and the definition is then the program's command line.
 use Rattle.std.proofs.Common.{◌∙◌, ap, codes}
 use Rattle.gcflip.specs.CommandLine.{number_command}
 use Rattle.gcflip.proofs.CommandLines.{adds_command}
