@@ -1,4 +1,4 @@
--- No step but a flip loses a replica, and after a `Copied` the root that the search found has one too.
+-- The step removes no replica, and after a `Copied` the root that the search found has one too.
 use Rattle.std.proofs.Common.{refl, sym, ◌∙◌, ap, subst}
 use Rattle.gc_graph.specs.Slots.{roots_of}
 use Rattle.gc_plan.specs.State.{State}
