@@ -453,6 +453,49 @@ def doors(_program, _folder):
         yield "imports in %r" % text, None if found == wanted else "found %s" % found
 
 
+# ---- first lines of proof files
+
+# What a sentence of a first line is: it begins with a capital letter or a name in backquotes, and ends with a full stop.
+SENTENCE = re.compile(r"[A-Z`].*[^.]\.$")
+
+
+def head_of(text):
+    """Returns what the comment at the head of a proof file says, in one line: nothing if the file does not begin with a comment."""
+    lines = text.split("\n")
+    count = next((number for number, line in enumerate(lines) if not line.startswith("-- ")), len(lines))
+    return " ".join(line[3:].strip() for line in lines[:count])
+
+
+def wrong_heads(texts):
+    """Yields each proof file of a crate that does not say first what it proves, or says what another file says, given the files' texts."""
+    first = {}
+    for path, text in sorted(texts.items()):
+        head = head_of(text)
+        if not SENTENCE.match(head):
+            yield "%s does not begin with a sentence" % path
+        elif head in first:
+            yield "%s begins as %s" % (path, first[head])
+        first.setdefault(head, path)
+
+
+# Proof files of a crate by their texts, and what is wrong with them.
+HEADS = [(["-- A sum is one.\nuse b\n", "-- A sum goes\n-- up by one.\nuse b\n"], []), (["use b\n"], ["0 does not begin with a sentence"]),
+         (["-- A sum is one\nuse b\n"], ["0 does not begin with a sentence"]), (["-- ---- sums.\nuse b\n"], ["0 does not begin with a sentence"]),
+         (["-- A sum is one.\nuse b\n", "-- A sum is one.\nuse c\n"], ["1 begins as 0"])]
+
+
+def first_lines(_program, _folder):
+    """Checks that each proof file says in its first line what it proves, and that no two files of a crate say the same."""
+    for crate in crates_listed():
+        paths = glob.glob(os.path.join(CRATES, crate, "proofs", "**", "*.antt"), recursive=True)
+        wrong = list(wrong_heads({os.path.relpath(path, TOP): text_of(path) for path in paths}))
+        if paths:
+            yield "first lines of the proofs of %s" % crate, "; ".join(wrong[:10]) or None
+    for texts, wanted in HEADS:
+        found = list(wrong_heads({str(number): text for number, text in enumerate(texts)}))
+        yield "first lines of %r" % texts, None if found == wanted else "found %s" % found
+
+
 # ---- quoted code
 
 def pieces(block):
@@ -780,4 +823,4 @@ def applied_edits(_program, _folder):
             yield "edit %s/%s" % (crate, name), why_not_applied(crate, name)
 
 
-GROUPS = [names, words, files, memory_answers, names_of_calls, old_names, edits, edits_in_ci, crates_tried, hand_tried, doors, meanings, applied_edits, quotes, names_in_c, outputs_in_c, c_of_readme, adapter_shown, first_screen, commands, commands_of_tables, definitions, counts, architecture, glossary, told_again, axioms]
+GROUPS = [names, words, files, memory_answers, names_of_calls, old_names, edits, edits_in_ci, crates_tried, hand_tried, doors, first_lines, meanings, applied_edits, quotes, names_in_c, outputs_in_c, c_of_readme, adapter_shown, first_screen, commands, commands_of_tables, definitions, counts, architecture, glossary, told_again, axioms]

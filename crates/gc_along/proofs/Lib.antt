@@ -1,3 +1,4 @@
+-- Lemmas about what a standing checker has seen (walks, pairs, what is due) and about its tables: their rows, and what they tell.
 pub mod Seen
 pub mod Looks
 pub mod Written

@@ -1,4 +1,4 @@
--- The words of a field that is up to date agree, as a standing checker compares them. (The first two are private in gc_copy's proofs/Flips.)
+-- The words of a field that is up to date agree, as a standing checker compares them. The first two are also in gc_plan's proofs/Flips.
 use Rattle.std.proofs.Common.{◌≡◌, ℕ, ◌+◌, ◌<◌, ◌≤◌, ◌==◌, Bool, true, false, cond, List, map, length, get_or, drop, Some, refl, ap, sym, ◌∙◌, arith}
 use Rattle.std.specs.Prelude.{slice_get, slice_index}
 use Rattle.std.proofs.lemmas.List.{get_or-take, get_or-drop}

@@ -1,3 +1,4 @@
+-- Lemmas about the pair text: its lines and sections, that each text has one reading, and how it is read and printed.
 pub mod SameLines
 pub mod OneReading
 pub mod TextLimit

@@ -1,3 +1,4 @@
+-- Lemmas about a collection on words: its spaces, links and logs, each of its steps, and the commands that come between.
 pub mod Beginning
 pub mod Words
 pub mod Spaces

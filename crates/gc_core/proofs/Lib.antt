@@ -1,3 +1,4 @@
+-- Lemmas about calls that are several commands, what is known of roots, what a heap shows, the pair of a flip, and runs.
 pub mod Beside
 mod Copies
 mod CopiesDone

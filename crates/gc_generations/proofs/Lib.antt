@@ -1,3 +1,4 @@
+-- Lemmas about heaps with young objects: their words and fronts, what keeps them standing, encoded images, and major collections.
 pub mod Lists
 pub mod Fronts
 pub mod Whole

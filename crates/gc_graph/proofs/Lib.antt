@@ -1,3 +1,4 @@
+-- Lemmas about graphs that correspond and the replies that they give, the plain machine, and texts: decimals, tokens, lines, pieces.
 pub mod Matching
 pub mod Lookups
 pub mod Matched

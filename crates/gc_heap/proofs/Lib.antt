@@ -1,3 +1,4 @@
+-- Lemmas about a heap's commands on words: what each leaves and replies, extra roots, objects to be filled, numbers and links.
 pub mod Commands
 pub mod ExtraRoots
 pub mod Filling

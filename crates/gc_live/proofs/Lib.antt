@@ -1,3 +1,4 @@
+-- Lemmas about a standing checker beside the calls of a heap: it goes along with each, and (from `Lasts` on) none makes it lost.
 pub mod Begun
 pub mod Cleared
 pub mod CopiesTold

@@ -1,3 +1,4 @@
+-- Lemmas about the plan: heaps and commands, replicas and steps, images and flips, room, what is carried, and runs of events.
 pub mod Lists
 pub mod Heap
 pub mod Commands

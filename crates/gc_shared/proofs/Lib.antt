@@ -1,3 +1,4 @@
+-- Lemmas about receipts and the marks of their places, seats and their numbers, scripts, and the histories of runs in threads.
 pub mod ReceiptMarks
 pub mod SeatNumbers
 pub mod ScriptEvents

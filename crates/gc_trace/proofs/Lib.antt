@@ -1,3 +1,4 @@
+-- Lemmas about the trace text: its tokens and lines, its one reading, how it is read and written; and about plays, flips and reports.
 pub mod SmallNumbers
 pub mod Ranges
 pub mod EventTokens

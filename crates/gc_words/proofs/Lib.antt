@@ -1,3 +1,4 @@
+-- Lemmas about the walk over a space's objects, what writes do to objects, links and graphs, and certificates with their faults.
 pub mod Walks
 pub mod Starts
 pub mod Writes

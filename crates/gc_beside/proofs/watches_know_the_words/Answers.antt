@@ -1,3 +1,4 @@
+-- A field that is not due is up to date, and the words of such a field correspond.
 use Rattle.gc_beside.proofs.Words.{watches}
 use Rattle.gc_beside.proofs.watches_know_the_words.Goals as goal
 

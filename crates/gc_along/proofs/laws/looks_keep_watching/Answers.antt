@@ -1,3 +1,4 @@
+-- A field that is due need not correspond, and a compared field is no longer due only if its words correspond.
 use Rattle.gc_along.proofs.Looks.{taken_for_due, compared}
 use Rattle.gc_along.proofs.laws.looks_keep_watching.Goals as goal
 

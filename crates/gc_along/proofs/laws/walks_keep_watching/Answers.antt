@@ -1,3 +1,4 @@
+-- A watch stays right as either walk goes on by one object, and as the next new object is paired.
 use Rattle.gc_along.proofs.Walked.{begun, old_goes_on, new_goes_on, paired_next}
 use Rattle.gc_along.proofs.laws.walks_keep_watching.Goals as goal
 

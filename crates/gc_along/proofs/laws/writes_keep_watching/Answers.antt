@@ -1,3 +1,4 @@
+-- A write to a due field, or to a link, changes no word that the watch has compared.
 use Rattle.gc_along.proofs.Written.{old_field, new_field, old_link, new_link}
 use Rattle.gc_along.proofs.laws.writes_keep_watching.Goals as goal
 

@@ -1,3 +1,4 @@
+-- Tables that tell the truth hold a watch of the words, so if they have seen all, the certificate holds.
 use Rattle.gc_along.proofs.ToldTruth.{sound}
 use Rattle.gc_along.proofs.telling.a_yes_is_sound.Goals as goal
 

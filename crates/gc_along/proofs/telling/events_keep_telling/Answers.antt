@@ -1,3 +1,4 @@
+-- Each event, from an opening to a flip or a drop, changes the tables so that they tell the truth of the same words.
 use Rattle.gc_along.proofs.ToldTruth.{opening_tells, made_tells, placed_tells, looked_tells, applied_tells, flipped_tells, dropped_tells}
 use Rattle.gc_along.proofs.telling.events_keep_telling.Goals as goal
 

@@ -1,3 +1,4 @@
+-- Tables still tell the truth after a write that they are told of, one to a due field or a link, and after words at the end.
 use Rattle.gc_along.proofs.ToldTruth.{written_tells, brought_tells, due_tells_written, old_link_tells, new_link_tells, old_more_tells, new_more_tells}
 use Rattle.gc_along.proofs.telling.writes_keep_telling.Goals as goal
 

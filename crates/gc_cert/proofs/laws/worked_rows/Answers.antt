@@ -1,3 +1,4 @@
+-- The worked examples of pair texts hold, by computation.
 use Rattle.gc_cert.proofs.RowProofs.{rows}
 use Rattle.gc_cert.proofs.laws.worked_rows.Goals as goal
 

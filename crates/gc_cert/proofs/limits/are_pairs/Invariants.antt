@@ -1,3 +1,4 @@
+-- The pairs so far have addresses in range.
 use Rattle.std.proofs.Common.{map, take}
 use Rattle.std.specs.List.{AllByRecursion}
 use Rattle.gc_words.specs.Views.{addresses}

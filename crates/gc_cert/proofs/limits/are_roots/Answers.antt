@@ -1,3 +1,4 @@
+-- Each root is a `u64`, so it is a word of a text.
 use Rattle.std.proofs.Common.{arith}
 use Rattle.gc_cert.proofs.WordLists.{all_words}
 use Rattle.gc_cert.proofs.limits.are_roots.Goals as goal

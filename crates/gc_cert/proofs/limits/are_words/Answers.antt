@@ -1,3 +1,4 @@
+-- Each word of a space is a `u64`, so it is a word of a text.
 use Rattle.std.proofs.Common.{arith}
 use Rattle.gc_cert.proofs.WordLists.{all_words}
 use Rattle.gc_cert.proofs.limits.are_words.Goals as goal

@@ -1,3 +1,4 @@
+-- The heading was taken with its flag, or no line is left, or the line is no heading.
 use Rattle.std.proofs.Common.{sym}
 use Rattle.gc_cert.specs.Grammar.{heading}
 use Rattle.gc_cert.specs.Internal.Parsers.{raws_in}

@@ -1,3 +1,4 @@
+-- This very line was taken, or no line is left, or the next line is another one.
 use Rattle.gc_cert.specs.Internal.Sections.{Nothing}
 use Rattle.gc_cert.specs.Internal.Parsers.{is_line}
 use Rattle.gc_cert.proofs.Forms.{line_cut, line_wrong, line_taken}

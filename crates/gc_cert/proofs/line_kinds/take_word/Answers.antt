@@ -1,3 +1,4 @@
+-- If the first line is not that of a word, the section stops there with its fault.
 use Rattle.std.specs.Fmt.{decimal}
 use Rattle.gc_cert.specs.Grammar.{IsWord}
 use Rattle.gc_cert.specs.Internal.Parsers.{word_in}

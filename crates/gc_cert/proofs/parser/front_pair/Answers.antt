@@ -1,3 +1,4 @@
+-- Where a space, a number or the line feed is missing, no pair of addresses has its line first in the text.
 use Rattle.gc_cert.proofs.Fronts.{no_space, no_new, no_pair_end}
 use Rattle.gc_cert.proofs.parser.front_pair.Goals as goal
 

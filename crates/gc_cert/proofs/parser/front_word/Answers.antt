@@ -1,3 +1,4 @@
+-- Where the line feed is missing after the number, no word has its line first in the text.
 use Rattle.gc_cert.proofs.Fronts.{no_word_end}
 use Rattle.gc_cert.proofs.parser.front_word.Goals as goal
 

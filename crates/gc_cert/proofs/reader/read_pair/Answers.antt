@@ -1,3 +1,4 @@
+-- A fault of the first bytes is one that reading this text may have, and after `TooLarge` one byte more than the limit was read.
 use Rattle.std.proofs.Common.{◌≡◌, ◌+◌, Some, rules, refl, drop, MatchResult}
 use Rattle.std.proofs.lemmas.Result.{err_from_is_err_and}
 use Rattle.gc_graph.specs.Streams.{bytes_left}

@@ -1,3 +1,4 @@
+-- The count, the pairs and the last line are taken in order, and where one of them stops, the certificate does.
 use Rattle.std.proofs.Common.{◌≤◌, [], ◌∷◌, map, arith, refl}
 use Rattle.std.specs.Prelude.{codes}
 use Rattle.std.proofs.lemmas.Result.{err_from_is_err_and}

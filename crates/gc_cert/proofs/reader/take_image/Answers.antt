@@ -1,3 +1,4 @@
+-- The sizes, the words, the count and the roots are taken in order, and where one of them stops, the image does.
 use Rattle.std.proofs.Common.{ℕ, ◌≤◌, [], ◌∷◌, ◌++◌, map, arith, refl}
 use Rattle.std.specs.Prelude.{codes}
 use Rattle.std.specs.Fmt.{decimal}

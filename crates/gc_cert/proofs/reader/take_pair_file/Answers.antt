@@ -1,3 +1,4 @@
+-- The heading, both images and the certificate are taken in order, and the first fault of a part is that of the text.
 use Rattle.std.proofs.Common.{[], ◌∷◌, ◌++◌, map, refl}
 use Rattle.std.specs.Prelude.{codes}
 use Rattle.std.proofs.lemmas.Result.{err_from_is_err_and}

@@ -1,3 +1,4 @@
+-- A turn takes the line of one more pair, and where that stops, the rest of the pairs does.
 use Rattle.std.proofs.Common.{◌≡◌, ◌∷◌, ◌++◌, [], map, rules, arith, true, false, length-append, ap, ◌∙◌}
 use Rattle.std.specs.Result.{is_ok}
 use Rattle.std.proofs.lemmas.List.{map-append}

@@ -1,3 +1,4 @@
+-- So far, the lines of these pairs were taken, one for each turn, and each pair has addresses in range.
 use Rattle.std.proofs.Common.{◌≡◌, ℕ, List, map, false}
 use Rattle.gc_words.specs.Views.{addresses}
 use Rattle.gc_graph.specs.Streams.{bytes_left, source_failed}

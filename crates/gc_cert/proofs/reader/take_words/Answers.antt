@@ -1,3 +1,4 @@
+-- A turn takes the line of one more word, and where that stops, the rest of the words does.
 use Rattle.std.proofs.Common.{◌≡◌, ◌∷◌, [], map, rules, arith, true, false, length-append}
 use Rattle.std.specs.Fmt.{decimal}
 use Rattle.std.specs.Result.{is_ok}

@@ -1,3 +1,4 @@
+-- So far, the lines of these words were taken, one for each turn.
 use Rattle.std.proofs.Common.{◌≡◌, ℕ, List, map, false}
 use Rattle.std.specs.Fmt.{decimal}
 use Rattle.gc_graph.specs.Streams.{bytes_left, source_failed}

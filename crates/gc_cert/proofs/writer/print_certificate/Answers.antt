@@ -1,3 +1,4 @@
+-- The count, the pairs and the last line are printed in order, and if the writer fails, a prefix of them went out.
 use Rattle.std.proofs.Common.{ℕ, List, [], ◌∷◌, ◌++◌, map, sym, ap, ◌∙◌, subst, length}
 use Rattle.std.specs.Prelude.{codes}
 use Rattle.std.proofs.lemmas.List.{append-nil, length-map}

@@ -1,3 +1,4 @@
+-- The sizes, the words, the count and the roots are printed in order, and if the writer fails, a prefix of them went out.
 use Rattle.std.proofs.Common.{ℕ, List, [], ◌∷◌, ◌++◌, map, refl, sym, ap, ◌∙◌, subst, length}
 use Rattle.std.specs.Prelude.{codes}
 use Rattle.std.specs.Fmt.{decimal}

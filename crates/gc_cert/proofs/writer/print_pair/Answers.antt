@@ -1,3 +1,4 @@
+-- If the buffer cannot be sent to make room for the pair, what went out is a prefix of the text before it, and so of the longer one.
 use Rattle.std.proofs.Common.{[], ◌∷◌}
 use Rattle.std.proofs.lemmas.Result.{err_from_is_err_and}
 use Rattle.gc_graph.specs.Streams.{bytes_written}

@@ -1,3 +1,4 @@
+-- A turn prints the line of one more pair, and if the writer fails, a prefix of all these lines went out.
 use Rattle.std.proofs.Common.{subst, List, ℕ}
 use Rattle.std.proofs.lemmas.Result.{err_from_is_err_and}
 use Rattle.gc_graph.specs.Streams.{bytes_written}

@@ -1,3 +1,4 @@
+-- The lines of the pairs so far are printed.
 use Rattle.std.proofs.Common.{map, take}
 use Rattle.gc_graph.specs.Streams.{bytes_written}
 use Rattle.gc_words.specs.Views.{addresses}

@@ -1,3 +1,4 @@
+-- The heading, both images and the certificate are printed in order, and if the writer fails, a prefix of them went out.
 use Rattle.std.proofs.Common.{ℕ, refl, List, [], ◌∷◌, ◌++◌, map, ◌∙◌, subst, append_assoc}
 use Rattle.std.specs.Prelude.{codes}
 use Rattle.std.proofs.lemmas.List.{append-nil}

@@ -1,3 +1,4 @@
+-- The lines of the words so far are printed.
 use Rattle.std.proofs.Common.{map, take}
 use Rattle.std.specs.Fmt.{decimal}
 use Rattle.gc_graph.specs.Streams.{bytes_written}

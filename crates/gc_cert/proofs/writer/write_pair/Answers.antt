@@ -1,3 +1,4 @@
+-- The printed lines are the text of the pair once the buffer is written, and if the writer fails, a prefix of the text went out.
 use Rattle.gc_graph.specs.Streams.{bytes_written}
 use Rattle.gc_cert.specs.Grammar.{lines_of, spelling}
 use Rattle.gc_cert.specs.Views.{pair_of}

@@ -1,3 +1,4 @@
+-- If only the new image is too large, the first fault is that of the old image's shape or else `NewShape` at 0.
 use Rattle.gc_words.specs.Fault.{shape_fault}
 use Rattle.gc_words.specs.Views.{image_of}
 use Rattle.gc_check.proofs.Sizes.{bad_old}

@@ -1,3 +1,4 @@
+-- The first fault of all pairs is the first from this pair on.
 use Rattle.std.proofs.Common.{◌≡◌, drop}
 use Rattle.gc_words.specs.Fault.{first_over_pairs, pair_fault, object_faults}
 use Rattle.gc_check.proofs.checker.first_pair_fault.Given as goal

@@ -1,3 +1,4 @@
+-- The pairs hold if any certificate does, so the verdict on them decides whether there is one.
 use Rattle.std.proofs.Common.{rules, ◌≡◌}
 use Rattle.gc_words.specs.Views.{image_of}
 use Rattle.gc_check.specs.Verdict.{pairs_of, verdict_of}

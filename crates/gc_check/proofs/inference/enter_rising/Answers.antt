@@ -1,3 +1,4 @@
+-- An entry that is 0 has no pair at either of its two addresses, and behind the last entry no pair is left.
 use Rattle.std.proofs.Common.{rules, ◌≡◌, ◌≤◌, ◌+◌, ◌*◌, ◌++◌, length, slice_index, sym, ◌∙◌, ap, arith, append-nil}
 use Rattle.std.proofs.lemmas.List.{drop_all}
 use Rattle.gc_check.specs.Internal.Meetings.{risen}

@@ -1,3 +1,4 @@
+-- The pairs so far and those of the entries to come are all pairs in order, and there is room for them.
 use Rattle.std.proofs.Common.{◌≡◌, ◌≤◌, ◌+◌, ◌*◌, ◌++◌, drop, length, vec_capacity}
 use Rattle.gc_check.specs.Internal.Meetings.{risen, taken_in}
 use Rattle.gc_check.specs.Internal.Tables.{by_address}

@@ -1,3 +1,4 @@
+-- The pairs that a walk finds, put in order, are forced and closed; an image that is not shaped has no certificate.
 use Rattle.std.proofs.Common.{rules, ◌≡◌, ◌<◌, ◌^◌, ◌∙◌, ap, [], length}
 use Rattle.gc_words.specs.Fault.{shape_fault}
 use Rattle.gc_words.specs.Views.{image_of}

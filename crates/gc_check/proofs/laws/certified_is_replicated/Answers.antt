@@ -1,3 +1,4 @@
+-- In graphs that correspond, equal paths lead to a pair, an object has one replica, and commands get the same replies.
 use Rattle.std.proofs.Common.{length, sym, ◌∙◌}
 use Rattle.gc_graph.specs.Correspond.{Corresponding}
 use Rattle.gc_words.specs.Image.{graph_of, roomy_of}

@@ -1,3 +1,4 @@
+-- A word is read alike in a small space and in any, unless it refers beyond the small one, and then it is in no pair.
 use Rattle.gc_check.proofs.SmallWords.{mean_the_same, certified_same, fault_same}
 use Rattle.gc_check.proofs.laws.small_images_mean_the_same.Goals as goal
 

@@ -1,3 +1,4 @@
+-- The worked examples hold: the prover computes them.
 use Rattle.std.proofs.Common.{◌≡◌, [], ◌∷◌, refl, false, true, arith}
 use Rattle.std.specs.Fmt.{digits}
 use Rattle.gc_check.specs.Verdict.{refusal_words, verdict_words}

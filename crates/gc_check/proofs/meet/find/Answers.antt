@@ -1,3 +1,4 @@
+-- Nothing is found at first, then the roots meet, and then the objects of the pairs.
 use Rattle.std.proofs.Common.{rules, ◌≡◌, length, [], sym, subst}
 use Rattle.std.specs.Vec.{vec_capacity}
 use Rattle.gc_check.specs.Internal.Starts.{starts_from}

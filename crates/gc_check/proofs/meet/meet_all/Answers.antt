@@ -1,3 +1,4 @@
+-- At the end no word is left to meet, so if all were alike, the two lists correspond.
 use Rattle.std.proofs.Common.{rules, ◌≡◌, ◌≤◌, length, true, subst, ◌∙◌}
 use Rattle.std.specs.List.{AllZip}
 use Rattle.gc_words.specs.Word.{words_correspond}

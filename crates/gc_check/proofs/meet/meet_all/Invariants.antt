@@ -1,3 +1,4 @@
+-- Meeting the words from here on finds what meeting all finds, and decides whether all are alike.
 use Rattle.std.proofs.Common.{◌≡◌, drop, IsTrue}
 use Rattle.gc_check.specs.Internal.Meetings.{met_all, alike_all, HoldsFound}
 use Rattle.gc_check.specs.Verdict.{pairs_of}

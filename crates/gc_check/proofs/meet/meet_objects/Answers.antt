@@ -1,3 +1,4 @@
+-- Raw objects correspond if their field words are equal, others if the values of their fields do.
 use Rattle.std.proofs.Common.{rules}
 use Rattle.gc_words.specs.Image.{block_at}
 use Rattle.gc_check.specs.Verdict.{pairs_of}

@@ -1,3 +1,4 @@
+-- Each pair found is of two starts, and there are no more pairs than words, so the objects of all pairs have met at the end.
 use Rattle.std.proofs.Common.{rules, ◌≡◌, ◌<◌, length, true, IsTrue, sym, ◌∙◌, ap, subst, ℕ, ◌+◌, ◌≤◌, arith}
 use Rattle.std.proofs.lemmas.List.{length-map}
 use Rattle.gc_words.specs.Certificate.{BlocksCorrespond}

@@ -1,3 +1,4 @@
+-- The objects of the pairs before this one have met and, if the flag says so, are alike.
 use Rattle.std.proofs.Common.{IsTrue}
 use Rattle.gc_check.specs.Internal.Meetings.{MetTo, AlikeTo, HoldsFound}
 use Rattle.gc_check.specs.Verdict.{pairs_of}

@@ -1,3 +1,4 @@
+-- A pair whose two objects are free has room in the row, and the tables then hold it too.
 use Rattle.std.proofs.Common.{rules, ◌<◌, length, ◌≡◌, ◌∷◌, ◌++◌, [], true}
 use Rattle.std.specs.Vec.{vec_capacity}
 use Rattle.gc_words.specs.declared.image.Pair.{Pair}

@@ -1,3 +1,4 @@
+-- An object starts here, so the word lies within the words and is read as its header.
 use Rattle.std.proofs.Common.{sym, ◌∙◌, ap, is_some}
 use Rattle.gc_words.specs.Image.{header_of}
 use Rattle.gc_check.proofs.StartMarks.{start_stands, start_within}

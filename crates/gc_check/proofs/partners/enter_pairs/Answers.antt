@@ -1,3 +1,4 @@
+-- A pair without a fault adds one partner to the table, and the first pair with a fault has the first fault of all addresses.
 use Rattle.std.proofs.Common.{sym, ◌∙◌, get_or}
 use Rattle.gc_words.specs.declared.image.Pair.{Pair}
 use Rattle.gc_check.specs.Internal.Tables.{by_address}

@@ -1,3 +1,4 @@
+-- The table has the partners of the pairs so far, and the first fault of an address is among the rest.
 use Rattle.gc_check.proofs.PartnerRow.{Entered}
 use Rattle.gc_check.proofs.partners.enter_pairs.Given as goal
 

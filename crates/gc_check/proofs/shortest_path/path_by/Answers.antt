@@ -1,3 +1,4 @@
+-- The first reference in the order of visits has the least depth, and if no visit refers to the address, no path leads there.
 use Rattle.std.proofs.Common.{◌≤◌, length, sym, subst}
 use Rattle.gc_check.proofs.Breadth.{least, unreachable}
 use Rattle.gc_check.proofs.shortest_path.path_by.Goals as goal

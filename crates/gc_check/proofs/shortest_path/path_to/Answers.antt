@@ -1,3 +1,4 @@
+-- All that is reachable was visited, so what the visits say of paths holds of the image.
 use Rattle.std.proofs.Common.{sym, subst}
 use Rattle.std.specs.Prelude.{IfOk, IfSome}
 use Rattle.gc_check.specs.Internal.Visits.{AreAllVisited}

@@ -1,3 +1,4 @@
+-- Once the walk has reached the end, it has no fault, and each start has its mark.
 use Rattle.gc_check.proofs.StartMarks.{all_marked}
 use Rattle.gc_check.proofs.starts.mark_starts.Goals as goal
 

@@ -1,3 +1,4 @@
+-- The rest of the walk finds the fault of the whole, and the starts before this place have their marks.
 use Rattle.std.proofs.Common.{◌≡◌, ◌-◌, length}
 use Rattle.gc_words.specs.Fault.{fault_of_walk}
 use Rattle.gc_words.specs.Walking.{walk_on}

@@ -1,3 +1,4 @@
+-- Equal lists have no first difference.
 use Rattle.std.proofs.Common.{◌≡◌, ◌==◌, ◌∙◌, ap}
 use Rattle.std.proofs.lemmas.Bool.Decides.{Decides-eqb}
 use Rattle.std.proofs.lemmas.Slice.Eq.{slice_eq-Decides}

@@ -1,3 +1,4 @@
+-- The first words that are not equal are among those from this one on.
 use Rattle.std.proofs.Common.{◌≡◌, ◌==◌, drop}
 use Rattle.gc_words.specs.Fault.{first_difference}
 use Rattle.gc_check.proofs.tables.first_unequal.Given as goal

@@ -1,3 +1,4 @@
+-- A text has one reading, so what holds of the pair that was read holds of each pair that the text spells.
 use Rattle.gc_cert.specs.Views.{pair_in}
 use Rattle.gc_check.specs.Texts.{OnYes, Promises}
 use Rattle.gc_check.proofs.Texts.{of_each_reading, front_of_text}

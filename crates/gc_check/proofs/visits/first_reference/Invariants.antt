@@ -1,3 +1,4 @@
+-- No visit so far refers to the address.
 use Rattle.gc_check.specs.Internal.Visits.{NoneRefers}
 use Rattle.gc_check.proofs.visits.first_reference.Given as goal
 

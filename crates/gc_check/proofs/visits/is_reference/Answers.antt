@@ -1,3 +1,4 @@
+-- A word is a reference to the address exactly if the reference that is read from it is this one.
 use Rattle.std.proofs.Common.{rules, ◌≡◌, ◌<◌, ◌^◌, Some, None, true, false, ap, sym, ◌∙◌}
 use Rattle.std.proofs.lemmas.Bool.{eqb-true, eq-eqb}
 use Rattle.gc_check.proofs.visits.is_reference.Goals as goal

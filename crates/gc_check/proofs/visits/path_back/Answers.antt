@@ -1,3 +1,4 @@
+-- Each step back to an earlier visit puts one field before the others, so the fields in reverse are the path.
 use Rattle.std.proofs.Common.{rules, ◌≡◌, ◌≤◌, ◌+◌, ◌++◌, ◌∷◌, [], length, reverse, Some, ap, sym, ◌∙◌, subst, arith}
 use Rattle.std.proofs.lemmas.List.{length-reverse}
 use Rattle.gc_graph.specs.Graph.{Ref, at_path}

@@ -1,3 +1,4 @@
+-- The fields so far, in reverse, lead from this visit to the address, and their number makes up for its lesser depth.
 use Rattle.std.proofs.Common.{◌≡◌, ℕ, ◌<◌, ◌+◌, length, reverse, Some}
 use Rattle.gc_graph.specs.Graph.{Ref}
 use Rattle.gc_words.specs.Image.{Image, graph_of}

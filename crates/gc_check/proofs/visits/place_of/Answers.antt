@@ -1,3 +1,4 @@
+-- The word that refers to the address is the place, and if there is none, the node does not refer to it.
 use Rattle.std.proofs.Common.{rules, ◌≡◌, ◌≤◌, length, Some, inl, inr, arith}
 use Rattle.std.specs.Prelude.{slice_get}
 use Rattle.std.proofs.lemmas.Bool.{cases_order}

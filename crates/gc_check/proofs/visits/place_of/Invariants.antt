@@ -1,3 +1,4 @@
+-- No word of the node so far refers to the address.
 use Rattle.std.proofs.Common.{◌≡◌, ℕ, ◌<◌, Some}
 use Rattle.std.specs.Prelude.{slice_get}
 use Rattle.gc_check.specs.Internal.Visits.{references}

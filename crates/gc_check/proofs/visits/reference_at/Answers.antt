@@ -1,3 +1,4 @@
+-- A reference that is read from a word is the one that the list of references has there.
 use Rattle.std.proofs.Common.{Some, ◌∙◌, sym, ap}
 use Rattle.gc_check.proofs.Breadth.{reference_word}
 use Rattle.gc_check.proofs.visits.reference_at.Goals as goal

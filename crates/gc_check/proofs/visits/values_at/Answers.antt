@@ -1,3 +1,4 @@
+-- A raw object has no references, and any other has those of its field words.
 use Rattle.std.proofs.Common.{rules, ◌≡◌, Some, true, false, subst}
 use Rattle.gc_words.specs.Image.{header_at, block_at}
 use Rattle.gc_check.proofs.Breadth.{object_refers, raw_refers}

@@ -1,3 +1,4 @@
+-- A turn visits all that one more node refers to, and no visit becomes deeper than the next one can lead to.
 use Rattle.std.proofs.Common.{rules, ◌<◌, ◌≤◌, suc, length, arith}
 use Rattle.gc_check.proofs.Breadth.{one_more_visit, near_next, low_count}
 use Rattle.gc_check.proofs.visits.visit_nodes.Goals as goal

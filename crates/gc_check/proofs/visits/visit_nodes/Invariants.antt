@@ -1,3 +1,4 @@
+-- What the nodes so far refer to is visited, and no visit is deeper than the next node can lead to.
 use Rattle.std.proofs.Common.{ℕ, suc, ◌<◌, ◌-◌, length}
 use Rattle.gc_check.specs.Internal.Visits.{HoldsWalk, AreWithin, LeadsToVisits, visit_at}
 use Rattle.gc_check.proofs.visits.visit_nodes.Given as goal

@@ -1,3 +1,4 @@
+-- While an object is not visited, there are fewer visits than objects and one for the roots, so there is room for its visit.
 use Rattle.std.proofs.Common.{rules, ◌≡◌, ◌<◌, ◌^◌, ◌++◌, ◌∷◌, [], length, set, true, suc, ◌≤◌, subst, sym}
 use Rattle.std.specs.Prelude.{slice_index, vec_capacity}
 use Rattle.gc_words.specs.Image.{is_start}

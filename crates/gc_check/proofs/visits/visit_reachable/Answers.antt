@@ -1,3 +1,4 @@
+-- The walk begins with the visit of the roots, and there are no more visits than a `u32` can number.
 use Rattle.std.proofs.Common.{rules, ◌≡◌, ◌≤◌, ◌∷◌, [], suc, length, arith}
 use Rattle.std.specs.Prelude.{vec_capacity}
 use Rattle.gc_check.specs.Internal.Starts.{starts_from}

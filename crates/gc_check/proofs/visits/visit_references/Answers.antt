@@ -1,3 +1,4 @@
+-- A turn follows one more word of the node, and in the end all that the node refers to is visited.
 use Rattle.std.proofs.Common.{rules, ◌≡◌, ◌≤◌, length, ap, sym, ◌∙◌, suc, subst}
 use Rattle.gc_words.specs.Image.{graph_of}
 use Rattle.gc_check.specs.Internal.Visits.{HasReferences, visit_at}

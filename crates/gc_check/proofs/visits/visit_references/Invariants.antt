@@ -1,3 +1,4 @@
+-- What the node's words so far refer to is visited, and the earlier visits are still in their places.
 use Rattle.std.proofs.Common.{suc}
 use Rattle.gc_check.specs.Internal.Visits.{HoldsWalk, Continues, AreWithin, LeadsToVisits, visit_at}
 use Rattle.gc_check.proofs.visits.visit_references.Given as goal

@@ -1,3 +1,4 @@
+-- A word that refers to an object is a reference of its node, so the object is visited, one deeper at most.
 use Rattle.std.proofs.Common.{rules, ◌≡◌, ◌<◌, ◌^◌, length, Some, None, true, arith, sym, ◌∙◌, ◌+◌, ap, subst, suc}
 use Rattle.gc_words.specs.Image.{is_start}
 use Rattle.gc_check.specs.Internal.Visits.{Visited, visit_at}

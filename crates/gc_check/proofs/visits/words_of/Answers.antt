@@ -1,3 +1,4 @@
+-- The references of a node are those of its words: the roots, or the fields of an object.
 use Rattle.std.proofs.Common.{subst, sym, refl}
 use Rattle.gc_words.specs.Image.{graph_of}
 use Rattle.gc_check.specs.Internal.Visits.{HasReferences}

@@ -1,3 +1,4 @@
+-- Without the first segment the joined entries begin after it; a segment that comes back at the end has none.
 use Rattle.std.proofs.Common.{◌-◌, drop, sym, ap, ◌∙◌, subst}
 use Rattle.gc_copy.specs.Internal.Segments.{segment, joined, AreSegments}
 use Rattle.gc_copy.proofs.Segments.{first_of, pushed}

@@ -1,3 +1,4 @@
+-- Each turn lists one object's link and address, in order, and there are fewer pairs than words.
 use Rattle.std.proofs.Common.{rules, ◌≡◌, ◌<◌, ◌++◌, ◌∷◌, [], true, length, ap, sym, ◌∙◌, subst}
 use Rattle.std.specs.Prelude.{◌^◌}
 use Rattle.std.specs.Result.{is_ok}

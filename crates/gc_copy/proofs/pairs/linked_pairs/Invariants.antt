@@ -1,3 +1,4 @@
+-- So far, the pairs are those of the objects before this place.
 use Rattle.std.proofs.Common.{◌-◌, length}
 use Rattle.gc_copy.proofs.ObjectWalks.{Lists}
 use Rattle.gc_copy.proofs.pairs.linked_pairs.Given as goal

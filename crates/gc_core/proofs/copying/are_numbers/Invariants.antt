@@ -1,3 +1,4 @@
+-- The words so far spell numbers, so all words do exactly if the rest do.
 use Rattle.std.proofs.Common.{◌≡◌, drop}
 use Rattle.std.specs.List.{list_all}
 use Rattle.gc_graph.specs.Machine.{is_number}

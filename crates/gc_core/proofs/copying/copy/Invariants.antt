@@ -1,3 +1,4 @@
+-- While no collection is open, the fields so far are copied, and copying the rest makes the whole copy.
 use Rattle.std.proofs.Common.{◌≡◌, ◌+◌, ◌-◌, Bool}
 use Rattle.gc_copy.specs.Words.{idle_state, LinksNothing}
 use Rattle.gc_core.specs.Copying.{copy_step}

@@ -1,3 +1,4 @@
+-- The `Get` leaves the collection as it is, so the `Put` that is logged starts from the state after the `Get`.
 use Rattle.std.proofs.Common.{ap, ◌∙◌}
 use Rattle.gc_graph.specs.declared.command.Op.TheVariants.{Get, Put}
 use Rattle.gc_graph.specs.declared.reply.Reply.{Reply}

@@ -1,3 +1,4 @@
+-- If both objects have enough fields, the reply says whether the target takes the values.
 use Rattle.std.proofs.Common.{◌≡◌, ◌≤◌, ◌+◌, length, refl, sym, ◌∙◌, arith, true, false}
 use Rattle.gc_heap.specs.Heap.{graph_in}
 use Rattle.gc_core.proofs.Copies.{fitting_reply}

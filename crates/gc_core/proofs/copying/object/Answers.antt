@@ -1,3 +1,4 @@
+-- The object in the slot has the header and the field words at its address, as many as the header says.
 use Rattle.std.proofs.Common.{◌≡◌, Some, sym, ap, ◌∙◌}
 use Rattle.gc_words.specs.Space.{SpaceWords}
 use Rattle.gc_words.specs.Image.{block_at, header_at}

@@ -1,3 +1,4 @@
+-- A raw object's fields are numbers, which any object takes.
 use Rattle.std.proofs.Common.{sym, ◌∙◌}
 use Rattle.gc_core.proofs.Copies.{raw_taken}
 use Rattle.gc_core.proofs.copying.takes.Goals as goal

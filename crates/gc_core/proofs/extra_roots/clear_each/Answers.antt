@@ -1,3 +1,4 @@
+-- A turn sets one more extra root to nil, a command that writes no field, so an open collection still belongs to the heap.
 use Rattle.std.proofs.Common.{◌≡◌, ◌+◌, ◌-◌, length, sym, ◌∙◌, ap, arith}
 use Rattle.std.specs.Option.{option_map}
 use Rattle.std.proofs.lemmas.List.{length-map}

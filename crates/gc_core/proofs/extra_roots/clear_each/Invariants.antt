@@ -1,3 +1,4 @@
+-- The extra roots so far are nil, clearing the rest makes the whole call, and an open collection still belongs to the heap.
 use Rattle.std.proofs.Common.{◌≡◌, ◌-◌, Bool}
 use Rattle.std.specs.Option.{option_map}
 use Rattle.gc_heap.specs.Heap.{extra_roots_in}

@@ -1,3 +1,4 @@
+-- A turn fills the next field from the next slot and sets no link.
 use Rattle.std.proofs.Common.{◌≡◌, ◌∷◌, ◌+◌, ℕ, suc, drop, sym, ◌∙◌, ap, arith}
 use Rattle.std.proofs.lemmas.List.{drop_more}
 use Rattle.gc_graph.specs.Slots.{SlotName}

@@ -1,3 +1,4 @@
+-- While no collection is open, the fields so far have their slots' values, and filling the rest makes the whole call.
 use Rattle.std.proofs.Common.{◌≡◌, Bool, length, drop}
 use Rattle.gc_graph.specs.Slots.{place}
 use Rattle.gc_heap.specs.Filling.{TakesFields}

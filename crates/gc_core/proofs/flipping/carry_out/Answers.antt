@@ -1,3 +1,4 @@
+-- The images that are returned are those of the open collection's pair, of which the certificate holds.
 use Rattle.std.proofs.Common.{ap, ◌∙◌, subst}
 use Rattle.std.specs.Prelude.{IfSome}
 use Rattle.gc_words.specs.Image.{Image}

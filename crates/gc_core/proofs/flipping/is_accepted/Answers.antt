@@ -1,3 +1,4 @@
+-- The images of the words have the outlines of the plan's images, because an outline does not depend on links.
 use Rattle.std.proofs.Common.{◌≡◌, sym, ◌∙◌, ap, subst}
 use Rattle.gc_words.specs.Image.{Image}
 use Rattle.gc_words.specs.Space.{image_with}

@@ -1,3 +1,4 @@
+-- The known roots need no search, and a root beyond the used ones is nil, so the root that is found is the first missing one of all.
 use Rattle.std.proofs.Common.{◌≡◌, ℕ, ◌+◌, ◌<◌, suc, refl, sym, ◌∙◌, ap, arith}
 use Rattle.gc_graph.specs.Slots.{roots_of}
 use Rattle.gc_graph.specs.Graph.{root}

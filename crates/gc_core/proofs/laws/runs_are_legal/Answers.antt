@@ -1,3 +1,4 @@
+-- Event by event, the replies to mutators are those of a graph without a collector, or `Full`.
 use Rattle.gc_core.proofs.LegalRuns.{run_is_legal, root_run_is_legal}
 use Rattle.gc_core.proofs.laws.runs_are_legal.Goals as goal
 

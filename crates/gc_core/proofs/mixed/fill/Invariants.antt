@@ -1,3 +1,4 @@
+-- While no collection is open, the fields so far have their numbers and values, and filling the rest makes the whole call.
 use Rattle.std.proofs.Common.{◌≡◌, Bool, drop}
 use Rattle.gc_copy.specs.Words.{idle_state, LinksNothing}
 use Rattle.gc_core.specs.Mixed.{sources_step}

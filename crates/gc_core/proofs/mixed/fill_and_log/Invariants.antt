@@ -1,3 +1,4 @@
+-- While a collection is open, the fields so far have their numbers and values and are logged, and the log has room for the rest.
 use Rattle.std.proofs.Common.{◌≡◌, ◌≤◌, ◌+◌, length, drop}
 use Rattle.gc_copy.specs.Words.{open_state, BelongsTo, spare_of}
 use Rattle.gc_core.specs.Mixed.{sources_step}

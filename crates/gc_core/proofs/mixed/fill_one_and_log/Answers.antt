@@ -1,3 +1,4 @@
+-- A number's `Num` leaves the collection as it is, so the `Put` that is logged starts from the state after the `Num`.
 use Rattle.std.proofs.Common.{ap, ◌∙◌}
 use Rattle.gc_graph.specs.declared.command.Op.TheVariants.{Num, Put}
 use Rattle.gc_graph.specs.declared.reply.Reply.{Reply}

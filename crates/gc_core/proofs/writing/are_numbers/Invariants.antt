@@ -1,3 +1,4 @@
+-- The words so far are below 2^63, so all words are exactly if the rest are.
 use Rattle.std.proofs.Common.{◌≡◌, drop}
 use Rattle.std.specs.List.{list_all}
 use Rattle.gc_core.specs.Writing.{is_number_word}

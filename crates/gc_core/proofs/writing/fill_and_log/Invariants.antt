@@ -1,3 +1,4 @@
+-- While a collection is open, the numbers so far are written and logged, and the log has room for the rest.
 use Rattle.std.proofs.Common.{◌≡◌, ◌≤◌, ◌+◌, length, drop}
 use Rattle.gc_graph.specs.Slots.{place}
 use Rattle.gc_heap.specs.Filling.{TakesNumbers}

@@ -1,3 +1,4 @@
+-- The number that is refused stands for the old object at the address by which it is above `top`.
 use Rattle.std.proofs.Common.{rules, ◌≡◌, ◌≤◌, ◌-◌, ◌<◌, subst, arith}
 use Rattle.gc_graph.specs.Graph.{Num}
 use Rattle.gc_words.specs.Word.{value_of}

@@ -1,3 +1,4 @@
+-- Each command keeps the words closed and each old field that refers to a young object remembered.
 use Rattle.gc_generations.proofs.Stands.{opened}
 use Rattle.gc_generations.proofs.Commands.{made, old_field, young_field, root_set}
 use Rattle.gc_generations.proofs.laws.commands_keep_heaps_standing.Goals as goal

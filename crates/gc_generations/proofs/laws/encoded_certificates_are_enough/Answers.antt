@@ -1,3 +1,4 @@
+-- A code is a number for each old object, so words correspond in the encoded images just as in a minor collection.
 use Rattle.gc_generations.proofs.Encoded.{enough}
 use Rattle.gc_generations.proofs.laws.encoded_certificates_are_enough.Goals as goal
 

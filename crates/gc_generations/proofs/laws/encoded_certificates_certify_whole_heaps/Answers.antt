@@ -1,3 +1,4 @@
+-- The law about encoded images gives a minor collection's certificate, and the next one that of the whole heap.
 use Rattle.std.proofs.Common.{◌++◌, length, map}
 use Rattle.gc_generations.specs.Minor.{word_of_field, IsMinor}
 use Rattle.gc_generations.proofs.laws.encoded_certificates_certify_whole_heaps.Goals as goal

@@ -1,3 +1,4 @@
+-- A minor collection writes no old field but the remembered ones, so any other field still corresponds to its replica's.
 use Rattle.gc_generations.proofs.UnderWay.{under_way}
 use Rattle.gc_generations.proofs.laws.major_collections_go_on.Goals as goal
 

@@ -1,3 +1,4 @@
+-- An old object is its own replica, because its fields correspond: the remembered ones as roots, the others as they are.
 use Rattle.gc_generations.specs.Minor.{whole, identity}
 use Rattle.std.proofs.Common.{◌++◌}
 use Rattle.gc_generations.proofs.Whole.{certified}

@@ -1,3 +1,4 @@
+-- The whole heap's certificate, restricted to young objects, roots and remembered fields, is the minor collection's.
 use Rattle.gc_generations.proofs.Back.{back}
 use Rattle.gc_generations.proofs.laws.minor_certificates_lose_nothing.Goals as goal
 

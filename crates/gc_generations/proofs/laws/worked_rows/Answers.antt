@@ -1,3 +1,4 @@
+-- The worked examples hold: the prover computes them.
 use Rattle.std.proofs.Common.{◌≡◌, [], ◌∷◌, refl, false, true, arith}
 use Rattle.std.proofs.lemmas.List.Elements.{All-nil}
 use Rattle.gc_generations.proofs.laws.worked_rows.Goals as goal

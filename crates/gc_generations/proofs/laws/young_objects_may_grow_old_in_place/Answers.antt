@@ -1,3 +1,4 @@
+-- The words stay where they are, so all objects can be old, and no field can refer to a young one.
 use Rattle.gc_generations.proofs.Stands.{in_place}
 use Rattle.gc_generations.proofs.laws.young_objects_may_grow_old_in_place.Goals as goal
 

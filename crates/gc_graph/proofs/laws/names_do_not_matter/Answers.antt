@@ -1,3 +1,4 @@
+-- A graph is matched with itself, so two choices of unused names get the same replies, and the fresh names are one choice.
 use Rattle.std.proofs.Common.{refl}
 use Rattle.gc_graph.proofs.Replies.{matched_itself, same_replies, same_as_fresh, own_pairs}
 use Rattle.gc_graph.proofs.laws.names_do_not_matter.Goals as goal

@@ -1,3 +1,4 @@
+-- The worked examples hold: the prover computes them.
 use Rattle.std.proofs.Common.{refl}
 use Rattle.gc_graph.proofs.laws.worked_rows.Goals as goal
 

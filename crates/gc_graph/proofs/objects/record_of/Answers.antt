@@ -1,3 +1,4 @@
+-- The record that has the name is the graph's object with that name.
 use Rattle.std.proofs.Common.{◌∙◌, ap}
 use Rattle.gc_graph.specs.Internal.Records.{record_option}
 use Rattle.gc_graph.proofs.Plains.{found_record}

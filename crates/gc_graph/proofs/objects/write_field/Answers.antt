@@ -1,3 +1,4 @@
+-- A field that the record has is written in the graph's object; if there is no such field or object, nothing changes.
 use Rattle.std.proofs.Common.{sym, ◌∙◌, ap}
 use Rattle.gc_graph.specs.Records.{objects_of}
 use Rattle.gc_graph.proofs.Plains.{written_entries, field_there, field_past, record_gone, same_entries}

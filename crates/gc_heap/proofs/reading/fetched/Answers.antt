@@ -1,3 +1,4 @@
+-- A reference shows an object, whether that is raw or not.
 use Rattle.std.proofs.Common.{◌≡◌, ℕ, Bool, true, false, cond, Some, refl, sym, ◌∙◌, ap, subst}
 use Rattle.gc_graph.specs.Graph.{Ref}
 use Rattle.gc_graph.specs.Machine.{view_of}

@@ -1,3 +1,4 @@
+-- The object has exactly the fields whose numbers are below its header's length.
 use Rattle.std.proofs.Common.{◌≡◌, true, false, is_some, inl, inr, ap, sym, ◌∙◌, arith}
 use Rattle.std.specs.Prelude.{nat_lt}
 use Rattle.std.proofs.lemmas.Bool.{cases_Bool, ltb-true, ltb-false}

@@ -1,3 +1,4 @@
+-- What is seen of an object is what its header says: its kind, its length, and whether it is raw.
 use Rattle.std.proofs.Common.{◌≡◌, ℕ, cond, Some, ap, ◌∙◌, sym}
 use Rattle.gc_graph.specs.Graph.{Value, Ref}
 use Rattle.gc_graph.specs.Machine.{view_of}

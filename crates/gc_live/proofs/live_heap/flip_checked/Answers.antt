@@ -1,3 +1,4 @@
+-- A standing checker that goes along and is never lost accepts a ready collection, so no other checker is asked.
 use Rattle.gc_live.proofs.Lasts.{sure_if_ready}
 use Rattle.gc_live.proofs.live_heap.flip_checked.Goals as goal
 

@@ -1,3 +1,4 @@
+-- Telling of the fields from this one on completes what is told of all, and all of it is true if the rest is.
 use Rattle.std.proofs.Common.{◌+◌, ◌-◌}
 use Rattle.gc_along.specs.Tables.{Tables}
 use Rattle.gc_live.specs.Internal.Told.{ToldTruly, ToldWritten}

@@ -1,3 +1,4 @@
+-- The least of the numbers that the pairs give, in whatever order they come, is that of the first faulty pair.
 use Rattle.std.proofs.Common.{◌≡◌, ◌-◌, ◌<◌, ℕ, ap, ◌∙◌, arith, subst, List, map}
 use Rattle.std.specs.Ordering.{nat_cmp}
 use Rattle.std.specs.List.{range_with_len}

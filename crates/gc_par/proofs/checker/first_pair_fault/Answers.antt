@@ -1,3 +1,4 @@
+-- If the least number is the number of pairs, no pair has a fault.
 use Rattle.gc_par.proofs.Least.{none_has_no_fault}
 use Rattle.gc_par.proofs.checker.first_pair_fault.Goals as goal
 

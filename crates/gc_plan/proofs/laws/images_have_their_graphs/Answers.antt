@@ -1,3 +1,4 @@
+-- The walk over a heap's image finds its objects, and their words mean its values, so the image gives the heap back.
 use Rattle.gc_plan.proofs.Images.{image_shaped, graph_back}
 use Rattle.gc_plan.proofs.StateLaws.{in_runs, roomy_back, has_image}
 use Rattle.gc_plan.specs.Passing.{HasImage}

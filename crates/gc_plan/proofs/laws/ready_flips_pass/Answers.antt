@@ -1,3 +1,4 @@
+-- In a ready collection nothing is due, so all fields and roots correspond, and its certificate holds in every run.
 use Rattle.gc_plan.specs.Passing.{PassesWhereReady, NeverRefused}
 use Rattle.gc_plan.proofs.Steps.{ready_parts, new_heap}
 use Rattle.gc_plan.proofs.Flips.{certified, corresponding_graphs}

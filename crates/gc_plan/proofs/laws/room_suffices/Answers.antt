@@ -1,3 +1,4 @@
+-- In a well-formed state a new space that is large enough has room for all replicas, and a run only reaches such states.
 use Rattle.gc_plan.specs.Passing.{AlwaysHasRoom}
 use Rattle.gc_plan.proofs.Room.{has_room}
 use Rattle.gc_plan.proofs.StateLaws.{in_runs}

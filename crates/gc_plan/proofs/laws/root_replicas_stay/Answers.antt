@@ -1,3 +1,4 @@
+-- While a collection is open no step removes a replica, and a command changes one root at most.
 use Rattle.gc_plan.proofs.RootsStay.{collect_stays, root_kept, mutate_stays}
 use Rattle.gc_plan.proofs.laws.root_replicas_stay.Goals as goal
 

@@ -1,3 +1,4 @@
+-- The scan pointer does not pass the new end, and each replica takes two words at least, in every state of a run.
 use Rattle.gc_plan.specs.Passing.{ScansToTheEnd, HasFewPairs}
 use Rattle.gc_plan.proofs.StateLaws.{in_runs, scans_to_the_end, has_few_pairs}
 use Rattle.gc_plan.proofs.laws.scans_and_pairs_are_bounded.Goals as goal

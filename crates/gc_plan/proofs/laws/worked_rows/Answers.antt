@@ -1,3 +1,4 @@
+-- The worked examples hold: the prover computes both sides.
 use Rattle.std.proofs.Common.{refl}
 use Rattle.gc_plan.proofs.laws.worked_rows.Goals as goal
 

@@ -1,3 +1,4 @@
+-- Taking the seats by their numbers finds the first fault of the comparison, or none if the seats and the history agree.
 use Rattle.gc_shared.proofs.SeatNumbers.{first_fault_of}
 use Rattle.gc_shared.specs.Seats.{opened_with}
 use Rattle.gc_shared.proofs.closing.fault.Goals as goal

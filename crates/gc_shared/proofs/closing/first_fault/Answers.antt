@@ -1,3 +1,4 @@
+-- If all receipts stand and no place of the history is without a mark, the receipts and the history agree.
 use Rattle.std.proofs.Common.{◌≡◌, ◌≤◌, arith, count_by, length}
 use Rattle.gc_shared.proofs.ReceiptMarks.{agrees}
 use Rattle.gc_shared.proofs.closing.first_fault.Goals as goal

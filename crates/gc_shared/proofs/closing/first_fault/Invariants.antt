@@ -1,3 +1,4 @@
+-- The receipts of the seats before this one stand, and the marks are at exactly their places.
 use Rattle.std.proofs.Common.{◌≡◌, length}
 use Rattle.gc_shared.specs.Closing.{SeatsStand, receipts_below}
 use Rattle.gc_shared.specs.Internal.Marks.{IsMarked}

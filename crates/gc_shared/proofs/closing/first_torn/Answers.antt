@@ -1,3 +1,4 @@
+-- A receipt at a place that is not free is the first that does not stand, and any other is one more that stands.
 use Rattle.std.proofs.Common.{◌≡◌, ap, length-set, ◌∙◌, take_all}
 use Rattle.gc_shared.specs.declared.seat.Receipt.{Receipt}
 use Rattle.gc_shared.specs.Closing.{receipts_below}

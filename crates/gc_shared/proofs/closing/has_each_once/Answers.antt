@@ -1,3 +1,4 @@
+-- Each turn finds a number that one seat has, or shows that the seats do not have each number once.
 use Rattle.std.proofs.Common.{below_more, sym, ◌∙◌, arith, refl}
 use Rattle.std.proofs.lemmas.Bool.{false≢true}
 use Rattle.gc_shared.proofs.closing.has_each_once.Goals as goal

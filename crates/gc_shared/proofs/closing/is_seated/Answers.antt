@@ -1,3 +1,4 @@
+-- The seats are right exactly if the size, the mutators and the numbers of the seats are.
 use Rattle.std.proofs.Common.{sym, ◌∙◌}
 use Rattle.gc_shared.proofs.closing.is_seated.Goals as goal
 

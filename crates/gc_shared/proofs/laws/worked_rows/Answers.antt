@@ -1,3 +1,4 @@
+-- The worked examples of receipts hold, by computation.
 use Rattle.gc_shared.proofs.WorkedRows.{rows}
 use Rattle.gc_shared.proofs.laws.worked_rows.Goals as goal
 

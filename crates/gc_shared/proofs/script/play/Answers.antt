@@ -1,3 +1,4 @@
+-- A turn adds the receipt of one more command of the script.
 use Rattle.gc_shared.proofs.ScriptEvents.{played_more}
 use Rattle.gc_shared.proofs.script.play.Goals as goal
 

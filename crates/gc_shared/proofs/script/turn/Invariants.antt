@@ -1,3 +1,4 @@
+-- The seat has one receipt for each turn so far, all of useful steps, and its number has not changed.
 use Rattle.std.proofs.Common.{◌≡◌, length, All}
 use Rattle.gc_shared.specs.Scripts.{IsUsefulStep}
 use Rattle.gc_shared.proofs.script.turn.Given as goal

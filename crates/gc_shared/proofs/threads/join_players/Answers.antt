@@ -1,3 +1,4 @@
+-- A turn joins the next thread and keeps its seat, which has performed its script, or keeps the first fault.
 use Rattle.std.proofs.Common.{◌≡◌, ℕ, ◌+◌, ◌-◌, ◌≤◌, List, arith, subst, vec_len}
 use Rattle.std.specs.Vec.Iter.{into_iter_items, into_iter_len}
 use Rattle.gc_shared.specs.Scripts.{script_at}

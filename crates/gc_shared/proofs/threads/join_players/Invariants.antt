@@ -1,3 +1,4 @@
+-- The threads that are left are those of the next scripts, and without a fault the seats so far have played the others.
 use Rattle.std.proofs.Common.{◌-◌, ◌<◌, ◌≤◌, vec_len, vec_capacity, OnOk}
 use Rattle.std.specs.Vec.Iter.{into_iter_items, into_iter_len}
 use Rattle.gc_shared.specs.Internal.Scripts.{HavePlayed}

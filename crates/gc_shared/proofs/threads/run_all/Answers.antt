@@ -1,3 +1,4 @@
+-- The last seat is the collector's and the others are the mutators', so all that ended have played their scripts and turns.
 use Rattle.std.proofs.Common.{◌≡◌, length, map, ap, vec_len}
 use Rattle.std.specs.List.{range_with_len}
 use Rattle.gc_shared.specs.Seats.{SeatValue, fresh}

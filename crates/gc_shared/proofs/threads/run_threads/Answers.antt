@@ -1,3 +1,4 @@
+-- Seats that played their scripts and agree with the history show that the history is of these scripts and turns.
 use Rattle.std.proofs.Common.{◌≡◌, List, length, ap, ◌∙◌, subst, vec_len}
 use Rattle.std.specs.declared.vec.Vec.{Vec}
 use Rattle.std.specs.declared.alloc.Global.{Global}

@@ -1,3 +1,4 @@
+-- The threads so far are to play the first scripts, and the seats that are left are those of the other scripts, in order.
 use Rattle.std.proofs.Common.{◌≡◌, ◌+◌, ◌≤◌, length, map, vec_len, vec_capacity}
 use Rattle.std.specs.List.{range_with_len}
 use Rattle.std.specs.Vec.Iter.{into_iter_items, into_iter_len}

@@ -1,3 +1,4 @@
+-- A fault of the pieces is a fault of the text, and after `TooLarge` one byte more than the limit was read.
 use Rattle.std.proofs.Common.{rules, ℕ, ◌+◌, Err, Some, drop, ap, sym, ◌∙◌}
 use Rattle.gc_trace.proofs.ReadLines.{may_fail, too_large}
 use Rattle.gc_trace.proofs.event_reader.read_more.Goals as goal

@@ -1,3 +1,4 @@
+-- If no more comes, all that is left of the text waits, so the text is within the limit.
 use Rattle.std.proofs.Common.{rules, arith}
 use Rattle.std.proofs.lemmas.Result.{err_from_is_err_and}
 use Rattle.gc_graph.proofs.Public.{all_waits}

@@ -1,3 +1,4 @@
+-- What was read belongs to the same text and is within the limit, and the reader has not failed.
 use Rattle.std.proofs.Common.{◌≡◌, ◌≤◌, ◌-◌, ℕ, List, false}
 use Rattle.gc_graph.specs.Streams.{bytes_left, source_failed}
 use Rattle.gc_graph.specs.Pieces.{IsWithin}

@@ -1,3 +1,4 @@
+-- If a line, its version or its sizes are missing, the text has no heading, and if all are there, it begins with this one.
 use Rattle.std.proofs.Common.{sym}
 use Rattle.gc_trace.proofs.FrontFaults.{no_first, no_version, no_second, no_sizes}
 use Rattle.gc_trace.proofs.Total.{one_heading}

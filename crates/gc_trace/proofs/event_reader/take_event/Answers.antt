@@ -1,3 +1,4 @@
+-- If the fast pass finds no event, the first line of the text decides: it is an event's, or the text begins with none.
 use Rattle.std.proofs.Common.{sym}
 use Rattle.gc_trace.proofs.FrontFaults.{no_line, no_event}
 use Rattle.gc_trace.proofs.Total.{one_event}

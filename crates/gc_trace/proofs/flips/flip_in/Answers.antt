@@ -1,3 +1,4 @@
+-- An event keeps the spaces small enough for a text, so the pair that its flip keeps has counts that a text can hold.
 use Rattle.std.proofs.Common.{refl, sym, subst}
 use Rattle.gc_graph.specs.Limits.{most_words}
 use Rattle.gc_plan.specs.Runs.{HasSizesWithin}

@@ -1,3 +1,4 @@
+-- An event that flips leaves one flip less to skip, and any other event leaves as many.
 use Rattle.std.proofs.Common.{◌∙◌, ◌-◌, sym, ap, subst, arith, inl, inr, rules}
 use Rattle.std.specs.Prelude.{slice_get}
 use Rattle.gc_plan.specs.State.{State}

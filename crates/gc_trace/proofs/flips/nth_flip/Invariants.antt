@@ -1,3 +1,4 @@
+-- The flip that is asked for is the one that comes in the rest of the events, after those that are still to skip.
 use Rattle.std.proofs.Common.{◌≡◌}
 use Rattle.gc_graph.specs.Limits.{most_words}
 use Rattle.gc_plan.specs.Belonging.{IsState}

@@ -1,3 +1,4 @@
+-- The letter `c`, a space and a step of this version are the tokens of the step's event.
 use Rattle.std.proofs.Common.{refl}
 use Rattle.gc_trace.proofs.EventFronts.{collect_spelled}
 use Rattle.gc_trace.proofs.front.collect.Goals as goal

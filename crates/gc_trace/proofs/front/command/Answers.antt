@@ -1,3 +1,4 @@
+-- The letter `m`, a mutator, a space and a command of this version are the tokens of the command's event.
 use Rattle.std.proofs.Common.{refl}
 use Rattle.gc_trace.proofs.EventFronts.{command_spelled}
 use Rattle.gc_trace.proofs.front.command.Goals as goal

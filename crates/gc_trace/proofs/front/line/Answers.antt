@@ -1,3 +1,4 @@
+-- The tokens of an event and a line feed are the event's line.
 use Rattle.std.proofs.Common.{List, ℕ, ap, ◌∙◌}
 use Rattle.gc_trace.specs.Grammar.{event_tokens}
 use Rattle.gc_trace.specs.Internal.Fronts.{spaced}

@@ -1,3 +1,4 @@
+-- The second byte counts exactly if it is a digit, and the digits that count are the decimal of the number.
 use Rattle.std.proofs.Common.{arith}
 use Rattle.gc_trace.proofs.SmallNumbers.{small_digits}
 use Rattle.gc_trace.proofs.front.small_number.Goals as goal

@@ -1,3 +1,4 @@
+-- A script has only commands of the events, in their order, so their numbers are in range as those of the events are.
 use Rattle.std.proofs.Common.{ℕ, ◌==◌, List, [], ◌∷◌, ◌++◌}
 use Rattle.std.specs.List.{AllByRecursion}
 use Rattle.std.proofs.lemmas.Bool.{cond_both}

@@ -1,3 +1,4 @@
+-- The worked examples of texts, sizes, raw objects and lines hold, by computation.
 use Rattle.gc_trace.proofs.RowProofs.{text_rows, sized_rows, raw_rows, line_rows}
 use Rattle.gc_trace.proofs.laws.worked_rows.Goals as goal
 

@@ -1,3 +1,4 @@
+-- If the writer fails, what went out is a prefix of the report's text.
 use Rattle.gc_trace.proofs.player.play_report.Goals as goal
 
 pub returns-in-Err-clause-front : goal.returns-in-Err-clause-front

@@ -1,3 +1,4 @@
+-- If the text is known, the events that were read to its end are those of the trace that it is, and so are the results.
 use Rattle.std.proofs.Common.{◌∙◌}
 use Rattle.gc_trace.specs.Faults.{IsReadAsTrace}
 use Rattle.gc_trace.specs.Internal.Reading.{read_so_far}

@@ -1,3 +1,4 @@
+-- A turn adds the next event of the text, and at its end the events, each with a line of the version, are the trace.
 use Rattle.std.proofs.Common.{◌≡◌, rules, sym, subst, MatchResult, true, false}
 use Rattle.std.specs.Result.{is_ok}
 use Rattle.std.proofs.lemmas.Result.{err_from_is_err_and}

@@ -1,3 +1,4 @@
+-- The events so far are those read from the text, each with a line of the version, and the reader has not failed.
 use Rattle.std.proofs.Common.{◌≡◌, ◌+◌, ◌-◌, ℕ, List, Some, false}
 use Rattle.std.specs.List.{AllByRecursion}
 use Rattle.gc_graph.specs.Streams.{bytes_left, source_failed}

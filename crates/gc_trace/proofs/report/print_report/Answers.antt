@@ -1,3 +1,4 @@
+-- Each count adds its line to the printed text, and all of them are the report's text.
 use Rattle.std.proofs.Common.{refl, ◌++◌, ◌∙◌, ap, List, ℕ}
 use Rattle.std.specs.List.{flat_map}
 use Rattle.gc_graph.specs.Lines.{line}

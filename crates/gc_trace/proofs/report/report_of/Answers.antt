@@ -1,3 +1,4 @@
+-- A turn counts one more answer of the history, and the counts of a part of a history fit their type as those of all do.
 use Rattle.std.proofs.Common.{◌≡◌, ◌+◌, ◌<◌, ◌^◌, length, sym, ap, ◌∙◌, subst, rules}
 use Rattle.gc_plan.specs.State.{heap_end}
 use Rattle.gc_words.specs.Space.{free_in, end_of}

@@ -1,3 +1,4 @@
+-- The report so far is that of the answers before this entry.
 use Rattle.std.proofs.Common.{◌≡◌, take}
 use Rattle.gc_world.specs.History.{answers_of}
 use Rattle.gc_world.specs.World.{present}

@@ -1,3 +1,4 @@
+-- A world that has run all events of the trace has the core's answers to them and is in the state that they lead to.
 use Rattle.std.proofs.Common.{◌∙◌}
 use Rattle.std.proofs.lemmas.List.{take_all}
 use Rattle.gc_trace.specs.WorldRuns.{HasRun}

@@ -1,3 +1,4 @@
+-- So far, the world's history is of the events before this one.
 use Rattle.std.proofs.Common.{◌≡◌, take}
 use Rattle.gc_world.specs.History.{events_of}
 use Rattle.gc_trace.proofs.run.run_trace.Given as goal

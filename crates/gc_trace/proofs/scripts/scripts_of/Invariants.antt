@@ -1,3 +1,4 @@
+-- So far, there is a script for each mutator before this one.
 use Rattle.std.proofs.Common.{◌≡◌, map}
 use Rattle.gc_trace.specs.Scripts.{scripts}
 use Rattle.gc_trace.proofs.scripts.scripts_of.Given as goal

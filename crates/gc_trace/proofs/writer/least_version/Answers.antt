@@ -1,3 +1,4 @@
+-- Before the first entry, the least version of the rest is that of all.
 use Rattle.std.proofs.Common.{arith}
 use Rattle.gc_trace.proofs.Versions.{least_all}
 use Rattle.gc_trace.proofs.writer.least_version.Goals as goal

@@ -1,3 +1,4 @@
+-- The larger of the version so far and that of the remaining entries is the least version of all.
 use Rattle.std.proofs.Common.{◌≡◌, ◌≤◌, max}
 use Rattle.gc_trace.specs.Grammar.{least_version}
 use Rattle.gc_world.specs.History.{events_of}

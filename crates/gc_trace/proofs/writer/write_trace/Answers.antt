@@ -1,3 +1,4 @@
+-- Each entry's line follows those before it, so all of the text goes out, or a prefix of it if the writer fails.
 use Rattle.std.proofs.Common.{ℕ, List}
 use Rattle.gc_world.specs.declared.entry.Entry.{Entry}
 use Rattle.gc_trace.specs.Grammar.{trace_heading, least_version}

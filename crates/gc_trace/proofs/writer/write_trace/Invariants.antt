@@ -1,3 +1,4 @@
+-- What went out and what waits in the buffer are the heading and the lines of the entries so far.
 use Rattle.gc_graph.specs.Streams.{bytes_written, HasSent}
 use Rattle.gc_trace.specs.Grammar.{trace_heading, least_version}
 use Rattle.gc_world.specs.History.{events_of}

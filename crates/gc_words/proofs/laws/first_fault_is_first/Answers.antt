@@ -1,3 +1,4 @@
+-- The fault that is found fails after all earlier conditions held, and a fault that does so is the one that is found.
 use Rattle.gc_words.proofs.FirstFault.{first_fails}
 use Rattle.gc_words.proofs.FoundFault.{fault_found, one_first}
 use Rattle.gc_words.proofs.laws.first_fault_is_first.Goals as goal

@@ -1,3 +1,4 @@
+-- An object is found in the graph by its start, with fields that its header says how to read, and a root by its place.
 use Rattle.gc_words.proofs.Ends.{fields_counted}
 use Rattle.gc_words.proofs.Graphs.{object_found, field_found, graph_empty, root_value}
 use Rattle.gc_words.proofs.laws.graphs_of_spaces.Goals as goal

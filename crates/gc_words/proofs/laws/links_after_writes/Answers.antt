@@ -1,3 +1,4 @@
+-- A new link is 0, a written link is the word that was written, and a write elsewhere leaves each link as it was.
 use Rattle.gc_words.specs.Image.{fresh_block}
 use Rattle.gc_words.proofs.Links.{link_placed, link_placed_beside, link_beside_field, link_written_there, link_written_beside, link_cleared}
 use Rattle.gc_words.proofs.laws.links_after_writes.Goals as goal

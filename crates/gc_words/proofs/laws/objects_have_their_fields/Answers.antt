@@ -1,3 +1,4 @@
+-- A header is that of the object that starts there, which has a field for each number below its length and no other.
 use Rattle.gc_words.proofs.Fields.{block_of_header, field_within, field_past}
 use Rattle.gc_words.proofs.laws.objects_have_their_fields.Goals as goal
 

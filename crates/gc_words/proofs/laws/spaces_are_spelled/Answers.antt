@@ -1,3 +1,4 @@
+-- The words of a space are those of its objects with their links, and a walk over such words meets these objects.
 use Rattle.gc_words.proofs.Spelled.{spelled_words, laid_out_words, walk_spelled, link_spelled}
 use Rattle.gc_words.proofs.laws.spaces_are_spelled.Goals as goal
 

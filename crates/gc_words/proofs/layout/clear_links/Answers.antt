@@ -1,3 +1,4 @@
+-- A turn sets the link of one object to 0 and leaves the words behind it, so the rest of the walk is as before.
 use Rattle.std.proofs.Common.{◌≡◌, sym, ◌∙◌, subst}
 use Rattle.std.specs.Prelude.{slice_set, IsOk}
 use Rattle.gc_words.specs.Spelling.{no_links}

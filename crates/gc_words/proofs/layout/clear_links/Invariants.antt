@@ -1,3 +1,4 @@
+-- The words so far, and then the other objects without links, are the words of all objects without links.
 use Rattle.std.proofs.Common.{◌≡◌, ◌-◌, length}
 use Rattle.std.specs.Prelude.{IsOk}
 use Rattle.gc_words.specs.Image.{blocks}

@@ -1,3 +1,4 @@
+-- The walk goes on as long as it is before the place, so an object starts there exactly if the walk stops there.
 use Rattle.std.proofs.Common.{◌≤◌, sym, ◌∙◌, arith}
 use Rattle.gc_words.proofs.Steps.{behind, start_behind, found_start}
 use Rattle.gc_words.proofs.layout.has_start.Goals as goal

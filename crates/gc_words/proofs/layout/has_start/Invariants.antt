@@ -1,3 +1,4 @@
+-- An object starts at the place exactly if the rest of the walk meets one there.
 use Rattle.std.proofs.Common.{◌≡◌, ◌-◌, length}
 use Rattle.std.specs.Prelude.{IsOk}
 use Rattle.gc_words.specs.Walking.{walk_from}

@@ -1,3 +1,4 @@
+-- The words so far, and then the other objects with lowered links, are all objects with lowered links.
 use Rattle.std.proofs.Common.{◌≡◌, ◌-◌, ◌≤◌, ℕ, get_or, length}
 use Rattle.std.specs.Prelude.{IsOk}
 use Rattle.gc_words.specs.Image.{blocks}

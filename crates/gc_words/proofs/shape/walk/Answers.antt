@@ -1,3 +1,4 @@
+-- A turn goes on by one object, and the fault of the walk is where no object follows, or 0 if the words do not fit the end.
 use Rattle.std.proofs.Common.{sym, ◌∙◌, ap}
 use Rattle.gc_words.specs.Fault.{fault_of_walk}
 use Rattle.gc_words.proofs.Steps.{same_fault, no_step, framed}

@@ -1,3 +1,4 @@
+-- The rest of the walk finds the fault that the whole walk finds.
 use Rattle.std.proofs.Common.{◌≡◌, ◌-◌, length}
 use Rattle.gc_words.specs.Fault.{fault_of_walk}
 use Rattle.gc_words.specs.Walking.{walk_on}

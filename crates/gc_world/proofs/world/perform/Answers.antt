@@ -1,3 +1,4 @@
+-- A flip of small spaces returns a certified pair of small images, so the pair that is kept is one.
 use Rattle.std.proofs.Common.{◌≡◌, Some, None, refl}
 use Rattle.std.specs.Prelude.{IfSome}
 use Rattle.std.specs.Option.{option_map}

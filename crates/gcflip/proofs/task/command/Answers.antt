@@ -1,3 +1,4 @@
+-- Two subcommands with a file and a number are added to the others, and the definition is then the program's command line.
 use Rattle.std.proofs.Common.{◌∙◌, ap, codes}
 use Rattle.gcflip.specs.CommandLine.{number_command}
 use Rattle.gcflip.proofs.CommandLines.{adds_command}

@@ -1,3 +1,4 @@
+-- Three subcommands are added one by one, and the definition is then the command line of those that take nothing but a file.
 use Rattle.std.proofs.Common.{◌≡◌, rules, codes}
 use Rattle.clap.specs.Words.{app_of, new_app}
 use Rattle.gcflip.proofs.CommandLines.{adds_command}

@@ -1,3 +1,4 @@
+-- The subcommand's file is in its rows, so the task is the one that the rows ask for.
 use Rattle.std.proofs.Common.{◌≡◌, ℕ, List, Some, ap, codes, rules}
 use Rattle.clap.specs.Words.{first_value, found_of, subcommand_name_of}
 use Rattle.gcflip.proofs.CommandLines.{found_file, absent_has_no_text, matches_find_file, number_task_asked, present_has_text}

@@ -1,3 +1,4 @@
+-- Arguments that are a subcommand and a file have no fault and are matched as such, so the only error left is out of memory.
 use Rattle.std.proofs.Common.{◌∙◌, ap, map, rules, string_bytes}
 use Rattle.clap.specs.Words.{App, takes}
 use Rattle.gcflip.proofs.CommandLines.{check_takes_file, file_arguments_taken, matches_of_file_arguments, no_fault, no_arguments_taken, play_takes_file, report_takes_file}

@@ -1,3 +1,4 @@
+-- The pairs in the front of the caller's array are the inferred ones, of which the same paths find both objects.
 use Rattle.std.proofs.Common.{rules, ◌≡◌, ◌++◌, length, take, drop, sym, ◌∙◌, subst}
 use Rattle.std.proofs.Math.Seq.{take-append_seam}
 use Rattle.gc_check.specs.Infer.{AreTogether}

@@ -1,3 +1,4 @@
+-- Turn by turn, the steps of paced work pay for what the commands added, so neither the work nor the logs pass the bound.
 use Rattle.gcflip_heap_c.proofs.Turns.{turns_work, turns_logs}
 use Rattle.gcflip_heap_c.proofs.laws.paced_work_bounds_logs.Goals as goal
 

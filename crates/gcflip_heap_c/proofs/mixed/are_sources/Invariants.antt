@@ -1,3 +1,4 @@
+-- All records are right exactly if the remaining ones are.
 use Rattle.std.proofs.Common.{◌↔◌, drop}
 use Rattle.std.specs.Prelude.{IsTrue}
 use Rattle.std.specs.List.{AllByRecursion}

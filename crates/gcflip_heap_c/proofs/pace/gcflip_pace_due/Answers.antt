@@ -1,3 +1,4 @@
+-- The steps that are due pay for what was allocated and logged, or are all that are left, or as many as a `u32` can count.
 use Rattle.std.proofs.Common.{ℕ, sym, subst}
 use Rattle.gcflip_heap_c.specs.Pace.{Pays}
 use Rattle.gcflip_heap_c.proofs.Paid.{paid}

@@ -1,3 +1,4 @@
+-- The call's counts and due steps are those of the heap's state, so what it performs is paced work.
 use Rattle.gcflip_heap_c.proofs.Paced.{paced_call}
 use Rattle.gcflip_heap_c.proofs.pace.work_at_pace.Goals as goal
 

@@ -1,3 +1,4 @@
+-- The sum so far is that of the logs before this one, and fits, because each has fewer than 2^64 entries.
 use Rattle.std.proofs.Common.{◌≡◌, ◌≤◌, ◌*◌, ◌^◌}
 use Rattle.gcflip_heap_c.specs.Readings.{entries_of}
 use Rattle.gcflip_heap_c.proofs.reading.logged_in.Given as goal

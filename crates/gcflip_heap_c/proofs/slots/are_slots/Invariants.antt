@@ -1,3 +1,4 @@
+-- All numbers are those of slots exactly if the remaining ones are.
 use Rattle.std.proofs.Common.{◌↔◌, ◌<◌, drop}
 use Rattle.std.specs.List.{AllByRecursion}
 use Rattle.gcflip_heap_c.specs.Slots.{slot_numbers}

@@ -1,3 +1,4 @@
+-- The useful step, with the size if it is a begin, gets a sound reply and leaves less to do, unless work ends with it.
 use Rattle.std.proofs.Common.{◌∙◌, ap}
 use Rattle.gcflip_heap_c.specs.Work.{with_size}
 use Rattle.gcflip_heap_c.proofs.Left.{leaves_reply}

@@ -1,3 +1,4 @@
+-- A turn makes the run one useful step longer, after a step that was not enough.
 use Rattle.std.proofs.Common.{◌≡◌, ℕ, ◌+◌, suc, sym, ◌∙◌, subst, arith}
 use Rattle.gcflip_heap_c.specs.Work.{IsRun}
 use Rattle.gcflip_heap_c.proofs.Runs.{first_run, longer_run, short_more}

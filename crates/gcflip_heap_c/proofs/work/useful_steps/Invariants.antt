@@ -1,3 +1,4 @@
+-- So many useful steps were performed, the last got this reply, and none before it was enough.
 use Rattle.std.proofs.Common.{ℕ, suc, ◌<◌}
 use Rattle.gcflip_heap_c.specs.Work.{IsRun, after_useful, useful_reply}
 use Rattle.gcflip_heap_c.proofs.work.useful_steps.Given as goal

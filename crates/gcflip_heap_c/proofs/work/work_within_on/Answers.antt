@@ -1,3 +1,4 @@
+-- The report has the run's steps, and the words that replicas took are counted from the new space's end at the start.
 use Rattle.std.proofs.Common.{◌≡◌, ◌⊎◌, ◌<◌, ◌≤◌, ◌-◌, ℕ, suc, false, None, ap, sym, ◌∙◌, subst, arith}
 use Rattle.gc_core.specs.CollectedHeap.{Allocates}
 use Rattle.gcflip_heap_c.specs.Work.{IsRun, sized_step, after_useful, useful_reply, goes_on, end_in, end_after}

@@ -1,3 +1,4 @@
+-- A turn walks over one more object, if there is one, and the tables tell the truth of it, or the checker is lost.
 use Rattle.std.proofs.Common.{◌≡◌, inl, inr, ⊎_elim, true, false, sym, ◌∙◌}
 use Rattle.std.proofs.lemmas.Bool.{cases_Bool}
 use Rattle.gc_along.proofs.ToldTruth.{made_tells, walked_on}

@@ -1,3 +1,4 @@
+-- The checker is lost, or it has seen nothing of a new space, and its tables tell the truth of the old one.
 use Rattle.std.proofs.Common.{◌≡◌, ◌⊎◌, ◌∷◌, [], true}
 use Rattle.std.specs.Prelude.{slice_index}
 use Rattle.gc_along.specs.Events.{opening_tables}

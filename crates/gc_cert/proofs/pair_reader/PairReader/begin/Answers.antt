@@ -1,3 +1,4 @@
+-- A reader that has read nothing is at the start of the text, and stays there when the first bytes come.
 use Rattle.gc_cert.specs.Sections.{start}
 use Rattle.gc_cert.proofs.ReadPieces.{at_start}
 use Rattle.gc_cert.proofs.pair_reader.PairReader.begin.Goals as goal

@@ -1,3 +1,4 @@
+-- If the input ends without a further byte, the whole text was taken; a byte that waits is a bad line.
 use Rattle.std.proofs.Common.{rules, arith, ◌≡◌, ◌≢◌, [], false, length, sym, ◌∙◌}
 use Rattle.std.proofs.lemmas.Result.{err_from_is_err_and}
 use Rattle.gc_graph.specs.Streams.{source_failed}

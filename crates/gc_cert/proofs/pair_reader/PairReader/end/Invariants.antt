@@ -1,3 +1,4 @@
+-- The reader is at the same place of the text, however much it has read, and has not failed.
 use Rattle.std.proofs.Common.{◌≡◌, ◌-◌, ℕ, List, false}
 use Rattle.gc_graph.specs.Streams.{bytes_left, source_failed}
 use Rattle.gc_cert.specs.Faults.{limit}

@@ -1,3 +1,4 @@
+-- Bytes that come leave the reader at its place of the text, and a fault of the input is one of the text.
 use Rattle.std.proofs.Common.{ap, ◌∙◌, Err}
 use Rattle.gc_cert.proofs.ReadPieces.{cannot_read}
 use Rattle.gc_cert.proofs.pair_reader.PairReader.more.Goals as goal

@@ -1,3 +1,4 @@
+-- A line that was taken leaves the reader at the place behind it; a fault counts only once the input has ended.
 use Rattle.std.proofs.Common.{rules, arith, ◌≡◌, ◌∷◌, [], ap, sym, ◌∙◌, false, subst, List, ℕ}
 use Rattle.std.proofs.lemmas.Result.{err_from_is_err_and}
 use Rattle.gc_graph.specs.Streams.{bytes_left, source_failed}

@@ -1,3 +1,4 @@
+-- The reader is at the place where the line begins, however much more it has read, and has not failed.
 use Rattle.std.proofs.Common.{◌≡◌, ◌-◌, ℕ, List, false}
 use Rattle.gc_graph.specs.Streams.{bytes_left, source_failed}
 use Rattle.gc_cert.specs.Faults.{limit}

@@ -1,3 +1,4 @@
+-- A place with a mark is one more start, and a place without one is none.
 use Rattle.std.proofs.Common.{rules, ◌≡◌, ◌<◌, ◌≤◌, ◌+◌, ◌-◌, length, true, false}
 use Rattle.gc_words.specs.Image.{is_start}
 use Rattle.gc_check.specs.Internal.Starts.{starts_from}

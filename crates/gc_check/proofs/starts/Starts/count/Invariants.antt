@@ -1,3 +1,4 @@
+-- The starts counted so far and those from this place on are all starts, and there are no more than places.
 use Rattle.std.proofs.Common.{◌≡◌, ◌+◌, ◌-◌, ◌≤◌, length}
 use Rattle.gc_check.specs.Internal.Starts.{starts_from}
 use Rattle.gc_check.proofs.starts.Starts.count.Given as goal

@@ -1,3 +1,4 @@
+-- By the tables' pairs, the first difference is among the words from this one on.
 use Rattle.std.proofs.Common.{◌≡◌, drop}
 use Rattle.gc_words.specs.Word.{words_correspond}
 use Rattle.gc_words.specs.Fault.{first_difference}

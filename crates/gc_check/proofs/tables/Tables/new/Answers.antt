@@ -1,3 +1,4 @@
+-- A fault of the sizes is the first one that the tables can have, whatever the other conditions would find.
 use Rattle.gc_words.specs.Fault.{table_fault}
 use Rattle.gc_words.specs.Views.{image_of}
 use Rattle.gc_check.specs.Verdict.{pairs_of}

@@ -1,3 +1,4 @@
+-- A fault of the old shape is the first of all, and one of the new shape the first if the old image is shaped.
 use Rattle.gc_words.specs.Fault.{shape_fault}
 use Rattle.gc_words.specs.Views.{image_of}
 use Rattle.gc_check.specs.Verdict.{pairs_of}

@@ -1,3 +1,4 @@
+-- Walks over both images reach their ends and a pair joins two starts, so both headers can be read.
 use Rattle.std.proofs.Common.{sym, ◌<◌, ap, subst, length, get_or, IsOk, IsTrue}
 use Rattle.gc_words.specs.Image.{walk_words, is_start}
 use Rattle.gc_words.specs.Views.{image_of, addresses}

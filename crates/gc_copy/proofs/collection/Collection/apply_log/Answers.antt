@@ -1,3 +1,4 @@
+-- The plan applies the oldest entry: its field is brought up to date and the entry goes, or nothing changes if there is no room.
 use Rattle.std.proofs.Common.{◌≡◌, ◌<◌, length, Some, None, refl, ap, sym, ◌∙◌, subst, arith}
 use Rattle.std.specs.Prelude.{slice_get, slice_set}
 use Rattle.gc_heap.specs.Heap.{graph_in}

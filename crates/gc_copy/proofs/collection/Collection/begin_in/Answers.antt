@@ -1,3 +1,4 @@
+-- A new space without objects and with empty logs is a sound collection, and it belongs to the heap, whose links lead nowhere.
 use Rattle.std.proofs.Common.{◌≡◌, ◌≤◌, ℕ, List, [], map, length, replicate, sym, ◌∙◌, ap}
 use Rattle.gc_copy.specs.Words.{RoomWords}
 use Rattle.gc_copy.proofs.Beginning.{begun, begun_sound}

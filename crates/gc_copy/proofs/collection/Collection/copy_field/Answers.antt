@@ -1,3 +1,4 @@
+-- A raw object's field word is copied as it is, and then the field of its replica is up to date.
 use Rattle.std.proofs.Common.{ap}
 use Rattle.gc_words.specs.Image.{blocks}
 use Rattle.gc_words.specs.Space.{SpaceWords}

@@ -1,3 +1,4 @@
+-- Each replica's link leads to an original, whose link is cleared, so at the end no object of the heap has a link above the mark.
 use Rattle.std.proofs.Common.{◌≡◌, arith, rules, ◌<◌, ℕ, List, false, length, sym, ap, ◌∙◌, subst}
 use Rattle.std.specs.Prelude.{◌^◌}
 use Rattle.gc_words.specs.Image.{is_start}

@@ -1,3 +1,4 @@
+-- So far, an object of the heap has no link above the mark, or its replica is still ahead.
 use Rattle.std.proofs.Common.{◌-◌, length}
 use Rattle.gc_copy.proofs.Dropping.{Clears}
 use Rattle.gc_copy.proofs.collection.Collection.drop_into.Given as goal

@@ -1,3 +1,4 @@
+-- The replicas fill the new space up to its end, so the end of the space is the end in the plan.
 use Rattle.std.proofs.Common.{ap, sym, ◌∙◌}
 use Rattle.gc_plan.specs.State.{new_end}
 use Rattle.gc_copy.specs.Words.{CollectionWords, collection_in}

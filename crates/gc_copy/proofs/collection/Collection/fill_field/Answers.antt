@@ -1,3 +1,4 @@
+-- The object takes the value, so the logged field is the one that the `Put` writes, and the collection belongs to the heap again.
 use Rattle.std.proofs.Common.{◌≡◌, [], ◌∷◌, map, ap, ◌∙◌}
 use Rattle.gc_graph.specs.Graph.{names_of}
 use Rattle.gc_graph.specs.declared.command.Op.TheVariants.{Put}

@@ -1,3 +1,4 @@
+-- The `Num` writes no field, and the logged field is the one that the `Put` writes, so the collection belongs to the heap again.
 use Rattle.std.proofs.Common.{◌≡◌, [], ◌∷◌, map, ap, subst, ◌∙◌}
 use Rattle.gc_graph.specs.Graph.{names_of}
 use Rattle.gc_graph.specs.declared.command.Op.TheVariants.{Num, Put}

@@ -1,3 +1,4 @@
+-- The new space without its links and the moved roots are a sound heap, which is the heap after the plan's flip.
 use Rattle.std.proofs.Common.{◌≡◌, ℕ, List, length, sym, ap, ◌∙◌, subst}
 use Rattle.std.specs.Prelude.{IsTrue}
 use Rattle.gc_words.specs.Space.{SpaceWords, without_links}

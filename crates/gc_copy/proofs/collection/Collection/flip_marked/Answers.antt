@@ -1,3 +1,4 @@
+-- The new space keeps links that lead nowhere, as none is above the mark, and all logs are empty because the collection was ready.
 use Rattle.std.proofs.Common.{◌≡◌, ℕ, List, [], ◌∷◌, true, false, map, length, replicate, refl, sym, ap, ◌∙◌, subst}
 use Rattle.std.specs.List.{list_all}
 use Rattle.std.proofs.lemmas.Bool.{and_parts}

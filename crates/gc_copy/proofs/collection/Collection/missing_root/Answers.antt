@@ -1,3 +1,4 @@
+-- A turn adds a root whose target has a replica, or ends the search at the first root whose target has none.
 use Rattle.std.proofs.Common.{◌≡◌, ⊎_elim, ◌<◌, None, Some, length, sym, ◌∙◌, ap, subst, arith}
 use Rattle.std.specs.Option.{option_map}
 use Rattle.std.proofs.lemmas.Bool.{cases_eq}

@@ -1,3 +1,4 @@
+-- So far, the target of every root from `from` on has a replica.
 use Rattle.std.proofs.Common.{◌≤◌, ◌<◌, ℕ}
 use Rattle.gc_graph.specs.Graph.{root}
 use Rattle.gc_heap.specs.Heap.{graph_in}

@@ -1,3 +1,4 @@
+-- Either the field's target has a replica and the moved word brings the field up to date, or the plan has no room for one either.
 use Rattle.std.proofs.Common.{ap}
 use Rattle.gc_words.specs.Word.{value_of}
 use Rattle.gc_words.specs.Image.{blocks}

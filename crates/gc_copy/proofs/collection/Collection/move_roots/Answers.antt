@@ -1,3 +1,4 @@
+-- The roots are done, so each root word's target has a replica and can be moved, and the row becomes the moved roots.
 use Rattle.gc_copy.specs.Words.{collection_in}
 use Rattle.gc_copy.proofs.RootWalks.{root_has_replica, moved_all}
 use Rattle.gc_copy.proofs.collection.Collection.move_roots.Goals as goal

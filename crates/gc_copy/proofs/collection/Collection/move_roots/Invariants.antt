@@ -1,3 +1,4 @@
+-- So far, the row has the moved words of the roots before this one.
 use Rattle.std.proofs.Common.{◌≡◌, ◌++◌, map, drop}
 use Rattle.gc_copy.specs.Words.{collection_in}
 use Rattle.gc_copy.proofs.RootWalks.{moved_to}

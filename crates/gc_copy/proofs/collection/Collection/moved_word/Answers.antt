@@ -1,3 +1,4 @@
+-- A word that refers to no object is the same word in the new space.
 use Rattle.gc_copy.specs.Words.{collection_in}
 use Rattle.gc_copy.proofs.OpenCollection.{unmoved}
 use Rattle.gc_copy.proofs.collection.Collection.moved_word.Goals as goal

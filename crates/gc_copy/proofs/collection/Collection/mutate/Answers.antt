@@ -1,3 +1,4 @@
+-- A command other than `Put` writes no field, so it needs no room in the log and leaves the collection as it is.
 use Rattle.gc_heap.specs.Commands.{Performs}
 use Rattle.gc_copy.proofs.Mutating.{no_other_writes}
 use Rattle.gc_copy.proofs.collection.Collection.mutate.Goals as goal

@@ -1,3 +1,4 @@
+-- The first log with an entry is the one at which the loop stops, because no log before it has one.
 use Rattle.std.proofs.Common.{◌<◌, ◌≤◌, length, refl, ap, sym, ◌∙◌, arith}
 use Rattle.gc_plan.specs.Steps.{first_log}
 use Rattle.gc_copy.specs.Words.{CollectionWords, collection_in}

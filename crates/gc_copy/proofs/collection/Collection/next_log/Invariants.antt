@@ -1,3 +1,4 @@
+-- The first log with an entry, from this log on, is the first of all logs with one.
 use Rattle.std.proofs.Common.{◌≡◌}
 use Rattle.gc_plan.specs.Steps.{first_log}
 use Rattle.gc_copy.specs.Words.{collection_in}

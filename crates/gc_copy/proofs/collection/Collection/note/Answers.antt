@@ -1,3 +1,4 @@
+-- One log gets the entry at its end, so a collection that was out of date only in this field belongs to the heap.
 use Rattle.std.proofs.Common.{◌≡◌, ◌∷◌, [], ◌++◌, length, ap, ◌∙◌, length-set}
 use Rattle.std.specs.Prelude.{slice_set}
 use Rattle.gc_plan.specs.Steps.{with_log, log_at}

@@ -1,3 +1,4 @@
+-- The copy at the new end, with links both ways, is the plan's new replica; if it lacks room, the plan places none either.
 use Rattle.std.proofs.Common.{◌≡◌, ℕ, ◌+◌, ◌<◌, ◌≤◌, length, arith, List, true, false, Some, None, refl, ap, sym, ◌∙◌, subst}
 use Rattle.gc_graph.specs.Graph.{lookup}
 use Rattle.gc_words.specs.Image.{blocks, header_at}

@@ -1,3 +1,4 @@
+-- The field that the code finds and logs is the one that the `Put` writes, and there is none if the `Put` writes nothing.
 use Rattle.std.proofs.Common.{◌≡◌, [], ◌∷◌, Some, None, sym}
 use Rattle.std.specs.Option.{option_map}
 use Rattle.gc_graph.specs.declared.command.Op.TheVariants.{Put}

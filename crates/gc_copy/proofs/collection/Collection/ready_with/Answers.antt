@@ -1,3 +1,4 @@
+-- A collection is ready exactly if no log has an entry, the scan is done and the roots are done; then its certificate holds.
 use Rattle.std.proofs.Common.{◌≡◌, true, false, sym, ◌∙◌, subst}
 use Rattle.gc_heap.specs.Heap.{graph_in}
 use Rattle.gc_copy.specs.Words.{IsCollection, collection_in}

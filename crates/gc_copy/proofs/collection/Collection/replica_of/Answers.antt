@@ -1,3 +1,4 @@
+-- What an original's link has above the mark is the address of its replica, or 0 if it has none.
 use Rattle.std.proofs.Common.{◌≡◌, ℕ, ◌-◌, ◌<◌, true, ap, sym, ◌∙◌, subst}
 use Rattle.std.proofs.Common.{rules}
 use Rattle.std.specs.Prelude.{◌^◌}

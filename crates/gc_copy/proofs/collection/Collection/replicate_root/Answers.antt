@@ -1,3 +1,4 @@
+-- The target of the found root has no replica yet, and if there is no room to place one, the plan's step lacks room too.
 use Rattle.std.proofs.Common.{flat_map, sym, ◌∙◌, rules, ap, subst}
 use Rattle.std.specs.Option.{option_map}
 use Rattle.gc_copy.specs.declared.collection.roots.MissingRoot.{MissingRoot}

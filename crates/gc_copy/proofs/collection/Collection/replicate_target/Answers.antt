@@ -1,3 +1,4 @@
+-- Once a replica is placed, the word refers to an object that has one.
 use Rattle.gc_copy.specs.Words.{collection_in}
 use Rattle.gc_copy.proofs.OpenCollection.{on_ok, has_placed}
 use Rattle.gc_copy.proofs.collection.Collection.replicate_target.Goals as goal

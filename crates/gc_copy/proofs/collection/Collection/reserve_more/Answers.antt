@@ -1,3 +1,4 @@
+-- More room in one log changes no entry and takes no room from another log, so the collection still belongs to the heap.
 use Rattle.std.proofs.Common.{◌≡◌, ◌≤◌, length, ap, ◌∙◌, subst, length-set}
 use Rattle.std.specs.Prelude.{slice_set}
 use Rattle.gc_copy.specs.Words.{CollectionWords, collection_in, spare_of}

@@ -1,3 +1,4 @@
+-- The end of the new space is the end in the plan, so a scan pointer that is there has passed all replicas.
 use Rattle.std.proofs.Common.{◌==◌, ap, sym, ◌∙◌}
 use Rattle.gc_plan.specs.Steps.{scan_done}
 use Rattle.gc_copy.specs.Words.{CollectionWords, collection_in}

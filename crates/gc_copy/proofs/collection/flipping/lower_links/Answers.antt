@@ -1,3 +1,4 @@
+-- The loop meets each object of the heap once and lowers its link, and no other word changes.
 use Rattle.std.proofs.Common.{◌≡◌, ◌<◌, ◌-◌, ℕ, true, length, Some, sym, ap, ◌∙◌, subst}
 use Rattle.gc_words.specs.Image.{is_start}
 use Rattle.gc_words.specs.Spelling.{link_at}

@@ -1,3 +1,4 @@
+-- The links of the objects before this place are lowered, and apart from links the heap is as it was.
 use Rattle.std.proofs.Common.{◌-◌, length}
 use Rattle.gc_copy.proofs.Lowering.{Lowers}
 use Rattle.gc_copy.proofs.collection.flipping.lower_links.Given as goal

@@ -1,3 +1,4 @@
+-- There are as many logs as turns so far, and all of them are empty.
 use Rattle.std.proofs.Common.{◌≡◌, map, replicate, []}
 use Rattle.gc_copy.specs.Words.{entries_of}
 use Rattle.gc_copy.proofs.collection.room.empty_logs.Given as goal

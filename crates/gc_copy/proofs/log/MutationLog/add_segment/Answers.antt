@@ -1,3 +1,4 @@
+-- A segment is added behind the others, so the entries stay the same, and the log has room for one segment more of them.
 use Rattle.std.proofs.Common.{length, ap, sym, ◌∙◌, subst, arith}
 use Rattle.std.proofs.lemmas.List.{length_push}
 use Rattle.gc_copy.specs.Words.{Log}

@@ -1,3 +1,4 @@
+-- The entries have not changed, and there is at least as much room as before.
 use Rattle.std.proofs.Common.{◌≡◌, ◌≤◌, ◌-◌}
 use Rattle.gc_copy.proofs.log.MutationLog.add_segments.Given as goal
 

@@ -1,3 +1,4 @@
+-- The oldest entry goes from a segment that keeps others, or with the whole segment if it was the last one there.
 use Rattle.std.proofs.Common.{[], ◌≡◌, drop, sym, ap, ◌∙◌, arith}
 use Rattle.std.proofs.lemmas.Bool.{eqb-true}
 use Rattle.gc_copy.specs.Words.{Log}

@@ -1,3 +1,4 @@
+-- The log has an entry exactly if its last segment has one.
 use Rattle.std.proofs.Common.{sym, ap, ◌∙◌}
 use Rattle.gc_plan.specs.Steps.{is_empty}
 use Rattle.gc_copy.specs.Words.{Log}

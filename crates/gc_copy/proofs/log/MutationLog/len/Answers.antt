@@ -1,3 +1,4 @@
+-- The entries are those of the full segments and of the last one, without those that are gone, and their number fits.
 use Rattle.std.proofs.Common.{ap, ◌∙◌, length, arith}
 use Rattle.gc_copy.specs.Words.{Log}
 use Rattle.gc_copy.proofs.Segments.{bounded, counted}

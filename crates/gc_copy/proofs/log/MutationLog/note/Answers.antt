@@ -1,3 +1,4 @@
+-- The entry becomes the last one: in the segment in use or, if that is full, in the next one, which has room.
 use Rattle.std.proofs.Common.{◌++◌, ◌∷◌, [], ◌+◌, length, ap, sym, ◌∙◌, subst, arith}
 use Rattle.std.proofs.lemmas.List.{length-set}
 use Rattle.gc_copy.specs.Words.{Log}

@@ -1,3 +1,4 @@
+-- There are no more full segments than segments, so the subtraction that counts the others cannot wrap.
 use Rattle.std.proofs.Common.{arith}
 use Rattle.gc_copy.proofs.Segments.{full_within}
 use Rattle.gc_copy.proofs.log.MutationLog.spare.Goals as goal

@@ -1,3 +1,4 @@
+-- The cleared roots are nil and need no replica, so what is known of the roots is still true.
 use Rattle.std.proofs.Common.{◌≡◌, ◌+◌, ◌-◌, sym, subst, arith}
 use Rattle.std.specs.Option.{option_map}
 use Rattle.gc_graph.specs.Slots.{roots_of}

@@ -1,3 +1,4 @@
+-- With or without an open collection, the call is a `New` and two `Put`s, and what is known of extra roots is still true.
 use Rattle.std.proofs.Common.{◌≡◌, ◌<◌, refl, sym, ap, ◌∙◌, subst, arith, [], ◌∷◌}
 use Rattle.std.specs.Option.{option_map}
 use Rattle.gc_graph.specs.declared.command.Op.TheVariants.{New, Put}

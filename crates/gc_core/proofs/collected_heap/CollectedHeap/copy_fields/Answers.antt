@@ -1,3 +1,4 @@
+-- The copies write fields and one slot, so what is known of extra roots is still true; room in a log changes no state.
 use Rattle.std.proofs.Common.{◌≡◌, ◌<◌, None, refl, ap, ◌∙◌, sym, subst, arith}
 use Rattle.std.specs.Option.{option_map}
 use Rattle.gc_plan.specs.State.{State}

@@ -1,3 +1,4 @@
+-- Lowered by the mark, the links of the words are the exact ones, with or without an open collection.
 use Rattle.std.proofs.Common.{◌≡◌, ◌-◌, length, sym, ◌∙◌, ap, subst}
 use Rattle.std.specs.Option.{option_map}
 use Rattle.gc_words.specs.Image.{Image, blocks}

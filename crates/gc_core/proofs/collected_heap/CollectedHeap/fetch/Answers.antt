@@ -1,3 +1,4 @@
+-- A `fetch` changes what a `Get` changes: one slot, so what is known of extra roots is still true.
 use Rattle.std.proofs.Common.{◌≡◌, ◌<◌, sym, subst, arith}
 use Rattle.gc_graph.specs.Slots.{place, roots_of}
 use Rattle.std.specs.Option.{option_map}

@@ -1,3 +1,4 @@
+-- What the checker that went along accepted is the pair of the open collection, and no collection is open after the flip.
 use Rattle.std.proofs.Common.{true, refl, sym, ◌∙◌, ap, subst}
 use Rattle.std.specs.Option.{option_map}
 use Rattle.gc_heap.specs.Heap.{HeapWords}

@@ -1,3 +1,4 @@
+-- The image has the heap's graph, with links that lead to the replicas, and as many words as the one with the exact links.
 use Rattle.std.proofs.Common.{length, sym, ◌∙◌, ap, subst}
 use Rattle.std.specs.Option.{option_map}
 use Rattle.gc_words.specs.Image.{Image}

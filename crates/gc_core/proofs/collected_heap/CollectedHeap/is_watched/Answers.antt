@@ -1,3 +1,4 @@
+-- A watch that goes along with the open collection watches the words of the two images that a flip compares.
 use Rattle.gc_core.proofs.Beside.{watched}
 use Rattle.gc_core.proofs.collected_heap.CollectedHeap.is_watched.Goals as goal
 

@@ -1,3 +1,4 @@
+-- A load is a `Move` from an extra root to a slot, so what is known of extra roots is still true.
 use Rattle.std.proofs.Common.{◌≡◌, ◌<◌, sym, subst, arith}
 use Rattle.std.specs.Option.{option_map}
 use Rattle.gc_graph.specs.Slots.{place, roots_of}

@@ -1,3 +1,4 @@
+-- A `Look` changes nothing, and its reply is the machine's.
 use Rattle.std.proofs.Common.{◌≡◌, subst}
 use Rattle.gc_graph.specs.declared.command.Op.TheVariants.{Look}
 use Rattle.gc_plan.specs.Steps.{mutate}

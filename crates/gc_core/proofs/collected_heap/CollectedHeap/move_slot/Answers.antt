@@ -1,3 +1,4 @@
+-- A `Move` writes one slot and no field, so an open collection stays, and what is known of extra roots is still true.
 use Rattle.std.proofs.Common.{◌≡◌, ◌<◌, sym, subst, arith}
 use Rattle.gc_graph.specs.Slots.{place, roots_of}
 use Rattle.gc_graph.specs.declared.command.Op.TheVariants.{Move}

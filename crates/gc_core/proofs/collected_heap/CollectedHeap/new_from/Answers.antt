@@ -1,3 +1,4 @@
+-- A `New` that is `Full` ends the call; else one `Put` for each slot follows, and what is known of extra roots is still true.
 use Rattle.std.proofs.Common.{◌≡◌, ◌<◌, length, refl, sym, ap, ◌∙◌, subst, arith, None}
 use Rattle.gc_graph.specs.Slots.{place}
 use Rattle.gc_words.specs.Space.{end_of}

@@ -1,3 +1,4 @@
+-- A `NewRaw` writes one slot and no field of an older object, so an open collection stays.
 use Rattle.std.proofs.Common.{◌≡◌, ◌<◌, sym, subst, arith}
 use Rattle.gc_graph.specs.Slots.{place, roots_of}
 use Rattle.gc_graph.specs.declared.command.Op.TheVariants.{NewRaw}

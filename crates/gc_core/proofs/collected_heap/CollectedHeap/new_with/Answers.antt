@@ -1,3 +1,4 @@
+-- A `New` that is `Full` ends the call; else the commands of each number and slot follow, and extra roots that are known stay so.
 use Rattle.std.proofs.Common.{◌≡◌, ◌<◌, refl, sym, ap, ◌∙◌, subst, arith, None}
 use Rattle.std.specs.Option.{option_map}
 use Rattle.gc_graph.specs.declared.command.Op.TheVariants.{New}

@@ -1,3 +1,4 @@
+-- A useful `Apply` names a mutator of the heap, because the heap has a log for each, so the useful step is one of its steps.
 use Rattle.std.proofs.Common.{sym, subst}
 use Rattle.gc_plan.specs.State.{State}
 use Rattle.gc_plan.specs.Runs.{IsStep}

@@ -1,3 +1,4 @@
+-- A `Put` writes no root, so all that is known of the roots is still true; room in a log changes no state.
 use Rattle.std.proofs.Common.{◌≡◌, refl, sym, subst}
 use Rattle.std.specs.Option.{option_map}
 use Rattle.gc_graph.specs.declared.command.Op.TheVariants.{Put}

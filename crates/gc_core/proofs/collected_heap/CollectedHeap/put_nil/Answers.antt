@@ -1,3 +1,4 @@
+-- The `Nil` writes a slot and leaves the collection, so the `Put` that is logged starts from the state after the `Nil`.
 use Rattle.std.proofs.Common.{◌≡◌, ◌<◌, Some, refl, ap, ◌∙◌, sym, subst, arith}
 use Rattle.std.specs.Option.{option_map}
 use Rattle.gc_graph.specs.declared.command.Op.TheVariants.{Nil, Put}

@@ -1,3 +1,4 @@
+-- If the object has the fields and all words are numbers, the call is a `Num` and a `Put` for each of them.
 use Rattle.std.proofs.Common.{◌≡◌, ◌<◌, ◌≤◌, ◌+◌, length, None, refl, ap, ◌∙◌, sym, subst, arith}
 use Rattle.std.specs.Option.{option_map}
 use Rattle.gc_plan.specs.State.{State}

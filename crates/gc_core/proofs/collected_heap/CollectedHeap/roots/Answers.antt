@@ -1,3 +1,4 @@
+-- The step removes no replica, and after a `Copied` the root that the search found has one too.
 use Rattle.std.proofs.Common.{refl, sym, ◌∙◌, ap, subst}
 use Rattle.gc_graph.specs.Slots.{roots_of}
 use Rattle.gc_plan.specs.State.{State}

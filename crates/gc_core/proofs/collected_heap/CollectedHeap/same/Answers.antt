@@ -1,3 +1,4 @@
+-- A `Same` compares two slots and changes nothing, and its reply is the machine's.
 use Rattle.std.proofs.Common.{◌≡◌, subst}
 use Rattle.gc_graph.specs.declared.command.Op.TheVariants.{Same}
 use Rattle.gc_plan.specs.Steps.{mutate}

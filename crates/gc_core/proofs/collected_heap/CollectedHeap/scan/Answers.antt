@@ -1,3 +1,4 @@
+-- Scanning removes no replica, so the roots that are known to have one still have it.
 use Rattle.std.proofs.Common.{refl, ap, subst}
 use Rattle.std.specs.Option.{option_map}
 use Rattle.gc_plan.specs.State.{State}

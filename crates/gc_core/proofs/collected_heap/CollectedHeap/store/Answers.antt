@@ -1,3 +1,4 @@
+-- A store is a `Move` to an extra root, so what is known of the slots and of the extra roots before it is still true.
 use Rattle.std.proofs.Common.{◌≡◌, ◌<◌, ◌-◌, Some, length, sym, ap, subst, arith}
 use Rattle.std.specs.Option.{option_map}
 use Rattle.gc_graph.specs.Slots.{roots_of}

@@ -1,3 +1,4 @@
+-- The useful step is one of the heap's steps, as the first log with an entry is the log of one of its mutators.
 use Rattle.std.proofs.Common.{sym, subst}
 use Rattle.gc_plan.specs.State.{State}
 use Rattle.gc_plan.specs.Runs.{IsStep}

@@ -1,3 +1,4 @@
+-- A name above all others comes last among the records, which is where the graph adds its object.
 use Rattle.std.proofs.Common.{◌≡◌, [], ◌∷◌, ◌++◌, map, replicate, ◌∙◌, ap}
 use Rattle.gc_graph.specs.Graph.{first_value, new_object}
 use Rattle.gc_graph.specs.Records.{plain_value, objects_of, object_of_record}

@@ -1,3 +1,4 @@
+-- The field's value, put into the root, and what is seen of it are the graph and the reply of the machine's `get`.
 use Rattle.std.proofs.Common.{sym, ◌∙◌, ap}
 use Rattle.std.proofs.lemmas.List.{map-set}
 use Rattle.gc_graph.specs.Graph.{object_of}

@@ -1,3 +1,4 @@
+-- Writing a root changes the graph's value at this place and no other.
 use Rattle.std.proofs.lemmas.List.{map-set}
 use Rattle.gc_graph.specs.Records.{plain_value, objects_of}
 use Rattle.gc_graph.proofs.objects.Objects.set.Goals as goal

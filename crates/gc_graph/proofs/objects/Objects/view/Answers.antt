@@ -1,3 +1,4 @@
+-- An object of the graph has no more fields than a header can count, so its number of fields can be shown.
 use Rattle.std.proofs.Common.{◌<◌, subst}
 use Rattle.std.proofs.lemmas.List.{length-map}
 use Rattle.gc_graph.specs.Records.{plain_value, object_of_record}

@@ -1,3 +1,4 @@
+-- By cases of the commands: the reply and the new graph are the machine's, and the number of roots stays.
 use Rattle.std.proofs.Common.{true, false, if◌then◌else◌, refl, ◌∙◌, ap, ◌≡◌}
 use Rattle.gc_graph.specs.Slots.{place}
 use Rattle.gc_graph.specs.Graph.{root, set_root}

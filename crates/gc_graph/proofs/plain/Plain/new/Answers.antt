@@ -1,3 +1,4 @@
+-- All roots are nil and there is no object, so every name is below the first one to be given.
 use Rattle.std.proofs.Common.{◌≡◌, ◌-◌, map, ◌∙◌, ap, subst, sym, arith}
 use Rattle.std.specs.Prelude.{replicate}
 use Rattle.gc_graph.specs.Slots.{roots_of}

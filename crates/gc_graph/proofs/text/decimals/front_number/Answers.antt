@@ -1,3 +1,4 @@
+-- The digits at the front are the number if they are its decimal, and otherwise the text begins with no number.
 use Rattle.std.proofs.Common.{arith, rules}
 use Rattle.gc_graph.proofs.Decimals.{front_is, front_none}
 use Rattle.gc_graph.proofs.text.decimals.front_number.Goals as goal

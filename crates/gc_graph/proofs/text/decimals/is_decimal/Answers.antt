@@ -1,3 +1,4 @@
+-- By cases of the first digit: 0 stands alone, and twenty digits that begin with 1 are too many exactly if their value wraps.
 use Rattle.std.proofs.Common.{arith}
 use Rattle.gc_graph.proofs.Decimals.{are_first, after_zero, after_others, short_after_one, twenty_after_one, long_after_one}
 use Rattle.gc_graph.proofs.text.decimals.is_decimal.Goals as goal

@@ -1,3 +1,4 @@
+-- A token has a number exactly if the decimal at its front is the whole token and is not above `most`.
 use Rattle.std.proofs.Common.{◌∙◌, sym, ap, arith, length, rules}
 use Rattle.std.proofs.lemmas.Bool.{eqb-true}
 use Rattle.gc_graph.proofs.Decimals.{token_some, token_none, token_other}

@@ -1,3 +1,4 @@
+-- The bytes so far do not contain the byte at which to cut.
 use Rattle.std.proofs.Common.{take}
 use Rattle.gc_graph.specs.Lines.{HasNo}
 use Rattle.gc_graph.proofs.text.tokens.cut_near.Given as goal

@@ -1,3 +1,4 @@
+-- Whichever mutator names it, an extra root has one place, and with the word of nil there the heap is what a `Nil` leaves.
 use Rattle.std.proofs.Common.{◌≡◌, ◌∙◌, sym, arith}
 use Rattle.gc_graph.specs.Slots.{place}
 use Rattle.gc_graph.specs.Graph.{set_root}

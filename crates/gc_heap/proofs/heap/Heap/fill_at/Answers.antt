@@ -1,3 +1,4 @@
+-- The object is known to take the value, so one written word is what the machine's `Put` leaves, and no link changes.
 use Rattle.std.proofs.Common.{◌≡◌, ◌<◌, length, sym, subst}
 use Rattle.std.specs.Prelude.{slice_index}
 use Rattle.gc_heap.specs.Heap.{HeapWords}

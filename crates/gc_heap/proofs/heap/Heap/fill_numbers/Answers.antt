@@ -1,3 +1,4 @@
+-- If there are numbers, the written fields and the last number in the slot are what a `Num` and a `Put` for each of them leave.
 use Rattle.std.proofs.Common.{◌<◌, ◌≤◌, ◌+◌, ◌-◌, ◌*◌, length, subst, sym, arith}
 use Rattle.std.specs.Prelude.{get_or, slice_set}
 use Rattle.gc_graph.specs.Slots.{roots_of}

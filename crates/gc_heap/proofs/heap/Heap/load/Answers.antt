@@ -1,3 +1,4 @@
+-- The slot takes the word of the extra root, which is what the machine's `Move` from that root leaves.
 use Rattle.std.proofs.Common.{◌≡◌, ◌≤◌, length, ap, ◌∙◌, sym, subst, arith}
 use Rattle.std.specs.Prelude.{slice_index}
 use Rattle.gc_graph.specs.Slots.{place, roots_of}

@@ -1,3 +1,4 @@
+-- The root's word, read as a value, shows what the machine's `Look` shows, and no word changes.
 use Rattle.std.proofs.Common.{◌≡◌, ◌≤◌, length, ap, ◌∙◌, subst, arith}
 use Rattle.std.specs.Prelude.{slice_index}
 use Rattle.gc_graph.specs.Slots.{roots_of}

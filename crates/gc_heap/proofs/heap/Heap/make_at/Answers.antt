@@ -1,3 +1,4 @@
+-- The object at the end, with a reference to it in the root, is what the roomy machine makes, and it takes its fields.
 use Rattle.std.proofs.Common.{◌≡◌, ◌*◌, ◌<◌, length, ap, ◌∙◌, sym, subst, arith}
 use Rattle.std.specs.Prelude.{slice_set}
 use Rattle.gc_graph.specs.Graph.{Ref}

@@ -1,3 +1,4 @@
+-- What is made at the end is what the machine's `NewRaw` makes, because the object's name is the end.
 use Rattle.std.proofs.Common.{refl, true}
 use Rattle.gc_graph.specs.declared.command.Op.TheVariants.{NewRaw}
 use Rattle.gc_heap.proofs.Steps.{makes_at}

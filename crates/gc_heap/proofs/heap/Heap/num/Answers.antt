@@ -1,3 +1,4 @@
+-- The slot takes the word that means the number, which is what the machine's `Num` leaves.
 use Rattle.std.proofs.Common.{sym}
 use Rattle.gc_graph.specs.Graph.{set_root}
 use Rattle.gc_graph.specs.Graph as graphs

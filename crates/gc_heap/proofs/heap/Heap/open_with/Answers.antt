@@ -1,3 +1,4 @@
+-- A space without objects and roots of zeros have the graph of an opening: no objects, and all roots nil.
 use Rattle.std.proofs.Common.{◌≡◌, ◌+◌, ◌-◌, replicate, ◌∙◌, ap}
 use Rattle.gc_graph.specs.Slots.{roots_of}
 use Rattle.gc_heap.specs.Heap.{roomy_in}

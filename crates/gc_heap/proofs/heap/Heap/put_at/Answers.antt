@@ -1,3 +1,4 @@
+-- Each test refuses what the machine refuses, with its reply; the one word that is written leaves what its `Put` leaves.
 use Rattle.std.proofs.Common.{ℕ, Option, Some, None, refl, is_some, is_none, true, false, ◌&&◌, ◌≡◌, ap, ◌<◌, length, ◌∙◌, sym, subst}
 use Rattle.std.specs.Prelude.{slice_index, not}
 use Rattle.gc_graph.specs.Graph.{Graph, object_of, field_of, root}

@@ -1,3 +1,4 @@
+-- The field words of the raw object in the slot are its numbers, and any other object has none.
 use Rattle.std.proofs.Common.{◌≡◌, ◌<◌, ◌≤◌, ℕ, List, [], ◌∷◌, map, length, Bool, Some, None, true, false, cond, refl, sym, ap, ◌∙◌, subst, arith}
 use Rattle.std.specs.Prelude.{slice_index}
 use Rattle.gc_graph.specs.Graph.{Num, object_of, root}

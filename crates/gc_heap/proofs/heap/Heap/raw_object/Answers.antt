@@ -1,3 +1,4 @@
+-- The object in the slot has as many numbers as fields if it is raw, and else none, so the code tells what the graph has.
 use Rattle.std.proofs.Common.{◌<◌, ◌≤◌, length, Some, None, cond, ap, ◌∙◌, subst, sym, arith}
 use Rattle.gc_graph.specs.Slots.{place, roots_of}
 use Rattle.gc_heap.specs.Heap.{HeapWords}

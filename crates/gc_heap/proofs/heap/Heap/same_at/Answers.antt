@@ -1,3 +1,4 @@
+-- Two roots hold the same value exactly if their words are equal, because each value has one word.
 use Rattle.std.proofs.Common.{◌≡◌, ◌<◌, length, ap, ◌∙◌, sym, subst, if◌then◌else◌}
 use Rattle.std.specs.Prelude.{slice_index}
 use Rattle.gc_graph.specs.Graph.{root}

@@ -1,3 +1,4 @@
+-- The field's word, read as its object's header says, is the value that the machine's `Get` puts into the root.
 use Rattle.std.proofs.Common.{◌≡◌, ℕ, ◌<◌, length, Some, refl, sym, ◌∙◌, ap, subst}
 use Rattle.std.specs.Prelude.{slice_set}
 use Rattle.gc_graph.specs.Graph.{Graph, object_of, field_of, root}

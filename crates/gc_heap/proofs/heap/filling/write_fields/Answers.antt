@@ -1,3 +1,4 @@
+-- A turn writes one more word, to a field that the object has.
 use Rattle.std.proofs.Common.{◌<◌, ◌+◌, length, arith}
 use Rattle.gc_heap.specs.Internal.Written.{with_fields}
 use Rattle.gc_heap.proofs.Numbers.{one_more, there_at}

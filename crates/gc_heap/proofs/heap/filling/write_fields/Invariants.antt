@@ -1,3 +1,4 @@
+-- The fields so far are written, writing the rest writes all, and the object still has these fields.
 use Rattle.std.proofs.Common.{◌≡◌, ◌+◌, length, drop}
 use Rattle.gc_words.specs.Space.{IsSpace}
 use Rattle.gc_heap.specs.Internal.Written.{HasFields, with_fields}

@@ -1,3 +1,4 @@
+-- The checker has room for the new space, and goes on as it was or walks over the heap anew, so it is not lost.
 use Rattle.std.proofs.Common.{◌≤◌, sym, ap, subst, ◌∙◌}
 use Rattle.gc_words.specs.Image.{Image}
 use Rattle.gc_live.proofs.Begun.{lives_begun_anew, none_open}

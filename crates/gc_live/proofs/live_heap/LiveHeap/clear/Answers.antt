@@ -1,3 +1,4 @@
+-- Clearing extra roots changes no object, so the checker goes along and is not lost.
 use Rattle.std.proofs.Common.{◌-◌}
 use Rattle.gc_live.proofs.Cleared.{lives_cleared}
 use Rattle.gc_live.proofs.LastsOn.{lasts_cleared}

@@ -1,3 +1,4 @@
+-- A flip rests on the given checker's yes or on that of the standing checker, which goes along, so the certificate holds.
 use Rattle.std.proofs.Common.{◌≡◌, ◌∙◌, inl, inr, ⊎_elim, Option, Some, None, refl, sym, subst, true, false}
 use Rattle.std.proofs.lemmas.Bool.{cases_Bool}
 use Rattle.std.specs.Prelude.{IfSome}

@@ -1,3 +1,4 @@
+-- The checker forgets the replicas together with the collection, so it goes along and is not lost.
 use Rattle.gc_beside.proofs.Public.{lives_drop}
 use Rattle.gc_live.proofs.Lasts.{lasts_dropped}
 use Rattle.gc_live.proofs.live_heap.LiveHeap.give_up.Goals as goal

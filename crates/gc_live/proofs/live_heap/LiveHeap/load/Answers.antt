@@ -1,3 +1,4 @@
+-- A load makes no object and writes no field, so the checker goes along as it is.
 use Rattle.std.proofs.Common.{refl}
 use Rattle.gc_graph.specs.declared.command.Op.TheVariants as ops
 use Rattle.gc_heap.specs.ExtraRoots.{extra_slot}

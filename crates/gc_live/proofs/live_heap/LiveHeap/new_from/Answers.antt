@@ -1,3 +1,4 @@
+-- The checker walks over the object that was made from a row of slots, so it goes along and is not lost.
 use Rattle.std.proofs.Common.{ap, subst}
 use Rattle.gc_words.specs.Image.{Image}
 use Rattle.gc_along.specs.Events.{Made}

@@ -1,3 +1,4 @@
+-- The checker walks over the object that a `New` made, so it goes along and is not lost.
 use Rattle.std.proofs.Common.{false, refl, ap, subst}
 use Rattle.gc_words.specs.Image.{Image}
 use Rattle.gc_along.specs.Events.{Made}

@@ -1,3 +1,4 @@
+-- The checker walks over the raw object that was made, so it goes along and is not lost.
 use Rattle.std.proofs.Common.{true, refl, ap, subst}
 use Rattle.gc_words.specs.Image.{Image}
 use Rattle.gc_along.specs.Events.{Made}

@@ -1,3 +1,4 @@
+-- While a collection is open, the checker is told of the field that a `Put` wrote, at its object's address; so it is not lost.
 use Rattle.std.proofs.Common.{◌≡◌, ◌<◌, ◌≤◌, ℕ, Option, None, is_some, true, false, inl, map, refl, sym, ap, subst, ◌∙◌}
 use Rattle.gc_graph.specs.Graph.{Value, Ref, Graph, root, names_of}
 use Rattle.gc_graph.specs.Slots.{place}

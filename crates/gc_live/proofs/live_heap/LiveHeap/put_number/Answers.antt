@@ -1,3 +1,4 @@
+-- After both commands the slot still refers to the written object, so the checker is told of the right field and number.
 use Rattle.std.proofs.Common.{◌≡◌, ◌<◌, ◌≤◌, ℕ, List, Option, None, is_some, true, false, inl, inr, map, refl, sym, ap, subst, ◌∙◌}
 use Rattle.gc_graph.specs.Graph.{Value, Ref, Graph, root, names_of, value_or_nil, name_of}
 use Rattle.gc_graph.specs.Slots.{place}

@@ -1,3 +1,4 @@
+-- The checker is told of each number's field, at the address that the slot had before, so it goes along and is not lost.
 use Rattle.std.proofs.Common.{◌≡◌, ◌≤◌, ◌<◌, length, subst, Option, None, is_some, true, false, sym, ap, ◌∙◌, arith}
 use Rattle.gc_graph.specs.Graph.{Ref, root}
 use Rattle.gc_graph.specs.Slots.{place, roots_of}

@@ -1,3 +1,4 @@
+-- The checker is told of the replica that the step placed, so it goes along and is not lost; any other reply changes nothing.
 use Rattle.std.proofs.Common.{ap, sym}
 use Rattle.gc_beside.proofs.Public.{lives_roots, roots_or_same}
 use Rattle.gc_words.specs.Image.{Image}

@@ -1,3 +1,4 @@
+-- The checker is told of a new replica, and then looks at the scanned field; after any other reply it goes along as it is.
 use Rattle.std.proofs.Common.{◌≡◌, ℕ, List, Bor, Option, Some, None, sym, ap, subst, ◌∙◌}
 use Rattle.std.specs.Option.{option_map}
 use Rattle.gc_plan.specs.State.{State, Collection}

@@ -1,3 +1,4 @@
+-- After the command the world's last entry has it with its reply, so a world of the same size and mutators can give the receipt.
 use Rattle.std.proofs.Common.{◌-◌, length, refl, rules}
 use Rattle.gc_shared.proofs.PossibleReceipts.{last_is_possible, possible_along}
 use Rattle.gc_shared.proofs.shared.Shared.call.Goals as goal

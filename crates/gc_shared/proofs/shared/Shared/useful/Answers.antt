@@ -1,3 +1,4 @@
+-- After the useful step the world's last entry has it with its reply and its mark, so some world can give the receipt.
 use Rattle.std.proofs.Common.{◌-◌, length, refl, rules}
 use Rattle.gc_shared.proofs.PossibleReceipts.{last_is_possible}
 use Rattle.gc_shared.proofs.shared.Shared.useful.Goals as goal

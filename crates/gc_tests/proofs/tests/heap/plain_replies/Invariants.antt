@@ -1,3 +1,4 @@
+-- After the commands so far, the plain machine still has its one mutator.
 use Rattle.gc_graph.specs.Machine.{HasMutator}
 use Rattle.gc_tests.proofs.tests.heap.plain_replies.Given as goal
 

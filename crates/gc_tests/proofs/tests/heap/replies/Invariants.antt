@@ -1,3 +1,4 @@
+-- After the commands so far, the heap still has a mutator.
 use Rattle.std.proofs.Common.{◌<◌}
 use Rattle.gc_tests.proofs.tests.heap.replies.Given as goal
 

@@ -1,3 +1,4 @@
+-- A line that is taken is the next event, or one of a mutator that does not exist; bytes that wait at the end are a bad line.
 use Rattle.std.proofs.Common.{rules, arith, refl, ◌≡◌, ◌≢◌, [], false, length, ap, sym, ◌∙◌, subst}
 use Rattle.std.proofs.lemmas.Result.{err_from_is_err_and}
 use Rattle.gc_graph.specs.Streams.{source_failed}

@@ -1,3 +1,4 @@
+-- No event was taken since the call, however much more of the text waits, and the reader has not failed.
 use Rattle.std.proofs.Common.{◌≡◌, ◌-◌, ℕ, List, false}
 use Rattle.gc_graph.specs.Streams.{bytes_left, source_failed}
 use Rattle.gc_plan.specs.declared.event.Event.{Event}

@@ -1,3 +1,4 @@
+-- A heading at the front of the text is taken, and if the text ends without one, its first fault is that of the heading.
 use Rattle.std.proofs.Common.{rules, arith, refl, ◌≡◌, sym, false, subst}
 use Rattle.std.proofs.lemmas.Result.{err_from_is_err_and}
 use Rattle.gc_graph.specs.Streams.{source_failed}

@@ -1,3 +1,4 @@
+-- The counts of all answers, with the end and the free words of the heap's space, are the report.
 use Rattle.std.proofs.Common.{◌≡◌, ap, ◌∙◌}
 use Rattle.gc_plan.specs.State.{heap_end}
 use Rattle.gc_words.specs.Space.{free_in, end_of}

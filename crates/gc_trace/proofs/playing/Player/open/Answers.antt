@@ -1,3 +1,4 @@
+-- A heap that was opened with numbers in range is in a well-formed state.
 use Rattle.std.proofs.Common.{◌≤◌, sym, subst, arith}
 use Rattle.gc_plan.specs.Belonging.{IsState}
 use Rattle.gc_trace.proofs.playing.Player.open.Goals as goal

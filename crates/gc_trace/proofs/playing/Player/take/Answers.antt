@@ -1,3 +1,4 @@
+-- After one more event the state, the counts and, if lines are gathered, the text are those of one more answer.
 use Rattle.std.proofs.Common.{sym, subst, rules}
 use Rattle.gc_plan.specs.Belonging.{IsState}
 use Rattle.gc_trace.proofs.PlayedEvents.{state_is, counts_are, lines_are}

@@ -1,3 +1,4 @@
+-- A turn plays the next event of the text, and there are fewer events than bytes, so the counts fit their type.
 use Rattle.std.proofs.Common.{◌≡◌, ◌<◌, ◌^◌, ◌++◌, ◌∷◌, [], false, length, rules, arith, length-append, sym, ap, ◌∙◌, subst}
 use Rattle.std.proofs.lemmas.Result.{err_from_is_err_and}
 use Rattle.gc_graph.specs.Streams.{source_failed}

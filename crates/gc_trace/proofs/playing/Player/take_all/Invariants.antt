@@ -1,3 +1,4 @@
+-- The events that were read so far are those that were played, one for each line after the heading.
 use Rattle.std.proofs.Common.{◌≡◌, ◌+◌, ◌-◌, ℕ, List, [], length, false}
 use Rattle.gc_graph.specs.Streams.{bytes_left, source_failed}
 use Rattle.std.specs.List.{AllByRecursion}

@@ -1,3 +1,4 @@
+-- Without its links the space is still shaped and has the same objects.
 use Rattle.gc_words.proofs.Bodies.{links_cleared}
 use Rattle.gc_words.proofs.space.Space.clear_links.Goals as goal
 

@@ -1,3 +1,4 @@
+-- The field that the object has lies within the words, and is the word that is read.
 use Rattle.std.proofs.Common.{length, Some, sym, ◌∙◌, ap, arith}
 use Rattle.std.specs.Prelude.{slice_index}
 use Rattle.gc_words.specs.Space.{SpaceWords}

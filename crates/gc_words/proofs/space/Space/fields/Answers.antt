@@ -1,3 +1,4 @@
+-- The fields follow the object's link, as many as its header says, and end within the words.
 use Rattle.std.proofs.Common.{◌≡◌, ℕ, ◌+◌, ◌-◌, ◌≤◌, length, take, drop, Some, sym, ◌∙◌, ap, subst, arith}
 use Rattle.gc_words.specs.Image.{Block, header_at, header_of, block_at}
 use Rattle.gc_words.specs.Space.{SpaceWords, IsSpace}

@@ -1,3 +1,4 @@
+-- The first word of an object lies within the words, and is the word of its header.
 use Rattle.std.proofs.Common.{◌≡◌, length, refl, sym, ◌∙◌, ap, subst, arith}
 use Rattle.std.specs.Prelude.{IsSome, slice_index}
 use Rattle.gc_words.specs.Word.{read_header}

@@ -1,3 +1,4 @@
+-- The second word of an object lies within the words, and is its link.
 use Rattle.std.proofs.Common.{length, ◌∙◌, ap, arith}
 use Rattle.std.specs.Prelude.{slice_index}
 use Rattle.gc_words.specs.Space.{SpaceWords}

@@ -1,3 +1,4 @@
+-- An object starts here, so the walk has a next place: the one after as many words as its header says.
 use Rattle.std.proofs.Common.{◌≡◌, ℕ, List, length, Option, Some, refl, sym, ◌∙◌, ap, subst, arith}
 use Rattle.std.specs.Prelude.{IsSome}
 use Rattle.gc_words.specs.Space.{SpaceWords}

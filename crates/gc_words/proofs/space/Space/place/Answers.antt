@@ -1,3 +1,4 @@
+-- A header word, a 0 for the link and zeros for the fields, put at the end, are the space with one more object.
 use Rattle.std.proofs.Common.{◌+◌, ◌∷◌, ◌++◌, [], vec_len, ◌∙◌, ap, arith}
 use Rattle.gc_words.proofs.Walks.{written_back}
 use Rattle.gc_words.proofs.Bodies.{Places, object_placed}

@@ -1,3 +1,4 @@
+-- A header word, a 0 for the link and the other object's field words, put at the end, are the space with its copy.
 use Rattle.std.proofs.Common.{◌≡◌, ℕ, ◌≤◌, ◌∷◌, ◌++◌, [], List, length, Some, sym, ◌∙◌, ap, subst, cond, is_ok, arith, append_assoc}
 use Rattle.std.specs.Prelude.{IsSome}
 use Rattle.gc_words.specs.Word.{header_word}

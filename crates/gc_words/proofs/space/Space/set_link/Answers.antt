@@ -1,3 +1,4 @@
+-- The link lies within the words, and the write changes no object, so the space stays shaped.
 use Rattle.std.proofs.Common.{length, ap, arith}
 use Rattle.gc_words.specs.Space.{SpaceWords}
 use Rattle.gc_words.proofs.Writes.{HeaderRead}

@@ -1,3 +1,4 @@
+-- Two entries are the same exactly if their forms are, because each event with its answer has one form.
 use Rattle.std.proofs.Common.{ap, sym, ◌∙◌}
 use Rattle.gc_world.specs.Forms.{meaning}
 use Rattle.gc_world.proofs.Equality.{same_form, one_form}

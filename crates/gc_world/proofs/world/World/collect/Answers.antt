@@ -1,3 +1,4 @@
+-- The step with its reply continues the history, and the spaces of a world are small enough for a text.
 use Rattle.std.proofs.Common.{◌≡◌, [], ◌∷◌, ◌++◌, refl, sym, ap, ◌∙◌, subst}
 use Rattle.std.specs.Option.{option_map}
 use Rattle.gc_graph.specs.Limits.{most_words}

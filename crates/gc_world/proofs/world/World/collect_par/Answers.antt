@@ -1,3 +1,4 @@
+-- A step whose flip several threads may check continues the history, as any step of the heap does.
 use Rattle.std.proofs.Common.{◌≡◌, [], ◌∷◌, ◌++◌, refl, sym, ap, ◌∙◌, subst}
 use Rattle.std.specs.Option.{option_map}
 use Rattle.gc_graph.specs.Limits.{most_words}

@@ -1,3 +1,4 @@
+-- The useful step is one that a world can perform, and its entry, which is marked as useful, continues the history.
 use Rattle.std.proofs.Common.{◌≡◌, [], ◌∷◌, ◌++◌, refl, sym, subst, ap, ◌∙◌}
 use Rattle.std.specs.Option.{option_map}
 use Rattle.gc_graph.specs.Limits.{most_words}

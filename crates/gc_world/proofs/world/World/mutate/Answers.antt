@@ -1,3 +1,4 @@
+-- The command with its reply continues the history, as the heap's reply is the core's.
 use Rattle.std.proofs.Common.{◌<◌, ◌∷◌, [], ◌++◌, sym, subst, ap, ◌∙◌, List}
 use Rattle.std.specs.Option.{option_map}
 use Rattle.gc_cert.specs.Views.{pair_in}

@@ -1,3 +1,4 @@
+-- The trace, its scripts, the run and the written history fit together, so the text that goes out is that of such a run.
 use Rattle.gc_trace.specs.Views.{recording}
 use Rattle.gcflip.proofs.ThreadedRuns.{threaded}
 use Rattle.gcflip.proofs.commands.threads.threads_run.Goals as goal

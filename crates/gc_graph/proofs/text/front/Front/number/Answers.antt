@@ -1,3 +1,4 @@
+-- A text begins with one number at most, so if that is above `most`, it begins with none up to `most`.
 use Rattle.std.proofs.Common.{List, ℕ, refl, arith, subst}
 use Rattle.gc_graph.specs.Fronts.{BeginsWithNumber}
 use Rattle.gc_graph.proofs.Decimals.{one_front}

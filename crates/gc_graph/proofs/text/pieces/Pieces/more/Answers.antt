@@ -1,3 +1,4 @@
+-- Each piece that is read goes on in the same text, and its fault is a fault of the text.
 use Rattle.std.proofs.Common.{◌≡◌, ◌+◌, ℕ, Some, false, rules, arith, drop, sym, ap, ◌∙◌, subst, Fits, w64}
 use Rattle.std.proofs.lemmas.Result.{err_from_is_err_and}
 use Rattle.gc_graph.specs.ReadFaults.{MayFailReading}

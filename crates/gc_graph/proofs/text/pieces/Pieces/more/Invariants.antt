@@ -1,3 +1,4 @@
+-- The bytes that were read so far belong to the same text, are counted, and all still wait.
 use Rattle.std.proofs.Common.{◌-◌, ◌≡◌, ◌+◌, ◌≤◌, ◌<◌, ℕ, List, true, false, length, if◌then◌else◌}
 use Rattle.gc_graph.specs.Streams.{bytes_left, source_failed}
 use Rattle.gc_graph.specs.Pieces.{IsWithin}

@@ -1,3 +1,4 @@
+-- A piece takes its bytes from the front of what is left of the text, and without bytes the text has ended.
 use Rattle.std.proofs.Common.{rules, arith, ℕ, List, Some, true, take, drop, length, ◌≡◌, ◌+◌, ◌-◌, ◌++◌, ap, sym, ◌∙◌, append_assoc}
 use Rattle.std.proofs.lemmas.List.{drop-append-le, take-append-le}
 use Rattle.std.specs.Result.{is_ok}

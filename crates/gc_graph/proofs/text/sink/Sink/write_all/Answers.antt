@@ -1,3 +1,4 @@
+-- One more write sends a front part of the rest, and what is left then is the rest behind it.
 use Rattle.gc_graph.proofs.SentText.{more_sent_slice}
 use Rattle.gc_graph.proofs.text.sink.Sink.write_all.Goals as goal
 

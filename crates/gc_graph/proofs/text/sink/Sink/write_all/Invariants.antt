@@ -1,3 +1,4 @@
+-- What was sent so far and the rest are together the text.
 use Rattle.std.proofs.Common.{length}
 use Rattle.gc_graph.specs.Streams.{bytes_written, HasSent}
 use Rattle.gc_graph.proofs.text.sink.Sink.write_all.Given as goal

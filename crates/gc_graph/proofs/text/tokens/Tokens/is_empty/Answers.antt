@@ -1,3 +1,4 @@
+-- No token is left exactly if nothing of the line is left, not even an empty rest.
 use Rattle.gc_graph.proofs.TokenLemmas.{tokens_left-none}
 use Rattle.gc_graph.proofs.text.tokens.Tokens.is_empty.Goals as goal
 

@@ -1,3 +1,4 @@
+-- The first token ends at the first space, and a rest without a space is one token.
 use Rattle.std.proofs.Common.{sym, ◌∙◌, ap}
 use Rattle.gc_graph.specs.Lines.{tokens_of}
 use Rattle.gc_graph.specs.Tokens.{tokens_left}

@@ -1,3 +1,4 @@
+-- After the rows so far, the collection belongs to the heap, which has as many mutators as before.
 use Rattle.std.proofs.Common.{◌≡◌}
 use Rattle.gc_copy.specs.Words.{BelongsTo}
 use Rattle.gc_tests.proofs.tests.copy.rows.play.Given as goal

@@ -1,3 +1,4 @@
+-- After the commands so far, no object has a link, and there are as many mutators as before.
 use Rattle.std.proofs.Common.{◌≡◌}
 use Rattle.gc_copy.specs.Words.{HasNoLinks}
 use Rattle.gc_tests.proofs.tests.copy.rows.play_idle.Given as goal

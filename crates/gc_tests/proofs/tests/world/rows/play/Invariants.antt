@@ -1,3 +1,4 @@
+-- The rows so far have not changed the number of the world's mutators.
 use Rattle.std.proofs.Common.{◌≡◌}
 use Rattle.gc_tests.proofs.tests.world.rows.play.Given as goal
 
