@@ -11,16 +11,17 @@ use gc_graph::Slot;
 pub(crate) const SLOT_NUMBERS: u8 = 32;
 
 /// Returns the slot with this number, which must be below `SLOT_NUMBERS`. Numbers below 16 are the mutator's own slots,
-/// and the others are the shared ones.
+/// and the others are the shared ones. Both have the same index, so that no branch is needed.
 #[inline(always)]
 pub(crate) fn numbered_slot(number: u8) -> Slot
     requires { number < slot_numbers }
     ensures { result ≡ numbered_slot number }
 {
+    let index = number % 16;
     if number < 16 {
-        Slot::own(number).unwrap()
+        Slot::own(index).unwrap()
     } else {
-        Slot::shared(number - 16).unwrap()
+        Slot::shared(index).unwrap()
     }
 }
 
