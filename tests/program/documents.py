@@ -719,7 +719,7 @@ def specs_named(cells):
 def architecture(_program, _folder):
     """Checks that docs/ARCHITECTURE.md has a job for each crate and a row for each file of public definitions, and that it and the README of
     gcflip_heap_c tell the number of functions with raw pointers."""
-    jobs = {cells[0].strip(): cells[1:] for cells in rows_behind("docs/ARCHITECTURE.md", "# Architecture")}
+    jobs = {cells[-2].strip(" |"): cells[-1:] for cells in rows_behind("docs/ARCHITECTURE.md", "# Architecture")}
     wrong = [crate for crate in crates_listed() if not (len(jobs.get(crate, [])) == 1 and re.search(r"[a-z]{2}", jobs[crate][0]))]
     yield "jobs of crates", ", ".join(wrong) or None
     named = set().union(*[specs_named(cells[1:2]) for cells in rows_behind("docs/ARCHITECTURE.md", "## Where each notion is defined")])
