@@ -710,6 +710,34 @@ def counts(_program, _folder):
         yield "lines of %s" % (name or "all definitions"), None if found and found.group(1) == wanted else "they are %s" % wanted
 
 
+PRODUCTS_BEGIN = "| crate | the checker for C | the heap for C | the world | the program |\n"
+# Crates with definitions that no contract of the checker for C reaches.
+BESIDE_THE_CHECKER = {"gc_along", "gc_beside", "gc_copy", "gc_core", "gc_heap", "gc_plan", "gc_trace", "gc_world", "gcflip_heap_c"}
+
+
+def lines_by_file(printed):
+    """Returns the files that tools/definitions printed, with the number of lines that count in each."""
+    return {file: int(count) for file, count in (line.split() for line in printed.split("\n")[:-2])}
+
+
+def products(_program, _folder):
+    """Compares the lines of definitions that each product reaches with the table of docs/ARCHITECTURE.md. The checker for C has to reach the whole theorem and
+    the texts' first faults, and nothing of the collector."""
+    status, printed = printed_by_definitions("--products")
+    counted = [line.split() for line in printed.split("\n")[1:] if line]
+    table = text_of("docs/ARCHITECTURE.md").partition(PRODUCTS_BEGIN)[2].partition("\n\n")[0]
+    shown = [line.strip("| ").split(" | ") for line in table.split("\n")[1:]]
+    wrong = [row for row in counted if row not in shown] + [row for row in shown if row not in counted]
+    yield "lines of definitions by product", None if status == 0 and counted and not wrong else "the tool or docs/ARCHITECTURE.md alone has %s" % wrong
+    reached = lines_by_file(printed_by_definitions("--products", "gcflip_c")[1])
+    wanted = lines_by_file(printed_by_definitions("--of", "Replicated")[1])
+    wanted.update(lines_by_file(printed_by_definitions("--of", "IsPairFaultOf")[1]))
+    missing = [file for file, count in wanted.items() if reached.get(file, 0) < count]
+    yield "the checker for C reaches the theorem and the faults of a text", "not all of %s" % missing if missing or not wanted else None
+    beside = [file for file in reached if file.split("/")[0] in BESIDE_THE_CHECKER]
+    yield "the checker for C reaches nothing of the collector", ", ".join(beside) or None
+
+
 # ---- the map of docs/ARCHITECTURE.md, and what documents say twice
 
 # Files of definitions that are no notion of their own: lists of imports, examples, what structs of the code mean, the texts of faults.
@@ -734,7 +762,7 @@ def specs_named(cells):
 def architecture(_program, _folder):
     """Checks that docs/ARCHITECTURE.md has a job for each crate and a row for each file of public definitions, and that it and the README of
     gcflip_heap_c tell the number of functions with raw pointers."""
-    jobs = {cells[0].strip(): cells[1:] for cells in rows_behind("docs/ARCHITECTURE.md", "# Architecture")}
+    jobs = {cells[-2].strip(" |"): cells[-1:] for cells in rows_behind("docs/ARCHITECTURE.md", "# Architecture")}
     wrong = [crate for crate in crates_listed() if not (len(jobs.get(crate, [])) == 1 and re.search(r"[a-z]{2}", jobs[crate][0]))]
     yield "jobs of crates", ", ".join(wrong) or None
     named = set().union(*[specs_named(cells[1:2]) for cells in rows_behind("docs/ARCHITECTURE.md", "## Where each notion is defined")])
@@ -823,4 +851,4 @@ def applied_edits(_program, _folder):
             yield "edit %s/%s" % (crate, name), why_not_applied(crate, name)
 
 
-GROUPS = [names, words, files, memory_answers, names_of_calls, old_names, edits, edits_in_ci, crates_tried, hand_tried, doors, first_lines, meanings, applied_edits, quotes, names_in_c, outputs_in_c, c_of_readme, adapter_shown, first_screen, commands, commands_of_tables, definitions, counts, architecture, glossary, told_again, axioms]
+GROUPS = [names, words, files, memory_answers, names_of_calls, old_names, edits, edits_in_ci, crates_tried, hand_tried, doors, first_lines, meanings, applied_edits, quotes, names_in_c, outputs_in_c, c_of_readme, adapter_shown, first_screen, commands, commands_of_tables, definitions, counts, products, architecture, glossary, told_again, axioms]

@@ -442,6 +442,17 @@ def joined_crates(picture, boxes):
     return found
 
 
+def bands_of(picture, boxes):
+    """Returns the crates whose boxes are within each band of a picture, by the band's heading."""
+    found = {}
+    for band in picture.shapes:
+        if band["role"].startswith("band"):
+            heading = next(shape["text"] for shape in picture.shapes if shape["kind"] == "text" and strictly_within((shape["x"], shape["y"]), band))
+            found[heading] = {name for name, box in boxes.items() if strictly_within((box["x"], box["y"]), band)
+                              and strictly_within((box["x"] + box["width"], box["y"] + box["height"]), band)}
+    return found
+
+
 def crates(_program, _folder):
     uses = {"top": ["left", "right", "low"], "left": ["low"], "right": ["low"], "low": []}
     found = sorted(crates_picture.arrows_of(uses))
@@ -466,6 +477,14 @@ def crates(_program, _folder):
     yield "each crate is above those that it uses", None if not upward else "not so: %s" % upward
     grouped = [name for _, members in crates_picture.GROUPS.values() for name in members]
     yield "each crate is in one group", None if sorted(grouped) == sorted(listed) else "in groups: %s" % sorted(grouped)
+    yield "each band has its crates, and no other", wrong(bands_of(drawn, boxes), {name: set(members) for name, members in crates_picture.GROUPS.values()})
+    with open(os.path.join(TOP, "docs", "ARCHITECTURE.md"), encoding="utf-8") as file:
+        rows = re.findall(r"(?m)^\| (?:\*\*(.*?)\*\*: [^|]*)?\| (\w+) \| [^|]+ \|$", file.read())
+    told, last = {}, ""
+    for group, crate in rows:
+        last = group or last
+        told.setdefault(last, []).append(crate)
+    yield "docs/ARCHITECTURE.md has the same groups", wrong(list(told.items()), list(crates_picture.GROUPS.values()))
 
 
 # ---- the tool

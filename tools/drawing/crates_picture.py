@@ -1,4 +1,5 @@
-"""Lays out the graph of the crates: each crate in a row above those that it uses, with an arrow to each of them, unless a path leads there too."""
+"""Lays out the graph of the crates: each crate in a row above those that it uses, with an arrow to each of them, unless a path leads there too. The crates of
+a group lie in one band."""
 from gcflip_drawing.pair_text import Unreadable
 from gcflip_drawing.picture import Picture
 
@@ -9,13 +10,19 @@ FIRST_TRACK, TRACK = 26, 28
 HEAD = 5
 # The size of the dot where an arrow of a further user joins.
 DOT = 5
-# The groups of crates, by the role of their boxes: a name for the legend, and the crates.
+# The height of a band's heading, how far a band reaches beyond its boxes, and the distance of two bands.
+HEADING, EDGE, BAND_GAP = 15, 4, 5
+# The groups of crates, by the role of their boxes: a heading, and the crates. Each group uses itself and those before it.
 GROUPS = {
-    "crate-base": ("objects and words", ["gc_graph", "gc_words"]),
-    "crate-collector": ("the heap and the collector", ["gc_heap", "gc_plan", "gc_copy", "gc_core", "gc_live"]),
-    "crate-checker": ("the checker", ["gc_cert", "gc_check", "gc_par", "gc_along", "gc_beside", "gc_generations"]),
-    "crate-run": ("histories, threads, traces, the program", ["gc_world", "gc_shared", "gc_trace", "gcflip"]),
+    "crate-language": ("the language", ["gc_graph"]),
+    "crate-words": ("words", ["gc_words", "gc_heap"]),
+    "crate-plan": ("the plan", ["gc_plan"]),
+    "crate-mechanism": ("the mechanism", ["gc_copy"]),
+    "crate-checkers": ("checkers", ["gc_cert", "gc_check", "gc_par", "gc_along", "gc_beside", "gc_generations"]),
+    "crate-heap": ("the collected heap", ["gc_core", "gc_live"]),
     "crate-c": ("for C", ["gcflip_c", "gcflip_heap_c"]),
+    "crate-recording": ("the recording", ["gc_world", "gc_shared"]),
+    "crate-program": ("traces and the program", ["gc_trace", "gcflip"]),
     "crate-tests": ("only tests", ["gc_test_kit", "gc_tests", "gc_shared_tests", "gc_trace_tests", "growths"]),
 }
 
@@ -70,16 +77,17 @@ def length_of(order, arrows):
 
 
 def ordered(uses, arrows):
-    """Returns the crates from the top row to the bottom one, each above those that it uses. No crate can change its place with the one below so that the
-    arrows get shorter."""
-    levels = levels_of(uses)
-    order = sorted(uses, key=lambda name: (-levels[name], name))
+    """Returns the crates from the top row to the bottom one, each above those that it uses, and those of a group next to each other. No crate can change its
+    place with the one below of its group so that the arrows get shorter."""
+    levels, groups = levels_of(uses), {name: ["crate", *GROUPS].index(role_of(name)) for name in uses}
+    order = sorted(uses, key=lambda name: (-groups[name], -levels[name], name))
     is_better = True
     while is_better:
         is_better = False
         for row in range(len(order) - 1):
             swapped = [*order[:row], order[row + 1], order[row], *order[row + 2:]]
-            if order[row + 1] not in uses[order[row]] and length_of(swapped, arrows) < length_of(order, arrows):
+            may_swap = groups[order[row]] == groups[order[row + 1]] and order[row + 1] not in uses[order[row]]
+            if may_swap and length_of(swapped, arrows) < length_of(order, arrows):
                 order, is_better = swapped, True
     return order
 
@@ -102,8 +110,20 @@ def tracks_of(order, arrows):
     return found
 
 
-def row_top(row):
-    return TOP + row * (BOX + GAP)
+def placed(order):
+    """Returns the upper end of each crate's box, and of each band its role and its upper and lower end. Crates of no group have no band."""
+    tops, bands, y, last = {}, [], TOP, None
+    for name in order:
+        role = role_of(name)
+        if role in GROUPS and role != last:
+            y += BAND_GAP if bands else 0
+            bands.append([role, y, y])
+            y += HEADING
+        tops[name], last = y, role
+        if role in GROUPS:
+            bands[-1][2] = y + BOX + EDGE
+        y += BOX + GAP
+    return tops, bands
 
 
 def branches_of(name, arrows, tracks):
@@ -113,19 +133,18 @@ def branches_of(name, arrows, tracks):
     return {use: HEAD + (BOX - HEAD) * at / (len(used) + 1) for at, use in enumerate(used, 1)}
 
 
-def draw_arrows(picture, order, arrows):
-    """Draws for each crate that is used one line with a branch from each user, and with its head at the crate. Returns the right end of the lines."""
-    rows, tracks, right = {name: row for row, name in enumerate(order)}, tracks_of(order, arrows), LEFT + BOX_WIDTH
+def draw_arrows(picture, order, arrows, tops):
+    """Draws for each crate that is used one line with a branch from each user, and with its head at the crate."""
+    tracks, right = tracks_of(order, arrows), LEFT + BOX_WIDTH
     branches = {name: branches_of(name, arrows, tracks) for name in order}
-    for name in sorted(tracks, key=lambda name: rows[name]):
-        x, y, role = right + FIRST_TRACK + tracks[name] * TRACK, row_top(rows[name]) + HEAD, role_of(name).replace("crate", "uses")
-        starts = [row_top(rows[user]) + branches[user][name] for user in order if name in branches[user]]
+    for name in sorted(tracks, key=lambda name: tops[name]):
+        x, y, role = right + FIRST_TRACK + tracks[name] * TRACK, tops[name] + HEAD, role_of(name).replace("crate", "uses")
+        starts = [tops[user] + branches[user][name] for user in order if name in branches[user]]
         picture.line([(right, starts[0]), (x, starts[0]), (x, y)], role)
         for start in starts[1:]:
             picture.line([(right, start), (x, start)], role)
             picture.box(x - DOT / 2, start - DOT / 2, DOT, DOT, "joint")
         picture.arrow((x, y), ((x + right) / 2, y), (right, y), role)
-    return right + FIRST_TRACK + max(tracks.values(), default=0) * TRACK
 
 
 def role_of(name):
@@ -133,22 +152,17 @@ def role_of(name):
     return next((role for role, (_, members) in GROUPS.items() if name in members), "crate")
 
 
-def draw_legend(picture, uses, y):
-    """Draws a sample for each group that has a crate, one below the other. Returns the lower end."""
-    for role, (name, members) in GROUPS.items():
-        if any(member in uses for member in members):
-            picture.box(LEFT, y, 18, 12, role)
-            picture.text(LEFT + 26, y + 10, name, "small")
-            y += 18
-    return y
-
-
 def drawn(uses, title):
     """Returns the picture of the crates. `uses` has the crates that each crate uses."""
     picture, arrows = Picture(title), arrows_of(uses)
     order = ordered(uses, arrows)
-    right = draw_arrows(picture, order, arrows)
-    for row, name in enumerate(order):
-        picture.box(LEFT, row_top(row), BOX_WIDTH, BOX, role_of(name), name)
-    bottom = draw_legend(picture, uses, row_top(len(order)) + 10)
-    return picture.sized(right + LEFT, bottom + 8)
+    tops, bands = placed(order)
+    right = LEFT + BOX_WIDTH + FIRST_TRACK + max(tracks_of(order, arrows).values(), default=0) * TRACK + LEFT
+    for role, top, bottom in bands:
+        picture.box(LEFT - EDGE, top, right - 2 * (LEFT - EDGE), bottom - top, role.replace("crate", "band"))
+    draw_arrows(picture, order, arrows, tops)
+    for role, top, _ in bands:
+        picture.text(LEFT, top + HEADING - 4, GROUPS[role][0], "small")
+    for name in order:
+        picture.box(LEFT, tops[name], BOX_WIDTH, BOX, role_of(name), name)
+    return picture.sized(right, tops[order[-1]] + BOX + EDGE + TOP)
