@@ -274,6 +274,8 @@ def short_soak(_program, folder):
 
 # The output of each example, with the addresses of the machine replaced by numbers.
 EXAMPLE_OUTPUT = {"extra_roots.c": b"pushed 1000\nflipped 1001\nthe last one popped has kind 0\n", "first_check.c": b"yes 1\n",
+                  # Of 255 words the error takes 3, and 16 are the reserve, so that 59 cells of 4 words have room.
+                  "full_heap.c": b"error 9 after 59 cells\nthe handler allocates: yes\nroom again: yes\n",
                   "first_heap.c": b"mutators go on\nmutators go on\nflipped 1\nsaw 42\n",
                   # There are 20 words. Each of the 7 objects has 3 bits of its age, and the string has 3 bytes of padding. A vector is the second
                   # object that the roots reach.
