@@ -695,7 +695,7 @@ def definitions(_program, _folder):
 def counts(_program, _folder):
     """Compares the counts of lines in the documents with those of the tool."""
     _, printed = printed_by_definitions()
-    counted = [line.split()[:3] for line in printed.split("\n")[1:] if line and line.split()[0] != "growths"]
+    counted = [line.split()[:3] for line in printed.split("\n")[1:] if line]
     shown = re.findall(r"(?m)^\| (\w+) \| (\d+) \| (\d+) \|$", text_of("docs/ARCHITECTURE.md"))
     wrong = [line for line in counted if tuple(line) not in shown]
     yield "lines of definitions", "not in docs/ARCHITECTURE.md: %s" % wrong if wrong else None

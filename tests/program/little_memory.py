@@ -1,6 +1,6 @@
 """Tests with a small stack, and with less and less address space: the outcome is the usual one or 'no memory', and never a signal."""
 from .collecting import PAIR_OF_COLLECT_WHEN_FULL, REPORT_OF_COLLECT_WHEN_FULL
-from .growths import NO_MEMORY
+from .allocation_failures import NO_MEMORY
 from .harness import Outcome, difference, file_of, run
 from .traces import PLAYED, trace_and_replies
 

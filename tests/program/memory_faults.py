@@ -23,7 +23,7 @@ BY_FROM, BY_ARM, BY_HAND = "From", "arm", "by hand"
 # Numbers that calls of the libraries for C return if they did nothing.
 NAMED_ANSWERS = ("NO_MEMORY", "OUT_OF_RANGE", "CLOSED", "OPEN", "TOO_LARGE", "BAD_LINE", "ENDS_EARLY")
 # Crates of tests alone.
-TESTS = ("gc_test_kit", "gc_tests", "gc_shared_tests", "gc_trace_tests", "growths")
+TESTS = ("gc_test_kit", "gc_tests", "gc_shared_tests", "gc_trace_tests", "allocation_failures")
 
 # Each place where such a fault is written: the file, the function, how, and how often. Those by hand have their reasons in BY_HAND_REASONS.
 PLACES = {

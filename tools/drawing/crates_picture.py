@@ -3,7 +3,7 @@ a group lie in one band."""
 from gcflip_drawing.pair_text import Unreadable
 from gcflip_drawing.picture import Picture
 
-BOX_WIDTH, BOX, GAP, LEFT, TOP = 120, 24, 6, 8, 8
+BOX_WIDTH, BOX, GAP, LEFT, TOP = 138, 24, 6, 8, 8
 # The distance of the first track from the boxes, and of a track from the next one.
 FIRST_TRACK, TRACK = 26, 28
 # Where the arrow to a crate ends at its box, below its upper side. Those to the crates that it uses begin below.
@@ -23,7 +23,7 @@ GROUPS = {
     "crate-c": ("for C", ["gcflip_c", "gcflip_heap_c"]),
     "crate-recording": ("the recording", ["gc_world", "gc_shared"]),
     "crate-program": ("traces and the program", ["gc_trace", "gcflip"]),
-    "crate-tests": ("only tests", ["gc_test_kit", "gc_tests", "gc_shared_tests", "gc_trace_tests", "growths"]),
+    "crate-tests": ("only tests", ["gc_test_kit", "gc_tests", "gc_shared_tests", "gc_trace_tests", "allocation_failures"]),
 }
 
 

@@ -111,7 +111,7 @@ class Refusing:
         return behind, self.spared_alone(words, text, usual, spared)
 
 
-def growths(program, folder):
+def failures(program, folder):
     refusing = Refusing(program, folder)
     text, replies = trace_and_replies(PLAYED["cycle_of_two"])
     path = file_of(folder, "played", text)
@@ -162,8 +162,8 @@ def growths(program, folder):
     for name, words, text, usual in runs + runs_in_threads:
         in_threads = (name, words, text, usual) in runs_in_threads
         rest, one = refusing.in_turn(words, text, usual, in_threads)
-        yield "each_growth_refused, %s" % name, one
-        yield "each_growth_and_all_later_ones_refused, %s" % name, rest
+        yield "each_allocation_refused, %s" % name, one
+        yield "each_allocation_and_all_later_ones_refused, %s" % name, rest
 
 
 # How a run of scripts in threads may end if requests are refused, apart from a complete run.
@@ -177,13 +177,13 @@ def wrong_end(program, folder, text, found, turns):
     return wrong_run(program, folder, text, found, turns)
 
 
-def growths_in_threads(program, folder):
+def failures_in_threads(program, folder):
     """Runs scripts in threads. Which thread makes a request depends on the schedule, so a run may end in any allowed way, and
     each way has to occur. A run that meets no refusal is complete."""
     refusing = Refusing(program, folder)
     text = b"heaptrace 1\nspace 64 mutators 2\nm 0 new g0 1 1\nm 0 num r0 5\nm 0 put g0 0 r0\nm 1 get r1 g0 0\n"
     words = ["threads", file_of(folder, "scripts", text), "40"]
-    for kind, last in [("growth_refused", lambda request: request), ("growth_and_all_later_ones_refused", lambda _: LAST)]:
+    for kind, last in [("allocation_refused", lambda request: request), ("allocation_and_all_later_ones_refused", lambda _: LAST)]:
         ends = []
         for request in range(1, MOST_REQUESTS):
             found, refused = refusing.run(words, b"", request, last(request))
@@ -200,4 +200,4 @@ def growths_in_threads(program, folder):
             yield "each_%s, scripts: %s" % (kind, fault.stderr.decode().strip()), met
 
 
-GROUPS = [growths, growths_in_threads]
+GROUPS = [failures, failures_in_threads]
