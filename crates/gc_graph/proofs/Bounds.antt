@@ -46,12 +46,12 @@ next_unused n g below = differ n _ (all_append _ (map (λ entry. entry.0) g.obje
 
 -- ---- names below the name after the next
 
-pub later : (n : ℕ) (v : Value) → ValueBelow n v → ValueBelow (n + 1) v
+later : (n : ℕ) (v : Value) → ValueBelow n v → ValueBelow (n + 1) v
 later n Nil k = tt
 later n (Num m) k = tt
 later n (Ref a) k = omega arith
 
-pub all_weaker : {X : Type 0} (P Q : X → Type 0) (xs : List X) → ((x : X) → P x → Q x) → AllByRecursion P xs → AllByRecursion Q xs
+all_weaker : {X : Type 0} (P Q : X → Type 0) (xs : List X) → ((x : X) → P x → Q x) → AllByRecursion P xs → AllByRecursion Q xs
 all_weaker P Q [] w a = tt
 all_weaker P Q (x ∷ xs) w a = (w x a.0, all_weaker P Q xs w a.1)
 
@@ -59,7 +59,7 @@ pub all_push : {X : Type 0} (P : X → Type 0) (xs : List X) (x : X) → AllByRe
 all_push P [] x a p = (p, tt)
 all_push P (y ∷ xs) x a p = (a.0, all_push P xs x a.1 p)
 
-pub all_set : {X : Type 0} (P : X → Type 0) (xs : List X) (i : ℕ) (x : X) → AllByRecursion P xs → P x → AllByRecursion P (slice_set xs i x)
+all_set : {X : Type 0} (P : X → Type 0) (xs : List X) (i : ℕ) (x : X) → AllByRecursion P xs → P x → AllByRecursion P (slice_set xs i x)
 all_set P [] i x a p = tt
 all_set P (y ∷ xs) zero x a p = (p, a.1)
 all_set P (y ∷ xs) (suc i) x a p = (a.0, all_set P xs i x a.1 p)
@@ -68,7 +68,7 @@ first_below : (n : ℕ) (raw : Bool) → ValueBelow n (first_value raw)
 first_below n true = tt
 first_below n false = tt
 
-pub all_below : (n k : ℕ) (v : Value) → ValueBelow n v → AllByRecursion (ValueBelow n) (replicate k v)
+all_below : (n k : ℕ) (v : Value) → ValueBelow n v → AllByRecursion (ValueBelow n) (replicate k v)
 all_below n zero v below = tt
 all_below n (suc k) v below = (below, all_below n k v below)
 

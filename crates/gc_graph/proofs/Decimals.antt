@@ -46,7 +46,7 @@ none_or true n never = absurd (never refl)
 none_or false n _ = refl
 
 -- a token that is not the decimal of a number up to `most` has no number
-pub number_none : (most : ℕ) (token : List ℕ) → ((n : ℕ) → n ≤ most → token ≡ decimal n → ⊥) → number_of most token ≡ None
+number_none : (most : ℕ) (token : List ℕ) → ((n : ℕ) → n ≤ most → token ≡ decimal n → ⊥) → number_of most token ≡ None
 unfolding number_of
 number_none most token never =
     let v = digits_value 10 token in
