@@ -21,7 +21,7 @@ HasNoNumber most text = (n : ℕ) (rest : List ℕ) → n ≤ most → ¬ Begins
 abbrev pub HasNotFirst : ℕ → List ℕ → Type 0
 HasNotFirst byte text = (rest : List ℕ) → text ≢ byte ∷ rest
 
-pub no_word : (text : List ℕ) → HasNoNumber 18446744073709551615 text → NoneIsFirst IsWord decimal text
+no_word : (text : List ℕ) → HasNoNumber 18446744073709551615 text → NoneIsFirst IsWord decimal text
 no_word text never w rest fits e = never w (newline ∷ rest) (omega (arith, fits)) (record { small = fits; parts = e; whole = refl })
 
 pub no_word_end : (text more : List ℕ) (n : ℕ) → BeginsWithNumber text n more → HasNotFirst newline more → NoneIsFirst IsWord decimal text

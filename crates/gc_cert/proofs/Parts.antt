@@ -246,7 +246,7 @@ text_new raws old p = record {
 abbrev pub both_images : Bool → Image → Image → Lines
 both_images raws old new = ((heading raws ∷ []) ++ image_alone (codes "old") old) ++ image_alone (codes "new") new
 
-pub all_parts : (raws : Bool) (old new : Image) (pairs : List (ℕ × ℕ)) → old.raws ≡ raws → both_images raws old new ++ certificate_lines pairs ≡ lines_of (made_pair old new pairs)
+all_parts : (raws : Bool) (old new : Image) (pairs : List (ℕ × ℕ)) → old.raws ≡ raws → both_images raws old new ++ certificate_lines pairs ≡ lines_of (made_pair old new pairs)
 all_parts raws old new pairs flag = append_assoc ((heading raws ∷ []) ++ image_alone (codes "old") old) (image_alone (codes "new") new) (certificate_lines pairs) ∙ three_parts raws old new pairs flag
 
 pub text_certificate : (raws : Bool) (old new : Image) → IsImageBy raws old → IsImageBy raws new → BeginsWith IsCertificate certificate_lines (λ lines. TextSection (both_images raws old new ++ lines))

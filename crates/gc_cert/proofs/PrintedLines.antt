@@ -30,7 +30,7 @@ prints_then a b c xs ys before mid after first second =
 pub front_longer : (a b : Bytes) (before : List ℕ) (lines : Lines) → SendsFront a b before → PrintsFront lines a b before
 front_longer a b before lines failed = front_sent a a b before before (text_of lines) (nothing_sent a before) failed
 
-pub front_then : (a b c : Bytes) (xs ys : Lines) (before mid : List ℕ) → Prints xs a b before mid → PrintsFront ys b c mid → PrintsFront (xs ++ ys) a c before
+front_then : (a b c : Bytes) (xs ys : Lines) (before mid : List ℕ) → Prints xs a b before mid → PrintsFront ys b c mid → PrintsFront (xs ++ ys) a c before
 front_then a b c xs ys before mid first failed =
     subst (SendsFront a c) (append-nil (before ++ text_of (xs ++ ys))) (front_sent a b c (before ++ text_of (xs ++ ys)) (mid ++ text_of ys) [] (both_longer a b xs ys before mid first) failed)
 

@@ -105,7 +105,7 @@ image_same name a b x y p q flags e =
       roots.1,
     )
 
-pub pair_same : (p q : ℕ × ℕ) → AreAddresses p → AreAddresses q → pair_line p ≡ pair_line q → p ≡ q
+pair_same : (p q : ℕ × ℕ) → AreAddresses p → AreAddresses q → pair_line p ≡ pair_line q → p ≡ q
 pair_same (a, b) (c, d) h k e =
     let both = two_same a b c d (omega (arith, h.0)) (omega (arith, h.1)) (omega (arith, k.0)) (omega (arith, k.1)) e in
     rw (both.0, both.1) refl

@@ -112,7 +112,7 @@ begins_text lines (f, more, fits, e) = (more, (f, fits, sym e))
 all_lines : (lines : List (List ℕ)) → AreWhole lines → TextSection lines
 all_lines lines (f, fits, e) = (f, fits, sym e)
 
-pub wrong_line : (text : List ℕ) (n : ℕ) → IsWrongAt TextSection (start text) n → HasWrongLine text n
+wrong_line : (text : List ℕ) (n : ℕ) → IsWrongAt TextSection (start text) n → HasWrongLine text n
 wrong_line text n w = record {
   before = w.before;
   line = w.line;
@@ -124,7 +124,7 @@ wrong_line text n w = record {
   wrong = λ first. w.wrong (begins_text (w.before ++ w.line ∷ []) first);
 }
 
-pub cut_off : (text : List ℕ) → IsCutIn TextSection (start text) → IsCutOff text
+cut_off : (text : List ℕ) → IsCutIn TextSection (start text) → IsCutOff text
 cut_off text w = record {
   before = w.before;
   unfinished = w.unfinished;
@@ -135,7 +135,7 @@ cut_off text w = record {
 }
 
 -- the fault that stopped a reading is the text's first fault, or `NoMemory`
-pub stop_of_text : (text : List ℕ) (fault : PairFault) → length text ≤ limit → MayStop TextSection fault (start text) → MayFail fault text
+stop_of_text : (text : List ℕ) (fault : PairFault) → length text ≤ limit → MayStop TextSection fault (start text) → MayFail fault text
 stop_of_text text Read le stop = absurd stop
 stop_of_text text TooLarge le stop = absurd stop
 stop_of_text text (BadLine n) le stop = (le, inl (wrong_line text n stop))
@@ -143,12 +143,12 @@ stop_of_text text EndsEarly le stop = (le, cut_off text stop)
 stop_of_text text NoMemory le stop = tt
 
 -- all of the text was taken
-pub whole_text : (f : CertifiedPair) (text : List ℕ) (after : Place) → HasText f → HasTaken (lines_of f) (start text) after → after.rest ≡ [] → IsTextOf f text
+whole_text : (f : CertifiedPair) (text : List ℕ) (after : Place) → HasText f → HasTaken (lines_of f) (start text) after → after.rest ≡ [] → IsTextOf f text
 unfolding spelling
 whole_text f text after fits taken none = record { fits = fits; spelled = taken.parts ∙ ap (λ (t : List ℕ). text_of (lines_of f) ++ t) none ∙ append-nil (text_of (lines_of f)) }
 
 -- a byte follows a text
-pub byte_behind : (f : CertifiedPair) (text : List ℕ) (after : Place) (byte : ℕ) (bytes : List ℕ) → HasText f → HasTaken (lines_of f) (start text) after → after.rest ≡ byte ∷ bytes → HasByteBehind text (after.taken + 1)
+byte_behind : (f : CertifiedPair) (text : List ℕ) (after : Place) (byte : ℕ) (bytes : List ℕ) → HasText f → HasTaken (lines_of f) (start text) after → after.rest ≡ byte ∷ bytes → HasByteBehind text (after.taken + 1)
 byte_behind f text after byte bytes fits taken some = record {
   before = lines_of f;
   byte = byte;
