@@ -195,7 +195,7 @@ few_visits image visits a held start free =
 
 -- ---- what is visited stays visited
 
-pub visited_stays : (before after : List Visit) (a deep : ℕ) → Continues before after → Visited before a deep → Visited after a deep
+visited_stays : (before after : List Visit) (a deep : ℕ) → Continues before after → Visited before a deep → Visited after a deep
 visited_stays before after a deep c v = record {
   number = v.number;
   within = omega (arith, c.more, v.within);
@@ -203,7 +203,7 @@ visited_stays before after a deep c v = record {
   depth = subst (λ (w : Visit). w.depth ≤ deep) (sym (c.same v.number v.within)) v.depth;
 }
 
-pub leads_stays : (image : Image) (before after : List Visit) (k some : ℕ) → k < length before → Continues before after → LeadsToVisits image before k some → LeadsToVisits image after k some
+leads_stays : (image : Image) (before after : List Visit) (k some : ℕ) → k < length before → Continues before after → LeadsToVisits image before k some → LeadsToVisits image after k some
 leads_stays image before after k some inside c leads = λ i a less refers start.
     let same : visit_at after k ≡ visit_at before k = c.same k inside in
     subst (λ (v : Visit). Visited after a (suc v.depth)) (sym same)

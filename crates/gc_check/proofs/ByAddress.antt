@@ -45,7 +45,7 @@ apart [] a c ok s t less = absurd (let no : false ≡ true = s in cc)
 apart (v ∷ ws) a c ok s t less = apart_in ws 0 1 (blocks (v ∷ ws)) a c (walked_blocks (v ∷ ws) ok) s t less
 
 -- so half an address tells the object
-pub half_is_own : (words : List ℕ) (a c : ℕ) → IsOk (walk_words words) → is_start words a ≡ true → is_start words c ≡ true → a / 2 ≡ c / 2 → a ≡ c
+half_is_own : (words : List ℕ) (a c : ℕ) → IsOk (walk_words words) → is_start words a ≡ true → is_start words c ≡ true → a / 2 ≡ c / 2 → a ≡ c
 half_is_own words a c ok s t same =
     elim (cases_order a c) [
       | inl e ↦ e

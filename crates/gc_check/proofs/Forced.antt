@@ -121,7 +121,7 @@ words_met : (old new : Image) (pairs : List (ℕ × ℕ)) (v w : ℕ) → HaveMe
 words_met old new pairs v w = λ a b e f.
     subst (λ now. is_free old new now a b ≡ false) (λ i. met_values old new pairs (sym e i) (sym f i)) (refs_met old new pairs a b)
 
-pub met_all_met : (old new : Image) (pairs : List (ℕ × ℕ)) (vs ws : List ℕ) → AllMet old new (met_all old new pairs vs ws) vs ws
+met_all_met : (old new : Image) (pairs : List (ℕ × ℕ)) (vs ws : List ℕ) → AllMet old new (met_all old new pairs vs ws) vs ws
 met_all_met old new pairs [] ws = tt
 met_all_met old new pairs (v ∷ vs) [] = tt
 met_all_met old new pairs (v ∷ vs) (w ∷ ws) =
@@ -162,7 +162,7 @@ paired_objects old new cert a b certified e =
     subst (λ (p : ℕ × ℕ). BlocksCorrespond cert (block_at old.words p.0) (block_at new.words p.1)) (k.2 (a, b)) (certified.objects k.0 (a, b) k.1)
 
 -- the fields of objects that are not raw correspond as values
-pub fields_as_values : (h : Header) (pairs : List (ℕ × ℕ)) (vs ws : List ℕ) → h.raw ≡ false → AllZip (λ v w. field_words_correspond h pairs v w ≡ true) vs ws → AllZip (λ v w. words_correspond pairs v w ≡ true) vs ws
+fields_as_values : (h : Header) (pairs : List (ℕ × ℕ)) (vs ws : List ℕ) → h.raw ≡ false → AllZip (λ v w. field_words_correspond h pairs v w ≡ true) vs ws → AllZip (λ v w. words_correspond pairs v w ≡ true) vs ws
 fields_as_values h pairs vs ws e z = subst (λ b. AllZip (λ v w. cond b (v == w) (words_correspond pairs v w) ≡ true) vs ws) e z
 
 not_true : (b : Bool) → not b ≡ true → b ≡ false

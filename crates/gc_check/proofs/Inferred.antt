@@ -61,7 +61,7 @@ stand_next true at original row e ih k d h = stands_later at original row _ (ih 
 stand_next false at original row e ih zero d h = record { place = 0; there = omega arith; entry = refl; some = λ z. absurd (let no : true ≡ false = sym (eq-eqb original 0 z) ∙ e in cc) }
 stand_next false at original row e ih (suc k) d h = stands_later at original row _ (ih k d (omega arith))
 
-pub risen_stand : (at : ℕ) (row : List ℕ) → Stand at row (risen at row)
+risen_stand : (at : ℕ) (row : List ℕ) → Stand at row (risen at row)
 risen_stand at [] k d h = absurd (omega arith)
 risen_stand at (original ∷ row) k d h = stand_next (original == 0) at original row refl (risen_stand (suc at) row) k d h
 
@@ -87,7 +87,7 @@ after : (at k : ℕ) → suc at + k ≡ at + suc k
 after at k = omega arith
 
 -- the pair of an entry that is not 0
-pub risen_has : (at : ℕ) (row : List ℕ) (k a : ℕ) → slice_index row k ≡ a → a ≢ 0 → paired (risen at row) a (at + k) ≡ true
+risen_has : (at : ℕ) (row : List ℕ) (k a : ℕ) → slice_index row k ≡ a → a ≢ 0 → paired (risen at row) a (at + k) ≡ true
 risen_has at [] k a e some = absurd (some (sym e))
 risen_has at (original ∷ row) zero a e some =
     ap (λ b. paired (next_risen b at original row) a (at + 0)) (ne_eqb original 0 (λ z. some (sym e ∙ z)))
@@ -252,7 +252,7 @@ module _ (old new old_seen new_seen : Image) (found : Found) (cert : List Pair) 
 pub refused_of_all : (old new : Image) (pairs : List (ℕ × ℕ)) (refusal : Refusal) → (Certifiable old new → Certified old new pairs) → first_fault old new pairs ≡ Some refusal → Certifiable old new → ⊥
 refused_of_all old new pairs refusal complete e some = let no : None ≡ Some refusal = sym (no_fault_of_certified old new pairs (complete some)) ∙ e in cc
 
-pub few_pairs : (cert : List Pair) (row : List ℕ) (n : ℕ) → pairs_of cert ≡ risen 0 row → length row < n → length cert < n
+few_pairs : (cert : List Pair) (row : List ℕ) (n : ℕ) → pairs_of cert ≡ risen 0 row → length row < n → length cert < n
 few_pairs cert row n e h =
     let most : length (risen 0 row) ≤ length row = risen_length 0 row in
     let same : length (pairs_of cert) ≡ length (risen 0 row) = ap length e in

@@ -220,7 +220,7 @@ module _ (old new old_seen new_seen : Image) (found : Found) (cert : List Pair) 
 
 -- ---- images that cannot be compared
 
-pub comparable : (old new : Image) → Certifiable old new → AreComparable old new
+comparable : (old new : Image) → Certifiable old new → AreComparable old new
 comparable old new some = record { old_shaped = some.1.old_shaped; new_shaped = some.1.new_shaped; roots = same_length }
   where
     same_length : length old.roots ≡ length new.roots

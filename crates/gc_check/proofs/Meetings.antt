@@ -20,7 +20,7 @@ use Rattle.gc_check.proofs.PartnerRow.{holds_one}
 
 -- ---- swapped pairs
 
-pub any_swapped : (pairs : List (ℕ × ℕ)) (b : ℕ) → list_any (λ q. q.0 == b) (swapped pairs) ≡ list_any (λ q. q.1 == b) pairs
+any_swapped : (pairs : List (ℕ × ℕ)) (b : ℕ) → list_any (λ q. q.0 == b) (swapped pairs) ≡ list_any (λ q. q.1 == b) pairs
 any_swapped [] b = refl
 any_swapped (p ∷ pairs) b = ap (λ t. (p.1 == b) || t) (any_swapped pairs b)
 
@@ -34,11 +34,11 @@ pub paired_swapped : (pairs : List (ℕ × ℕ)) (a b : ℕ) → paired (swapped
 paired_swapped [] a b = refl
 paired_swapped (p ∷ pairs) a b = λ i. and_turned (p.1 == b) (p.0 == a) i || paired_swapped pairs a b i
 
-pub swapped_push : (pairs : List (ℕ × ℕ)) (p : ℕ × ℕ) → swapped (pairs ++ p ∷ []) ≡ swapped pairs ++ (p.1, p.0) ∷ []
+swapped_push : (pairs : List (ℕ × ℕ)) (p : ℕ × ℕ) → swapped (pairs ++ p ∷ []) ≡ swapped pairs ++ (p.1, p.0) ∷ []
 swapped_push [] p = refl
 swapped_push (q ∷ pairs) p = ap (λ rest. (q.1, q.0) ∷ rest) (swapped_push pairs p)
 
-pub pairs_push : (cert : List Pair) (x : Pair) → pairs_of (cert ++ x ∷ []) ≡ pairs_of cert ++ addresses x ∷ []
+pairs_push : (cert : List Pair) (x : Pair) → pairs_of (cert ++ x ∷ []) ≡ pairs_of cert ++ addresses x ∷ []
 pairs_push [] x = refl
 pairs_push (y ∷ cert) x = ap (λ rest. addresses y ∷ rest) (pairs_push cert x)
 
@@ -48,10 +48,10 @@ turned : (b c : Bool) → not b ≡ c → b ≡ not c
 turned true c e = ap not e
 turned false c e = ap not e
 
-pub old_entry : (old new : Image) (f : Found) (a : ℕ) → HoldsFound old new f → (slice_index (partners_in old f) a == 0) ≡ not (list_any (λ q. q.0 == a) (pairs_of f.pairs.items))
+old_entry : (old new : Image) (f : Found) (a : ℕ) → HoldsFound old new f → (slice_index (partners_in old f) a == 0) ≡ not (list_any (λ q. q.0 == a) (pairs_of f.pairs.items))
 old_entry old new f a held = turned _ _ (held.partners.taken a)
 
-pub new_entry : (old new : Image) (f : Found) (b : ℕ) → HoldsFound old new f → (slice_index (originals_in new f) b == 0) ≡ not (list_any (λ q. q.1 == b) (pairs_of f.pairs.items))
+new_entry : (old new : Image) (f : Found) (b : ℕ) → HoldsFound old new f → (slice_index (originals_in new f) b == 0) ≡ not (list_any (λ q. q.1 == b) (pairs_of f.pairs.items))
 new_entry old new f b held = turned _ _ (held.originals.taken b ∙ any_swapped (pairs_of f.pairs.items) b)
 
 pub record Free (old new : Image) (pairs : List (ℕ × ℕ)) (a b : ℕ) : Type 0 where

@@ -70,7 +70,7 @@ holds_one row pairs p inside low free h = record { pair = pair; taken = taken }
 abbrev pub EndsAt : List (ℕ × ℕ) → ℕ → Type 0
 EndsAt before last = (n : ℕ) → 1 ≤ n → not_above_last before n ≡ nat_le n last
 
-pub ends_one : (before : List (ℕ × ℕ)) (p : ℕ × ℕ) → EndsAt (before ++ p ∷ []) p.1
+ends_one : (before : List (ℕ × ℕ)) (p : ℕ × ℕ) → EndsAt (before ++ p ∷ []) p.1
 ends_one before p n low = push before
   where
     push : (before : List (ℕ × ℕ)) → not_above_last (before ++ p ∷ []) n ≡ nat_le n p.1
@@ -84,7 +84,7 @@ settled : (o : Option Refusal) (r s : Refusal) (b c : Bool) (w : Option Refusal)
 settled None r s b c w = refl
 settled (Some x) r s b c w = refl
 
-pub entry_is : (old new : Image) (row : List ℕ) (before : List (ℕ × ℕ)) (last k : ℕ) (p : ℕ × ℕ) → HoldsPartners row before → EndsAt before last → (is_start new.words p.1 ≡ true → 1 ≤ p.1)
+entry_is : (old new : Image) (row : List ℕ) (before : List (ℕ × ℕ)) (last k : ℕ) (p : ℕ × ℕ) → HoldsPartners row before → EndsAt before last → (is_start new.words p.1 ≡ true → 1 ≤ p.1)
     → entry_fault old new row last k p ≡ place_fault old new before k p
 entry_is old new row before last k p held ends low =
     ap (λ b. first or_else when (not (is_start new.words p.1)) (NewNotStart k) or_else when (nat_le p.1 last) (NotRising k) or_else when b (Twice k)) (held.taken p.0)
@@ -108,7 +108,7 @@ pub record Placed (old new : Image) (row : List ℕ) (p : ℕ × ℕ) : Type 0 w
   pub new_start : is_start new.words p.1 ≡ true
   pub free : slice_index row p.0 ≡ 0
 
-pub no_entry_fault : (old new : Image) (row : List ℕ) (last k : ℕ) (p : ℕ × ℕ) → entry_fault old new row last k p ≡ None → Placed old new row p
+no_entry_fault : (old new : Image) (row : List ℕ) (last k : ℕ) (p : ℕ × ℕ) → entry_fault old new row last k p ≡ None → Placed old new row p
 no_entry_fault old new row last k p e =
     let s3 : ((when (not (is_start old.words p.0)) (OldNotStart k) or_else when (not (is_start new.words p.1)) (NewNotStart k) or_else when (nat_le p.1 last) (NotRising k)) ≡ None) × (when (not (slice_index row p.0 == 0)) (Twice k) ≡ None) = or_none _ _ e in
     let s2 : ((when (not (is_start old.words p.0)) (OldNotStart k) or_else when (not (is_start new.words p.1)) (NewNotStart k)) ≡ None) × (when (nat_le p.1 last) (NotRising k) ≡ None) = or_none _ _ s3.0 in
