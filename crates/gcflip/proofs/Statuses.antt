@@ -23,22 +23,22 @@ use Rattle.gcflip.specs.Statuses.{statuses}
 pub done_is_status : Contains statuses 0
 done_is_status = (0, lit< tt, refl)
 
-pub refusal_is_status : Contains statuses 1
+refusal_is_status : Contains statuses 1
 refusal_is_status = (1, lit< tt, refl)
 
 pub mistake_is_status : Contains statuses 2
 mistake_is_status = (2, lit< tt, refl)
 
-pub text_fault_is_status : Contains statuses 3
+text_fault_is_status : Contains statuses 3
 text_fault_is_status = (3, lit< tt, refl)
 
-pub stream_fault_is_status : Contains statuses 4
+stream_fault_is_status : Contains statuses 4
 stream_fault_is_status = (4, lit< tt, refl)
 
-pub memory_fault_is_status : Contains statuses 5
+memory_fault_is_status : Contains statuses 5
 memory_fault_is_status = (5, lit< tt, refl)
 
-pub threads_fault_is_status : Contains statuses 6
+threads_fault_is_status : Contains statuses 6
 threads_fault_is_status = (6, lit< tt, refl)
 
 close_has_status : (kind : CloseKind) → Contains statuses (close_kind_status kind)

@@ -19,7 +19,7 @@ use Rattle.gcflip.specs.ThreadedRuns.{IsThreadedRun}
 abbrev pub AreScripts : Recording → List (Vec Op Global) → Type 0
 AreScripts t given = map (λ script. script.items) given ≡ scripts t.mutators t.events
 
-pub count_is : (t : Recording) (given : List (Vec Op Global)) → AreScripts t given → length given ≡ t.mutators
+count_is : (t : Recording) (given : List (Vec Op Global)) → AreScripts t given → length given ≡ t.mutators
 count_is t given are = sym (length-map given (λ script. script.items)) ∙ ap length are ∙ length-map-range_with_len (λ m. commands_of m t.events) 0 t.mutators
 
 pub threaded : (t : Recording) (turns : ℕ) (given : List (Vec Op Global)) (past : Past) → AreScripts t given → HasRunScripts t.size given turns past → IsHistory past.size past.mutators past.entries → IsThreadedRun t turns past.entries
