@@ -59,7 +59,7 @@ kept_counts s (Some c) pair ok sizes new small few is certified found =
     subst HasCounts same (counts_of s c ok sizes new small few is (subst IsCertified (sym same) certified))
 
 -- a kept pair is within the limits on words, roots and pairs
-pub flip_counts : (s : State) (event : Event) (pair : CertifiedPair) → IsState s → HasSizesWithin most_words s → HasFewPairs s → s.mutators ≤ 16 → IsCertified pair → flip_at s event ≡ Some pair → HasCounts pair
+flip_counts : (s : State) (event : Event) (pair : CertifiedPair) → IsState s → HasSizesWithin most_words s → HasFewPairs s → s.mutators ≤ 16 → IsCertified pair → flip_at s event ≡ Some pair → HasCounts pair
 flip_counts s (Mutate m op) pair ok sizes small few certified is = absurd cc
 flip_counts s (Collect step) pair ok sizes small few certified is = kept_counts s s.collection pair ok sizes sizes.collection small few refl certified (kept_by_reply s (collect s step).0 pair is)
 
@@ -79,12 +79,12 @@ flips_more : (s : State) (events : List Event) (i : ℕ) (event : Event) → i <
 flips_more s events i event lt is = ap (flips s) (drop_more events i event lt ∙ ap (λ (e : Event). e ∷ drop (i + 1) events) (sym is))
 
 -- the event does not flip
-pub no_flip : (s : State) (events : List Event) (i before : ℕ) (event : Event) → i < length events → event ≡ get_or events i event → flip_at s event ≡ None → flips_from (after s event) events (i + 1) before ≡ flips_from s events i before
+no_flip : (s : State) (events : List Event) (i before : ℕ) (event : Event) → i < length events → event ≡ get_or events i event → flip_at s event ≡ None → flips_from (after s event) events (i + 1) before ≡ flips_from s events i before
 no_flip s events i before event lt is none =
     sym (ap (λ (ps : List CertifiedPair). slice_get ps before) (flips_more s events i event lt is ∙ ap (λ (o : Option CertifiedPair). with_flip o (flips (after s event) (drop (i + 1) events))) none))
 
 -- the event is an earlier flip
-pub other_flip : (s : State) (events : List Event) (i before : ℕ) (event : Event) (pair : CertifiedPair) → i < length events → event ≡ get_or events i event → flip_at s event ≡ Some pair → flips_from (after s event) events (i + 1) before ≡ flips_from s events i (suc before)
+other_flip : (s : State) (events : List Event) (i before : ℕ) (event : Event) (pair : CertifiedPair) → i < length events → event ≡ get_or events i event → flip_at s event ≡ Some pair → flips_from (after s event) events (i + 1) before ≡ flips_from s events i (suc before)
 other_flip s events i before event pair lt is some =
     sym (ap (λ (ps : List CertifiedPair). slice_get ps (suc before)) (flips_more s events i event lt is ∙ ap (λ (o : Option CertifiedPair). with_flip o (flips (after s event) (drop (i + 1) events))) some))
 

@@ -20,7 +20,7 @@ unfolding event_line
 event_line-more event more = append_assoc (joined (event_tokens event)) (newline ∷ []) more
 
 -- two event lines at the start of the same text are the same
-pub event_line_injective : (version : ℕ) (e d : Event) (x y : List ℕ) → HasLine version e → HasLine version d → event_line e ++ x ≡ event_line d ++ y → (e ≡ d) × (x ≡ y)
+event_line_injective : (version : ℕ) (e d : Event) (x y : List ℕ) → HasLine version e → HasLine version d → event_line e ++ x ≡ event_line d ++ y → (e ≡ d) × (x ≡ y)
 event_line_injective version e d x y p q same =
     let cut = one_cut newline (joined (event_tokens e)) x (joined (event_tokens d)) y (HasNo-event version e p) (HasNo-event version d q) (sym (event_line-more e x) ∙ same ∙ event_line-more d y) in
     let tokens : event_tokens e ≡ event_tokens d = sym (tokens_of-event version e p) ∙ ap tokens_of cut.0 ∙ tokens_of-event version d q in
@@ -87,7 +87,7 @@ StopsAt t rest text = IsRecording t × (text ≡ trace_text t ++ rest) × Stops 
 abbrev together : ℕ → ℕ → ℕ → List Event → Recording
 together v s m events = record { version = v; size = s; mutators = m; events = events }
 
-pub one_stop : (t u : Recording) (x y text : List ℕ) → StopsAt t x text → StopsAt u y text → (t ≡ u) × (x ≡ y)
+one_stop : (t u : Recording) (x y text : List ℕ) → StopsAt t x text → StopsAt u y text → (t ≡ u) × (x ≡ y)
 unfolding trace_text
 one_stop t u x y text p q =
     let l : text ≡ trace_heading t.version t.size t.mutators ++ (lines t.events ++ x) = p.1 ∙ append_assoc (trace_heading t.version t.size t.mutators) (lines t.events) x in

@@ -92,7 +92,7 @@ token_reads wanted rest P here tokens x e =
     subst (P x) (sym (token_at_found wanted tokens a.0 a.1)) (here a.0 x a.2)
 
 infixr 5 ◌also◌
-pub ◌also◌ : {A B : Type 0} → A → B → A × B
+◌also◌ : {A B : Type 0} → A → B → A × B
 a also b = (a, b)
 
 -- each entry of the table reads what follows its name

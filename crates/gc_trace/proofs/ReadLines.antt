@@ -47,7 +47,7 @@ behind : (text rest : List ℕ) (p : Progress) (waiting : List ℕ) (left : Opti
 behind text rest p waiting left event h line = h.rest_is ∙ ap (λ (l : List ℕ). l ++ drop p.read text) line ∙ append_assoc (event_line event) waiting (drop p.read text)
 
 -- one more event
-pub event_read : (text : List ℕ) (events : List Event) (r : EventReader) (waiting : List ℕ) (left : Option (List ℕ)) (event : Event) → HasRead text events r left → HasLine r.version event → IsOf r.mutators event → r.pieces.waiting ≡ event_line event ++ waiting
+event_read : (text : List ℕ) (events : List Event) (r : EventReader) (waiting : List ℕ) (left : Option (List ℕ)) (event : Event) → HasRead text events r left → HasLine r.version event → IsOf r.mutators event → r.pieces.waiting ≡ event_line event ++ waiting
     → HasRead text (events ++ event ∷ []) (record r { pieces = record r.pieces { waiting = waiting }; number = r.number + 1 }) left
 event_read text events r waiting left event h fits of line = record {
   rest = waiting ++ drop r.pieces.read text;
@@ -56,7 +56,7 @@ event_read text events r waiting left event h fits of line = record {
 }
 
 -- an event of a mutator that does not exist
-pub stranger_read : (text : List ℕ) (events : List Event) (r : EventReader) (waiting : List ℕ) (left : Option (List ℕ)) (event : Event) → HasRead text events r left → HasLine r.version event → ¬ IsOf r.mutators event → r.pieces.waiting ≡ event_line event ++ waiting
+stranger_read : (text : List ℕ) (events : List Event) (r : EventReader) (waiting : List ℕ) (left : Option (List ℕ)) (event : Event) → HasRead text events r left → HasLine r.version event → ¬ IsOf r.mutators event → r.pieces.waiting ≡ event_line event ++ waiting
     → HasStranger text r.number
 stranger_read text events r waiting left event h fits strange line =
     (read_so_far r events, event, waiting ++ drop r.pieces.read text, subst (GoodBefore text r.number (read_so_far r events)) (behind text h.rest r.pieces waiting left event h.within line) h.good, fits, strange)

@@ -12,7 +12,7 @@ use Rattle.gc_plan.specs.declared.event.Event.TheVariants.{Mutate, Collect}
 use Rattle.gc_plan.specs.declared.step.Step.{Step}
 use Rattle.gc_plan.proofs.Public.{wider_step, wider_event, event_within as sizes_stay}
 
-pub heap_step : (mutators : ℕ) (step : Step) → IsStepWithin most_words mutators step → IsStep mutators step
+heap_step : (mutators : ℕ) (step : Step) → IsStepWithin most_words mutators step → IsStep mutators step
 heap_step mutators step within = wider_step most_words mutators step (omega arith) within
 
 pub heap_event : (mutators : ℕ) (event : Event) → IsEventWithin most_words mutators event → IsEvent mutators event

@@ -30,7 +30,7 @@ step_range (steps.Apply k) = (omega arith, omega arith)
 step_range steps.Flip = (omega arith, omega arith)
 step_range steps.Drop = (omega arith, omega arith)
 
-pub version_range : (event : Event) → (1 ≤ version_of event) × (version_of event ≤ newest)
+version_range : (event : Event) → (1 ≤ version_of event) × (version_of event ≤ newest)
 version_range (Mutate m op) = op_range op
 version_range (Collect step) = step_range step
 
