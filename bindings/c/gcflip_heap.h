@@ -180,7 +180,8 @@ uint32_t gcflip_heap_look(const gcflip_heap *heap, uint8_t m, uint8_t s, gcflip_
  * gcflip_heap_root_count(mutators) + k of an image. To load or store one is a move between a slot and that place: it allocates
  * nothing and logs nothing. All mutators share them. In a collection, the searches for roots to copy read each extra root in use once or
  * twice, and again if a program stores to it or below it meanwhile. The roots in use end with the last one that was stored to and not
- * cleared since. The flip reads each extra root twice, in use or not: it moves the root, and its checker compares it with the moved one. */
+ * cleared since. A flip that the standing checker accepts reads each of them twice: it moves the root, and the checker compares it with the
+ * moved one. A flip that is checked whole reads all extra roots. */
 
 /* Copies the value of extra root k into slot d: GCFLIP_DONE. */
 uint32_t gcflip_heap_root_load(gcflip_heap *heap, uint8_t m, uint8_t d, uint32_t k);

@@ -142,6 +142,53 @@ static void collections(void)
     close_heap();
 }
 
+/* Expects that extra root k refers to an object with this number. */
+static void refers(uint32_t k, uint64_t wanted)
+{
+    EXPECT(gcflip_heap_root_load(&heap, 0, 2, k) == GCFLIP_DONE);
+    EXPECT(gcflip_heap_get(&heap, 0, 3, 2, 0, &number) == GCFLIP_NUMBER && number == wanted);
+    EXPECT(gcflip_heap_set_nil(&heap, 0, 2) == GCFLIP_DONE);
+}
+
+static void store_number(uint32_t k, uint64_t wanted)
+{
+    EXPECT(gcflip_heap_new_object(&heap, 0, 0, KIND, 1) == GCFLIP_MADE);
+    EXPECT(gcflip_heap_put_number(&heap, 0, 0, 0, 1, wanted) == GCFLIP_DONE);
+    EXPECT(gcflip_heap_root_store(&heap, 0, k, 0) == GCFLIP_DONE);
+    EXPECT(gcflip_heap_set_nil(&heap, 0, 0) == GCFLIP_DONE);
+}
+
+/* A heap with many extra roots uses a few. One far behind them takes an object, survives a flip, and is cleared again. */
+static void few_in_use(void)
+{
+    open_heap(256, 1, MANY);
+    for (uint32_t k = 0; k < 4; k++)
+        store_number(k, 40 + k);
+    for (int round = 0; round < 3; round++) {
+        EXPECT(collected(1) == 4);
+        for (uint32_t k = 0; k < 4; k++)
+            refers(k, 40 + k);
+    }
+    store_number(MANY - 1, 99);
+    EXPECT(collected(1) == 5);
+    refers(MANY - 1, 99);
+    EXPECT(gcflip_heap_root_clear(&heap, MANY - 1, MANY) == GCFLIP_DONE);
+    store_number(2, 52);
+    EXPECT(collected(1) == 4);
+    EXPECT(gcflip_heap_root_load(&heap, 0, 2, MANY - 1) == GCFLIP_DONE);
+    holds_nil(0, 2);
+    EXPECT(gcflip_heap_root_clear(&heap, 3, MANY) == GCFLIP_DONE);
+    for (int round = 0; round < 2; round++) {
+        EXPECT(collected(100) == 3);
+        refers(0, 40);
+        refers(1, 41);
+        refers(2, 52);
+        EXPECT(gcflip_heap_root_load(&heap, 0, 2, 3) == GCFLIP_DONE);
+        holds_nil(0, 2);
+    }
+    close_heap();
+}
+
 static void frames(void)
 {
     gcflip_frame frame = {2, 5, 2}, other = {5, 8, 5}, wrong = {2, 9, 2};
@@ -221,6 +268,7 @@ int main(void)
     options();
     apart_from_slots();
     collections();
+    few_in_use();
     frames();
     many();
     return 0;

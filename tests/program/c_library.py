@@ -231,7 +231,8 @@ def reads_of_roots(folder, words):
 
 def root_reads(_program, folder):
     """Counts how often a whole collection reads roots. Searches read an extra root at most twice, and a slot at most once for each command that wrote
-    a slot. The flip reads each root twice, and each moved one once: it moves the root, and its checker compares both."""
+    a slot. The flip reads each root twice, and each moved one once: it moves the root, and its checker compares both.
+    A flip along reads each moved one once more, when it writes it into the heap."""
     built = library(folder)
     if built is None:
         return
@@ -245,7 +246,8 @@ def root_reads(_program, folder):
         most = 2 * EXTRA_ROOTS + ROOT_SLOTS * (calls if commands else 1)
         case = "checking %s, %s" % (checking, commands or "no commands")
         yield "reads of roots by searches, %s" % case, None if EXTRA_ROOTS <= searched <= most else "%d reads, at most %d" % (searched, most)
-        flipped, wanted = reads_of_roots(folder, [path, checking, FLIPPED, *commands])[1] - searched, 3 * (EXTRA_ROOTS + ROOT_SLOTS)
+        flipped = reads_of_roots(folder, [path, checking, FLIPPED, *commands])[1] - searched
+        wanted = (4 if checking == ALONG else 3) * (EXTRA_ROOTS + ROOT_SLOTS)
         yield "reads of roots by the flip, %s" % case, None if flipped == wanted else "%d reads, wanted %d" % (flipped, wanted)
 
 

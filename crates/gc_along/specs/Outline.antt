@@ -1,5 +1,5 @@
 -- What a flip asks about: an image without its words.
-use Rattle.std.specs.Prelude.{ℕ, Bool, List, length}
+use Rattle.std.specs.Prelude.{ℕ, Bool, List, ◌++◌, length, replicate}
 use Rattle.gc_words.specs.Image.{Image}
 use Rattle.gc_along.specs.declared.outline.Outline.{Outline}
 
@@ -14,6 +14,6 @@ pub record ImageOutline : Type 0 where
 abbrev pub outline_of : Image → ImageOutline
 outline_of image = record { size = image.size; end = image.end; count = length image.words; roots = image.roots; raws = image.raws }
 
--- the program's outline
+-- the program's outline: nils follow its first roots
 abbrev pub outline_in : Outline → ImageOutline
-outline_in outline = record { size = outline.size; end = outline.end; count = outline.count; roots = outline.roots.now; raws = outline.raws }
+outline_in outline = record { size = outline.size; end = outline.end; count = outline.count; roots = outline.roots.now ++ replicate outline.nils 0; raws = outline.raws }

@@ -4,6 +4,7 @@ use crate::{origins_tell_pairs, what_is_seen_is_certified};
 use gc_graph::NoMemory;
 use gc_words::{Addr, Header, Value, decode_wide, field_index, push_copies};
 use std::alloc::Global;
+use std::cmp::max;
 use std::marker::Model;
 use std::mem::swap;
 
@@ -416,15 +417,15 @@ impl Standing {
         }
     }
 
-    // Whether the roots correspond, place by place.
-    fn roots_correspond(&self, old: &[u64], new: &[u64]) -> bool
-        ensures { IsTrue result ↔ RootsCorrespond (pairs_in self.now.origins) old.now new.now }
+    // Whether the roots correspond, place by place. Past the longer of the two rows of first roots, all roots of both outlines are nil.
+    fn roots_correspond(&self, old: Outline, new: Outline) -> bool
+        ensures { IsTrue result ↔ RootsCorrespond (pairs_in self.now.origins) (outline_in old.entry).roots (outline_in new.entry).roots }
     {
-        if old.len() != new.len() {
+        if old.count_roots() != new.count_roots() {
             return false;
         }
-        for i in 0..old.len() {
-            if !self.is_correspondence(old[i], new[i]) {
+        for i in 0..max(old.roots.len(), new.roots.len()) {
+            if !self.is_correspondence(old.root_at(i), new.root_at(i)) {
                 return false;
             }
         }
@@ -455,7 +456,7 @@ impl Standing {
         if !is_sized(new) {
             return false;
         }
-        self.roots_correspond(old.roots, new.roots)
+        self.roots_correspond(old, new)
     }
 
     /// The new space is the old one from now on, and the next new one is empty.

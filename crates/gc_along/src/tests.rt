@@ -21,6 +21,7 @@ fn outline<'a>(words: &[u64], roots: &'a [u64]) -> Outline<'a> {
         end: 7,
         count: words.len(),
         roots,
+        nils: 0,
         raws: true,
     }
 }
@@ -47,6 +48,25 @@ fn what_is_right_is_accepted(rt: HostRuntime) -> Result<(), Fail> {
     assert!(rt; says(&standing, &OLD, &NEW, 2));
     assert!(rt; !says(&standing, &OLD, &NEW, 10));
     assert!(rt; !standing.says_yes(outline(&OLD, &[2]), outline(&NEW, &[])));
+    Ok(())
+}
+
+/// Returns the outline with so many nils behind its roots.
+fn with_nils<'a>(outline: Outline<'a>, nils: u32) -> Outline<'a> {
+    Outline { nils, ..outline }
+}
+
+#[test]
+fn nils_may_be_left_out(rt: HostRuntime) -> Result<(), Fail> {
+    let standing = looked(rt.alloc(), &OLD, &NEW)?;
+    let old = with_nils(outline(&OLD, &[2]), 2);
+    let new = with_nils(outline(&NEW, &[2]), 2);
+    assert!(rt; standing.says_yes(old, new));
+    assert!(rt; standing.says_yes(old, outline(&NEW, &[2, 0, 0])));
+    assert!(rt; standing.says_yes(outline(&OLD, &[2, 0, 0]), new));
+    assert!(rt; !standing.says_yes(old, outline(&NEW, &[2, 0])));
+    assert!(rt; !standing.says_yes(old, outline(&NEW, &[2, 0, 2])));
+    assert!(rt; !standing.says_yes(outline(&OLD, &[2, 0, 2]), new));
     Ok(())
 }
 
@@ -135,6 +155,7 @@ fn whole<'a>(words: &[u64], roots: &'a [u64]) -> Outline<'a> {
         end,
         count: words.len(),
         roots,
+        nils: 0,
         raws: true,
     }
 }

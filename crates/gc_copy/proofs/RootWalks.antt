@@ -1,6 +1,7 @@
 -- Walks over the root words.
-use Rattle.std.proofs.Common.{Option, Some, None, arith, ◌≡◌, ℕ, suc, zero, ◌<◌, ◌≤◌, true, List, [], ◌∷◌, ◌++◌, map, drop, length, get_or, slice_get, is_some, refl, ap, sym, ◌∙◌, subst, append-nil, inl, inr}
-use Rattle.std.proofs.lemmas.List.{drop_all}
+use Rattle.std.proofs.Common.{Option, Some, None, arith, ◌≡◌, ℕ, suc, zero, ◌-◌, ◌/◌, ◌%◌, ◌==◌, ◌<◌, ◌≤◌, Bool, true, false, cond, List, [], ◌∷◌, ◌++◌, map, drop, take, replicate, length, length-take, get_or, slice_get, is_some, refl, ap, sym, ◌∙◌, subst, append-nil, inl, inr}
+use Rattle.std.proofs.lemmas.Bool.{eqb-true}
+use Rattle.std.proofs.lemmas.List.{drop_all, get_or-take, length-append, length-map, map-append, take-append-drop}
 use Rattle.std.specs.Prelude.{IfSome}
 use Rattle.std.specs.Option.{option_map}
 use Rattle.gc_graph.specs.Graph.{Value, Nil, Num, Ref, Graph, root, value_or_nil}
@@ -10,7 +11,7 @@ use Rattle.gc_plan.specs.State.{Collection, moved}
 use Rattle.gc_plan.specs.Steps.{root_target, roots_done}
 use Rattle.gc_plan.specs.Members.{In}
 use Rattle.gc_plan.proofs.Public.{HasReplica, in_map, roots_replicated, all_replicated, first_missing}
-use Rattle.gc_copy.specs.Words.{new_root_words}
+use Rattle.gc_copy.specs.Words.{AreMoved, new_root_words}
 use Rattle.gc_copy.specs.declared.collection.roots.MissingRoot.{MissingRoot}
 use Rattle.gc_plan.specs.Staying.{HasReplicaOf, IsMissing}
 
@@ -51,13 +52,92 @@ root_has_replica heap c words i same h done =
     has_one c (value_of (get_or words i 0))
     (roots_replicated c (graph_in heap) done (value_of (get_or words i 0)) (subst (λ ws. In (value_of (get_or words i 0)) (map value_of ws)) same (in_map value_of (get_or words i 0) words (get_or_in words i h))))
 
-pub moved_all : (heap : HeapWords) (c : Collection) (words done : List ℕ) (i : ℕ) → words ≡ heap.roots → length words ≤ i → done ++ map (moved_to c) (drop i words) ≡ map (moved_to c) words → done ≡ new_root_words heap c
-moved_all heap c words done i same h e =
-    sym (append-nil done)
-    ∙ ap (λ ws. done ++ map (moved_to c) ws) (sym (drop_all i words h))
-    ∙ e
-    ∙ ap (map (moved_to c)) same
-    ∙ all_moved heap c
+-- the values of the roots behind place k are nil
+abbrev pub EndsAt : List ℕ → ℕ → Type 0
+EndsAt words k = (p : ℕ) → k ≤ p → value_or_nil (slice_get (map value_of words) p) ≡ Nil
+
+past_all : (words : List ℕ) (p : ℕ) → length words ≤ p → value_or_nil (slice_get (map value_of words) p) ≡ Nil
+past_all [] zero h = refl
+past_all [] (suc p) h = refl
+past_all (w ∷ ws) zero h = absurd (omega arith)
+past_all (w ∷ ws) (suc p) h = past_all ws p (omega arith)
+
+-- there is no root behind the end of their list
+pub end_of_all : (words : List ℕ) (k : ℕ) → length words ≤ k → EndsAt words k
+end_of_all words k h = λ p l. past_all words p (omega arith)
+
+-- only 0 is nil
+nil_word : (w : ℕ) → value_of w ≡ Nil → w ≡ 0
+nil_word w = by (w == 0) refl (w % 2 == 1)
+  where
+    by : (z : Bool) → (w == 0) ≡ z → (o : Bool) → cond z Nil (cond o (Num (w / 2)) (Ref (w / 2))) ≡ Nil → w ≡ 0
+    by true e o h = eqb-true w 0 e
+    by false e true h = absurd (let no : Num (w / 2) ≡ Nil = h in cc)
+    by false e false h = absurd (let no : Ref (w / 2) ≡ Nil = h in cc)
+
+pub nil_words : (words : List ℕ) (k : ℕ) → EndsAt words k → drop k words ≡ replicate (length words - k) 0
+nil_words [] k h = drop_all k [] (omega arith) ∙ ap (λ n. replicate n 0) (let none : 0 ≡ 0 - k = omega arith in none)
+nil_words (w ∷ ws) zero h =
+    let rest : drop zero ws ≡ replicate (length ws - zero) 0 = nil_words ws zero (λ p l. h (suc p) (omega arith)) in
+    let here : w ≡ 0 = nil_word w (h zero (omega arith)) in
+    let same : length ws - zero ≡ length ws = omega arith in
+    let more : suc (length ws) ≡ suc (length ws) - zero = omega arith in
+    (λ i. here i ∷ (rest ∙ ap (λ n. replicate n 0) same) i) ∙ ap (λ n. replicate n 0) more
+nil_words (w ∷ ws) (suc k) h =
+    nil_words ws k (λ p l. h (suc p) (omega arith))
+    ∙ ap (λ n. replicate n 0) (let less : length ws - k ≡ suc (length ws) - suc k = omega arith in less)
+
+moved_nils : (c : Collection) (n : ℕ) → map (moved_to c) (replicate n 0) ≡ replicate n 0
+moved_nils c zero = refl
+moved_nils c (suc n) = let rest = moved_nils c n in λ i. 0 ∷ rest i
+
+-- each of the first k targets has a replica
+pub first_has_replica : (heap : HeapWords) (c : Collection) (words : List ℕ) (k i : ℕ) → words ≡ heap.roots → i < length (take k words) → roots_done c (graph_in heap) ≡ true → HasReplicaOf c (value_of (get_or (take k words) i 0))
+first_has_replica heap c words k i same h done =
+    let taken = length-take k words in
+    subst (λ w. HasReplicaOf c (value_of w)) (sym (get_or-take k words i 0 (omega arith))) (root_has_replica heap c words i same (omega arith) done)
+
+-- where k roots are moved, and the others are nil
+pub moved_first : (heap : HeapWords) (c : Collection) (words row : List ℕ) (k i : ℕ) → k ≤ length heap.roots → EndsAt heap.roots k → words ≡ take k heap.roots → length words ≤ i
+    → row ++ map (moved_to c) (drop i words) ≡ map (moved_to c) words → (length row ≡ k) × AreMoved row heap c
+moved_first heap c words row k i within ends same past e =
+    (count, record { moved = subst (λ n. row ++ replicate (length heap.roots - n) 0 ≡ new_root_words heap c) (sym count) moved; nils = subst (λ n. drop n heap.roots ≡ replicate (length heap.roots - n) 0) (sym count) nils })
+  where
+    nils : drop k heap.roots ≡ replicate (length heap.roots - k) 0
+    nils = nil_words heap.roots k ends
+
+    row_is : row ≡ map (moved_to c) (take k heap.roots)
+    row_is = sym (append-nil row) ∙ ap (λ ws. row ++ map (moved_to c) ws) (sym (drop_all i words past)) ∙ e ∙ ap (map (moved_to c)) same
+
+    count : length row ≡ k
+    count = ap length row_is ∙ length-map (take k heap.roots) (moved_to c) ∙ (let taken = length-take k heap.roots in omega arith)
+
+    moved : row ++ replicate (length heap.roots - k) 0 ≡ new_root_words heap c
+    moved =
+        ap (λ ws. ws ++ replicate (length heap.roots - k) 0) row_is
+        ∙ ap (λ ws. map (moved_to c) (take k heap.roots) ++ ws) (sym (moved_nils c (length heap.roots - k)))
+        ∙ ap (λ ws. map (moved_to c) (take k heap.roots) ++ map (moved_to c) ws) (sym nils)
+        ∙ sym (map-append (moved_to c) (take k heap.roots) (drop k heap.roots))
+        ∙ ap (map (moved_to c)) (take-append-drop k heap.roots)
+        ∙ all_moved heap c
+
+-- where all are
+pub moved_whole : (heap : HeapWords) (c : Collection) (row : List ℕ) → length row ≡ length heap.roots → AreMoved row heap c → row ≡ new_root_words heap c
+moved_whole heap c row same is =
+    sym (append-nil row)
+    ∙ ap (λ n. row ++ replicate n 0) (let none : 0 ≡ length heap.roots - length row = omega arith in none)
+    ∙ is.moved
+
+-- no more are moved than there are
+pub moved_within : (heap : HeapWords) (c : Collection) (row : List ℕ) → AreMoved row heap c → length row ≤ length heap.roots
+moved_within heap c row is =
+    let all : length (row ++ replicate (length heap.roots - length row) 0) ≡ length (new_root_words heap c) = ap length is.moved in
+    let moved : length (new_root_words heap c) ≡ length heap.roots = ap length (sym (all_moved heap c)) ∙ length-map heap.roots (moved_to c) in
+    omega (arith, length-append row (replicate (length heap.roots - length row) 0))
+
+-- written over the first roots, they are all roots moved
+pub moved_over : (heap : HeapWords) (c : Collection) (row : List ℕ) → AreMoved row heap c → row ++ drop (length row) heap.roots ≡ new_root_words heap c
+moved_over heap c row is = ap (λ ws. row ++ ws) is.nils ∙ is.moved
 
 -- ---- searching them
 

@@ -1,6 +1,6 @@
 -- A collection as contracts see it: a new space whose links are the originals' addresses, logs with spare capacity, and the scan
 -- pointer.
-use Rattle.std.specs.Prelude.{◌≡◌, ℕ, ◌-◌, ◌<◌, ◌^◌, Bool, if◌then◌else◌, List, length, map, slice_get, IsTrue, Option, Some, None}
+use Rattle.std.specs.Prelude.{◌≡◌, ℕ, ◌-◌, ◌<◌, ◌^◌, Bool, if◌then◌else◌, List, ◌++◌, drop, length, map, replicate, slice_get, IsTrue, Option, Some, None}
 use Rattle.gc_words.specs.Word.{word_of}
 use Rattle.gc_words.specs.Image.{Block, blocks, is_start, object_of_block}
 use Rattle.gc_words.specs.Spelling.{link_at}
@@ -93,6 +93,11 @@ pub record BelongsToBut (fields : List (ℕ × ℕ)) (heap : HeapWords) (c : Col
 -- the root words after the roots are moved to replicas
 abbrev pub new_root_words : HeapWords → Collection → List ℕ
 new_root_words heap c = map word_of (new_graph c (graph_in heap).roots).roots
+
+-- These are the first root words after the roots are moved. The heap's roots behind them are nil, and so are the new ones.
+pub record AreMoved (roots : List ℕ) (heap : HeapWords) (c : Collection) : Type 0 where
+  pub moved : roots ++ replicate (length heap.roots - length roots) 0 ≡ new_root_words heap c
+  pub nils : drop (length roots) heap.roots ≡ replicate (length heap.roots - length roots) 0
 
 -- the number of entries that mutator m's log can take without an allocation
 abbrev pub spare_in : Option Log → ℕ

@@ -4,13 +4,15 @@ use Rattle.std.specs.Prelude.{IfSome, slice_set, min, max}
 use Rattle.std.specs.Option.{option_map}
 use Rattle.std.proofs.lemmas.Bool.{cond_both, cond-true, cond-false, cases_lt, cases_eq, lt-ltb, le-ltb, ltb-true}
 use Rattle.gc_graph.specs.Slots.{SlotName, place, roots_of}
-use Rattle.gc_graph.specs.Graph.{Value, Nil, Ref, lookup, root, value_or_nil, set_root}
+use Rattle.gc_graph.specs.Graph.{Graph, Value, Nil, Ref, lookup, root, value_or_nil, set_root}
 use Rattle.gc_graph.specs.Machine.{Roomy}
 use Rattle.gc_heap.specs.ExtraRoots.{extra_slot}
 use Rattle.gc_heap.specs.declared.options.HeapOptions.{HeapOptions}
 use Rattle.gc_heap.proofs.Public.{extra_place}
 use Rattle.gc_core.specs.ExtraRoots.{clear_step}
-use Rattle.std.proofs.lemmas.List.{length-replicate}
+use Rattle.std.proofs.lemmas.List.{length-map, length-replicate}
+use Rattle.gc_words.specs.Word.{value_of}
+use Rattle.gc_heap.specs.Heap.{HeapWords, graph_in}
 use Rattle.gc_graph.specs.declared.command.Op.{Op}
 use Rattle.gc_graph.specs.declared.command.Op.TheVariants as ops
 use Rattle.gc_graph.specs.declared.reply.Reply.{Reply}
@@ -29,6 +31,20 @@ use Rattle.gc_plan.proofs.Public.{steps_stay, collect_stays, mutate_stays, root_
 use Rattle.gc_core.specs.CollectedHeap.{fill_step, filled, new_from_step}
 use Rattle.gc_core.specs.Internal.KnownRoots.{KnowsRoots, FindsFirst, next_place}
 use Rattle.gc_core.specs.declared.known.KnownRoots.{KnownRoots}
+
+-- ---- roots in use
+
+-- there are as many roots as those in use
+pub use_within : (known : KnownRoots) (s : State) (heap : HeapWords) (n : ℕ) → KnowsRoots known s → s.heap.graph ≡ graph_in heap → n ≡ roots_of s.mutators + known.used → n ≤ length heap.roots
+use_within known s heap n k graph same =
+    let count = ap (λ (g : Graph). length g.roots) graph in
+    omega (arith, k.used_high, length-map heap.roots value_of)
+
+-- and those behind them are nil
+pub nil_behind : (known : KnownRoots) (s : State) (n : ℕ) → KnowsRoots known s → n ≡ roots_of s.mutators + known.used → (p : ℕ) → n ≤ p → root s.heap.graph p ≡ Nil
+nil_behind known s n k same p le =
+    let back : roots_of s.mutators + (p - roots_of s.mutators) ≡ p = omega arith in
+    subst (λ q. root s.heap.graph q ≡ Nil) back (k.unused (p - roots_of s.mutators) (omega arith))
 
 -- ---- commands
 

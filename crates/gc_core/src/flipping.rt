@@ -3,7 +3,7 @@ ghost use Rattle.std.specs.Option.{option_map};
 ghost use Rattle.gc_cert.specs.Views.{pair_in};
 ghost use Rattle.gc_heap.specs.Heap.{graph_in};
 ghost use Rattle.gc_plan.specs.Steps.{collect, is_ready};
-ghost use Rattle.gc_copy.specs.Words.{BelongsTo, HasNoLinks, collection_in, idle_state, new_root_words, open_state};
+ghost use Rattle.gc_copy.specs.Words.{AreMoved, BelongsTo, HasNoLinks, collection_in, idle_state, open_state};
 ghost use Rattle.gc_plan.specs.State.{pairs_of};
 ghost use Rattle.gc_plan.specs.declared.step.Step.{Step};
 ghost use Rattle.gc_plan.specs.declared.step.StepReply.{StepReply};
@@ -17,11 +17,10 @@ use gc_along::{Outline, Watcher};
 use gc_cert::{Image, PairFile};
 use gc_check::{CheckFault, Checks};
 use gc_copy::{Collection, StepReply, heaps_have_addresses_as_names, images_show_links};
-use gc_graph::NoMemory;
+use gc_graph::{NoMemory, root_count};
 use gc_heap::Heap;
 use gc_words::no_fault_where_certified;
 use std::alloc::Global;
-use std::mem::replace;
 
 impl CollectedHeap {
     ghost use Rattle.gc_core.specs.CollectedHeap.{Allocates};
@@ -107,16 +106,15 @@ impl CollectedHeap {
         if !is_ready {
             return Ok(unasked(StepReply::NotReady));
         }
-        let mut roots = replace(&mut self.roots, Vec::new(self.alloc));
-        collection.move_roots(&self.heap, &mut roots)?;
-        if !is_accepted(along, &self.heap, collection, &roots) {
+        let in_use = root_count(self.heap.mutators()) + self.known.used;
+        collection.move_roots(&self.heap, in_use, &mut self.roots)?;
+        if !is_accepted(along, &self.heap, collection, &self.roots) {
             return self.flip_whole(checker);
         }
         let collection = self.collection.take().unwrap();
-        let (room, roots, pairs) = collection.flip_marked(&mut self.heap, roots);
+        let (room, pairs) = collection.flip_marked(&mut self.heap, &self.roots);
         self.marked = true;
         self.room = Some(room);
-        self.roots = roots;
         Ok(unasked(StepReply::Flipped { pairs }))
     }
 
@@ -152,10 +150,10 @@ fn unasked(reply: StepReply) -> AlongFlip
     }
 }
 
-// Returns whether the checker that went along accepts the outlines of both images as they are now.
+// Returns whether the checker that went along accepts the outlines of both images as they are now, where these are the moved roots.
 fn is_accepted<W: Watcher>(along: &W, heap: &Heap, collection: &Collection, roots: &[u64]) -> bool
     requires belongs { BelongsTo heap.now collection.now }
-    requires roots { roots.now ≡ new_root_words heap.now (collection_in collection.now) }
+    requires roots { AreMoved roots.now heap.now (collection_in collection.now) }
     ensures yes { IsTrue result → HasAccepted (W.accepted along.now)
         (flip_pair (open_state heap.now collection.now) (collection_in collection.now)) }
     ensures sure { HasAccepted (W.sure along.now)
@@ -163,8 +161,12 @@ fn is_accepted<W: Watcher>(along: &W, heap: &Heap, collection: &Collection, root
 {
     heaps_have_addresses_as_names();
     images_show_links();
-    let old = Outline::of(heap.image());
-    let new = Outline::of(collection.new_image(roots));
+    // Here the prover learns that the number of roots fits.
+    let _ = heap.mutators();
+    let all = heap.roots();
+    let nils = (all.len() - roots.len()) as u32;
+    let old = Outline::with_nils(heap.space().image(&all[..roots.len()]), nils);
+    let new = Outline::with_nils(collection.new_image(roots), nils);
     along.accepts(old, new)
 }
 

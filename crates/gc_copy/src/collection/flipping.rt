@@ -6,7 +6,7 @@ ghost use Rattle.gc_words.specs.Views.{image_of as image_in, addresses};
 ghost use Rattle.gc_heap.specs.Heap.{IsHeap, graph_in};
 ghost use Rattle.gc_plan.specs.State.{pairs_of};
 ghost use Rattle.gc_plan.specs.Steps.{collect, is_ready};
-ghost use Rattle.gc_copy.specs.Words.{IsCollection, collection_in, idle_state, open_state, BelongsTo, HasNoLinks, LinksNothing, new_root_words};
+ghost use Rattle.gc_copy.specs.Words.{IsCollection, AreMoved, collection_in, idle_state, open_state, BelongsTo, HasNoLinks, LinksNothing, new_root_words};
 ghost use Rattle.gc_copy.specs.Internal.Words.{KeepsGraph};
 ghost use Rattle.gc_plan.specs.declared.step.Step.{Step};
 ghost use Rattle.gc_plan.specs.declared.step.StepReply.{StepReply};
@@ -65,20 +65,19 @@ impl Collection {
         heap.replace(space, roots)
     }
 
-    /// Switches the mutators to the new space and to these roots, which `new_roots` returned. Clears no link: the new space keeps those of
-    /// the replicas, which lead nowhere in a collection whose links are marked. Returns the room of this collection's heap for the next one, the
-    /// old roots and the number of pairs. Takes the same time however large the spaces are.
-    pub fn flip_marked(self, heap: &mut Heap, roots: Vec<u64>) -> (Room, Vec<u64>, u32)
+    /// Switches the mutators to the new space, and writes these roots, which `move_roots` wrote, over the first roots of the heap. Clears no
+    /// link: the new space keeps those of the replicas, which lead nowhere in a collection whose links are marked. Returns the room of this
+    /// collection's heap for the next one, and the number of pairs. The time depends on the number of these roots alone.
+    pub fn flip_marked(self, heap: &mut Heap, roots: &[u64]) -> (Room, u32)
         requires belongs { BelongsTo heap.old self }
         requires ready { IsTrue (is_ready (collection_in self) (graph_in heap.old)) }
-        requires roots { roots.items ≡ new_root_words heap.old (collection_in self) }
+        requires roots { AreMoved roots.now heap.old (collection_in self) }
         ensures step { collect (open_state heap.old self) Step.Flip
             ≡ (StepReply.Flipped (length (pairs_of (collection_in self))), idle_state heap.new) }
-        ensures heap { heap.new ≡ record heap.old { space = self.space; roots = roots.items } }
+        ensures heap { heap.new ≡ record heap.old { space = self.space; roots = new_root_words heap.old (collection_in self) } }
         ensures links { LinksNothing true heap.new }
         ensures room { result.0 ≡ record { size = heap.old.space.size; mutators = heap.old.mutators } }
-        ensures roots { result.1.items ≡ heap.old.roots }
-        ensures count { result.2 ≡ length (pairs_of (collection_in self)) }
+        ensures count { result.1 ≡ length (pairs_of (collection_in self)) }
         ensures sound { IsHeap heap.new }
     {
         // Here the prover learns that the heap is sound.
@@ -89,12 +88,12 @@ impl Collection {
             replicas,
             ..
         } = self;
-        let (old_space, old_roots) = heap.replace(space, roots);
+        let old_space = heap.replace_first(space, roots);
         let room = Room {
             space: old_space.emptied(),
             logs,
         };
-        (room, old_roots, replicas)
+        (room, replicas)
     }
 
     /// Takes the mark from the links of originals, and clears all other links of the old space, so that its words are those of a collection

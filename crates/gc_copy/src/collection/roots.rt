@@ -1,13 +1,13 @@
 ghost use Rattle.std.specs.Prelude.{IfSome, ◌≡◌, ◌≤◌, ◌<◌, ℕ, IfOk, OnOk, IsTrue, length, None};
 ghost use Rattle.std.specs.Option.{option_map};
 ghost use Rattle.gc_words.specs.Word.{value_of};
-ghost use Rattle.gc_graph.specs.Graph.{names_of, root};
+ghost use Rattle.gc_graph.specs.Graph.{Nil, names_of, root};
 ghost use Rattle.gc_words.specs.Image.{is_start};
 ghost use Rattle.gc_words.specs.Closed.{IsRootWord};
 ghost use Rattle.gc_heap.specs.Heap.{graph_in};
 ghost use Rattle.gc_plan.specs.Staying.{HasReplicaOf, IsMissing};
 ghost use Rattle.gc_plan.specs.Steps.{first_unreplicated, root_target, roots_done as roots_done_in};
-ghost use Rattle.gc_copy.specs.Words.{collection_in, BelongsTo, new_root_words};
+ghost use Rattle.gc_copy.specs.Words.{collection_in, AreMoved, BelongsTo, new_root_words};
 
 use super::Collection;
 use gc_graph::NoMemory;
@@ -83,19 +83,23 @@ impl Collection {
         ensures { IfOk result (λ words. words.items ≡ new_root_words heap.now (collection_in self.now)) }
     {
         let mut roots = Vec::new(alloc);
-        self.move_roots(heap, &mut roots)?;
+        self.move_roots(heap, heap.roots().len(), &mut roots)?;
         Ok(roots)
     }
 
-    /// Writes the same root words into a row, in the place of what is in it. Allocates at most once, and not at all if the row has room.
-    pub fn move_roots(&self, heap: &Heap, row: &mut Vec<u64>) -> Result<(), NoMemory>
+    /// Writes the first `in_use` of the same root words into a row, in the place of what is in it. The other roots have to be nil, so that
+    /// they stay as they are. Allocates at most once, for all roots of the heap, and not at all if the row has room for them.
+    pub fn move_roots(&self, heap: &Heap, in_use: usize, row: &mut Vec<u64>) -> Result<(), NoMemory>
         requires belongs { BelongsTo heap.now self.now }
         requires done { IsTrue (roots_done_in (collection_in self.now) (graph_in heap.now)) }
-        ensures { OnOk result (row.new.items ≡ new_root_words heap.now (collection_in self.now)) }
+        requires within { in_use ≤ length heap.now.roots }
+        requires nils { (p : ℕ) → in_use ≤ p → root (graph_in heap.now) p ≡ Nil }
+        ensures count { OnOk result (length row.new.items ≡ in_use) }
+        ensures moved { OnOk result (AreMoved row.new.items heap.now (collection_in self.now)) }
     {
         row.clear();
         row.reserve_exact(heap.roots().len())?;
-        for word in heap.roots() {
+        for word in &heap.roots()[..in_use] {
             row.push(self.moved_word(heap, *word))?;
         }
         Ok(())

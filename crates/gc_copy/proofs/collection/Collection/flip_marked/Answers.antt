@@ -1,5 +1,5 @@
 -- The new space keeps links that lead nowhere, as none is above the mark, and all logs are empty because the collection was ready.
-use Rattle.std.proofs.Common.{◌≡◌, ℕ, List, [], ◌∷◌, true, false, map, length, replicate, refl, sym, ap, ◌∙◌, subst}
+use Rattle.std.proofs.Common.{◌≡◌, ℕ, List, [], ◌∷◌, ◌++◌, true, false, drop, map, length, replicate, refl, sym, ap, ◌∙◌, subst}
 use Rattle.std.specs.List.{list_all}
 use Rattle.std.proofs.lemmas.Bool.{and_parts}
 use Rattle.std.specs.Prelude.{IsTrue}
@@ -7,10 +7,11 @@ use Rattle.gc_words.specs.Space.{SpaceWords, empty_space}
 use Rattle.gc_heap.specs.Heap.{HeapWords, IsHeap, graph_in}
 use Rattle.gc_plan.specs.State.{pairs_of}
 use Rattle.gc_plan.specs.Steps.{is_ready, is_empty}
-use Rattle.gc_copy.specs.Words.{Log, CollectionWords, IsCollection, entries_of, BelongsTo, collection_in, new_root_words, idle_state, LinksNothing}
+use Rattle.gc_copy.specs.Words.{Log, CollectionWords, IsCollection, AreMoved, entries_of, BelongsTo, collection_in, new_root_words, idle_state, LinksNothing}
 use Rattle.gc_plan.specs.declared.step.StepReply.TheVariants.{Flipped}
 use Rattle.gc_plan.proofs.Public.{ready_parts}
 use Rattle.gc_copy.proofs.Flipping.{flipped_sound, flip_is, with_its_links, below_the_mark}
+use Rattle.gc_copy.proofs.RootWalks.{moved_over, moved_within}
 use Rattle.gc_copy.proofs.collection.Collection.flip_marked.Goals as goal
 
 -- a ready collection has only empty logs
@@ -35,30 +36,45 @@ sound : (heap : HeapWords) (c : CollectionWords) (space : SpaceWords) (roots : L
 sound heap c space roots is whole belongs ready new same =
     subst IsHeap (λ i. record { space = sym same i; roots = sym new i; mutators = heap.mutators }) (flipped_sound heap c c.space is whole belongs ready (with_its_links c.space whole.space))
 
-pub replace-old_space-requires : goal.replace-old_space-requires
-replace-old_space-requires c =
-    sound c.args.heap.now c.args.self c.self.inside.space c.args.roots.items c.space.ensures.sound (subst IsCollection c.self.view_is c.self.invariant.0) c.requires.belongs c.requires.ready c.requires.roots
+-- the same, where these roots are written over the first ones
+sound_over : (heap : HeapWords) (c : CollectionWords) (space : SpaceWords) (roots : List ℕ) → IsHeap heap → IsCollection c → BelongsTo heap c → IsTrue (is_ready (collection_in c) (graph_in heap)) → AreMoved roots heap (collection_in c) → space ≡ c.space
+    → IsHeap (record { space = space; roots = roots ++ drop (length roots) heap.roots; mutators = heap.mutators })
+sound_over heap c space roots is whole belongs ready moved same = sound heap c space (roots ++ drop (length roots) heap.roots) is whole belongs ready (moved_over heap (collection_in c) roots moved) same
+
+pub replace_first-old_space-requires-clause-within : goal.replace_first-old_space-requires-clause-within
+replace_first-old_space-requires-clause-within c = moved_within c.args.heap.now (collection_in c.args.self) c.args.roots.now c.requires.roots
+
+pub replace_first-old_space-requires-clause-sound : goal.replace_first-old_space-requires-clause-sound
+replace_first-old_space-requires-clause-sound c =
+    sound_over c.args.heap.now c.args.self c.self.inside.space c.args.roots.now c.space.ensures.sound (subst IsCollection c.self.view_is c.self.invariant.0) c.requires.belongs c.requires.ready c.requires.roots
     (ap (λ (y : CollectionWords). y.space) c.self.view_is)
 
 pub returns-clause-sound : goal.returns-clause-sound
 returns-clause-sound c =
-    subst IsHeap (sym c.replace-old_space.ensures.heap)
-    (sound c.args.heap.now c.args.self c.self.inside.space c.args.roots.items c.space.ensures.sound (subst IsCollection c.self.view_is c.self.invariant.0) c.requires.belongs c.requires.ready c.requires.roots
+    subst IsHeap (sym c.replace_first-old_space.ensures.heap)
+    (sound_over c.args.heap.now c.args.self c.self.inside.space c.args.roots.now c.space.ensures.sound (subst IsCollection c.self.view_is c.self.invariant.0) c.requires.belongs c.requires.ready c.requires.roots
     (ap (λ (y : CollectionWords). y.space) c.self.view_is))
+
+pub returns-clause-heap : goal.returns-clause-heap
+returns-clause-heap c =
+    let space : c.self.inside.space ≡ c.args.self.space = ap (λ (y : CollectionWords). y.space) c.self.view_is in
+    let roots = moved_over c.args.heap.now (collection_in c.args.self) c.args.roots.now c.requires.roots in
+    c.replace_first-old_space.ensures.heap ∙ (λ i. record { space = space i; roots = roots i; mutators = c.args.heap.now.mutators })
 
 pub returns-clause-step : goal.returns-clause-step
 returns-clause-step c =
     let sound : IsCollection c.args.self = subst IsCollection c.self.view_is c.self.invariant.0 in
     let space : c.self.inside.space ≡ c.args.self.space = ap (λ (y : CollectionWords). y.space) c.self.view_is in
+    let roots = moved_over c.args.heap.now (collection_in c.args.self) c.args.roots.now c.requires.roots in
     flip_is c.args.heap.now c.args.self c.args.self.space c.space.ensures.sound sound c.requires.belongs c.requires.ready (with_its_links c.args.self.space sound.space)
-    ∙ (λ i. (Flipped (length (pairs_of (collection_in c.args.self))), idle_state (record { space = sym space i; roots = sym c.requires.roots i; mutators = c.args.heap.now.mutators })))
-    ∙ ap (λ (h : HeapWords). (Flipped (length (pairs_of (collection_in c.args.self))), idle_state h)) (sym c.replace-old_space.ensures.heap)
+    ∙ (λ i. (Flipped (length (pairs_of (collection_in c.args.self))), idle_state (record { space = sym space i; roots = sym roots i; mutators = c.args.heap.now.mutators })))
+    ∙ ap (λ (h : HeapWords). (Flipped (length (pairs_of (collection_in c.args.self))), idle_state h)) (sym c.replace_first-old_space.ensures.heap)
 
 pub returns-clause-links : goal.returns-clause-links
 returns-clause-links c =
     let sound : IsCollection c.args.self = subst IsCollection c.self.view_is c.self.invariant.0 in
     let space : c.self.inside.space ≡ c.args.self.space = ap (λ (y : CollectionWords). y.space) c.self.view_is in
-    subst (LinksNothing true) (sym c.replace-old_space.ensures.heap) (subst (λ s. LinksNothing true (record { space = s; roots = c.args.roots.items; mutators = c.args.heap.now.mutators })) (sym space) (below_the_mark c.args.self sound))
+    subst (LinksNothing true) (sym c.replace_first-old_space.ensures.heap) (subst (λ s. LinksNothing true (record { space = s; roots = c.args.roots.now ++ drop (length c.args.roots.now) c.args.heap.now.roots; mutators = c.args.heap.now.mutators })) (sym space) (below_the_mark c.args.self sound))
 
 pub invariant_of-room : goal.invariant_of-room
 invariant_of-room c = record {

@@ -1,13 +1,14 @@
 -- What the checker that went along accepted is the pair of the open collection, and no collection is open after the flip.
-use Rattle.std.proofs.Common.{true, refl, sym, ◌∙◌, ap, subst}
+use Rattle.std.proofs.Common.{◌+◌, true, refl, sym, ◌∙◌, ap, subst}
 use Rattle.std.specs.Option.{option_map}
+use Rattle.gc_graph.specs.Slots.{roots_of}
 use Rattle.gc_heap.specs.Heap.{HeapWords}
 use Rattle.gc_copy.specs.Words.{collection_in, state_of, open_state, idle_state}
 use Rattle.gc_core.specs.Flip.{HasAccepted}
 use Rattle.gc_core.specs.Internal.CollectedHeap.{Fits}
 use Rattle.gc_core.specs.Internal.KnownRoots.{KnowsRoots}
 use Rattle.gc_core.proofs.KeptPair.{pair_now}
-use Rattle.gc_core.proofs.Marks.{flipped_knows}
+use Rattle.gc_core.proofs.Marks.{flipped_knows, nil_behind, use_within}
 use Rattle.gc_core.proofs.collected_heap.CollectedHeap.flip_along.Goals as goal
 
 pub returns-clause-along : goal.returns-clause-along
@@ -24,3 +25,17 @@ invariant_of-self-2 g c =
     let count = ap (λ (h : HeapWords). h.mutators) c.flip_marked-room.ensures.heap in
     subst (λ o. Fits true new o × KnowsRoots known (state_of new (option_map collection_in o))) (sym c.take.ensures.after)
     (c.flip_marked-room.ensures.links, flipped_knows known (open_state heap c.unwrap-collection.result) (idle_state new) _ refl count c.flip_marked-room.ensures.step before)
+
+pub move_roots-requires-clause-within : goal.move_roots-requires-clause-within
+move_roots-requires-clause-within g c =
+    let heap = c.self.inside.heap in
+    let known = c.self.inside.known in
+    let slots = c.root_count.ensures ∙ ap roots_of c.mutators.ensures.value in
+    use_within known (state_of heap (option_map collection_in c.self.inside.collection)) heap (c.root_count.result + known.used) c.self.invariant.1 refl (ap (λ n. n + known.used) slots)
+
+pub move_roots-requires-clause-nils : goal.move_roots-requires-clause-nils
+move_roots-requires-clause-nils g c =
+    let heap = c.self.inside.heap in
+    let known = c.self.inside.known in
+    let slots = c.root_count.ensures ∙ ap roots_of c.mutators.ensures.value in
+    nil_behind known (state_of heap (option_map collection_in c.self.inside.collection)) (c.root_count.result + known.used) c.self.invariant.1 (ap (λ n. n + known.used) slots)
