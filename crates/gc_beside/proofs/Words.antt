@@ -100,7 +100,7 @@ field_words h k pairs v u low same agree = go h.raw refl
         ap (λ t. cond t (v == u) (words_correspond pairs v u)) is
         ∙ values_read pairs v u (address_is_value v (low_old pairs (value_of v) (value_of u) low plain)) (address_is_value u (low_new pairs (value_of v) (value_of u) low plain)) plain
 
--- ---- the order of the pairs (from gc_copy's proofs/Flips, where these are private)
+-- ---- the order of the pairs (from gc_plan's proofs/Flips, where these are private)
 
 pairs_rise : (at : ℕ) (replicas : List Replica) (end : ℕ) → Laid at (map placed replicas) end → AllPairs (λ p q. p.1 < q.1) (map pair replicas)
 pairs_rise at [] end h i j d l within = absurd (omega arith)

@@ -1,4 +1,4 @@
--- The roots are done, so each root word's target has a replica and can be moved, and the row becomes the moved roots.
+-- The roots are done, so each root word's target has a replica and can be moved; the row becomes the first moved roots, and those behind are nil.
 use Rattle.std.proofs.Common.{arith, take, ap}
 use Rattle.gc_copy.specs.Words.{collection_in}
 use Rattle.gc_copy.proofs.RootWalks.{first_has_replica, moved_first}

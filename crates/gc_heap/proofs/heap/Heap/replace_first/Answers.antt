@@ -1,3 +1,4 @@
+-- The given words and the roots behind them are the new roots, as the condition on the heap says.
 use Rattle.std.proofs.Common.{rules, ◌≡◌, ◌++◌, ◌≤◌, ℕ, List, take, drop, length, sym, ap, ◌∙◌, subst, arith, append-nil}
 use Rattle.std.proofs.lemmas.List.{length-append, length-drop, take_all, drop_all}
 use Rattle.gc_heap.specs.Heap.{HeapWords, IsHeap}
