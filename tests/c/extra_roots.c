@@ -186,6 +186,8 @@ static void few_in_use(void)
         EXPECT(gcflip_heap_root_load(&heap, 0, 2, 3) == GCFLIP_DONE);
         holds_nil(0, 2);
     }
+    gcflip_flip_checks checks = {0, 0};
+    EXPECT(gcflip_heap_flip_checks(&heap, &checks) == GCFLIP_DONE && checks.along == 7 && checks.whole == 0);
     close_heap();
 }
 
