@@ -2,7 +2,7 @@ use crate::outline::Outline;
 use crate::watcher::Watcher;
 use crate::{origins_tell_pairs, what_is_seen_is_certified};
 use gc_graph::NoMemory;
-use gc_words::{Addr, Header, Value, decode_wide, field_index, push_copies};
+use gc_words::{Addr, Header, Value, decode_wide, field_index};
 use std::alloc::Global;
 use std::cmp::max;
 use std::marker::Model;
@@ -607,9 +607,11 @@ fn add_codes(row: &mut Vec<u8>, len: u16, code: u8)
     ensures items { row.new.items ≡ row.old.items ++ object_codes len code }
     ensures capacity { vec_capacity row.old ≤ vec_capacity row.new }
 {
+    let next = row.len() + usize::from(len) + 2;
     row.push_reserved(START);
     row.push_reserved(0);
-    push_copies(row, usize::from(len), code, &[code; 16]);
+    // There is room, so this cannot fail.
+    row.resize(next, code).unwrap();
 }
 
 // Adds the original of a replica.
@@ -619,9 +621,11 @@ fn add_origin(row: &mut Vec<u32>, len: u16, original: u32)
     ensures items { row.new.items ≡ row.old.items ++ original ∷ 0 ∷ replicate len 0 }
     ensures capacity { vec_capacity row.old ≤ vec_capacity row.new }
 {
+    let next = row.len() + usize::from(len) + 2;
     row.push_reserved(original);
     row.push_reserved(0);
-    push_copies(row, usize::from(len), 0, &[0; 8]);
+    // There is room, so this cannot fail.
+    row.resize(next, 0).unwrap();
 }
 
 // The originals have no replicas any more.

@@ -2,7 +2,6 @@
 //! their roots, and what a certificate says of two images.
 #![tactic(auto)]
 
-mod copies;
 mod header;
 mod image;
 mod laws;
@@ -12,7 +11,6 @@ mod shape;
 mod space;
 mod value;
 
-pub use copies::push_copies;
 pub use gc_graph::MOST_WORDS;
 pub use header::Header;
 pub use image::{ImageRef, MOST_PAIRS, MOST_ROOTS, Pair};

@@ -1,4 +1,3 @@
-use crate::copies::push_copies;
 use crate::header::Header;
 use crate::image::ImageRef;
 use crate::layout::{clear_links, field_index, has_start, link_index};
@@ -119,9 +118,10 @@ impl Space {
         ensures shaped { IsSpace self.new }
     {
         let start = self.words.len();
+        let end = start + object_words(header.len()) as usize;
         self.words.push_reserved(header.word());
-        // The link and the fields.
-        push_copies(&mut self.words, usize::from(header.len()) + 1, 0, &[0; 8]);
+        // `new` has made the room, so this cannot fail.
+        self.words.resize(end, 0).unwrap();
         Addr(start as u32)
     }
 
