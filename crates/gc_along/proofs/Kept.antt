@@ -130,14 +130,14 @@ IsFreedAt before after a = (get_or after a 0 ≡ get_or before a 0) ⊎ ((get_or
 -- ---- the fields as they are written
 
 -- the tables with one place due or not, and counted anew
-pub due_written : (t : Tables) (place code m : ℕ) (due : Bool) → IsKept t → place < length t.news → code ≡ code_of due → m + bit (get_or t.news place 0 == 3) ≡ t.missing + bit due
-    → record t { news = set t.news place code; missing = m } ≡ with_due t place due
-due_written t place code m due k within is count =
+pub due_written : (t : Tables) (place code m : ℕ) (due : Bool) (news : List ℕ) → IsKept t → place < length t.news → code ≡ code_of due → m + bit (get_or t.news place 0 == 3) ≡ t.missing + bit due
+    → news ≡ set t.news place code → record t { news = news; missing = m } ≡ with_due t place due
+due_written t place code m due news k within is count news_are =
     let e : m ≡ missing_in (set t.news place (code_of due)) =
     (let counted : t.missing ≡ missing_in t.news = k.counted in
     let one : missing_in (set t.news place (code_of due)) + bit (get_or t.news place 0 == 3) ≡ missing_in t.news + bit due = set_count t.news place due within in
     omega arith) in
-    (λ i. record t { news = set t.news place (is i); missing = e i })
+    (λ i. record t { news = (news_are ∙ ap (set t.news place) is) i; missing = e i })
 
 pub few_missing : (t : Tables) → IsKept t → t.missing ≤ 4294967295
 few_missing t k = let few : length t.news ≤ 4294967295 = k.few in let counted : t.missing ≡ missing_in t.news = k.counted in let m : missing_in t.news ≤ length t.news = few_due t.news in omega arith
@@ -150,11 +150,11 @@ some_missing t place k within =
     omega arith
 
 -- the tables with a replica more
-pub replica_written : (t : Tables) (h : Header) (a code m n : ℕ) (due : Bool) (news origins : List ℕ) → IsKept t → code ≡ code_of due → news ≡ t.news ++ object_codes h.len code
+pub replica_written : (t : Tables) (h : Header) (a m n : ℕ) (due : Bool) (olds news origins : List ℕ) → IsKept t → olds ≡ set t.olds a 2 → news ≡ t.news ++ object_codes h.len (code_of due)
     → origins ≡ t.origins ++ a ∷ 0 ∷ replicate h.len 0 → m ≡ t.missing + n → n ≡ (if due then h.len else 0)
-    → record t { olds = set t.olds a 2; news = news; origins = origins; missing = m } ≡ replica_added t h a due
-replica_written t h a code m n due news origins k is news_are origins_are m_is n_is =
-    (λ i. record t { olds = set t.olds a 2; news = (news_are ∙ ap (λ c. t.news ++ object_codes h.len c) is) i; origins = origins_are i; missing = (m_is ∙ ap (λ n. t.missing + n) n_is) i })
+    → record t { olds = olds; news = news; origins = origins; missing = m } ≡ replica_added t h a due
+replica_written t h a m n due olds news origins k olds_are news_are origins_are m_is n_is =
+    (λ i. record t { olds = olds_are i; news = news_are i; origins = origins_are i; missing = (m_is ∙ ap (λ n. t.missing + n) n_is) i })
     ∙ replica_counted t h a due (t.missing + (if due then h.len else 0)) k refl
 
 pub placed_is : (old new : List ℕ) (t after : Tables) (h : Header) (a : ℕ) (copied : Bool) → length t.news < length new → IsClaim old new t h a → (copied ≡ true → IsCopy old new h a (length t.news))

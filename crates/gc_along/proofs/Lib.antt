@@ -7,6 +7,9 @@ pub mod Exact
 pub mod Within
 pub mod Origins
 pub mod Codes
+pub mod Digits
+pub mod Packed
+pub mod Halves
 pub mod Kept
 pub mod Marks
 pub mod ToldTruth

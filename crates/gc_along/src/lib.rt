@@ -2,13 +2,16 @@
 //! fields it has yet to see. It believes nobody.
 #![tactic(auto)]
 
+mod code_row;
 mod laws;
+mod origin_row;
 mod outline;
 mod standing;
 mod telling;
 #[cfg(test)]
 mod tests;
 mod watcher;
+mod zeros;
 
 pub use laws::{
     due_places_are_counted, looks_keep_watching, origins_tell_pairs, the_answer_is_exact,

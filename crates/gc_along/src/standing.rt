@@ -1,3 +1,5 @@
+use crate::code_row::CodeRow;
+use crate::origin_row::OriginRow;
 use crate::outline::Outline;
 use crate::watcher::Watcher;
 use crate::{origins_tell_pairs, what_is_seen_is_certified};
@@ -22,11 +24,11 @@ const PLACES: u64 = 1 << 32;
 #[derive(Debug, Drop)]
 pub struct Standing {
     /// By old place, as far as the old space is walked: 0, `START` or `TAKEN`.
-    olds: Vec<u8>,
+    olds: CodeRow,
     /// By new place, as far as the new space is walked: 0, `START` or `DUE`.
-    news: Vec<u8>,
+    news: CodeRow,
     /// By new place: the original of the replica that starts here, or 0.
-    origins: Vec<u32>,
+    origins: OriginRow,
     /// The number of places that are due.
     missing: usize,
     /// The number of words of a space for which there is room.
@@ -36,23 +38,23 @@ pub struct Standing {
 }
 
 impl Model for Standing {
-    ghost use Rattle.std.specs.Prelude.{◌⊎◌, ◌≤◌, IsTrue, vec_capacity};
+    ghost use Rattle.std.specs.Prelude.{◌⊎◌, ◌≤◌, IsTrue};
     ghost use Rattle.gc_along.specs.Tables.{Tables};
     ghost use Rattle.gc_along.specs.Internal.Tables.{IsLostOrKept};
 
     ghost Value = { Tables };
 
     ghost view = { λ s. record {
-      olds = s.olds.items;
-      news = s.news.items;
-      origins = s.origins.items;
+      olds = s.olds.codes;
+      news = s.news.codes;
+      origins = s.origins.origins;
       missing = s.missing;
       room = s.room;
       lost = s.lost;
     } };
 
-    ghost invariant = { λ s. (IsTrue s.lost ⊎ (1 ≤ s.room)) × (s.room ≤ 4294967295) × (s.room ≤ vec_capacity s.olds) × (s.room ≤ vec_capacity s.news) × (s.room ≤ vec_capacity s.origins)
-        × IsLostOrKept (record { olds = s.olds.items; news = s.news.items; origins = s.origins.items; missing = s.missing; room = s.room; lost = s.lost }) };
+    ghost invariant = { λ s. (IsTrue s.lost ⊎ (1 ≤ s.room)) × (s.room ≤ 4294967295) × (s.room ≤ s.olds.room) × (s.room ≤ s.news.room) × (s.room ≤ s.origins.room)
+        × IsLostOrKept (record { olds = s.olds.codes; news = s.news.codes; origins = s.origins.origins; missing = s.missing; room = s.room; lost = s.lost }) };
 }
 
 impl Standing {
@@ -74,12 +76,9 @@ impl Standing {
         requires { 1 ≤ size }
         ensures { IfOk result (λ standing. standing ≡ opening_tables size) }
     {
-        let mut olds = Vec::with_capacity(alloc, size as usize)?;
-        let mut news = Vec::with_capacity(alloc, size as usize)?;
-        let mut origins = Vec::with_capacity(alloc, size as usize)?;
-        olds.push_reserved(0);
-        news.push_reserved(0);
-        origins.push_reserved(0);
+        let olds = CodeRow::new(alloc, size)?;
+        let news = CodeRow::new(alloc, size)?;
+        let origins = OriginRow::new(alloc, size)?;
         Ok(Standing {
             olds,
             news,
@@ -95,9 +94,9 @@ impl Standing {
         ensures { result ≡ absent_tables }
     {
         Standing {
-            olds: Vec::new(alloc),
-            news: Vec::new(alloc),
-            origins: Vec::new(alloc),
+            olds: CodeRow::absent(alloc),
+            news: CodeRow::absent(alloc),
+            origins: OriginRow::absent(alloc),
             missing: 0,
             room: 0,
             lost: true,
@@ -113,11 +112,20 @@ impl Standing {
         if self.room == 0 || size <= self.room {
             return Ok(());
         }
-        reserve_places(&mut self.olds, size)?;
-        reserve_places(&mut self.news, size)?;
-        reserve_places(&mut self.origins, size)?;
+        self.olds.reserve(size)?;
+        self.news.reserve(size)?;
+        self.origins.reserve(size)?;
         self.room = size;
         Ok(())
+    }
+
+    /// Writes to all memory of the tables once, so that no later event meets a page for the first time.
+    pub fn touch(&mut self)
+        ensures { self.new ≡ self.old }
+    {
+        self.olds.touch();
+        self.news.touch();
+        self.origins.touch();
     }
 
     /// A collection begins. If the checker is lost, it walks over the old space anew, unless it is absent or the space is larger than its
@@ -144,12 +152,9 @@ impl Standing {
         requires { 1 ≤ self.old.room }
         ensures { self.new ≡ opening_tables self.old.room }
     {
-        self.olds.clear();
-        self.olds.push_reserved(0);
-        self.news.clear();
-        self.news.push_reserved(0);
-        self.origins.clear();
-        self.origins.push_reserved(0);
+        self.olds.restart();
+        self.news.restart();
+        self.origins.restart();
         self.missing = 0;
         self.lost = false;
     }
@@ -172,7 +177,7 @@ impl Standing {
             self.lost = true;
             return;
         };
-        add_codes(&mut self.olds, header.len(), 0);
+        add_codes(&mut self.olds, header.len(), false);
     }
 
     /// The walk over the new space goes on by one object, if there is one: the replica of the object that its link claims.
@@ -199,9 +204,9 @@ impl Standing {
             return;
         };
         let due = !is_copy(header, old, new, original, at);
-        self.olds[original as usize] = TAKEN;
-        add_origin(&mut self.origins, header.len(), original);
-        add_codes(&mut self.news, header.len(), code_of(due));
+        let _ = self.olds.replace(original as usize, TAKEN);
+        self.origins.add(header.len(), original);
+        add_codes(&mut self.news, header.len(), due);
         self.missing += due_words(header.len(), due);
     }
 
@@ -229,10 +234,7 @@ impl Standing {
             × (alike ≡ field_words_correspond h (pairs_in self.now.origins) (slice_index old.now (field_place a i)) (slice_index new.now (field_place at i)))) }
     {
         let start = at as usize;
-        if start >= self.origins.len() {
-            return None;
-        }
-        let original = self.origins[start];
+        let original = self.origins.get(start);
         if original == 0 {
             return None;
         }
@@ -317,7 +319,7 @@ impl Standing {
         ensures none { IsFalse self.now.lost → IsFalse result → HasNoReplica self.now a }
     {
         let from = a as usize;
-        from < self.olds.len() && self.olds[from] == TAKEN
+        from < self.olds.len() && self.olds.get(from) == TAKEN
     }
 
     // The replica of the object at `a`, if the low 32 bits of its link tell it.
@@ -357,9 +359,8 @@ impl Standing {
         requires within { place < length self.old.news }
         ensures { self.new ≡ with_due self.old place due }
     {
-        let was = self.news[place] == DUE;
+        let was = self.news.replace(place, code_of(due)) == DUE;
         self.missing = recounted(self.missing, was, due);
-        self.news[place] = code_of(due);
     }
 
     // Whether the words are fields that stand for each other, of objects with this header. The words of raw objects have to be
@@ -409,12 +410,7 @@ impl Standing {
     fn origin_at(&self, at: u32) -> u32
         ensures { result ≡ slice_index_or self.now.origins at 0 }
     {
-        let place = at as usize;
-        if place < self.origins.len() {
-            self.origins[place]
-        } else {
-            0
-        }
+        self.origins.get(at as usize)
     }
 
     // Whether the roots correspond, place by place. Past the longer of the two rows of first roots, all roots of both outlines are nil.
@@ -469,10 +465,8 @@ impl Standing {
             return;
         }
         swap(&mut self.olds, &mut self.news);
-        self.news.clear();
-        self.news.push_reserved(0);
-        self.origins.clear();
-        self.origins.push_reserved(0);
+        self.news.restart();
+        self.origins.restart();
         self.missing = 0;
     }
 
@@ -486,10 +480,8 @@ impl Standing {
             return;
         }
         free_originals(&mut self.olds, &self.origins);
-        self.news.clear();
-        self.news.push_reserved(0);
-        self.origins.clear();
-        self.origins.push_reserved(0);
+        self.news.restart();
+        self.origins.restart();
         self.missing = 0;
     }
 }
@@ -508,7 +500,7 @@ impl Watcher for Standing {
 }
 
 ghost use Rattle.gc_along.specs.Outline.{outline_in};
-ghost use Rattle.std.specs.Prelude.{◌≡◌, ◌⊎◌, ◌↔◌, OnOk, ◌≤◌, ◌<◌, ◌+◌, ◌==◌, ◌∷◌, ◌++◌, ℕ, IsTrue, MatchOption, length, replicate, slice_index, slice_index_or, vec_len, vec_capacity};
+ghost use Rattle.std.specs.Prelude.{◌≡◌, ◌⊎◌, ◌↔◌, ◌≤◌, ◌<◌, ◌+◌, ◌==◌, ◌++◌, ℕ, IsTrue, MatchOption, length, slice_index, slice_index_or};
 ghost use Rattle.gc_words.specs.Layout.{fields_place, link_place};
 ghost use Rattle.gc_words.specs.declared.header.Header.{Header};
 ghost use Rattle.std.specs.Prelude.{if◌then◌else◌};
@@ -537,12 +529,12 @@ fn next_header(words: &[u64], at: usize, room: u32) -> Option<Header>
 // The original that the link of the object at `at` claims, if it is one: it starts an object that was seen and has no replica,
 // with an equal header word.
 #[inline(always)]
-fn claim_in(old: &[u64], new: &[u64], olds: &[u8], at: usize) -> Option<u32>
+fn claim_in(old: &[u64], new: &[u64], olds: &CodeRow, at: usize) -> Option<u32>
     requires { link_place at < length new.now }
     ensures { MatchOption result ((a : ℕ) → slice_index new.now (link_place at) ≡ a → 1 ≤ a → a < 4294967295 → a < length old.now
-        → slice_index_or olds.now a 0 ≡ 1 → slice_index old.now a ≡ slice_index new.now at → ⊥)
-        (λ a. (slice_index new.now (link_place at) ≡ a) × (1 ≤ a) × (a < length old.now) × (a < length olds.now)
-        × (slice_index_or olds.now a 0 ≡ 1) × (slice_index old.now a ≡ slice_index new.now at)) }
+        → slice_index_or olds.now.codes a 0 ≡ 1 → slice_index old.now a ≡ slice_index new.now at → ⊥)
+        (λ a. (slice_index new.now (link_place at) ≡ a) × (1 ≤ a) × (a < length old.now) × (a < length olds.now.codes)
+        × (slice_index_or olds.now.codes a 0 ≡ 1) × (slice_index old.now a ≡ slice_index new.now at)) }
 {
     let claim = new[at + 1];
     if claim < 1 {
@@ -556,7 +548,7 @@ fn claim_in(old: &[u64], new: &[u64], olds: &[u8], at: usize) -> Option<u32>
     if from >= olds.len() {
         return None;
     }
-    if olds[from] != START {
+    if olds.get(from) != START {
         return None;
     }
     if from >= old.len() {
@@ -587,57 +579,32 @@ fn is_copy(header: Header, old: &[u64], new: &[u64], original: u32, at: usize) -
     old[from..from + len] == new[first..first + len]
 }
 
-// Makes room for this many places. If memory is refused, the row stays as it is.
-fn reserve_places<T>(row: &mut Vec<T>, size: u32) -> Result<(), NoMemory>
-    ensures items { row.new.items ≡ row.old.items }
-    ensures capacity { vec_capacity row.old ≤ vec_capacity row.new }
-    ensures room { OnOk result (size ≤ vec_capacity row.new) }
-{
-    let places = size as usize;
-    if row.len() < places {
-        row.reserve_exact(places - row.len())?;
-    }
-    Ok(())
-}
-
 // Adds the codes of an object.
 #[inline(always)]
-fn add_codes(row: &mut Vec<u8>, len: u16, code: u8)
-    requires { vec_len row.old + (len + 2) ≤ vec_capacity row.old }
-    ensures items { row.new.items ≡ row.old.items ++ object_codes len code }
-    ensures capacity { vec_capacity row.old ≤ vec_capacity row.new }
+fn add_codes(row: &mut CodeRow, len: u16, due: bool)
+    requires { length row.old.codes + (len + 2) ≤ row.old.room }
+    ensures codes { row.new.codes ≡ row.old.codes ++ object_codes len (code_of due) }
+    ensures room { row.old.room ≤ row.new.room }
 {
-    let next = row.len() + usize::from(len) + 2;
-    row.push_reserved(START);
-    row.push_reserved(0);
-    // There is room, so this cannot fail.
-    row.resize(next, code).unwrap();
-}
-
-// Adds the original of a replica.
-#[inline(always)]
-fn add_origin(row: &mut Vec<u32>, len: u16, original: u32)
-    requires { vec_len row.old + (len + 2) ≤ vec_capacity row.old }
-    ensures items { row.new.items ≡ row.old.items ++ original ∷ 0 ∷ replicate len 0 }
-    ensures capacity { vec_capacity row.old ≤ vec_capacity row.new }
-{
-    let next = row.len() + usize::from(len) + 2;
-    row.push_reserved(original);
-    row.push_reserved(0);
-    // There is room, so this cannot fail.
-    row.resize(next, 0).unwrap();
+    row.add(START, usize::from(len) + 1);
+    if due {
+        row.fill(usize::from(len));
+    }
 }
 
 // The originals have no replicas any more.
-fn free_originals(olds: &mut [u8], origins: &[u32])
-    requires { (b : ℕ) → 1 ≤ slice_index_or origins.now b 0 → slice_index_or olds.old (slice_index_or origins.now b 0) 0 ≡ 2 }
-    ensures codes { (a : ℕ) → (slice_index_or olds.new a 0 ≡ slice_index_or olds.old a 0) ⊎ ((slice_index_or olds.old a 0 ≡ 2) × (slice_index_or olds.new a 0 ≡ 1)) }
-    ensures freed { (b : ℕ) → 1 ≤ slice_index_or origins.now b 0 → slice_index_or olds.new (slice_index_or origins.now b 0) 0 ≡ 1 }
+fn free_originals(olds: &mut CodeRow, origins: &OriginRow)
+    requires { (b : ℕ) → 1 ≤ slice_index_or origins.now.origins b 0 → slice_index_or olds.old.codes (slice_index_or origins.now.origins b 0) 0 ≡ 2 }
+    ensures len { length olds.new.codes ≡ length olds.old.codes }
+    ensures room { olds.old.room ≤ olds.new.room }
+    ensures codes { (a : ℕ) → (slice_index_or olds.new.codes a 0 ≡ slice_index_or olds.old.codes a 0)
+        ⊎ ((slice_index_or olds.old.codes a 0 ≡ 2) × (slice_index_or olds.new.codes a 0 ≡ 1)) }
+    ensures freed { (b : ℕ) → 1 ≤ slice_index_or origins.now.origins b 0 → slice_index_or olds.new.codes (slice_index_or origins.now.origins b 0) 0 ≡ 1 }
 {
     for at in 0..origins.len() {
-        let from = origins[at] as usize;
+        let from = origins.get(at) as usize;
         if from != 0 {
-            olds[from] = START;
+            let _ = olds.replace(from, START);
         }
     }
 }

@@ -1,10 +1,10 @@
 -- The tables gain the pair that the link claims and still agree, and if the copy was found equal, none of its fields is due.
-use Rattle.std.proofs.Common.{◌≡◌, ◌+◌, ◌<◌, ◌≤◌, ◌++◌, ◌∷◌, ℕ, List, length, replicate, get_or, set, not, inl, inr, ap, sym, ◌∙◌, subst, arith}
-use Rattle.std.specs.Prelude.{slice_index, vec_len, if◌then◌else◌}
+use Rattle.std.proofs.Common.{◌≡◌, ◌+◌, ◌<◌, ◌≤◌, ◌++◌, ◌∷◌, ℕ, List, length, replicate, get_or, set, not, inl, inr, ap, sym, ◌∙◌, subst, refl, arith}
+use Rattle.std.specs.Prelude.{slice_index, if◌then◌else◌}
 use Rattle.gc_words.specs.Layout.{link_place}
 use Rattle.gc_along.specs.Watch.{IsNext}
 use Rattle.gc_along.specs.Tables.{Tables, IsKept}
-use Rattle.gc_along.specs.Events.{object_codes, IsClaim, IsCopy}
+use Rattle.gc_along.specs.Events.{code_of, object_codes, IsClaim, IsCopy}
 use Rattle.gc_along.proofs.Kept.{kept_of, few_missing, kept_replica, replica_written, placed_at, owes_none}
 use Rattle.gc_along.proofs.standing.Standing.placed.Goals as goal
 
@@ -23,25 +23,27 @@ pub invariant_of-self-2 : goal.invariant_of-self-2
 invariant_of-self-2 c =
     let kept = kept_of _ c.self.invariant.5 c.if-self.false in
     let h = c.in-Some.header in
-    let at : c.len-at.result ≡ length c.self.inside.news.items = (let e : c.len-at.result ≡ vec_len c.self.inside.news = c.len-at.ensures in let o = c.self.inside.news.ok.0 in omega arith) in
     let next : IsNext c.len-at.result c.args.new.now h = c.in-Some.ensures.0 in
-    let bound : length c.self.inside.news.items + (h.len + 2) ≤ 4294967295 = (let b : c.len-at.result + (h.len + 2) ≤ 4294967295 = next.bound in omega arith) in
+    let bound : length c.self.inside.news.codes + (h.len + 2) ≤ 4294967295 = omega (arith, next.bound, c.len-at.ensures) in
     let a = c.in-Some-claim_in.original in
     let due = not c.is_copy-due.result in
-    let start : get_or c.self.inside.olds.items a 0 ≡ 1 = ap (λ row. get_or row a 0) (sym c.deref.ensures.value) ∙ c.in-Some-claim_in.ensures.4 in
-    let is = replica_written _ h a c.code_of.result (c.self.inside.missing + c.due_words.result) c.due_words.result due c.add_codes.new.row.items c.add_origin.new.row.items kept c.code_of.ensures
-    (c.add_codes.ensures.items ∙ ap (λ n. c.self.inside.news.items ++ object_codes n c.code_of.result) c.len-2.ensures)
-    (c.add_origin.ensures.items ∙ ap (λ n. c.self.inside.origins.items ++ a ∷ 0 ∷ replicate n 0) c.len.ensures)
-    Rattle.std.proofs.Common.refl (c.due_words.ensures ∙ ap (λ n. if due then n else 0) c.len-3.ensures) in
-    let more : c.self.inside.room ≤ c.add_codes.new.row.cap = (let i : c.self.inside.room ≤ c.self.inside.news.cap = c.self.invariant.3 in let m : c.self.inside.news.cap ≤ c.add_codes.new.row.cap = c.add_codes.ensures.capacity in omega arith) in
-    let rest : c.self.inside.room ≤ c.add_origin.new.row.cap = (let i : c.self.inside.room ≤ c.self.inside.origins.cap = c.self.invariant.4 in let m : c.self.inside.origins.cap ≤ c.add_origin.new.row.cap = c.add_origin.ensures.capacity in omega arith) in
-    (c.self.invariant.0, c.self.invariant.1, c.self.invariant.2, more, rest, inr (subst IsKept (sym is) (kept_replica _ h a due bound start kept)))
+    let is = replica_written _ h a (c.self.inside.missing + c.due_words.result) c.due_words.result due c.replace.new.self.codes c.add_codes.new.row.codes c.add.new.self.origins kept c.replace.ensures.codes
+    (c.add_codes.ensures.codes ∙ ap (λ n. c.self.inside.news.codes ++ object_codes n (code_of due)) c.len-2.ensures)
+    (c.add.ensures.origins ∙ ap (λ n. c.self.inside.origins.origins ++ a ∷ 0 ∷ replicate n 0) c.len.ensures)
+    refl (c.due_words.ensures ∙ ap (λ n. if due then n else 0) c.len-3.ensures) in (
+      c.self.invariant.0,
+      c.self.invariant.1,
+      omega (arith, c.self.invariant.2, c.replace.ensures.room),
+      omega (arith, c.self.invariant.3, c.add_codes.ensures.room),
+      omega (arith, c.self.invariant.4, c.add.ensures.room),
+      inr (subst IsKept (sym is) (kept_replica _ h a due bound c.in-Some-claim_in.ensures.4 kept)),
+    )
 
 pub returns : goal.returns
 returns c =
     let kept = kept_of _ c.self.invariant.5 c.if-self.false in
     let h = c.in-Some.header in
-    let at : c.len-at.result ≡ length c.self.inside.news.items = (let e : c.len-at.result ≡ vec_len c.self.inside.news = c.len-at.ensures in let o = c.self.inside.news.ok.0 in omega arith) in
+    let at : c.len-at.result ≡ length c.self.inside.news.codes = c.len-at.ensures in
     let next : IsNext c.len-at.result c.args.new.now h = c.in-Some.ensures.0 in
     let a = c.in-Some-claim_in.original in
     let due = not c.is_copy-due.result in
@@ -51,13 +53,13 @@ returns c =
       link = subst (λ n. slice_index c.args.new.now (link_place n) ≡ a) at c.in-Some-claim_in.ensures.0;
       low = c.in-Some-claim_in.ensures.1;
       within = c.in-Some-claim_in.ensures.2;
-      start = ap (λ row. get_or row a 0) (sym c.deref.ensures.value) ∙ c.in-Some-claim_in.ensures.4;
+      start = c.in-Some-claim_in.ensures.4;
       header = subst (λ n. slice_index c.args.old.now a ≡ slice_index c.args.new.now n) at c.in-Some-claim_in.ensures.5;
     } in
-    let is = replica_written _ h a c.code_of.result (c.self.inside.missing + c.due_words.result) c.due_words.result due c.add_codes.new.row.items c.add_origin.new.row.items kept c.code_of.ensures
-    (c.add_codes.ensures.items ∙ ap (λ n. c.self.inside.news.items ++ object_codes n c.code_of.result) c.len-2.ensures)
-    (c.add_origin.ensures.items ∙ ap (λ n. c.self.inside.origins.items ++ a ∷ 0 ∷ replicate n 0) c.len.ensures)
-    Rattle.std.proofs.Common.refl (c.due_words.ensures ∙ ap (λ n. if due then n else 0) c.len-3.ensures) in
+    let is = replica_written _ h a (c.self.inside.missing + c.due_words.result) c.due_words.result due c.replace.new.self.codes c.add_codes.new.row.codes c.add.new.self.origins kept c.replace.ensures.codes
+    (c.add_codes.ensures.codes ∙ ap (λ n. c.self.inside.news.codes ++ object_codes n (code_of due)) c.len-2.ensures)
+    (c.add.ensures.origins ∙ ap (λ n. c.self.inside.origins.origins ++ a ∷ 0 ∷ replicate n 0) c.len.ensures)
+    refl (c.due_words.ensures ∙ ap (λ n. if due then n else 0) c.len-3.ensures) in
     record {
       lost = λ t. ap (λ (t : Tables). t.lost) c.self.view_is ∙ t;
       placed = λ found.

@@ -1,0 +1,188 @@
+-- A word as a row of codes of two bits each, of which one changes at a time.
+use Rattle.std.proofs.Common.{◌≡◌, ◌≢◌, ◌⊎◌, inl, inr, ℕ, zero, suc, ◌+◌, ◌-◌, ◌*◌, ◌/◌, ◌%◌, ◌^◌, ◌<◌, ◌≤◌, refl, sym, ◌∙◌, ap, arith, bit_or, bit_xor}
+use Rattle.std.proofs.lemmas.Nat.{shr-shr, shl_whole, pow-add, pow_pos, or_shr, or_mod, xor_shr, xor_mod, xor_lt}
+use Rattle.std.specs.Int.Bits.{xor_assoc, xor_self, xor_zero_l, xor_zero_r}
+use Rattle.std.proofs.lemmas.Nat.Bits.{ones_shr}
+use Rattle.gc_along.specs.Internal.InWords.{code_in}
+
+-- a power of 4
+pub quad : ℕ → ℕ
+quad zero = 1
+quad (suc k) = 4 * quad k
+
+twice : (k : ℕ) → 2 * suc k ≡ 2 + 2 * k
+twice k = omega arith
+
+pub quad_is : (k : ℕ) → quad k ≡ 2 ^ (2 * k)
+unfolding quad
+quad_is zero = refl
+quad_is (suc k) = ap (λ n. 4 * n) (quad_is k) ∙ sym (pow-add 2 2 (2 * k)) ∙ ap (λ n. 2 ^ n) (sym (twice k))
+
+-- the same code, by one step for each code below it
+pub digit : ℕ → ℕ → ℕ
+digit word zero = word % 4
+digit word (suc k) = digit (word / 4) k
+
+pub digit_is : (word k : ℕ) → digit word k ≡ code_in word k
+unfolding digit
+digit_is word zero = omega arith
+digit_is word (suc k) = digit_is (word / 4) k ∙ ap (λ n. n % 4) (shr-shr word 2 (2 * k) ∙ ap (λ n. word / 2 ^ n) (sym (twice k)))
+
+-- four times a product
+quads : (d q : ℕ) → d * (4 * q) ≡ 4 * (d * q)
+quads d q = grind arith
+
+-- ---- one code changes
+
+digit_zero : (k : ℕ) → digit 0 k ≡ 0
+unfolding digit
+digit_zero zero = refl
+digit_zero (suc k) = digit_zero k
+
+-- a step over a zero
+first_digit : (n q : ℕ) → n * (4 * q) % 4 ≡ 0
+first_digit n q = omega (arith, quads n q)
+
+rest_digits : (n q : ℕ) → n * (4 * q) / 4 ≡ n * q
+rest_digits n q = omega (arith, quads n q)
+
+-- a code alone in a word
+alone_here : (k code : ℕ) → code < 4 → digit (code * quad k) k ≡ code
+unfolding digit quad
+alone_here zero code few = omega arith
+alone_here (suc k) code few = ap (λ n. digit n k) (rest_digits code (quad k)) ∙ alone_here k code few
+
+alone_beside : (k j code : ℕ) → code < 4 → j ≢ k → digit (code * quad k) j ≡ 0
+unfolding digit quad
+alone_beside zero zero code few other = absurd (other refl)
+alone_beside zero (suc j) code few other = ap (λ n. digit n j) (let e : code * 1 / 4 ≡ 0 = omega arith in e) ∙ digit_zero j
+alone_beside (suc k) zero code few other = first_digit code (quad k)
+alone_beside (suc k) (suc j) code few other = ap (λ n. digit n j) (rest_digits code (quad k)) ∙ alone_beside k j code few (λ same. other (ap suc same))
+
+-- the codes of the difference of two words
+code_xor : (a b k : ℕ) → code_in (bit_xor a b) k ≡ bit_xor (code_in a k) (code_in b k)
+code_xor a b k = ap (λ n. n % 4) (xor_shr a b (2 * k)) ∙ xor_mod (a / 2 ^ (2 * k)) (b / 2 ^ (2 * k)) 2
+
+-- as the code writes it: a word with another code at one place, and with one where there is none
+abbrev pub with_code : ℕ → ℕ → ℕ → ℕ
+with_code word k code = bit_xor word (bit_xor (word / 2 ^ (2 * k) % 4) code * 2 ^ (2 * k) % 18446744073709551616)
+
+abbrev pub with_first : ℕ → ℕ → ℕ → ℕ
+with_first word k code = bit_xor word (code * 2 ^ (2 * k) % 18446744073709551616)
+
+alone_is : (k code : ℕ) → k < 32 → code < 4 → code * 2 ^ (2 * k) % 18446744073709551616 ≡ code * quad k
+alone_is k code within few = shl_whole code 2 (2 * k) 64 few (omega arith) ∙ ap (λ q. code * q) (sym (quad_is k))
+
+changed : (word k j code digits : ℕ) → k < 32 → code < 4 → digit (code * quad k) j ≡ digits → code_in (with_first word k code) j ≡ bit_xor (code_in word j) digits
+changed word k j code digits within few is =
+    ap (λ n. code_in (bit_xor word n) j) (alone_is k code within few) ∙ code_xor word (code * quad k) j ∙ ap (bit_xor (code_in word j)) (sym (digit_is (code * quad k) j) ∙ is)
+
+pub with_first_here : (word k code : ℕ) → k < 32 → code < 4 → code_in word k ≡ 0 → code_in (with_first word k code) k ≡ code
+with_first_here word k code within few none = changed word k k code code within few (alone_here k code few) ∙ ap (λ n. bit_xor n code) none ∙ xor_zero_l code
+
+pub with_first_beside : (word k code other : ℕ) → k < 32 → code < 4 → other ≢ k → code_in (with_first word k code) other ≡ code_in word other
+with_first_beside word k code other within few differs = changed word k other code 0 within few (alone_beside k other code few differs) ∙ xor_zero_r (code_in word other)
+
+-- the difference of two codes is one, and takes either to the other
+pub xor_few : (x y : ℕ) → x < 4 → y < 4 → bit_xor x y < 4
+xor_few x y few small = xor_lt 2 x y few small
+
+xor_back : (x y : ℕ) → bit_xor x (bit_xor x y) ≡ y
+xor_back x y = sym (xor_assoc x x y) ∙ ap (λ n. bit_xor n y) (xor_self x) ∙ xor_zero_l y
+
+pub with_code_here : (word k code : ℕ) → k < 32 → code < 4 → code_in (with_code word k code) k ≡ code
+with_code_here word k code within few =
+    let small : bit_xor (code_in word k) code < 4 = xor_few (code_in word k) code (omega arith) few in
+    changed word k k (bit_xor (code_in word k) code) (bit_xor (code_in word k) code) within small (alone_here k (bit_xor (code_in word k) code) small) ∙ xor_back (code_in word k) code
+
+pub with_code_beside : (word k code other : ℕ) → k < 32 → code < 4 → other ≢ k → code_in (with_code word k code) other ≡ code_in word other
+with_code_beside word k code other within few differs =
+    with_first_beside word k (bit_xor (code_in word k) code) other within (xor_few (code_in word k) code (omega arith) few) differs
+
+-- ---- a run of threes
+
+-- so many threes behind so many zeros
+mask : ℕ → ℕ → ℕ
+mask count place = (quad count - 1) * quad place
+
+quad_pos : (k : ℕ) → 1 ≤ quad k
+unfolding quad
+quad_pos zero = omega arith
+quad_pos (suc k) = let low : 1 ≤ quad k = quad_pos k in omega arith
+
+threes_in : (count k : ℕ) → k < count → digit (quad count - 1) k ≡ 3
+unfolding digit quad
+threes_in zero k less = absurd (omega arith)
+threes_in (suc count) zero less = let low : 1 ≤ quad count = quad_pos count in omega arith
+threes_in (suc count) (suc k) less =
+    let low : 1 ≤ quad count = quad_pos count in
+    ap (λ n. digit n k) (let e : (4 * quad count - 1) / 4 ≡ quad count - 1 = omega arith in e) ∙ threes_in count k (omega arith)
+
+threes_out : (count k : ℕ) → count ≤ k → digit (quad count - 1) k ≡ 0
+unfolding digit quad
+threes_out zero k past = digit_zero k
+threes_out (suc count) zero past = absurd (omega arith)
+threes_out (suc count) (suc k) past =
+    let low : 1 ≤ quad count = quad_pos count in
+    ap (λ n. digit n k) (let e : (4 * quad count - 1) / 4 ≡ quad count - 1 = omega arith in e) ∙ threes_out count k (omega arith)
+
+mask_inside : (count place k : ℕ) → place ≤ k → k < place + count → digit (mask count place) k ≡ 3
+unfolding digit quad mask
+mask_inside count zero k low high = ap (λ n. digit n k) (let e : (quad count - 1) * 1 ≡ quad count - 1 = omega arith in e) ∙ threes_in count k (omega arith)
+mask_inside count (suc place) zero low high = absurd (omega arith)
+mask_inside count (suc place) (suc k) low high = ap (λ n. digit n k) (rest_digits (quad count - 1) (quad place)) ∙ mask_inside count place k (omega arith) (omega arith)
+
+mask_below : (count place k : ℕ) → k < place → digit (mask count place) k ≡ 0
+unfolding digit quad mask
+mask_below count zero k low = absurd (omega arith)
+mask_below count (suc place) zero low = first_digit (quad count - 1) (quad place)
+mask_below count (suc place) (suc k) low = ap (λ n. digit n k) (rest_digits (quad count - 1) (quad place)) ∙ mask_below count place k (omega arith)
+
+mask_above : (count place k : ℕ) → place + count ≤ k → digit (mask count place) k ≡ 0
+unfolding digit quad mask
+mask_above count zero k past = ap (λ n. digit n k) (let e : (quad count - 1) * 1 ≡ quad count - 1 = omega arith in e) ∙ threes_out count k (omega arith)
+mask_above count (suc place) zero past = absurd (omega arith)
+mask_above count (suc place) (suc k) past = ap (λ n. digit n k) (rest_digits (quad count - 1) (quad place)) ∙ mask_above count place k (omega arith)
+
+-- the codes of two words together
+code_or : (a b k : ℕ) → code_in (bit_or a b) k ≡ bit_or (code_in a k) (code_in b k)
+code_or a b k = ap (λ n. n % 4) (or_shr a b (2 * k)) ∙ or_mod (a / 2 ^ (2 * k)) (b / 2 ^ (2 * k)) 2
+
+or_three : (x : ℕ) → x < 4 → bit_or x 3 ≡ 3
+or_three zero few = refl
+or_three (suc zero) few = refl
+or_three (suc (suc zero)) few = refl
+or_three (suc (suc (suc zero))) few = refl
+or_three (suc (suc (suc (suc x)))) few = absurd (omega arith)
+
+or_nought : (x : ℕ) → x < 4 → bit_or x 0 ≡ x
+or_nought zero few = refl
+or_nought (suc zero) few = refl
+or_nought (suc (suc zero)) few = refl
+or_nought (suc (suc (suc zero))) few = refl
+or_nought (suc (suc (suc (suc x)))) few = absurd (omega arith)
+
+-- as the code writes it
+abbrev pub filled : ℕ → ℕ → ℕ → ℕ
+filled word place count = bit_or word (18446744073709551615 / 2 ^ (64 - 2 * count) * 2 ^ (2 * place) % 18446744073709551616)
+
+mask_is : (place count : ℕ) → place + count ≤ 32 → 18446744073709551615 / 2 ^ (64 - 2 * count) * 2 ^ (2 * place) % 18446744073709551616 ≡ mask count place
+unfolding mask
+mask_is place count within =
+    let ones : 18446744073709551615 / 2 ^ (64 - 2 * count) ≡ 2 ^ (2 * count) - 1
+    = ones_shr 64 (64 - 2 * count) (omega arith) ∙ ap (λ n. 2 ^ n - 1) (let e : 64 - (64 - 2 * count) ≡ 2 * count = omega arith in e) in
+    let less : 2 ^ (2 * count) - 1 < 2 ^ (2 * count) = (let low : 0 < 2 ^ (2 * count) = pow_pos (2 * count) in omega arith) in
+    ap (λ n. n * 2 ^ (2 * place) % 18446744073709551616) ones
+    ∙ shl_whole (2 ^ (2 * count) - 1) (2 * count) (2 * place) 64 less (omega arith)
+    ∙ (λ i. (sym (quad_is count) i - 1) * sym (quad_is place) i)
+
+filled_code : (word place count k code : ℕ) → place + count ≤ 32 → digit (mask count place) k ≡ code → code_in (filled word place count) k ≡ bit_or (code_in word k) code
+filled_code word place count k code within is =
+    ap (λ m. code_in (bit_or word m) k) (mask_is place count within) ∙ code_or word (mask count place) k ∙ ap (bit_or (code_in word k)) (sym (digit_is (mask count place) k) ∙ is)
+
+pub filled_inside : (word place count k : ℕ) → place + count ≤ 32 → place ≤ k → k < place + count → code_in (filled word place count) k ≡ 3
+filled_inside word place count k within low high = filled_code word place count k 3 within (mask_inside count place k low high) ∙ or_three (code_in word k) (omega arith)
+
+pub filled_outside : (word place count k : ℕ) → place + count ≤ 32 → (k < place) ⊎ (place + count ≤ k) → code_in (filled word place count) k ≡ code_in word k
+filled_outside word place count k within (inl low) = filled_code word place count k 0 within (mask_below count place k low) ∙ or_nought (code_in word k) (omega arith)
+filled_outside word place count k within (inr high) = filled_code word place count k 0 within (mask_above count place k high) ∙ or_nought (code_in word k) (omega arith)

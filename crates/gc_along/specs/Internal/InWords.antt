@@ -1,0 +1,61 @@
+-- How the rows of a standing checker stand in words.
+use Rattle.std.specs.Prelude.{◌≡◌, ℕ, ◌+◌, ◌*◌, ◌/◌, ◌%◌, ◌^◌, ◌≤◌, ◌==◌, if◌then◌else◌, Bool, false, min, List, length, map, slice_index}
+use Rattle.std.specs.Int.{bit_at}
+use Rattle.std.specs.List.{range_with_len}
+
+-- ---- codes, of two bits each
+
+-- a code for each place, and for how many places there is room
+pub record Codes : Type 0 where
+  pub codes : List ℕ
+  pub room : ℕ
+
+-- the code that has two bits of this word
+abbrev pub code_in : ℕ → ℕ → ℕ
+code_in word k = word / 2 ^ (2 * k) % 4
+
+-- the code of a place, of which a word holds 32
+unfoldable pub code_at : List ℕ → ℕ → ℕ
+code_at words place = code_in (slice_index words (place / 32)) (place % 32)
+
+-- the codes of the first places
+unfoldable pub codes_in : List ℕ → ℕ → List ℕ
+codes_in words len = map (code_at words) (range_with_len 0 len)
+
+-- the places of so many words, as far as an address tells them
+abbrev pub room_of : ℕ → ℕ
+room_of words = min (32 * words) 4294967295
+
+-- there are as many words as the places take, and all codes behind them are 0
+pub record HasCodes (words : List ℕ) (len : ℕ) : Type 0 where
+  pub count : length words ≡ (len + 31) / 32
+  pub rest : (place : ℕ) → len ≤ place → code_at words place ≡ 0
+
+-- ---- originals, of four bytes for two places
+
+-- the original of the replica that starts at each place, or 0, and for how many places there is room
+pub record Origins : Type 0 where
+  pub origins : List ℕ
+  pub room : ℕ
+
+-- a bit for each place tells whether a replica starts there, of which a word holds 64
+unfoldable pub starts_at : List ℕ → ℕ → Bool
+starts_at bits place = bit_at (slice_index bits (place / 64)) (place % 64) == 1
+
+-- where a replica starts, the entry of its half of an address
+unfoldable pub origin_at : List ℕ → List ℕ → ℕ → ℕ
+origin_at starts originals place = if starts_at starts place then slice_index originals (place / 2) else 0
+
+-- the originals of the first places
+unfoldable pub origins_in : List ℕ → List ℕ → ℕ → List ℕ
+origins_in starts originals len = map (origin_at starts originals) (range_with_len 0 len)
+
+-- the places of so many words of bits and of so many originals, as far as an address tells them
+abbrev pub room_for : ℕ → ℕ → ℕ
+room_for words originals = min (64 * min words (originals / 32)) 4294967295
+
+-- there are as many words of bits as the places take, with originals for all their bits, and no replica starts at the last place or behind it
+pub record HasOrigins (starts originals : List ℕ) (len : ℕ) : Type 0 where
+  pub bits : length starts ≡ (len + 63) / 64
+  pub halves : length originals ≡ 32 * length starts
+  pub rest : (place : ℕ) → len ≤ place + 1 → starts_at starts place ≡ false

@@ -1,0 +1,219 @@
+//! A code for each place, two bits each.
+
+use crate::zeros::{add_words, touch_words};
+use gc_graph::NoMemory;
+use std::alloc::Global;
+use std::cmp::min;
+use std::marker::Model;
+
+/// The number of codes in a word.
+const PER_WORD: usize = 32;
+
+/// The codes of places, which are below 4. Contracts see the codes, and for how many places there is room.
+#[derive(Debug, Drop)]
+pub(crate) struct CodeRow {
+    words: Vec<u64>,
+    len: usize,
+}
+
+impl Model for CodeRow {
+    ghost use Rattle.std.specs.Prelude.{◌≤◌, vec_capacity};
+    ghost use Rattle.gc_along.specs.Internal.InWords.{Codes, HasCodes, codes_in, room_of};
+
+    ghost Value = { Codes };
+
+    ghost view = { λ row. record { codes = codes_in row.words.items row.len; room = room_of (vec_capacity row.words) } };
+
+    ghost invariant = { λ row. HasCodes row.words.items row.len × (row.len ≤ room_of (vec_capacity row.words)) };
+}
+
+impl CodeRow {
+    ghost use Rattle.std.specs.Prelude.{◌≡◌, ◌+◌, ◌<◌, ◌≤◌, ◌∷◌, ◌++◌, ◌-◌, [], IfOk, OnOk, length, replicate, take, slice_index, slice_set, ◌⊎◌, ◌%◌, ℕ};
+
+    /// Returns a row of place 0 alone, whose code is 0, with room for so many places. Allocates once.
+    pub(crate) fn new(alloc: Global, places: u32) -> Result<CodeRow, NoMemory>
+        requires { 1 ≤ places }
+        ensures { IfOk result (λ row. (row.codes ≡ 0 ∷ []) × (places ≤ row.room)) }
+    {
+        let mut words = Vec::with_capacity(alloc, words_of(places as usize))?;
+        words.push_reserved(0);
+        Ok(CodeRow { words, len: 1 })
+    }
+
+    /// Returns a row of no places, without room. Does not allocate.
+    pub(crate) fn absent(alloc: Global) -> CodeRow
+        ensures { result ≡ record { codes = []; room = 0 } }
+    {
+        CodeRow {
+            words: Vec::new(alloc),
+            len: 0,
+        }
+    }
+
+    /// Makes room for so many places. If memory is refused, the row stays as it is.
+    pub(crate) fn reserve(&mut self, places: u32) -> Result<(), NoMemory>
+        ensures codes { self.new.codes ≡ self.old.codes }
+        ensures room { self.old.room ≤ self.new.room }
+        ensures reserved { OnOk result (places ≤ self.new.room) }
+    {
+        let words = words_of(places as usize);
+        if self.words.len() < words {
+            self.words.reserve_exact(words - self.words.len())?;
+        }
+        Ok(())
+    }
+
+    /// Writes to all memory of the row once.
+    pub(crate) fn touch(&mut self)
+        ensures codes { self.new.codes ≡ self.old.codes }
+        ensures room { self.old.room ≤ self.new.room }
+    {
+        touch_words(&mut self.words);
+    }
+
+    /// Place 0 alone is left, with code 0.
+    pub(crate) fn restart(&mut self)
+        requires { 1 ≤ self.old.room }
+        ensures codes { self.new.codes ≡ 0 ∷ [] }
+        ensures room { self.old.room ≤ self.new.room }
+    {
+        self.words.clear();
+        self.words.push_reserved(0);
+        self.len = 1;
+    }
+
+    /// Returns the number of places.
+    #[inline(always)]
+    pub(crate) fn len(&self) -> usize
+        ensures { result ≡ length self.now.codes }
+    {
+        self.len
+    }
+
+    /// Returns the code of this place.
+    #[inline(always)]
+    pub(crate) fn get(&self, place: usize) -> u8
+        requires { place < length self.now.codes }
+        ensures { result ≡ slice_index self.now.codes place }
+    {
+        code_in(self.words[place / PER_WORD], place % PER_WORD)
+    }
+
+    /// Gives this place another code, and returns the one that it had.
+    #[inline(always)]
+    pub(crate) fn replace(&mut self, place: usize, code: u8) -> u8
+        requires within { place < length self.old.codes }
+        requires code { code < 4 }
+        ensures was { result ≡ slice_index self.old.codes place }
+        ensures codes { self.new.codes ≡ slice_set self.old.codes place code }
+        ensures room { self.old.room ≤ self.new.room }
+    {
+        let at = place / PER_WORD;
+        let word = self.words[at];
+        self.words[at] = with_code(word, place % PER_WORD, code);
+        code_in(word, place % PER_WORD)
+    }
+
+    /// Adds a place with this code, and so many behind it with code 0.
+    #[inline(always)]
+    pub(crate) fn add(&mut self, code: u8, more: usize)
+        requires code { code < 4 }
+        requires room { length self.old.codes + (more + 1) ≤ self.old.room }
+        ensures codes { self.new.codes ≡ self.old.codes ++ code ∷ replicate more 0 }
+        ensures room { self.old.room ≤ self.new.room }
+    {
+        let place = self.len;
+        let len = place + more + 1;
+        add_words(&mut self.words, words_of(len));
+        let at = place / PER_WORD;
+        self.words[at] = with_first(self.words[at], place % PER_WORD, code);
+        self.len = len;
+    }
+
+    /// Gives the last so many places code 3.
+    #[inline(always)]
+    pub(crate) fn fill(&mut self, places: usize)
+        requires { places ≤ length self.old.codes }
+        ensures codes { self.new.codes ≡ take (length self.old.codes - places) self.old.codes ++ replicate places 3 }
+        ensures room { self.old.room ≤ self.new.room }
+    {
+        let len = self.len;
+        let mut from = len - places;
+        while from < len {
+            let count = min(PER_WORD - from % PER_WORD, len - from);
+            self.fill_in_word(from, count);
+            from += count;
+        }
+    }
+
+    // Gives so many places of one word code 3.
+    #[inline(always)]
+    fn fill_in_word(&mut self, from: usize, count: usize)
+        requires some { 1 ≤ count }
+        requires word { from % 32 + count ≤ 32 }
+        requires within { from + count ≤ length self.old.codes }
+        ensures len { length self.new.codes ≡ length self.old.codes }
+        ensures filled { (place : ℕ) → from ≤ place → place < from + count → slice_index self.new.codes place ≡ 3 }
+        ensures others { (place : ℕ) → (place < from) ⊎ (from + count ≤ place) → slice_index self.new.codes place ≡ slice_index self.old.codes place }
+        ensures room { self.old.room ≤ self.new.room }
+    {
+        let at = from / PER_WORD;
+        self.words[at] = filled(self.words[at], from % PER_WORD, count);
+    }
+}
+
+ghost use Rattle.std.specs.Prelude.{◌≡◌, ◌≢◌, ◌⊎◌, ℕ, ◌+◌, ◌/◌, ◌<◌, ◌≤◌};
+ghost use Rattle.gc_along.specs.Internal.InWords.{code_in};
+
+// The number of words for so many places.
+#[inline(always)]
+fn words_of(places: usize) -> usize
+    requires { places ≤ 4294967295 }
+    ensures { result ≡ (places + 31) / 32 }
+{
+    (places + 31) / PER_WORD
+}
+
+// The code at this place of a word.
+#[inline(always)]
+fn code_in(word: u64, place: usize) -> u8
+    requires { place < 32 }
+    ensures { result ≡ code_in word place }
+{
+    ((word >> (2 * place)) % 4) as u8
+}
+
+// The word with another code at this place.
+#[inline(always)]
+fn with_code(word: u64, place: usize, code: u8) -> u64
+    requires place { place < 32 }
+    requires code { code < 4 }
+    ensures here { code_in result place ≡ code }
+    ensures others { (other : ℕ) → other ≢ place → code_in result other ≡ code_in word other }
+{
+    let was = (word >> (2 * place)) % 4;
+    word ^ ((was ^ u64::from(code)) << (2 * place))
+}
+
+// The word with this code at a place that has code 0.
+#[inline(always)]
+fn with_first(word: u64, place: usize, code: u8) -> u64
+    requires place { place < 32 }
+    requires code { code < 4 }
+    requires none { code_in word place ≡ 0 }
+    ensures here { code_in result place ≡ code }
+    ensures others { (other : ℕ) → other ≢ place → code_in result other ≡ code_in word other }
+{
+    word ^ (u64::from(code) << (2 * place))
+}
+
+// The word with code 3 at so many places.
+#[inline(always)]
+fn filled(word: u64, place: usize, count: usize) -> u64
+    requires some { 1 ≤ count }
+    requires within { place + count ≤ 32 }
+    ensures filled { (k : ℕ) → place ≤ k → k < place + count → code_in result k ≡ 3 }
+    ensures others { (k : ℕ) → (k < place) ⊎ (place + count ≤ k) → code_in result k ≡ code_in word k }
+{
+    word | ((u64::MAX >> (64 - 2 * count)) << (2 * place))
+}
